@@ -1,0 +1,4 @@
+pub mod SpellingLemmas
+pub mod ShortLemmas
+pub mod RestLemmas
+pub mod WriterLemmas

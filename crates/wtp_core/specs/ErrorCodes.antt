@@ -1,0 +1,45 @@
+-- The numbers and printed names of error codes (RFC 9114, section 8.1; RFC 9297, section 5.2; RFC 9204, section 6; WebTransport over HTTP/3).
+use Rattle.std.specs.Prelude.{ℕ, List, ◌++◌, codes}
+use Rattle.std.specs.Fmt.{decimal}
+use Rattle.wtp_core.specs.declared.error.ErrorCode.{ErrorCode}
+use Rattle.wtp_core.specs.declared.error.ErrorCode.TheVariants.{Datagram, NoError, StreamCreation, ClosedCriticalStream, FrameUnexpected, Frame, ExcessiveLoad, Id, Settings, MissingSettings, RequestRejected, Message, Decompression, BufferedStreamRejected, SessionGone}
+
+-- its number
+abbrev pub number_of : ErrorCode → ℕ
+number_of Datagram = 0x33
+number_of NoError = 0x0100
+number_of StreamCreation = 0x0103
+number_of ClosedCriticalStream = 0x0104
+number_of FrameUnexpected = 0x0105
+number_of Frame = 0x0106
+number_of ExcessiveLoad = 0x0107
+number_of Id = 0x0108
+number_of Settings = 0x0109
+number_of MissingSettings = 0x010a
+number_of RequestRejected = 0x010b
+number_of Message = 0x010e
+number_of Decompression = 0x0200
+number_of BufferedStreamRejected = 0x3994bd84
+number_of SessionGone = 0x170d7b68
+
+-- what Display prints
+abbrev pub name_of : ErrorCode → List ℕ
+name_of Datagram = codes "DatagramError"
+name_of NoError = codes "NoError"
+name_of StreamCreation = codes "StreamCreationError"
+name_of ClosedCriticalStream = codes "ClosedCriticalStreamError"
+name_of FrameUnexpected = codes "FrameUnexpectedError"
+name_of Frame = codes "FrameError"
+name_of ExcessiveLoad = codes "ExcessiveLoad"
+name_of Id = codes "IdError"
+name_of Settings = codes "SettingsError"
+name_of MissingSettings = codes "MissingSettingsError"
+name_of RequestRejected = codes "RequestRejectedError"
+name_of Message = codes "MessageError"
+name_of Decompression = codes "DecompressionError"
+name_of BufferedStreamRejected = codes "BufferedStreamRejected"
+name_of SessionGone = codes "SessionGone"
+
+-- what Debug prints
+abbrev pub debug_text_of : ErrorCode → List ℕ
+debug_text_of code = name_of code ++ codes " (code: " ++ decimal (number_of code) ++ codes ")"

@@ -1,0 +1,27 @@
+-- Numbers of streams (RFC 9000, section 2.1), of WebTransport sessions, and status codes (RFC 9110, section 15).
+use Rattle.std.specs.Prelude.{◌≡◌, ℕ, ◌%◌, ◌/◌, ◌≤◌, List}
+use Rattle.std.specs.Str.Parse.{IsNumeral, digits_value, without_leading_plus}
+
+-- the stream goes both ways: the second lowest bit is 0
+abbrev pub IsBidirectional : ℕ → Type 0
+IsBidirectional id = id / 2 % 2 ≡ 0
+
+-- the client opened the stream: the lowest bit is 0
+abbrev pub IsClientInitiated : ℕ → Type 0
+IsClientInitiated id = id % 2 ≡ 0
+
+-- a session's stream: both bits are 0
+abbrev pub IsSession : ℕ → Type 0
+IsSession id = id % 4 ≡ 0
+
+-- a status code
+abbrev pub IsStatus : ℕ → Type 0
+IsStatus code = (100 ≤ code) × (code ≤ 599)
+
+-- the number that a text of decimal digits writes, behind an optional plus
+abbrev pub status_in : List ℕ → ℕ
+status_in text = digits_value 10 (without_leading_plus text)
+
+-- the text of a status code: an optional plus and at least one decimal digit, of a value in the range
+abbrev pub IsStatusText : List ℕ → Type 0
+IsStatusText text = IsNumeral 10 (without_leading_plus text) × IsStatus (status_in text)

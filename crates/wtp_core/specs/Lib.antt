@@ -1,0 +1,6 @@
+pub mod Varint
+pub mod Reader
+pub mod Writer
+pub mod BufferWriter
+pub mod Ids
+pub mod ErrorCodes

@@ -1,0 +1,43 @@
+//! The reader of bytes, and slices as readers.
+ghost use Rattle.std.specs.Prelude.{◌≡◌, ℕ, List, length, MatchOption, IfNone, IfSome, Some, None};
+ghost use Rattle.wtp_core.specs.Varint.{number_at, bytes_at};
+
+use crate::varint::{VarInt, first_varint};
+
+/// Reads numbers and bytes from the front of a list of bytes.
+pub trait BytesReader<'a> {
+    // The bytes that are left.
+    ghost left: { Self → List ℕ };
+
+    /// Reads the number spelled at the front (RFC 9000, section 16); all spellings are read.
+    /// `None` where too few bytes are left, and then nothing moves.
+    fn get_varint(&mut self) -> Option<VarInt>
+        ensures found { MatchOption result (number_at (left self.old) ≡ None) (λ n. number_at (left self.old) ≡ Some (n, left self.new)) }
+        ensures none { IfNone result (left self.new ≡ left self.old) };
+
+    /// Reads `len` bytes; `None` where fewer are left, and then nothing moves.
+    fn get_bytes(&mut self, len: usize) -> Option<&'a [u8]>
+        ensures found { MatchOption result (bytes_at len (left self.old) ≡ None) (λ b. bytes_at len (left self.old) ≡ Some (b.now, left self.new)) }
+        ensures len { IfSome result (λ b. length b.now ≡ len) }
+        ensures none { IfNone result (left self.new ≡ left self.old) };
+}
+
+impl<'a> BytesReader<'a> for &'a [u8] {
+    ghost left = { λ s. s.now };
+
+    #[inline(always)]
+    fn get_varint(&mut self) -> Option<VarInt> {
+        let bytes: &'a [u8] = *self;
+        let (number, size) = first_varint(bytes)?;
+        *self = &bytes[size..];
+        Some(number)
+    }
+
+    #[inline(always)]
+    #[tactic(auto, unfolding(crate::specs::Varint::bytes_at))]
+    fn get_bytes(&mut self, len: usize) -> Option<&'a [u8]> {
+        let (front, rest) = (*self).split_at_checked(len)?;
+        *self = rest;
+        Some(front)
+    }
+}

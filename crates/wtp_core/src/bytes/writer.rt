@@ -1,0 +1,76 @@
+//! The writer of bytes, and vectors as writers.
+ghost use Rattle.std.specs.Prelude.{◌≡◌, ℕ, List, Option, Some, None, Bool, true};
+ghost use Rattle.std.specs.Borrow.{GName};
+ghost use Rattle.wtp_core.specs.Varint.{shortest};
+ghost use Rattle.wtp_core.specs.Writer.{Puts};
+
+use crate::varint::VarInt;
+
+/// Why bytes were not written.
+#[derive(Debug, Drop, PartialEq, Eq, thiserror::Error)]
+pub enum PutError {
+    /// The room is too small.
+    #[error("end of buffer has been reached")]
+    EndOfBuffer,
+    /// No memory.
+    #[error("no memory")]
+    Memory,
+}
+
+/// Writes numbers and bytes at the end of a list of bytes.
+pub trait BytesWriter {
+    // Whether it takes memory, and so may find none.
+    ghost grows: { Bool };
+
+    // The bytes that were written.
+    ghost written: { Self → List ℕ };
+
+    // The bytes that stand in the room that is left, or none where the room has no limit.
+    ghost room: { Self → Option (List ℕ) };
+
+    // The name of the loan that the bytes go into, where there is one: who lent a slice finds them
+    // there afterwards.
+    ghost target: { Self → Option GName };
+
+    /// Writes all of the bytes, or changes nothing: `EndOfBuffer` exactly where the room is too
+    /// small, `Memory` only where no more memory was to be had.
+    fn put_bytes(&mut self, bytes: &[u8]) -> Result<(), PutError>
+        ensures puts { Puts grows bytes.now result (written self.old) (room self.old) (written self.new) (room self.new) }
+        ensures target { target self.new ≡ target self.old };
+
+    /// Writes the shortest spelling of a number (RFC 9000, section 16), or changes nothing, with
+    /// the errors of `put_bytes`.
+    #[tactic(auto, unfolding(crate::specs::Varint::shortest))]
+    fn put_varint(&mut self, varint: VarInt) -> Result<(), PutError>
+        ensures puts { Puts grows (shortest varint) result (written self.old) (room self.old) (written self.new) (room self.new) }
+        ensures target { target self.new ≡ target self.old }
+    {
+        let number = varint.into_inner();
+        if number < 0x40 {
+            self.put_bytes(&[number as u8])
+        } else if number < 0x4000 {
+            self.put_bytes(&(0x4000 + number as u16).to_be_bytes())
+        } else if number < 0x4000_0000 {
+            self.put_bytes(&(0x8000_0000 + number as u32).to_be_bytes())
+        } else {
+            self.put_bytes(&(0xc000_0000_0000_0000 + number).to_be_bytes())
+        }
+    }
+}
+
+impl BytesWriter for Vec<u8> {
+    ghost grows = { true };
+
+    ghost written = { λ v. v.items };
+
+    ghost room = { λ v. None };
+
+    ghost target = { λ v. None };
+
+    fn put_bytes(&mut self, bytes: &[u8]) -> Result<(), PutError> {
+        match self.extend_from_slice(bytes) {
+            Ok(()) => Ok(()),
+            Err(_) => Err(PutError::Memory),
+        }
+    }
+}

@@ -1,0 +1,10 @@
+//! The base of WebTransport over HTTP/3: variable-length integers, readers and writers of bytes,
+//! numbers of streams and sessions, and error codes.
+#![tactic(auto)]
+
+pub mod bytes;
+pub mod error;
+pub mod ids;
+pub mod laws;
+pub mod numbers;
+pub mod varint;

@@ -1,0 +1,5 @@
+pub mod ContentLemmas
+pub mod KindLemmas
+pub mod FrontLemmas
+pub mod WireLemmas
+pub mod ReadLemmas

@@ -1,0 +1,19 @@
+use Rattle.wtp_wire.proofs.ReadLemmas.{answers-typed, answers-plain}
+use Rattle.std.proofs.Common.{◌≡◌, ◌∙◌, sym, ap, Some, None}
+use Rattle.wtp_wire.specs.Kind.{kind_of}
+use Rattle.wtp_wire.specs.declared.frame.FrameKind.TheVariants.{WebTransport}
+use Rattle.wtp_wire.proofs.frame.Frame.read.Goals as goal
+
+-- src/frame.rt:276:13
+pub returns-in_default-parse : goal.returns-in_default-parse
+returns-in_default-parse g c = answers-typed None c.in-Some.id _ _ _ _ (c.in-Some.ensures.found) (sym c.parse.ensures.kind ∙ c.in_default-parse.is) c.read_unknown.ensures
+
+-- src/frame.rt:267:5
+pub returns-in-WebTransport : goal.returns-in-WebTransport
+returns-in-WebTransport g c =
+    let is : kind_of c.in-Some.id ≡ Some WebTransport = sym c.parse.ensures.kind ∙ c.in-Some-parse.is ∙ ap (λ k. Some k) c.in-WebTransport.is in
+    answers-typed (Some WebTransport) c.in-Some.id _ _ _ _ (c.in-Some.ensures.found) is c.read_session.ensures
+
+-- src/frame.rt:267:5
+pub returns-in_default-kind : goal.returns-in_default-kind
+returns-in_default-kind g c = answers-plain c.in-Some-parse.kind c.in-Some.id _ _ _ _ (c.in-Some.ensures.found) (sym c.parse.ensures.kind ∙ c.in-Some-parse.is) c.in_default-kind.not-WebTransport c.read_plain.ensures

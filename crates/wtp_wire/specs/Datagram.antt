@@ -1,0 +1,27 @@
+-- HTTP datagrams (RFC 9297, section 2.1).
+use Rattle.std.specs.Prelude.{◌≡◌, ℕ, ◌^◌, ◌<◌, List, ◌++◌, nat_lt, if◌then◌else◌, Option, Some, None}
+use Rattle.wtp_core.specs.Varint.{Spells, shortest, number_at}
+
+-- s is a quarter stream ID below 2^60, and then the payload
+pub record IsDatagram (id : ℕ) (payload s : List ℕ) : Type 0 where
+  pub head : List ℕ
+  pub spelled : Spells id head
+  pub quarter : id < 2 ^ 60
+  pub parts : s ≡ head ++ payload
+
+-- ---- the same, computed
+
+abbrev pub quarter_of : ℕ × List ℕ → Option (ℕ × List ℕ)
+quarter_of found = if nat_lt found.0 (2 ^ 60) then Some found else None
+
+abbrev pub quarter_in : Option (ℕ × List ℕ) → Option (ℕ × List ℕ)
+quarter_in None = None
+quarter_in (Some found) = quarter_of found
+
+-- the quarter stream ID and the payload of a datagram of these bytes
+unfoldable pub datagram_in : List ℕ → Option (ℕ × List ℕ)
+datagram_in bytes = quarter_in (number_at bytes)
+
+-- the bytes of a datagram that is written
+unfoldable pub datagram_wire : ℕ × List ℕ → List ℕ
+datagram_wire d = shortest d.0 ++ d.1

@@ -1,0 +1,351 @@
+//! Frames of HTTP/3 (RFC 9114, section 7), read and written whole.
+ghost use Rattle.std.specs.Prelude.{◌≡◌, ◌%◌, ◌≢◌, ◌<◌, ◌≤◌, ◌^◌, ◌+◌, ◌++◌, [], length, IsTrue, IsSome, IfSome, IsOk, OnOk, OnErr, Err, Some, None, ◌↔◌};
+ghost use Rattle.wtp_core.specs.Writer.{LacksRoom, PutsParts};
+ghost use Rattle.wtp_core.specs.Reader.{left_of, whole_of};
+ghost use Rattle.wtp_core.specs.BufferWriter.{room_in, loan_of, IsUnwritten, Wrote};
+
+use std::borrow::CowSlice;
+use std::marker::Model;
+use wtp_core::bytes::{
+    BufferReader, BufferWriter, BytesReader, BytesWriter, EndOfBuffer, PutError,
+};
+use wtp_core::ids::SessionId;
+pub use wtp_core::numbers::frame_kind_ids;
+use wtp_core::varint::VarInt;
+
+/// Why no frame can be read at the front of the bytes.
+#[derive(Debug, Drop, PartialEq, Eq, thiserror::Error)]
+pub enum ParseError {
+    /// A whole frame of a type that is not known: it is to be ignored (RFC 9114, section 9).
+    #[error("cannot parse HTTP3 frame as ID is unknown")]
+    UnknownFrame,
+    /// A WebTransport frame whose number is no session's.
+    #[error("cannot parse HTTP3 frame as session ID is invalid")]
+    InvalidSessionId,
+    /// A frame whose length is above 4096.
+    #[error("cannot parse HTTP3 frame as payload limit is reached")]
+    PayloadTooBig,
+}
+
+/// What kind of frame it is.
+#[derive(Clone, Copy, Debug, PartialEq, Eq)]
+pub enum FrameKind {
+    /// DATA (RFC 9114, section 7.2.1).
+    Data,
+    /// HEADERS (RFC 9114, section 7.2.2).
+    Headers,
+    /// SETTINGS (RFC 9114, section 7.2.4).
+    Settings,
+    /// The frame that makes its stream one of a WebTransport session.
+    WebTransport,
+    /// A type that is reserved to exercise the rule on unknown types (RFC 9114, section 7.2.8).
+    Exercise(VarInt),
+}
+
+impl FrameKind {
+    ghost use Rattle.wtp_wire.specs.Kind.{is_exercise, kind_of, number_of, IsKnown};
+
+    /// Whether the type number is one of those reserved for exercise, `0x21 + 0x1f * n`.
+    pub fn is_id_exercise(id: VarInt) -> bool
+        ensures { result ≡ is_exercise id }
+    {
+        id.into_inner() >= 0x21 && (id.into_inner() - 0x21) % 0x1f == 0
+    }
+
+    /// The type number.
+    pub fn id(self) -> VarInt
+        ensures { result ≡ number_of self }
+    {
+        match self {
+            FrameKind::Data => frame_kind_ids::DATA,
+            FrameKind::Headers => frame_kind_ids::HEADERS,
+            FrameKind::Settings => frame_kind_ids::SETTINGS,
+            FrameKind::WebTransport => frame_kind_ids::WEBTRANSPORT_STREAM,
+            FrameKind::Exercise(id) => id,
+        }
+    }
+
+    /// The kind of this type number, where it is known.
+    #[inline(always)]
+    #[tactic(auto, unfolding(crate::specs::Kind::kind_of))]
+    pub fn parse(id: VarInt) -> Option<Self>
+        ensures kind { result ≡ kind_of id }
+        ensures known { IfSome result IsKnown }
+    {
+        match id.into_inner() {
+            0x00 => Some(FrameKind::Data),
+            0x01 => Some(FrameKind::Headers),
+            0x04 => Some(FrameKind::Settings),
+            0x41 => Some(FrameKind::WebTransport),
+            _ if FrameKind::is_id_exercise(id) => Some(FrameKind::Exercise(id)),
+            _ => None,
+        }
+    }
+}
+
+/// A frame, whose payload is borrowed or owned.
+#[derive(Drop)]
+pub struct Frame<'a> {
+    kind: FrameKind,
+    payload: CowSlice<'a, u8>,
+    session_id: Option<SessionId>,
+}
+
+/// A frame that owns its payload.
+pub type FrameOwned = Frame<'static>;
+
+impl<'a> Model for Frame<'a> {
+    ghost use Rattle.std.specs.Cow.{cow_slice_items};
+    ghost use Rattle.wtp_wire.specs.Content.{Content, content, IsProper};
+
+    ghost Value = { Content };
+
+    ghost view = { λ f. content f.kind (cow_slice_items f.payload) f.session_id };
+
+    ghost invariant = { λ f. IsProper f.kind (cow_slice_items f.payload) f.session_id };
+}
+
+impl<'a> Frame<'a> {
+    ghost use Rattle.std.specs.Cow.{cow_slice_items};
+    ghost use Rattle.wtp_wire.specs.Content.{kind_in, payload_in, session_in, DataOf, HeadersOf, SettingsOf, WebTransportOf, ExerciseOf};
+    ghost use Rattle.wtp_wire.specs.Kind.{IsKnown, is_exercise};
+    ghost use Rattle.wtp_wire.specs.Front.{front, session_front, plain_front, unknown_front};
+    ghost use Rattle.wtp_wire.specs.Reading.{Answers, AnswersWhole};
+    ghost use Rattle.wtp_wire.specs.Wire.{parts_of, wire, IsReadable};
+
+    // The longest payload that is read, in bytes.
+    const MAX_PARSE_PAYLOAD_ALLOWED: u64 = 4096;
+
+    /// A HEADERS frame with this payload, an encoded field section.
+    pub fn new_headers(payload: CowSlice<'a, u8>) -> Self
+        requires { length (cow_slice_items payload) < 2 ^ 62 }
+        ensures { result ≡ HeadersOf (cow_slice_items payload.entry) }
+    {
+        Frame {
+            kind: FrameKind::Headers,
+            payload,
+            session_id: None,
+        }
+    }
+
+    /// A SETTINGS frame with this payload.
+    pub fn new_settings(payload: CowSlice<'a, u8>) -> Self
+        requires { length (cow_slice_items payload) < 2 ^ 62 }
+        ensures { result ≡ SettingsOf (cow_slice_items payload.entry) }
+    {
+        Frame {
+            kind: FrameKind::Settings,
+            payload,
+            session_id: None,
+        }
+    }
+
+    /// The frame that makes its stream one of this session.
+    pub fn new_webtransport(session_id: SessionId) -> Self
+        ensures { result ≡ WebTransportOf session_id }
+    {
+        Frame {
+            kind: FrameKind::WebTransport,
+            payload: CowSlice::Borrowed(&[]),
+            session_id: Some(session_id),
+        }
+    }
+
+    /// A frame of a type that is reserved for exercise (see `FrameKind::is_id_exercise`).
+    pub fn new_exercise(id: VarInt, payload: CowSlice<'a, u8>) -> Self
+        requires reserved { IsTrue (is_exercise id) }
+        requires fits { length (cow_slice_items payload) < 2 ^ 62 }
+        ensures { result ≡ ExerciseOf id (cow_slice_items payload.entry) }
+    {
+        Frame {
+            kind: FrameKind::Exercise(id),
+            payload,
+            session_id: None,
+        }
+    }
+
+    /// A DATA frame with this payload.
+    pub fn new_data(payload: CowSlice<'a, u8>) -> Self
+        requires { length (cow_slice_items payload) < 2 ^ 62 }
+        ensures { result ≡ DataOf (cow_slice_items payload.entry) }
+    {
+        Frame {
+            kind: FrameKind::Data,
+            payload,
+            session_id: None,
+        }
+    }
+
+    /// Its kind.
+    #[tactic(auto, using(crate::proofs::ContentLemmas::fields))]
+    pub fn kind(&self) -> FrameKind
+        ensures kind { result ≡ kind_in self.now }
+        ensures known { IsKnown result }
+    {
+        self.kind
+    }
+
+    /// Its payload, which is empty for WebTransport.
+    #[tactic(auto, using(crate::proofs::ContentLemmas::fields))]
+    pub fn payload(&self) -> &[u8]
+        ensures payload { result.now ≡ payload_in self.now }
+        ensures fits { length result.now < 2 ^ 62 }
+    {
+        self.payload.as_slice()
+    }
+
+    /// Its session, where its kind is WebTransport.
+    #[tactic(auto, using(crate::proofs::ContentLemmas::fields))]
+    pub fn session_id(&self) -> Option<SessionId>
+        ensures { result ≡ session_in self.now }
+    {
+        self.session_id
+    }
+
+    /// The session behind WebTransport's type number.
+    #[inline(always)]
+    #[tactic(auto, using(wtp_core::proofs::RestLemmas::rests), unfolding(crate::specs::Front::session_front))]
+    fn read_session<R: BytesReader<'a>>(reader: &mut R) -> Result<Option<Self>, ParseError>
+        ensures { Answers (session_front (R.left reader.old)) result (R.left reader.old) (R.left reader.new) }
+    {
+        let Some(number) = reader.get_varint() else {
+            return Ok(None);
+        };
+        match SessionId::try_from_varint(number) {
+            Ok(session_id) => Ok(Some(Frame::new_webtransport(session_id))),
+            Err(_) => Err(ParseError::InvalidSessionId),
+        }
+    }
+
+    /// The length and the payload behind the type number of another kind.
+    #[inline(always)]
+    #[tactic(auto, using(wtp_core::proofs::RestLemmas::rests), unfolding(crate::specs::Front::plain_front))]
+    fn read_plain<R: BytesReader<'a>>(
+        kind: FrameKind,
+        reader: &mut R,
+    ) -> Result<Option<Self>, ParseError>
+        requires known { IsKnown kind }
+        requires plain { kind ≢ FrameKind.WebTransport }
+        ensures { Answers (plain_front kind (R.left reader.old)) result (R.left reader.old) (R.left reader.new) }
+    {
+        let Some(len) = reader.get_varint() else {
+            return Ok(None);
+        };
+        if len.into_inner() > Self::MAX_PARSE_PAYLOAD_ALLOWED {
+            return Err(ParseError::PayloadTooBig);
+        }
+        let Some(payload) = reader.get_bytes(len.into_inner() as usize) else {
+            return Ok(None);
+        };
+        Ok(Some(Frame {
+            kind,
+            payload: CowSlice::Borrowed(payload),
+            session_id: None,
+        }))
+    }
+
+    /// The length and the payload behind a type number that is no kind.
+    #[inline(always)]
+    #[tactic(auto, using(wtp_core::proofs::RestLemmas::rests), unfolding(crate::specs::Front::unknown_front))]
+    fn read_unknown<R: BytesReader<'a>>(reader: &mut R) -> Result<Option<Self>, ParseError>
+        ensures { Answers (unknown_front (R.left reader.old)) result (R.left reader.old) (R.left reader.new) }
+    {
+        let Some(len) = reader.get_varint() else {
+            return Ok(None);
+        };
+        match reader.get_bytes(len.into_inner() as usize) {
+            Some(_) => Err(ParseError::UnknownFrame),
+            None => Ok(None),
+        }
+    }
+
+    /// Reads the frame at the front, and takes no memory.
+    ///
+    /// `None` where the bytes are too few; whole numbers at the front may have been read then.
+    /// `UnknownFrame` behind a whole frame of a type that is not known; `InvalidSessionId` behind
+    /// WebTransport's type and a number that is no session's; `PayloadTooBig` behind another type
+    /// and a length above 4096, whose payload is not looked for.
+    #[inline(always)]
+    #[tactic(auto, using(wtp_core::proofs::RestLemmas::rests), unfolding(crate::specs::Front::front))]
+    pub fn read<R: BytesReader<'a>>(reader: &mut R) -> Result<Option<Self>, ParseError>
+        ensures { Answers (front (R.left reader.old)) result (R.left reader.old) (R.left reader.new) }
+    {
+        let Some(id) = reader.get_varint() else {
+            return Ok(None);
+        };
+        let Some(kind) = FrameKind::parse(id) else {
+            return Self::read_unknown(reader);
+        };
+        match kind {
+            FrameKind::WebTransport => Self::read_session(reader),
+            _ => Self::read_plain(kind, reader),
+        }
+    }
+
+    /// Reads the frame at the front as `read` does, and moves past it; where it answers `None` or
+    /// an error the reader stays where it is.
+    #[inline(always)]
+    #[tactic(auto, using(crate::proofs::ReadLemmas::frame_rests))]
+    pub fn read_from_buffer(reader: &mut BufferReader<'a>) -> Result<Option<Self>, ParseError>
+        ensures answer { AnswersWhole (front (left_of reader.old)) result (left_of reader.old) (left_of reader.new) }
+        ensures whole { whole_of reader.new ≡ whole_of reader.old }
+    {
+        let mut ahead = BufferReader::new(reader.buffer_remaining());
+        let Some(frame) = Self::read(&mut ahead)? else {
+            return Ok(None);
+        };
+        reader.move_to(&ahead);
+        Ok(Some(frame))
+    }
+
+    /// Writes the frame, each number in its shortest spelling.
+    ///
+    /// On an error the writer holds those of the parts type number, length or session, and payload
+    /// that came before the refused one.
+    pub fn write<W: BytesWriter>(&self, writer: &mut W) -> Result<(), PutError>
+        ensures parts { PutsParts W.grows (parts_of self.now) result (W.written writer.old) (W.room writer.old) (W.written writer.new) (W.room writer.new) }
+        ensures full { result ≡ Err PutError.EndOfBuffer → LacksRoom (W.room writer.old) (length (wire self.now)) }
+        ensures target { W.target writer.new ≡ W.target writer.old }
+    {
+        writer.put_varint(self.kind.id())?;
+        match self.session_id {
+            Some(session_id) => writer.put_varint(session_id.into_varint()),
+            None => {
+                let len = self.payload.len() as u64;
+                writer.put_varint(VarInt::from_u64_unchecked(len))?;
+                writer.put_bytes(self.payload.as_slice())
+            }
+        }
+    }
+
+    /// Writes the frame as `write` does, whole: `EndOfBuffer` exactly where the room is below
+    /// `write_size`, and then nothing is written.
+    pub fn write_to_buffer(&self, writer: &mut BufferWriter<'_>) -> Result<(), EndOfBuffer>
+        ensures room { IsOk result ↔ (length (wire self.now) ≤ length (room_in writer.old)) }
+        ensures ok { OnOk result (Wrote (wire self.now) writer.old writer.new) }
+        ensures err { OnErr result (IsUnwritten writer.old writer.new) }
+        ensures loan { loan_of writer.new ≡ loan_of writer.old }
+    {
+        if writer.capacity() < self.write_size() {
+            return Err(EndOfBuffer);
+        }
+        let written = self.write(writer);
+        prove!(written.is_ok());
+        Ok(())
+    }
+
+    /// How many bytes `write` writes.
+    pub fn write_size(&self) -> usize
+        ensures size { result ≡ length (wire self.now) }
+        ensures readable { length (payload_in self.now) ≤ 4096 → IsReadable self.now }
+    {
+        let head = self.kind.id().size();
+        match self.session_id {
+            Some(session_id) => head + session_id.into_varint().size(),
+            None => {
+                let len = self.payload.len();
+                head + VarInt::from_u64_unchecked(len as u64).size() + len
+            }
+        }
+    }
+}
