@@ -1,7 +1,7 @@
 //! Frames of HTTP/3 (RFC 9114, section 7), read and written whole.
 ghost use Rattle.std.specs.Prelude.{◌≡◌, ◌%◌, ◌≢◌, ◌<◌, ◌≤◌, ◌^◌, ◌+◌, ◌++◌, [], length, IsTrue, IsSome, IfSome, IsOk, OnOk, OnErr, Err, Some, None, ◌↔◌};
 ghost use Rattle.wtp_core.specs.Writer.{LacksRoom, PutsParts};
-ghost use Rattle.wtp_core.specs.Reader.{left_of, whole_of};
+ghost use Rattle.wtp_core.specs.Reader.{left_of, whole_of, IsRest};
 ghost use Rattle.wtp_core.specs.BufferWriter.{room_in, loan_of, IsUnwritten, Wrote};
 
 use std::borrow::CowSlice;
@@ -206,7 +206,8 @@ impl<'a> Frame<'a> {
     #[inline(always)]
     #[tactic(auto, using(wtp_core::proofs::RestLemmas::rests), unfolding(crate::specs::Front::session_front))]
     fn read_session<R: BytesReader<'a>>(reader: &mut R) -> Result<Option<Self>, ParseError>
-        ensures { Answers (session_front (R.left reader.old)) result (R.left reader.old) (R.left reader.new) }
+        ensures answer { Answers (session_front (R.left reader.old)) result (R.left reader.new) }
+        ensures rest { IsRest (R.left reader.new) (R.left reader.old) }
     {
         let Some(number) = reader.get_varint() else {
             return Ok(None);
@@ -226,7 +227,8 @@ impl<'a> Frame<'a> {
     ) -> Result<Option<Self>, ParseError>
         requires known { IsKnown kind }
         requires plain { kind ≢ FrameKind.WebTransport }
-        ensures { Answers (plain_front kind (R.left reader.old)) result (R.left reader.old) (R.left reader.new) }
+        ensures answer { Answers (plain_front kind (R.left reader.old)) result (R.left reader.new) }
+        ensures rest { IsRest (R.left reader.new) (R.left reader.old) }
     {
         let Some(len) = reader.get_varint() else {
             return Ok(None);
@@ -248,7 +250,8 @@ impl<'a> Frame<'a> {
     #[inline(always)]
     #[tactic(auto, using(wtp_core::proofs::RestLemmas::rests), unfolding(crate::specs::Front::unknown_front))]
     fn read_unknown<R: BytesReader<'a>>(reader: &mut R) -> Result<Option<Self>, ParseError>
-        ensures { Answers (unknown_front (R.left reader.old)) result (R.left reader.old) (R.left reader.new) }
+        ensures answer { Answers (unknown_front (R.left reader.old)) result (R.left reader.new) }
+        ensures rest { IsRest (R.left reader.new) (R.left reader.old) }
     {
         let Some(len) = reader.get_varint() else {
             return Ok(None);
@@ -268,7 +271,8 @@ impl<'a> Frame<'a> {
     #[inline(always)]
     #[tactic(auto, using(wtp_core::proofs::RestLemmas::rests), unfolding(crate::specs::Front::front))]
     pub fn read<R: BytesReader<'a>>(reader: &mut R) -> Result<Option<Self>, ParseError>
-        ensures { Answers (front (R.left reader.old)) result (R.left reader.old) (R.left reader.new) }
+        ensures answer { Answers (front (R.left reader.old)) result (R.left reader.new) }
+        ensures rest { IsRest (R.left reader.new) (R.left reader.old) }
     {
         let Some(id) = reader.get_varint() else {
             return Ok(None);
@@ -285,7 +289,6 @@ impl<'a> Frame<'a> {
     /// Reads the frame at the front as `read` does, and moves past it; where it answers `None` or
     /// an error the reader stays where it is.
     #[inline(always)]
-    #[tactic(auto, using(crate::proofs::ReadLemmas::frame_rests))]
     pub fn read_from_buffer(reader: &mut BufferReader<'a>) -> Result<Option<Self>, ParseError>
         ensures answer { AnswersWhole (front (left_of reader.old)) result (left_of reader.old) (left_of reader.new) }
         ensures whole { whole_of reader.new ≡ whole_of reader.old }
