@@ -1,0 +1,177 @@
+-- What reading a frame says of the first known frame, and of the run.
+use Rattle.std.proofs.Common.{◌≡◌, ◌≢◌, [], ◌∷◌, ℕ, Bool, false, List, length, Option, Some, None, Ok, Err, refl, sym, ap, ◌∙◌, inl, inr}
+use Rattle.wtp_core.specs.declared.error.ErrorCode.{ErrorCode}
+use Rattle.wtp_core.specs.declared.error.ErrorCode.TheVariants.{Id, ExcessiveLoad}
+use Rattle.wtp_wire.specs.declared.frame.ParseError.TheVariants.{InvalidSessionId, PayloadTooBig}
+use Rattle.wtp_wire.specs.Content.{Content, kind_in}
+use Rattle.wtp_wire.specs.Front.{Front, Framed, Unknown, BadId, TooBig, Short, front}
+use Rattle.wtp_wire.specs.Reading.{Answers}
+use Rattle.wtp_core.specs.Reader.{IsRest}
+use Rattle.wtp_core.proofs.RestLemmas.{rest-same, rest-rest}
+use Rattle.wtransport_proto.specs.Run.{past_unknown, run, Run, next_run, follows, ends, stop, Tail, MayGoOn, Ended, WasReset, Lost, Open, H3}
+use Rattle.wtransport_proto.specs.Rule.{Role, RemoteBi, LocalBi, RemoteUni, InSession, rule}
+use Rattle.wtp_wire.specs.declared.frame.FrameKind.{FrameKind}
+use Rattle.wtp_wire.specs.declared.frame.FrameKind.TheVariants.{Data, Headers, Settings, WebTransport, Exercise}
+use Rattle.wtransport_proto.specs.Reading.{AnswersKnown, AnswersFrame, FirstAfter, StandsAfter, verdict}
+use Rattle.wtransport_proto.proofs.RunLemmas.{past_unknown-unknown, past_unknown-framed, past_unknown-bad, past_unknown-big, past_unknown-short, run-step}
+
+-- only unknown frames were passed between old and cur
+pub record Passes (old cur : List ℕ) : Type 0 where
+  pub known : past_unknown old ≡ past_unknown cur
+  pub rest : IsRest cur old
+
+pub passes-none : (bytes : List ℕ) → Passes bytes bytes
+passes-none bytes = record { known = refl; rest = rest-same bytes bytes refl }
+
+pub passes-one : (old cur new : List ℕ) (h : Passes old cur) → front cur ≡ Unknown new → IsRest new cur → Passes old new
+passes-one old cur new h e k = record { known = h.known ∙ past_unknown-unknown cur new e; rest = rest-rest new cur old k h.rest }
+
+pub known-ok : (old cur new : List ℕ) (o : Option Content) → past_unknown old ≡ past_unknown cur → Answers (front cur) (Ok o) new → AnswersKnown (front (past_unknown old)) (Ok o) new
+known-ok old cur new None p h = rw (p, past_unknown-short cur h) h
+known-ok old cur new (Some f) p h = rw (p, past_unknown-framed cur new f h) h
+
+pub known-bad : (old cur new : List ℕ) → past_unknown old ≡ past_unknown cur → Answers (front cur) (Err InvalidSessionId) new → AnswersKnown (front (past_unknown old)) (Err Id) new
+known-bad old cur new p h = inl (refl, rw (p, past_unknown-bad cur new h) h)
+
+pub known-big : (old cur new : List ℕ) → past_unknown old ≡ past_unknown cur → Answers (front cur) (Err PayloadTooBig) new → AnswersKnown (front (past_unknown old)) (Err ExcessiveLoad) new
+known-big old cur new p h = inr (refl, rw (p, past_unknown-big cur new h) h)
+
+-- ---- the run
+
+verdict_ok : (o : Option ErrorCode) (g f : Content) → Ok (Some f) ≡ verdict o g → (o ≡ None) × (g ≡ f)
+verdict_ok None g f e = (refl, cc)
+verdict_ok (Some c) g f e = absurd cc
+
+verdict_err : (o : Option ErrorCode) (g : Content) (c : ErrorCode) → Err c ≡ verdict o g → o ≡ Some c
+verdict_err None g c e = absurd cc
+verdict_err (Some d) g c e = cc
+
+-- the run by the first known frame
+run-front : (role : Role) (first : Bool) (bytes : List ℕ) (c : Front) → front (past_unknown bytes) ≡ c → run role first bytes MayGoOn ≡ next_run (λ f r. run role f r MayGoOn) role first bytes (past_unknown bytes) MayGoOn c
+run-front role first bytes c e = run-step role first bytes MayGoOn ∙ ap (λ (x : Front). next_run (λ f r. run role f r MayGoOn) role first bytes (past_unknown bytes) MayGoOn x) e
+
+some_case : (role : Role) (first next : Bool) (old left : List ℕ) (f : Content) (c : Front) → front (past_unknown old) ≡ c → AnswersFrame role first c (Ok (Some f)) next left → run role first old MayGoOn ≡ follows f (run role next left MayGoOn)
+some_case role first next old left f (Framed g rest) e (answer, later, there) =
+    let (allowed, same) = verdict_ok (rule role first (kind_in g)) g f answer in
+    run-front role first old (Framed g rest) e ∙ rw (allowed, same, later, there) refl
+some_case role first next old left f (Unknown rest) e h = absurd h
+some_case role first next old left f (BadId rest) e (answer, later, there) = absurd cc
+some_case role first next old left f (TooBig rest) e (answer, later, there) = absurd cc
+some_case role first next old left f Short e (answer, later) = absurd cc
+
+pub run-some : (role : Role) (first next : Bool) (old left : List ℕ) (f : Content) → AnswersFrame role first (front (past_unknown old)) (Ok (Some f)) next left → run role first old MayGoOn ≡ follows f (run role next left MayGoOn)
+run-some role first next old left f h = some_case role first next old left f (front (past_unknown old)) refl h
+
+none_case : (role : Role) (first next : Bool) (old left : List ℕ) (c : Front) → front (past_unknown old) ≡ c → AnswersFrame role first c (Ok None) next left → run role first old MayGoOn ≡ ends (Open (length old))
+none_case role first next old left (Framed g rest) e (answer, later, there) = absurd (no_frame (rule role first (kind_in g)) answer)
+  where
+    no_frame : (o : Option ErrorCode) → Ok None ≡ verdict o g → ⊥
+    no_frame None a = cc
+    no_frame (Some d) a = cc
+none_case role first next old left (Unknown rest) e h = absurd h
+none_case role first next old left (BadId rest) e (answer, later, there) = absurd cc
+none_case role first next old left (TooBig rest) e (answer, later, there) = absurd cc
+none_case role first next old left Short e (answer, later) = run-front role first old Short e
+
+pub run-none : (role : Role) (first next : Bool) (old left : List ℕ) → AnswersFrame role first (front (past_unknown old)) (Ok None) next left → run role first old MayGoOn ≡ ends (Open (length old))
+run-none role first next old left h = none_case role first next old left (front (past_unknown old)) refl h
+
+err_case : (role : Role) (first next : Bool) (old left : List ℕ) (d : ErrorCode) (c : Front) → front (past_unknown old) ≡ c → AnswersFrame role first c (Err d) next left → run role first old MayGoOn ≡ ends (H3 d)
+err_case role first next old left d (Framed g rest) e (answer, later, there) = run-front role first old (Framed g rest) e ∙ rw (verdict_err (rule role first (kind_in g)) g d answer) refl
+err_case role first next old left d (Unknown rest) e h = absurd h
+err_case role first next old left d (BadId rest) e (answer, later, there) = let code : Id ≡ d = cc in run-front role first old (BadId rest) e ∙ rw code refl
+err_case role first next old left d (TooBig rest) e (answer, later, there) = let code : ExcessiveLoad ≡ d = cc in run-front role first old (TooBig rest) e ∙ rw code refl
+err_case role first next old left d Short e (answer, later) = absurd cc
+
+pub run-err : (role : Role) (first next : Bool) (old left : List ℕ) (d : ErrorCode) → AnswersFrame role first (front (past_unknown old)) (Err d) next left → run role first old MayGoOn ≡ ends (H3 d)
+run-err role first next old left d h = err_case role first next old left d (front (past_unknown old)) refl h
+
+-- the same for each answer of a reader ahead, whose bytes and whose end are those of the reader
+pub run_some : (role : Role) (first next : Bool) (old ahead left new : List ℕ) (o : Option Content) (f : Content) → ahead ≡ old → o ≡ Some f → new ≡ left → AnswersFrame role first (front (past_unknown ahead)) (Ok o) next left → run role first old MayGoOn ≡ follows f (run role next new MayGoOn)
+run_some role first next old ahead left new o f e is n h = rw (← e, n) (run-some role first next ahead left f (rw is at h))
+
+pub run_none : (role : Role) (first next : Bool) (old ahead left : List ℕ) (o : Option Content) → ahead ≡ old → o ≡ None → AnswersFrame role first (front (past_unknown ahead)) (Ok o) next left → run role first old MayGoOn ≡ ends (Open (length old))
+run_none role first next old ahead left o e is h = rw (← e) (run-none role first next ahead left (rw is at h))
+
+pub run_err : (role : Role) (first next : Bool) (old ahead left : List ℕ) (d : ErrorCode) → ahead ≡ old → AnswersFrame role first (front (past_unknown ahead)) (Err d) next left → run role first old MayGoOn ≡ ends (H3 d)
+run_err role first next old ahead left d e h = rw (← e) (run-err role first next ahead left d h)
+
+some_place : (role : Role) (first next : Bool) (left : List ℕ) (f : Content) (c : Front) → AnswersFrame role first c (Ok (Some f)) next left → (c ≡ Framed f left) × (rule role first (kind_in f) ≡ None) × (next ≡ false)
+some_place role first next left f (Framed g rest) (answer, later, there) =
+    let (allowed, same) = verdict_ok (rule role first (kind_in g)) g f answer in
+    (rw (same, there) refl, rw (← same) allowed, later)
+some_place role first next left f (Unknown rest) h = absurd h
+some_place role first next left f (BadId rest) (answer, later, there) = absurd cc
+some_place role first next left f (TooBig rest) (answer, later, there) = absurd cc
+some_place role first next left f Short (answer, later) = absurd cc
+
+pub place_some : (role : Role) (first next : Bool) (old ahead left new : List ℕ) (o : Option Content) (f : Content) → ahead ≡ old → o ≡ Some f → new ≡ left → AnswersFrame role first (front (past_unknown ahead)) (Ok o) next left → StandsAfter role first old (Ok (Some f)) next new
+place_some role first next old ahead left new o f e is n h = rw (← e, n) (some_place role first next left f (front (past_unknown ahead)) (rw is at h))
+
+none_place : (role : Role) (first next : Bool) (left : List ℕ) (c : Front) → AnswersFrame role first c (Ok None) next left → (c ≡ Short) × (next ≡ first)
+none_place role first next left (Framed g rest) (answer, later, there) = absurd (no_frame (rule role first (kind_in g)) answer)
+  where
+    no_frame : (o : Option ErrorCode) → Ok None ≡ verdict o g → ⊥
+    no_frame None a = cc
+    no_frame (Some d) a = cc
+none_place role first next left (Unknown rest) h = absurd h
+none_place role first next left (BadId rest) (answer, later, there) = absurd cc
+none_place role first next left (TooBig rest) (answer, later, there) = absurd cc
+none_place role first next left Short (answer, later) = (refl, later)
+
+pub place_none : (role : Role) (first next : Bool) (old ahead left new : List ℕ) (o : Option Content) → ahead ≡ old → o ≡ None → new ≡ old → AnswersFrame role first (front (past_unknown ahead)) (Ok o) next left → StandsAfter role first old (Ok None) next new
+place_none role first next old ahead left new o e is n h =
+    let (short, same) = none_place role first next left (front (past_unknown ahead)) (rw is at h) in
+    (rw (← e) short, same, n)
+
+err_place : (role : Role) (first next : Bool) (left : List ℕ) (d : ErrorCode) (c : Front) → AnswersFrame role first c (Err d) next left → FirstAfter role first c next
+err_place role first next left d (Framed g rest) (answer, later, there) = later
+err_place role first next left d (Unknown rest) h = absurd h
+err_place role first next left d (BadId rest) (answer, later, there) = later
+err_place role first next left d (TooBig rest) (answer, later, there) = later
+err_place role first next left d Short (answer, later) = later
+
+pub place_err : (role : Role) (first next : Bool) (old ahead left new : List ℕ) (d : ErrorCode) → ahead ≡ old → new ≡ old → AnswersFrame role first (front (past_unknown ahead)) (Err d) next left → StandsAfter role first old (Err d) next new
+place_err role first next old ahead left new d e n h = (rw (← e) (err_place role first next left d (front (past_unknown ahead)) h), n)
+
+-- unknown frames are passed over, where the bytes end
+same_stop : (bytes other rest : List ℕ) (tail : Tail) → tail ≢ MayGoOn → stop bytes rest tail ≡ stop other rest tail
+same_stop bytes other rest MayGoOn h = absurd (h refl)
+same_stop bytes other [] Ended h = refl
+same_stop bytes other (b ∷ rest) Ended h = refl
+same_stop bytes other rest WasReset h = refl
+same_stop bytes other rest Lost h = refl
+
+same_end : (role : Role) (first : Bool) (bytes other rest : List ℕ) (tail : Tail) (c : Front) (more : Bool → List ℕ → Run) → tail ≢ MayGoOn → next_run more role first bytes rest tail c ≡ next_run more role first other rest tail c
+same_end role first bytes other rest tail (Framed f behind) more h = refl
+same_end role first bytes other rest tail (Unknown behind) more h = ap ends (same_stop bytes other rest tail h)
+same_end role first bytes other rest tail (BadId behind) more h = refl
+same_end role first bytes other rest tail (TooBig behind) more h = refl
+same_end role first bytes other rest tail Short more h = ap ends (same_stop bytes other rest tail h)
+
+pub run-unknown : (role : Role) (first : Bool) (bytes rest : List ℕ) (tail : Tail) → tail ≢ MayGoOn → front bytes ≡ Unknown rest → run role first bytes tail ≡ run role first rest tail
+run-unknown role first bytes rest tail closed e =
+    run-step role first bytes tail
+    ∙ ap (λ (b : List ℕ). next_run (λ f r. run role f r tail) role first bytes b tail (front b)) (past_unknown-unknown bytes rest e)
+    ∙ same_end role first bytes rest (past_unknown rest) tail (front (past_unknown rest)) (λ f r. run role f r tail) closed
+    ∙ sym (run-step role first rest tail)
+
+pub rule_first : (role : Role) (f g : Bool) (kind : FrameKind) → role ≢ RemoteBi → rule role f kind ≡ rule role g kind
+rule_first RemoteBi f g kind h = absurd (h refl)
+rule_first LocalBi f g Data h = refl
+rule_first LocalBi f g Headers h = refl
+rule_first LocalBi f g Settings h = refl
+rule_first LocalBi f g WebTransport h = refl
+rule_first LocalBi f g (Exercise number) h = refl
+rule_first RemoteUni f g Data h = refl
+rule_first RemoteUni f g Headers h = refl
+rule_first RemoteUni f g Settings h = refl
+rule_first RemoteUni f g WebTransport h = refl
+rule_first RemoteUni f g (Exercise number) h = refl
+rule_first InSession f g Data h = refl
+rule_first InSession f g Headers h = refl
+rule_first InSession f g Settings h = refl
+rule_first InSession f g WebTransport h = refl
+rule_first InSession f g (Exercise number) h = refl
+
+pub ruleset run_answers = (run_some, run_none, run_err, place_some, place_none, place_err)

@@ -1,0 +1,15 @@
+pub mod Rule
+pub mod Run
+pub mod Streams
+pub mod Reading
+pub use Rattle.wtp_core.specs.Varint
+pub use Rattle.wtp_core.specs.Reader
+pub use Rattle.wtp_core.specs.Writer
+pub use Rattle.wtp_core.specs.BufferWriter
+pub use Rattle.wtp_core.specs.Ids
+pub use Rattle.wtp_core.specs.ErrorCodes
+pub use Rattle.wtp_wire.specs.Kind
+pub use Rattle.wtp_wire.specs.Content
+pub use Rattle.wtp_wire.specs.Front
+pub use Rattle.wtp_wire.specs.Wire
+pub use Rattle.wtp_wire.specs.Datagram

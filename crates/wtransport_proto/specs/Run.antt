@@ -1,0 +1,102 @@
+-- The frames that a stream finds in its bytes, and how that ends (RFC 9114, sections 7.1 and 9).
+--
+-- By the case of `front` of the bytes: an unknown frame is passed over; a frame that the rule allows is one
+-- more, and the run of the bytes behind it follows; a frame that it refuses, a number that is no session's
+-- and a payload that is too big end the run with their code; bytes that are too few end it as they end.
+-- The laws `run_goes_by_front` and `run_passes_unknown` say just that.
+use Rattle.std.specs.Prelude.{ℕ, zero, suc, Bool, false, List, [], ◌∷◌, length, Option, Some, None}
+use Rattle.wtp_core.specs.declared.error.ErrorCode.{ErrorCode}
+use Rattle.wtp_core.specs.declared.error.ErrorCode.TheVariants.{Id, ExcessiveLoad}
+use Rattle.wtp_core.specs.declared.error.ErrorCode.TheVariants as code
+use Rattle.wtp_wire.specs.Content.{Content, kind_in}
+use Rattle.wtp_wire.specs.Front.{Front, Framed, Unknown, BadId, TooBig, Short, front}
+use Rattle.wtransport_proto.specs.Rule.{Role, rule}
+
+-- How the bytes end: they may go on, or not.
+pub data Tail : Type 0 where
+  MayGoOn : Tail
+  Ended : Tail
+  WasReset : Tail
+  Lost : Tail
+
+-- How a run ends: with so many bytes behind its last frame where they may go on, with an error code, or as the bytes end.
+pub data Ending : Type 0 where
+  Open : ℕ → Ending
+  H3 : ErrorCode → Ending
+  ImmediateFin : Ending
+  Reset : Ending
+  NotConnected : Ending
+
+-- the frames, and the ending
+pub record Run : Type 0 where
+  pub frames : List Content
+  pub ending : Ending
+
+abbrev pub ends : Ending → Run
+ends e = record { frames = []; ending = e }
+
+abbrev pub follows : Content → Run → Run
+follows f r = record { frames = f ∷ r.frames; ending = r.ending }
+
+-- ---- unknown frames are passed over
+
+abbrev pub passed : (List ℕ → List ℕ) → List ℕ → Front → List ℕ
+passed more bytes (Framed f rest) = bytes
+passed more bytes (Unknown rest) = more rest
+passed more bytes (BadId rest) = bytes
+passed more bytes (TooBig rest) = bytes
+passed more bytes Short = bytes
+
+-- the bytes behind the unknown frames at the front, of which there are at most n
+abbrev pub past_within : ℕ → List ℕ → List ℕ
+past_within zero bytes = bytes
+past_within (suc n) bytes = passed (λ rest. past_within n rest) bytes (front bytes)
+
+unfoldable pub past_unknown : List ℕ → List ℕ
+past_unknown bytes = past_within (length bytes) bytes
+
+-- ---- the run
+
+-- where no frame begins rest, and bytes are all those behind the last frame
+abbrev pub stop : List ℕ → List ℕ → Tail → Ending
+stop bytes rest MayGoOn = Open (length bytes)
+stop bytes [] Ended = ImmediateFin
+stop bytes (b ∷ rest) Ended = H3 code.Frame
+stop bytes rest WasReset = Reset
+stop bytes rest Lost = NotConnected
+
+-- a frame that the rule allows, and the run of what follows; or the fault
+abbrev pub judged : Option ErrorCode → Content → Run → Run
+judged None f r = follows f r
+judged (Some c) f r = ends (H3 c)
+
+abbrev pub next_run : (Bool → List ℕ → Run) → Role → Bool → List ℕ → List ℕ → Tail → Front → Run
+next_run more role first bytes rest tail (Framed f behind) = judged (rule role first (kind_in f)) f (more false behind)
+next_run more role first bytes rest tail (Unknown behind) = ends (stop bytes rest tail)
+next_run more role first bytes rest tail (BadId behind) = ends (H3 Id)
+next_run more role first bytes rest tail (TooBig behind) = ends (H3 ExcessiveLoad)
+next_run more role first bytes rest tail Short = ends (stop bytes rest tail)
+
+-- the run of bytes with at most n frames
+abbrev pub run_within : ℕ → Role → Tail → Bool → List ℕ → Run
+run_within zero role tail first bytes = ends (stop bytes bytes tail)
+run_within (suc n) role tail first bytes = next_run (λ f rest. run_within n role tail f rest) role first bytes (past_unknown bytes) tail (front (past_unknown bytes))
+
+unfoldable pub run : Role → Bool → List ℕ → Tail → Run
+run role first bytes tail = run_within (length bytes) role tail first bytes
+
+-- a run of bytes that may go on, where all the bytes behind its last frame are these
+abbrev pub counted_end : List ℕ → Ending → Ending
+counted_end bytes (Open n) = Open (length bytes)
+counted_end bytes (H3 code) = H3 code
+counted_end bytes ImmediateFin = ImmediateFin
+counted_end bytes Reset = Reset
+counted_end bytes NotConnected = NotConnected
+
+abbrev pub counted_run : List ℕ → List Content → Ending → Run
+counted_run bytes [] ending = ends (counted_end bytes ending)
+counted_run bytes (f ∷ frames) ending = record { frames = f ∷ frames; ending = ending }
+
+-- the run, where these bytes are left over in place of its own as long as no frame came
+abbrev pub counted : List ℕ → Run → Run
+counted bytes r = counted_run bytes r.frames r.ending

@@ -1,0 +1,38 @@
+//! Laws of the definitions that contracts of this crate cite. Each function does nothing: its
+//! contract is the law.
+ghost use Rattle.std.specs.Prelude.{◌≡◌, ◌≢◌, ℕ, List, Bool, false, Some, None};
+ghost use Rattle.wtp_core.specs.declared.error.ErrorCode.{ErrorCode};
+ghost use Rattle.wtp_core.specs.declared.error.ErrorCode.TheVariants.{Id, ExcessiveLoad};
+ghost use Rattle.wtp_wire.specs.Content.{Content, kind_in};
+ghost use Rattle.wtp_wire.specs.Front.{Framed, Unknown, BadId, TooBig, Short, front};
+ghost use Rattle.wtp_wire.specs.declared.frame.FrameKind.{FrameKind};
+ghost use Rattle.wtransport_proto.specs.Rule.{Role, RemoteBi, rule};
+ghost use Rattle.wtransport_proto.specs.Run.{Tail, MayGoOn, H3, past_unknown, run, ends, follows, stop, counted};
+
+/// The run goes by the case of the bytes, but for unknown frames.
+pub fn run_goes_by_front()
+    ensures allowed { (role : Role) (first : Bool) (bytes rest : List ℕ) (tail : Tail) (f : Content) → front bytes ≡ Framed f rest → rule role first (kind_in f) ≡ None → run role first bytes tail ≡ follows f (run role false rest tail) }
+    ensures refused { (role : Role) (first : Bool) (bytes rest : List ℕ) (tail : Tail) (f : Content) (code : ErrorCode) → front bytes ≡ Framed f rest → rule role first (kind_in f) ≡ Some code → run role first bytes tail ≡ ends (H3 code) }
+    ensures bad_id { (role : Role) (first : Bool) (bytes rest : List ℕ) (tail : Tail) → front bytes ≡ BadId rest → run role first bytes tail ≡ ends (H3 Id) }
+    ensures too_big { (role : Role) (first : Bool) (bytes rest : List ℕ) (tail : Tail) → front bytes ≡ TooBig rest → run role first bytes tail ≡ ends (H3 ExcessiveLoad) }
+    ensures short { (role : Role) (first : Bool) (bytes : List ℕ) (tail : Tail) → front bytes ≡ Short → run role first bytes tail ≡ ends (stop bytes bytes tail) }
+{}
+
+/// An unknown frame is passed over: the run is that of the bytes behind it. Where the bytes may go
+/// on, its bytes count as left over as long as no frame came.
+pub fn run_passes_unknown()
+    ensures ended { (role : Role) (first : Bool) (bytes rest : List ℕ) (tail : Tail) → tail ≢ MayGoOn → front bytes ≡ Unknown rest → run role first bytes tail ≡ run role first rest tail }
+    ensures going_on { (role : Role) (first : Bool) (bytes rest : List ℕ) → front bytes ≡ Unknown rest → run role first bytes MayGoOn ≡ counted bytes (run role first rest MayGoOn) }
+{}
+
+/// The bytes behind the unknown frames at the front, frame by frame.
+pub fn past_unknown_by_front()
+    ensures unknown { (bytes rest : List ℕ) → front bytes ≡ Unknown rest → past_unknown bytes ≡ past_unknown rest }
+    ensures known { (bytes : List ℕ) → ((rest : List ℕ) → front bytes ≢ Unknown rest) → past_unknown bytes ≡ bytes }
+{}
+
+/// Only a stream in both directions that the peer opened tells the first frame from the others.
+pub fn only_remote_bi_counts()
+    ensures rules { (role : Role) (f g : Bool) (kind : FrameKind) → role ≢ RemoteBi → rule role f kind ≡ rule role g kind }
+    ensures runs { (role : Role) (f g : Bool) (bytes : List ℕ) (tail : Tail) → role ≢ RemoteBi → run role f bytes tail ≡ run role g bytes tail }
+{}

@@ -1,0 +1,14 @@
+//! The protocol core of WebTransport over HTTP/3, without a network.
+//!
+//! Bytes of streams and datagrams come in; frames and exact error codes come out, and the same
+//! things are written as bytes. A user names this crate alone: it passes on the crates below it.
+#![tactic(auto)]
+
+pub use wtp_core::{bytes, error, ids, varint};
+pub use wtp_wire::{datagram, frame};
+
+pub mod laws;
+pub mod stream;
+
+/// The application protocol that a QUIC connection of WebTransport negotiates (RFC 9114, section 3.1).
+pub const WEBTRANSPORT_ALPN: &[u8; 2] = b"h3";

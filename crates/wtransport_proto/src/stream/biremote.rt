@@ -1,0 +1,142 @@
+//! Streams in both directions that the peer opened.
+ghost use Rattle.std.specs.Prelude.{◌≡◌, ◌≤◌, ◌↔◌, true, false, length, Some, None, Err, MatchResult, IsOk, OnOk, OnErr};
+ghost use Rattle.wtp_core.specs.Reader.{left_of, whole_of, IsRest};
+ghost use Rattle.wtp_core.specs.Writer.{PutsParts, LacksRoom};
+ghost use Rattle.wtp_core.specs.BufferWriter.{room_in, loan_of, IsUnwritten, Wrote};
+ghost use Rattle.wtp_wire.specs.Content.{kind_in};
+ghost use Rattle.wtp_wire.specs.Front.{front};
+ghost use Rattle.wtp_wire.specs.Wire.{parts_of, wire};
+ghost use Rattle.wtransport_proto.specs.Reading.{AnswersFrame, AnswersRun, StandsAfter};
+ghost use Rattle.wtransport_proto.specs.Rule.{RemoteBi, rule};
+ghost use Rattle.wtransport_proto.specs.Run.{past_unknown};
+ghost use Rattle.wtransport_proto.specs.Streams.{first_of};
+
+use crate::stream::types::{BiRemote, H3, Quic};
+use crate::stream::{Stream, read_known};
+use wtp_core::bytes::{
+    BufferReader, BufferWriter, BytesReader, BytesWriter, EndOfBuffer, PutError,
+};
+use wtp_core::error::ErrorCode;
+use wtp_wire::frame::{Frame, FrameKind};
+
+/// A stream of QUIC.
+pub type StreamBiRemoteQuic = Stream<BiRemote, Quic>;
+
+/// A stream of HTTP/3.
+pub type StreamBiRemoteH3 = Stream<BiRemote, H3>;
+
+impl StreamBiRemoteQuic {
+    /// A stream that the peer opened.
+    pub fn accept_bi() -> Self {
+        Stream {
+            kind: BiRemote::default(),
+            stage: Quic,
+        }
+    }
+
+    /// The same as a stream of HTTP/3, of which no frame was read.
+    pub fn upgrade(self) -> StreamBiRemoteH3
+        ensures { first_of result ≡ true }
+    {
+        Stream {
+            kind: self.kind,
+            stage: H3 {
+                first_frame_done: false,
+            },
+        }
+    }
+}
+
+impl StreamBiRemoteH3 {
+    /// Reads the next frame, and takes no memory. Unknown frames are passed over whole.
+    ///
+    /// `None` where the bytes are too few; whole frames and numbers may have been read then.
+    /// `FrameUnexpected` or `Frame` behind a frame that may not come here, `Id` behind a
+    /// WebTransport frame whose number is no session's, `ExcessiveLoad` behind a length above 4096.
+    /// A WebTransport frame may come only as the first one; a refused frame counts, an unknown one
+    /// and one that could not be read don't.
+    #[inline(always)]
+    pub fn read_frame<'a, R: BytesReader<'a>>(
+        &mut self,
+        reader: &mut R,
+    ) -> Result<Option<Frame<'a>>, ErrorCode>
+        ensures answer { AnswersFrame RemoteBi (first_of self.old) (front (past_unknown (R.left reader.old))) result (first_of self.new) (R.left reader.new) }
+        ensures rest { IsRest (R.left reader.new) (R.left reader.old) }
+    {
+        let Some(frame) = read_known(reader)? else {
+            return Ok(None);
+        };
+        Ok(Some(self.validate_frame(frame)?))
+    }
+
+    /// Reads the next frame as `read_frame` does, and moves past it; where it answers `None` or an
+    /// error the reader stays where it is.
+    #[inline(always)]
+    #[tactic(auto, using(crate::proofs::ReadingLemmas::run_answers))]
+    pub fn read_frame_from_buffer<'a>(
+        &mut self,
+        reader: &mut BufferReader<'a>,
+    ) -> Result<Option<Frame<'a>>, ErrorCode>
+        ensures run { AnswersRun RemoteBi (first_of self.old) (left_of reader.old) result (first_of self.new) (left_of reader.new) }
+        ensures place { StandsAfter RemoteBi (first_of self.old) (left_of reader.old) result (first_of self.new) (left_of reader.new) }
+        ensures whole { whole_of reader.new ≡ whole_of reader.old }
+    {
+        let mut ahead = BufferReader::new(reader.buffer_remaining());
+        match self.read_frame(&mut ahead) {
+            Ok(Some(frame)) => {
+                reader.move_to(&ahead);
+                Ok(Some(frame))
+            }
+            Ok(None) => Ok(None),
+            Err(code) => Err(code),
+        }
+    }
+
+    /// Writes a frame as `Frame::write` does.
+    pub fn write_frame<W: BytesWriter>(
+        &self,
+        frame: Frame<'_>,
+        writer: &mut W,
+    ) -> Result<(), PutError>
+        ensures parts { PutsParts W.grows (parts_of frame.entry) result (W.written writer.old) (W.room writer.old) (W.written writer.new) (W.room writer.new) }
+        ensures full { result ≡ Err PutError.EndOfBuffer → LacksRoom (W.room writer.old) (length (wire frame.entry)) }
+        ensures target { W.target writer.new ≡ W.target writer.old }
+    {
+        frame.write(writer)
+    }
+
+    /// Writes a frame whole as `Frame::write_to_buffer` does.
+    pub fn write_frame_to_buffer(
+        &self,
+        frame: Frame<'_>,
+        writer: &mut BufferWriter<'_>,
+    ) -> Result<(), EndOfBuffer>
+        ensures room { IsOk result ↔ (length (wire frame.entry) ≤ length (room_in writer.old)) }
+        ensures ok { OnOk result (Wrote (wire frame.entry) writer.old writer.new) }
+        ensures err { OnErr result (IsUnwritten writer.old writer.new) }
+        ensures loan { loan_of writer.new ≡ loan_of writer.old }
+    {
+        frame.write_to_buffer(writer)
+    }
+
+    /// The frame, or the fault that refuses it; a next frame isn't the first.
+    fn validate_frame<'a>(&mut self, frame: Frame<'a>) -> Result<Frame<'a>, ErrorCode>
+        ensures verdict { MatchResult result
+            (λ f. (f ≡ frame.entry) × (rule RemoteBi (first_of self.old) (kind_in frame.entry) ≡ None))
+            (λ c. rule RemoteBi (first_of self.old) (kind_in frame.entry) ≡ Some c) }
+        ensures first { first_of self.new ≡ false }
+    {
+        let first_frame_done = self.stage.set_first_frame();
+        match frame.kind() {
+            FrameKind::Data | FrameKind::Headers | FrameKind::Exercise(_) => Ok(frame),
+            FrameKind::Settings => Err(ErrorCode::FrameUnexpected),
+            FrameKind::WebTransport => {
+                if first_frame_done {
+                    Err(ErrorCode::Frame)
+                } else {
+                    Ok(frame)
+                }
+            }
+        }
+    }
+}
