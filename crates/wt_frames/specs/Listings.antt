@@ -1,0 +1,21 @@
+-- The listing of a run.
+use Rattle.std.specs.Prelude.{◌≡◌, true, List, ℕ}
+use Rattle.wt_frames.specs.declared.listing.Listing.{Listing}
+use Rattle.wt_frames.specs.declared.listing.ListKind.{ListKind}
+use Rattle.wt_frames.specs.declared.listing.ListKind.TheVariants.{BiRemote}
+use Rattle.wt_frames.specs.Lines.{text_of, status_of}
+use Rattle.wtransport_proto.specs.Rule.{Role, RemoteBi}
+use Rattle.wtransport_proto.specs.Run.{Run, run, MayGoOn}
+
+-- the stream whose bytes are listed
+abbrev pub role_of : ListKind → Role
+role_of BiRemote = RemoteBi
+
+-- the run of a recorded stream from its start: its bytes may go on
+abbrev pub recorded : ListKind → List ℕ → Run
+recorded kind input = run (role_of kind) true input MayGoOn
+
+-- the listing is that of the run
+pub record IsListing (l : Listing) (r : Run) : Type 0 where
+  pub text : l.text.items ≡ text_of r
+  pub status : l.status ≡ status_of r.ending

@@ -1,0 +1,9 @@
+//! Lists the frames of a recorded stream, one line each.
+#![tactic(auto)]
+
+pub mod listing;
+pub mod program;
+
+pub use listing::frames::list_frames;
+pub use listing::{ListKind, Listing};
+pub use program::run_program;

@@ -1,0 +1,143 @@
+//! The program: its words, its input and output, and its statuses.
+ghost use Rattle.std.specs.Prelude.{◌≡◌, ◌≢◌, ◌≤◌, ◌<◌, ◌⊎◌, map, length, Err, IfOk, IfErr, IfSome, IfNone, OnOk, vec_len, string_bytes};
+ghost use Rattle.std.specs.Io.KnownBytes.{Appends};
+ghost use Rattle.wt_frames.specs.Program.{fault_status, Names, NamesNone, ListsWords};
+
+use crate::listing::ListKind;
+use crate::listing::frames::list_frames;
+use std::alloc::Global;
+use std::io::{Read, Write};
+
+/// How many bytes of input are listed at most.
+const MAX_INPUT: usize = 1_048_576;
+
+/// How often input is read at most.
+const MAX_TURNS: u32 = 2_097_152;
+
+/// Why there is no listing.
+#[derive(Clone, Copy, Debug, PartialEq, Eq, thiserror::Error)]
+pub enum Fault {
+    /// The words are not those of a listing.
+    #[error("wt_frames: usage")]
+    Usage,
+    /// More than 1048576 bytes of input.
+    #[error("wt_frames: input too long")]
+    InputTooLong,
+    /// Input could not be read, or did not end.
+    #[error("wt_frames: read fault")]
+    ReadFault,
+    /// The listing could not be written.
+    #[error("wt_frames: write fault")]
+    WriteFault,
+    /// No memory.
+    #[error("wt_frames: no memory")]
+    NoMemory,
+}
+
+impl Fault {
+    /// The status with which the program ends.
+    pub fn status(self) -> u8
+        ensures { result ≡ fault_status self }
+    {
+        match self {
+            Fault::Usage => 1,
+            Fault::InputTooLong | Fault::ReadFault | Fault::WriteFault => 3,
+            Fault::NoMemory => 4,
+        }
+    }
+}
+
+/// Lists the input as the words say (`buffer bi-remote`, `buffer`, or none), and answers the status
+/// with which the program ends: that of the listing; 1 for other words; 3 for input above 1048576
+/// bytes, a read fault and a write fault; 4 where memory is wanting. With 1, 3 and 4 `errors` gets
+/// one line, whose own fault is ignored; before the listing is whole nothing is written to `output`.
+pub fn run_program<R: Read, W: Write, E: Write>(
+    alloc: Global,
+    words: &[String],
+    input: &mut R,
+    output: &mut W,
+    errors: &mut E,
+) -> u8
+    // Other words are answered before anything is read or written.
+    ensures usage { NamesNone (map (λ w. string_bytes w) words.now) → (result ≡ 1) × (input.new ≡ input.old) × (output.new ≡ output.old) }
+    // Status 0 and 2 come with the whole listing of the whole input.
+    ensures lists { (result ≡ 0) ⊎ (result ≡ 2) → ListsWords (map (λ w. string_bytes w) words.now) (R.remaining input.old) (W.contents output.old) (W.contents output.new) result }
+    // Status 1 and 4 come with nothing written.
+    ensures quiet { (result ≡ 1) ⊎ (result ≡ 4) → output.new ≡ output.old }
+    ensures statuses { result ≤ 4 }
+{
+    match try_run(alloc, words, input, output) {
+        Ok(status) => status,
+        Err(fault) => {
+            let _ = writeln!(errors, "{fault}");
+            fault.status()
+        }
+    }
+}
+
+/// The same, with the fault in place of its line.
+fn try_run<R: Read, W: Write>(
+    alloc: Global,
+    words: &[String],
+    input: &mut R,
+    output: &mut W,
+) -> Result<u8, Fault>
+    ensures usage { NamesNone (map (λ w. string_bytes w) words.now) → (result ≡ Err Fault.Usage) × (input.new ≡ input.old) }
+    ensures lists { IfOk result (ListsWords (map (λ w. string_bytes w) words.now) (R.remaining input.old) (W.contents output.old) (W.contents output.new)) }
+    ensures status { IfOk result (λ s. (s ≡ 0) ⊎ (s ≡ 2)) }
+    ensures quiet { IfErr result (λ e. e ≢ Fault.WriteFault → output.new ≡ output.old) }
+{
+    let kind = list_kind(words).ok_or(Fault::Usage)?;
+    let bytes = read_input(alloc, input)?;
+    let listing = list_frames(alloc, kind, bytes.as_slice()).map_err(|_| Fault::NoMemory)?;
+    write_output(output, listing.text.as_slice())?;
+    Ok(listing.status)
+}
+
+/// The stream that the words name, where they name one.
+fn list_kind(words: &[String]) -> Option<ListKind>
+    ensures named { IfSome result (Names (map (λ w. string_bytes w) words.now)) }
+    ensures none { IfNone result (NamesNone (map (λ w. string_bytes w) words.now)) }
+{
+    match words {
+        [] => Some(ListKind::BiRemote),
+        [word] if word.as_str() == "buffer" => Some(ListKind::BiRemote),
+        [word, kind] if word.as_str() == "buffer" && kind.as_str() == "bi-remote" => {
+            Some(ListKind::BiRemote)
+        }
+        _ => None,
+    }
+}
+
+/// All of the input.
+fn read_input<R: Read>(alloc: Global, input: &mut R) -> Result<Vec<u8>, Fault>
+    ensures whole { IfOk result (λ bytes. IfSome (R.remaining input.old) (λ xs. bytes.items ≡ xs)) }
+    ensures short { IfOk result (λ bytes. vec_len bytes ≤ 1048576) }
+    ensures too_long { result ≡ Err Fault.InputTooLong → IfSome (R.remaining input.old) (λ xs. 1048576 < length xs) }
+    ensures faults { IfErr result (λ e. (e ≢ Fault.Usage) × (e ≢ Fault.WriteFault)) }
+{
+    let mut bytes = Vec::new(alloc);
+    let mut chunk = [0; 4096];
+    'turns: for _turn in 0..MAX_TURNS {
+        let count = input.read(&mut chunk).map_err(|_| Fault::ReadFault)?;
+        if count == 0 {
+            return Ok(bytes);
+        }
+        bytes
+            .extend_from_slice(&chunk[..count])
+            .map_err(|_| Fault::NoMemory)?;
+        if bytes.len() > MAX_INPUT {
+            return Err(Fault::InputTooLong);
+        }
+    }
+    Err(Fault::ReadFault)
+}
+
+/// Writes the whole listing.
+fn write_output<W: Write>(output: &mut W, text: &[u8]) -> Result<(), Fault>
+    ensures whole { OnOk result (Appends (W.contents output.old) (W.contents output.new) text.now) }
+    ensures fault { IfErr result (λ e. e ≡ Fault.WriteFault) }
+{
+    output.write_all(text).map_err(|_| Fault::WriteFault)?;
+    output.flush().map_err(|_| Fault::WriteFault)
+}
