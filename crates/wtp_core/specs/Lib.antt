@@ -1,5 +1,6 @@
 pub mod Varint
 pub mod Reader
+pub mod Cursor
 pub mod Writer
 pub mod BufferWriter
 pub mod Ids

@@ -7,7 +7,7 @@ pub mod writer;
 
 pub use buffer_reader::BufferReader;
 pub use buffer_writer::BufferWriter;
-pub use child::BufferReaderChild;
+pub use child::{BufferReaderChild, ParentReader};
 pub use reader::BytesReader;
 pub use writer::{BytesWriter, PutError};
 

@@ -1,7 +1,8 @@
 //! Frames of HTTP/3 (RFC 9114, section 7), read and written whole.
 ghost use Rattle.std.specs.Prelude.{◌≡◌, ◌%◌, ◌≢◌, ◌<◌, ◌≤◌, ◌^◌, ◌+◌, ◌++◌, [], length, IsTrue, IsSome, IfSome, IsOk, OnOk, OnErr, Err, Some, None, ◌↔◌};
 ghost use Rattle.wtp_core.specs.Writer.{LacksRoom, PutsParts};
-ghost use Rattle.wtp_core.specs.Reader.{left_of, whole_of, IsRest};
+ghost use Rattle.wtp_core.specs.Reader.{IsRest};
+ghost use Rattle.wtp_core.specs.Cursor.{left_of, whole_of};
 ghost use Rattle.wtp_core.specs.BufferWriter.{room_in, loan_of, IsUnwritten, Wrote};
 
 use std::borrow::CowSlice;
@@ -208,6 +209,7 @@ impl<'a> Frame<'a> {
     fn read_session<R: BytesReader<'a>>(reader: &mut R) -> Result<Option<Self>, ParseError>
         ensures answer { Answers (session_front (R.left reader.old)) result (R.left reader.new) }
         ensures rest { IsRest (R.left reader.new) (R.left reader.old) }
+        ensures kept { R.kept reader.new ≡ R.kept reader.old }
     {
         let Some(number) = reader.get_varint() else {
             return Ok(None);
@@ -229,6 +231,7 @@ impl<'a> Frame<'a> {
         requires plain { kind ≢ FrameKind.WebTransport }
         ensures answer { Answers (plain_front kind (R.left reader.old)) result (R.left reader.new) }
         ensures rest { IsRest (R.left reader.new) (R.left reader.old) }
+        ensures kept { R.kept reader.new ≡ R.kept reader.old }
     {
         let Some(len) = reader.get_varint() else {
             return Ok(None);
@@ -252,6 +255,7 @@ impl<'a> Frame<'a> {
     fn read_unknown<R: BytesReader<'a>>(reader: &mut R) -> Result<Option<Self>, ParseError>
         ensures answer { Answers (unknown_front (R.left reader.old)) result (R.left reader.new) }
         ensures rest { IsRest (R.left reader.new) (R.left reader.old) }
+        ensures kept { R.kept reader.new ≡ R.kept reader.old }
     {
         let Some(len) = reader.get_varint() else {
             return Ok(None);
@@ -273,6 +277,7 @@ impl<'a> Frame<'a> {
     pub fn read<R: BytesReader<'a>>(reader: &mut R) -> Result<Option<Self>, ParseError>
         ensures answer { Answers (front (R.left reader.old)) result (R.left reader.new) }
         ensures rest { IsRest (R.left reader.new) (R.left reader.old) }
+        ensures kept { R.kept reader.new ≡ R.kept reader.old }
     {
         let Some(id) = reader.get_varint() else {
             return Ok(None);

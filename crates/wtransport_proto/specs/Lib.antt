@@ -4,6 +4,7 @@ pub mod Streams
 pub mod Reading
 pub use Rattle.wtp_core.specs.Varint
 pub use Rattle.wtp_core.specs.Reader
+pub use Rattle.wtp_core.specs.Cursor
 pub use Rattle.wtp_core.specs.Writer
 pub use Rattle.wtp_core.specs.BufferWriter
 pub use Rattle.wtp_core.specs.Ids

@@ -1,6 +1,7 @@
 //! Streams of QUIC, HTTP/3 and WebTransport, by their kind and state.
 //!
 //! A stream holds no bytes: it is handed a reader or a writer, and says what may come on it.
+ghost use Rattle.std.specs.Prelude.{◌≡◌};
 ghost use Rattle.wtp_core.specs.Reader.{IsRest};
 ghost use Rattle.wtp_wire.specs.Front.{front};
 ghost use Rattle.wtransport_proto.specs.Reading.{AnswersKnown};
@@ -26,6 +27,7 @@ pub struct Stream<K, S> {
 fn read_known<'a, R: BytesReader<'a>>(reader: &mut R) -> Result<Option<Frame<'a>>, ErrorCode>
     ensures answer { AnswersKnown (front (past_unknown (R.left reader.old))) result (R.left reader.new) }
     ensures rest { IsRest (R.left reader.new) (R.left reader.old) }
+    ensures kept { R.kept reader.new ≡ R.kept reader.old }
 {
     'frames: loop {
         match Frame::read(reader) {

@@ -1,9 +1,8 @@
 //! A place in a slice of bytes, from which they are read.
-ghost use Rattle.std.specs.Prelude.{◌≡◌, ◌≤◌, ◌↔◌, length, MatchOption, IfNone, IfSome, Some, None, OnOk, OnErr, IsOk};
-ghost use Rattle.wtp_core.specs.Varint.{number_at, bytes_at};
+ghost use Rattle.std.specs.Prelude.{◌≡◌, ◌+◌, ◌-◌, ◌≤◌, ◌↔◌, ◌++◌, take, drop, length, OnOk, OnErr, IsOk};
 
 use crate::bytes::EndOfBuffer;
-use crate::bytes::child::BufferReaderChild;
+use crate::bytes::child::{BufferReaderChild, ParentReader, bytes_from};
 use crate::bytes::reader::BytesReader;
 use crate::varint::{VarInt, first_varint};
 use std::fmt;
@@ -13,10 +12,13 @@ use std::fmt;
 pub struct BufferReader<'a> {
     buffer: &'a [u8],
     rest: &'a [u8],
+    // What is left stands at the end of the slice.
+    ghost within: { length rest.now ≤ length buffer.now },
+    ghost tail: { drop (length buffer.now - length rest.now) buffer.now ≡ rest.now },
 }
 
 impl<'a> BufferReader<'a> {
-    ghost use Rattle.wtp_core.specs.Reader.{left_of, offset_of, whole_of, IsRest, MovesBy, IsUnmoved};
+    ghost use Rattle.wtp_core.specs.Cursor.{left_of, offset_of, whole_of, MovesBy};
 
     /// A reader of the whole slice, at its front.
     pub fn new(buffer: &'a [u8]) -> Self
@@ -38,9 +40,11 @@ impl<'a> BufferReader<'a> {
 
     /// The place: how many bytes stand in front of it.
     pub fn offset(&self) -> usize
-        ensures { result ≡ offset_of self.now }
+        ensures place { result ≡ offset_of self.now }
+        ensures sum { result + length (left_of self.now) ≡ length (whole_of self.now) }
+        ensures parts { whole_of self.now ≡ take result (whole_of self.now) ++ left_of self.now }
     {
-        self.buffer.len().saturating_sub(self.rest.len())
+        self.buffer.len() - self.rest.len()
     }
 
     /// The whole slice.
@@ -53,7 +57,7 @@ impl<'a> BufferReader<'a> {
     /// The bytes that are left. The reader stays where it is.
     pub fn buffer_remaining(&mut self) -> &'a [u8]
         ensures bytes { result.now ≡ left_of self.old }
-        ensures unmoved { IsUnmoved self.old self.new }
+        ensures unmoved { self.new ≡ self.old }
     {
         self.rest
     }
@@ -61,7 +65,7 @@ impl<'a> BufferReader<'a> {
     /// Moves the place by `len` bytes; an error where fewer are left, and then nothing moves.
     pub fn skip(&mut self, len: usize) -> Result<(), EndOfBuffer>
         ensures ok { OnOk result (MovesBy len self.old self.new) }
-        ensures err { OnErr result (IsUnmoved self.old self.new) }
+        ensures err { OnErr result (self.new ≡ self.old) }
         ensures room { IsOk result ↔ (len ≤ length (left_of self.old)) }
     {
         if len > self.rest.len() {
@@ -71,9 +75,9 @@ impl<'a> BufferReader<'a> {
         Ok(())
     }
 
-    /// Moves to the place of a reader over what this one has left.
+    /// Moves to the place of a reader that was made over what is left here.
     pub fn move_to(&mut self, ahead: &BufferReader<'a>)
-        requires { IsRest (left_of ahead.now) (left_of self.old) }
+        requires { whole_of ahead.now ≡ left_of self.old }
         ensures left { left_of self.new ≡ left_of ahead.now }
         ensures whole { whole_of self.new ≡ whole_of self.old }
     {
@@ -81,26 +85,47 @@ impl<'a> BufferReader<'a> {
     }
 
     /// A reader over the bytes that are left, whose place is taken over by its `commit` alone.
+    ///
+    /// A caller whose proof is to know this reader's place afterwards is written for any
+    /// `P: ParentReader`.
     pub fn child(&mut self) -> BufferReaderChild<'a, '_>
         ensures same_reference { result.parent.ghost_name ≡ self.entry.ghost_name }
-        ensures same_parent { IsUnmoved self.old result.parent.now }
-        ensures start { (whole_of result.reader ≡ left_of self.old) × (left_of result.reader ≡ left_of self.old) }
+        ensures same_parent { result.parent.now ≡ self.old }
+        ensures buffer { result.buffer.now ≡ left_of self.old }
+        ensures start { result.offset ≡ 0 }
     {
-        BufferReaderChild::with_parent(self)
+        let rest = self.rest;
+        BufferReaderChild::over(self, rest)
+    }
+}
+
+impl<'a> ParentReader<'a> for BufferReader<'a> {
+    ghost use Rattle.wtp_core.specs.Cursor.{left_of, whole_of};
+
+    ghost whole = { whole_of };
+
+    ghost behind = { left_of };
+
+    fn advance(&mut self, len: usize) {
+        self.rest = bytes_from(self.rest, len);
+    }
+
+    fn child(&mut self) -> BufferReaderChild<'a, '_, Self> {
+        let rest = self.rest;
+        BufferReaderChild::over(self, rest)
     }
 }
 
 impl<'a> BytesReader<'a> for BufferReader<'a> {
-    ghost use Rattle.wtp_core.specs.Reader.{left_of, whole_of};
+    ghost use Rattle.wtp_core.specs.Cursor.{left_of, whole_of};
+    ghost use Rattle.wtp_core.specs.Reader.{kept_alone};
 
     ghost left = { left_of };
 
+    ghost kept = { λ r. kept_alone (whole_of r) };
+
     #[inline(always)]
-    fn get_varint(&mut self) -> Option<VarInt>
-        ensures found { MatchOption result (number_at (left_of self.old) ≡ None) (λ n. number_at (left_of self.old) ≡ Some (n, left_of self.new)) }
-        ensures none { IfNone result (left_of self.new ≡ left_of self.old) }
-        ensures same_buffer { whole_of self.new ≡ whole_of self.old }
-    {
+    fn get_varint(&mut self) -> Option<VarInt> {
         let (number, size) = first_varint(self.rest)?;
         self.rest = &self.rest[size..];
         Some(number)
@@ -108,12 +133,7 @@ impl<'a> BytesReader<'a> for BufferReader<'a> {
 
     #[inline(always)]
     #[tactic(auto, unfolding(crate::specs::Varint::bytes_at))]
-    fn get_bytes(&mut self, len: usize) -> Option<&'a [u8]>
-        ensures found { MatchOption result (bytes_at len (left_of self.old) ≡ None) (λ b. bytes_at len (left_of self.old) ≡ Some (b.now, left_of self.new)) }
-        ensures len { IfSome result (λ b. length b.now ≡ len) }
-        ensures none { IfNone result (left_of self.new ≡ left_of self.old) }
-        ensures same_buffer { whole_of self.new ≡ whole_of self.old }
-    {
+    fn get_bytes(&mut self, len: usize) -> Option<&'a [u8]> {
         let (front, rest) = self.rest.split_at_checked(len)?;
         self.rest = rest;
         Some(front)

@@ -1,61 +1,165 @@
 //! A reader over what another reader has left.
-ghost use Rattle.std.specs.Prelude.{◌≡◌, ◌≤◌, ◌↔◌, length, MatchOption, IfNone, IfSome, Some, None, OnOk, OnErr, IsOk};
+ghost use Rattle.std.specs.Prelude.{◌≡◌, ◌+◌, ◌≤◌, ◌↔◌, ℕ, List, drop, length, MatchOption, IfNone, IfSome, Some, None, OnOk, OnErr, IsOk};
 ghost use Rattle.wtp_core.specs.Varint.{number_at, bytes_at};
-ghost use Rattle.wtp_core.specs.Reader.{left_of, offset_of, whole_of, IsRest, IsUnmoved, MovesBy};
 
 use crate::bytes::EndOfBuffer;
 use crate::bytes::buffer_reader::BufferReader;
 use crate::bytes::reader::BytesReader;
-use crate::varint::VarInt;
+use crate::varint::{VarInt, first_varint};
+
+/// A reader that a child may move (own): `BufferReader`.
+///
+/// A function that goes through a child is written for any `P: ParentReader<'a>`: there its proof
+/// knows what `commit` or a dropped child leaves of the parent, and so does its caller, who may hand
+/// it a `BufferReader`.
+pub trait ParentReader<'a> {
+    // All of the bytes.
+    ghost whole: { Self → List ℕ };
+
+    // The bytes behind the place.
+    ghost behind: { Self → List ℕ };
+
+    /// Moves past `len` bytes, or to the end where fewer are left.
+    fn advance(&mut self, len: usize)
+        ensures left { behind self.new ≡ drop len (behind self.old) }
+        ensures whole { whole self.new ≡ whole self.old };
+
+    /// A reader over the bytes that are left, whose place is taken over by its `commit` alone.
+    fn child(&mut self) -> BufferReaderChild<'a, '_, Self>
+        ensures same_reference { result.parent.ghost_name ≡ self.entry.ghost_name }
+        ensures same_parent { result.parent.now ≡ self.old }
+        ensures buffer { result.buffer.now ≡ behind self.old }
+        ensures start { result.offset ≡ 0 };
+}
+
+/// The bytes from a place on: none where the place is past the end.
+pub(crate) fn bytes_from<'a>(bytes: &'a [u8], place: usize) -> &'a [u8]
+    ensures { result.now ≡ drop place bytes.now }
+{
+    bytes.get(place..).unwrap_or(&[])
+}
 
 /// A reader over the bytes that its parent has left, from place 0 on.
 ///
 /// What it read is taken from the parent by `commit`. To drop it moves nothing.
 #[derive(Drop)]
-pub struct BufferReaderChild<'a, 'b> {
-    parent: &'b mut BufferReader<'a>,
-    reader: BufferReader<'a>,
+pub struct BufferReaderChild<'a, 'b, P = BufferReader<'a>> {
+    parent: &'b mut P,
+    buffer: &'a [u8],
+    offset: usize,
 }
 
-impl<'a, 'b> BufferReaderChild<'a, 'b> {
-    /// The child of a reader.
-    pub(crate) fn with_parent(parent: &'b mut BufferReader<'a>) -> Self
+impl<'a, 'b, P> BufferReaderChild<'a, 'b, P> {
+    /// A child at the place of its parent, which has `buffer` left.
+    pub(crate) fn over(parent: &'b mut P, buffer: &'a [u8]) -> Self
         ensures same_reference { result.parent.ghost_name ≡ parent.entry.ghost_name }
-        ensures same_parent { IsUnmoved parent.old result.parent.now }
-        ensures start { (whole_of result.reader ≡ left_of parent.old) × (left_of result.reader ≡ left_of parent.old) }
+        ensures same_parent { result.parent.now ≡ parent.old }
+        ensures buffer { result.buffer.now ≡ buffer.now }
+        ensures start { result.offset ≡ 0 }
     {
-        let reader = BufferReader::new(parent.buffer_remaining());
-        BufferReaderChild { parent, reader }
+        BufferReaderChild {
+            parent,
+            buffer,
+            offset: 0,
+        }
     }
+}
+
+impl<'a, 'b, P: ParentReader<'a>> BufferReaderChild<'a, 'b, P> {
+    ghost use Rattle.wtp_core.specs.Cursor.{left_in, offset_in, whole_in};
 
     /// How many bytes are left.
     pub fn capacity(&self) -> usize
-        ensures { result ≡ length (left_of self.now.reader) }
+        ensures { result ≡ length (left_in self.now) }
     {
-        self.reader.capacity()
+        self.buffer.len().saturating_sub(self.offset)
     }
 
     /// The place: how many bytes were read here.
     pub fn offset(&self) -> usize
-        ensures { result ≡ offset_of self.now.reader }
+        ensures { result ≡ offset_in self.now }
     {
-        self.reader.offset()
+        self.offset
     }
 
     /// The bytes that the parent has left.
     pub fn buffer(&self) -> &'a [u8]
-        ensures { result.now ≡ whole_of self.now.reader }
+        ensures { result.now ≡ whole_in self.now }
     {
-        self.reader.buffer()
+        self.buffer
+    }
+
+    /// The bytes that are left. The child stays where it is.
+    pub fn buffer_remaining(&mut self) -> &'a [u8]
+        ensures bytes { result.now ≡ left_in self.old }
+        ensures unmoved { self.new ≡ self.old }
+    {
+        bytes_from(self.buffer, self.offset)
+    }
+
+    /// Moves the place by `len` bytes; an error where fewer are left, and then nothing moves.
+    pub fn skip(&mut self, len: usize) -> Result<(), EndOfBuffer>
+        ensures ok { OnOk result (offset_in self.new ≡ offset_in self.old + len) }
+        ensures err { OnErr result (offset_in self.new ≡ offset_in self.old) }
+        ensures room { IsOk result ↔ (len ≤ length (left_in self.old)) }
+        ensures same_reference { self.new.parent.ghost_name ≡ self.old.parent.ghost_name }
+        ensures same_parent { self.new.parent.now ≡ self.old.parent.now }
+        ensures same_buffer { whole_in self.new ≡ whole_in self.old }
+    {
+        if len > self.capacity() {
+            return Err(EndOfBuffer);
+        }
+        self.offset += len;
+        Ok(())
     }
 
     /// Moves the parent past what was read here.
     pub fn commit(self)
-        requires { IsRest (left_of self.reader) (left_of self.parent.now) }
-        ensures left { left_of self.exit.0.now ≡ left_of self.entry.reader }
-        ensures whole { whole_of self.exit.0.now ≡ whole_of self.entry.parent.now }
+        ensures left { P.behind self.exit.0.now ≡ drop (offset_in self.entry) (P.behind self.entry.parent.now) }
+        ensures whole { P.whole self.exit.0.now ≡ P.whole self.entry.parent.now }
     {
-        let BufferReaderChild { parent, reader } = self;
-        parent.move_to(&reader);
+        let BufferReaderChild {
+            parent,
+            buffer: _,
+            offset,
+        } = self;
+        parent.advance(offset);
+    }
+}
+
+impl<'a, 'b, P: ParentReader<'a>> BytesReader<'a> for BufferReaderChild<'a, 'b, P> {
+    ghost use Rattle.wtp_core.specs.Cursor.{left_in, kept_in};
+
+    ghost left = { left_in };
+
+    ghost kept = { kept_in P.whole P.behind };
+
+    fn get_varint(&mut self) -> Option<VarInt>
+        ensures found { MatchOption result (number_at (left_in self.old) ≡ None) (λ n. number_at (left_in self.old) ≡ Some (n, left_in self.new)) }
+        ensures none { IfNone result (left_in self.new ≡ left_in self.old) }
+        ensures kept { kept_in P.whole P.behind self.new ≡ kept_in P.whole P.behind self.old }
+        ensures same_reference { self.new.parent.ghost_name ≡ self.old.parent.ghost_name }
+        ensures same_parent { self.new.parent.now ≡ self.old.parent.now }
+        ensures same_buffer { self.new.buffer.now ≡ self.old.buffer.now }
+    {
+        let (number, size) = first_varint(bytes_from(self.buffer, self.offset))?;
+        self.offset += size;
+        Some(number)
+    }
+
+    #[tactic(auto, unfolding(crate::specs::Varint::bytes_at))]
+    fn get_bytes(&mut self, len: usize) -> Option<&'a [u8]>
+        ensures found { MatchOption result (bytes_at len (left_in self.old) ≡ None) (λ b. bytes_at len (left_in self.old) ≡ Some (b.now, left_in self.new)) }
+        ensures len { IfSome result (λ b. length b.now ≡ len) }
+        ensures none { IfNone result (left_in self.new ≡ left_in self.old) }
+        ensures kept { kept_in P.whole P.behind self.new ≡ kept_in P.whole P.behind self.old }
+        ensures same_reference { self.new.parent.ghost_name ≡ self.old.parent.ghost_name }
+        ensures same_parent { self.new.parent.now ≡ self.old.parent.now }
+        ensures same_buffer { self.new.buffer.now ≡ self.old.buffer.now }
+    {
+        let rest = bytes_from(self.buffer, self.offset);
+        let front = rest.get(..len)?;
+        self.offset += len;
+        Some(front)
     }
 }

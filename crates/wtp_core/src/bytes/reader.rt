@@ -1,5 +1,6 @@
 //! The reader of bytes, and slices as readers.
 ghost use Rattle.std.specs.Prelude.{◌≡◌, ℕ, List, length, MatchOption, IfNone, IfSome, Some, None};
+ghost use Rattle.wtp_core.specs.Reader.{Kept};
 ghost use Rattle.wtp_core.specs.Varint.{number_at, bytes_at};
 
 use crate::varint::{VarInt, first_varint};
@@ -9,21 +10,31 @@ pub trait BytesReader<'a> {
     // The bytes that are left.
     ghost left: { Self → List ℕ };
 
+    // What reading leaves alone.
+    ghost kept: { Self → Kept };
+
     /// Reads the number spelled at the front (RFC 9000, section 16); all spellings are read.
     /// `None` where too few bytes are left, and then nothing moves.
     fn get_varint(&mut self) -> Option<VarInt>
         ensures found { MatchOption result (number_at (left self.old) ≡ None) (λ n. number_at (left self.old) ≡ Some (n, left self.new)) }
-        ensures none { IfNone result (left self.new ≡ left self.old) };
+        ensures none { IfNone result (left self.new ≡ left self.old) }
+        ensures kept { kept self.new ≡ kept self.old };
 
     /// Reads `len` bytes; `None` where fewer are left, and then nothing moves.
     fn get_bytes(&mut self, len: usize) -> Option<&'a [u8]>
         ensures found { MatchOption result (bytes_at len (left self.old) ≡ None) (λ b. bytes_at len (left self.old) ≡ Some (b.now, left self.new)) }
         ensures len { IfSome result (λ b. length b.now ≡ len) }
-        ensures none { IfNone result (left self.new ≡ left self.old) };
+        ensures none { IfNone result (left self.new ≡ left self.old) }
+        ensures kept { kept self.new ≡ kept self.old };
 }
 
 impl<'a> BytesReader<'a> for &'a [u8] {
+    ghost use Rattle.std.specs.Prelude.{[]};
+    ghost use Rattle.wtp_core.specs.Reader.{kept_alone};
+
     ghost left = { λ s. s.now };
+
+    ghost kept = { λ _. kept_alone [] };
 
     #[inline(always)]
     fn get_varint(&mut self) -> Option<VarInt> {

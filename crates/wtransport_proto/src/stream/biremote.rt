@@ -1,6 +1,7 @@
 //! Streams in both directions that the peer opened.
 ghost use Rattle.std.specs.Prelude.{◌≡◌, ◌≤◌, ◌↔◌, true, false, length, Some, None, Err, MatchResult, IsOk, OnOk, OnErr};
-ghost use Rattle.wtp_core.specs.Reader.{left_of, whole_of, IsRest};
+ghost use Rattle.wtp_core.specs.Reader.{IsRest};
+ghost use Rattle.wtp_core.specs.Cursor.{left_of, whole_of};
 ghost use Rattle.wtp_core.specs.Writer.{PutsParts, LacksRoom};
 ghost use Rattle.wtp_core.specs.BufferWriter.{room_in, loan_of, IsUnwritten, Wrote};
 ghost use Rattle.wtp_wire.specs.Content.{kind_in};
@@ -62,6 +63,7 @@ impl StreamBiRemoteH3 {
     ) -> Result<Option<Frame<'a>>, ErrorCode>
         ensures answer { AnswersFrame RemoteBi (first_of self.old) (front (past_unknown (R.left reader.old))) result (first_of self.new) (R.left reader.new) }
         ensures rest { IsRest (R.left reader.new) (R.left reader.old) }
+        ensures kept { R.kept reader.new ≡ R.kept reader.old }
     {
         let Some(frame) = read_known(reader)? else {
             return Ok(None);

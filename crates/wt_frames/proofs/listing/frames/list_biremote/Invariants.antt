@@ -1,5 +1,5 @@
 use Rattle.std.proofs.Common.{◌≡◌, ◌++◌, length, true}
-use Rattle.wtransport_proto.specs.Reader.{left_of}
+use Rattle.wtransport_proto.specs.Cursor.{left_of}
 use Rattle.wtransport_proto.specs.Rule.{RemoteBi}
 use Rattle.wtransport_proto.specs.Run.{run, MayGoOn}
 use Rattle.wtransport_proto.specs.Streams.{first_of}

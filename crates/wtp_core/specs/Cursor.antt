@@ -1,0 +1,45 @@
+-- The place of a reader in its bytes, and that of a child in what its parent has left.
+use Rattle.std.specs.Prelude.{◌≡◌, ◌+◌, ◌-◌, ℕ, List, drop, length}
+use Rattle.wtp_core.specs.Reader.{Kept}
+use Rattle.wtp_core.specs.declared.bytes.buffer_reader.BufferReader.{BufferReader}
+use Rattle.wtp_core.specs.declared.bytes.child.BufferReaderChild.{BufferReaderChild}
+
+-- all of the bytes
+abbrev pub whole_of : BufferReader → List ℕ
+whole_of r = r.buffer.now
+
+-- the bytes that are left behind the place
+abbrev pub left_of : BufferReader → List ℕ
+left_of r = r.rest.now
+
+-- the place: how many bytes stand in front of it
+abbrev pub offset_of : BufferReader → ℕ
+offset_of r = length r.buffer.now - length r.rest.now
+
+-- new stands n bytes further than old, over the same bytes
+pub record MovesBy (n : ℕ) (old new : BufferReader) : Type 0 where
+  pub whole : whole_of new ≡ whole_of old
+  pub left : left_of new ≡ drop n (left_of old)
+  pub offset : offset_of new ≡ offset_of old + n
+
+module _ {P : Type 0} where
+  -- the bytes that the child's parent has left
+  abbrev pub whole_in : BufferReaderChild P → List ℕ
+  whole_in c = c.buffer.now
+
+  -- how many of them the child has read
+  abbrev pub offset_in : BufferReaderChild P → ℕ
+  offset_in c = c.offset
+
+  -- those behind the child's place
+  abbrev pub left_in : BufferReaderChild P → List ℕ
+  left_in c = drop c.offset c.buffer.now
+
+  -- what the child's reading leaves alone, by all the bytes of a parent and those that it has left
+  abbrev pub kept_in : (P → List ℕ) → (P → List ℕ) → BufferReaderChild P → Kept
+  kept_in whole behind c = record {
+    whole = c.buffer.now;
+    parent_whole = whole c.parent.now;
+    parent_left = behind c.parent.now;
+    parent_name = c.parent.ghost_name;
+  }
