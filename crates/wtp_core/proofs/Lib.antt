@@ -1,4 +1,5 @@
 pub mod SpellingLemmas
 pub mod ShortLemmas
+pub mod LeastLemmas
 pub mod RestLemmas
 pub mod WriterLemmas
