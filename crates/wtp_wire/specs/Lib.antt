@@ -4,3 +4,8 @@ pub mod Front
 pub mod Reading
 pub mod Wire
 pub mod Datagram
+pub mod StreamKind
+pub mod Header
+pub mod HeaderFront
+pub mod HeaderReading
+pub mod HeaderWire
