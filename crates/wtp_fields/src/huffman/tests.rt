@@ -97,6 +97,19 @@ fn refused_strings(rt: HostRuntime) {
     }
 }
 
+/// The first allocations of this test are the room that each call takes first, and growth where the code is longer
+/// than the text: each is refused in turn.
+#[test]
+fn refused_memory(rt: HostRuntime) -> Result<(), Fail> {
+    let (text, coded) = (
+        b"\n\n\n\n",
+        b"\xff\xff\xff\xf3\xff\xff\xff\xcf\xff\xff\xff\x3f\xff\xff\xfc",
+    );
+    assert_eq!(rt; encoded(rt.alloc(), text)?.as_slice(), coded.as_slice());
+    assert_eq!(rt; decoded(rt.alloc(), coded)?.as_slice(), text.as_slice());
+    Ok(())
+}
+
 #[test]
 fn strings_of_one_byte(rt: HostRuntime) {
     let (mut texts, mut refused) = (0u32, 0u32);
