@@ -5,6 +5,8 @@
 ghost use Rattle.std.specs.Prelude.{◌≡◌};
 ghost use Rattle.wtp_fields.specs.declared.huffman.HuffmanError.TheVariants.{Memory};
 
+use std::alloc::{AllocError, AllocFailed};
+
 mod codes;
 mod decoding;
 mod encoding;
@@ -14,7 +16,6 @@ mod tests;
 
 pub use decoding::decode;
 pub use encoding::{encode, encoded_len};
-use std::alloc::{AllocError, AllocFailed};
 
 /// Why a text was not decoded.
 #[derive(Clone, Copy, Debug, PartialEq, Eq, thiserror::Error)]
