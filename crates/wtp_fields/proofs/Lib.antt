@@ -1,0 +1,4 @@
+pub mod IntegerReading
+pub mod IntegerLaws
+pub mod IntegerWriting
+pub mod StaticLemmas

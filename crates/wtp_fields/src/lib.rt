@@ -1,0 +1,4 @@
+//! Header fields of HTTP/3: Huffman text and field sections.
+#![tactic(auto)]
+
+pub mod qpack;
