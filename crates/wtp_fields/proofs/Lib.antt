@@ -1,4 +1,13 @@
+pub mod Tables
+pub mod HuffmanBits
+pub mod HuffmanTable
+pub mod HuffmanWords
+pub mod HuffmanWindows
+pub mod HuffmanReading
+pub mod HuffmanWriting
+pub mod HuffmanLengths
+pub mod HuffmanLaws
 pub mod IntegerReading
-pub mod IntegerLaws
 pub mod IntegerWriting
+pub mod IntegerLaws
 pub mod StaticLemmas

@@ -1,3 +1,7 @@
+pub mod HuffmanRows
+pub mod Huffman
+pub mod HuffmanTables
+pub mod HuffmanSteps
 pub mod Reading
 pub mod Integer
 pub mod Field
