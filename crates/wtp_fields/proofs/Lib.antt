@@ -7,7 +7,14 @@ pub mod HuffmanReading
 pub mod HuffmanWriting
 pub mod HuffmanLengths
 pub mod HuffmanLaws
+pub mod Chosen
 pub mod IntegerReading
 pub mod IntegerWriting
 pub mod IntegerLaws
 pub mod StaticLemmas
+pub mod StringBits
+pub mod StringReading
+pub mod StringWriting
+pub mod LineReading
+pub mod SectionReading
+pub mod SectionWriting

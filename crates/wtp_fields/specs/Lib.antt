@@ -7,3 +7,6 @@ pub mod Integer
 pub mod Field
 pub mod StaticTable
 pub mod StaticNames
+pub mod StringLiteral
+pub mod FieldLine
+pub mod FieldSection
