@@ -9,6 +9,8 @@ mod codes;
 mod decoding;
 mod encoding;
 mod rows;
+#[cfg(test)]
+mod tests;
 
 pub use decoding::decode;
 pub use encoding::{encode, encoded_len};
