@@ -18,3 +18,7 @@ pub mod StringWriting
 pub mod LineReading
 pub mod SectionReading
 pub mod SectionWriting
+pub mod FieldMaps
+pub mod RoundTrip
+pub mod StringLaws
+pub mod SectionLaws

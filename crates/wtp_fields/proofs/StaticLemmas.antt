@@ -146,7 +146,7 @@ any_at p (x ∷ xs) e = elim (or_cases (p x) (list_any p xs) e) [
       (suc found.0, omega (arith, found.1), found.2)
 ]
 
-same_bytes : (xs ys : List ℕ) → bytes_eq xs ys ≡ true → xs ≡ ys
+pub same_bytes : (xs ys : List ℕ) → bytes_eq xs ys ≡ true → xs ≡ ys
 same_bytes xs ys e = (bytes_eq-Decides xs ys).0 e
 
 -- an entry's name has an index

@@ -88,3 +88,34 @@ pub written_raw : (n flags : ℕ) (t old one two : List ℕ) → (coded_len t < 
     → one ≡ old ++ shortest_int n (flags * 2) (length t) → two ≡ one ++ t → two ≡ old ++ encoded_string n flags t
 written_raw n flags t old one two more first second =
     rw (encoded_raw n flags t (omega (arith, more)), second, first) (append_assoc old (shortest_int n (flags * 2) (length t)) t)
+
+-- ---- the bytes of UTF-8
+
+small : (c : ℕ) → scalar c ≡ true → c < 1114112
+small c e = elim (scalar_cases c e) [ inl low ↦ omega arith | inr high ↦ omega (arith, high.1) ]
+
+char_bytes : (c : ℕ) → c < 1114112 → IsBytes (encode c)
+unfolding encode
+char_bytes c h = elim (cases_lt c 128) [
+  | inl a ↦ rw (lt-ltb c 128 a) (omega arith, tt)
+  | inr a ↦ elim (cases_lt c 2048) [
+    | inl b ↦ rw (le-ltb c 128 a, lt-ltb c 2048 b) (omega arith, (omega arith, tt))
+    | inr b ↦ elim (cases_lt c 65536) [
+      | inl d ↦ rw (le-ltb c 128 a, le-ltb c 2048 b, lt-ltb c 65536 d) (omega arith, (omega arith, (omega arith, tt)))
+      | inr d ↦ rw (le-ltb c 128 a, le-ltb c 2048 b, le-ltb c 65536 d) (omega arith, (omega arith, (omega arith, (omega arith, tt))))
+    ]
+  ]
+]
+
+bytes_cat : (a b : List ℕ) → IsBytes a → IsBytes b → IsBytes (a ++ b)
+bytes_cat [] b h k = k
+bytes_cat (x ∷ a) b h k = (h.0, bytes_cat a b h.1 k)
+
+all_bytes : (cs : List ℕ) → scalars cs ≡ true → IsBytes (encodes cs)
+all_bytes [] e = tt
+all_bytes (c ∷ cs) e =
+    let parts = and_parts (scalar c) (scalars cs) e in
+    bytes_cat (encode c) (encodes cs) (char_bytes c (small c parts.0)) (all_bytes cs parts.1)
+
+pub text_bytes : (t : List ℕ) → IsUtf8 t → IsBytes t
+text_bytes t (cs, (ok, e)) = subst (λ z. IsBytes z) e (all_bytes cs ok)
