@@ -89,26 +89,26 @@ one_of (g ∷ gs) sum k small = elim (cases_lt (sum + g % 128 * 2 ^ (7 * k)) (2 
         inl (record { groups = g ∷ []; rest = gs; closed = last; spelled = refl; fits = rw low fits })
     | inr on ↦ elim (one_of gs (sum + g % 128 * 2 ^ (7 * k)) (suc k) fits) [
       | inl whole ↦ inl (record {
-          groups = g ∷ whole.groups;
-          rest = whole.rest;
-          closed = closed_more g whole.groups on whole.closed;
-          spelled = ap (λ z. g ∷ z) whole.spelled;
-          fits = rw (split sum k g (groups_value whole.groups)) whole.fits;
-        })
+        groups = g ∷ whole.groups;
+        rest = whole.rest;
+        closed = closed_more g whole.groups on whole.closed;
+        spelled = ap (λ z. g ∷ z) whole.spelled;
+        fits = rw (split sum k g (groups_value whole.groups)) whole.fits;
+      })
       | inr other ↦ elim other [
         | inl over ↦ inr (inl (record {
-            groups = g ∷ over.groups;
-            last = over.last;
-            rest = over.rest;
-            open_groups = (on, over.open_groups);
-            spelled = ap (λ z. g ∷ z) over.spelled;
-            within = rw (split sum k g (groups_value over.groups)) over.within;
-            past = rw (split sum k g (groups_value (over.groups ++ over.last ∷ []))) over.past;
-          }))
+          groups = g ∷ over.groups;
+          last = over.last;
+          rest = over.rest;
+          open_groups = (on, over.open_groups);
+          spelled = ap (λ z. g ∷ z) over.spelled;
+          within = rw (split sum k g (groups_value over.groups)) over.within;
+          past = rw (split sum k g (groups_value (over.groups ++ over.last ∷ []))) over.past;
+        }))
         | inr ends ↦ inr (inr (record {
-            open_groups = (on, ends.open_groups);
-            within = rw (split sum k g (groups_value gs)) ends.within;
-          }))
+          open_groups = (on, ends.open_groups);
+          within = rw (split sum k g (groups_value gs)) ends.within;
+        }))
       ]
     ]
   ]
@@ -169,28 +169,28 @@ int_cases n (b ∷ bs) few = elim (cases_eq (b % 2 ^ n) (2 ^ n - 1)) [
       inl (record { value = b % 2 ^ n; spelling = b ∷ []; rest = bs; is_int = (refl, below); spelled = refl })
   | inl ones ↦ elim (one_of bs (2 ^ n - 1) 0 (small n few)) [
     | inl whole ↦ inl (record {
-        value = 2 ^ n - 1 + groups_value whole.groups;
-        spelling = b ∷ whole.groups;
-        rest = whole.rest;
-        is_int = long_int n b whole.groups ones whole.closed (rw (once (2 ^ n - 1) (groups_value whole.groups)) at whole.fits);
-        spelled = ap (λ z. b ∷ z) whole.spelled;
-      })
+      value = 2 ^ n - 1 + groups_value whole.groups;
+      spelling = b ∷ whole.groups;
+      rest = whole.rest;
+      is_int = long_int n b whole.groups ones whole.closed (rw (once (2 ^ n - 1) (groups_value whole.groups)) at whole.fits);
+      spelled = ap (λ z. b ∷ z) whole.spelled;
+    })
     | inr other ↦ elim other [
       | inl over ↦ inr (inl (record {
-          spelling = b ∷ (over.groups ++ over.last ∷ []);
-          rest = over.rest;
-          is_overflow = record {
-            first = b;
-            groups = over.groups;
-            last = over.last;
-            spelled = refl;
-            ones = ones;
-            open_groups = over.open_groups;
-            within = rw (once (2 ^ n - 1) (groups_value over.groups)) at over.within;
-            past = rw (once (2 ^ n - 1) (groups_value (over.groups ++ over.last ∷ []))) at over.past;
-          };
-          spelled = ap (λ z. b ∷ z) over.spelled;
-        }))
+        spelling = b ∷ (over.groups ++ over.last ∷ []);
+        rest = over.rest;
+        is_overflow = record {
+          first = b;
+          groups = over.groups;
+          last = over.last;
+          spelled = refl;
+          ones = ones;
+          open_groups = over.open_groups;
+          within = rw (once (2 ^ n - 1) (groups_value over.groups)) at over.within;
+          past = rw (once (2 ^ n - 1) (groups_value (over.groups ++ over.last ∷ []))) at over.past;
+        };
+        spelled = ap (λ z. b ∷ z) over.spelled;
+      }))
       | inr ends ↦ inr (inr (ones, ends.open_groups, rw (once (2 ^ n - 1) (groups_value bs)) at ends.within))
     ]
   ]

@@ -124,8 +124,7 @@ string_found n t bytes rest few e =
     let body : List ℕ = take p.count p.behind in
     let long : length body ≡ p.count = length-take-le p.count p.behind p.enough in
     let flag : flag_above n bytes ≡ flag_above n size.0 = ap (flag_above n) size.2 ∙ flag_front n p.count size.0 p.behind size.1 in
-    let text = content_found (flag_above n size.0) t body (ap (λ b. content b body) (sym flag) ∙ p.text) in
-    (
+    let text = content_found (flag_above n size.0) t body (ap (λ b. content b body) (sym flag) ∙ p.text) in (
       size.0 ++ body,
       record {
         size = size.0;

@@ -24,11 +24,11 @@ table_of false = Dynamic
 
 -- what a line is by the first four bits, the highest first
 abbrev pub by_bits : Bool → Bool → Bool → Bool → Representation
-by_bits true t _ _ = Indexed (table_of t)                    -- 1T, section 4.5.2
-by_bits false false false true = IndexedPostBase             -- 0001, section 4.5.3
-by_bits false true n t = NameReference (table_of t)          -- 01NT, section 4.5.4
-by_bits false false false false = PostBaseNameReference      -- 0000, section 4.5.5
-by_bits false false true n = LiteralName                     -- 001N, section 4.5.6
+by_bits true t _ _ = Indexed (table_of t)  -- 1T, section 4.5.2
+by_bits false false false true = IndexedPostBase  -- 0001, section 4.5.3
+by_bits false true n t = NameReference (table_of t)  -- 01NT, section 4.5.4
+by_bits false false false false = PostBaseNameReference  -- 0000, section 4.5.5
+by_bits false false true n = LiteralName  -- 001N, section 4.5.6
 
 abbrev pub representation_of : ℕ → Representation
 representation_of first = by_bits (bit 7 first) (bit 6 first) (bit 5 first) (bit 4 first)

@@ -58,7 +58,7 @@ fn table_of(is_static: bool) -> Table
 }
 
 /// What the line of a first byte is.
-fn representation_of(first: u8) -> Representation
+pub fn representation_of(first: u8) -> Representation
     ensures { result ≡ representation_of first }
 {
     let bits = (
@@ -163,12 +163,7 @@ fn is_value(index: usize, value: &str) -> bool
 
 /// Appends the line of a field.
 #[tactic(auto, unfolding(crate::specs::FieldLine::encoded_line))]
-pub fn write(
-    alloc: Global,
-    out: &mut Vec<u8>,
-    name: &str,
-    value: &str,
-) -> Result<(), AllocError>
+pub fn write(alloc: Global, out: &mut Vec<u8>, name: &str, value: &str) -> Result<(), AllocError>
     ensures { OnOk result (out.new.items ≡ out.old.items ++ encoded_line (name.now, value.now)) }
 {
     match static_table::first_entry(name) {
