@@ -5,6 +5,8 @@
 ghost use Rattle.std.specs.Prelude.{◌≡◌};
 ghost use Rattle.wtp_fields.specs.declared.huffman.HuffmanError.TheVariants.{Memory};
 
+use std::alloc::{AllocError, AllocFailed};
+
 mod codes;
 mod decoding;
 mod encoding;
@@ -14,7 +16,6 @@ mod tests;
 
 pub use decoding::decode;
 pub use encoding::{encode, encoded_len};
-use std::alloc::AllocFailed;
 
 /// Why a text was not decoded.
 #[derive(Clone, Copy, Debug, PartialEq, Eq, thiserror::Error)]
@@ -25,6 +26,14 @@ pub enum HuffmanError {
     /// There was no memory for the decoded text.
     #[error("no memory")]
     Memory,
+}
+
+impl From<AllocError> for HuffmanError {
+    ghost from_gives = { λ _ e. e ≡ Memory };
+
+    fn from(_e: AllocError) -> HuffmanError {
+        HuffmanError::Memory
+    }
 }
 
 impl<T: Drop> From<AllocFailed<T>> for HuffmanError {

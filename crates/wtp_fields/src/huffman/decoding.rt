@@ -21,13 +21,15 @@ struct Found {
 /// The text that is coded so.
 ///
 /// The bytes are code words and then fewer than eight ones (RFC 7541, section 5.2); any other bytes are
-/// [`HuffmanError::Invalid`]. An empty text takes no memory and never fails.
+/// [`HuffmanError::Invalid`]. Memory is taken at once, a byte for each five bits, since no word is shorter; an empty
+/// text takes none and never fails.
 pub fn decode(alloc: Global, text: &[u8]) -> Result<Vec<u8>, HuffmanError>
     ensures found { IfOk result (λ t. IsHuffman t.items text.now) }
     ensures only { (t : List ℕ) → IsHuffman t text.now → MatchResult result (λ v. v.items ≡ t) (λ e. e ≡ Memory) }
     ensures empty { length text.now ≡ 0 → IsOk result }
 {
-    let mut out = Vec::new(alloc);
+    let most = text.len().saturating_mul(8) / 5;
+    let mut out = Vec::with_capacity(alloc, most)?;
     let mut rest = text;
     let mut waiting = 0;
     let mut held = 0;

@@ -8,12 +8,13 @@ use std::alloc::{AllocError, Global};
 
 /// The text in code words, and ones up to a whole byte (RFC 7541, section 5.2).
 ///
-/// An empty text takes no memory and never fails.
+/// Memory is taken at once, as much as the text has, and more only for a text that gets longer; an empty text takes
+/// none and never fails.
 pub fn encode(alloc: Global, text: &[u8]) -> Result<Vec<u8>, AllocError>
     ensures coded { IfOk result (λ s. IsHuffman text.now s.items) }
     ensures empty { length text.now ≡ 0 → IsOk result }
 {
-    let mut out = Vec::new(alloc);
+    let mut out = Vec::with_capacity(alloc, text.len())?;
     let mut waiting = 0u64;
     let mut count = 0u32;
     for byte in text {

@@ -7,7 +7,7 @@ use Rattle.wtp_fields.proofs.huffman.decoding.decode.Goals as goal
 
 pub loop-held-init : goal.loop-held-init
 unfolding low_bits
-loop-held-init c = record { reads = rw c.new-out.ensures.items (reads_none c.args.text.now); few = omega arith; start = omega arith }
+loop-held-init c = record { reads = rw c.in_ok-out.ensures.items (reads_none c.args.text.now); few = omega arith; start = omega arith }
 
 pub returns-then-is_padding-clause-found : goal.returns-then-is_padding-clause-found
 returns-then-is_padding-clause-found c =

@@ -6,7 +6,7 @@ use Rattle.wtp_fields.proofs.huffman.encoding.encode.Goals.{then-count-gt0+in_ok
 
 pub loop-byte-init : goal.loop-byte-init
 unfolding coded bits_of low_bits
-loop-byte-init c = rw c.new-out.ensures.items (record { same = refl; few = omega arith; fits = omega arith; none = λ e. e })
+loop-byte-init c = rw c.in_ok-out.ensures.items (record { same = refl; few = omega arith; fits = omega arith; none = λ e. e })
 
 pub overflow_shl-joined : goal.overflow_shl-joined
 overflow_shl-joined c = omega (arith, c.code_of-code.ensures.most)
