@@ -79,11 +79,7 @@ fn remote_bidirectional_streams_are_listed(rt: HostRuntime) -> Result<(), Fail> 
         ),
     ];
     for (input, text, status, word) in rows {
-        let listing = match list_frames(rt.alloc(), ListKind::BiRemote, input) {
-            Ok(listing) => listing,
-            // One refused allocation: the call leaves nothing behind, and the next one is whole.
-            Err(_) => list_frames(rt.alloc(), ListKind::BiRemote, input)?,
-        };
+        let listing = list_frames(rt.alloc(), ListKind::BiRemote, input)?;
         assert_eq!(rt; listing.text.as_slice(), text.as_bytes(), "{word}");
         assert_eq!(rt; listing.status, status, "{word}");
     }
@@ -103,5 +99,20 @@ fn the_longest_payloads_are_listed(rt: HostRuntime) -> Result<(), Fail> {
     let listing = list_frames(alloc, ListKind::BiRemote, input.as_slice())?;
     assert_eq!(rt; listing.text.as_slice(), b"DATA 0\nEND 0\n".as_slice());
     assert_eq!(rt; listing.status, 0);
+    Ok(())
+}
+
+#[test]
+fn refused_memory_gives_no_listing(rt: HostRuntime) -> Result<(), Fail> {
+    let alloc = rt.alloc();
+    let input = b"\x40\x41\x04\x21\x01a\x00\x01a\x04\x00";
+    let listing = match list_frames(alloc, ListKind::BiRemote, input) {
+        Ok(listing) => listing,
+        // Nothing is left behind, and the next call is whole.
+        Err(_) => list_frames(alloc, ListKind::BiRemote, input)?,
+    };
+    let text = "WEBTRANSPORT 4\nEXERCISE 33 1\nDATA 1\nFAULT FrameUnexpectedError 261\n";
+    assert_eq!(rt; listing.text.as_slice(), text.as_bytes());
+    assert_eq!(rt; listing.status, 2);
     Ok(())
 }
