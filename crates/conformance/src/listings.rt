@@ -2,83 +2,85 @@
 use std::test::Fail;
 use wt_frames::{ListKind, list_frames};
 
+/// Input, listing, status, and what the row shows.
+const ROWS: [(&[u8], &str, u8, &str); 17] = [
+    (
+        b"\x40\x41\x04\x00\x01a",
+        "WEBTRANSPORT 4\nDATA 1\nEND 0\n",
+        0,
+        "a session, then data",
+    ),
+    (b"", "END 0\n", 0, "nothing"),
+    (b"\x00\x05a", "END 3\n", 0, "a cut frame"),
+    (
+        b"\x21\x07Payload\x40\x41\x00",
+        "EXERCISE 33 7\nFAULT FrameError 262\n",
+        2,
+        "a late session",
+    ),
+    (
+        b"\x00\x50\x01",
+        "FAULT ExcessiveLoad 263\n",
+        2,
+        "length 4097",
+    ),
+    (b"\x40\x41\x01", "FAULT IdError 264\n", 2, "no session"),
+    (
+        b"\x04\x02\x33\x01",
+        "FAULT FrameUnexpectedError 261\n",
+        2,
+        "settings",
+    ),
+    (
+        b"\x01\x02ab\x00\x00",
+        "HEADERS 2\nDATA 0\nEND 0\n",
+        0,
+        "headers, then data",
+    ),
+    (b"\x0a", "END 1\n", 0, "an unknown type alone"),
+    (
+        b"\x0a\x00\x00\x01a",
+        "DATA 1\nEND 0\n",
+        0,
+        "unknown and empty",
+    ),
+    (b"\x0a\x40\x41\x00", "END 4\n", 0, "unknown, of length 65"),
+    (
+        b"\x0a\x01x\x40\x41\x00",
+        "WEBTRANSPORT 0\nEND 0\n",
+        0,
+        "unknown, then a session",
+    ),
+    (
+        b"\x02\x00\x06\x01x\x00\x01a",
+        "DATA 1\nEND 0\n",
+        0,
+        "two unknown ones",
+    ),
+    (b"\x0a\x05a", "END 3\n", 0, "a cut unknown one"),
+    (
+        b"\x0a\xff\xff\xff\xff\xff\xff\xff\xff",
+        "END 9\n",
+        0,
+        "the largest unknown one",
+    ),
+    (
+        b"\x00\x01a\x0a\x00",
+        "DATA 1\nEND 2\n",
+        0,
+        "an unknown one behind a frame",
+    ),
+    (
+        b"\x00\x01a\x0a\x05b",
+        "DATA 1\nEND 3\n",
+        0,
+        "a cut unknown one behind a frame",
+    ),
+];
+
 #[test]
 fn remote_bidirectional_streams_are_listed(rt: HostRuntime) -> Result<(), Fail> {
-    let rows: [(&[u8], &str, u8, &str); 17] = [
-        (
-            b"\x40\x41\x04\x00\x01a",
-            "WEBTRANSPORT 4\nDATA 1\nEND 0\n",
-            0,
-            "a session, then data",
-        ),
-        (b"", "END 0\n", 0, "nothing"),
-        (b"\x00\x05a", "END 3\n", 0, "a cut frame"),
-        (
-            b"\x21\x07Payload\x40\x41\x00",
-            "EXERCISE 33 7\nFAULT FrameError 262\n",
-            2,
-            "a late session",
-        ),
-        (
-            b"\x00\x50\x01",
-            "FAULT ExcessiveLoad 263\n",
-            2,
-            "length 4097",
-        ),
-        (b"\x40\x41\x01", "FAULT IdError 264\n", 2, "no session"),
-        (
-            b"\x04\x02\x33\x01",
-            "FAULT FrameUnexpectedError 261\n",
-            2,
-            "settings",
-        ),
-        (
-            b"\x01\x02ab\x00\x00",
-            "HEADERS 2\nDATA 0\nEND 0\n",
-            0,
-            "headers, then data",
-        ),
-        (b"\x0a", "END 1\n", 0, "an unknown type alone"),
-        (
-            b"\x0a\x00\x00\x01a",
-            "DATA 1\nEND 0\n",
-            0,
-            "unknown and empty",
-        ),
-        (b"\x0a\x40\x41\x00", "END 4\n", 0, "unknown, of length 65"),
-        (
-            b"\x0a\x01x\x40\x41\x00",
-            "WEBTRANSPORT 0\nEND 0\n",
-            0,
-            "unknown, then a session",
-        ),
-        (
-            b"\x02\x00\x06\x01x\x00\x01a",
-            "DATA 1\nEND 0\n",
-            0,
-            "two unknown ones",
-        ),
-        (b"\x0a\x05a", "END 3\n", 0, "a cut unknown one"),
-        (
-            b"\x0a\xff\xff\xff\xff\xff\xff\xff\xff",
-            "END 9\n",
-            0,
-            "the largest unknown one",
-        ),
-        (
-            b"\x00\x01a\x0a\x00",
-            "DATA 1\nEND 2\n",
-            0,
-            "an unknown one behind a frame",
-        ),
-        (
-            b"\x00\x01a\x0a\x05b",
-            "DATA 1\nEND 3\n",
-            0,
-            "a cut unknown one behind a frame",
-        ),
-    ];
-    for (input, text, status, word) in rows {
+    for (input, text, status, word) in ROWS {
         let listing = list_frames(rt.alloc(), ListKind::BiRemote, input)?;
         assert_eq!(rt; listing.text.as_slice(), text.as_bytes(), "{word}");
         assert_eq!(rt; listing.status, status, "{word}");
