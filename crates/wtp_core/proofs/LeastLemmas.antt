@@ -1,6 +1,6 @@
 -- No spelling is shorter than the shortest one, and no other one is as short.
-use Rattle.std.proofs.Common.{◌≡◌, ℕ, zero, suc, ◌+◌, ◌-◌, ◌*◌, ◌/◌, ◌%◌, ◌^◌, ◌<◌, ◌≤◌, Bool, true, false, cond, ltb, List, [], ◌∷◌, length, get_or, refl, sym, ap, subst, ◌∙◌, arith, inl, inr, ◌⊎◌}
-use Rattle.std.specs.Int.{Width, w8, w16, w32, w64, w128, byte_len, to_be_bytes, from_be_bytes}
+use Rattle.std.proofs.Common.{◌≡◌, ℕ, ◌+◌, ◌-◌, ◌*◌, ◌^◌, ◌<◌, ◌≤◌, List, [], ◌∷◌, length, get_or, refl, sym, ap, ◌∙◌, arith, inl, inr, ◌⊎◌}
+use Rattle.std.specs.Int.{Width, w8, w16, w32, w64, byte_len, to_be_bytes}
 use Rattle.std.proofs.lemmas.Bool.{cases_lt, lt-ltb, le-ltb}
 use Rattle.std.proofs.lemmas.Nat.{be_bytes_2, be_bytes_4, be_bytes_8}
 use Rattle.wtp_core.specs.Varint.{Spells, width_of, value_of, shortest}
@@ -9,12 +9,12 @@ use Rattle.wtp_core.proofs.ShortLemmas.{shortest-spells}
 -- how long the shortest spelling is, by the value
 pub length-shortest : (v : ℕ) → (v < 2 ^ 6 → length (shortest v) ≡ 1) × (2 ^ 6 ≤ v → v < 2 ^ 14 → length (shortest v) ≡ 2) × (2 ^ 14 ≤ v → v < 2 ^ 30 → length (shortest v) ≡ 4) × (2 ^ 30 ≤ v → length (shortest v) ≡ 8)
 unfolding shortest
-length-shortest v =
-    ( λ h. rw (lt-ltb v (2 ^ 6) h) refl
-    , λ l h. rw (le-ltb v (2 ^ 6) l, lt-ltb v (2 ^ 14) h) refl
-    , λ l h. let l6 : 2 ^ 6 ≤ v = omega arith in rw (le-ltb v (2 ^ 6) l6, le-ltb v (2 ^ 14) l, lt-ltb v (2 ^ 30) h) refl
-    , λ l. let l6 : 2 ^ 6 ≤ v = omega arith in let l14 : 2 ^ 14 ≤ v = omega arith in rw (le-ltb v (2 ^ 6) l6, le-ltb v (2 ^ 14) l14, le-ltb v (2 ^ 30) l) refl
-    )
+length-shortest v = (
+  λ h. rw (lt-ltb v (2 ^ 6) h) refl,
+  λ l h. rw (le-ltb v (2 ^ 6) l, lt-ltb v (2 ^ 14) h) refl,
+  λ l h. let l6 : 2 ^ 6 ≤ v = omega arith in rw (le-ltb v (2 ^ 6) l6, le-ltb v (2 ^ 14) l, lt-ltb v (2 ^ 30) h) refl,
+  λ l. let l6 : 2 ^ 6 ≤ v = omega arith in let l14 : 2 ^ 14 ≤ v = omega arith in rw (le-ltb v (2 ^ 6) l6, le-ltb v (2 ^ 14) l14, le-ltb v (2 ^ 30) l) refl,
+)
 
 -- the width that the first byte says
 width-cases : (b : ℕ) → ((width_of b ≡ w8) × (b < 64)) ⊎ (((width_of b ≡ w16) × (64 ≤ b) × (b < 128)) ⊎ (((width_of b ≡ w32) × (128 ≤ b) × (b < 192)) ⊎ ((width_of b ≡ w64) × (192 ≤ b))))
@@ -125,19 +125,19 @@ pub shortest-only : (v : ℕ) (s : List ℕ) (h : Spells v s) → ((i : ℕ) →
 shortest-only v s h bytes same = elim (width-cases (get_or s 0 0)) [
   | inl (e, b) ↦ let a = as_width w8 v s h e in one_byte v s a b ∙ sym (shortest8 v (below8 v s a))
   | inr (inl (e, l, b)) ↦
-    let a = as_width w16 v s h e in
-    let below : v < 2 ^ 14 = below16 v s a in
-    let above : 2 ^ 6 ≤ v = elim (cases_lt v (2 ^ 6)) [ inl x ↦ absurd (omega (arith, a.size, (length-shortest v).0 x)) | inr x ↦ x ] in
-    sym (same16 s a.size bytes l b) ∙ ap (λ (n : ℕ). to_be_bytes w16 (2 ^ 14 + n)) (sym a.value) ∙ sym (shortest16 v above below)
+      let a = as_width w16 v s h e in
+      let below : v < 2 ^ 14 = below16 v s a in
+      let above : 2 ^ 6 ≤ v = elim (cases_lt v (2 ^ 6)) [ inl x ↦ absurd (omega (arith, a.size, (length-shortest v).0 x)) | inr x ↦ x ] in
+      sym (same16 s a.size bytes l b) ∙ ap (λ (n : ℕ). to_be_bytes w16 (2 ^ 14 + n)) (sym a.value) ∙ sym (shortest16 v above below)
   | inr (inr (inl (e, l, b))) ↦
-    let a = as_width w32 v s h e in
-    let below : v < 2 ^ 30 = below32 v s a in
-    let above : 2 ^ 14 ≤ v = elim (cases_lt v (2 ^ 14)) [ inl x ↦ absurd (omega (arith, a.size, at_most_2 v x)) | inr x ↦ x ] in
-    sym (same32 s a.size bytes l b) ∙ ap (λ (n : ℕ). to_be_bytes w32 (2 * 2 ^ 30 + n)) (sym a.value) ∙ sym (shortest32 v above below)
+      let a = as_width w32 v s h e in
+      let below : v < 2 ^ 30 = below32 v s a in
+      let above : 2 ^ 14 ≤ v = elim (cases_lt v (2 ^ 14)) [ inl x ↦ absurd (omega (arith, a.size, at_most_2 v x)) | inr x ↦ x ] in
+      sym (same32 s a.size bytes l b) ∙ ap (λ (n : ℕ). to_be_bytes w32 (2 * 2 ^ 30 + n)) (sym a.value) ∙ sym (shortest32 v above below)
   | inr (inr (inr (e, l))) ↦
-    let a = as_width w64 v s h e in
-    let above : 2 ^ 30 ≤ v = elim (cases_lt v (2 ^ 30)) [ inl x ↦ absurd (omega (arith, a.size, at_most_4 v x)) | inr x ↦ x ] in
-    sym (same64 s a.size bytes l) ∙ ap (λ (n : ℕ). to_be_bytes w64 (3 * 2 ^ 62 + n)) (sym a.value) ∙ sym (shortest64 v above)
+      let a = as_width w64 v s h e in
+      let above : 2 ^ 30 ≤ v = elim (cases_lt v (2 ^ 30)) [ inl x ↦ absurd (omega (arith, a.size, at_most_4 v x)) | inr x ↦ x ] in
+      sym (same64 s a.size bytes l) ∙ ap (λ (n : ℕ). to_be_bytes w64 (3 * 2 ^ 62 + n)) (sym a.value) ∙ sym (shortest64 v above)
 ]
 
 -- ---- the size of the shortest spelling

@@ -1,6 +1,6 @@
 //! Laws of the definitions and types that contracts of this crate cite. A function here carries its
 //! law as its contract.
-ghost use Rattle.std.specs.Prelude.{◌≡◌, ℕ, ◌+◌, ◌-◌, ◌*◌, ◌/◌, ◌<◌, ◌≤◌, ◌^◌, ◌↔◌, List, ◌++◌, Some, length, drop, slice_index, fold, IsTrue, OnOk, OnErr};
+ghost use Rattle.std.specs.Prelude.{◌≡◌, ℕ, ◌+◌, ◌-◌, ◌*◌, ◌/◌, ◌<◌, ◌≤◌, ◌^◌, ◌↔◌, List, ◌++◌, Some, length, drop, slice_index, fold, IsTrue, IsOk, OnOk, OnErr};
 ghost use Rattle.std.specs.Int.{byte_len};
 ghost use Rattle.std.specs.Ordering.{nat_cmp};
 ghost use Rattle.std.specs.Hash as hashed;
@@ -127,12 +127,12 @@ pub fn session_and_back(quarter: QStreamId) -> QStreamId
 }
 
 /// A child that is dropped moves nothing, whatever it read.
-pub fn dropped_child_moves_nothing<'a, P: ParentReader<'a>>(reader: &mut P, len: usize) -> bool
+pub fn dropped_child_moves_nothing<'a, P: ParentReader<'a>>(reader: &mut P, len: usize)
     ensures { reader.new ≡ reader.old }
 {
     let mut child = reader.child();
     let _ = child.get_varint();
-    child.skip(len).is_ok()
+    let _ = child.skip(len);
 }
 
 /// A child that read `len` bytes and is committed moves its parent by them; one that could not read
@@ -141,6 +141,7 @@ pub fn committed_child_moves_parent<'a, P: ParentReader<'a>>(
     reader: &mut P,
     len: usize,
 ) -> Result<(), EndOfBuffer>
+    ensures room { IsOk result ↔ (len ≤ length (P.behind reader.old)) }
     ensures ok { OnOk result (P.behind reader.new ≡ drop len (P.behind reader.old)) }
     ensures err { OnErr result (reader.new ≡ reader.old) }
     ensures whole { P.whole reader.new ≡ P.whole reader.old }
