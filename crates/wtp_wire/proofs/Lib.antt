@@ -14,3 +14,5 @@ pub mod SettingIdLemmas
 pub mod ValueLemmas
 pub mod KeptLemmas
 pub mod PayloadLemmas
+pub mod CloseLemmas
+pub mod CapsuleLemmas

@@ -11,3 +11,5 @@ pub mod HeaderReading
 pub mod HeaderWire
 pub mod SettingId
 pub mod Settings
+pub mod Capsule
+pub mod CloseSession

@@ -1,6 +1,7 @@
 -- The settings of a connection, and the payload of a SETTINGS frame (RFC 9114, sections 7.2.4 and 7.2.4.1).
-use Rattle.std.specs.Prelude.{◌≡◌, ◌≢◌, ℕ, ◌<◌, ◌^◌, ◌⊎◌, ◌↔◌, List, [], ◌∷◌, ◌++◌, length, All, Contains, Option, Some, None, is_some, IsTrue, Result, Ok, Err, suc, zero, nat_lt, drop, if◌then◌else◌}
+use Rattle.std.specs.Prelude.{◌≡◌, ◌≢◌, ℕ, ◌<◌, ◌^◌, ◌⊎◌, ◌↔◌, List, [], ◌∷◌, ◌++◌, length, All, Contains, Option, Some, None, is_some, option_and_then, IsTrue, Result, Ok, Err, suc, zero, nat_lt, drop, if◌then◌else◌}
 use Rattle.std.specs.Ordering.{nat_cmp}
+use Rattle.std.specs.Option.{option_map}
 use Rattle.std.specs.Map.{lookup, keys_of, values_of}
 use Rattle.std.specs.BTreeMap.{insert_entry, is_at}
 use Rattle.std.specs.List.Sorted.{IsStrictlySortedBy}
@@ -73,13 +74,9 @@ IsFault code s = (ps : List (ℕ × ℕ)) × (front rest : List ℕ) × ArePairs
 
 -- ---- the same, computed
 
-abbrev pub or_none : {A B : Type 0} → Option A → (A → Option B) → Option B
-or_none None next = None
-or_none (Some x) next = next x
-
 -- the identifier and the value at the front of the bytes, and the bytes behind them
 unfoldable pub pair_at : List ℕ → Option ((ℕ × ℕ) × List ℕ)
-pair_at bytes = or_none (number_at bytes) (λ id. or_none (number_at id.1) (λ value. Some ((id.0, value.0), value.1)))
+pair_at bytes = option_and_then (λ id. option_map (λ value. ((id.0, value.0), value.1)) (number_at id.1)) (number_at bytes)
 
 -- m and one more pair
 unfoldable pub kept_with : List (ℕ × ℕ) → ℕ × ℕ → Result (List (ℕ × ℕ)) ErrorCode

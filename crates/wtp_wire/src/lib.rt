@@ -1,6 +1,8 @@
-//! The wire format of WebTransport over HTTP/3: frames, datagrams, stream headers and settings.
+//! The wire format of WebTransport over HTTP/3: frames, datagrams, stream headers,
+//! settings and capsules.
 #![tactic(auto)]
 
+pub mod capsule;
 pub mod datagram;
 pub mod frame;
 pub mod laws;
