@@ -6,3 +6,13 @@ pub mod ReadLemmas
 pub mod HeaderLemmas
 pub mod StreamKindLemmas
 pub mod HeaderFrontLemmas
+pub mod SettingsLemmas
+pub mod PairLemmas
+pub mod PartsLemmas
+pub mod OverwrittenLemmas
+pub mod SettingIdLemmas
+pub mod ValueLemmas
+pub mod KeptLemmas
+pub mod PayloadLemmas
+pub mod CloseLemmas
+pub mod CapsuleLemmas

@@ -9,3 +9,7 @@ pub mod Header
 pub mod HeaderFront
 pub mod HeaderReading
 pub mod HeaderWire
+pub mod SettingId
+pub mod Settings
+pub mod Capsule
+pub mod CloseSession

@@ -8,6 +8,8 @@ ghost use Rattle.wtp_wire.specs.Content.{Content};
 ghost use Rattle.wtp_wire.specs.Wire.{wire, IsReadable};
 ghost use Rattle.wtp_wire.specs.declared.frame.FrameKind.{FrameKind};
 
+pub mod capsule;
+pub mod settings;
 pub mod stream_header;
 
 /// The computed kind of a type number is its kind by definition.

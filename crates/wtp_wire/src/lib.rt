@@ -1,7 +1,10 @@
-//! The wire format of WebTransport over HTTP/3: frames, datagrams and stream headers.
+//! The wire format of WebTransport over HTTP/3: frames, datagrams, stream headers,
+//! settings and capsules.
 #![tactic(auto)]
 
+pub mod capsule;
 pub mod datagram;
 pub mod frame;
 pub mod laws;
+pub mod settings;
 pub mod stream_header;

@@ -1,0 +1,31 @@
+-- The payload of a capsule that closes a session (WebTransport over HTTP/3, session termination).
+use Rattle.std.specs.Prelude.{◌≡◌, ◌≢◌, ℕ, ◌≤◌, List, [], ◌++◌, length, take, drop, nat_lt, Bool, ◌||◌, not, Option, Some, None, Result, Ok, Err, if◌then◌else◌, IsUtf8}
+use Rattle.std.specs.Int.{w32, from_be_bytes}
+use Rattle.std.specs.Str.{is_utf8}
+use Rattle.wtp_core.specs.declared.error.ErrorCode.TheVariants.{Datagram}
+use Rattle.wtp_core.specs.declared.error.Refused.{Refused}
+use Rattle.wtp_core.specs.declared.error.Refused.TheVariants.{Code, Memory}
+
+-- the payload is an application error code of four bytes, most significant first, and then a reason in UTF-8 of at most 1024 bytes
+pub record IsClose (code : ℕ) (reason payload : List ℕ) : Type 0 where
+  pub head : List ℕ
+  pub parts : payload ≡ head ++ reason
+  pub size : length head ≡ 4
+  pub number : code ≡ from_be_bytes w32 head
+  pub short : length reason ≤ 1024
+  pub text : IsUtf8 reason
+
+-- ---- the same, computed
+
+abbrev pub is_no_close : List ℕ → Bool
+is_no_close payload = nat_lt (length payload) 4 || (nat_lt 1028 (length payload) || not (is_utf8 (drop 4 payload)))
+
+-- the error code and the reason of a payload
+unfoldable pub close_in : List ℕ → Option (ℕ × List ℕ)
+close_in payload = if is_no_close payload then None else Some (from_be_bytes w32 (take 4 payload), drop 4 payload)
+
+-- what reading the payload answers; memory is taken, and so may be wanted, only for a reason that is not empty
+abbrev pub AnswersClose : List ℕ → Result (ℕ × List ℕ) Refused → Type 0
+AnswersClose payload (Ok close) = close_in payload ≡ Some close
+AnswersClose payload (Err (Code code)) = (close_in payload ≡ None) × (code ≡ Datagram)
+AnswersClose payload (Err Memory) = (close : ℕ × List ℕ) × (close_in payload ≡ Some close) × (close.1 ≢ [])

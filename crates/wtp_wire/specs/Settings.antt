@@ -1,0 +1,138 @@
+-- The settings of a connection, and the payload of a SETTINGS frame (RFC 9114, sections 7.2.4 and 7.2.4.1).
+use Rattle.std.specs.Prelude.{◌≡◌, ◌≢◌, ℕ, ◌<◌, ◌^◌, ◌⊎◌, ◌↔◌, List, [], ◌∷◌, ◌++◌, length, All, Contains, Option, Some, None, is_some, option_and_then, IsTrue, Result, Ok, Err, suc, zero, nat_lt, drop, if◌then◌else◌}
+use Rattle.std.specs.Ordering.{nat_cmp}
+use Rattle.std.specs.Option.{option_map}
+use Rattle.std.specs.Map.{lookup, keys_of, values_of}
+use Rattle.std.specs.BTreeMap.{insert_entry, is_at}
+use Rattle.std.specs.List.Sorted.{IsStrictlySortedBy}
+use Rattle.wtp_core.specs.declared.error.ErrorCode.{ErrorCode}
+use Rattle.wtp_core.specs.declared.error.ErrorCode.TheVariants.{Frame, Settings}
+use Rattle.wtp_core.specs.declared.error.Refused.{Refused}
+use Rattle.wtp_core.specs.declared.error.Refused.TheVariants.{Code, Memory}
+use Rattle.wtp_core.specs.Varint.{number_at, shortest}
+use Rattle.wtp_core.specs.Writer.{joined}
+use Rattle.wtp_wire.specs.declared.settings.SettingId.{SettingId}
+use Rattle.wtp_wire.specs.Front.{Spelled}
+use Rattle.wtp_wire.specs.SettingId.{IsSetting, IsReserved, is_setting, is_reserved, known_number_of}
+
+-- ---- settings are numbers and their values, by rising number
+
+pub record IsSettings (m : List (ℕ × ℕ)) : Type 0 where
+  pub rising : IsStrictlySortedBy nat_cmp (keys_of m)
+  pub known : All (λ id. IsTrue (is_setting id)) (keys_of m)
+  pub ids : All (λ id. id < 2 ^ 62) (keys_of m)
+  pub values : All (λ value. value < 2 ^ 62) (values_of m)
+
+-- the value of a number
+abbrev pub value_at : List (ℕ × ℕ) → ℕ → Option ℕ
+value_at m id = lookup (is_at (nat_cmp id)) m
+
+abbrev pub value_at_some : List (ℕ × ℕ) → Option ℕ → Option ℕ
+value_at_some m None = None
+value_at_some m (Some id) = value_at m id
+
+-- the value of a setting
+abbrev pub value_of : List (ℕ × ℕ) → SettingId → Option ℕ
+value_of m setting = value_at_some m (known_number_of setting)
+
+-- m with this value of a number: in place of the one before, or else at the number's place
+abbrev pub with_setting : List (ℕ × ℕ) → ℕ → ℕ → List (ℕ × ℕ)
+with_setting m id value = insert_entry nat_cmp m id value
+
+-- ---- the payload
+
+-- s is these pairs one after the other: of each a spelling of its identifier, and then one of its value
+abbrev pub ArePairs : List (ℕ × ℕ) → List ℕ → Type 0
+ArePairs [] s = s ≡ []
+ArePairs (p ∷ ps) s = (first rest : List ℕ) × Spelled p.0 p.1 first × ArePairs ps rest × (s ≡ first ++ rest)
+
+-- no identifier is one of HTTP/2's, and none that is kept occurs twice
+abbrev pub AreFaultless : List (ℕ × ℕ) → Type 0
+AreFaultless [] = Unit {0}
+AreFaultless (p ∷ ps) = (¬ IsReserved p.0) × (IsSetting p.0 → ¬ Contains (keys_of ps) p.0) × AreFaultless ps
+
+-- m are the settings among the pairs, by rising number
+pub record AreKept (m ps : List (ℕ × ℕ)) : Type 0 where
+  pub rising : IsStrictlySortedBy nat_cmp (keys_of m)
+  pub same : (id value : ℕ) → (value_at m id ≡ Some value) ↔ (IsSetting id × Contains ps (id, value))
+
+-- the payload says these settings
+abbrev pub IsPayload : List (ℕ × ℕ) → List ℕ → Type 0
+IsPayload m s = (ps : List (ℕ × ℕ)) × ArePairs ps s × AreFaultless ps × AreKept m ps
+
+-- behind these pairs, the rest begins with an identifier or a value that is cut
+abbrev pub IsCut : List ℕ → Type 0
+IsCut rest = (rest ≢ []) × ((id value : ℕ) (s more : List ℕ) → Spelled id value s → rest ≡ s ++ more → ⊥)
+
+-- behind these pairs, the rest begins with a pair that must not stand there
+abbrev pub IsRefused : List (ℕ × ℕ) → List ℕ → Type 0
+IsRefused ps rest = (id value : ℕ) × (s more : List ℕ) × Spelled id value s × (rest ≡ s ++ more) × (IsReserved id ⊎ (IsSetting id × Contains (keys_of ps) id))
+
+-- the first fault of the payload, in the order of its bytes
+abbrev pub IsFault : ErrorCode → List ℕ → Type 0
+IsFault code s = (ps : List (ℕ × ℕ)) × (front rest : List ℕ) × ArePairs ps front × AreFaultless ps × (s ≡ front ++ rest) × (((code ≡ Frame) × IsCut rest) ⊎ ((code ≡ Settings) × IsRefused ps rest))
+
+-- ---- the same, computed
+
+-- the identifier and the value at the front of the bytes, and the bytes behind them
+unfoldable pub pair_at : List ℕ → Option ((ℕ × ℕ) × List ℕ)
+pair_at bytes = option_and_then (λ id. option_map (λ value. ((id.0, value.0), value.1)) (number_at id.1)) (number_at bytes)
+
+-- m and one more pair
+unfoldable pub kept_with : List (ℕ × ℕ) → ℕ × ℕ → Result (List (ℕ × ℕ)) ErrorCode
+kept_with m p = if is_reserved p.0 then Err Settings else (if is_setting p.0 then (if is_some (value_at m p.0) then Err Settings else Ok (with_setting m p.0 p.1)) else Ok m)
+
+abbrev pub or_cut : {A B : Type 0} → Option A → (A → Result B ErrorCode) → Result B ErrorCode
+or_cut None next = Err Frame
+or_cut (Some x) next = next x
+
+abbrev pub or_fault : {A B : Type 0} → Result A ErrorCode → (A → Result B ErrorCode) → Result B ErrorCode
+or_fault (Err code) next = Err code
+or_fault (Ok x) next = next x
+
+-- m and the pairs that the bytes spell, at most n of them
+unfoldable pub settings_from : ℕ → List (ℕ × ℕ) → List ℕ → Result (List (ℕ × ℕ)) ErrorCode
+settings_from n m [] = Ok m
+settings_from zero m (b ∷ bs) = Err Frame
+settings_from (suc n) m (b ∷ bs) = or_cut (pair_at (b ∷ bs)) (λ p. or_fault (kept_with m p.0) (λ kept. settings_from n kept p.1))
+
+-- the settings that the payload says, or its first fault
+unfoldable pub settings_in : List ℕ → Result (List (ℕ × ℕ)) ErrorCode
+settings_in bytes = settings_from (length bytes) [] bytes
+
+-- ---- reading and writing
+
+-- what keeping one more pair answers; memory may be wanted only for one that is kept
+abbrev pub Keeps : List (ℕ × ℕ) → ℕ × ℕ → Result (Unit {0}) Refused → List (ℕ × ℕ) → Type 0
+Keeps old p (Ok u) new = kept_with old p ≡ Ok new
+Keeps old p (Err (Code code)) new = kept_with old p ≡ Err code
+Keeps old p (Err Memory) new = kept_with old p ≡ Ok (with_setting old p.0 p.1)
+
+-- a front of the payload says settings, and not none
+pub record StartsWithSettings (payload : List ℕ) : Type 0 where
+  pub front : List ℕ
+  pub rest : List ℕ
+  pub m : List (ℕ × ℕ)
+  pub parts : payload ≡ front ++ rest
+  pub read : settings_in front ≡ Ok m
+  pub some : m ≢ []
+
+-- what reading the payload answers; memory is taken, and so may be wanted, only for a setting behind which there is no fault
+abbrev pub AnswersSettings : List ℕ → Result (List (ℕ × ℕ)) Refused → Type 0
+AnswersSettings payload (Ok m) = settings_in payload ≡ Ok m
+AnswersSettings payload (Err (Code code)) = settings_in payload ≡ Err code
+AnswersSettings payload (Err Memory) = StartsWithSettings payload
+
+-- the parts of a payload that is written: of each setting its number and its value, in their shortest spellings
+abbrev pub settings_parts : List (ℕ × ℕ) → List (List ℕ)
+settings_parts [] = []
+settings_parts (p ∷ ps) = shortest p.0 ∷ shortest p.1 ∷ settings_parts ps
+
+-- the bytes of a payload that is written
+abbrev pub settings_wire : List (ℕ × ℕ) → List ℕ
+settings_wire m = joined (settings_parts m)
+
+-- the place behind those of the parts that fit it, one after the other, up to the first that does not
+abbrev pub overwritten : List (List ℕ) → List ℕ → List ℕ
+overwritten [] place = place
+overwritten (part ∷ parts) place = if nat_lt (length place) (length part) then place else part ++ overwritten parts (drop (length part) place)

@@ -1,0 +1,80 @@
+//! Capsules (RFC 9297, section 3.2), as they stand in the payload of a DATA frame.
+ghost use Rattle.std.specs.Prelude.{◌≡◌};
+
+pub mod capsules;
+
+use crate::frame::{Frame, FrameKind};
+use std::marker::Model;
+use wtp_core::bytes::BytesReader;
+pub use wtp_core::numbers::capsule_types;
+use wtp_core::varint::VarInt;
+
+/// What kind of capsule it is.
+#[derive(Clone, Copy, Debug, PartialEq, Eq)]
+pub enum CapsuleKind {
+    /// It closes its WebTransport session.
+    CloseWebTransportSession,
+}
+
+impl CapsuleKind {
+    ghost use Rattle.wtp_wire.specs.Capsule.{capsule_kind_of};
+
+    /// The kind of this type number, where it is known.
+    fn parse(id: VarInt) -> Option<Self>
+        ensures { result ≡ capsule_kind_of id }
+    {
+        match id.into_inner() {
+            0x2843 => Some(CapsuleKind::CloseWebTransportSession),
+            _ => None,
+        }
+    }
+}
+
+/// A capsule: its kind, and its payload.
+#[derive(Debug, Drop)]
+pub struct Capsule<'a> {
+    kind: CapsuleKind,
+    payload: &'a [u8],
+}
+
+impl<'a> Model for Capsule<'a> {
+    ghost use Rattle.std.specs.Prelude.{ℕ, List};
+    ghost use Rattle.wtp_wire.specs.declared.capsule.CapsuleKind.{CapsuleKind};
+
+    ghost Value = { CapsuleKind × List ℕ };
+
+    ghost view = { λ c. (c.kind, c.payload.now) };
+}
+
+impl<'a> Capsule<'a> {
+    ghost use Rattle.wtp_wire.specs.Content.{kind_in, payload_in};
+    ghost use Rattle.wtp_wire.specs.Capsule.{capsule_in};
+
+    /// The capsule at the front of a DATA frame's payload. `None` where no whole capsule of a
+    /// known kind stands there; what stands behind it is not looked at.
+    #[tactic(auto, unfolding(crate::specs::Capsule::capsule_in, crate::specs::Capsule::payload_behind))]
+    pub fn with_frame(frame: &'a Frame<'_>) -> Option<Self>
+        requires { kind_in frame.now ≡ FrameKind.Data }
+        ensures { result ≡ capsule_in (payload_in frame.now) }
+    {
+        let mut rest = frame.payload();
+        let kind = CapsuleKind::parse(rest.get_varint()?)?;
+        let len = rest.get_varint()?;
+        let payload = rest.get_bytes(len.into_inner() as usize)?;
+        Some(Capsule { kind, payload })
+    }
+
+    /// Its kind.
+    pub fn kind(&self) -> CapsuleKind
+        ensures { result ≡ self.now.0 }
+    {
+        self.kind
+    }
+
+    /// Its payload.
+    pub fn payload(&self) -> &[u8]
+        ensures { result.now ≡ self.now.1 }
+    {
+        self.payload
+    }
+}

@@ -1,0 +1,69 @@
+//! The capsules by their kinds.
+ghost use Rattle.std.specs.Prelude.{◌≡◌};
+
+use crate::capsule::Capsule;
+use std::alloc::Global;
+use std::marker::Model;
+use wtp_core::error::{ErrorCode, Refused};
+use wtp_core::varint::VarInt;
+
+/// A WebTransport session is closed: with this code of the application, and for this reason.
+#[derive(Debug, Drop)]
+pub struct CloseWebTransportSession {
+    error_code: u32,
+    reason: String,
+}
+
+impl Model for CloseWebTransportSession {
+    ghost use Rattle.std.specs.Prelude.{ℕ, List, string_bytes};
+
+    ghost Value = { ℕ × List ℕ };
+
+    ghost view = { λ c. (c.error_code, string_bytes c.reason) };
+}
+
+impl CloseWebTransportSession {
+    ghost use Rattle.wtp_wire.specs.CloseSession.{AnswersClose};
+
+    // The longest reason, in bytes.
+    const MAX_REASON_LEN: usize = 1024;
+
+    /// The code and the reason of a capsule's payload: `Code(Datagram)` where it has fewer than
+    /// 4 or more than 1028 bytes, or is not UTF-8 behind the first four.
+    #[tactic(auto, unfolding(crate::specs::CloseSession::close_in))]
+    pub fn with_capsule(alloc: Global, capsule: &Capsule<'_>) -> Result<Self, Refused>
+        ensures { AnswersClose capsule.now.1 result }
+    {
+        let Some((code, text)) = capsule.payload().split_first_chunk::<4>() else {
+            return Err(Refused::Code(ErrorCode::Datagram));
+        };
+        if text.len() > Self::MAX_REASON_LEN {
+            return Err(Refused::Code(ErrorCode::Datagram));
+        }
+        let Ok(text) = str::from_utf8(text) else {
+            return Err(Refused::Code(ErrorCode::Datagram));
+        };
+        let mut reason = String::new(alloc);
+        match reason.push_str(text) {
+            Ok(()) => Ok(CloseWebTransportSession {
+                error_code: u32::from_be_bytes(*code),
+                reason,
+            }),
+            Err(_) => Err(Refused::Memory),
+        }
+    }
+
+    /// The application's error code.
+    pub fn error_code(&self) -> VarInt
+        ensures { result ≡ self.now.0 }
+    {
+        VarInt::from_u32(self.error_code)
+    }
+
+    /// The reason.
+    pub fn reason(&self) -> &str
+        ensures { result.now ≡ self.now.1 }
+    {
+        self.reason.as_str()
+    }
+}

@@ -1,0 +1,105 @@
+//! The builder of settings.
+ghost use Rattle.std.specs.Prelude.{◌≡◌, true, OnErr, IfOk, None};
+
+use crate::settings::{Settings, setting_ids};
+use std::alloc::AllocError;
+use std::marker::Model;
+use wtp_core::varint::VarInt;
+
+/// Settings that are set one after the other.
+#[derive(Drop)]
+pub struct SettingsBuilder {
+    settings: Settings,
+}
+
+impl Model for SettingsBuilder {
+    ghost use Rattle.std.specs.Prelude.{ℕ, List};
+
+    ghost Value = { List (ℕ × ℕ) };
+
+    ghost view = { λ b. b.settings };
+}
+
+#[tactic(auto, unfolding(crate::specs::SettingId::setting_id_of))]
+impl SettingsBuilder {
+    ghost use Rattle.wtp_wire.specs.SettingId.{is_setting};
+    ghost use Rattle.wtp_wire.specs.Settings.{value_at, with_setting};
+
+    /// A builder that begins with these settings.
+    pub(crate) fn new(settings: Settings) -> Self
+        ensures { result ≡ settings }
+    {
+        SettingsBuilder { settings }
+    }
+
+    /// Sets the value of a number.
+    fn set(mut self, number: VarInt, value: VarInt) -> Result<Self, AllocError>
+        requires { is_setting number ≡ true }
+        ensures ok { IfOk result (λ b. b ≡ with_setting self number value) }
+        ensures err { OnErr result (value_at self number ≡ None) }
+    {
+        self.settings.set(number, value)?;
+        Ok(self)
+    }
+
+    /// Sets QPACK's largest dynamic table, in bytes.
+    pub fn qpack_max_table_capacity(self, value: VarInt) -> Result<Self, AllocError>
+        ensures ok { IfOk result (λ b. b ≡ with_setting self 0x01 value) }
+        ensures err { OnErr result (value_at self 0x01 ≡ None) }
+    {
+        self.set(setting_ids::SETTINGS_QPACK_MAX_TABLE_CAPACITY, value)
+    }
+
+    /// Sets how many streams QPACK may block.
+    pub fn qpack_blocked_streams(self, value: VarInt) -> Result<Self, AllocError>
+        ensures ok { IfOk result (λ b. b ≡ with_setting self 0x07 value) }
+        ensures err { OnErr result (value_at self 0x07 ≡ None) }
+    {
+        self.set(setting_ids::SETTINGS_QPACK_BLOCKED_STREAMS, value)
+    }
+
+    /// Sets that extended CONNECT is taken.
+    pub fn enable_connect_protocol(self) -> Result<Self, AllocError>
+        ensures ok { IfOk result (λ b. b ≡ with_setting self 0x08 1) }
+        ensures err { OnErr result (value_at self 0x08 ≡ None) }
+    {
+        self.set(
+            setting_ids::SETTINGS_ENABLE_CONNECT_PROTOCOL,
+            VarInt::from_u32(1),
+        )
+    }
+
+    /// Sets that WebTransport is taken.
+    pub fn enable_webtransport(self) -> Result<Self, AllocError>
+        ensures ok { IfOk result (λ b. b ≡ with_setting self 0x2b60_3742 1) }
+        ensures err { OnErr result (value_at self 0x2b60_3742 ≡ None) }
+    {
+        self.set(
+            setting_ids::SETTINGS_ENABLE_WEBTRANSPORT,
+            VarInt::from_u32(1),
+        )
+    }
+
+    /// Sets that datagrams are taken.
+    pub fn enable_h3_datagrams(self) -> Result<Self, AllocError>
+        ensures ok { IfOk result (λ b. b ≡ with_setting self 0x33 1) }
+        ensures err { OnErr result (value_at self 0x33 ≡ None) }
+    {
+        self.set(setting_ids::SETTINGS_H3_DATAGRAM, VarInt::from_u32(1))
+    }
+
+    /// Sets how many WebTransport sessions may be open at once.
+    pub fn webtransport_max_sessions(self, value: VarInt) -> Result<Self, AllocError>
+        ensures ok { IfOk result (λ b. b ≡ with_setting self 0xc671_706a value) }
+        ensures err { OnErr result (value_at self 0xc671_706a ≡ None) }
+    {
+        self.set(setting_ids::SETTINGS_WEBTRANSPORT_MAX_SESSIONS, value)
+    }
+
+    /// The settings so far.
+    pub fn build(self) -> Settings
+        ensures { result ≡ self }
+    {
+        self.settings
+    }
+}
