@@ -5,6 +5,100 @@ use std::test::Fail;
 use wtransport_proto::error::{ErrorCode, h3_error_codes, qpack_error_codes, wt_error_codes};
 use wtransport_proto::varint::VarInt;
 
+const STREAM_CODES: [(ErrorCode, VarInt, u64, &str); 6] = [
+    (
+        ErrorCode::Datagram,
+        h3_error_codes::H3_DATAGRAM_ERROR,
+        51,
+        "DatagramError",
+    ),
+    (
+        ErrorCode::NoError,
+        h3_error_codes::H3_NO_ERROR,
+        256,
+        "NoError",
+    ),
+    (
+        ErrorCode::StreamCreation,
+        h3_error_codes::H3_STREAM_CREATION_ERROR,
+        259,
+        "StreamCreationError",
+    ),
+    (
+        ErrorCode::ClosedCriticalStream,
+        h3_error_codes::H3_CLOSED_CRITICAL_STREAM,
+        260,
+        "ClosedCriticalStreamError",
+    ),
+    (
+        ErrorCode::FrameUnexpected,
+        h3_error_codes::H3_FRAME_UNEXPECTED,
+        261,
+        "FrameUnexpectedError",
+    ),
+    (
+        ErrorCode::Frame,
+        h3_error_codes::H3_FRAME_ERROR,
+        262,
+        "FrameError",
+    ),
+];
+
+const CONNECTION_CODES: [(ErrorCode, VarInt, u64, &str); 6] = [
+    (
+        ErrorCode::ExcessiveLoad,
+        h3_error_codes::H3_EXCESSIVE_LOAD,
+        263,
+        "ExcessiveLoad",
+    ),
+    (ErrorCode::Id, h3_error_codes::H3_ID_ERROR, 264, "IdError"),
+    (
+        ErrorCode::Settings,
+        h3_error_codes::H3_SETTINGS_ERROR,
+        265,
+        "SettingsError",
+    ),
+    (
+        ErrorCode::MissingSettings,
+        h3_error_codes::H3_MISSING_SETTINGS,
+        266,
+        "MissingSettingsError",
+    ),
+    (
+        ErrorCode::RequestRejected,
+        h3_error_codes::H3_REQUEST_REJECTED,
+        267,
+        "RequestRejectedError",
+    ),
+    (
+        ErrorCode::Message,
+        h3_error_codes::H3_MESSAGE_ERROR,
+        270,
+        "MessageError",
+    ),
+];
+
+const OTHER_CODES: [(ErrorCode, VarInt, u64, &str); 3] = [
+    (
+        ErrorCode::Decompression,
+        qpack_error_codes::QPACK_DECOMPRESSION_FAILED,
+        512,
+        "DecompressionError",
+    ),
+    (
+        ErrorCode::BufferedStreamRejected,
+        wt_error_codes::WEBTRANSPORT_BUFFERED_STREAM_REJECTED,
+        966049156,
+        "BufferedStreamRejected",
+    ),
+    (
+        ErrorCode::SessionGone,
+        wt_error_codes::WEBTRANSPORT_SESSION_GONE,
+        386759528,
+        "SessionGone",
+    ),
+];
+
 /// The code's number, its constant and what it prints.
 fn check<R: Abort + AllocGlobal>(
     rt: &R,
@@ -22,117 +116,26 @@ fn check<R: Abort + AllocGlobal>(
 }
 
 #[test]
-fn codes_of_http3_have_their_numbers_and_names(rt: HostRuntime) -> Result<(), Fail> {
-    check(
-        &rt,
-        ErrorCode::Datagram,
-        h3_error_codes::H3_DATAGRAM_ERROR,
-        51,
-        "DatagramError",
-    )?;
-    check(
-        &rt,
-        ErrorCode::NoError,
-        h3_error_codes::H3_NO_ERROR,
-        256,
-        "NoError",
-    )?;
-    check(
-        &rt,
-        ErrorCode::StreamCreation,
-        h3_error_codes::H3_STREAM_CREATION_ERROR,
-        259,
-        "StreamCreationError",
-    )?;
-    check(
-        &rt,
-        ErrorCode::ClosedCriticalStream,
-        h3_error_codes::H3_CLOSED_CRITICAL_STREAM,
-        260,
-        "ClosedCriticalStreamError",
-    )?;
-    check(
-        &rt,
-        ErrorCode::FrameUnexpected,
-        h3_error_codes::H3_FRAME_UNEXPECTED,
-        261,
-        "FrameUnexpectedError",
-    )?;
-    check(
-        &rt,
-        ErrorCode::Frame,
-        h3_error_codes::H3_FRAME_ERROR,
-        262,
-        "FrameError",
-    )?;
-    check(
-        &rt,
-        ErrorCode::ExcessiveLoad,
-        h3_error_codes::H3_EXCESSIVE_LOAD,
-        263,
-        "ExcessiveLoad",
-    )?;
-    check(
-        &rt,
-        ErrorCode::Id,
-        h3_error_codes::H3_ID_ERROR,
-        264,
-        "IdError",
-    )?;
-    check(
-        &rt,
-        ErrorCode::Settings,
-        h3_error_codes::H3_SETTINGS_ERROR,
-        265,
-        "SettingsError",
-    )?;
-    check(
-        &rt,
-        ErrorCode::MissingSettings,
-        h3_error_codes::H3_MISSING_SETTINGS,
-        266,
-        "MissingSettingsError",
-    )?;
-    check(
-        &rt,
-        ErrorCode::RequestRejected,
-        h3_error_codes::H3_REQUEST_REJECTED,
-        267,
-        "RequestRejectedError",
-    )?;
-    check(
-        &rt,
-        ErrorCode::Message,
-        h3_error_codes::H3_MESSAGE_ERROR,
-        270,
-        "MessageError",
-    )?;
+fn codes_of_http3_streams_have_their_numbers_and_names(rt: HostRuntime) -> Result<(), Fail> {
+    for (code, constant, number, name) in STREAM_CODES {
+        check(&rt, code, constant, number, name)?;
+    }
+    Ok(())
+}
+
+#[test]
+fn codes_of_http3_connections_have_their_numbers_and_names(rt: HostRuntime) -> Result<(), Fail> {
+    for (code, constant, number, name) in CONNECTION_CODES {
+        check(&rt, code, constant, number, name)?;
+    }
     Ok(())
 }
 
 #[test]
 fn other_codes_have_their_numbers_and_names(rt: HostRuntime) -> Result<(), Fail> {
-    check(
-        &rt,
-        ErrorCode::Decompression,
-        qpack_error_codes::QPACK_DECOMPRESSION_FAILED,
-        512,
-        "DecompressionError",
-    )?;
-    check(
-        &rt,
-        ErrorCode::BufferedStreamRejected,
-        wt_error_codes::WEBTRANSPORT_BUFFERED_STREAM_REJECTED,
-        966049156,
-        "BufferedStreamRejected",
-    )?;
-    check(
-        &rt,
-        ErrorCode::SessionGone,
-        wt_error_codes::WEBTRANSPORT_SESSION_GONE,
-        386759528,
-        "SessionGone",
-    )?;
+    for (code, constant, number, name) in OTHER_CODES {
+        check(&rt, code, constant, number, name)?;
+    }
     Ok(())
 }
 

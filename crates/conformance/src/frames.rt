@@ -1,5 +1,6 @@
 //! Frames, read and written whole.
 use std::borrow::CowSlice;
+use std::process::Abort;
 use std::test::Fail;
 use wtransport_proto::bytes::{BufferReader, BufferWriter, BytesWriter, EndOfBuffer, PutError};
 use wtransport_proto::frame::{Frame, FrameKind, ParseError, frame_kind_ids};
@@ -41,50 +42,40 @@ fn kinds_have_their_numbers(rt: HostRuntime) -> Result<(), Fail> {
     Ok(())
 }
 
+/// Bytes, the frame's type number, payload and size, and what the row shows.
+const READ: [(&[u8], u64, &[u8], usize, &str); 6] = [
+    (&[0x00, 0x01, 0x61], 0x00, b"a", 3, "data"),
+    (
+        &[0x01, 0x00, 0x02],
+        0x01,
+        b"",
+        2,
+        "empty headers, one byte behind",
+    ),
+    (
+        &[0x04, 0x02, 0x33, 0x01],
+        0x04,
+        &[0x33, 0x01],
+        4,
+        "settings",
+    ),
+    (&[0x40, 0x41, 0x00], 0x41, b"", 3, "session 0"),
+    (b"\x21\x07Payload", 0x21, b"Payload", 9, "exercise"),
+    (
+        b"\xc0\0\0\0\0\0\0\0\xc0\0\0\0\0\0\0\x01a",
+        0x00,
+        b"a",
+        17,
+        "the longest spellings",
+    ),
+];
+
 #[test]
 fn frames_are_read(rt: HostRuntime) -> Result<(), Fail> {
-    let rows: [(&[u8], FrameKind, &[u8], usize, &str); 6] = [
-        (&[0x00, 0x01, 0x61], FrameKind::Data, b"a", 3, "data"),
-        (
-            &[0x01, 0x00, 0x02],
-            FrameKind::Headers,
-            b"",
-            2,
-            "empty headers, one byte behind",
-        ),
-        (
-            &[0x04, 0x02, 0x33, 0x01],
-            FrameKind::Settings,
-            &[0x33, 0x01],
-            4,
-            "settings",
-        ),
-        (
-            &[0x40, 0x41, 0x00],
-            FrameKind::WebTransport,
-            b"",
-            3,
-            "session 0",
-        ),
-        (
-            b"\x21\x07Payload",
-            FrameKind::Exercise(VarInt::from_u32(0x21)),
-            b"Payload",
-            9,
-            "exercise",
-        ),
-        (
-            b"\xc0\0\0\0\0\0\0\0\xc0\0\0\0\0\0\0\x01a",
-            FrameKind::Data,
-            b"a",
-            17,
-            "the longest spellings",
-        ),
-    ];
-    for (bytes, kind, payload, size, word) in rows {
+    for (bytes, number, payload, size, word) in READ {
         let mut reader = BufferReader::new(bytes);
         let frame = Frame::read_from_buffer(&mut reader)?.ok_or("a frame")?;
-        assert_eq!(rt; frame.kind(), kind, "{word}");
+        assert_eq!(rt; frame.kind().id().into_inner(), number, "{word}");
         assert_eq!(rt; frame.payload(), payload, "{word}");
         assert_eq!(rt; reader.offset(), size, "{word}");
         let mut rest = bytes;
@@ -112,41 +103,43 @@ fn too_few_bytes_are_no_frame(rt: HostRuntime) -> Result<(), Fail> {
     Ok(())
 }
 
+/// Bytes, the fault, how many bytes it takes, and what the row shows.
+const FAULTS: [(&[u8], ParseError, usize, &str); 5] = [
+    (
+        b"\x80\x42\x42\x42\x16This is a test payload",
+        ParseError::UnknownFrame,
+        27,
+        "unknown",
+    ),
+    (
+        &[0x0a, 0x00, 0x00],
+        ParseError::UnknownFrame,
+        2,
+        "unknown and empty",
+    ),
+    (
+        &[0x40, 0x41, 0x01],
+        ParseError::InvalidSessionId,
+        3,
+        "no session",
+    ),
+    (
+        &[0x00, 0x50, 0x01],
+        ParseError::PayloadTooBig,
+        3,
+        "length 4097",
+    ),
+    (
+        &[0x00, 0xff, 0xff, 0xff, 0xff, 0xff, 0xff, 0xff, 0xff],
+        ParseError::PayloadTooBig,
+        9,
+        "the largest length",
+    ),
+];
+
 #[test]
 fn faults_are_named(rt: HostRuntime) {
-    let rows: [(&[u8], ParseError, usize, &str); 5] = [
-        (
-            b"\x80\x42\x42\x42\x16This is a test payload",
-            ParseError::UnknownFrame,
-            27,
-            "unknown",
-        ),
-        (
-            &[0x0a, 0x00, 0x00],
-            ParseError::UnknownFrame,
-            2,
-            "unknown and empty",
-        ),
-        (
-            &[0x40, 0x41, 0x01],
-            ParseError::InvalidSessionId,
-            3,
-            "no session",
-        ),
-        (
-            &[0x00, 0x50, 0x01],
-            ParseError::PayloadTooBig,
-            3,
-            "length 4097",
-        ),
-        (
-            &[0x00, 0xff, 0xff, 0xff, 0xff, 0xff, 0xff, 0xff, 0xff],
-            ParseError::PayloadTooBig,
-            9,
-            "the largest length",
-        ),
-    ];
-    for (bytes, error, size, word) in rows {
+    for (bytes, error, size, word) in FAULTS {
         let mut reader = BufferReader::new(bytes);
         assert_eq!(rt;
             Frame::read_from_buffer(&mut reader).err(),
@@ -160,60 +153,60 @@ fn faults_are_named(rt: HostRuntime) {
     }
 }
 
+/// The frame's bytes, whole into a vector and into a slice, and the frame that they are read as.
+fn check_written<R: Abort + AllocGlobal>(
+    rt: &R,
+    frame: &Frame<'_>,
+    bytes: &[u8],
+) -> Result<(), PutError> {
+    let mut vector = Vec::new(rt.alloc());
+    frame.write(&mut vector)?;
+    assert_eq!(rt; vector.as_slice(), bytes);
+    assert_eq!(rt; frame.write_size(), bytes.len());
+    let mut buffer = [0; 9];
+    let mut writer = BufferWriter::new(&mut buffer);
+    assert_eq!(rt; frame.write_to_buffer(&mut writer), Ok(()));
+    assert_eq!(rt; writer.buffer_written(), bytes);
+    let mut rest = vector.as_slice();
+    match Frame::read(&mut rest) {
+        Ok(Some(read)) => {
+            assert_eq!(rt; read.kind(), frame.kind());
+            assert_eq!(rt; read.payload(), frame.payload());
+            assert_eq!(rt; read.session_id(), frame.session_id());
+        }
+        _ => panic!(rt; "what was written is no frame"),
+    }
+    assert!(rt; rest.is_empty());
+    Ok(())
+}
+
 #[test]
 fn frames_are_written(rt: HostRuntime) -> Result<(), Fail> {
-    let alloc = rt.alloc();
+    let headers = Frame::new_headers(CowSlice::Borrowed(&[0, 0]));
+    check_written(&rt, &headers, &[0x01, 0x02, 0, 0])?;
+    let settings = Frame::new_settings(CowSlice::Borrowed(&[0x33, 1]));
+    check_written(&rt, &settings, &[0x04, 0x02, 0x33, 1])?;
     let session = SessionId::try_from_session_stream(StreamId::new(VarInt::from_u32(4)))?;
-    let long = [7; 64];
-    let exercise = VarInt::from_u32(0x21);
-    let rows: [(Frame<'_>, &[u8], &str); 5] = [
-        (
-            Frame::new_headers(CowSlice::Borrowed(&[0, 0])),
-            &[0x01, 0x02, 0, 0],
-            "headers",
-        ),
-        (
-            Frame::new_settings(CowSlice::Borrowed(&[0x33, 1])),
-            &[0x04, 0x02, 0x33, 1],
-            "settings",
-        ),
-        (
-            Frame::new_webtransport(session),
-            &[0x40, 0x41, 0x04],
-            "session 4",
-        ),
-        (
-            Frame::new_exercise(exercise, CowSlice::Borrowed(b"Payload")),
-            b"\x21\x07Payload",
-            "exercise",
-        ),
-        (
-            Frame::new_data(CowSlice::Borrowed(&[])),
-            &[0x00, 0x00],
-            "empty data",
-        ),
-    ];
-    for (frame, bytes, word) in rows {
-        let mut vector = Vec::new(alloc);
-        frame.write(&mut vector)?;
-        assert_eq!(rt; vector.as_slice(), bytes, "{word}");
-        assert_eq!(rt; frame.write_size(), bytes.len(), "{word}");
-        let mut buffer = [0; 9];
-        let mut writer = BufferWriter::new(&mut buffer);
-        frame.write_to_buffer(&mut writer)?;
-        assert_eq!(rt; writer.buffer_written(), bytes, "{word}");
-        let mut rest = vector.as_slice();
-        let read = Frame::read(&mut rest)?.ok_or("a frame")?;
-        assert_eq!(rt; read.kind(), frame.kind(), "{word}");
-        assert_eq!(rt; read.payload(), frame.payload(), "{word}");
-        assert_eq!(rt; read.session_id(), frame.session_id(), "{word}");
-        assert!(rt; rest.is_empty(), "{word}");
-    }
-    let mut vector = Vec::new(alloc);
-    let frame = Frame::new_data(CowSlice::Borrowed(&long));
+    check_written(&rt, &Frame::new_webtransport(session), &[0x40, 0x41, 0x04])?;
+    let id = VarInt::from_u32(0x21);
+    let exercise = Frame::new_exercise(id, CowSlice::Borrowed(b"Payload"));
+    check_written(&rt, &exercise, b"\x21\x07Payload")?;
+    check_written(
+        &rt,
+        &Frame::new_data(CowSlice::Borrowed(&[])),
+        &[0x00, 0x00],
+    )?;
+    Ok(())
+}
+
+#[test]
+fn a_length_of_64_takes_two_bytes(rt: HostRuntime) -> Result<(), Fail> {
+    let payload = [7; 64];
+    let mut vector = Vec::new(rt.alloc());
+    let frame = Frame::new_data(CowSlice::Borrowed(&payload));
     frame.write(&mut vector)?;
     assert_eq!(rt; vector.get(..3), Some([0x00, 0x40, 0x40].as_slice()));
-    assert_eq!(rt; vector.get(3..), Some(long.as_slice()));
+    assert_eq!(rt; vector.get(3..), Some(payload.as_slice()));
     assert_eq!(rt; frame.write_size(), 67);
     Ok(())
 }

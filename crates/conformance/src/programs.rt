@@ -90,25 +90,28 @@ const INPUT: [u8; 6] = [0x40, 0x41, 0x04, 0x00, 0x01, 0x61];
 
 const LISTING: &str = "WEBTRANSPORT 4\nDATA 1\nEND 0\n";
 
+const FAULT: &str = "FAULT FrameUnexpectedError 261\n";
+
+/// Words that name a listing, input, status and text.
+const NAMED: [(&[&str], &[u8], u8, &str); 8] = [
+    (&[], &INPUT, 0, LISTING),
+    (&["buffer"], &INPUT, 0, LISTING),
+    (&["buffer", "bi-remote"], &INPUT, 0, LISTING),
+    (&["buffer", "bi-local"], &INPUT, 2, FAULT),
+    (&["buffer", "bi-local"], b"\x00\x01a", 0, "DATA 1\nEND 0\n"),
+    (&["buffer", "control"], &INPUT, 2, FAULT),
+    (&["buffer", "control"], b"\x00\x01a", 2, FAULT),
+    (
+        &["buffer", "control"],
+        b"\x04\x00",
+        0,
+        "SETTINGS 0\nEND 0\n",
+    ),
+];
+
 #[test]
 fn the_words_choose_the_listing(rt: HostRuntime) -> Result<(), Fail> {
-    let fault = "FAULT FrameUnexpectedError 261\n";
-    let rows: [(&[&str], &[u8], u8, &str); 8] = [
-        (&[], &INPUT, 0, LISTING),
-        (&["buffer"], &INPUT, 0, LISTING),
-        (&["buffer", "bi-remote"], &INPUT, 0, LISTING),
-        (&["buffer", "bi-local"], &INPUT, 2, fault),
-        (&["buffer", "bi-local"], b"\x00\x01a", 0, "DATA 1\nEND 0\n"),
-        (&["buffer", "control"], &INPUT, 2, fault),
-        (&["buffer", "control"], b"\x00\x01a", 2, fault),
-        (
-            &["buffer", "control"],
-            b"\x04\x00",
-            0,
-            "SETTINGS 0\nEND 0\n",
-        ),
-    ];
-    for (words, bytes, status, text) in rows {
+    for (words, bytes, status, text) in NAMED {
         let mut input = Input {
             bytes,
             step: 1,
@@ -122,20 +125,22 @@ fn the_words_choose_the_listing(rt: HostRuntime) -> Result<(), Fail> {
     Ok(())
 }
 
+/// Words that name none.
+const OTHERS: [&[&str]; 9] = [
+    &["buffer", "bi-remote", "x"],
+    &["buffer", "bi-local", ""],
+    &["buffer", "bi-local "],
+    &["buffer", "uni"],
+    &["control"],
+    &["bi-local", "buffer"],
+    &["stepped"],
+    &["request"],
+    &[""],
+];
+
 #[test]
 fn other_words_are_refused(rt: HostRuntime) -> Result<(), Fail> {
-    let rows: [&[&str]; 9] = [
-        &["buffer", "bi-remote", "x"],
-        &["buffer", "bi-local", ""],
-        &["buffer", "bi-local "],
-        &["buffer", "uni"],
-        &["control"],
-        &["bi-local", "buffer"],
-        &["stepped"],
-        &["request"],
-        &[""],
-    ];
-    for words in rows {
+    for words in OTHERS {
         let mut input = Input {
             bytes: &INPUT,
             step: 1,

@@ -92,3 +92,75 @@ pub fn write<const N: u32>(out: &mut Vec<u8>, flags: u8, value: u64) -> Result<(
     out.push(left as u8)?;
     Ok(())
 }
+
+#[cfg(test)]
+mod tests {
+    use super::*;
+    use std::alloc::Global;
+    use std::test::Fail;
+
+    /// The bytes of an integer, written once more where memory was refused.
+    fn written<const N: u32>(alloc: Global, flags: u8, value: u64) -> Result<Vec<u8>, AllocError>
+        requires some { 1 ≤ N }
+        requires few { N ≤ 8 }
+        requires above { flags < 2 ^ (8 - N) }
+    {
+        let mut out = Vec::new(alloc);
+        if write::<N>(&mut out, flags, value).is_err() {
+            out.clear();
+            write::<N>(&mut out, flags, value)?;
+        }
+        Ok(out)
+    }
+
+    #[test]
+    fn integers(rt: HostRuntime) -> Result<(), Fail> {
+        let rows: [(&str, u64, &[u8]); 3] = [
+            ("RFC 7541, C.1.1: below the prefix", 10, b"\x0a"),
+            ("all ones and an empty group", 31, b"\x1f\x00"),
+            ("RFC 7541, C.1.2: two groups", 1337, b"\x1f\x9a\x0a"),
+        ];
+        for (shows, value, bytes) in rows {
+            assert_eq!(rt;
+                written::<5>(rt.alloc(), 0, value)?.as_slice(),
+                bytes,
+                "{shows}"
+            );
+            assert_eq!(rt; read::<5>(bytes)?.0, value, "{shows}");
+        }
+        for flags in 0..8u8 {
+            let out = written::<5>(rt.alloc(), flags, 1337)?;
+            assert_eq!(rt; out.first().map(|first| *first / 32), Some(flags));
+            assert_eq!(rt; read::<5>(out.as_slice())?.0, 1337, "{flags}");
+        }
+        let out = written::<1>(rt.alloc(), 0, u64::MAX)?;
+        assert_eq!(rt; read::<1>(out.as_slice())?.0, u64::MAX);
+        Ok(())
+    }
+
+    #[test]
+    fn refused_integers(rt: HostRuntime) {
+        let rows: [(&str, &[u8], DecodingError); 5] = [
+            ("nothing", b"", DecodingError::UnexpectedFin),
+            ("no group", b"\x01", DecodingError::UnexpectedFin),
+            (
+                "a group that goes on",
+                b"\x01\x80",
+                DecodingError::UnexpectedFin,
+            ),
+            (
+                "nine groups of ones",
+                &[0xff; 10],
+                DecodingError::UnexpectedFin,
+            ),
+            (
+                "a long row of ones",
+                &[0xff; 100],
+                DecodingError::IntegerOverflow,
+            ),
+        ];
+        for (shows, bytes, fault) in rows {
+            assert_eq!(rt; read::<1>(bytes).map(|x| x.0), Err(fault), "{shows}");
+        }
+    }
+}

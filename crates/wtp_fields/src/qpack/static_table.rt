@@ -5,6 +5,9 @@ ghost use Rattle.wtp_fields.specs.Field.{lent, lent_field};
 ghost use Rattle.wtp_fields.specs.StaticTable.{static_table, entry_at, first_entry};
 ghost use Rattle.wtp_fields.specs.StaticNames.{numbered, static_names, AreOrdered};
 
+#[cfg(test)]
+mod tests;
+
 /// Names and values, by their indices.
 pub static ENTRIES: [(&str, &str); 99] = [
     (":authority", ""),

@@ -127,3 +127,41 @@ pub fn write<const N: u32>(
     }
     Ok(())
 }
+
+#[cfg(test)]
+mod tests {
+    use super::*;
+    use std::test::Fail;
+
+    /// The bytes of a string, written once more where memory was refused.
+    fn written(alloc: Global, text: &str) -> Result<Vec<u8>, AllocError> {
+        let mut out = Vec::new(alloc);
+        if write::<5>(alloc, &mut out, 0, text).is_err() {
+            out.clear();
+            write::<5>(alloc, &mut out, 0, text)?;
+        }
+        Ok(out)
+    }
+
+    /// The text of a string, read once more where memory was refused.
+    fn read_again(alloc: Global, bytes: &[u8]) -> Result<(String, &[u8]), DecodingError> {
+        match read::<5>(alloc, bytes) {
+            Err(DecodingError::Memory) => read::<5>(alloc, bytes),
+            outcome => outcome,
+        }
+    }
+
+    #[test]
+    fn strings(rt: HostRuntime) -> Result<(), Fail> {
+        // Lengths within the prefix, at its edge, and of one and two groups behind it.
+        for len in [0usize, 1, 30, 31, 32, 158, 159, 1023] {
+            for letters in [[b'a'; 1023], [b'Z'; 1023]] {
+                let text = str::from_utf8(&letters[..len])?;
+                let bytes = written(rt.alloc(), text)?;
+                let (read, rest) = read_again(rt.alloc(), bytes.as_slice())?;
+                assert_eq!(rt; (read.as_str(), rest.len()), (text, 0), "{len}");
+            }
+        }
+        Ok(())
+    }
+}

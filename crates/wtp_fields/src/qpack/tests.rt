@@ -1,127 +1,13 @@
-//! The standard's table, worked rows of sections and of their parts, and refused memory.
-ghost use Rattle.std.specs.Prelude.{◌≤◌, ◌<◌, ◌^◌, ◌-◌};
-
+//! Worked rows of sections, each first byte of a line, and refused memory.
 use super::field_line::{Representation, Table, representation_of};
-use super::{Decoder, DecodingError, Encoder, integer, static_table, string_literal};
+use super::{Decoder, DecodingError, Encoder};
 use std::alloc::{AllocError, Global};
 use std::collections::BTreeMap;
 use std::process::Abort;
 use std::test::Fail;
 
-/// The static table as RFC 9204, Appendix A, lists it.
-static APPENDIX_A: [(&str, &str); 99] = [
-    (":authority", ""),
-    (":path", "/"),
-    ("age", "0"),
-    ("content-disposition", ""),
-    ("content-length", "0"),
-    ("cookie", ""),
-    ("date", ""),
-    ("etag", ""),
-    ("if-modified-since", ""),
-    ("if-none-match", ""),
-    ("last-modified", ""),
-    ("link", ""),
-    ("location", ""),
-    ("referer", ""),
-    ("set-cookie", ""),
-    (":method", "CONNECT"),
-    (":method", "DELETE"),
-    (":method", "GET"),
-    (":method", "HEAD"),
-    (":method", "OPTIONS"),
-    (":method", "POST"),
-    (":method", "PUT"),
-    (":scheme", "http"),
-    (":scheme", "https"),
-    (":status", "103"),
-    (":status", "200"),
-    (":status", "304"),
-    (":status", "404"),
-    (":status", "503"),
-    ("accept", "*/*"),
-    ("accept", "application/dns-message"),
-    ("accept-encoding", "gzip, deflate, br"),
-    ("accept-ranges", "bytes"),
-    ("access-control-allow-headers", "cache-control"),
-    ("access-control-allow-headers", "content-type"),
-    ("access-control-allow-origin", "*"),
-    ("cache-control", "max-age=0"),
-    ("cache-control", "max-age=2592000"),
-    ("cache-control", "max-age=604800"),
-    ("cache-control", "no-cache"),
-    ("cache-control", "no-store"),
-    ("cache-control", "public, max-age=31536000"),
-    ("content-encoding", "br"),
-    ("content-encoding", "gzip"),
-    ("content-type", "application/dns-message"),
-    ("content-type", "application/javascript"),
-    ("content-type", "application/json"),
-    ("content-type", "application/x-www-form-urlencoded"),
-    ("content-type", "image/gif"),
-    ("content-type", "image/jpeg"),
-    ("content-type", "image/png"),
-    ("content-type", "text/css"),
-    ("content-type", "text/html; charset=utf-8"),
-    ("content-type", "text/plain"),
-    ("content-type", "text/plain;charset=utf-8"),
-    ("range", "bytes=0-"),
-    ("strict-transport-security", "max-age=31536000"),
-    (
-        "strict-transport-security",
-        "max-age=31536000; includesubdomains",
-    ),
-    (
-        "strict-transport-security",
-        "max-age=31536000; includesubdomains; preload",
-    ),
-    ("vary", "accept-encoding"),
-    ("vary", "origin"),
-    ("x-content-type-options", "nosniff"),
-    ("x-xss-protection", "1; mode=block"),
-    (":status", "100"),
-    (":status", "204"),
-    (":status", "206"),
-    (":status", "302"),
-    (":status", "400"),
-    (":status", "403"),
-    (":status", "421"),
-    (":status", "425"),
-    (":status", "500"),
-    ("accept-language", ""),
-    ("access-control-allow-credentials", "FALSE"),
-    ("access-control-allow-credentials", "TRUE"),
-    ("access-control-allow-headers", "*"),
-    ("access-control-allow-methods", "get"),
-    ("access-control-allow-methods", "get, post, options"),
-    ("access-control-allow-methods", "options"),
-    ("access-control-expose-headers", "content-length"),
-    ("access-control-request-headers", "content-type"),
-    ("access-control-request-method", "get"),
-    ("access-control-request-method", "post"),
-    ("alt-svc", "clear"),
-    ("authorization", ""),
-    (
-        "content-security-policy",
-        "script-src 'none'; object-src 'none'; base-uri 'none'",
-    ),
-    ("early-data", "1"),
-    ("expect-ct", ""),
-    ("forwarded", ""),
-    ("if-range", ""),
-    ("origin", ""),
-    ("purpose", "prefetch"),
-    ("server", ""),
-    ("timing-allow-origin", "*"),
-    ("upgrade-insecure-requests", "1"),
-    ("user-agent", ""),
-    ("x-forwarded-for", ""),
-    ("x-frame-options", "deny"),
-    ("x-frame-options", "sameorigin"),
-];
-
 /// Decodes, and once more where memory was refused.
-fn decoded(alloc: Global, section: &[u8]) -> Result<BTreeMap<String, String>, DecodingError> {
+pub fn decoded(alloc: Global, section: &[u8]) -> Result<BTreeMap<String, String>, DecodingError> {
     match Decoder::decode(alloc, section) {
         Err(DecodingError::Memory) => Decoder::decode(alloc, section),
         outcome => outcome,
@@ -137,7 +23,7 @@ fn encoded(alloc: Global, pairs: &[(&str, &str)]) -> Result<Vec<u8>, AllocError>
 }
 
 /// Asserts that a map holds these fields, in the order of their names, and no others.
-fn assert_fields(
+pub fn assert_fields(
     rt: &impl Abort,
     fields: &BTreeMap<String, String>,
     wanted: &[(&str, &str)],
@@ -399,143 +285,6 @@ fn first_bytes(rt: HostRuntime) {
             "{first}"
         );
     }
-}
-
-#[test]
-fn whole_table(rt: HostRuntime) -> Result<(), Fail> {
-    let mut names = 0u8;
-    for (index, (name, value)) in APPENDIX_A.iter().enumerate() {
-        assert_eq!(rt;
-            static_table::entry(index as u64),
-            Some((*name, *value)),
-            "{index}"
-        );
-        let first = APPENDIX_A.iter().position(|e| e.0 == *name);
-        assert_eq!(rt; static_table::first_entry(name), first, "{name}");
-        if first == Some(index) {
-            names = names.wrapping_add(1);
-        }
-        let short = [0, 0, 0xc0 | (index % 63) as u8];
-        let long = [0, 0, 0xff, (index % 63) as u8];
-        let section = if index < 63 {
-            short.as_slice()
-        } else {
-            long.as_slice()
-        };
-        let fields = decoded(rt.alloc(), section)?;
-        assert_fields(&rt, &fields, &[(*name, *value)], name);
-    }
-    assert_eq!(rt; names, 52);
-    assert_eq!(rt; static_table::entry(99), None);
-    for (shows, name) in [
-        ("before all", ""),
-        ("behind all", "zz"),
-        ("between two", "agf"),
-    ] {
-        assert_eq!(rt; static_table::first_entry(name), None, "{shows}");
-    }
-    Ok(())
-}
-
-/// The bytes of an integer, written once more where memory was refused.
-fn written<const N: u32>(alloc: Global, flags: u8, value: u64) -> Result<Vec<u8>, AllocError>
-    requires some { 1 ≤ N }
-    requires few { N ≤ 8 }
-    requires above { flags < 2 ^ (8 - N) }
-{
-    let mut out = Vec::new(alloc);
-    if integer::write::<N>(&mut out, flags, value).is_err() {
-        out.clear();
-        integer::write::<N>(&mut out, flags, value)?;
-    }
-    Ok(out)
-}
-
-#[test]
-fn integers(rt: HostRuntime) -> Result<(), Fail> {
-    let rows: [(&str, u64, &[u8]); 3] = [
-        ("RFC 7541, C.1.1: below the prefix", 10, b"\x0a"),
-        ("all ones and an empty group", 31, b"\x1f\x00"),
-        ("RFC 7541, C.1.2: two groups", 1337, b"\x1f\x9a\x0a"),
-    ];
-    for (shows, value, bytes) in rows {
-        assert_eq!(rt;
-            written::<5>(rt.alloc(), 0, value)?.as_slice(),
-            bytes,
-            "{shows}"
-        );
-        assert_eq!(rt; integer::read::<5>(bytes)?.0, value, "{shows}");
-    }
-    for flags in 0..8u8 {
-        let out = written::<5>(rt.alloc(), flags, 1337)?;
-        assert_eq!(rt; out.first().map(|first| *first / 32), Some(flags));
-        assert_eq!(rt; integer::read::<5>(out.as_slice())?.0, 1337, "{flags}");
-    }
-    let out = written::<1>(rt.alloc(), 0, u64::MAX)?;
-    assert_eq!(rt; integer::read::<1>(out.as_slice())?.0, u64::MAX);
-    Ok(())
-}
-
-#[test]
-fn refused_integers(rt: HostRuntime) {
-    let rows: [(&str, &[u8], DecodingError); 5] = [
-        ("nothing", b"", DecodingError::UnexpectedFin),
-        ("no group", b"\x01", DecodingError::UnexpectedFin),
-        (
-            "a group that goes on",
-            b"\x01\x80",
-            DecodingError::UnexpectedFin,
-        ),
-        (
-            "nine groups of ones",
-            &[0xff; 10],
-            DecodingError::UnexpectedFin,
-        ),
-        (
-            "a long row of ones",
-            &[0xff; 100],
-            DecodingError::IntegerOverflow,
-        ),
-    ];
-    for (shows, bytes, fault) in rows {
-        assert_eq!(rt;
-            integer::read::<1>(bytes).map(|x| x.0),
-            Err(fault),
-            "{shows}"
-        );
-    }
-}
-
-/// The bytes of a string, written once more where memory was refused.
-fn written_string(alloc: Global, text: &str) -> Result<Vec<u8>, AllocError> {
-    let mut out = Vec::new(alloc);
-    if string_literal::write::<5>(alloc, &mut out, 0, text).is_err() {
-        out.clear();
-        string_literal::write::<5>(alloc, &mut out, 0, text)?;
-    }
-    Ok(out)
-}
-
-/// The text of a string, read once more where memory was refused.
-fn read_string(alloc: Global, bytes: &[u8]) -> Result<(String, &[u8]), DecodingError> {
-    match string_literal::read::<5>(alloc, bytes) {
-        Err(DecodingError::Memory) => string_literal::read::<5>(alloc, bytes),
-        outcome => outcome,
-    }
-}
-
-#[test]
-fn strings(rt: HostRuntime) -> Result<(), Fail> {
-    // Lengths within the prefix, at its edge, and of one and two groups behind it.
-    for len in [0usize, 1, 30, 31, 32, 158, 159, 1023] {
-        for letters in [[b'a'; 1023], [b'Z'; 1023]] {
-            let text = str::from_utf8(&letters[..len])?;
-            let bytes = written_string(rt.alloc(), text)?;
-            let (read, rest) = read_string(rt.alloc(), bytes.as_slice())?;
-            assert_eq!(rt; (read.as_str(), rest.len()), (text, 0), "{len}");
-        }
-    }
-    Ok(())
 }
 
 #[test]
