@@ -22,3 +22,5 @@ pub mod FieldMaps
 pub mod RoundTrip
 pub mod StringLaws
 pub mod SectionLaws
+pub mod HeaderLemmas
+pub mod Payloads

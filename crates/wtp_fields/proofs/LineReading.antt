@@ -1,5 +1,5 @@
 -- Lines by their first byte.
-use Rattle.std.proofs.Common.{◌≡◌, ℕ, ◌<◌, ◌≤◌, List, [], ◌∷◌, length, get_or, refl, arith, Some, None, Ok, Err, slice_get}
+use Rattle.std.proofs.Common.{◌≡◌, ℕ, ◌<◌, ◌≤◌, List, [], ◌∷◌, length, get_or, refl, arith, Err}
 use Rattle.wtp_fields.specs.declared.qpack.DecodingError.TheVariants.{UnexpectedFin}
 use Rattle.wtp_fields.specs.FieldLine.{representation_of, line_by, line_at}
 

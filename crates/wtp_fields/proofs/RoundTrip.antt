@@ -1,5 +1,5 @@
 -- What was written is read again.
-use Rattle.std.proofs.Common.{◌≡◌, ℕ, ◌+◌, ◌-◌, ◌*◌, ◌/◌, ◌%◌, ◌^◌, ◌==◌, ◌<◌, ◌≤◌, inl, inr, Bool, true, false, cond, nat_lt, List, [], ◌∷◌, ◌++◌, length, refl, sym, ◌∙◌, ap, arith, append_assoc, Option, Some, None, Ok, IsUtf8, eq-eqb, ne_eqb}
+use Rattle.std.proofs.Common.{◌≡◌, ℕ, ◌+◌, ◌-◌, ◌*◌, ◌/◌, ◌%◌, ◌^◌, ◌==◌, ◌<◌, inl, inr, Bool, true, false, cond, nat_lt, List, [], ◌∷◌, ◌++◌, length, refl, sym, ◌∙◌, ap, arith, append_assoc, Option, Some, None, Ok, IsUtf8, eq-eqb, ne_eqb}
 use Rattle.std.specs.Str.{bytes_eq}
 use Rattle.std.specs.List.{flat_map}
 use Rattle.std.proofs.lemmas.Bool.{cases_lt, lt-ltb, le-ltb}
@@ -15,7 +15,7 @@ use Rattle.wtp_fields.specs.Field.{Field, IsText, AreTexts, field_map}
 use Rattle.wtp_fields.specs.Integer.{integer_at, shortest_groups, shortest_int}
 use Rattle.wtp_fields.specs.StaticTable.{entry_at, first_entry}
 use Rattle.wtp_fields.specs.StringLiteral.{flag_above, content, utf8_text, string_at, huffman_bytes, encoded_string}
-use Rattle.wtp_fields.specs.FieldLine.{representation_of, indexed_at, name_reference_at, literal_name_at, line_by, line_at, line_of, encoded_line}
+use Rattle.wtp_fields.specs.FieldLine.{representation_of, indexed_at, name_reference_at, literal_name_at, line_by, line_at, encoded_line}
 use Rattle.wtp_fields.specs.FieldSection.{lines_behind, AreLines, section_at, map_at, section_of}
 use Rattle.wtp_fields.proofs.IntegerLaws.{int_read, short_int}
 use Rattle.wtp_fields.proofs.StaticLemmas.{same_bytes, first_found}

@@ -1,5 +1,5 @@
 -- Sections: what the lines give is what the section gives.
-use Rattle.std.proofs.Common.{◌≡◌, ◌≢◌, ℕ, zero, suc, ◌<◌, ◌≤◌, ◌⊎◌, inl, inr, List, [], ◌∷◌, ◌++◌, length, refl, sym, ◌∙◌, ap, arith, Ok, Err, Result, IfOk, IfErr, map, string_bytes, String, Global}
+use Rattle.std.proofs.Common.{◌≡◌, ◌≢◌, ℕ, zero, suc, ◌<◌, ◌≤◌, inl, inr, List, [], ◌∷◌, ◌++◌, length, refl, sym, ◌∙◌, ap, arith, Ok, Err, Result, IfOk, IfErr, map, string_bytes, String, Global}
 use Rattle.std.proofs.lemmas.Grind.{fold-append}
 use Rattle.std.specs.Ordering.{match_ordering}
 use Rattle.std.specs.String.{string_cmp}
@@ -7,7 +7,7 @@ use Rattle.std.specs.BTreeMap.{insert_entry}
 use Rattle.std.specs.declared.cmp.Ordering.{Ordering}
 use Rattle.std.specs.declared.cmp.Ordering.TheVariants.{Less, Equal, Greater}
 use Rattle.wtp_fields.specs.declared.qpack.DecodingError.{DecodingError}
-use Rattle.wtp_fields.specs.declared.qpack.DecodingError.TheVariants.{UnexpectedFin, DynamicNotSupported, Memory}
+use Rattle.wtp_fields.specs.declared.qpack.DecodingError.TheVariants.{Memory}
 use Rattle.wtp_fields.specs.declared.qpack.field_line.Table.TheVariants.{Static, Dynamic}
 use Rattle.wtp_fields.specs.declared.qpack.field_line.Representation.{Representation}
 use Rattle.wtp_fields.specs.declared.qpack.field_line.Representation.TheVariants.{Indexed, IndexedPostBase, NameReference, PostBaseNameReference, LiteralName}

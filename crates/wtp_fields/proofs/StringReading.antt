@@ -1,5 +1,5 @@
 -- The texts of strings.
-use Rattle.std.proofs.Common.{◌≡◌, ℕ, ◌+◌, ◌<◌, ◌==◌, nat_lt, nat_le, ◌^◌, ◌%◌, ◌*◌, ◌-◌, suc, Bool, true, false, cond, ◌⊎◌, inl, inr, List, [], ◌∷◌, length, take, drop, length-drop, refl, sym, ap, arith, Ok, Err, IsUtf8}
+use Rattle.std.proofs.Common.{◌≡◌, ℕ, ◌+◌, ◌<◌, ◌==◌, nat_lt, nat_le, ◌^◌, ◌%◌, ◌*◌, ◌-◌, suc, Bool, true, false, cond, inl, inr, List, [], ◌∷◌, length, take, drop, length-drop, refl, sym, ap, arith, Ok, Err, IsUtf8}
 use Rattle.std.proofs.lemmas.Str.{IsUtf8-from_is_utf8, is_utf8-from_IsUtf8}
 use Rattle.std.specs.Str.{is_utf8}
 use Rattle.wtp_fields.specs.declared.qpack.DecodingError.TheVariants.{UnexpectedFin, IntegerOverflow, InvalidString, Memory}

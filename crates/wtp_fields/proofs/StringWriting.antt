@@ -1,5 +1,5 @@
 -- The Huffman text of a string, as a function.
-use Rattle.std.proofs.Common.{◌≡◌, ℕ, zero, suc, ◌+◌, ◌-◌, ◌*◌, ◌/◌, ◌^◌, ◌<◌, ◌≤◌, inl, inr, Bool, true, false, ◌&&◌, cond, List, [], ◌∷◌, ◌++◌, length, drop, refl, sym, ◌∙◌, ap, arith, subst, append_assoc, IsUtf8}
+use Rattle.std.proofs.Common.{◌≡◌, ℕ, zero, suc, ◌+◌, ◌-◌, ◌*◌, ◌^◌, ◌<◌, ◌≤◌, inl, inr, Bool, true, false, cond, List, [], ◌∷◌, ◌++◌, length, drop, refl, sym, ◌∙◌, ap, arith, subst, append_assoc, IsUtf8}
 use Rattle.std.proofs.lemmas.Bool.{cases_lt, and_parts, lt-ltb, le-ltb}
 use Rattle.std.proofs.lemmas.List.{length-append, length-drop}
 use Rattle.std.proofs.Math.ListN.{drop_of_length-le}
@@ -10,7 +10,6 @@ use Rattle.wtp_fields.specs.Integer.{shortest_int}
 use Rattle.wtp_fields.specs.StringLiteral.{filled_bytes, huffman_bytes, encoded_string}
 use Rattle.wtp_fields.proofs.HuffmanBits.{front_below, low_bits_front, low_bits_length, ones_bits}
 use Rattle.wtp_fields.proofs.HuffmanLaws.{one_string}
-use Rattle.wtp_fields.proofs.HuffmanLengths.{huffman_length}
 
 -- ones behind bits do not change their number
 front_ones : (n : ℕ) (bs pad : List Bool) → AllOnes pad → front n (bs ++ pad) ≡ front n bs

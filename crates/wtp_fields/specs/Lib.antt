@@ -10,3 +10,4 @@ pub mod StaticNames
 pub mod StringLiteral
 pub mod FieldLine
 pub mod FieldSection
+pub mod Headers

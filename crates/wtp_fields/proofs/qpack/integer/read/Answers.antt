@@ -1,4 +1,4 @@
-use Rattle.std.proofs.Common.{ap, ◌∙◌, get_or, ◌%◌, ◌+◌}
+use Rattle.std.proofs.Common.{ap, ◌%◌, ◌+◌}
 use Rattle.wtp_fields.proofs.IntegerReading.{int_none, int_long, int_short}
 use Rattle.wtp_fields.proofs.qpack.integer.read.Goals as goal
 

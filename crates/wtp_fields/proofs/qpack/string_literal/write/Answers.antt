@@ -1,4 +1,4 @@
-use Rattle.std.proofs.Common.{◌∙◌, ap, refl}
+use Rattle.std.proofs.Common.{◌∙◌, ap}
 use Rattle.wtp_fields.specs.StringLiteral.{huffman_bytes}
 use Rattle.wtp_fields.proofs.StringWriting.{written_coded, written_raw}
 use Rattle.wtp_fields.proofs.qpack.string_literal.write.Goals as goal
