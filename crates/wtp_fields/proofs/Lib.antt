@@ -24,3 +24,4 @@ pub mod StringLaws
 pub mod SectionLaws
 pub mod HeaderLemmas
 pub mod Payloads
+pub mod RequestLemmas

@@ -11,3 +11,4 @@ pub mod StringLiteral
 pub mod FieldLine
 pub mod FieldSection
 pub mod Headers
+pub mod SessionRequest

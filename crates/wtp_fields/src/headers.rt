@@ -1,5 +1,5 @@
 //! Header maps, and the HEADERS frames that say them (RFC 9114, section 7.2.2).
-ghost use Rattle.std.specs.Prelude.{◌≡◌, ℕ, ◌≤◌, ◌^◌, ◌++◌, List, length, Bool, OnOk, OnErr, IfOk, IfErr, IsOk, Err, map};
+ghost use Rattle.std.specs.Prelude.{◌≡◌, ℕ, ◌≤◌, ◌^◌, ◌++◌, List, [], length, Bool, OnOk, OnErr, IfOk, IfErr, IsOk, Err, map};
 ghost use Rattle.std.specs.Borrow.{Bor};
 ghost use Rattle.std.specs.Option.{option_copied};
 ghost use Rattle.std.specs.Iterator.{IsFinite, Drains};
@@ -35,6 +35,21 @@ impl Model for Headers {
 }
 
 impl Headers {
+    /// The empty map.
+    pub(crate) fn new(alloc: Global) -> Self
+        ensures { result ≡ [] }
+    {
+        Headers {
+            fields: BTreeMap::new(alloc),
+            alloc,
+        }
+    }
+
+    /// Where the texts of later fields are kept.
+    pub(crate) fn allocator(&self) -> Global {
+        self.alloc
+    }
+
     /// The map of the field section that is the frame's payload. The last value of a name wins.
     ///
     /// Every fault of the section is [`ErrorCode::Decompression`]. Memory is refused only where a
@@ -96,10 +111,7 @@ impl Headers {
         requires finite { IsFinite (I.remaining pairs) }
         ensures { IfOk result (λ headers. (ps : List (Bor (List ℕ) × Bor (List ℕ))) × Drains I.next_gives pairs ps × (headers ≡ field_map (lent ps))) }
     {
-        let mut headers = Headers {
-            fields: BTreeMap::new(alloc),
-            alloc,
-        };
+        let mut headers = Headers::new(alloc);
         for (name, value) in pairs {
             headers.insert(name, value)?;
         }

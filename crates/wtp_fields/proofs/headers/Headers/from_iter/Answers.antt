@@ -1,11 +1,11 @@
-use Rattle.std.proofs.Common.{◌∙◌, ap, sym, map}
-use Rattle.wtp_fields.specs.Field.{held_field, field_map, put}
+use Rattle.std.proofs.Common.{◌∙◌, ap, sym}
+use Rattle.wtp_fields.specs.Field.{field_map, put}
 use Rattle.wtp_fields.proofs.HeaderLemmas.{lent_push}
 use Rattle.wtp_fields.proofs.headers.Headers.from_iter.Goals as goal
 
 pub loop-name-init : goal.loop-name-init
 unfolding field_map
-loop-name-init g c = ap (map held_field) c.new.ensures.empty
+loop-name-init g c = c.new-headers.ensures
 
 pub loop-name-preserved : goal.loop-name-preserved
 loop-name-preserved g c =
