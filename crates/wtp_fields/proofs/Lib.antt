@@ -25,3 +25,4 @@ pub mod SectionLaws
 pub mod HeaderLemmas
 pub mod Payloads
 pub mod RequestLemmas
+pub mod ResponseLemmas

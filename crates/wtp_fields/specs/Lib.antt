@@ -12,3 +12,4 @@ pub mod FieldLine
 pub mod FieldSection
 pub mod Headers
 pub mod SessionRequest
+pub mod SessionResponse
