@@ -28,6 +28,17 @@ pub enum ParseError {
     PayloadTooBig,
 }
 
+/// Why no frame was made.
+#[derive(Debug, Drop, PartialEq, Eq, thiserror::Error)]
+pub enum GenerateError {
+    /// The payload would have more than 2^62 - 1 bytes.
+    #[error("payload too long")]
+    PayloadTooLong,
+    /// No memory.
+    #[error("no memory")]
+    Memory,
+}
+
 /// What kind of frame it is.
 #[derive(Clone, Copy, Debug, PartialEq, Eq)]
 pub enum FrameKind {
