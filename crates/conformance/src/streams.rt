@@ -1,5 +1,6 @@
 //! Streams of each kind.
 mod bilocal;
 mod biremote;
+mod session;
 mod unilocal;
 mod uniremote;

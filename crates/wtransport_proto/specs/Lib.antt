@@ -19,3 +19,4 @@ pub use Rattle.wtp_wire.specs.StreamKind
 pub use Rattle.wtp_wire.specs.Header
 pub use Rattle.wtp_wire.specs.HeaderFront
 pub use Rattle.wtp_wire.specs.HeaderWire
+pub use Rattle.wtp_fields.specs.Field

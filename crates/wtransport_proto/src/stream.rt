@@ -12,6 +12,7 @@ use wtp_wire::stream_header::{StreamHeader, StreamKind};
 pub mod bilocal;
 pub mod biremote;
 mod reading;
+pub mod session;
 pub mod types;
 pub mod unilocal;
 pub mod uniremote;

@@ -9,16 +9,18 @@ ghost use Rattle.wtp_wire.specs.Wire.{parts_of, wire};
 ghost use Rattle.wtransport_proto.specs.Reading.{AnswersFrame, AnswersRun, StandsAfter};
 ghost use Rattle.wtransport_proto.specs.Rule.{RemoteBi};
 ghost use Rattle.wtransport_proto.specs.Run.{past_unknown};
-ghost use Rattle.wtransport_proto.specs.Streams.{first_of, session_of};
+ghost use Rattle.wtransport_proto.specs.Streams.{first_of, request_of, session_of};
 
 use crate::stream::Stream;
 use crate::stream::reading::{self, Rule};
-use crate::stream::types::{BiRemote, H3, Quic, WT};
+use crate::stream::session::StreamSession;
+use crate::stream::types::{Bi, BiRemote, H3, Quic, Session, WT};
 use wtp_core::bytes::{
     BufferReader, BufferWriter, BytesReader, BytesWriter, EndOfBuffer, PutError,
 };
 use wtp_core::error::ErrorCode;
 use wtp_core::ids::SessionId;
+use wtp_fields::session::SessionRequest;
 use wtp_wire::frame::{Frame, FrameKind};
 
 /// A stream of QUIC.
@@ -122,6 +124,16 @@ impl StreamBiRemoteH3 {
         Stream {
             kind: self.kind,
             stage: WT { session_id },
+        }
+    }
+
+    /// The same as the stream of a session, for which this is the request.
+    pub fn into_session(self, session_request: SessionRequest) -> StreamSession
+        ensures { request_of result ≡ session_request }
+    {
+        Stream {
+            kind: Bi,
+            stage: Session { session_request },
         }
     }
 }

@@ -1,6 +1,7 @@
 //! Kinds and states of streams.
 
 use wtp_core::ids::SessionId;
+use wtp_fields::session::SessionRequest;
 
 /// Both ends send.
 #[derive(Debug, Drop)]
@@ -74,4 +75,10 @@ pub struct H3<H = ()> {
 #[derive(Drop)]
 pub struct WT {
     pub(crate) session_id: SessionId,
+}
+
+/// A stream of HTTP/3 that carries the request for a session, the response, and what follows them.
+#[derive(Debug, Drop)]
+pub struct Session {
+    pub(crate) session_request: SessionRequest,
 }
