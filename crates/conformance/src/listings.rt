@@ -1,9 +1,13 @@
 //! Listings of recorded streams.
+use std::alloc::{AllocError, Global};
+use std::process::Abort;
 use std::test::Fail;
 use wt_frames::{ListKind, list_frames};
 
 /// Input, listing, status, and what the row shows.
-const ROWS: [(&[u8], &str, u8, &str); 17] = [
+type Row = (&'static [u8], &'static str, u8, &'static str);
+
+const BI_REMOTE: [Row; 17] = [
     (
         b"\x40\x41\x04\x00\x01a",
         "WEBTRANSPORT 4\nDATA 1\nEND 0\n",
@@ -78,13 +82,93 @@ const ROWS: [(&[u8], &str, u8, &str); 17] = [
     ),
 ];
 
+const BI_LOCAL: [Row; 8] = [
+    (
+        b"\x40\x41\x04\x00\x01a",
+        "FAULT FrameUnexpectedError 261\n",
+        2,
+        "a session",
+    ),
+    (b"", "END 0\n", 0, "nothing"),
+    (b"\x00\x05a", "END 3\n", 0, "a cut frame"),
+    (
+        b"\x01\x02ab\x21\x00\x00\x00\x04\x00",
+        "HEADERS 2\nEXERCISE 33 0\nDATA 0\nFAULT FrameUnexpectedError 261\n",
+        2,
+        "late settings",
+    ),
+    (b"\x40\x41\x01", "FAULT IdError 264\n", 2, "no session"),
+    (
+        b"\x00\x50\x01",
+        "FAULT ExcessiveLoad 263\n",
+        2,
+        "length 4097",
+    ),
+    (
+        b"\x0a\x01x\x00\x00\x0a",
+        "DATA 0\nEND 1\n",
+        0,
+        "unknown, data, and an unknown type alone",
+    ),
+    (b"\x40", "END 1\n", 0, "a cut type"),
+];
+
+const CONTROL: [Row; 8] = [
+    (
+        b"\x04\x00\x07\x01\x00\x04\x00",
+        "SETTINGS 0\nSETTINGS 0\nEND 0\n",
+        0,
+        "an unknown frame between settings",
+    ),
+    (b"\x00\x00", "FAULT FrameUnexpectedError 261\n", 2, "data"),
+    (
+        b"\x01\x00",
+        "FAULT FrameUnexpectedError 261\n",
+        2,
+        "headers",
+    ),
+    (
+        b"\x21\x01x\x40\x41\x04",
+        "EXERCISE 33 1\nFAULT FrameUnexpectedError 261\n",
+        2,
+        "exercise, then a session",
+    ),
+    (b"\x40\x41\x01", "FAULT IdError 264\n", 2, "no session"),
+    (
+        b"\x04\x50\x01",
+        "FAULT ExcessiveLoad 263\n",
+        2,
+        "length 4097",
+    ),
+    (b"\x04\x02\x33", "END 3\n", 0, "cut settings"),
+    (b"", "END 0\n", 0, "nothing"),
+];
+
+/// Compares the listing of each row.
+fn check(rt: &impl Abort, alloc: Global, kind: ListKind, rows: &[Row]) -> Result<(), AllocError> {
+    for (input, text, status, word) in rows {
+        let listing = list_frames(alloc, kind, input)?;
+        assert_eq!(rt; listing.text.as_slice(), text.as_bytes(), "{word}");
+        assert_eq!(rt; listing.status, *status, "{word}");
+    }
+    Ok(())
+}
+
 #[test]
 fn remote_bidirectional_streams_are_listed(rt: HostRuntime) -> Result<(), Fail> {
-    for (input, text, status, word) in ROWS {
-        let listing = list_frames(rt.alloc(), ListKind::BiRemote, input)?;
-        assert_eq!(rt; listing.text.as_slice(), text.as_bytes(), "{word}");
-        assert_eq!(rt; listing.status, status, "{word}");
-    }
+    check(&rt, rt.alloc(), ListKind::BiRemote, &BI_REMOTE)?;
+    Ok(())
+}
+
+#[test]
+fn local_bidirectional_streams_are_listed(rt: HostRuntime) -> Result<(), Fail> {
+    check(&rt, rt.alloc(), ListKind::BiLocal, &BI_LOCAL)?;
+    Ok(())
+}
+
+#[test]
+fn control_streams_are_listed(rt: HostRuntime) -> Result<(), Fail> {
+    check(&rt, rt.alloc(), ListKind::Control, &CONTROL)?;
     Ok(())
 }
 

@@ -90,35 +90,67 @@ const INPUT: [u8; 6] = [0x40, 0x41, 0x04, 0x00, 0x01, 0x61];
 
 const LISTING: &str = "WEBTRANSPORT 4\nDATA 1\nEND 0\n";
 
+const FAULT: &str = "FAULT FrameUnexpectedError 261\n";
+
+/// Words that name a listing, input, status and text.
+const NAMED: [(&[&str], &[u8], u8, &str); 8] = [
+    (&[], &INPUT, 0, LISTING),
+    (&["buffer"], &INPUT, 0, LISTING),
+    (&["buffer", "bi-remote"], &INPUT, 0, LISTING),
+    (&["buffer", "bi-local"], &INPUT, 2, FAULT),
+    (&["buffer", "bi-local"], b"\x00\x01a", 0, "DATA 1\nEND 0\n"),
+    (&["buffer", "control"], &INPUT, 2, FAULT),
+    (&["buffer", "control"], b"\x00\x01a", 2, FAULT),
+    (
+        &["buffer", "control"],
+        b"\x04\x00",
+        0,
+        "SETTINGS 0\nEND 0\n",
+    ),
+];
+
 #[test]
 fn the_words_choose_the_listing(rt: HostRuntime) -> Result<(), Fail> {
-    let rows: [(&[&str], bool); 8] = [
-        (&[], true),
-        (&["buffer"], true),
-        (&["buffer", "bi-remote"], true),
-        (&["buffer", "bi-remote", "x"], false),
-        (&["buffer", "uni"], false),
-        (&["stepped"], false),
-        (&["request"], false),
-        (&[""], false),
-    ];
-    for (words, good) in rows {
+    for (words, bytes, status, text) in NAMED {
+        let mut input = Input {
+            bytes,
+            step: 1,
+            fails: false,
+        };
+        let ran = run(rt.alloc(), words, &mut input, 100, 100)?;
+        assert_eq!(rt; ran.status, status, "{text}");
+        assert_eq!(rt; ran.output.as_slice(), text.as_bytes());
+        assert!(rt; ran.errors.is_empty());
+    }
+    Ok(())
+}
+
+/// Words that name none.
+const OTHERS: [&[&str]; 9] = [
+    &["buffer", "bi-remote", "x"],
+    &["buffer", "bi-local", ""],
+    &["buffer", "bi-local "],
+    &["buffer", "uni"],
+    &["control"],
+    &["bi-local", "buffer"],
+    &["stepped"],
+    &["request"],
+    &[""],
+];
+
+#[test]
+fn other_words_are_refused(rt: HostRuntime) -> Result<(), Fail> {
+    for words in OTHERS {
         let mut input = Input {
             bytes: &INPUT,
             step: 1,
             fails: false,
         };
         let ran = run(rt.alloc(), words, &mut input, 100, 100)?;
-        if good {
-            assert_eq!(rt; ran.status, 0);
-            assert_eq!(rt; ran.output.as_slice(), LISTING.as_bytes());
-            assert!(rt; ran.errors.is_empty());
-        } else {
-            assert_eq!(rt; ran.status, 1);
-            assert_eq!(rt; ran.errors.as_slice(), b"wt_frames: usage\n".as_slice());
-            assert!(rt; ran.output.is_empty());
-            assert_eq!(rt; input.bytes.len(), 6, "nothing was read");
-        }
+        assert_eq!(rt; ran.status, 1);
+        assert_eq!(rt; ran.errors.as_slice(), b"wt_frames: usage\n".as_slice());
+        assert!(rt; ran.output.is_empty());
+        assert_eq!(rt; input.bytes.len(), 6, "nothing was read");
     }
     Ok(())
 }

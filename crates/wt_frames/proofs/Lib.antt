@@ -1,1 +1,3 @@
+pub mod ControlLemmas
+pub mod ListingLemmas
 pub mod WordLemmas

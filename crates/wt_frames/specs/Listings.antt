@@ -2,14 +2,16 @@
 use Rattle.std.specs.Prelude.{◌≡◌, true, List, ℕ}
 use Rattle.wt_frames.specs.declared.listing.Listing.{Listing}
 use Rattle.wt_frames.specs.declared.listing.ListKind.{ListKind}
-use Rattle.wt_frames.specs.declared.listing.ListKind.TheVariants.{BiRemote}
+use Rattle.wt_frames.specs.declared.listing.ListKind.TheVariants.{BiRemote, BiLocal, Control}
 use Rattle.wt_frames.specs.Lines.{text_of, status_of}
-use Rattle.wtransport_proto.specs.Rule.{Role, RemoteBi}
+use Rattle.wtransport_proto.specs.Rule.{Role, RemoteBi, LocalBi, RemoteUni}
 use Rattle.wtransport_proto.specs.Run.{Run, run, MayGoOn}
 
 -- the stream whose bytes are listed
 abbrev pub role_of : ListKind → Role
 role_of BiRemote = RemoteBi
+role_of BiLocal = LocalBi
+role_of Control = RemoteUni
 
 -- the run of a recorded stream from its start: its bytes may go on
 abbrev pub recorded : ListKind → List ℕ → Run

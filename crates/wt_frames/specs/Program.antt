@@ -2,7 +2,7 @@
 use Rattle.std.specs.Prelude.{◌≡◌, ◌⊎◌, ℕ, ◌≤◌, List, [], ◌∷◌, length, Option, IfSome, codes}
 use Rattle.std.specs.Io.KnownBytes.{Appends}
 use Rattle.wt_frames.specs.declared.listing.ListKind.{ListKind}
-use Rattle.wt_frames.specs.declared.listing.ListKind.TheVariants.{BiRemote}
+use Rattle.wt_frames.specs.declared.listing.ListKind.TheVariants.{BiRemote, BiLocal, Control}
 use Rattle.wt_frames.specs.declared.program.Fault.{Fault}
 use Rattle.wt_frames.specs.declared.program.Fault.TheVariants.{Usage, InputTooLong, ReadFault, WriteFault, NoMemory}
 use Rattle.wt_frames.specs.Lines.{text_of, status_of}
@@ -16,9 +16,15 @@ fault_status ReadFault = 3
 fault_status WriteFault = 3
 fault_status NoMemory = 4
 
--- the words name this listing
+-- the name of a listing
+abbrev pub name_of : ListKind → List ℕ
+name_of BiRemote = codes "bi-remote"
+name_of BiLocal = codes "bi-local"
+name_of Control = codes "control"
+
+-- the words name this listing; none, and "buffer" alone, name that of BiRemote
 abbrev pub Names : List (List ℕ) → ListKind → Type 0
-Names words BiRemote = (words ≡ []) ⊎ (words ≡ codes "buffer" ∷ []) ⊎ (words ≡ codes "buffer" ∷ codes "bi-remote" ∷ [])
+Names words kind = (words ≡ codes "buffer" ∷ name_of kind ∷ []) ⊎ ((kind ≡ BiRemote) × ((words ≡ []) ⊎ (words ≡ codes "buffer" ∷ [])))
 
 -- no listing has these words
 abbrev pub NamesNone : List (List ℕ) → Type 0

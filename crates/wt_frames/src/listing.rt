@@ -9,12 +9,17 @@ use wtransport_proto::error::ErrorCode;
 use wtransport_proto::frame::{Frame, FrameKind};
 
 pub mod frames;
+mod recorded;
 
 /// The stream that was recorded.
 #[derive(Clone, Copy, Debug, PartialEq, Eq)]
 pub enum ListKind {
     /// A stream in both directions that the peer opened.
     BiRemote,
+    /// A stream in both directions that this end opened.
+    BiLocal,
+    /// A control stream of the peer, behind its type number.
+    Control,
 }
 
 /// A listing, and the status with which the program ends: 0, or 2 where a fault ends the stream.

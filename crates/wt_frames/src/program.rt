@@ -1,7 +1,8 @@
 //! The program: its words, its input and output, and its statuses.
 ghost use Rattle.std.specs.Prelude.{◌≡◌, ◌≢◌, ◌≤◌, ◌<◌, ◌⊎◌, map, length, Err, IfOk, IfErr, IfSome, IfNone, OnOk, vec_len, string_bytes};
 ghost use Rattle.std.specs.Io.KnownBytes.{Appends};
-ghost use Rattle.wt_frames.specs.Program.{fault_status, Names, NamesNone, ListsWords};
+ghost use Rattle.wt_frames.specs.Program.{fault_status, name_of, Names, NamesNone, ListsWords};
+ghost use Rattle.wt_frames.specs.declared.listing.ListKind.{ListKind};
 
 use crate::listing::ListKind;
 use crate::listing::frames::list_frames;
@@ -47,8 +48,8 @@ impl Fault {
     }
 }
 
-/// Lists the input as the words say (`buffer bi-remote`, `buffer`, or none), and answers the status
-/// with which the program ends: that of the listing; 1 for other words; 3 for input above 1048576
+/// Lists the input as the words say (`buffer bi-remote`, `buffer bi-local` or `buffer control`;
+/// `buffer` or none for the first), and answers the status with which the program ends: that of the listing; 1 for other words; 3 for input above 1048576
 /// bytes, a read fault and a write fault; 4 where memory is wanting. With 1, 3 and 4 `errors` gets
 /// one line, whose own fault is ignored; before the listing is whole nothing is written to `output`.
 pub fn run_program<R: Read, W: Write, E: Write>(
@@ -102,9 +103,20 @@ fn list_kind(words: &[String]) -> Option<ListKind>
     match words {
         [] => Some(ListKind::BiRemote),
         [word] if word.as_str() == "buffer" => Some(ListKind::BiRemote),
-        [word, kind] if word.as_str() == "buffer" && kind.as_str() == "bi-remote" => {
-            Some(ListKind::BiRemote)
-        }
+        [word, name] if word.as_str() == "buffer" => named_kind(name.as_str()),
+        _ => None,
+    }
+}
+
+/// The stream of this name.
+fn named_kind(name: &str) -> Option<ListKind>
+    ensures named { IfSome result (λ kind. name.now ≡ name_of kind) }
+    ensures none { IfNone result ((kind : ListKind) → name.now ≢ name_of kind) }
+{
+    match name {
+        "bi-remote" => Some(ListKind::BiRemote),
+        "bi-local" => Some(ListKind::BiLocal),
+        "control" => Some(ListKind::Control),
         _ => None,
     }
 }

@@ -59,7 +59,7 @@ below_put name x (e ∷ es) less h = by_cases (slice_cmp nat_cmp x.0 e.0) refl (
     by_cases Equal o later = rw o h
     by_cases Greater o later = rw o (h.0, later)
 
-ascends_put : (x : Field) (es : List Field) → Ascends es → Ascends (put es x)
+pub ascends_put : (x : Field) (es : List Field) → Ascends es → Ascends (put es x)
 ascends_put x [] h = (tt, tt)
 ascends_put x (e ∷ es) h = by_cases (slice_cmp nat_cmp x.0 e.0) refl (ascends_put x es h.1)
   where
@@ -78,7 +78,7 @@ map_ordered lines = ascends_to (fold put [] lines) (ascends_fold lines [] tt)
 
 -- ---- the values of a map
 
-value_put : (name : List ℕ) (x : Field) (es : List Field) → value_of name (put es x) ≡ cond (bytes_eq x.0 name) (Some x.1) (value_of name es)
+pub value_put : (name : List ℕ) (x : Field) (es : List Field) → value_of name (put es x) ≡ cond (bytes_eq x.0 name) (Some x.1) (value_of name es)
 value_put name x [] = refl
 value_put name x (e ∷ es) = by_cases (slice_cmp nat_cmp x.0 e.0) refl (value_put name x es)
   where

@@ -22,3 +22,7 @@ pub mod FieldMaps
 pub mod RoundTrip
 pub mod StringLaws
 pub mod SectionLaws
+pub mod HeaderLemmas
+pub mod Payloads
+pub mod RequestLemmas
+pub mod ResponseLemmas

@@ -10,3 +10,6 @@ pub mod StaticNames
 pub mod StringLiteral
 pub mod FieldLine
 pub mod FieldSection
+pub mod Headers
+pub mod SessionRequest
+pub mod SessionResponse

@@ -2,8 +2,10 @@
 ghost use Rattle.std.specs.Prelude.{◌≡◌, ℕ, ◌<◌, ◌≤◌, List, ◌++◌, length, Bool};
 ghost use Rattle.wtp_fields.specs.Huffman.{code, AllOnes, IsBytes, IsHuffman};
 
+mod headers;
 mod qpack;
 
+pub use headers::{header_maps, header_payloads};
 pub use qpack::{field_lines, field_maps, field_sections, prefixed_integers, string_literals};
 
 /// The Huffman code is a complete prefix code: no code word begins another, none of ones is shorter than eight bits

@@ -1,6 +1,8 @@
-//! Header fields of HTTP/3: Huffman text and field sections.
+//! Header fields of HTTP/3: Huffman text, field sections, header maps, and the messages of sessions.
 #![tactic(auto)]
 
+pub mod headers;
 pub mod huffman;
 pub mod laws;
 pub mod qpack;
+pub mod session;

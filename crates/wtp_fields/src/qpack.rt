@@ -11,7 +11,7 @@ ghost use Rattle.wtp_fields.specs.Field.{Field, held, lent};
 ghost use Rattle.wtp_fields.specs.Reading.{GivesUnlessMemory};
 ghost use Rattle.wtp_fields.specs.FieldSection.{lines_behind, AreLines, map_at, section_of};
 
-mod field_line;
+pub(crate) mod field_line;
 mod field_section;
 mod integer;
 mod static_table;

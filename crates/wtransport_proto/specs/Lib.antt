@@ -2,6 +2,7 @@ pub mod Rule
 pub mod Run
 pub mod Streams
 pub mod Reading
+pub mod Upgrading
 pub use Rattle.wtp_core.specs.Varint
 pub use Rattle.wtp_core.specs.Reader
 pub use Rattle.wtp_core.specs.Cursor
@@ -14,3 +15,8 @@ pub use Rattle.wtp_wire.specs.Content
 pub use Rattle.wtp_wire.specs.Front
 pub use Rattle.wtp_wire.specs.Wire
 pub use Rattle.wtp_wire.specs.Datagram
+pub use Rattle.wtp_wire.specs.StreamKind
+pub use Rattle.wtp_wire.specs.Header
+pub use Rattle.wtp_wire.specs.HeaderFront
+pub use Rattle.wtp_wire.specs.HeaderWire
+pub use Rattle.wtp_fields.specs.Field

@@ -5,7 +5,7 @@
 #![tactic(auto)]
 
 pub use wtp_core::{bytes, error, ids, varint};
-pub use wtp_fields::{huffman, qpack};
+pub use wtp_fields::{headers, huffman, qpack, session};
 pub use wtp_wire::{datagram, frame, stream_header};
 
 pub mod laws;

@@ -2,17 +2,20 @@
 //!
 //! A stream holds no bytes: it is handed a reader or a writer, and says what may come on it.
 ghost use Rattle.std.specs.Prelude.{◌≡◌};
-ghost use Rattle.wtp_core.specs.Reader.{IsRest};
-ghost use Rattle.wtp_wire.specs.Front.{front};
-ghost use Rattle.wtransport_proto.specs.Reading.{AnswersKnown};
-ghost use Rattle.wtransport_proto.specs.Run.{past_unknown};
+ghost use Rattle.wtp_wire.specs.Header.{header_kind, header_session, WebTransportHeader};
+ghost use Rattle.wtransport_proto.specs.Streams.{header_of, session_of};
 
-use wtp_core::bytes::BytesReader;
-use wtp_core::error::ErrorCode;
-use wtp_wire::frame::{Frame, ParseError};
+use crate::stream::types::{H3, WT};
+use wtp_core::ids::SessionId;
+use wtp_wire::stream_header::{StreamHeader, StreamKind};
 
+pub mod bilocal;
 pub mod biremote;
+mod reading;
+pub mod session;
 pub mod types;
+pub mod unilocal;
+pub mod uniremote;
 
 /// A stream of kind `K` in state `S` (see `types`).
 #[derive(Debug, Drop)]
@@ -21,20 +24,41 @@ pub struct Stream<K, S> {
     stage: S,
 }
 
-/// Reads the first frame of a known or exercise kind; unknown frames in front of it are passed over.
-#[inline(always)]
-#[tactic(auto, using(wtp_core::proofs::RestLemmas::rests))]
-fn read_known<'a, R: BytesReader<'a>>(reader: &mut R) -> Result<Option<Frame<'a>>, ErrorCode>
-    ensures answer { AnswersKnown (front (past_unknown (R.left reader.old))) result (R.left reader.new) }
-    ensures rest { IsRest (R.left reader.new) (R.left reader.old) }
-    ensures kept { R.kept reader.new ≡ R.kept reader.old }
-{
-    'frames: loop {
-        match Frame::read(reader) {
-            Ok(found) => return Ok(found),
-            Err(ParseError::UnknownFrame) => {}
-            Err(ParseError::InvalidSessionId) => return Err(ErrorCode::Id),
-            Err(ParseError::PayloadTooBig) => return Err(ErrorCode::ExcessiveLoad),
+impl<K> Stream<K, H3<StreamHeader>> {
+    /// What kind of unidirectional stream it is.
+    pub fn kind(&self) -> StreamKind
+        ensures { result ≡ header_kind (header_of self.now) }
+    {
+        self.stage.header.kind()
+    }
+
+    /// Its session, where its kind is WebTransport.
+    pub fn session_id(&self) -> Option<SessionId>
+        ensures { result ≡ header_session (header_of self.now) }
+    {
+        self.stage.header.session_id()
+    }
+
+    /// The same as a stream of its session. Its kind is WebTransport, as `kind` tells.
+    pub fn upgrade(self) -> Stream<K, WT>
+        requires { header_kind (header_of self) ≡ StreamKind.WebTransport }
+        ensures { header_of self ≡ WebTransportHeader (session_of result) }
+    {
+        let Some(session_id) = self.stage.header.session_id() else {
+            unreachable!()
+        };
+        Stream {
+            kind: self.kind,
+            stage: WT { session_id },
         }
+    }
+}
+
+impl<K> Stream<K, WT> {
+    /// Its session.
+    pub fn session_id(&self) -> SessionId
+        ensures { result ≡ session_of self.now }
+    {
+        self.stage.session_id
     }
 }

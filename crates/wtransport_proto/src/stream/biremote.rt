@@ -1,23 +1,26 @@
 //! Streams in both directions that the peer opened.
-ghost use Rattle.std.specs.Prelude.{◌≡◌, ◌≤◌, ◌↔◌, true, false, length, Some, None, Err, MatchResult, IsOk, OnOk, OnErr};
+ghost use Rattle.std.specs.Prelude.{◌≡◌, ◌≤◌, ◌↔◌, true, length, Err, IsOk, OnOk, OnErr};
 ghost use Rattle.wtp_core.specs.Reader.{IsRest};
 ghost use Rattle.wtp_core.specs.Cursor.{left_of, whole_of};
 ghost use Rattle.wtp_core.specs.Writer.{PutsParts, LacksRoom};
 ghost use Rattle.wtp_core.specs.BufferWriter.{room_in, loan_of, IsUnwritten, Wrote};
-ghost use Rattle.wtp_wire.specs.Content.{kind_in};
 ghost use Rattle.wtp_wire.specs.Front.{front};
 ghost use Rattle.wtp_wire.specs.Wire.{parts_of, wire};
 ghost use Rattle.wtransport_proto.specs.Reading.{AnswersFrame, AnswersRun, StandsAfter};
-ghost use Rattle.wtransport_proto.specs.Rule.{RemoteBi, rule};
+ghost use Rattle.wtransport_proto.specs.Rule.{RemoteBi};
 ghost use Rattle.wtransport_proto.specs.Run.{past_unknown};
-ghost use Rattle.wtransport_proto.specs.Streams.{first_of};
+ghost use Rattle.wtransport_proto.specs.Streams.{first_of, request_of, session_of};
 
-use crate::stream::types::{BiRemote, H3, Quic};
-use crate::stream::{Stream, read_known};
+use crate::stream::Stream;
+use crate::stream::reading::{self, Rule};
+use crate::stream::session::StreamSession;
+use crate::stream::types::{Bi, BiRemote, H3, Quic, Session, WT};
 use wtp_core::bytes::{
     BufferReader, BufferWriter, BytesReader, BytesWriter, EndOfBuffer, PutError,
 };
 use wtp_core::error::ErrorCode;
+use wtp_core::ids::SessionId;
+use wtp_fields::session::SessionRequest;
 use wtp_wire::frame::{Frame, FrameKind};
 
 /// A stream of QUIC.
@@ -25,6 +28,9 @@ pub type StreamBiRemoteQuic = Stream<BiRemote, Quic>;
 
 /// A stream of HTTP/3.
 pub type StreamBiRemoteH3 = Stream<BiRemote, H3>;
+
+/// A stream of a WebTransport session.
+pub type StreamBiRemoteWT = Stream<BiRemote, WT>;
 
 impl StreamBiRemoteQuic {
     /// A stream that the peer opened.
@@ -42,6 +48,7 @@ impl StreamBiRemoteQuic {
         Stream {
             kind: self.kind,
             stage: H3 {
+                header: (),
                 first_frame_done: false,
             },
         }
@@ -65,16 +72,12 @@ impl StreamBiRemoteH3 {
         ensures rest { IsRest (R.left reader.new) (R.left reader.old) }
         ensures kept { R.kept reader.new ≡ R.kept reader.old }
     {
-        let Some(frame) = read_known(reader)? else {
-            return Ok(None);
-        };
-        Ok(Some(self.validate_frame(frame)?))
+        reading::read_frame::<Self, R>(&mut self.stage.first_frame_done, reader)
     }
 
     /// Reads the next frame as `read_frame` does, and moves past it; where it answers `None` or an
     /// error the reader stays where it is.
     #[inline(always)]
-    #[tactic(auto, using(crate::proofs::ReadingLemmas::run_answers))]
     pub fn read_frame_from_buffer<'a>(
         &mut self,
         reader: &mut BufferReader<'a>,
@@ -83,15 +86,7 @@ impl StreamBiRemoteH3 {
         ensures place { StandsAfter RemoteBi (first_of self.old) (left_of reader.old) result (first_of self.new) (left_of reader.new) }
         ensures whole { whole_of reader.new ≡ whole_of reader.old }
     {
-        let mut ahead = BufferReader::new(reader.buffer_remaining());
-        match self.read_frame(&mut ahead) {
-            Ok(Some(frame)) => {
-                reader.move_to(&ahead);
-                Ok(Some(frame))
-            }
-            Ok(None) => Ok(None),
-            Err(code) => Err(code),
-        }
+        reading::read_frame_from_buffer::<Self>(&mut self.stage.first_frame_done, reader)
     }
 
     /// Writes a frame as `Frame::write` does.
@@ -121,24 +116,40 @@ impl StreamBiRemoteH3 {
         frame.write_to_buffer(writer)
     }
 
-    /// The frame, or the fault that refuses it; a next frame isn't the first.
-    fn validate_frame<'a>(&mut self, frame: Frame<'a>) -> Result<Frame<'a>, ErrorCode>
-        ensures verdict { MatchResult result
-            (λ f. (f ≡ frame.entry) × (rule RemoteBi (first_of self.old) (kind_in frame.entry) ≡ None))
-            (λ c. rule RemoteBi (first_of self.old) (kind_in frame.entry) ≡ Some c) }
-        ensures first { first_of self.new ≡ false }
+    /// The same as a stream of this session: that of the WebTransport frame which was read as the
+    /// first one.
+    pub fn upgrade(self, session_id: SessionId) -> StreamBiRemoteWT
+        ensures { session_of result ≡ session_id }
     {
-        let first_frame_done = self.stage.set_first_frame();
-        match frame.kind() {
-            FrameKind::Data | FrameKind::Headers | FrameKind::Exercise(_) => Ok(frame),
-            FrameKind::Settings => Err(ErrorCode::FrameUnexpected),
-            FrameKind::WebTransport => {
-                if first_frame_done {
-                    Err(ErrorCode::Frame)
-                } else {
-                    Ok(frame)
-                }
-            }
+        Stream {
+            kind: self.kind,
+            stage: WT { session_id },
+        }
+    }
+
+    /// The same as the stream of a session, for which this is the request.
+    pub fn into_session(self, session_request: SessionRequest) -> StreamSession
+        ensures { request_of result ≡ session_request }
+    {
+        Stream {
+            kind: Bi,
+            stage: Session { session_request },
+        }
+    }
+}
+
+impl Rule for StreamBiRemoteH3 {
+    ghost use Rattle.wtransport_proto.specs.Rule.{RemoteBi};
+
+    ghost role = { RemoteBi };
+
+    #[inline(always)]
+    fn fault(first: bool, kind: FrameKind) -> Option<ErrorCode> {
+        match kind {
+            FrameKind::Data | FrameKind::Headers | FrameKind::Exercise(_) => None,
+            FrameKind::Settings => Some(ErrorCode::FrameUnexpected),
+            FrameKind::WebTransport if first => None,
+            FrameKind::WebTransport => Some(ErrorCode::Frame),
         }
     }
 }

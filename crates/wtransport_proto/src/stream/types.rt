@@ -1,13 +1,23 @@
 //! Kinds and states of streams.
-ghost use Rattle.std.specs.Prelude.{◌≡◌, true};
+
+use wtp_core::ids::SessionId;
+use wtp_fields::session::SessionRequest;
 
 /// Both ends send.
 #[derive(Debug, Drop)]
 pub struct Bi;
 
+/// One end sends.
+#[derive(Debug, Drop)]
+pub struct Uni;
+
 /// The peer opened it.
 #[derive(Debug, Drop)]
 pub struct Remote;
+
+/// This end opened it.
+#[derive(Debug, Drop)]
+pub struct Local;
 
 /// A stream in both directions that the peer opened.
 #[derive(Debug, Drop)]
@@ -19,22 +29,56 @@ impl Default for BiRemote {
     }
 }
 
+/// A stream in both directions that this end opened.
+#[derive(Drop)]
+pub struct BiLocal(Bi, Local);
+
+impl Default for BiLocal {
+    fn default() -> Self {
+        BiLocal(Bi, Local)
+    }
+}
+
+/// A stream in one direction that the peer opened.
+#[derive(Drop)]
+pub struct UniRemote(Uni, Remote);
+
+impl Default for UniRemote {
+    fn default() -> Self {
+        UniRemote(Uni, Remote)
+    }
+}
+
+/// A stream in one direction that this end opened.
+#[derive(Drop)]
+pub struct UniLocal(Uni, Local);
+
+impl Default for UniLocal {
+    fn default() -> Self {
+        UniLocal(Uni, Local)
+    }
+}
+
 /// A stream of QUIC, of which nothing was read or written yet.
 #[derive(Drop)]
 pub struct Quic;
 
-/// A stream of HTTP/3.
+/// A stream of HTTP/3. `H` is `StreamHeader` where the stream goes in one direction, which begins
+/// with a header (RFC 9114, section 6.2), and `()` where it goes in both.
 #[derive(Drop)]
-pub struct H3 {
+pub struct H3<H = ()> {
+    pub(crate) header: H,
     pub(crate) first_frame_done: bool,
 }
 
-impl H3 {
-    /// Notes that a frame was read, and tells whether one was before.
-    pub(crate) fn set_first_frame(&mut self) -> bool
-        ensures before { result ≡ self.old.first_frame_done }
-        ensures after { self.new.first_frame_done ≡ true }
-    {
-        std::mem::replace(&mut self.first_frame_done, true)
-    }
+/// A stream of a WebTransport session.
+#[derive(Drop)]
+pub struct WT {
+    pub(crate) session_id: SessionId,
+}
+
+/// A stream of HTTP/3 that carries the request for a session, the response, and what follows them.
+#[derive(Debug, Drop)]
+pub struct Session {
+    pub(crate) session_request: SessionRequest,
 }

@@ -1,7 +1,7 @@
 use Rattle.std.proofs.Common.{refl, ◌∙◌}
 use Rattle.wtp_wire.proofs.FrontLemmas.{unknown-shorter}
 use Rattle.wtransport_proto.proofs.ReadingLemmas.{passes-none, passes-one, known-ok, known-bad, known-big}
-use Rattle.wtransport_proto.proofs.stream.read_known.Goals as goal
+use Rattle.wtransport_proto.proofs.stream.reading.read_known.Goals as goal
 
 pub returns-in-Ok-clause-answer : goal.returns-in-Ok-clause-answer
 returns-in-Ok-clause-answer g c = known-ok _ (g.R.BytesReader.left c.frames.reader) _ c.in-Ok.found c.frames.invariant.0.known c.in-Ok.ensures.answer

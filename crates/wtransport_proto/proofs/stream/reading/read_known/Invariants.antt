@@ -1,6 +1,6 @@
 use Rattle.std.proofs.Common.{◌≡◌, length}
 use Rattle.wtransport_proto.proofs.ReadingLemmas.{Passes}
-use Rattle.wtransport_proto.proofs.stream.read_known.Given as goal
+use Rattle.wtransport_proto.proofs.stream.reading.read_known.Given as goal
 
 abbrev pub invariant-frames : goal.invariant-frames
 invariant-frames g l = Passes (g.R.BytesReader.left l.fn.reader) (g.R.BytesReader.left l.reader) × (g.R.BytesReader.kept l.reader ≡ g.R.BytesReader.kept l.fn.reader)

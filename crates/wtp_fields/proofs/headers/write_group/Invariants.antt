@@ -1,0 +1,7 @@
+use Rattle.std.proofs.Common.{◌≡◌, ◌++◌, map}
+use Rattle.wtp_fields.specs.Field.{held, held_field}
+use Rattle.wtp_fields.specs.Headers.{group_lines}
+use Rattle.wtp_fields.proofs.headers.write_group.Given as goal
+
+abbrev pub invariant-loop-name : goal.invariant-loop-name
+invariant-loop-name l = l.out.items ++ group_lines l.pseudo (map held_field l.name-iterator) ≡ l.fn.out.items ++ group_lines l.pseudo (held l.fields)

@@ -1,0 +1,127 @@
+-- The request for a session: an extended CONNECT request (RFC 9220, section 3; WebTransport over HTTP/3, "Creating a New
+-- Session"), as a header map.
+use Rattle.std.specs.Prelude.{ℕ, ◌++◌, if◌then◌else◌, Bool, List, [], ◌∷◌, codes, Option, Some, None, Result, Ok, Err, not, is_some, unwrap_or, option_map, decimal}
+use Rattle.std.specs.List.{list_any}
+use Rattle.std.specs.Str.{bytes_eq}
+use Rattle.url.specs.Parts.{Parts, has_credentials, host_or_empty}
+use Rattle.url.specs.Host.{host_text}
+use Rattle.url.specs.Input.{is_empty, when}
+use Rattle.url.specs.Parser.{Parsed}
+use Rattle.url.specs.declared.error.ParseError.{ParseError}
+use Rattle.url.specs.declared.error.ParseError.TheVariants as parsing
+use Rattle.wtp_core.specs.declared.error.ErrorCode.TheVariants.{FrameUnexpected, Message}
+use Rattle.wtp_core.specs.declared.error.Refused.{Refused}
+use Rattle.wtp_core.specs.declared.error.Refused.TheVariants.{Code}
+use Rattle.wtp_wire.specs.Content.{Content, DataOf, HeadersOf, SettingsOf, WebTransportOf, ExerciseOf}
+use Rattle.wtp_fields.specs.declared.session.HeadersParseError.{HeadersParseError}
+use Rattle.wtp_fields.specs.declared.session.HeadersParseError.TheVariants.{MissingMethod, MethodNotConnect, MissingScheme, SchemeNotHttps, MissingProtocol, ProtocolNotWebTransport, MissingAuthority, MissingPath}
+use Rattle.wtp_fields.specs.declared.session.request.UrlParseError.{UrlParseError}
+use Rattle.wtp_fields.specs.declared.session.request.UrlParseError.TheVariants as answered
+use Rattle.wtp_fields.specs.Field.{Field, field_map, value_of}
+use Rattle.wtp_fields.specs.Headers.{headers_at}
+
+-- ---- the fields that a request must have
+
+abbrev pub reserved_names : List (List ℕ)
+reserved_names = codes ":method" ∷ codes ":scheme" ∷ codes ":protocol" ∷ codes ":authority" ∷ codes ":path" ∷ []
+
+-- the name is that of one of the five
+abbrev pub is_reserved : List ℕ → Bool
+is_reserved name = list_any (λ reserved. bytes_eq reserved name) reserved_names
+
+-- the fault of a field that must have this value
+abbrev pub fault_unless : List ℕ → HeadersParseError → HeadersParseError → Option (List ℕ) → Option HeadersParseError
+fault_unless text missing other None = Some missing
+fault_unless text missing other (Some value) = if bytes_eq value text then None else Some other
+
+-- the fault of a field that must have a value
+abbrev pub fault_without : HeadersParseError → Option (List ℕ) → Option HeadersParseError
+fault_without missing None = Some missing
+fault_without missing (Some value) = None
+
+abbrev pub first_fault : List (Option HeadersParseError) → Option HeadersParseError
+first_fault [] = None
+first_fault (Some fault ∷ faults) = Some fault
+first_fault (None ∷ faults) = first_fault faults
+
+-- the first fault of the fields of a request, in this order
+unfoldable pub fault_of : List Field → Option HeadersParseError
+fault_of m = first_fault (
+    fault_unless (codes "CONNECT") MissingMethod MethodNotConnect (value_of (codes ":method") m)
+    ∷ fault_unless (codes "https") MissingScheme SchemeNotHttps (value_of (codes ":scheme") m)
+    ∷ fault_unless (codes "webtransport") MissingProtocol ProtocolNotWebTransport (value_of (codes ":protocol") m)
+    ∷ fault_without MissingAuthority (value_of (codes ":authority") m)
+    ∷ fault_without MissingPath (value_of (codes ":path") m)
+    ∷ [])
+
+-- ---- the request for a URL
+
+-- the user part: user name and password, and what parts them from the host (RFC 3986, section 3.2.1)
+abbrev pub user_part : Parts → List ℕ
+user_part url = url.username ++ (when (not (is_empty url.password)) (codes ":") ++ (url.password ++ when (has_credentials url) (codes "@")))
+
+-- the port, if the URL has one: that is never the default of its scheme
+abbrev pub port_part : Parts → List ℕ
+port_part url = when (is_some url.port) (codes ":") ++ unwrap_or (option_map decimal url.port) []
+
+-- the authority (RFC 3986, section 3.2)
+unfoldable pub authority_of : Parts → List ℕ
+authority_of url = user_part url ++ (host_text (host_or_empty url) ++ port_part url)
+
+-- the path, and the query behind it if there is one
+abbrev pub with_query : List ℕ → Option (List ℕ) → List ℕ
+with_query path None = path
+with_query path (Some query) = path ++ 63 ∷ query
+
+-- the map of the five fields
+unfoldable pub five_fields : List ℕ → List ℕ → List Field
+five_fields authority path = field_map (
+    (codes ":method", codes "CONNECT")
+    ∷ (codes ":scheme", codes "https")
+    ∷ (codes ":protocol", codes "webtransport")
+    ∷ (codes ":authority", authority)
+    ∷ (codes ":path", path)
+    ∷ [])
+
+-- the request for a URL
+unfoldable pub request_for : Parts → Result (List Field) UrlParseError
+request_for url = if bytes_eq url.scheme (codes "https") then Ok (five_fields (authority_of url) (with_query url.path url.query)) else Err answered.SchemeNotHttps
+
+-- the error of the same name
+abbrev pub renamed : ParseError → UrlParseError
+renamed parsing.EmptyHost = answered.EmptyHost
+renamed parsing.IdnaError = answered.IdnaError
+renamed parsing.InvalidPort = answered.InvalidPort
+renamed parsing.InvalidIpv4Address = answered.InvalidIpv4Address
+renamed parsing.InvalidIpv6Address = answered.InvalidIpv6Address
+renamed parsing.InvalidDomainCharacter = answered.InvalidDomainCharacter
+renamed parsing.RelativeUrlWithoutBase = answered.RelativeUrlWithoutBase
+renamed parsing.RelativeUrlWithCannotBeABaseBase = answered.RelativeUrlWithCannotBeABaseBase
+renamed parsing.SetHostOnCannotBeABaseUrl = answered.SetHostOnCannotBeABaseUrl
+renamed parsing.Overflow = answered.Overflow
+renamed parsing.CannotSet = answered.Unknown
+renamed parsing.OutOfMemory = answered.Memory
+
+-- the request for a URL that was read from a text, or why there is none
+abbrev pub request_at : Parsed Parts → Result (List Field) UrlParseError
+request_at (Err fault) = Err (renamed fault)
+request_at (Ok url) = request_for url
+
+-- ---- the request that a frame says
+
+-- a request with a fault is a malformed message (RFC 9114, section 4.1.2)
+abbrev pub or_message : Option HeadersParseError → List Field → Result (List Field) Refused
+or_message None m = Ok m
+or_message (Some fault) m = Err (Code Message)
+
+abbrev pub request_of : Result (List Field) Refused → Result (List Field) Refused
+request_of (Ok m) = or_message (fault_of m) m
+request_of (Err refused) = Err refused
+
+-- the request that a frame says, or the error code for what stands in its place
+abbrev pub request_in : Content → Result (List Field) Refused
+request_in (HeadersOf payload) = request_of (headers_at payload)
+request_in (DataOf payload) = Err (Code FrameUnexpected)
+request_in (SettingsOf payload) = Err (Code FrameUnexpected)
+request_in (WebTransportOf id) = Err (Code FrameUnexpected)
+request_in (ExerciseOf number payload) = Err (Code FrameUnexpected)

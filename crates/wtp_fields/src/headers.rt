@@ -1,0 +1,166 @@
+//! Header maps, and the HEADERS frames that say them (RFC 9114, section 7.2.2).
+ghost use Rattle.std.specs.Prelude.{◌≡◌, ℕ, ◌≤◌, ◌^◌, ◌++◌, List, [], length, Bool, OnOk, OnErr, IfOk, IfErr, IsOk, Err, map};
+ghost use Rattle.std.specs.Borrow.{Bor};
+ghost use Rattle.std.specs.Option.{option_copied};
+ghost use Rattle.std.specs.Iterator.{IsFinite, Drains};
+ghost use Rattle.wtp_wire.specs.Content.{payload_in, kind_in, HeadersOf};
+ghost use Rattle.wtp_fields.specs.Field.{IsMap, AreTexts, put, field_map, value_of, held, lent};
+ghost use Rattle.wtp_fields.specs.Headers.{payload, headers_at, GivesUnlessRefused, BeginsLine, begins_with_colon, group_lines};
+
+use crate::qpack::{Decoder, DecodingError, field_line};
+use std::alloc::{AllocError, Global};
+use std::borrow::CowSlice;
+use std::collections::BTreeMap;
+use std::marker::Model;
+use wtp_core::error::{ErrorCode, Refused};
+use wtp_core::varint::VarInt;
+use wtp_wire::frame::{Frame, FrameKind, FrameOwned, GenerateError};
+
+/// A map of header fields: of each name one value, both UTF-8 texts.
+#[derive(Debug, Drop)]
+pub struct Headers {
+    fields: BTreeMap<String, String>,
+    // where the texts of later fields are kept
+    alloc: Global,
+}
+
+// Contracts see the fields, names and values as bytes, in the order of the names' bytes.
+impl Model for Headers {
+    ghost use Rattle.std.specs.Prelude.{List};
+    ghost use Rattle.wtp_fields.specs.Field.{Field, held};
+
+    ghost Value = { List Field };
+
+    ghost view = { λ h. held h.fields };
+}
+
+impl Headers {
+    /// The empty map.
+    pub(crate) fn new(alloc: Global) -> Self
+        ensures { result ≡ [] }
+    {
+        Headers {
+            fields: BTreeMap::new(alloc),
+            alloc,
+        }
+    }
+
+    /// Where the texts of later fields are kept.
+    pub(crate) fn allocator(&self) -> Global {
+        self.alloc
+    }
+
+    /// The map of the field section that is the frame's payload. The last value of a name wins.
+    ///
+    /// Every fault of the section is [`ErrorCode::Decompression`]. Memory is refused only where a
+    /// field line begins behind good ones.
+    pub fn with_frame(alloc: Global, frame: &Frame<'_>) -> Result<Self, Refused>
+        requires { kind_in frame.now ≡ FrameKind.Headers }
+        ensures read { GivesUnlessRefused result (headers_at (payload_in frame.now)) }
+        ensures memory { result ≡ Err Refused.Memory → BeginsLine (payload_in frame.now) }
+    {
+        match Decoder::decode(alloc, frame.payload()) {
+            Ok(fields) => Ok(Headers { fields, alloc }),
+            Err(DecodingError::Memory) => Err(Refused::Memory),
+            Err(_) => Err(Refused::Code(ErrorCode::Decompression)),
+        }
+    }
+
+    /// A HEADERS frame of the map, whose payload the map determines: pseudo-header fields, whose
+    /// names begin with a colon, stand first, and each group is in the order of the names' bytes.
+    pub fn generate_frame(&self, alloc: Global) -> Result<FrameOwned, GenerateError>
+        ensures frame { IfOk result (λ frame. frame ≡ HeadersOf (payload self.now)) }
+        ensures too_long { result ≡ Err GenerateError.PayloadTooLong → 2 ^ 62 ≤ length (payload self.now) }
+    {
+        let Ok(payload) = written(alloc, &self.fields) else {
+            return Err(GenerateError::Memory);
+        };
+        if payload.len() as u64 > VarInt::MAX.into_inner() {
+            return Err(GenerateError::PayloadTooLong);
+        }
+        Ok(Frame::new_headers(CowSlice::Owned(payload)))
+    }
+
+    /// The value of a name.
+    pub fn get(&self, name: &str) -> Option<&str>
+        ensures { option_copied result ≡ value_of name.now self.now }
+    {
+        match self.fields.get(name) {
+            Some(value) => Some(value.as_str()),
+            None => None,
+        }
+    }
+
+    /// Gives a name this value, in place of the one that it had. On an error nothing is changed.
+    pub fn insert(&mut self, name: &str, value: &str) -> Result<(), AllocError>
+        ensures ok { OnOk result (self.new ≡ put self.old (name.now, value.now)) }
+        ensures err { OnErr result (self.new ≡ self.old) }
+    {
+        let name = String::from_str(self.alloc, name)?;
+        let value = String::from_str(self.alloc, value)?;
+        self.fields.insert(name, value)?;
+        Ok(())
+    }
+
+    /// The map of the pairs of a name and a value. The last value of a name wins.
+    pub fn from_iter<'a, I: Iterator<Item = (&'a str, &'a str)> + Drop>(
+        alloc: Global,
+        pairs: I,
+    ) -> Result<Self, AllocError>
+        requires can { I.can_next pairs }
+        requires finite { IsFinite (I.remaining pairs) }
+        ensures { IfOk result (λ headers. (ps : List (Bor (List ℕ) × Bor (List ℕ))) × Drains I.next_gives pairs ps × (headers ≡ field_map (lent ps))) }
+    {
+        let mut headers = Headers::new(alloc);
+        for (name, value) in pairs {
+            headers.insert(name, value)?;
+        }
+        Ok(headers)
+    }
+
+    /// The fields by their names.
+    pub fn as_ref(&self) -> &BTreeMap<String, String>
+        ensures fields { held result.now ≡ self.now }
+        ensures ordered { IsMap self.now }
+        ensures texts { AreTexts self.now }
+    {
+        let _len = self.fields.len();
+        &self.fields
+    }
+}
+
+/// Whether a name is that of a pseudo-header field.
+fn is_pseudo(name: &str) -> bool
+    ensures { result ≡ begins_with_colon name.now }
+{
+    name.as_bytes().first() == Some(&b':')
+}
+
+/// Appends the lines of the pseudo-header fields, or of the others.
+fn write_group(
+    alloc: Global,
+    out: &mut Vec<u8>,
+    fields: &BTreeMap<String, String>,
+    pseudo: bool,
+) -> Result<(), AllocError>
+    ensures { OnOk result (out.new.items ≡ out.old.items ++ group_lines pseudo (held fields.now)) }
+{
+    for (name, value) in fields {
+        if is_pseudo(name.as_str()) == pseudo {
+            field_line::write(alloc, out, name.as_str(), value.as_str())?;
+        }
+    }
+    Ok(())
+}
+
+/// The payload of a map.
+#[tactic(auto, unfolding(crate::specs::Headers::payload))]
+fn written(alloc: Global, fields: &BTreeMap<String, String>) -> Result<Vec<u8>, AllocError>
+    ensures { IfOk result (λ v. v.items ≡ payload (held fields.now)) }
+{
+    let mut out = Vec::new(alloc);
+    out.extend_from_slice(&[0, 0])?;
+    write_group(alloc, &mut out, fields, true)?;
+    write_group(alloc, &mut out, fields, false)?;
+    Ok(out)
+}

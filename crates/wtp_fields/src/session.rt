@@ -1,0 +1,85 @@
+//! What the two sides of a session say first: the request for it, and the response.
+ghost use Rattle.std.specs.Prelude.{◌≡◌, Err};
+ghost use Rattle.wtp_wire.specs.Content.{kind_in, payload_in};
+ghost use Rattle.wtp_fields.specs.Headers.{GivesUnlessRefused, BeginsLine};
+ghost use Rattle.wtp_fields.specs.SessionRequest.{request_in};
+
+mod request;
+mod response;
+
+pub use request::{InsertError, ReservedHeader, SessionRequest, UrlParseError};
+pub use response::{AddError, SessionResponse};
+
+use crate::headers::Headers;
+use std::alloc::{AllocError, Global};
+use thiserror::Error;
+use wtp_core::error::{ErrorCode, Refused};
+use wtp_wire::frame::{Frame, FrameKind};
+
+/// Why a header map is no request or no response.
+#[derive(Debug, Drop, PartialEq, Eq, Error)]
+pub enum HeadersParseError {
+    /// A request without `:method`.
+    #[error("':method' field is missing")]
+    MissingMethod,
+    /// A request whose `:method` is not `CONNECT`.
+    #[error("':method' is not CONNECT")]
+    MethodNotConnect,
+    /// A request without `:scheme`.
+    #[error("':scheme' field is missing")]
+    MissingScheme,
+    /// A request whose `:scheme` is not `https`.
+    #[error("':scheme' is not 'https'")]
+    SchemeNotHttps,
+    /// A request without `:protocol`.
+    #[error("':protocol' field is missing")]
+    MissingProtocol,
+    /// A request whose `:protocol` is not `webtransport`.
+    #[error("':protocol' is not 'webtransport'")]
+    ProtocolNotWebTransport,
+    /// A request without `:authority`.
+    #[error("':authority' field is missing")]
+    MissingAuthority,
+    /// A request without `:path`.
+    #[error("':path' field is missing")]
+    MissingPath,
+    /// A response without `:status`.
+    #[error("':status' field is missing")]
+    MissingStatusCode,
+    /// A response whose `:status` is no status code from 100 to 599.
+    #[error("invalid HTTP status code")]
+    InvalidStatusCode,
+    /// No memory.
+    #[error("no memory")]
+    Memory,
+}
+
+impl From<AllocError> for HeadersParseError {
+    ghost use Rattle.std.specs.Prelude.{◌≡◌};
+    ghost use Rattle.wtp_fields.specs.declared.session.HeadersParseError.TheVariants.{Memory};
+
+    ghost from_gives = { λ _ e. e ≡ Memory };
+
+    fn from(_e: AllocError) -> HeadersParseError {
+        HeadersParseError::Memory
+    }
+}
+
+/// The request that a frame says.
+///
+/// A frame of another kind than HEADERS is [`ErrorCode::FrameUnexpected`], a payload that is no field
+/// section [`ErrorCode::Decompression`], and a header map that is no request [`ErrorCode::Message`].
+/// Memory is refused only where a field line begins behind good ones.
+pub fn request_of_frame(alloc: Global, frame: &Frame<'_>) -> Result<SessionRequest, Refused>
+    ensures read { GivesUnlessRefused result (request_in frame.now) }
+    ensures memory { result ≡ Err Refused.Memory → (kind_in frame.now ≡ FrameKind.Headers) × BeginsLine (payload_in frame.now) }
+{
+    let FrameKind::Headers = frame.kind() else {
+        return Err(Refused::Code(ErrorCode::FrameUnexpected));
+    };
+    let headers = Headers::with_frame(alloc, frame)?;
+    match SessionRequest::try_from(headers) {
+        Ok(request) => Ok(request),
+        Err(_) => Err(Refused::Code(ErrorCode::Message)),
+    }
+}

@@ -1,0 +1,337 @@
+//! The request for a session.
+ghost use Rattle.std.specs.Prelude.{◌≡◌, ◌≢◌, ◌⊎◌, ◌↔◌, MatchResult, None, Some, Ok, Err, OnOk, OnErr, IfOk, IsTrue, IsErrOf, codes, string_bytes};
+ghost use Rattle.std.specs.Option.{option_copied};
+ghost use Rattle.url.specs.Parser.{parse_url};
+ghost use Rattle.wtp_fields.specs.Field.{put, value_of};
+ghost use Rattle.wtp_fields.specs.SessionRequest.{is_reserved, fault_of, fault_unless, fault_without, authority_of, with_query, five_fields, request_for, request_at, renamed};
+ghost use Rattle.wtp_fields.specs.declared.session.request.UrlParseError.TheVariants as answered;
+
+use super::HeadersParseError;
+use crate::headers::Headers;
+use std::alloc::{AllocError, Global};
+use std::marker::Model;
+use thiserror::Error;
+use url::{ParseError, Url};
+
+/// Why there is no request for a text that should be a URL.
+#[derive(Debug, Drop, PartialEq, Eq, Error)]
+pub enum UrlParseError {
+    /// The URL has no host.
+    #[error("host is missing in the URL")]
+    EmptyHost,
+    /// The host is no international domain name.
+    #[error("invalid international domain name")]
+    IdnaError,
+    /// The port is no number below 2^16.
+    #[error("invalid port number")]
+    InvalidPort,
+    /// The host ends in a number and is no IPv4 address.
+    #[error("invalid IPv4 address")]
+    InvalidIpv4Address,
+    /// The host stands in brackets and is no IPv6 address.
+    #[error("invalid IPv6 address")]
+    InvalidIpv6Address,
+    /// The host has a character that no domain has.
+    #[error("invalid domain character")]
+    InvalidDomainCharacter,
+    /// The text has no scheme.
+    #[error("relative URL without a base")]
+    RelativeUrlWithoutBase,
+    /// The text is relative to a URL that is no base. It does not come here, since no base is given.
+    #[error("relative URL with a cannot-be-a-base base")]
+    RelativeUrlWithCannotBeABaseBase,
+    /// A host for a URL that has none. It does not come here, since no host is set.
+    #[error("a cannot-be-a-base URL doesn’t have a host to set")]
+    SetHostOnCannotBeABaseUrl,
+    /// The URL has 4 GB or more.
+    #[error("URLs more than 4 GB are not supported")]
+    Overflow,
+    /// Another fault of the URL.
+    #[error("unknown error during URL parsing")]
+    Unknown,
+    /// The URL's scheme is not `https`.
+    #[error("URL scheme is not 'https'")]
+    SchemeNotHttps,
+    /// No memory.
+    #[error("no memory")]
+    Memory,
+}
+
+impl From<AllocError> for UrlParseError {
+    ghost from_gives = { λ _ e. e ≡ answered.Memory };
+
+    fn from(_e: AllocError) -> UrlParseError {
+        UrlParseError::Memory
+    }
+}
+
+impl From<ParseError> for UrlParseError {
+    ghost from_gives = { λ fault e. e ≡ renamed fault };
+
+    fn from(fault: ParseError) -> UrlParseError {
+        match fault {
+            ParseError::EmptyHost => UrlParseError::EmptyHost,
+            ParseError::IdnaError => UrlParseError::IdnaError,
+            ParseError::InvalidPort => UrlParseError::InvalidPort,
+            ParseError::InvalidIpv4Address => UrlParseError::InvalidIpv4Address,
+            ParseError::InvalidIpv6Address => UrlParseError::InvalidIpv6Address,
+            ParseError::InvalidDomainCharacter => UrlParseError::InvalidDomainCharacter,
+            ParseError::RelativeUrlWithoutBase => UrlParseError::RelativeUrlWithoutBase,
+            ParseError::RelativeUrlWithCannotBeABaseBase => {
+                UrlParseError::RelativeUrlWithCannotBeABaseBase
+            }
+            ParseError::SetHostOnCannotBeABaseUrl => UrlParseError::SetHostOnCannotBeABaseUrl,
+            ParseError::Overflow => UrlParseError::Overflow,
+            ParseError::CannotSet => UrlParseError::Unknown,
+            ParseError::OutOfMemory => UrlParseError::Memory,
+        }
+    }
+}
+
+/// The name is that of a field that a request sets by itself.
+#[derive(Debug, Drop, PartialEq, Eq, Error)]
+#[error("used reserved header")]
+pub struct ReservedHeader;
+
+/// Why a field was not put into a request.
+#[derive(Debug, Drop, PartialEq, Eq, Error)]
+pub enum InsertError {
+    /// The name is one of [`SessionRequest::RESERVED_HEADERS`].
+    #[error("{0}")]
+    Reserved(ReservedHeader),
+    /// No memory.
+    #[error("no memory")]
+    Memory,
+}
+
+impl From<AllocError> for InsertError {
+    ghost use Rattle.std.specs.Prelude.{◌≡◌};
+    ghost use Rattle.wtp_fields.specs.declared.session.request.InsertError.TheVariants.{Memory};
+
+    ghost from_gives = { λ _ e. e ≡ Memory };
+
+    fn from(_e: AllocError) -> InsertError {
+        InsertError::Memory
+    }
+}
+
+/// The request for a session: an extended CONNECT request (RFC 9220, section 3) for WebTransport.
+#[derive(Debug, Drop)]
+pub struct SessionRequest {
+    headers: Headers,
+}
+
+// Contracts see a request as its header map, which has no fault.
+impl Model for SessionRequest {
+    ghost use Rattle.std.specs.Prelude.{◌≡◌, List, None};
+    ghost use Rattle.wtp_fields.specs.Field.{Field};
+    ghost use Rattle.wtp_fields.specs.SessionRequest.{fault_of};
+
+    ghost Value = { List Field };
+
+    ghost view = { λ request. request.headers };
+
+    ghost invariant = { λ request. fault_of request.headers ≡ None };
+}
+
+impl SessionRequest {
+    /// The names of the fields that a request sets by itself.
+    pub const RESERVED_HEADERS: &'static [&'static str] = &[
+        ":method",
+        ":scheme",
+        ":protocol",
+        ":authority",
+        ":path",
+    ];
+
+    /// The request for the session at a URL, whose scheme is `https`.
+    ///
+    /// `:authority` has the URL's user part, host, and port where it is not the default, and `:path`
+    /// its path and query. A fault of the URL is answered by the error of its name. `Overflow` may
+    /// come of a URL of 4 GB or more.
+    pub fn new(alloc: Global, url: &str) -> Result<Self, UrlParseError>
+        ensures { MatchResult result (λ request. request_at (parse_url None url.now) ≡ Ok request)
+            (λ e. (request_at (parse_url None url.now) ≡ Err e) ⊎ ((e ≡ answered.Memory) ⊎ (e ≡ answered.Overflow))) }
+    {
+        let url = Url::parse(alloc, url)?;
+        Self::for_url(alloc, &url)
+    }
+
+    /// The request for the session at a URL.
+    #[tactic(auto, unfolding(crate::specs::SessionRequest::request_for))]
+    fn for_url(alloc: Global, url: &Url) -> Result<Self, UrlParseError>
+        ensures { MatchResult result (λ request. request_for url.now ≡ Ok request) (λ e. e ≢ answered.Memory → request_for url.now ≡ Err e) }
+    {
+        if url.scheme() != "https" {
+            return Err(UrlParseError::SchemeNotHttps);
+        }
+        let path = path_with_query(alloc, url.path(), url.query())?;
+        let headers = five_fields(alloc, authority(url), path.as_str())?;
+        Ok(SessionRequest { headers })
+    }
+
+    /// The field `:authority`.
+    pub fn authority(&self) -> &str
+        ensures { value_of (codes ":authority") self.now ≡ Some result.now }
+    {
+        self.headers.get(":authority").unwrap()
+    }
+
+    /// The field `:path`.
+    pub fn path(&self) -> &str
+        ensures { value_of (codes ":path") self.now ≡ Some result.now }
+    {
+        self.headers.get(":path").unwrap()
+    }
+
+    /// The field `origin`.
+    pub fn origin(&self) -> Option<&str>
+        ensures { option_copied result ≡ value_of (codes "origin") self.now }
+    {
+        self.headers.get("origin")
+    }
+
+    /// The field `user-agent`.
+    pub fn user_agent(&self) -> Option<&str>
+        ensures { option_copied result ≡ value_of (codes "user-agent") self.now }
+    {
+        self.headers.get("user-agent")
+    }
+
+    /// The value of a field.
+    pub fn get(&self, name: &str) -> Option<&str>
+        ensures { option_copied result ≡ value_of name.now self.now }
+    {
+        self.headers.get(name)
+    }
+
+    /// Gives a field this value, in place of the one that it had. On an error nothing is changed.
+    ///
+    /// The names of [`Self::RESERVED_HEADERS`] are refused, before memory is asked for.
+    pub fn insert(&mut self, name: &str, value: &str) -> Result<(), InsertError>
+        ensures ok { OnOk result (self.new ≡ put self.old (name.now, value.now)) }
+        ensures reserved { IsErrOf result (InsertError.Reserved (record {})) ↔ IsTrue (is_reserved name.now) }
+        ensures err { OnErr result (self.new ≡ self.old) }
+    {
+        if Self::RESERVED_HEADERS.contains(&name) {
+            return Err(InsertError::Reserved(ReservedHeader));
+        }
+        self.headers.insert(name, value)?;
+        Ok(())
+    }
+
+    /// Its header map.
+    pub fn headers(&self) -> &Headers
+        ensures headers { result.now ≡ self.now }
+        ensures faultless { fault_of self.now ≡ None }
+    {
+        &self.headers
+    }
+}
+
+impl TryFrom<Headers> for SessionRequest {
+    type Error = HeadersParseError;
+
+    ghost try_from_gives = { λ headers result. MatchResult result (λ request. (fault_of headers ≡ None) × (request ≡ headers)) (λ fault. fault_of headers ≡ Some fault) };
+
+    /// The request of a header map that has no fault, or the first fault in the order of
+    /// [`HeadersParseError`].
+    fn try_from(headers: Headers) -> Result<Self, HeadersParseError> {
+        check(&headers)?;
+        Ok(SessionRequest { headers })
+    }
+}
+
+/// Answers the fault of a field that must have this value.
+fn expect_value(
+    headers: &Headers,
+    name: &str,
+    text: &str,
+    missing: HeadersParseError,
+    other: HeadersParseError,
+) -> Result<(), HeadersParseError>
+    ensures { MatchResult result (λ _. fault_unless text.now missing other (value_of name.now headers.now) ≡ None) (λ fault. fault_unless text.now missing other (value_of name.now headers.now) ≡ Some fault) }
+{
+    match headers.get(name) {
+        None => Err(missing),
+        Some(value) if value == text => Ok(()),
+        Some(_) => Err(other),
+    }
+}
+
+/// Answers the fault of a field that must have a value.
+fn expect_field(
+    headers: &Headers,
+    name: &str,
+    missing: HeadersParseError,
+) -> Result<(), HeadersParseError>
+    ensures { MatchResult result (λ _. fault_without missing (value_of name.now headers.now) ≡ None) (λ fault. fault_without missing (value_of name.now headers.now) ≡ Some fault) }
+{
+    match headers.get(name) {
+        None => Err(missing),
+        Some(_) => Ok(()),
+    }
+}
+
+/// Answers the first fault of a request's fields.
+#[tactic(auto, unfolding(crate::specs::SessionRequest::fault_of))]
+fn check(headers: &Headers) -> Result<(), HeadersParseError>
+    ensures { MatchResult result (λ _. fault_of headers.now ≡ None) (λ fault. fault_of headers.now ≡ Some fault) }
+{
+    expect_value(
+        headers,
+        ":method",
+        "CONNECT",
+        HeadersParseError::MissingMethod,
+        HeadersParseError::MethodNotConnect,
+    )?;
+    expect_value(
+        headers,
+        ":scheme",
+        "https",
+        HeadersParseError::MissingScheme,
+        HeadersParseError::SchemeNotHttps,
+    )?;
+    expect_value(
+        headers,
+        ":protocol",
+        "webtransport",
+        HeadersParseError::MissingProtocol,
+        HeadersParseError::ProtocolNotWebTransport,
+    )?;
+    expect_field(headers, ":authority", HeadersParseError::MissingAuthority)?;
+    expect_field(headers, ":path", HeadersParseError::MissingPath)
+}
+
+/// The authority of a URL.
+fn authority(url: &Url) -> &str
+    ensures { result.now ≡ authority_of url.now }
+{
+    url.authority()
+}
+
+/// The path, and the query behind it.
+fn path_with_query(alloc: Global, path: &str, query: Option<&str>) -> Result<String, AllocError>
+    ensures { IfOk result (λ text. string_bytes text ≡ with_query path.now (option_copied query.entry)) }
+{
+    let mut text = String::from_str(alloc, path)?;
+    if let Some(query) = query {
+        text.push('?')?;
+        text.push_str(query)?;
+    }
+    Ok(text)
+}
+
+/// The map of the five fields of a request.
+#[tactic(auto, unfolding(crate::specs::SessionRequest::five_fields, crate::specs::Field::field_map))]
+fn five_fields(alloc: Global, authority: &str, path: &str) -> Result<Headers, AllocError>
+    ensures { IfOk result (λ headers. headers ≡ five_fields authority.now path.now) }
+{
+    let mut headers = Headers::new(alloc);
+    headers.insert(":method", "CONNECT")?;
+    headers.insert(":scheme", "https")?;
+    headers.insert(":protocol", "webtransport")?;
+    headers.insert(":authority", authority)?;
+    headers.insert(":path", path)?;
+    Ok(headers)
+}

@@ -1,0 +1,147 @@
+//! The response to the request for a session.
+ghost use Rattle.std.specs.Prelude.{◌≡◌, ◌↔◌, Some, OnOk, OnErr, IfOk, IsErrOf, codes, option_map};
+ghost use Rattle.wtp_core.specs.Ids.{IsStatus, IsStatusText, status_in};
+ghost use Rattle.wtp_fields.specs.Field.{put};
+ghost use Rattle.wtp_fields.specs.SessionResponse.{status_of, HasStatus, status_alone, ByStatus};
+
+use super::HeadersParseError;
+use crate::headers::Headers;
+use std::alloc::{AllocError, Global};
+use std::marker::Model;
+use thiserror::Error;
+use wtp_core::ids::StatusCode;
+
+/// Why a field was not put into a response.
+#[derive(Debug, Drop, PartialEq, Eq, Error)]
+pub enum AddError {
+    /// A `:status` that is no status code from 100 to 599.
+    #[error("invalid HTTP status code")]
+    InvalidStatusCode,
+    /// No memory.
+    #[error("no memory")]
+    Memory,
+}
+
+impl From<AllocError> for AddError {
+    ghost use Rattle.std.specs.Prelude.{◌≡◌};
+    ghost use Rattle.wtp_fields.specs.declared.session.response.AddError.TheVariants.{Memory};
+
+    ghost from_gives = { λ _ e. e ≡ Memory };
+
+    fn from(_e: AllocError) -> AddError {
+        AddError::Memory
+    }
+}
+
+/// The response to the request for a session: its status code, and what else the server says.
+#[derive(Drop)]
+pub struct SessionResponse {
+    headers: Headers,
+}
+
+// Contracts see a response as its header map, which has a status.
+impl Model for SessionResponse {
+    ghost use Rattle.std.specs.Prelude.{List};
+    ghost use Rattle.wtp_fields.specs.Field.{Field};
+    ghost use Rattle.wtp_fields.specs.SessionResponse.{HasStatus};
+
+    ghost Value = { List Field };
+
+    ghost view = { λ response. response.headers };
+
+    ghost invariant = { λ response. HasStatus response.headers };
+}
+
+impl SessionResponse {
+    /// The response with this status code.
+    pub fn with_status_code(alloc: Global, status_code: StatusCode) -> Result<Self, AllocError>
+        ensures { IfOk result (λ response. response ≡ status_alone status_code) }
+    {
+        let code = status_code.into_inner();
+        let text = format!(in alloc; "{code}")?;
+        let mut headers = Headers::new(alloc);
+        headers.insert(":status", text.as_str())?;
+        Ok(SessionResponse { headers })
+    }
+
+    /// The response 200 (OK): the session is accepted.
+    pub fn ok(alloc: Global) -> Result<Self, AllocError>
+        ensures { IfOk result (λ response. response ≡ status_alone 200) }
+    {
+        Self::with_status_code(alloc, StatusCode::OK)
+    }
+
+    /// The response 403 (Forbidden).
+    pub fn forbidden(alloc: Global) -> Result<Self, AllocError>
+        ensures { IfOk result (λ response. response ≡ status_alone 403) }
+    {
+        Self::with_status_code(alloc, StatusCode::FORBIDDEN)
+    }
+
+    /// The response 404 (Not Found).
+    pub fn not_found(alloc: Global) -> Result<Self, AllocError>
+        ensures { IfOk result (λ response. response ≡ status_alone 404) }
+    {
+        Self::with_status_code(alloc, StatusCode::NOT_FOUND)
+    }
+
+    /// The response 429 (Too Many Requests).
+    pub fn too_many_requests(alloc: Global) -> Result<Self, AllocError>
+        ensures { IfOk result (λ response. response ≡ status_alone 429) }
+    {
+        Self::with_status_code(alloc, StatusCode::TOO_MANY_REQUESTS)
+    }
+
+    /// The status code.
+    pub fn code(&self) -> StatusCode
+        ensures { option_map status_in (status_of self.now) ≡ Some result }
+    {
+        let text = self.headers.get(":status").unwrap();
+        text.parse::<StatusCode>().unwrap()
+    }
+
+    /// Gives a field this value, in place of the one that it had. On an error nothing is changed.
+    ///
+    /// A `:status` that is no status code is refused, before memory is asked for; a good one is kept
+    /// as it is written.
+    pub fn add(&mut self, name: &str, value: &str) -> Result<(), AddError>
+        ensures ok { OnOk result (self.new ≡ put self.old (name.now, value.now)) }
+        ensures invalid { IsErrOf result AddError.InvalidStatusCode ↔ ((name.now ≡ codes ":status") × ¬ IsStatusText value.now) }
+        ensures err { OnErr result (self.new ≡ self.old) }
+    {
+        if name == ":status" && value.parse::<StatusCode>().is_err() {
+            return Err(AddError::InvalidStatusCode);
+        }
+        self.headers.insert(name, value)?;
+        Ok(())
+    }
+
+    /// Its header map.
+    pub fn headers(&self) -> &Headers
+        ensures headers { result.now ≡ self.now }
+        ensures status { HasStatus self.now }
+    {
+        &self.headers
+    }
+}
+
+impl TryFrom<Headers> for SessionResponse {
+    type Error = HeadersParseError;
+
+    ghost try_from_gives = { λ headers result. ByStatus (status_of headers) result };
+
+    /// The response with the status code of a header map, and no other field.
+    ///
+    /// `MissingStatusCode` where there is no `:status`, and `InvalidStatusCode` where it is no status
+    /// code, both before memory is asked for.
+    fn try_from(headers: Headers) -> Result<Self, HeadersParseError> {
+        let Some(text) = headers.get(":status") else {
+            return Err(HeadersParseError::MissingStatusCode);
+        };
+        let Ok(status_code) = text.parse::<StatusCode>() else {
+            return Err(HeadersParseError::InvalidStatusCode);
+        };
+        let response = SessionResponse::with_status_code(headers.allocator(), status_code)?;
+        Ok(response)
+    }
+}

@@ -1,0 +1,196 @@
+//! Streams in both directions that this end opened.
+ghost use Rattle.std.specs.Prelude.{◌≡◌, ◌≢◌, ◌≤◌, ◌↔◌, true, false, length, Err, IsTrue, IfOk, IfErr, IsOk, OnOk, OnErr};
+ghost use Rattle.wtp_core.specs.Reader.{IsRest};
+ghost use Rattle.wtp_core.specs.Cursor.{left_of, whole_of};
+ghost use Rattle.wtp_core.specs.Writer.{PutsParts, LacksRoom};
+ghost use Rattle.wtp_core.specs.BufferWriter.{room_in, loan_of, IsUnwritten, Wrote};
+ghost use Rattle.wtp_wire.specs.Content.{WebTransportOf, kind_in};
+ghost use Rattle.wtp_wire.specs.Front.{front};
+ghost use Rattle.wtp_wire.specs.Wire.{parts_of, wire};
+ghost use Rattle.wtransport_proto.specs.Reading.{AnswersFrame, AnswersRun, StandsAfter};
+ghost use Rattle.wtransport_proto.specs.Rule.{LocalBi};
+ghost use Rattle.wtransport_proto.specs.Run.{past_unknown};
+ghost use Rattle.wtransport_proto.specs.Streams.{can_upgrade, request_of, session_of};
+ghost use Rattle.wtransport_proto.specs.Upgrading.{write_answer};
+
+use crate::stream::Stream;
+use crate::stream::reading::{self, Rule};
+use crate::stream::session::StreamSession;
+use crate::stream::types::{Bi, BiLocal, H3, Quic, Session, WT};
+use wtp_core::bytes::{
+    BufferReader, BufferWriter, BytesReader, BytesWriter, EndOfBuffer, PutError,
+};
+use wtp_core::error::ErrorCode;
+use wtp_core::ids::SessionId;
+use wtp_fields::session::SessionRequest;
+use wtp_wire::frame::{Frame, FrameKind};
+
+/// A stream of QUIC.
+pub type StreamBiLocalQuic = Stream<BiLocal, Quic>;
+
+/// A stream of HTTP/3.
+pub type StreamBiLocalH3 = Stream<BiLocal, H3>;
+
+/// A stream of a WebTransport session.
+pub type StreamBiLocalWT = Stream<BiLocal, WT>;
+
+impl StreamBiLocalQuic {
+    /// A stream that this end opened.
+    pub fn open_bi() -> Self {
+        Stream {
+            kind: BiLocal::default(),
+            stage: Quic,
+        }
+    }
+
+    /// The same as a stream of HTTP/3, to which no frame was written.
+    pub fn upgrade(self) -> StreamBiLocalH3
+        ensures { can_upgrade result ≡ true }
+    {
+        Stream {
+            kind: self.kind,
+            stage: H3 {
+                header: (),
+                first_frame_done: false,
+            },
+        }
+    }
+}
+
+impl StreamBiLocalH3 {
+    /// Reads the next frame, and takes no memory. Unknown frames are passed over whole.
+    ///
+    /// `None` where the bytes are too few; whole frames and numbers may have been read then.
+    /// `FrameUnexpected` behind a frame that may not come here, `Id` behind a WebTransport frame
+    /// whose number is no session's, `ExcessiveLoad` behind a length above 4096.
+    #[inline(always)]
+    pub fn read_frame<'a, R: BytesReader<'a>>(
+        &self,
+        reader: &mut R,
+    ) -> Result<Option<Frame<'a>>, ErrorCode>
+        ensures answer { AnswersFrame LocalBi false (front (past_unknown (R.left reader.old))) result false (R.left reader.new) }
+        ensures rest { IsRest (R.left reader.new) (R.left reader.old) }
+        ensures kept { R.kept reader.new ≡ R.kept reader.old }
+    {
+        reading::read_frame::<Self, R>(&mut true, reader)
+    }
+
+    /// Reads the next frame as `read_frame` does, and moves past it; where it answers `None` or an
+    /// error the reader stays where it is.
+    #[inline(always)]
+    pub fn read_frame_from_buffer<'a>(
+        &self,
+        reader: &mut BufferReader<'a>,
+    ) -> Result<Option<Frame<'a>>, ErrorCode>
+        ensures run { AnswersRun LocalBi false (left_of reader.old) result false (left_of reader.new) }
+        ensures place { StandsAfter LocalBi false (left_of reader.old) result false (left_of reader.new) }
+        ensures whole { whole_of reader.new ≡ whole_of reader.old }
+    {
+        reading::read_frame_from_buffer::<Self>(&mut true, reader)
+    }
+
+    /// Writes a frame as `Frame::write` does. Its kind is not WebTransport, which is for `upgrade`.
+    ///
+    /// A stream to which a frame was written cannot be upgraded any more; after an error it is as
+    /// it was.
+    pub fn write_frame<W: BytesWriter>(
+        &mut self,
+        frame: Frame<'_>,
+        writer: &mut W,
+    ) -> Result<(), PutError>
+        requires { kind_in frame ≢ FrameKind.WebTransport }
+        ensures parts { PutsParts W.grows (parts_of frame.entry) result (W.written writer.old) (W.room writer.old) (W.written writer.new) (W.room writer.new) }
+        ensures full { result ≡ Err PutError.EndOfBuffer → LacksRoom (W.room writer.old) (length (wire frame.entry)) }
+        ensures target { W.target writer.new ≡ W.target writer.old }
+        ensures begun { OnOk result (can_upgrade self.new ≡ false) }
+        ensures same { OnErr result (self.new ≡ self.old) }
+    {
+        frame.write(writer)?;
+        self.stage.first_frame_done = true;
+        Ok(())
+    }
+
+    /// Writes a frame whole as `Frame::write_to_buffer` does, with the condition of `write_frame`
+    /// and what that does to the stream.
+    pub fn write_frame_to_buffer(
+        &mut self,
+        frame: Frame<'_>,
+        writer: &mut BufferWriter<'_>,
+    ) -> Result<(), EndOfBuffer>
+        requires { kind_in frame ≢ FrameKind.WebTransport }
+        ensures room { IsOk result ↔ (length (wire frame.entry) ≤ length (room_in writer.old)) }
+        ensures ok { OnOk result (Wrote (wire frame.entry) writer.old writer.new) }
+        ensures err { OnErr result (IsUnwritten writer.old writer.new) }
+        ensures loan { loan_of writer.new ≡ loan_of writer.old }
+        ensures begun { OnOk result (can_upgrade self.new ≡ false) }
+        ensures same { OnErr result (self.new ≡ self.old) }
+    {
+        frame.write_to_buffer(writer)?;
+        self.stage.first_frame_done = true;
+        Ok(())
+    }
+
+    /// Whether `upgrade` may be called: no write of a frame succeeded before.
+    pub fn can_upgrade(&self) -> bool
+        ensures { result ≡ can_upgrade self.now }
+    {
+        !self.stage.first_frame_done
+    }
+
+    /// Makes it a stream of this session by a WebTransport frame, which is written as
+    /// `Frame::write` does. It can be upgraded, as `can_upgrade` tells.
+    ///
+    /// On an error the stream is handed back as it was, and the writer may hold the frame's type
+    /// number.
+    pub fn upgrade<W: BytesWriter>(
+        self,
+        session_id: SessionId,
+        writer: &mut W,
+    ) -> Result<StreamBiLocalWT, (StreamBiLocalH3, PutError)>
+        requires { IsTrue (can_upgrade self) }
+        ensures session { IfOk result (λ s. session_of s ≡ session_id) }
+        ensures handed_back { IfErr result (λ e. e.0 ≡ self) }
+        ensures parts { PutsParts W.grows (parts_of (WebTransportOf session_id)) (write_answer result) (W.written writer.old) (W.room writer.old) (W.written writer.new) (W.room writer.new) }
+        ensures full { write_answer result ≡ Err PutError.EndOfBuffer → LacksRoom (W.room writer.old) (length (wire (WebTransportOf session_id))) }
+        ensures target { W.target writer.new ≡ W.target writer.old }
+    {
+        match Frame::new_webtransport(session_id).write(writer) {
+            Ok(()) => Ok(Stream {
+                kind: self.kind,
+                stage: WT { session_id },
+            }),
+            Err(error) => Err((self, error)),
+        }
+    }
+
+    /// How many bytes `upgrade` writes.
+    pub fn upgrade_size(&self, session_id: SessionId) -> usize
+        ensures { result ≡ length (wire (WebTransportOf session_id)) }
+    {
+        Frame::new_webtransport(session_id).write_size()
+    }
+
+    /// The same as the stream of a session, for which this is the request.
+    pub fn into_session(self, session_request: SessionRequest) -> StreamSession
+        ensures { request_of result ≡ session_request }
+    {
+        Stream {
+            kind: Bi,
+            stage: Session { session_request },
+        }
+    }
+}
+
+impl Rule for StreamBiLocalH3 {
+    ghost use Rattle.wtransport_proto.specs.Rule.{LocalBi};
+
+    ghost role = { LocalBi };
+
+    #[inline(always)]
+    fn fault(_first: bool, kind: FrameKind) -> Option<ErrorCode> {
+        match kind {
+            FrameKind::Data | FrameKind::Headers | FrameKind::Exercise(_) => None,
+            FrameKind::Settings | FrameKind::WebTransport => Some(ErrorCode::FrameUnexpected),
+        }
+    }
+}

@@ -1,0 +1,84 @@
+//! Reading frames from a stream: one reading for all kinds, which differ in their rule.
+ghost use Rattle.std.specs.Prelude.{◌≡◌, true, not};
+ghost use Rattle.wtp_core.specs.Cursor.{left_of, whole_of};
+ghost use Rattle.wtp_core.specs.Reader.{IsRest};
+ghost use Rattle.wtp_wire.specs.Front.{front};
+ghost use Rattle.wtransport_proto.specs.Reading.{AnswersFrame, AnswersKnown, AnswersRun, StandsAfter};
+ghost use Rattle.wtransport_proto.specs.Rule.{Role, rule};
+ghost use Rattle.wtransport_proto.specs.Run.{past_unknown};
+
+use wtp_core::bytes::{BufferReader, BytesReader};
+use wtp_core::error::ErrorCode;
+use wtp_wire::frame::{Frame, FrameKind, ParseError};
+
+/// A stream in a reading state.
+pub(crate) trait Rule {
+    // Which reading state it is.
+    ghost role: { Role };
+
+    /// The fault of a frame of this kind, which may be the stream's first.
+    fn fault(first: bool, kind: FrameKind) -> Option<ErrorCode>
+        ensures { result ≡ rule role first kind };
+}
+
+/// Reads the first frame of a known or exercise kind; unknown frames in front of it are passed over.
+#[inline(always)]
+#[tactic(auto, using(wtp_core::proofs::RestLemmas::rests))]
+fn read_known<'a, R: BytesReader<'a>>(reader: &mut R) -> Result<Option<Frame<'a>>, ErrorCode>
+    ensures answer { AnswersKnown (front (past_unknown (R.left reader.old))) result (R.left reader.new) }
+    ensures rest { IsRest (R.left reader.new) (R.left reader.old) }
+    ensures kept { R.kept reader.new ≡ R.kept reader.old }
+{
+    'frames: loop {
+        match Frame::read(reader) {
+            Ok(found) => return Ok(found),
+            Err(ParseError::UnknownFrame) => {}
+            Err(ParseError::InvalidSessionId) => return Err(ErrorCode::Id),
+            Err(ParseError::PayloadTooBig) => return Err(ErrorCode::ExcessiveLoad),
+        }
+    }
+}
+
+/// Reads the next frame by the rule of `K`, and notes that a frame was read whole.
+#[inline(always)]
+pub(crate) fn read_frame<'a, K: Rule, R: BytesReader<'a>>(
+    first_frame_done: &mut bool,
+    reader: &mut R,
+) -> Result<Option<Frame<'a>>, ErrorCode>
+    ensures answer { AnswersFrame K.role (not first_frame_done.old) (front (past_unknown (R.left reader.old))) result (not first_frame_done.new) (R.left reader.new) }
+    ensures stays { first_frame_done.old ≡ true → first_frame_done.new ≡ true }
+    ensures rest { IsRest (R.left reader.new) (R.left reader.old) }
+    ensures kept { R.kept reader.new ≡ R.kept reader.old }
+{
+    let Some(frame) = read_known(reader)? else {
+        return Ok(None);
+    };
+    let first = !std::mem::replace(first_frame_done, true);
+    match K::fault(first, frame.kind()) {
+        None => Ok(Some(frame)),
+        Some(code) => Err(code),
+    }
+}
+
+/// Reads the next frame as `read_frame` does, and moves past it alone.
+#[inline(always)]
+#[tactic(auto, using(crate::proofs::ReadingLemmas::run_answers))]
+pub(crate) fn read_frame_from_buffer<'a, K: Rule>(
+    first_frame_done: &mut bool,
+    reader: &mut BufferReader<'a>,
+) -> Result<Option<Frame<'a>>, ErrorCode>
+    ensures run { AnswersRun K.role (not first_frame_done.old) (left_of reader.old) result (not first_frame_done.new) (left_of reader.new) }
+    ensures place { StandsAfter K.role (not first_frame_done.old) (left_of reader.old) result (not first_frame_done.new) (left_of reader.new) }
+    ensures stays { first_frame_done.old ≡ true → first_frame_done.new ≡ true }
+    ensures whole { whole_of reader.new ≡ whole_of reader.old }
+{
+    let mut ahead = BufferReader::new(reader.buffer_remaining());
+    match read_frame::<K, BufferReader<'a>>(first_frame_done, &mut ahead) {
+        Ok(Some(frame)) => {
+            reader.move_to(&ahead);
+            Ok(Some(frame))
+        }
+        Ok(None) => Ok(None),
+        Err(code) => Err(code),
+    }
+}

@@ -1,0 +1,106 @@
+//! Streams that carry the request for a session, and its response.
+ghost use Rattle.std.specs.Prelude.{◌≡◌, ◌≤◌, ◌↔◌, false, length, Err, IsOk, OnOk, OnErr};
+ghost use Rattle.wtp_core.specs.Reader.{IsRest};
+ghost use Rattle.wtp_core.specs.Cursor.{left_of, whole_of};
+ghost use Rattle.wtp_core.specs.Writer.{PutsParts, LacksRoom};
+ghost use Rattle.wtp_core.specs.BufferWriter.{room_in, loan_of, IsUnwritten, Wrote};
+ghost use Rattle.wtp_wire.specs.Front.{front};
+ghost use Rattle.wtp_wire.specs.Wire.{parts_of, wire};
+ghost use Rattle.wtransport_proto.specs.Reading.{AnswersFrame, AnswersRun, StandsAfter};
+ghost use Rattle.wtransport_proto.specs.Rule.{InSession};
+ghost use Rattle.wtransport_proto.specs.Run.{past_unknown};
+ghost use Rattle.wtransport_proto.specs.Streams.{request_of};
+
+use crate::stream::Stream;
+use crate::stream::reading::{self, Rule};
+use crate::stream::types::{Bi, Session};
+use wtp_core::bytes::{
+    BufferReader, BufferWriter, BytesReader, BytesWriter, EndOfBuffer, PutError,
+};
+use wtp_core::error::ErrorCode;
+use wtp_fields::session::SessionRequest;
+use wtp_wire::frame::{Frame, FrameKind};
+
+/// A stream that carries the request for a session, and its response.
+pub type StreamSession = Stream<Bi, Session>;
+
+impl StreamSession {
+    /// Reads the next frame, and takes no memory. Unknown frames are passed over whole.
+    ///
+    /// `None` where the bytes are too few; whole frames and numbers may have been read then.
+    /// `FrameUnexpected` behind a frame that may not come here, `Id` behind a WebTransport frame
+    /// whose number is no session's, `ExcessiveLoad` behind a length above 4096.
+    #[inline(always)]
+    pub fn read_frame<'a, R: BytesReader<'a>>(
+        &self,
+        reader: &mut R,
+    ) -> Result<Option<Frame<'a>>, ErrorCode>
+        ensures answer { AnswersFrame InSession false (front (past_unknown (R.left reader.old))) result false (R.left reader.new) }
+        ensures rest { IsRest (R.left reader.new) (R.left reader.old) }
+        ensures kept { R.kept reader.new ≡ R.kept reader.old }
+    {
+        reading::read_frame::<Self, R>(&mut true, reader)
+    }
+
+    /// Reads the next frame as `read_frame` does, and moves past it; where it answers `None` or an
+    /// error the reader stays where it is.
+    #[inline(always)]
+    pub fn read_frame_from_buffer<'a>(
+        &self,
+        reader: &mut BufferReader<'a>,
+    ) -> Result<Option<Frame<'a>>, ErrorCode>
+        ensures run { AnswersRun InSession false (left_of reader.old) result false (left_of reader.new) }
+        ensures place { StandsAfter InSession false (left_of reader.old) result false (left_of reader.new) }
+        ensures whole { whole_of reader.new ≡ whole_of reader.old }
+    {
+        reading::read_frame_from_buffer::<Self>(&mut true, reader)
+    }
+
+    /// Writes a frame as `Frame::write` does.
+    pub fn write_frame<W: BytesWriter>(
+        &self,
+        frame: Frame<'_>,
+        writer: &mut W,
+    ) -> Result<(), PutError>
+        ensures parts { PutsParts W.grows (parts_of frame.entry) result (W.written writer.old) (W.room writer.old) (W.written writer.new) (W.room writer.new) }
+        ensures full { result ≡ Err PutError.EndOfBuffer → LacksRoom (W.room writer.old) (length (wire frame.entry)) }
+        ensures target { W.target writer.new ≡ W.target writer.old }
+    {
+        frame.write(writer)
+    }
+
+    /// Writes a frame whole as `Frame::write_to_buffer` does.
+    pub fn write_frame_to_buffer(
+        &self,
+        frame: Frame<'_>,
+        writer: &mut BufferWriter<'_>,
+    ) -> Result<(), EndOfBuffer>
+        ensures room { IsOk result ↔ (length (wire frame.entry) ≤ length (room_in writer.old)) }
+        ensures ok { OnOk result (Wrote (wire frame.entry) writer.old writer.new) }
+        ensures err { OnErr result (IsUnwritten writer.old writer.new) }
+        ensures loan { loan_of writer.new ≡ loan_of writer.old }
+    {
+        frame.write_to_buffer(writer)
+    }
+
+    /// The request for the session.
+    pub fn request(&self) -> &SessionRequest
+        ensures { result.now ≡ request_of self.now }
+    {
+        &self.stage.session_request
+    }
+}
+
+impl Rule for StreamSession {
+    ghost use Rattle.wtransport_proto.specs.Rule.{InSession};
+
+    ghost role = { InSession };
+
+    #[inline(always)]
+    fn fault(_first: bool, kind: FrameKind) -> Option<ErrorCode> {
+        match kind {
+            FrameKind::Data | FrameKind::Headers | FrameKind::Exercise(_) => None,
+            FrameKind::Settings | FrameKind::WebTransport => Some(ErrorCode::FrameUnexpected),
+        }
+    }
+}

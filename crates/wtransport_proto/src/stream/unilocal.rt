@@ -1,0 +1,103 @@
+//! Streams in one direction that this end opened.
+ghost use Rattle.std.specs.Prelude.{◌≡◌, ◌≢◌, ◌≤◌, ◌↔◌, length, Err, IfOk, IfErr, IsOk, OnOk, OnErr};
+ghost use Rattle.wtp_core.specs.Writer.{PutsParts, LacksRoom};
+ghost use Rattle.wtp_core.specs.BufferWriter.{room_in, loan_of, IsUnwritten, Wrote};
+ghost use Rattle.wtp_wire.specs.Header.{header_kind};
+ghost use Rattle.wtp_wire.specs.HeaderWire.{header_parts, header_wire};
+ghost use Rattle.wtp_wire.specs.Wire.{parts_of, wire};
+ghost use Rattle.wtransport_proto.specs.Streams.{header_of};
+ghost use Rattle.wtransport_proto.specs.Upgrading.{write_answer};
+
+use crate::stream::Stream;
+use crate::stream::types::{H3, Quic, UniLocal, WT};
+use wtp_core::bytes::{BufferWriter, BytesWriter, EndOfBuffer, PutError};
+use wtp_wire::frame::Frame;
+use wtp_wire::stream_header::{StreamHeader, StreamKind};
+
+/// A stream of QUIC.
+pub type StreamUniLocalQuic = Stream<UniLocal, Quic>;
+
+/// A stream of HTTP/3, whose header was written.
+pub type StreamUniLocalH3 = Stream<UniLocal, H3<StreamHeader>>;
+
+/// A stream of a WebTransport session.
+pub type StreamUniLocalWT = Stream<UniLocal, WT>;
+
+impl StreamUniLocalQuic {
+    /// A stream that this end opened.
+    pub fn open_uni() -> Self {
+        Stream {
+            kind: UniLocal::default(),
+            stage: Quic,
+        }
+    }
+
+    /// Makes it a stream of HTTP/3 with this header, which is written as `StreamHeader::write` does.
+    ///
+    /// On an error the stream is handed back as it was, and the writer may hold the header's type
+    /// number.
+    pub fn upgrade<W: BytesWriter>(
+        self,
+        stream_header: StreamHeader,
+        writer: &mut W,
+    ) -> Result<StreamUniLocalH3, (StreamUniLocalQuic, PutError)>
+        ensures header { IfOk result (λ s. header_of s ≡ stream_header) }
+        ensures handed_back { IfErr result (λ e. e.0 ≡ self) }
+        ensures parts { PutsParts W.grows (header_parts stream_header) (write_answer result) (W.written writer.old) (W.room writer.old) (W.written writer.new) (W.room writer.new) }
+        ensures full { write_answer result ≡ Err PutError.EndOfBuffer → LacksRoom (W.room writer.old) (length (header_wire stream_header)) }
+        ensures target { W.target writer.new ≡ W.target writer.old }
+    {
+        match stream_header.write(writer) {
+            Ok(()) => Ok(Stream {
+                kind: self.kind,
+                stage: H3 {
+                    header: stream_header,
+                    first_frame_done: false,
+                },
+            }),
+            Err(error) => Err((self, error)),
+        }
+    }
+
+    /// How many bytes `upgrade` writes.
+    pub fn upgrade_size(stream_header: StreamHeader) -> usize
+        ensures size { result ≡ length (header_wire stream_header) }
+        ensures most { result ≤ StreamHeader.MAX_SIZE }
+    {
+        stream_header.write_size()
+    }
+}
+
+impl StreamUniLocalH3 {
+    /// Writes a frame as `Frame::write` does. The stream's kind is not WebTransport, as `kind`
+    /// tells: that is for `upgrade`. The stream stays as it is.
+    pub fn write_frame<W: BytesWriter>(
+        &mut self,
+        frame: Frame<'_>,
+        writer: &mut W,
+    ) -> Result<(), PutError>
+        requires { header_kind (header_of self.old) ≢ StreamKind.WebTransport }
+        ensures parts { PutsParts W.grows (parts_of frame.entry) result (W.written writer.old) (W.room writer.old) (W.written writer.new) (W.room writer.new) }
+        ensures full { result ≡ Err PutError.EndOfBuffer → LacksRoom (W.room writer.old) (length (wire frame.entry)) }
+        ensures target { W.target writer.new ≡ W.target writer.old }
+        ensures same { self.new ≡ self.old }
+    {
+        frame.write(writer)
+    }
+
+    /// Writes a frame whole as `Frame::write_to_buffer` does, with the condition of `write_frame`.
+    pub fn write_frame_to_buffer(
+        &mut self,
+        frame: Frame<'_>,
+        writer: &mut BufferWriter<'_>,
+    ) -> Result<(), EndOfBuffer>
+        requires { header_kind (header_of self.old) ≢ StreamKind.WebTransport }
+        ensures room { IsOk result ↔ (length (wire frame.entry) ≤ length (room_in writer.old)) }
+        ensures ok { OnOk result (Wrote (wire frame.entry) writer.old writer.new) }
+        ensures err { OnErr result (IsUnwritten writer.old writer.new) }
+        ensures loan { loan_of writer.new ≡ loan_of writer.old }
+        ensures same { self.new ≡ self.old }
+    {
+        frame.write_to_buffer(writer)
+    }
+}

@@ -1,0 +1,136 @@
+//! Streams in one direction that the peer opened.
+ghost use Rattle.std.specs.Prelude.{◌≡◌, ◌↔◌, false, IsTrue};
+ghost use Rattle.wtp_core.specs.Reader.{IsRest};
+ghost use Rattle.wtp_core.specs.Cursor.{left_of, whole_of};
+ghost use Rattle.wtp_wire.specs.Front.{front};
+ghost use Rattle.wtp_wire.specs.HeaderFront.{header_front};
+ghost use Rattle.wtransport_proto.specs.Reading.{AnswersFrame, AnswersRun, StandsAfter};
+ghost use Rattle.wtransport_proto.specs.Rule.{RemoteUni};
+ghost use Rattle.wtransport_proto.specs.Run.{past_unknown};
+ghost use Rattle.wtransport_proto.specs.Streams.{CanRead};
+ghost use Rattle.wtransport_proto.specs.Upgrading.{AnswersUpgrade};
+
+use crate::stream::Stream;
+use crate::stream::reading::{self, Rule};
+use crate::stream::types::{H3, Quic, UniRemote, WT};
+use wtp_core::bytes::{BufferReader, BytesReader};
+use wtp_core::error::ErrorCode;
+use wtp_wire::frame::{Frame, FrameKind};
+use wtp_wire::stream_header::{ParseError, StreamHeader, StreamKind};
+
+/// A stream of QUIC.
+pub type StreamUniRemoteQuic = Stream<UniRemote, Quic>;
+
+/// A stream of HTTP/3, whose header was read.
+pub type StreamUniRemoteH3 = Stream<UniRemote, H3<StreamHeader>>;
+
+/// A stream of a WebTransport session.
+pub type StreamUniRemoteWT = Stream<UniRemote, WT>;
+
+/// A stream that was upgraded, or not yet.
+#[derive(Drop)]
+pub enum MaybeUpgradeH3 {
+    /// The bytes are too few for a header.
+    Quic(StreamUniRemoteQuic),
+    /// The header was read.
+    H3(StreamUniRemoteH3),
+}
+
+impl StreamUniRemoteQuic {
+    /// A stream that the peer opened.
+    pub fn accept_uni() -> Self {
+        Stream {
+            kind: UniRemote::default(),
+            stage: Quic,
+        }
+    }
+
+    /// Reads the stream's header as `StreamHeader::read` does.
+    ///
+    /// `Quic` where the bytes are too few; the type number may have been read then.
+    /// `StreamCreation` behind a type number that is not known, which must not be taken for a fault
+    /// of the connection (RFC 9114, section 6.2), `Id` behind WebTransport's and a number that is no
+    /// session's. With an error the stream is given up.
+    pub fn upgrade<'a, R: BytesReader<'a>>(
+        self,
+        reader: &mut R,
+    ) -> Result<MaybeUpgradeH3, ErrorCode>
+        ensures answer { AnswersUpgrade (header_front (R.left reader.old)) self result (R.left reader.new) }
+        ensures rest { IsRest (R.left reader.new) (R.left reader.old) }
+        ensures kept { R.kept reader.new ≡ R.kept reader.old }
+    {
+        match StreamHeader::read(reader) {
+            Ok(Some(header)) => Ok(MaybeUpgradeH3::H3(Stream {
+                kind: self.kind,
+                stage: H3 {
+                    header,
+                    first_frame_done: false,
+                },
+            })),
+            Ok(None) => Ok(MaybeUpgradeH3::Quic(self)),
+            Err(ParseError::UnknownStream) => Err(ErrorCode::StreamCreation),
+            Err(ParseError::InvalidSessionId) => Err(ErrorCode::Id),
+        }
+    }
+}
+
+impl StreamUniRemoteH3 {
+    /// Whether frames may be read: its kind is not WebTransport, which is for `upgrade`.
+    pub fn can_read(&self) -> bool
+        ensures { IsTrue result ↔ CanRead self.now }
+    {
+        self.kind() != StreamKind::WebTransport
+    }
+
+    /// Reads the next frame, and takes no memory. Unknown frames are passed over whole. Frames may
+    /// be read, as `can_read` tells; the stream stays as it is.
+    ///
+    /// `None` where the bytes are too few; whole frames and numbers may have been read then.
+    /// `FrameUnexpected` behind a frame that may not come here, `Id` behind a WebTransport frame
+    /// whose number is no session's, `ExcessiveLoad` behind a length above 4096.
+    #[inline(always)]
+    pub fn read_frame<'a, R: BytesReader<'a>>(
+        &mut self,
+        reader: &mut R,
+    ) -> Result<Option<Frame<'a>>, ErrorCode>
+        requires { CanRead self.old }
+        ensures answer { AnswersFrame RemoteUni false (front (past_unknown (R.left reader.old))) result false (R.left reader.new) }
+        ensures rest { IsRest (R.left reader.new) (R.left reader.old) }
+        ensures kept { R.kept reader.new ≡ R.kept reader.old }
+        ensures same { self.new ≡ self.old }
+    {
+        reading::read_frame::<Self, R>(&mut true, reader)
+    }
+
+    /// Reads the next frame as `read_frame` does, and moves past it; where it answers `None` or an
+    /// error the reader stays where it is.
+    #[inline(always)]
+    pub fn read_frame_from_buffer<'a>(
+        &mut self,
+        reader: &mut BufferReader<'a>,
+    ) -> Result<Option<Frame<'a>>, ErrorCode>
+        requires { CanRead self.old }
+        ensures run { AnswersRun RemoteUni false (left_of reader.old) result false (left_of reader.new) }
+        ensures place { StandsAfter RemoteUni false (left_of reader.old) result false (left_of reader.new) }
+        ensures whole { whole_of reader.new ≡ whole_of reader.old }
+        ensures same { self.new ≡ self.old }
+    {
+        reading::read_frame_from_buffer::<Self>(&mut true, reader)
+    }
+}
+
+impl Rule for StreamUniRemoteH3 {
+    ghost use Rattle.wtransport_proto.specs.Rule.{RemoteUni};
+
+    ghost role = { RemoteUni };
+
+    #[inline(always)]
+    fn fault(_first: bool, kind: FrameKind) -> Option<ErrorCode> {
+        match kind {
+            FrameKind::Settings | FrameKind::Exercise(_) => None,
+            FrameKind::Data | FrameKind::Headers | FrameKind::WebTransport => {
+                Some(ErrorCode::FrameUnexpected)
+            }
+        }
+    }
+}
