@@ -2,3 +2,8 @@ pub mod SpellingLemmas
 pub mod ShortLemmas
 pub mod RestLemmas
 pub mod WriterLemmas
+pub mod TellingLemmas
+pub mod FillLemmas
+pub mod PassLemmas
+pub mod NeedLemmas
+pub mod GetLemmas
