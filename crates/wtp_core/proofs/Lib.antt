@@ -7,3 +7,4 @@ pub mod FillLemmas
 pub mod PassLemmas
 pub mod NeedLemmas
 pub mod GetLemmas
+pub mod DrainLemmas

@@ -12,3 +12,6 @@ pub mod Fill
 pub mod Passing
 pub mod Getting
 pub mod GetBuffer
+pub mod Sink
+pub mod Drain
+pub mod Writing
