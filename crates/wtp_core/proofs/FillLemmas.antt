@@ -1,6 +1,6 @@
 -- Steps of one fill add up.
 use Rattle.std.proofs.Common.{◌≡◌, ℕ, ◌+◌, ◌<◌, ◌≤◌, List, ◌++◌, length, take, drop, sym, ap, ◌∙◌, arith, append_assoc, length-append, take-add, length-take}
-use Rattle.std.proofs.lemmas.List.{take-take, take-append-le}
+use Rattle.std.proofs.lemmas.List.{take-take, take-append-le, take-append-drop}
 use Rattle.wtp_core.specs.Source.{Source, AsksOnce}
 use Rattle.wtp_core.specs.Fill.{Gains, HaltIsTrue}
 use Rattle.wtp_core.specs.declared.bytes.fill.Halt.{Halt}
@@ -43,10 +43,14 @@ gains_then x y y' z z' a b c extra p q same shown = record {
   waits = let one = p.waits in let two = q.waits in omega arith;
 }
 
+-- what begins with the bytes that were held has them, and more
+pub begins : (n : ℕ) (old new : List ℕ) → take n new ≡ old → (more : List ℕ) × (new ≡ old ++ more)
+begins n old new e = (drop n new, sym (take-append-drop n new) ∙ ap (λ l. l ++ drop n new) e)
+
 -- the bytes held before and after a fill of the first `need` bytes of a buffer
 pub record Grown (len at need : ℕ) (buf part : List ℕ) : Type 0 where
   pub shown : take at (part ++ drop need buf) ≡ take at part
-  pub extends : take (length (take len buf)) (take at (part ++ drop need buf)) ≡ take len buf
+  pub extends : (more : List ℕ) × (take at (part ++ drop need buf) ≡ take len buf ++ more)
   pub old_len : length (take len buf) ≡ len
   pub new_len : length (take at (part ++ drop need buf)) ≡ at
   pub held : take len (take need buf) ≡ take len buf
@@ -60,7 +64,7 @@ grown len at need buf part le in_part in_buf size front =
     let kept : take len (take need buf) ≡ take len buf = take-take len need buf (omega arith) in
     record {
       shown = shows;
-      extends = ap (λ n. take n (take at (part ++ drop need buf))) old ∙ ap (λ l. take len l) shows ∙ take-take len at part le ∙ front ∙ kept;
+      extends = begins len (take len buf) (take at (part ++ drop need buf)) (ap (λ l. take len l) shows ∙ take-take len at part le ∙ front ∙ kept);
       old_len = old;
       new_len = ap length shows ∙ omega (arith, length-take at part);
       held = kept;

@@ -1,6 +1,5 @@
 -- What one poll of a number, or of a buffer, answers.
 use Rattle.std.proofs.Common.{◌≡◌, ℕ, ◌<◌, List, [], ◌++◌, length, take, drop, Option, Some, Ok, refl, sym, ap, ◌∙◌, append-nil}
-use Rattle.std.proofs.lemmas.List.{take-append-drop}
 use Rattle.wtp_core.specs.declared.bytes.polled.Polled.TheVariants.{Ready}
 use Rattle.wtp_core.specs.declared.bytes.fill.Halt.{Halt}
 use Rattle.wtp_core.specs.declared.bytes.fill.Halt.TheVariants as halt
@@ -10,12 +9,9 @@ use Rattle.wtp_core.specs.Source.{Source, Telling}
 use Rattle.wtp_core.specs.Fill.{Gains, HaltIsTrue, halted_poll}
 use Rattle.wtp_core.specs.Getting.{VarintPolled, VarintGiven, BufferGiven}
 use Rattle.wtp_core.proofs.TellingLemmas.{telling_map}
+use Rattle.wtp_core.proofs.FillLemmas.{begins}
 use Rattle.wtp_core.proofs.SpellingLemmas.{number_at-more}
 use Rattle.wtp_core.proofs.NeedLemmas.{number_at-cut, number_at-whole}
-
--- what begins with the bytes that were held has them, and more
-pub given : (n : ℕ) (old new : List ℕ) → take n new ≡ old → (more : List ℕ) × (new ≡ old ++ more)
-given n old new e = (drop n new, sym (take-append-drop n new) ∙ ap (λ l. l ++ drop n new) e)
 
 -- nothing is ahead any more
 pub dry : (old new : List ℕ) (a b : Source) (e : ℕ) → Gains old new a b e → b.ahead ≡ [] → new ≡ old ++ a.ahead
@@ -31,10 +27,10 @@ pub halted_varint_told : (s t : Option Source) (x : Halt) (n : ℕ) (old new : L
 halted_varint_told s t x n old new is cut p = telling_map s t _ (VarintPolled (halted_poll x n) old new) (λ a b q. rw is (halted_varint x old new a b cut q.0 q.1)) p
 
 pub halted_varint_given : (x : Halt) (n m : ℕ) (old new : List ℕ) → take m new ≡ old → VarintGiven (halted_poll x n) old new
-halted_varint_given halt.NotReady n m old new e = given m old new e
-halted_varint_given halt.Fin n m old new e = given m old new e
-halted_varint_given halt.Reset n m old new e = given m old new e
-halted_varint_given halt.NotConnected n m old new e = given m old new e
+halted_varint_given halt.NotReady n m old new e = begins m old new e
+halted_varint_given halt.Fin n m old new e = begins m old new e
+halted_varint_given halt.Reset n m old new e = begins m old new e
+halted_varint_given halt.NotConnected n m old new e = begins m old new e
 
 -- a whole number is read, with nothing behind it
 read_whole : (v k : ℕ) (h : List ℕ) → varint_need h ≡ length h → number_at h ≡ Some (v, drop k h) → number_at h ≡ Some (v, [])
@@ -47,10 +43,10 @@ pub whole_varint_told : (s t : Option Source) (v k : ℕ) (old h : List ℕ) →
 whole_varint_told s t v k old h w e p = telling_map s t _ (VarintPolled (Ready (Ok v)) old []) (λ a b g. ap number_at g.kept ∙ number_at-more v h [] b.ahead (read_whole v k h w e)) p
 
 pub whole_varint_given : (v k m : ℕ) (old h : List ℕ) → take m h ≡ old → varint_need h ≡ length h → number_at h ≡ Some (v, drop k h) → VarintGiven (Ready (Ok v)) old []
-whole_varint_given v k m old h front w e = let (more, is) = given m old h front in (refl, (more, ap number_at (sym is) ∙ read_whole v k h w e))
+whole_varint_given v k m old h front w e = let (more, is) = begins m old h front in (refl, (more, ap number_at (sym is) ∙ read_whole v k h w e))
 
 pub halted_buffer_given : (U : Type 0) (x : Halt) (n m room : ℕ) (old new : List ℕ) → length new < room → take m new ≡ old → BufferGiven {U = U} (halted_poll x n) room old new
-halted_buffer_given U halt.NotReady n m room old new l e = (l, given m old new e)
-halted_buffer_given U halt.Fin n m room old new l e = (l, given m old new e)
-halted_buffer_given U halt.Reset n m room old new l e = (l, given m old new e)
-halted_buffer_given U halt.NotConnected n m room old new l e = (l, given m old new e)
+halted_buffer_given U halt.NotReady n m room old new l e = (l, begins m old new e)
+halted_buffer_given U halt.Fin n m room old new l e = (l, begins m old new e)
+halted_buffer_given U halt.Reset n m room old new l e = (l, begins m old new e)
+halted_buffer_given U halt.NotConnected n m room old new l e = (l, begins m old new e)

@@ -1,5 +1,5 @@
 -- How many bytes a number has, as far as the bytes held tell (RFC 9000, section 16).
-use Rattle.std.proofs.Common.{◌≡◌, ℕ, ◌<◌, ◌≤◌, List, [], ◌∷◌, ◌++◌, length, take, slice_index, refl, ap, arith, inl, inr}
+use Rattle.std.proofs.Common.{◌≡◌, ℕ, ◌<◌, ◌≤◌, List, [], ◌∷◌, ◌++◌, length, slice_index, refl, arith, inl, inr}
 use Rattle.std.proofs.lemmas.Bool.{cases_lt, lt-ltb, le-ltb}
 use Rattle.std.specs.Int.{byte_len}
 use Rattle.wtp_core.specs.Varint.{width_of}
@@ -33,17 +33,10 @@ varint_need_range (b ∷ h) = byte_len_range b
 pub varint_need_most : (h : List ℕ) → varint_need h ≤ 8
 varint_need_most h = (varint_need_range h).1
 
-pub varint_need_stays : (h t : List ℕ) → take (length h) t ≡ h → length h ≤ length t → length t < varint_need h → varint_need t ≡ varint_need h
-varint_need_stays [] [] e l f = refl
-varint_need_stays [] (c ∷ t) e l f = absurd (omega arith)
-varint_need_stays (b ∷ h) [] e l f = absurd (omega arith)
-varint_need_stays (b ∷ h) (c ∷ t) e l f = let same : c ≡ b = cc in ap (λ (x : ℕ). byte_len (width_of x)) same
-
-pub varint_need_grows : (h t : List ℕ) → take (length h) t ≡ h → length h ≤ length t → length t ≡ varint_need h → varint_need h ≤ varint_need t
-varint_need_grows [] [] e l f = omega arith
-varint_need_grows [] (c ∷ t) e l f = (byte_len_range c).0
-varint_need_grows (b ∷ h) [] e l f = absurd (omega arith)
-varint_need_grows (b ∷ h) (c ∷ t) e l f = let same : b ≡ c = cc in omega (arith, ap (λ (x : ℕ). byte_len (width_of x)) same)
+pub varint_need_grows : (h t : List ℕ) → varint_need h ≤ varint_need (h ++ t)
+varint_need_grows [] [] = omega arith
+varint_need_grows [] (c ∷ t) = (byte_len_range c).0
+varint_need_grows (b ∷ h) t = omega arith
 
 pub varint_need_more : (h xs : List ℕ) → varint_need h ≤ length h → varint_need (h ++ xs) ≡ varint_need h
 varint_need_more [] xs l = absurd (omega arith)

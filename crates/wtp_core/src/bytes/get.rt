@@ -3,7 +3,7 @@ ghost use Rattle.std.specs.Prelude.{◌≡◌, ℕ, ◌<◌, ◌≤◌, List, []
 ghost use Rattle.wtp_core.specs.Source.{Telling};
 ghost use Rattle.wtp_core.specs.Polled.{Asks};
 ghost use Rattle.wtp_core.specs.Varint.{number_at};
-ghost use Rattle.wtp_core.specs.VarintNeed.{varint_need, IsCut, varint_need_most, varint_need_stays, varint_need_grows};
+ghost use Rattle.wtp_core.specs.VarintNeed.{varint_need, IsCut, varint_need_most, varint_need_grows};
 ghost use Rattle.wtp_core.specs.Getting.{VarintPolled, VarintGiven, BufferPolled, BufferGiven};
 
 use crate::bytes::fill::{fill, halted};
@@ -36,8 +36,6 @@ impl Head for VarintHead {
     }
 
     ghost need_most = { varint_need_most };
-
-    ghost need_stays = { varint_need_stays };
 
     ghost need_grows = { varint_need_grows };
 }

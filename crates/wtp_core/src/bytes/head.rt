@@ -1,5 +1,5 @@
 //! Reading the front of a thing, whose size its own bytes tell (own).
-ghost use Rattle.std.specs.Prelude.{◌≡◌, ℕ, ◌<◌, ◌≤◌, List, length, take, OnOk, OnErr};
+ghost use Rattle.std.specs.Prelude.{◌≡◌, ℕ, ◌<◌, ◌≤◌, List, ◌++◌, length, take, OnOk, OnErr};
 ghost use Rattle.wtp_core.specs.Fill.{FillTells};
 
 use crate::bytes::fill::{Halt, fill};
@@ -20,9 +20,8 @@ pub trait Head {
 
     ghost need_most: { (h : List ℕ) → need h ≤ most };
 
-    ghost need_stays: { (h t : List ℕ) → take (length h) t ≡ h → length h ≤ length t → length t < need h → need t ≡ need h };
-
-    ghost need_grows: { (h t : List ℕ) → take (length h) t ≡ h → length h ≤ length t → length t ≡ need h → need h ≤ need t };
+    // No fewer, once more are held.
+    ghost need_grows: { (h t : List ℕ) → need h ≤ need (h ++ t) };
 }
 
 /// Reads on until all that is needed is held, and not a byte more (own).

@@ -1,4 +1,4 @@
-use Rattle.std.proofs.Common.{◌≡◌, ◌<◌, ◌≤◌, length, take, drop, ◌++◌, refl, ap, ◌∙◌, arith, length-take}
+use Rattle.std.proofs.Common.{◌≡◌, ◌<◌, ◌≤◌, length, take, drop, ◌++◌, refl, ap, arith, length-take}
 use Rattle.wtp_core.specs.Fill.{Gains, HaltIsTrue}
 use Rattle.wtp_core.proofs.TellingLemmas.{telling_then}
 use Rattle.wtp_core.proofs.FillLemmas.{Grown, grown, front_kept, gains_then, halt_then}
@@ -16,7 +16,7 @@ loop-len-preserved g c =
     let at_is : c.fill.new.at ≡ need = omega (arith, length-take need c.loop-len.buf) in
     let w : Grown c.loop-len.len c.fill.new.at need c.loop-len.buf c.fill.new.buf = grown _ _ _ _ _ c.fill.ensures.forward (omega arith) room size c.fill.ensures.front in
     record {
-      within = let grows = g.met.H.Head.need_grows held _ w.extends (omega (arith, w.old_len, w.new_len, c.fill.ensures.forward)) (w.new_len ∙ at_is ∙ same) in omega (arith, grows, at_is, same);
+      within = let (more, is) = w.extends in omega (arith, g.met.H.Head.need_grows held more, ap g.H.Head.need is, at_is, same);
       forward = let before = c.loop-len.invariant.forward in omega (arith, c.fill.ensures.forward);
       front = front_kept _ c.loop-len.len _ c.loop-len.buf _ c.loop-len.invariant.forward w.front c.loop-len.invariant.front;
       stays = λ whole.
@@ -37,8 +37,8 @@ returns-in-Err-clause-cut g c =
     let size : length c.fill.new.buf ≡ length (take need c.loop-len.buf) = c.fill.auto.buf in
     let below : c.fill.new.at < need = omega (arith, length-take need c.loop-len.buf) in
     let w : Grown c.loop-len.len c.fill.new.at need c.loop-len.buf c.fill.new.buf = grown _ _ _ _ _ c.fill.ensures.forward (omega arith) room size c.fill.ensures.front in
-    let stays = g.met.H.Head.need_stays held _ w.extends (omega (arith, w.old_len, w.new_len, c.fill.ensures.forward)) (omega (arith, w.new_len, below, same)) in
-    omega (arith, stays, below, same)
+    let (more, is) = w.extends in
+    omega (arith, g.met.H.Head.need_grows held more, ap g.H.Head.need is, below, same)
 
 pub returns-in-Err-clause-tells : goal.returns-in-Err-clause-tells
 returns-in-Err-clause-tells g c =
