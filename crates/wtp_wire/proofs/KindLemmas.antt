@@ -6,7 +6,7 @@ use Rattle.wtp_wire.specs.declared.frame.FrameKind.{FrameKind}
 use Rattle.wtp_wire.specs.declared.frame.FrameKind.TheVariants.{Data, Headers, Settings, WebTransport, Exercise}
 use Rattle.wtp_wire.specs.Kind.{IsKind, IsExercise, is_exercise, kind_of}
 
-exercise_test : (id : ℕ) → IsExercise id → is_exercise id ≡ true
+pub exercise_test : (id : ℕ) → IsExercise id → is_exercise id ≡ true
 exercise_test id h =
     let (n, e) = h in
     let sub : id - 33 ≡ 31 * n = omega arith in

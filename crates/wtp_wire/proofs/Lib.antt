@@ -3,3 +3,7 @@ pub mod KindLemmas
 pub mod FrontLemmas
 pub mod WireLemmas
 pub mod ReadLemmas
+pub mod FrameHeadLemmas
+pub mod FrameReadingLemmas
+pub mod FramePollLemmas
+pub mod FramePassLemmas

@@ -4,3 +4,8 @@ pub mod Front
 pub mod Reading
 pub mod Wire
 pub mod Datagram
+pub mod Held
+pub mod FrameNeed
+pub mod FrameHead
+pub mod FramePolling
+pub mod FrameSteps
