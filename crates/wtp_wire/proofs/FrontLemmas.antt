@@ -89,7 +89,7 @@ Holds bytes c = (c ≡ Short) ⊎ Begins bytes c
 holds-along : (bytes : List ℕ) (c d : Front) → c ≡ d → Holds bytes d → Holds bytes c
 holds-along bytes c d e h = subst (λ (x : Front). Holds bytes x) (sym e) h
 
-found : {A : Type 0} (o : Option A) → (o ≡ None) ⊎ ((x : A) × (o ≡ Some x))
+pub found : {A : Type 0} (o : Option A) → (o ≡ None) ⊎ ((x : A) × (o ≡ Some x))
 found None = inl refl
 found (Some x) = inr (x, refl)
 

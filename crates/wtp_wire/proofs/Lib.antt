@@ -7,3 +7,8 @@ pub mod FrameHeadLemmas
 pub mod FrameReadingLemmas
 pub mod FramePollLemmas
 pub mod FramePassLemmas
+pub mod HeaderLemmas
+pub mod StreamKindLemmas
+pub mod HeaderFrontLemmas
+pub mod WritingLemmas
+pub mod HeaderPollLemmas

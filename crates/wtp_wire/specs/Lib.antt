@@ -9,3 +9,10 @@ pub mod FrameNeed
 pub mod FrameHead
 pub mod FramePolling
 pub mod FrameSteps
+pub mod StreamKind
+pub mod Header
+pub mod HeaderFront
+pub mod HeaderReading
+pub mod HeaderWire
+pub mod HeaderNeed
+pub mod HeaderPolling

@@ -7,10 +7,13 @@ ghost use Rattle.wtp_core.specs.BufferWriter.{room_in, loan_of, IsUnwritten, Wro
 
 mod head;
 pub mod reading;
+pub mod writing;
 
 pub use reading::{FrameReading, IoReadError};
 use std::borrow::CowSlice;
 use std::marker::Model;
+pub use writing::FrameWriting;
+pub use wtp_core::bytes::IoWriteError;
 use wtp_core::bytes::{
     BufferReader, BufferWriter, BytesReader, BytesWriter, EndOfBuffer, PutError,
 };

@@ -8,6 +8,9 @@ ghost use Rattle.wtp_wire.specs.Content.{Content};
 ghost use Rattle.wtp_wire.specs.Wire.{wire, IsReadable};
 ghost use Rattle.wtp_wire.specs.declared.frame.FrameKind.{FrameKind};
 
+pub mod polled;
+pub mod stream_header;
+
 /// The computed kind of a type number is its kind by definition.
 pub fn kind_is_computed()
     ensures computed { (kind : FrameKind) (id : ℕ) → IsKind kind id → kind_of id ≡ Some kind }

@@ -1,0 +1,254 @@
+//! Headers of unidirectional streams (RFC 9114, section 6.2), read and written whole or poll
+//! by poll.
+ghost use Rattle.std.specs.Prelude.{◌≡◌, ◌≤◌, ◌++◌, length, IsSome, IfSome, IsOk, OnOk, OnErr, Err, Some, None, ◌↔◌};
+ghost use Rattle.wtp_core.specs.Writer.{LacksRoom, PutsParts};
+ghost use Rattle.wtp_core.specs.Cursor.{left_of, whole_of};
+ghost use Rattle.wtp_core.specs.Reader.{IsRest};
+ghost use Rattle.wtp_core.specs.BufferWriter.{room_in, loan_of, IsUnwritten, Wrote};
+
+pub mod polled;
+
+pub use polled::{HeaderReading, HeaderWriting, IoReadError};
+use std::marker::Model;
+pub use wtp_core::bytes::IoWriteError;
+use wtp_core::bytes::{
+    BufferReader, BufferWriter, BytesReader, BytesWriter, EndOfBuffer, PutError,
+};
+use wtp_core::ids::SessionId;
+pub use wtp_core::numbers::stream_type_ids;
+use wtp_core::varint::VarInt;
+
+/// Why no header can be read at the front of the bytes.
+#[derive(Debug, Drop, PartialEq, Eq, thiserror::Error)]
+pub enum ParseError {
+    /// A type number that is not known.
+    #[error("cannot parse HTTP3 stream header as ID is unknown")]
+    UnknownStream,
+    /// WebTransport's type number, and a number that is no session's.
+    #[error("cannot parse HTTP3 stream header as session ID is invalid")]
+    InvalidSessionId,
+}
+
+/// What kind of unidirectional stream it is.
+#[derive(Clone, Copy, Debug, PartialEq, Eq)]
+pub enum StreamKind {
+    /// The control stream (RFC 9114, section 6.2.1).
+    Control,
+    /// QPACK's encoder stream (RFC 9204, section 4.2).
+    QPackEncoder,
+    /// QPACK's decoder stream (RFC 9204, section 4.2).
+    QPackDecoder,
+    /// A stream of a WebTransport session.
+    WebTransport,
+    /// A type that is reserved to exercise the rule on unknown types (RFC 9114, section 6.2.3).
+    Exercise(VarInt),
+}
+
+impl StreamKind {
+    ghost use Rattle.wtp_wire.specs.Kind.{is_exercise};
+    ghost use Rattle.wtp_wire.specs.StreamKind.{stream_kind_of, stream_number_of, IsKnownStream};
+
+    /// Whether the type number is one of those reserved for exercise, `0x21 + 0x1f * n`.
+    pub fn is_id_exercise(id: VarInt) -> bool
+        ensures { result ≡ is_exercise id }
+    {
+        id.into_inner() >= 0x21 && (id.into_inner() - 0x21) % 0x1f == 0
+    }
+
+    /// The type number.
+    pub fn id(self) -> VarInt
+        ensures { result ≡ stream_number_of self }
+    {
+        match self {
+            StreamKind::Control => stream_type_ids::CONTROL_STREAM,
+            StreamKind::QPackEncoder => stream_type_ids::QPACK_ENCODER_STREAM,
+            StreamKind::QPackDecoder => stream_type_ids::QPACK_DECODER_STREAM,
+            StreamKind::WebTransport => stream_type_ids::WEBTRANSPORT_STREAM,
+            StreamKind::Exercise(id) => id,
+        }
+    }
+
+    /// The kind of this type number, where it is known.
+    #[tactic(auto, unfolding(crate::specs::StreamKind::stream_kind_of))]
+    pub fn parse(id: VarInt) -> Option<Self>
+        ensures kind { result ≡ stream_kind_of id }
+        ensures known { IfSome result IsKnownStream }
+    {
+        match id.into_inner() {
+            0x00 => Some(StreamKind::Control),
+            0x02 => Some(StreamKind::QPackEncoder),
+            0x03 => Some(StreamKind::QPackDecoder),
+            0x54 => Some(StreamKind::WebTransport),
+            _ if StreamKind::is_id_exercise(id) => Some(StreamKind::Exercise(id)),
+            _ => None,
+        }
+    }
+}
+
+/// The header of a unidirectional stream: its kind, and the session where it is WebTransport's.
+#[derive(Clone, Copy)]
+pub struct StreamHeader {
+    kind: StreamKind,
+    session_id: Option<SessionId>,
+}
+
+impl Model for StreamHeader {
+    ghost use Rattle.wtp_wire.specs.Header.{Header, header, header_kind, header_session, IsProperHeader};
+
+    ghost Value = { Header };
+
+    ghost view = { λ h. header h.kind h.session_id };
+
+    ghost invariant = { λ h. IsProperHeader h.kind h.session_id };
+
+    ghost inverse = { λ h. record { kind = header_kind h; session_id = header_session h } };
+}
+
+impl StreamHeader {
+    ghost use Rattle.wtp_wire.specs.Header.{header_kind, header_session, ControlHeader, WebTransportHeader};
+    ghost use Rattle.wtp_wire.specs.StreamKind.{IsKnownStream};
+    ghost use Rattle.wtp_wire.specs.HeaderFront.{header_front, session_header_front};
+    ghost use Rattle.wtp_wire.specs.HeaderReading.{AnswersHeader, AnswersHeaderWhole};
+    ghost use Rattle.wtp_wire.specs.HeaderWire.{header_parts, header_wire, IsReadableHeader};
+
+    /// The most bytes that a header is written in.
+    pub const MAX_SIZE: usize = 16;
+
+    /// The header of the control stream.
+    pub fn new_control() -> Self
+        ensures { result ≡ ControlHeader }
+    {
+        StreamHeader {
+            kind: StreamKind::Control,
+            session_id: None,
+        }
+    }
+
+    /// The header of a stream of this session.
+    pub fn new_webtransport(session_id: SessionId) -> Self
+        ensures { result ≡ WebTransportHeader session_id }
+    {
+        StreamHeader {
+            kind: StreamKind::WebTransport,
+            session_id: Some(session_id),
+        }
+    }
+
+    /// Its kind.
+    #[tactic(auto, using(crate::proofs::HeaderLemmas::header_fields))]
+    pub fn kind(&self) -> StreamKind
+        ensures kind { result ≡ header_kind self.now }
+        ensures known { IsKnownStream result }
+    {
+        self.kind
+    }
+
+    /// Its session, where its kind is WebTransport.
+    #[tactic(auto, using(crate::proofs::HeaderLemmas::header_fields))]
+    pub fn session_id(&self) -> Option<SessionId>
+        ensures { result ≡ header_session self.now }
+    {
+        self.session_id
+    }
+
+    /// The session behind WebTransport's type number.
+    #[tactic(auto, using(wtp_core::proofs::RestLemmas::rests), unfolding(crate::specs::HeaderFront::session_header_front))]
+    fn read_session<'a, R: BytesReader<'a>>(reader: &mut R) -> Result<Option<Self>, ParseError>
+        ensures answer { AnswersHeader (session_header_front (R.left reader.old)) result (R.left reader.new) }
+        ensures rest { IsRest (R.left reader.new) (R.left reader.old) }
+        ensures kept { R.kept reader.new ≡ R.kept reader.old }
+    {
+        let Some(number) = reader.get_varint() else {
+            return Ok(None);
+        };
+        match SessionId::try_from_varint(number) {
+            Ok(session_id) => Ok(Some(StreamHeader::new_webtransport(session_id))),
+            Err(_) => Err(ParseError::InvalidSessionId),
+        }
+    }
+
+    /// Reads the header at the front, and takes no memory.
+    ///
+    /// `None` where the bytes are too few; the type number may have been read then.
+    /// `UnknownStream` behind a type number that is not known; `InvalidSessionId` behind
+    /// WebTransport's and a number that is no session's.
+    #[tactic(auto, using(wtp_core::proofs::RestLemmas::rests), unfolding(crate::specs::HeaderFront::header_front))]
+    pub fn read<'a, R: BytesReader<'a>>(reader: &mut R) -> Result<Option<Self>, ParseError>
+        ensures answer { AnswersHeader (header_front (R.left reader.old)) result (R.left reader.new) }
+        ensures rest { IsRest (R.left reader.new) (R.left reader.old) }
+        ensures kept { R.kept reader.new ≡ R.kept reader.old }
+    {
+        let Some(id) = reader.get_varint() else {
+            return Ok(None);
+        };
+        let Some(kind) = StreamKind::parse(id) else {
+            return Err(ParseError::UnknownStream);
+        };
+        match kind {
+            StreamKind::WebTransport => Self::read_session(reader),
+            _ => Ok(Some(StreamHeader {
+                kind,
+                session_id: None,
+            })),
+        }
+    }
+
+    /// Reads the header at the front as `read` does, and moves past it; where it answers `None` or
+    /// an error the reader stays where it is.
+    pub fn read_from_buffer(reader: &mut BufferReader<'_>) -> Result<Option<Self>, ParseError>
+        ensures answer { AnswersHeaderWhole (header_front (left_of reader.old)) result (left_of reader.old) (left_of reader.new) }
+        ensures whole { whole_of reader.new ≡ whole_of reader.old }
+    {
+        let mut ahead = BufferReader::new(reader.buffer_remaining());
+        let Some(header) = Self::read(&mut ahead)? else {
+            return Ok(None);
+        };
+        reader.move_to(&ahead);
+        Ok(Some(header))
+    }
+
+    /// Writes the header, each number in its shortest spelling.
+    ///
+    /// On an error the writer holds those of the parts type number and session that came before
+    /// the refused one.
+    pub fn write<W: BytesWriter>(&self, writer: &mut W) -> Result<(), PutError>
+        ensures parts { PutsParts W.grows (header_parts self.now) result (W.written writer.old) (W.room writer.old) (W.written writer.new) (W.room writer.new) }
+        ensures full { result ≡ Err PutError.EndOfBuffer → LacksRoom (W.room writer.old) (length (header_wire self.now)) }
+        ensures target { W.target writer.new ≡ W.target writer.old }
+    {
+        writer.put_varint(self.kind.id())?;
+        match self.session_id {
+            Some(session_id) => writer.put_varint(session_id.into_varint()),
+            None => Ok(()),
+        }
+    }
+
+    /// Writes the header as `write` does, whole: `EndOfBuffer` exactly where the room is below
+    /// `write_size`, and then nothing is written.
+    pub fn write_to_buffer(&self, writer: &mut BufferWriter<'_>) -> Result<(), EndOfBuffer>
+        ensures room { IsOk result ↔ (length (header_wire self.now) ≤ length (room_in writer.old)) }
+        ensures ok { OnOk result (Wrote (header_wire self.now) writer.old writer.new) }
+        ensures err { OnErr result (IsUnwritten writer.old writer.new) }
+        ensures loan { loan_of writer.new ≡ loan_of writer.old }
+    {
+        if writer.capacity() < self.write_size() {
+            return Err(EndOfBuffer);
+        }
+        let written = self.write(writer);
+        prove!(written.is_ok());
+        Ok(())
+    }
+
+    /// How many bytes `write` writes.
+    pub fn write_size(&self) -> usize
+        ensures size { result ≡ length (header_wire self.now) }
+        ensures most { result ≤ Self.MAX_SIZE }
+        ensures readable { IsReadableHeader self.now }
+    {
+        let head = self.kind.id().size();
+        match self.session_id {
+            Some(session_id) => head + session_id.into_varint().size(),
+            None => head,
+        }
+    }
+}
