@@ -1,5 +1,6 @@
 pub mod SpellingLemmas
 pub mod ShortLemmas
+pub mod LeastLemmas
 pub mod RestLemmas
 pub mod WriterLemmas
 pub mod TellingLemmas

@@ -74,7 +74,7 @@ impl<'a> Datagram<'a> {
     /// How many bytes `write` writes; their number is known to fit `usize`.
     #[tactic(auto, unfolding(crate::specs::Datagram::datagram_wire))]
     pub fn write_size(&self) -> usize
-        requires { length (datagram_wire self.now) < 2 ^ 64 }
+        requires { length (shortest self.now.0) + length self.now.1 < 2 ^ 64 }
         ensures { result ≡ length (datagram_wire self.now) }
     {
         Self::header_size(self.qstream_id) + self.payload.len()
@@ -82,7 +82,8 @@ impl<'a> Datagram<'a> {
 
     /// How many bytes stand in front of the payload.
     pub fn header_size(qstream_id: QStreamId) -> usize
-        ensures { result ≡ length (shortest qstream_id) }
+        ensures size { result ≡ length (shortest qstream_id) }
+        ensures most { result ≤ 8 }
     {
         qstream_id.into_varint().size()
     }

@@ -5,7 +5,8 @@
 #![tactic(auto)]
 
 pub use wtp_core::{bytes, error, ids, varint};
-pub use wtp_wire::{datagram, frame};
+pub use wtp_fields::{huffman, qpack};
+pub use wtp_wire::{datagram, frame, stream_header};
 
 pub mod laws;
 pub mod stream;

@@ -1,0 +1,28 @@
+/* The calls that an implementation gives to be measured. Each answers a count or a length, or -1 at a refusal. A call
+   that an implementation lacks is left out of its library, and the driver passes it over. */
+#ifndef BENCH_ABI_H
+#define BENCH_ABI_H
+#include <stddef.h>
+#include <stdint.h>
+
+typedef struct {
+  const uint8_t *name;
+  size_t name_len;
+  const uint8_t *value;
+  size_t value_len;
+} bench_pair;
+
+/* The frames of a remote bidirectional stream, read whole until none is left. */
+int64_t bench_list(const uint8_t *bytes, size_t len);
+/* The same by polled reading from a source that is always ready: poll by poll, and driven into a vector. */
+int64_t bench_poll(const uint8_t *bytes, size_t len);
+int64_t bench_drive(const uint8_t *bytes, size_t len);
+/* The decoded bytes, and the coded bytes, that were put into out. */
+int64_t bench_huffman_decode(const uint8_t *text, size_t len, uint8_t *out, size_t room);
+int64_t bench_huffman_encode(const uint8_t *text, size_t len, uint8_t *out, size_t room);
+/* The pairs of a section's map, and the bytes of a map's section that were put into out. */
+int64_t bench_qpack_decode(const uint8_t *section, size_t len);
+int64_t bench_qpack_encode(const bench_pair *pairs, size_t count, uint8_t *out, size_t room);
+/* 1 where the payload was taken. */
+int64_t bench_settings(const uint8_t *payload, size_t len);
+#endif

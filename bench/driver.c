@@ -1,0 +1,245 @@
+/* driver INPUTS NAME=LIBRARY.so .. : times each call of abi.h that a library has, over the same inputs, the libraries
+   in turn in each round, and prints the least time of each. A wrong answer ends the run with status 1. */
+#define _GNU_SOURCE
+#include "abi.h"
+#include <dlfcn.h>
+#include <stdio.h>
+#include <stdlib.h>
+#include <string.h>
+#include <time.h>
+
+enum { ROUNDS = 15, LIBRARIES = 4, PAIRS = 64, PIECES = 1024 };
+static const double ROUND = 0.04; /* seconds */
+
+typedef int64_t (*reads)(const uint8_t *, size_t);
+typedef int64_t (*writes)(const uint8_t *, size_t, uint8_t *, size_t);
+typedef int64_t (*writes_pairs)(const bench_pair *, size_t, uint8_t *, size_t);
+
+/* What one call is given, and its answer, or -1 where none is known; so are the bytes that it puts out. */
+typedef struct {
+  const uint8_t *bytes;
+  size_t len; /* of the bytes, or the count of pairs */
+  int64_t wanted;
+  const uint8_t *wanted_out;
+} input;
+
+/* One call over inputs of like length, each in turn: over one alone the processor would learn its branches. */
+typedef struct {
+  const char *label, *symbol;
+  const bench_pair *pairs;
+  int has_out;
+  const input *inputs;
+  size_t count;
+  size_t bytes; /* of an input, that the rate is counted in */
+} task;
+
+static uint8_t out[1 << 21];
+static volatile int64_t sink;
+
+static double now(void) {
+  struct timespec t;
+  clock_gettime(CLOCK_MONOTONIC, &t);
+  return (double)t.tv_sec + (double)t.tv_nsec * 1e-9;
+}
+
+static int64_t call(const task *t, const input *in, void *f) {
+  if (t->pairs) return ((writes_pairs)f)(t->pairs, in->len, out, sizeof out);
+  if (t->has_out) return ((writes)f)(in->bytes, in->len, out, sizeof out);
+  return ((reads)f)(in->bytes, in->len);
+}
+
+static double seconds(const task *t, void *f, size_t turns) {
+  double start = now();
+  for (size_t turn = 0; turn < turns; ++turn)
+    for (size_t i = 0; i < t->count; ++i) sink += call(t, t->inputs + i, f);
+  return now() - start;
+}
+
+/* Whether a library answers each input as it must; it may also lack the call, or take no such input. */
+static int answers(const task *t, void *f) {
+  for (size_t i = 0; i < t->count; ++i) {
+    const input *in = t->inputs + i;
+    int64_t got = call(t, in, f);
+    if (got < 0) return 0;
+    if ((in->wanted >= 0 && got != in->wanted) || (in->wanted_out && memcmp(out, in->wanted_out, (size_t)got))) {
+      printf("%s: a wrong answer, %ld\n", t->label, (long)got);
+      exit(1);
+    }
+  }
+  return 1;
+}
+
+/* Runs one task on each library that has the call, and prints a line; nothing where none has it. */
+static void measure(const task *t, void **libraries, int count) {
+  void *calls[LIBRARIES];
+  size_t turns[LIBRARIES];
+  double least[LIBRARIES];
+  int have = 0;
+  for (int i = 0; i < count; ++i) {
+    calls[i] = dlsym(libraries[i], t->symbol);
+    if (calls[i] && !answers(t, calls[i])) calls[i] = NULL;
+    if (!calls[i]) continue;
+    have = 1;
+    turns[i] = 1;
+    for (double d; (d = seconds(t, calls[i], turns[i])) < ROUND;)
+      turns[i] = d < ROUND / 20 ? turns[i] * 8 : (size_t)((double)turns[i] * ROUND / d) + 1;
+    least[i] = 1e9;
+  }
+  if (!have) return;
+  for (int r = 0; r < ROUNDS; ++r)
+    for (int i = 0; i < count; ++i) {
+      if (!calls[i]) continue;
+      double d = seconds(t, calls[i], turns[i]) / (double)turns[i] / (double)t->count;
+      if (d < least[i]) least[i] = d;
+    }
+  printf("%-28s", t->label);
+  for (int i = 0; i < count; ++i) {
+    if (calls[i])
+      printf(" %11.1f ns %7.2f ns/byte %6.0f MB/s", least[i] * 1e9, least[i] * 1e9 / (double)t->bytes,
+             (double)t->bytes / least[i] / 1e6);
+    else
+      printf(" %11s    %7s         %6s     ", "-", "-", "-");
+  }
+  if (count > 1 && calls[0] && calls[1]) printf("  %5.2f x", least[1] / least[0]);
+  printf("\n");
+  fflush(stdout);
+}
+
+static uint8_t *load(const char *folder, const char *name, size_t *len) {
+  char path[4096];
+  snprintf(path, sizeof path, "%s/%s", folder, name);
+  FILE *file = fopen(path, "rb");
+  if (!file) {
+    perror(path);
+    exit(1);
+  }
+  fseek(file, 0, SEEK_END);
+  *len = (size_t)ftell(file);
+  rewind(file);
+  uint8_t *bytes = malloc(*len + 1);
+  if (fread(bytes, 1, *len, file) != *len) exit(1);
+  fclose(file);
+  return bytes;
+}
+
+static void frames(const char *folder, void **libraries, int count) {
+  static const char *const symbols[] = {"bench_list", "bench_poll", "bench_drive"};
+  static const char *const files[][2] = {{"frames-1MiB.bin", "payloads 0 to 40"}, {"frames-tiny-1MiB.bin", "payloads 0 to 3"}};
+  for (int f = 0; f < 2; ++f)
+    for (int s = 0; s < 3; ++s) {
+      char label[64];
+      snprintf(label, sizeof label, "%s, %s", symbols[s] + 6, files[f][1]);
+      input in = {.wanted = -1};
+      in.bytes = load(folder, files[f][0], &in.len);
+      task t = {.label = label, .symbol = symbols[s], .inputs = &in, .count = 1, .bytes = in.len};
+      measure(&t, libraries, count);
+    }
+}
+
+/* Header text in pieces of one length, and their codes, which come from the first library that has one. */
+static void pieces(const uint8_t *text, size_t len, size_t each, const char *name, writes encode, void **libraries, int count) {
+  static input plain[PIECES], coded[PIECES];
+  size_t many = len / each < PIECES ? len / each : PIECES, room = 4 * each + 64;
+  uint8_t *strings = malloc(many * room);
+  for (size_t i = 0; i < many; ++i) {
+    const uint8_t *piece = text + i * (len / many);
+    uint8_t *string = strings + i * room;
+    int64_t string_len = encode(piece, each, string, room);
+    plain[i] = (input){piece, each, string_len, string};
+    coded[i] = (input){string, (size_t)string_len, (int64_t)each, piece};
+  }
+  char label[64];
+  task t = {.label = label, .symbol = "bench_huffman_decode", .has_out = 1, .inputs = coded, .count = many, .bytes = each};
+  snprintf(label, sizeof label, "huffman decode, %s", name);
+  measure(&t, libraries, count);
+  t.symbol = "bench_huffman_encode";
+  t.inputs = plain;
+  snprintf(label, sizeof label, "huffman encode, %s", name);
+  measure(&t, libraries, count);
+}
+
+/* Header text of several lengths, from 64 KiB of it whose code, made by another encoder, is in a file. */
+static void huffman(const char *folder, void **libraries, int count) {
+  static const struct { size_t len; const char *name; } sizes[] = {{8, "8 bytes"}, {64, "64 bytes"}, {4096, "4 KiB"}, {65536, "64 KiB"}};
+  size_t len, coded_len;
+  uint8_t *text = load(folder, "header-text-64KiB.bin", &len), *coded = load(folder, "header-text-64KiB.huff", &coded_len);
+  writes encode = NULL;
+  for (int i = 0; i < count && !encode; ++i) encode = (writes)dlsym(libraries[i], "bench_huffman_encode");
+  if (!encode) return;
+  if (encode(text, len, out, sizeof out) != (int64_t)coded_len || memcmp(out, coded, coded_len)) {
+    printf("the code of 64 KiB is not that of the file\n");
+    exit(1);
+  }
+  for (size_t i = 0; i < sizeof sizes / sizeof *sizes; ++i) pieces(text, len, sizes[i].len, sizes[i].name, encode, libraries, count);
+  uint8_t *whole = malloc(1 << 20);
+  for (size_t i = 0; i < 1 << 20; ++i) whole[i] = text[i % len];
+  pieces(whole, 1 << 20, 1 << 20, "1 MiB", encode, libraries, count);
+}
+
+/* A file of pairs: how many, then for each two lengths and its name and value; numbers of four bytes, lowest first. */
+static size_t pairs_of(const uint8_t *at, bench_pair *pairs) {
+  uint32_t count, name, value;
+  memcpy(&count, at, 4);
+  at += 4;
+  for (uint32_t i = 0; i < count; ++i) {
+    memcpy(&name, at, 4);
+    memcpy(&value, at + 4, 4);
+    pairs[i] = (bench_pair){at + 8, name, at + 8 + name, value};
+    at += 8 + name + value;
+  }
+  return count;
+}
+
+static void sections(const char *folder, void **libraries, int count) {
+  static const char *const sets[] = {"request", "20-fields"};
+  static bench_pair pairs[PAIRS];
+  for (int i = 0; i < 2; ++i) {
+    char name[64], label[64];
+    size_t len;
+    snprintf(name, sizeof name, "pairs-%s.bin", sets[i]);
+    size_t fields = pairs_of(load(folder, name, &len), pairs);
+    input section = {.wanted = (int64_t)fields}, map = {.len = fields, .wanted = -1};
+    snprintf(name, sizeof name, "section-%s.bin", sets[i]);
+    section.bytes = load(folder, name, &section.len);
+    task decode = {.label = label, .symbol = "bench_qpack_decode", .inputs = &section, .count = 1, .bytes = section.len};
+    snprintf(label, sizeof label, "qpack decode, %s", sets[i]);
+    measure(&decode, libraries, count);
+    task encode = {.label = label, .symbol = "bench_qpack_encode", .pairs = pairs, .inputs = &map, .count = 1, .bytes = section.len};
+    snprintf(label, sizeof label, "qpack encode, %s", sets[i]);
+    measure(&encode, libraries, count);
+  }
+}
+
+static void settings(const char *folder, void **libraries, int count) {
+  input in = {.wanted = 1};
+  in.bytes = load(folder, "settings.bin", &in.len);
+  task t = {.label = "settings decode", .symbol = "bench_settings", .inputs = &in, .count = 1, .bytes = in.len};
+  measure(&t, libraries, count);
+}
+
+int main(int argc, char **argv) {
+  void *libraries[LIBRARIES];
+  int count = argc - 2;
+  if (count < 1 || count > LIBRARIES) {
+    fprintf(stderr, "driver INPUTS NAME=LIBRARY.so ..\n");
+    return 1;
+  }
+  printf("%-28s", "");
+  for (int i = 0; i < count; ++i) {
+    char *path = strchr(argv[i + 2], '=');
+    if (!path) return 1;
+    *path++ = 0;
+    libraries[i] = dlopen(path, RTLD_NOW | RTLD_LOCAL);
+    if (!libraries[i]) {
+      fprintf(stderr, "%s\n", dlerror());
+      return 1;
+    }
+    printf(" %-41s", argv[i + 2]);
+  }
+  printf("%s\n", count > 1 ? " second : first" : "");
+  frames(argv[1], libraries, count);
+  huffman(argv[1], libraries, count);
+  sections(argv[1], libraries, count);
+  settings(argv[1], libraries, count);
+  return 0;
+}

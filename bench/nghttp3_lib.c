@@ -1,0 +1,125 @@
+/* abi.h over nghttp3: QPACK with no dynamic table. Its Huffman code is not exported, so that is measured through a
+   section of one line, a literal name "x" with the text as its value. It takes values of at most 64 KiB. */
+#include "abi.h"
+#include <nghttp3/nghttp3.h>
+#include <stdlib.h>
+#include <string.h>
+
+static const nghttp3_mem *mem(void) { return nghttp3_mem_default(); }
+
+/* Reads a section; where out is given, the value of the last line goes there. */
+static int64_t decode(const uint8_t *section, size_t len, uint8_t *out, size_t *value_len) {
+  static nghttp3_qpack_decoder *decoder;
+  static nghttp3_qpack_stream_context *context;
+  if (!decoder) {
+    nghttp3_qpack_decoder_new(&decoder, 0, 0, mem());
+    nghttp3_qpack_stream_context_new(&context, 0, mem());
+  } else {
+    nghttp3_qpack_stream_context_reset(context);
+  }
+  int64_t pairs = 0;
+  const uint8_t *end = section + len;
+  for (;;) {
+    nghttp3_qpack_nv pair;
+    uint8_t flags = 0;
+    nghttp3_ssize taken =
+        nghttp3_qpack_decoder_read_request(decoder, context, &pair, &flags, section, (size_t)(end - section), 1);
+    if (taken < 0) return -1;
+    section += taken;
+    if (flags & NGHTTP3_QPACK_DECODE_FLAG_EMIT) {
+      ++pairs;
+      if (out) {
+        nghttp3_vec value = nghttp3_rcbuf_get_buf(pair.value);
+        memcpy(out, value.base, value.len);
+        *value_len = value.len;
+      }
+      nghttp3_rcbuf_decref(pair.name);
+      nghttp3_rcbuf_decref(pair.value);
+    }
+    if (flags & NGHTTP3_QPACK_DECODE_FLAG_FINAL) return pairs;
+  }
+}
+
+static int64_t encode(const nghttp3_nv *pairs, size_t count, uint8_t *out, size_t room) {
+  static nghttp3_qpack_encoder *encoder;
+  static nghttp3_buf prefix, lines, stream;
+  if (!encoder) {
+    nghttp3_qpack_encoder_new(&encoder, 0, mem());
+    nghttp3_buf_init(&prefix);
+    nghttp3_buf_init(&lines);
+    nghttp3_buf_init(&stream);
+  }
+  nghttp3_buf_reset(&prefix);
+  nghttp3_buf_reset(&lines);
+  nghttp3_buf_reset(&stream);
+  if (nghttp3_qpack_encoder_encode(encoder, &prefix, &lines, &stream, 0, pairs, count)) return -1;
+  size_t front = nghttp3_buf_len(&prefix), behind = nghttp3_buf_len(&lines);
+  if (front + behind > room) return -1;
+  memcpy(out, prefix.pos, front);
+  memcpy(out + front, lines.pos, behind);
+  return (int64_t)(front + behind);
+}
+
+int64_t bench_qpack_decode(const uint8_t *section, size_t len) { return decode(section, len, NULL, NULL); }
+
+int64_t bench_qpack_encode(const bench_pair *pairs, size_t count, uint8_t *out, size_t room) {
+  nghttp3_nv named[64];
+  if (count > 64) return -1;
+  for (size_t i = 0; i < count; ++i) {
+    named[i] = (nghttp3_nv){(uint8_t *)pairs[i].name, (uint8_t *)pairs[i].value, pairs[i].name_len,
+                            pairs[i].value_len, NGHTTP3_NV_FLAG_NONE};
+  }
+  return encode(named, count, out, room);
+}
+
+/* The section that has this Huffman text as its value; made once for each text. */
+static uint8_t *section_of(const uint8_t *text, size_t len, size_t *section_len) {
+  static struct { const uint8_t *text; size_t len; uint8_t *section; size_t section_len; } made[1 << 13];
+  size_t slot = ((uintptr_t)text >> 5) % (1 << 13);
+  if (made[slot].text != text || made[slot].len != len) {
+    free(made[slot].section);
+    uint8_t *section = malloc(len + 16), *at = section;
+    *at++ = 0;
+    *at++ = 0;
+    *at++ = 0x21;
+    *at++ = 'x';
+    if (len < 127) {
+      *at++ = (uint8_t)(0x80 | len);
+    } else {
+      *at++ = 0xff;
+      size_t rest = len - 127;
+      for (; rest >= 128; rest >>= 7) *at++ = (uint8_t)(0x80 | (rest & 127));
+      *at++ = (uint8_t)rest;
+    }
+    memcpy(at, text, len);
+    made[slot].text = text;
+    made[slot].len = len;
+    made[slot].section = section;
+    made[slot].section_len = (size_t)(at - section) + len;
+  }
+  *section_len = made[slot].section_len;
+  return made[slot].section;
+}
+
+int64_t bench_huffman_decode(const uint8_t *text, size_t len, uint8_t *out, size_t room) {
+  size_t section_len, value_len = 0;
+  if (len > 65536 || room < 2 * len) return -1; /* at most 64 KiB once decoded, which header text is */
+  uint8_t *section = section_of(text, len, &section_len);
+  return decode(section, section_len, out, &value_len) == 1 ? (int64_t)value_len : -1;
+}
+
+int64_t bench_huffman_encode(const uint8_t *text, size_t len, uint8_t *out, size_t room) {
+  static uint8_t section[1 << 18];
+  nghttp3_nv pair = {(uint8_t *)"x", (uint8_t *)text, 1, len, NGHTTP3_NV_FLAG_NONE};
+  if (len > 65536) return -1;
+  int64_t section_len = encode(&pair, 1, section, sizeof section);
+  if (section_len < 5) return -1;
+  size_t head = 5; /* behind the prefix, the name, and the first byte of the value's length */
+  if ((section[4] & 127) == 127) {
+    while (section[head++] & 0x80) {}
+  }
+  size_t coded = (size_t)section_len - head;
+  if (coded > room) return -1;
+  memcpy(out, section + head, coded);
+  return (int64_t)coded;
+}

@@ -1,0 +1,236 @@
+//! The program, over readers and writers of the tests' own.
+use std::alloc::{AllocError, Global};
+use std::io::{self, Read, Write};
+use std::test::Fail;
+use wt_frames::run_program;
+
+/// Gives these bytes, so many a call, and then fails or ends.
+#[derive(Drop)]
+struct Input<'a> {
+    bytes: &'a [u8],
+    step: usize,
+    fails: bool,
+}
+
+impl Read for Input<'_> {
+    fn read(&mut self, buf: &mut [u8]) -> io::Result<usize> {
+        let count = self.step.min(self.bytes.len()).min(buf.len());
+        if count == 0 && self.fails {
+            return Err(io::Error::from(io::ErrorKind::TimedOut));
+        }
+        let (front, rest) = self.bytes.split_at(count);
+        buf[..count].copy_from_slice(front);
+        self.bytes = rest;
+        Ok(count)
+    }
+}
+
+/// Takes so many bytes, and then fails.
+#[derive(Drop)]
+struct Output {
+    bytes: Vec<u8>,
+    room: usize,
+}
+
+impl Output {
+    fn new(alloc: Global, room: usize) -> Self {
+        Output {
+            bytes: Vec::new(alloc),
+            room,
+        }
+    }
+}
+
+impl Write for Output {
+    fn write(&mut self, buf: &[u8]) -> io::Result<usize> {
+        let count = self.room.min(buf.len());
+        if count == 0 && !buf.is_empty() {
+            return Err(io::Error::from(io::ErrorKind::BrokenPipe));
+        }
+        self.bytes.extend_from_slice(&buf[..count])?;
+        self.room -= count;
+        Ok(count)
+    }
+
+    fn flush(&mut self) -> io::Result<()> {
+        Ok(())
+    }
+}
+
+/// What a run of the program answered and wrote.
+#[derive(Drop)]
+struct Ran {
+    status: u8,
+    output: Vec<u8>,
+    errors: Vec<u8>,
+}
+
+fn run(
+    alloc: Global,
+    words: &[&str],
+    input: &mut Input<'_>,
+    room: usize,
+    error_room: usize,
+) -> Result<Ran, AllocError> {
+    let mut texts = Vec::new(alloc);
+    for word in words {
+        texts.push(String::from_str(alloc, word)?)?;
+    }
+    let mut output = Output::new(alloc, room);
+    let mut errors = Output::new(alloc, error_room);
+    let status = run_program(alloc, texts.as_slice(), input, &mut output, &mut errors);
+    Ok(Ran {
+        status,
+        output: output.bytes,
+        errors: errors.bytes,
+    })
+}
+
+const INPUT: [u8; 6] = [0x40, 0x41, 0x04, 0x00, 0x01, 0x61];
+
+const LISTING: &str = "WEBTRANSPORT 4\nDATA 1\nEND 0\n";
+
+#[test]
+fn the_words_choose_the_listing(rt: HostRuntime) -> Result<(), Fail> {
+    let rows: [(&[&str], bool); 8] = [
+        (&[], true),
+        (&["buffer"], true),
+        (&["buffer", "bi-remote"], true),
+        (&["buffer", "bi-remote", "x"], false),
+        (&["buffer", "uni"], false),
+        (&["stepped"], false),
+        (&["request"], false),
+        (&[""], false),
+    ];
+    for (words, good) in rows {
+        let mut input = Input {
+            bytes: &INPUT,
+            step: 1,
+            fails: false,
+        };
+        let ran = run(rt.alloc(), words, &mut input, 100, 100)?;
+        if good {
+            assert_eq!(rt; ran.status, 0);
+            assert_eq!(rt; ran.output.as_slice(), LISTING.as_bytes());
+            assert!(rt; ran.errors.is_empty());
+        } else {
+            assert_eq!(rt; ran.status, 1);
+            assert_eq!(rt; ran.errors.as_slice(), b"wt_frames: usage\n".as_slice());
+            assert!(rt; ran.output.is_empty());
+            assert_eq!(rt; input.bytes.len(), 6, "nothing was read");
+        }
+    }
+    Ok(())
+}
+
+#[test]
+fn a_fault_of_the_stream_is_listed(rt: HostRuntime) -> Result<(), Fail> {
+    let mut input = Input {
+        bytes: &[0x40, 0x41, 0x01],
+        step: 2,
+        fails: false,
+    };
+    let ran = run(rt.alloc(), &[], &mut input, 100, 100)?;
+    assert_eq!(rt; ran.status, 2);
+    assert_eq!(rt; ran.output.as_slice(), b"FAULT IdError 264\n".as_slice());
+    assert!(rt; ran.errors.is_empty());
+    Ok(())
+}
+
+#[test]
+fn a_failing_read_ends_the_run(rt: HostRuntime) -> Result<(), Fail> {
+    let mut input = Input {
+        bytes: &INPUT,
+        step: 4,
+        fails: true,
+    };
+    let ran = run(rt.alloc(), &[], &mut input, 100, 100)?;
+    assert_eq!(rt; ran.status, 3);
+    assert_eq!(rt;
+        ran.errors.as_slice(),
+        b"wt_frames: read fault\n".as_slice()
+    );
+    assert!(rt; ran.output.is_empty());
+    Ok(())
+}
+
+#[test]
+fn a_failing_write_ends_the_run(rt: HostRuntime) -> Result<(), Fail> {
+    for room in [0, 5, 27] {
+        let mut input = Input {
+            bytes: &INPUT,
+            step: 100,
+            fails: false,
+        };
+        let ran = run(rt.alloc(), &["buffer"], &mut input, room, 100)?;
+        assert_eq!(rt; ran.status, 3, "{room}");
+        assert_eq!(rt;
+            ran.errors.as_slice(),
+            b"wt_frames: write fault\n".as_slice()
+        );
+        assert_eq!(rt; ran.output.len(), room);
+    }
+    Ok(())
+}
+
+#[test]
+fn a_fault_of_the_error_output_is_ignored(rt: HostRuntime) -> Result<(), Fail> {
+    let mut input = Input {
+        bytes: &INPUT,
+        step: 100,
+        fails: false,
+    };
+    let ran = run(rt.alloc(), &["x"], &mut input, 100, 3)?;
+    assert_eq!(rt; ran.status, 1);
+    assert_eq!(rt; ran.errors.as_slice(), b"wt_".as_slice());
+    Ok(())
+}
+
+#[test]
+fn long_input_is_refused(rt: HostRuntime) -> Result<(), Fail> {
+    let alloc = rt.alloc();
+    for (size, status) in [(1048576, 0), (1048577, 3)] {
+        // Unknown frames of no payload.
+        let bytes = vec![in alloc; 2; size]?;
+        let mut input = Input {
+            bytes: bytes.as_slice(),
+            step: 4096,
+            fails: false,
+        };
+        let ran = run(alloc, &[], &mut input, 100, 100)?;
+        assert_eq!(rt; ran.status, status, "{size}");
+        if status == 3 {
+            assert_eq!(rt;
+                ran.errors.as_slice(),
+                b"wt_frames: input too long\n".as_slice()
+            );
+            assert!(rt; ran.output.is_empty());
+        }
+    }
+    Ok(())
+}
+
+#[test]
+fn refused_memory_has_its_status(rt: HostRuntime) {
+    let alloc = rt.alloc();
+    let mut input = Input {
+        bytes: &INPUT,
+        step: 100,
+        fails: false,
+    };
+    let mut output = Output::new(alloc, 100);
+    let mut errors = Output::new(alloc, 100);
+    let status = run_program(alloc, &[], &mut input, &mut output, &mut errors);
+    if status == 4 {
+        assert_eq!(rt;
+            errors.bytes.as_slice(),
+            b"wt_frames: no memory\n".as_slice()
+        );
+        assert!(rt; output.bytes.is_empty());
+    } else if status == 0 {
+        assert_eq!(rt; output.bytes.as_slice(), LISTING.as_bytes());
+    } else {
+        // The refused allocation was one of the test's own output.
+        assert_eq!(rt; status, 3);
+    }
+}

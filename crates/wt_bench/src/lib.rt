@@ -1,0 +1,45 @@
+//! The calls that the benchmark's driver makes, for C. Each answers a count, or -1 at a refusal; the driver compares
+//! the bytes that they put out.
+#![tactic(auto)]
+
+ghost use Rattle.std.specs.Prelude.{◌≡◌, ◌≢◌, ◌≤◌, ◌<◌, ℕ, pos, negsuc, List, length};
+ghost use Rattle.wtp_fields.specs.Huffman.{IsHuffman};
+
+use std::alloc::Global;
+use wtp_fields::huffman;
+
+/// Copies bytes to the front of `out`, and answers how many, or -1 where it has too little room.
+fn put(bytes: &[u8], out: &mut [u8]) -> i64
+    ensures count { length bytes.now ≤ length out.old → result ≡ pos (length bytes.now) }
+    ensures none { length out.old < length bytes.now → result ≡ negsuc 0 }
+{
+    match out.split_at_mut_checked(bytes.len()) {
+        Some((front, _)) => {
+            front.copy_from_slice(bytes);
+            bytes.len().cast_signed() as i64
+        }
+        None => -1,
+    }
+}
+
+/// Decodes Huffman text: the bytes put into `out`.
+#[unsafe(no_mangle)]
+pub extern "C" fn wt_bench_huffman_decode(alloc: Global, text: &[u8], out: &mut [u8]) -> i64
+    ensures { result ≢ negsuc 0 → (t : List ℕ) × IsHuffman t text.now × (result ≡ pos (length t)) }
+{
+    match huffman::decode(alloc, text) {
+        Ok(plain) => put(plain.as_slice(), out),
+        Err(_) => -1,
+    }
+}
+
+/// Encodes text in the Huffman code: the bytes put into `out`.
+#[unsafe(no_mangle)]
+pub extern "C" fn wt_bench_huffman_encode(alloc: Global, text: &[u8], out: &mut [u8]) -> i64
+    ensures { result ≢ negsuc 0 → (s : List ℕ) × IsHuffman text.now s × (result ≡ pos (length s)) }
+{
+    match huffman::encode(alloc, text) {
+        Ok(coded) => put(coded.as_slice(), out),
+        Err(_) => -1,
+    }
+}

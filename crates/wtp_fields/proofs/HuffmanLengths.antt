@@ -1,0 +1,26 @@
+-- How long coded texts are.
+use Rattle.std.proofs.Common.{◌≡◌, ℕ, ◌+◌, ◌<◌, ◌≤◌, List, [], ◌∷◌, ◌++◌, length, take, drop, get_or, ap, sym, ◌∙◌, arith}
+use Rattle.std.proofs.lemmas.List.{length-append, take_more, take-append-drop}
+use Rattle.wtp_fields.specs.Huffman.{word_of, code, coded, coded_len, IsHuffman}
+use Rattle.wtp_fields.proofs.HuffmanBits.{length_bits}
+use Rattle.wtp_fields.proofs.HuffmanWords.{length_code}
+use Rattle.wtp_fields.proofs.HuffmanReading.{coded_append, coded_one}
+
+-- one word more
+pub coded_more : (text : List ℕ) (i : ℕ) → i < length text
+    → length (coded (take (i + 1) text)) ≡ length (coded (take i text)) + (word_of (get_or text i 0)).bits
+coded_more text i lt =
+    let x : ℕ = get_or text i 0 in
+    let cut : coded (take (i + 1) text) ≡ coded (take i text) ++ code x =
+    ap coded (take_more text i 0 lt) ∙ coded_append (take i text) (x ∷ []) ∙ ap (λ z. coded (take i text) ++ z) (coded_one x) in
+    omega (arith, ap length cut, length-append (coded (take i text)) (code x), length_code x)
+
+-- a text's words are no fewer bits than those of its front
+pub coded_front : (text : List ℕ) (i : ℕ) → length (coded (take i text)) ≤ length (coded text)
+coded_front text i =
+    let cut : coded text ≡ coded (take i text) ++ coded (drop i text) = ap coded (sym (take-append-drop i text)) ∙ coded_append (take i text) (drop i text) in
+    omega (arith, ap length cut, length-append (coded (take i text)) (coded (drop i text)))
+
+-- the string that is coded so
+pub huffman_length : (t s : List ℕ) → IsHuffman t s → length s ≡ coded_len t
+huffman_length t s (bytes, pad, p, e) = omega (arith, ap length e, length-append (coded t) pad, length_bits s, p.0)

@@ -1,0 +1,15 @@
+-- A section with one more line.
+use Rattle.std.proofs.Common.{◌≡◌, List, [], ◌∷◌, ◌++◌, map, sym, ◌∙◌, ap, append_assoc, append-nil}
+use Rattle.std.proofs.lemmas.List.{map-append}
+use Rattle.std.specs.List.{flat_map}
+use Rattle.wtp_fields.specs.Field.{Field}
+use Rattle.wtp_fields.specs.FieldLine.{encoded_line}
+use Rattle.wtp_fields.specs.FieldSection.{section_of}
+
+pub section_push : {X : Type 0} (f : X → Field) (ps : List X) (p : X) → section_of (map f (ps ++ p ∷ [])) ≡ section_of (map f ps) ++ encoded_line (f p)
+unfolding section_of
+section_push f ps p = ap (λ z. 0 ∷ 0 ∷ z) (ap (flat_map encoded_line) (map-append f ps (p ∷ [])) ∙ all (map f ps))
+  where
+    all : (qs : List Field) → flat_map encoded_line (qs ++ f p ∷ []) ≡ flat_map encoded_line qs ++ encoded_line (f p)
+    all [] = append-nil (encoded_line (f p))
+    all (q ∷ qs) = ap (λ z. encoded_line q ++ z) (all qs) ∙ sym (append_assoc (encoded_line q) (flat_map encoded_line qs) (encoded_line (f p)))

@@ -1,0 +1,66 @@
+-- Fields: a name and a value, as bytes; and the map of them.
+use Rattle.std.specs.Prelude.{ℕ, ◌<◌, ◌^◌, List, [], ◌∷◌, map, length, Option, Some, None, if◌then◌else◌, string_bytes, String, IsUtf8}
+use Rattle.std.specs.Borrow.{Bor}
+use Rattle.std.specs.List.{fold}
+use Rattle.std.specs.List.Sorted.{IsStrictlySortedBy}
+use Rattle.std.specs.Str.{bytes_eq}
+use Rattle.std.specs.Global.{Global}
+use Rattle.std.specs.Cmp.Lexicographic.{slice_cmp}
+use Rattle.std.specs.Ordering.{nat_cmp}
+use Rattle.std.specs.BTreeMap.{BTreeMap, insert_entry}
+
+-- a name and a value
+abbrev pub Field : Type 0
+Field = List ℕ × List ℕ
+
+-- a pair of texts that is lent
+abbrev pub lent_field : Bor (List ℕ) × Bor (List ℕ) → Field
+lent_field e = (e.0.now, e.1.now)
+
+-- pairs of texts that are lent
+abbrev pub lent : List (Bor (List ℕ) × Bor (List ℕ)) → List Field
+lent = map lent_field
+
+-- a text of fewer than 2^64 bytes
+pub record IsText (t : List ℕ) : Type 0 where
+  pub utf8 : IsUtf8 t
+  pub few : length t < 2 ^ 64
+
+abbrev pub AreTexts : List Field → Type 0
+AreTexts [] = Unit {0}
+AreTexts (field ∷ fields) = IsText field.0 × IsText field.1 × AreTexts fields
+
+-- ---- maps
+
+abbrev pub held_field : String Global × String Global → Field
+held_field e = (string_bytes e.0, string_bytes e.1)
+
+-- what a map holds, by the bytes of the names
+abbrev pub held : BTreeMap (String Global) (String Global) → List Field
+held m = map held_field m.entries
+
+-- each name once, in the order of their bytes
+abbrev pub IsMap : List Field → Type 0
+IsMap fields = IsStrictlySortedBy (slice_cmp nat_cmp) (map (λ (field : Field). field.0) fields)
+
+-- a field put into a map, in place of the one of its name
+abbrev pub put : List Field → Field → List Field
+put fields field = insert_entry (slice_cmp nat_cmp) fields field.0 field.1
+
+-- the map of lines: each put into it in turn
+unfoldable pub field_map : List Field → List Field
+field_map = fold put []
+
+-- the value of the first field of a name
+abbrev pub value_of : List ℕ → List Field → Option (List ℕ)
+value_of name [] = None
+value_of name (field ∷ fields) = if bytes_eq field.0 name then Some field.1 else value_of name fields
+
+abbrev pub or_else : Option (List ℕ) → Option (List ℕ) → Option (List ℕ)
+or_else (Some value) other = Some value
+or_else None other = other
+
+-- the value of the last line of a name
+abbrev pub last_value : List ℕ → List Field → Option (List ℕ)
+last_value name [] = None
+last_value name (line ∷ lines) = or_else (last_value name lines) (if bytes_eq line.0 name then Some line.1 else None)

@@ -1,0 +1,48 @@
+-- Field sections (RFC 9204, section 4.5).
+use Rattle.std.specs.Prelude.{◌≡◌, ℕ, zero, suc, List, [], ◌∷◌, length, Result, Ok}
+use Rattle.std.specs.List.{flat_map}
+use Rattle.wtp_fields.specs.declared.qpack.DecodingError.{DecodingError}
+use Rattle.wtp_fields.specs.Field.{Field, field_map}
+use Rattle.wtp_fields.specs.Reading.{◌>>=◌}
+use Rattle.wtp_fields.specs.Integer.{integer_at}
+use Rattle.wtp_fields.specs.FieldLine.{line_at, encoded_line}
+
+-- The bytes behind the prefix of a section (section 4.5.1): the Required Insert Count, an integer of prefix 8, and
+-- the Delta Base, one of prefix 7. Both are passed over.
+unfoldable pub lines_behind : List ℕ → Result (List ℕ) DecodingError
+lines_behind bytes = do
+  count ← integer_at 8 bytes
+  base ← integer_at 7 count.1
+  Ok base.1
+
+-- these lines stand at the front of the bytes, one behind the other, and the rest behind them
+abbrev pub AreLines : List ℕ → List Field → List ℕ → Type 0
+AreLines bytes [] rest = bytes ≡ rest
+AreLines bytes (line ∷ lines) rest = (behind : List ℕ) × (line_at bytes ≡ Ok (line, behind)) × AreLines behind lines rest
+
+-- ---- reading
+
+-- the lines until the end, at most n: each has a byte at least
+unfoldable pub lines_at : ℕ → List ℕ → Result (List Field) DecodingError
+lines_at n [] = Ok []
+lines_at zero (b ∷ bs) = Ok []
+lines_at (suc n) (b ∷ bs) = do
+  line ← line_at (b ∷ bs)
+  lines ← lines_at n line.1
+  Ok (line.0 ∷ lines)
+
+-- the lines of a section, or its first fault
+unfoldable pub section_at : List ℕ → Result (List Field) DecodingError
+section_at bytes = do
+  lines ← lines_behind bytes
+  lines_at (length lines) lines
+
+-- the map of a section's lines
+unfoldable pub map_at : List ℕ → Result (List Field) DecodingError
+map_at bytes = section_at bytes >>= λ lines. Ok (field_map lines)
+
+-- ---- writing
+
+-- an empty prefix, and the line of each field in turn
+unfoldable pub section_of : List Field → List ℕ
+section_of fields = 0 ∷ 0 ∷ flat_map encoded_line fields

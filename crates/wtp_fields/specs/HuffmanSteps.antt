@@ -1,0 +1,18 @@
+-- How far a Huffman text was decoded or encoded.
+use Rattle.std.specs.Prelude.{◌≡◌, ℕ, ◌^◌, ◌<◌, ◌≤◌, Bool, List, ◌++◌}
+use Rattle.wtp_fields.specs.Huffman.{bits_of, low_bits, coded, IsBytes, IsCoded, IsHuffman}
+
+-- The text begins with the code words of out, and each text that is coded so begins with out: what is left of it is
+-- coded by these bits.
+pub record Reads (text out : List ℕ) (bits : List Bool) : Type 0 where
+  pub bytes : IsBytes out
+  pub so_far : bits_of text ≡ coded out ++ bits
+  pub each : (t : List ℕ) → IsHuffman t text → (u : List ℕ) × (t ≡ out ++ u) × IsCoded u bits
+
+-- Bytes and a few bits behind them, before and after bytes were given out: together the same bits, and fewer than
+-- most still wait.
+pub record Keeps (most : ℕ) (old : List ℕ) (count waiting : ℕ) (new : List ℕ) (left rest : ℕ) : Type 0 where
+  pub same : bits_of new ++ low_bits left rest ≡ bits_of old ++ low_bits count waiting
+  pub few : left < most
+  pub fewer : left ≤ count
+  pub fits : rest < 2 ^ left

@@ -1,0 +1,12 @@
+pub mod HuffmanRows
+pub mod Huffman
+pub mod HuffmanTables
+pub mod HuffmanSteps
+pub mod Reading
+pub mod Integer
+pub mod Field
+pub mod StaticTable
+pub mod StaticNames
+pub mod StringLiteral
+pub mod FieldLine
+pub mod FieldSection

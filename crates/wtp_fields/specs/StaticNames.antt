@@ -1,0 +1,25 @@
+-- The names of the static table in the order of their bytes, by which an index is looked up.
+use Rattle.std.specs.Prelude.{ℕ, List, map}
+use Rattle.std.specs.Borrow.{Bor}
+use Rattle.std.specs.Ordering.{nat_cmp}
+use Rattle.std.specs.Cmp.Lexicographic.{slice_cmp}
+use Rattle.std.specs.List.Sorted.{IsStrictlySortedBy}
+use Rattle.wtp_fields.specs.declared.qpack.static_table.TheConstants.{NAMES}
+
+-- a name and an index
+abbrev pub Numbered : Type 0
+Numbered = List ℕ × ℕ
+
+-- a name that is lent, and an index
+abbrev pub lent_name : Bor (List ℕ) × ℕ → Numbered
+lent_name e = (e.0.now, e.1)
+
+abbrev pub numbered : List (Bor (List ℕ) × ℕ) → List Numbered
+numbered = map lent_name
+
+-- each name is below those behind it, by bytes
+abbrev pub AreOrdered : List Numbered → Type 0
+AreOrdered names = IsStrictlySortedBy (slice_cmp nat_cmp) (map (λ (e : Numbered). e.0) names)
+
+unfoldable pub static_names : List Numbered
+static_names = map (λ e. (e.0.now, e.1)) NAMES

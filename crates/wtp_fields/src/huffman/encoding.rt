@@ -1,0 +1,79 @@
+//! From a text to code words.
+ghost use Rattle.std.specs.Prelude.{◌≡◌, ℕ, ◌<◌, ◌^◌, List, length, IfOk, IsOk, SomeIff};
+ghost use Rattle.wtp_fields.specs.Huffman.{coded_len, IsHuffman};
+ghost use Rattle.wtp_fields.specs.HuffmanSteps.{Keeps};
+
+use super::codes::code_of;
+use std::alloc::{AllocError, Global};
+
+/// The text in code words, and ones up to a whole byte (RFC 7541, section 5.2).
+///
+/// Memory is taken at once, as much as the text has, and more only for a text that gets longer; an empty text takes
+/// none and never fails.
+pub fn encode(alloc: Global, text: &[u8]) -> Result<Vec<u8>, AllocError>
+    ensures coded { IfOk result (λ s. IsHuffman text.now s.items) }
+    ensures empty { length text.now ≡ 0 → IsOk result }
+{
+    let mut out = Vec::with_capacity(alloc, text.len())?;
+    let mut waiting = 0u64;
+    let mut count = 0u32;
+    for byte in text {
+        let code = code_of(*byte);
+        let joined = (waiting << code.bits) + u64::from(code.number);
+        (waiting, count) = give_four(&mut out, joined, count + code.bits)?;
+    }
+    let (waiting, count) = give_out(&mut out, waiting, count)?;
+    if count > 0 {
+        let room = 8 - count;
+        out.push(((waiting << room) + ((1 << room) - 1)) as u8)?;
+    }
+    Ok(out)
+}
+
+/// How many bytes the coded text has; `None` exactly where `usize` does not hold them.
+pub fn encoded_len(text: &[u8]) -> Option<usize>
+    ensures value { SomeIff result (coded_len text.now < 2 ^ 64) (coded_len text.now) }
+    ensures length { (s : List ℕ) → IsHuffman text.now s → length s ≡ coded_len text.now }
+{
+    let mut bytes = 0usize;
+    let mut bits = 0u32;
+    for byte in text {
+        bits += code_of(*byte).bits;
+        bytes = bytes.checked_add((bits / 8) as usize)?;
+        bits %= 8;
+    }
+    if bits > 0 {
+        bytes.checked_add(1)
+    } else {
+        Some(bytes)
+    }
+}
+
+/// Gives out four bytes of the bits that wait where there are so many, and answers what still waits.
+fn give_four(out: &mut Vec<u8>, waiting: u64, count: u32) -> Result<(u64, u32), AllocError>
+    requires few { count < 64 }
+    requires fits { waiting < 2 ^ count }
+    ensures kept { IfOk result (λ r. Keeps 32 out.old.items count waiting out.new.items r.1 r.0) }
+{
+    if count < 32 {
+        return Ok((waiting, count));
+    }
+    let left = count - 32;
+    out.extend_from_slice(&((waiting >> left) as u32).to_be_bytes())?;
+    Ok((waiting % (1 << left), left))
+}
+
+/// Gives out whole bytes of the bits that wait, and answers what still waits.
+fn give_out(out: &mut Vec<u8>, mut waiting: u64, mut count: u32) -> Result<(u64, u32), AllocError>
+    requires few { count < 64 }
+    requires fits { waiting < 2 ^ count }
+    ensures kept { IfOk result (λ r. Keeps 8 out.old.items count waiting out.new.items r.1 r.0) }
+    ensures few { count < 8 → IsOk result }
+{
+    while count >= 8 {
+        count -= 8;
+        out.push((waiting >> count) as u8)?;
+        waiting %= 1 << count;
+    }
+    Ok((waiting, count))
+}

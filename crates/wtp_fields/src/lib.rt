@@ -1,0 +1,6 @@
+//! Header fields of HTTP/3: Huffman text and field sections.
+#![tactic(auto)]
+
+pub mod huffman;
+pub mod laws;
+pub mod qpack;

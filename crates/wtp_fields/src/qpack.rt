@@ -1,0 +1,110 @@
+//! Field sections of QPACK over the static table alone (RFC 9204, section 4.5).
+//!
+//! A peer that is told a table capacity of 0 writes no line that needs the dynamic table, and such a
+//! line is refused.
+
+ghost use Rattle.std.specs.Prelude.{◌≡◌, ◌<◌, ℕ, List, length, IfOk, IfErr, Ok};
+ghost use Rattle.std.specs.Borrow.{Bor};
+ghost use Rattle.std.specs.Iterator.{IsFinite, Drains};
+ghost use Rattle.wtp_fields.specs.declared.qpack.DecodingError.TheVariants.{Memory};
+ghost use Rattle.wtp_fields.specs.Field.{Field, held, lent};
+ghost use Rattle.wtp_fields.specs.Reading.{GivesUnlessMemory};
+ghost use Rattle.wtp_fields.specs.FieldSection.{lines_behind, AreLines, map_at, section_of};
+
+mod field_line;
+mod field_section;
+mod integer;
+mod static_table;
+mod string_literal;
+#[cfg(test)]
+mod tests;
+
+use std::alloc::{AllocError, AllocFailed, Global};
+use std::collections::BTreeMap;
+use thiserror::Error;
+
+/// Why a field section is not read.
+#[derive(Debug, Drop, Clone, Copy, PartialEq, Eq, Error)]
+pub enum DecodingError {
+    /// The bytes end within an integer, a string or the section's prefix.
+    #[error("end of stream reached prematurely")]
+    UnexpectedFin,
+    /// An integer passes 2^64 - 1.
+    #[error("integer overflow")]
+    IntegerOverflow,
+    /// A string is no Huffman text, or its bytes are not UTF-8.
+    #[error("invalid string decoding")]
+    InvalidString,
+    /// A field line refers to the dynamic table.
+    #[error("dynamic table is not supported")]
+    DynamicNotSupported,
+    /// The static table has no entry of an index.
+    #[error("index not found in the static table")]
+    IndexNotfound,
+    /// Memory was refused.
+    #[error("no memory")]
+    Memory,
+}
+
+impl From<AllocError> for DecodingError {
+    ghost from_gives = { λ _ e. e ≡ Memory };
+
+    fn from(_e: AllocError) -> DecodingError {
+        DecodingError::Memory
+    }
+}
+
+impl<T: Drop> From<AllocFailed<T>> for DecodingError {
+    ghost from_gives = { λ _ e. e ≡ Memory };
+
+    fn from(_e: AllocFailed<T>) -> DecodingError {
+        DecodingError::Memory
+    }
+}
+
+/// Reads field sections.
+pub struct Decoder;
+
+impl Decoder {
+    /// The map of a section's fields. The last value of a name wins.
+    ///
+    /// The first fault in the order of the bytes is answered: a line that needs the dynamic table is
+    /// refused before more of it is read, and an index that the static table lacks before the value.
+    /// [`DecodingError::Memory`] comes only where memory was refused at a line, all lines before which
+    /// are good. So a section without a line never answers it.
+    pub fn decode(alloc: Global, section: &[u8]) -> Result<BTreeMap<String, String>, DecodingError>
+        ensures read { GivesUnlessMemory (λ m. held m) result (map_at section.now) }
+        // Memory is refused only at a line that begins behind the prefix and good lines.
+        ensures memory { IfErr result (λ e. e ≡ Memory → (lines : List ℕ) × (ls : List Field) × (rest : List ℕ) × (lines_behind section.now ≡ Ok lines) × AreLines lines ls rest × (0 < length rest)) }
+    {
+        match field_section::skip_prefix(section) {
+            Ok(lines) => field_section::read_lines(alloc, lines),
+            Err(fault) => Err(fault),
+        }
+    }
+}
+
+/// Writes field sections.
+pub struct Encoder;
+
+impl Encoder {
+    /// The section of the pairs of a name and a value, in their order, by the static table alone.
+    ///
+    /// A line refers to the first static entry of its name: to the whole of it where the value is the
+    /// same, else to the name. A text is in the Huffman code where that is strictly shorter.
+    pub fn encode<'a, I: Iterator<Item = (&'a str, &'a str)> + Drop>(
+        alloc: Global,
+        pairs: I,
+    ) -> Result<Vec<u8>, AllocError>
+        requires can { I.can_next pairs }
+        requires finite { IsFinite (I.remaining pairs) }
+        ensures { IfOk result (λ v. (ps : List (Bor (List ℕ) × Bor (List ℕ))) × Drains I.next_gives pairs ps × (v.items ≡ section_of (lent ps))) }
+    {
+        let mut out = Vec::new(alloc);
+        out.extend_from_slice(&[0, 0])?;
+        for (name, value) in pairs {
+            field_line::write(alloc, &mut out, name, value)?;
+        }
+        Ok(out)
+    }
+}

@@ -1,0 +1,183 @@
+//! Field lines (RFC 9204, sections 4.5.2 to 4.5.6).
+
+ghost use Rattle.std.specs.Prelude.{◌≡◌, ◌++◌, ◌<◌, string_bytes, OnOk};
+ghost use Rattle.wtp_fields.specs.Reading.{Gives, GivesUnlessMemory};
+ghost use Rattle.wtp_fields.specs.StaticTable.{entry_at};
+ghost use Rattle.wtp_fields.specs.FieldLine.{bit, table_of, representation_of, or_not_found, indexed_at, name_reference_at, literal_name_at, line_by, line_at, has_value, encoded_line};
+
+use super::{DecodingError, integer, static_table, string_literal};
+use std::alloc::{AllocError, Global};
+
+/// The table that an index refers to, by the bit T.
+#[derive(Clone, Copy)]
+pub enum Table {
+    Static,
+    Dynamic,
+}
+
+/// What a field line is, by the first four bits.
+#[derive(Clone, Copy)]
+pub enum Representation {
+    /// `1T`: the field of an entry.
+    Indexed(Table),
+    /// `0001`: the field of an entry past the base.
+    IndexedPostBase,
+    /// `01NT`: the name of an entry, and a value.
+    NameReference(Table),
+    /// `0000`: the name of an entry past the base, and a value.
+    PostBaseNameReference,
+    /// `001N`: a name and a value.
+    LiteralName,
+}
+
+/// A field and the bytes behind its line.
+#[derive(Drop)]
+pub struct Line<'a> {
+    pub name: String,
+    pub value: String,
+    pub rest: &'a [u8],
+}
+
+/// Whether a bit is set, the lowest at 0.
+fn has_bit(byte: u8, place: u32) -> bool
+    requires { place < 8 }
+    ensures { result ≡ bit place byte }
+{
+    byte >> place & 1 == 1
+}
+
+/// The table that the bit T names.
+fn table_of(is_static: bool) -> Table
+    ensures { result ≡ table_of is_static }
+{
+    if is_static {
+        Table::Static
+    } else {
+        Table::Dynamic
+    }
+}
+
+/// What the line of a first byte is.
+pub fn representation_of(first: u8) -> Representation
+    ensures { result ≡ representation_of first }
+{
+    let bits = (
+        has_bit(first, 7),
+        has_bit(first, 6),
+        has_bit(first, 5),
+        has_bit(first, 4),
+    );
+    match bits {
+        (true, is_static, _, _) => Representation::Indexed(table_of(is_static)),
+        (false, true, _, is_static) => Representation::NameReference(table_of(is_static)),
+        (false, false, true, _) => Representation::LiteralName,
+        (false, false, false, true) => Representation::IndexedPostBase,
+        (false, false, false, false) => Representation::PostBaseNameReference,
+    }
+}
+
+/// The static entry of an index.
+fn entry(index: u64) -> Result<(&'static str, &'static str), DecodingError>
+    ensures { Gives (λ e. (e.0.now, e.1.now)) result (or_not_found (entry_at index)) }
+{
+    match static_table::entry(index) {
+        Some(entry) => Ok(entry),
+        None => Err(DecodingError::IndexNotfound),
+    }
+}
+
+/// The field of a static entry.
+#[tactic(auto, unfolding(crate::specs::FieldLine::indexed_at))]
+fn indexed(alloc: Global, bytes: &[u8]) -> Result<Line<'_>, DecodingError>
+    ensures { GivesUnlessMemory (λ x. ((string_bytes x.name, string_bytes x.value), x.rest.now)) result (indexed_at bytes.now) }
+{
+    let (index, rest) = integer::read::<6>(bytes)?;
+    let (name, value) = entry(index)?;
+    Ok(Line {
+        name: String::from_str(alloc, name)?,
+        value: String::from_str(alloc, value)?,
+        rest,
+    })
+}
+
+/// The name of a static entry, and a value.
+#[tactic(auto, unfolding(crate::specs::FieldLine::name_reference_at))]
+fn name_reference(alloc: Global, bytes: &[u8]) -> Result<Line<'_>, DecodingError>
+    ensures { GivesUnlessMemory (λ x. ((string_bytes x.name, string_bytes x.value), x.rest.now)) result (name_reference_at bytes.now) }
+{
+    let (index, rest) = integer::read::<4>(bytes)?;
+    let (name, _) = entry(index)?;
+    let (value, rest) = string_literal::read::<7>(alloc, rest)?;
+    let name = String::from_str(alloc, name)?;
+    Ok(Line { name, value, rest })
+}
+
+/// A name and a value.
+#[tactic(auto, unfolding(crate::specs::FieldLine::literal_name_at))]
+fn literal_name(alloc: Global, bytes: &[u8]) -> Result<Line<'_>, DecodingError>
+    ensures { GivesUnlessMemory (λ x. ((string_bytes x.name, string_bytes x.value), x.rest.now)) result (literal_name_at bytes.now) }
+{
+    let (name, rest) = string_literal::read::<3>(alloc, bytes)?;
+    let (value, rest) = string_literal::read::<7>(alloc, rest)?;
+    Ok(Line { name, value, rest })
+}
+
+/// The line at the front, of a representation. One that needs the dynamic table is refused before more is read.
+fn read_as(
+    alloc: Global,
+    representation: Representation,
+    bytes: &[u8],
+) -> Result<Line<'_>, DecodingError>
+    ensures { GivesUnlessMemory (λ x. ((string_bytes x.name, string_bytes x.value), x.rest.now)) result (line_by representation bytes.now) }
+{
+    match representation {
+        Representation::Indexed(Table::Static) => indexed(alloc, bytes),
+        Representation::NameReference(Table::Static) => name_reference(alloc, bytes),
+        Representation::LiteralName => literal_name(alloc, bytes),
+        Representation::Indexed(Table::Dynamic)
+        | Representation::NameReference(Table::Dynamic)
+        | Representation::IndexedPostBase
+        | Representation::PostBaseNameReference => Err(DecodingError::DynamicNotSupported),
+    }
+}
+
+/// The line at the front.
+pub fn read(alloc: Global, bytes: &[u8]) -> Result<Line<'_>, DecodingError>
+    ensures { GivesUnlessMemory (λ x. ((string_bytes x.name, string_bytes x.value), x.rest.now)) result (line_at bytes.now) }
+{
+    match bytes {
+        [] => Err(DecodingError::UnexpectedFin),
+        [first, ..] => read_as(alloc, representation_of(*first), bytes),
+    }
+}
+
+/// Whether the static entry of an index has this value.
+fn is_value(index: usize, value: &str) -> bool
+    ensures { result ≡ has_value (entry_at index) value.now }
+{
+    match static_table::entry(index as u64) {
+        Some((_, known)) => known == value,
+        None => false,
+    }
+}
+
+/// Appends the line of a field.
+#[tactic(auto, unfolding(crate::specs::FieldLine::encoded_line))]
+pub fn write(alloc: Global, out: &mut Vec<u8>, name: &str, value: &str) -> Result<(), AllocError>
+    ensures { OnOk result (out.new.items ≡ out.old.items ++ encoded_line (name.now, value.now)) }
+{
+    match static_table::first_entry(name) {
+        None => {
+            string_literal::write::<3>(alloc, out, 0b10, name)?;
+            string_literal::write::<7>(alloc, out, 0, value)
+        }
+        Some(index) => {
+            if is_value(index, value) {
+                integer::write::<6>(out, 0b11, index as u64)
+            } else {
+                integer::write::<4>(out, 0b0101, index as u64)?;
+                string_literal::write::<7>(alloc, out, 0, value)
+            }
+        }
+    }
+}

@@ -1,0 +1,37 @@
+//! The parts of a field section (RFC 9204, section 4.5).
+
+ghost use Rattle.std.specs.Prelude.{◌≡◌, ◌≢◌, ℕ, ◌<◌, List, [], length, IfOk, IfErr, Ok, Err};
+ghost use Rattle.wtp_fields.specs.declared.qpack.DecodingError.TheVariants.{Memory};
+ghost use Rattle.wtp_fields.specs.Field.{Field, held, field_map};
+ghost use Rattle.wtp_fields.specs.Reading.{Gives};
+ghost use Rattle.wtp_fields.specs.FieldLine.{line_at};
+ghost use Rattle.wtp_fields.specs.FieldSection.{lines_behind, AreLines};
+
+use super::{DecodingError, field_line, integer};
+use std::alloc::Global;
+use std::collections::BTreeMap;
+
+/// The bytes behind the two integers in front of the lines, whose values are passed over.
+#[tactic(auto, unfolding(crate::specs::FieldSection::lines_behind))]
+pub fn skip_prefix(bytes: &[u8]) -> Result<&[u8], DecodingError>
+    ensures { Gives (λ x. x.now) result (lines_behind bytes.now) }
+{
+    let (_, rest) = integer::read::<8>(bytes)?;
+    let (_, rest) = integer::read::<7>(rest)?;
+    Ok(rest)
+}
+
+/// The map of the lines.
+pub fn read_lines(alloc: Global, lines: &[u8]) -> Result<BTreeMap<String, String>, DecodingError>
+    ensures found { IfOk result (λ m. (ls : List Field) × AreLines lines.now ls [] × (held m ≡ field_map ls)) }
+    ensures fault { IfErr result (λ e. (ls : List Field) × (rest : List ℕ) × AreLines lines.now ls rest × (0 < length rest) × (e ≢ Memory → line_at rest ≡ Err e)) }
+{
+    let mut fields = BTreeMap::new(alloc);
+    let mut rest = lines;
+    while !rest.is_empty() {
+        let line = field_line::read(alloc, rest)?;
+        fields.insert(line.name, line.value)?;
+        rest = line.rest;
+    }
+    Ok(fields)
+}

@@ -1,0 +1,167 @@
+//! String literals (RFC 7541, section 5.2; RFC 9204, section 4.1.2).
+
+ghost use Rattle.std.specs.Prelude.{◌≡◌, ℕ, ◌+◌, ◌-◌, ◌*◌, ◌^◌, ◌<◌, ◌≤◌, ◌++◌, length, string_bytes, IfOk, OnOk, SomeIff};
+ghost use Rattle.wtp_fields.specs.Huffman.{IsBytes, coded_len};
+ghost use Rattle.wtp_fields.specs.Reading.{GivesUnlessMemory};
+ghost use Rattle.wtp_fields.specs.StringLiteral.{flag_above, or_invalid, huffman_text, utf8_text, content, string_at, huffman_bytes, encoded_string};
+
+use super::{DecodingError, integer};
+use crate::huffman::{self, HuffmanError};
+use std::alloc::{AllocError, Global};
+
+/// The bytes as a text, copied once.
+fn copied(alloc: Global, bytes: &[u8]) -> Result<String, DecodingError>
+    ensures { GivesUnlessMemory (λ t. string_bytes t) result (utf8_text bytes.now) }
+{
+    match str::from_utf8(bytes) {
+        Ok(text) => Ok(String::from_str(alloc, text)?),
+        Err(_) => Err(DecodingError::InvalidString),
+    }
+}
+
+/// The bytes as a text, without a copy.
+fn moved(bytes: Vec<u8>) -> Result<String, DecodingError>
+    ensures { GivesUnlessMemory (λ t. string_bytes t) result (utf8_text bytes.items) }
+{
+    match String::from_utf8(bytes) {
+        Ok(text) => Ok(text),
+        Err(_) => Err(DecodingError::InvalidString),
+    }
+}
+
+/// The bytes that a Huffman text stands for.
+fn decoded(alloc: Global, bytes: &[u8]) -> Result<Vec<u8>, DecodingError>
+    ensures { GivesUnlessMemory (λ v. v.items) result (or_invalid (huffman_text bytes.now)) }
+{
+    match huffman::decode(alloc, bytes) {
+        Ok(text) => Ok(text),
+        Err(HuffmanError::Invalid) => Err(DecodingError::InvalidString),
+        Err(HuffmanError::Memory) => Err(DecodingError::Memory),
+    }
+}
+
+/// The text of a string's bytes.
+#[tactic(auto, unfolding(crate::specs::StringLiteral::content))]
+fn content(alloc: Global, is_huffman: bool, body: &[u8]) -> Result<String, DecodingError>
+    ensures { GivesUnlessMemory (λ t. string_bytes t) result (content is_huffman body.now) }
+{
+    if is_huffman {
+        moved(decoded(alloc, body)?)
+    } else {
+        copied(alloc, body)
+    }
+}
+
+/// The flag H, the bit above the prefix.
+#[tactic(auto, unfolding(crate::specs::StringLiteral::flag_above))]
+fn has_flag<const N: u32>(bytes: &[u8]) -> bool
+    requires some { 1 ≤ N }
+    requires few { N ≤ 7 }
+    requires byte { 0 < length bytes.now }
+    ensures { result ≡ flag_above N bytes.now }
+{
+    u64::from(bytes[0]) / (1u64 << N) % 2 == 1
+}
+
+/// The string at the front, its length in the low `N` bits of the first byte, and the bytes behind it.
+#[tactic(auto, unfolding(crate::specs::StringLiteral::string_at))]
+pub fn read<const N: u32>(alloc: Global, bytes: &[u8]) -> Result<(String, &[u8]), DecodingError>
+    requires some { 1 ≤ N }
+    requires few { N ≤ 7 }
+    ensures { GivesUnlessMemory (λ x. (string_bytes x.0, x.1.now)) result (string_at N bytes.now) }
+{
+    let (size, rest) = integer::read::<N>(bytes)?;
+    if size > rest.len() as u64 {
+        return Err(DecodingError::UnexpectedFin);
+    }
+    let (body, behind) = rest.split_at(size as usize);
+    let text = content(alloc, has_flag::<N>(bytes), body)?;
+    Ok((text, behind))
+}
+
+/// The fact that bytes are below 256.
+fn are_bytes(bytes: &[u8])
+    ensures { IsBytes bytes.now }
+{}
+
+/// The text in the Huffman code.
+fn coded(alloc: Global, text: &[u8]) -> Result<Vec<u8>, AllocError>
+    ensures { IfOk result (λ s. s.items ≡ huffman_bytes text.now) }
+{
+    let coded = huffman::encode(alloc, text)?;
+    are_bytes(coded.as_slice());
+    Ok(coded)
+}
+
+/// How long the text is in the Huffman code, where that is strictly shorter.
+fn shorter_len(text: &[u8]) -> Option<usize>
+    ensures { SomeIff result (coded_len text.now < length text.now) (coded_len text.now) }
+{
+    huffman::encoded_len(text).filter(|size| *size < text.len())
+}
+
+/// Appends a text behind its length, under the flags: in the Huffman code where that is strictly shorter.
+pub fn write<const N: u32>(
+    alloc: Global,
+    out: &mut Vec<u8>,
+    flags: u8,
+    text: &str,
+) -> Result<(), AllocError>
+    requires some { 1 ≤ N }
+    requires few { N ≤ 7 }
+    requires small { flags < 64 }
+    requires above { flags * 2 + 1 < 2 ^ (8 - N) }
+    ensures { OnOk result (out.new.items ≡ out.old.items ++ encoded_string N flags text.now) }
+{
+    let bytes = text.as_bytes();
+    match shorter_len(bytes) {
+        Some(size) => {
+            integer::write::<N>(out, flags * 2 + 1, size as u64)?;
+            let coded = coded(alloc, bytes)?;
+            out.extend_from_slice(coded.as_slice())?;
+        }
+        None => {
+            integer::write::<N>(out, flags * 2, bytes.len() as u64)?;
+            out.extend_from_slice(bytes)?;
+        }
+    }
+    Ok(())
+}
+
+#[cfg(test)]
+mod tests {
+    use super::*;
+    use std::test::Fail;
+
+    /// The bytes of a string, written once more where memory was refused.
+    fn written(alloc: Global, text: &str) -> Result<Vec<u8>, AllocError> {
+        let mut out = Vec::new(alloc);
+        if write::<5>(alloc, &mut out, 0, text).is_err() {
+            out.clear();
+            write::<5>(alloc, &mut out, 0, text)?;
+        }
+        Ok(out)
+    }
+
+    /// The text of a string, read once more where memory was refused.
+    fn read_again(alloc: Global, bytes: &[u8]) -> Result<(String, &[u8]), DecodingError> {
+        match read::<5>(alloc, bytes) {
+            Err(DecodingError::Memory) => read::<5>(alloc, bytes),
+            outcome => outcome,
+        }
+    }
+
+    #[test]
+    fn strings(rt: HostRuntime) -> Result<(), Fail> {
+        // Lengths within the prefix, at its edge, and of one and two groups behind it.
+        for len in [0usize, 1, 30, 31, 32, 158, 159, 1023] {
+            for letters in [[b'a'; 1023], [b'Z'; 1023]] {
+                let text = str::from_utf8(&letters[..len])?;
+                let bytes = written(rt.alloc(), text)?;
+                let (read, rest) = read_again(rt.alloc(), bytes.as_slice())?;
+                assert_eq!(rt; (read.as_str(), rest.len()), (text, 0), "{len}");
+            }
+        }
+        Ok(())
+    }
+}
