@@ -3,3 +3,9 @@ pub mod ShortLemmas
 pub mod LeastLemmas
 pub mod RestLemmas
 pub mod WriterLemmas
+pub mod TellingLemmas
+pub mod FillLemmas
+pub mod PassLemmas
+pub mod NeedLemmas
+pub mod GetLemmas
+pub mod DrainLemmas

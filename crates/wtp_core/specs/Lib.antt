@@ -5,3 +5,13 @@ pub mod Writer
 pub mod BufferWriter
 pub mod Ids
 pub mod ErrorCodes
+pub mod VarintNeed
+pub mod Source
+pub mod Polled
+pub mod Fill
+pub mod Passing
+pub mod Getting
+pub mod GetBuffer
+pub mod Sink
+pub mod Drain
+pub mod Writing

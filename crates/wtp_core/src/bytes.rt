@@ -1,14 +1,29 @@
-//! Reading and writing bytes: from slices and into slices or vectors, whole.
+//! Reading and writing bytes: whole, from slices and into slices or vectors; and polled, from any
+//! source and into any sink.
 pub mod buffer_reader;
 pub mod buffer_writer;
 pub mod child;
+pub mod drain;
+pub mod fill;
+pub mod get;
+pub mod head;
+pub mod passing;
+pub mod polled;
+pub mod put;
 pub mod reader;
+pub mod sink;
+pub mod source;
 pub mod writer;
 
 pub use buffer_reader::BufferReader;
 pub use buffer_writer::BufferWriter;
 pub use child::{BufferReaderChild, ParentReader};
+pub use get::{BytesReaderAsync, GetBuffer, GetVarint};
+pub use polled::{IoReadError, IoWriteError, Polled, Stepped};
+pub use put::{BytesWriterAsync, PutBuffer, PutVarint};
 pub use reader::BytesReader;
+pub use sink::{AsyncWrite, WriteStep};
+pub use source::{AsyncRead, ReadStep};
 pub use writer::{BytesWriter, PutError};
 
 /// A slice has too few bytes, or too little room.

@@ -107,10 +107,11 @@ impl VarInt {
     }
 }
 
-/// The number spelled at the front of the bytes, and how many bytes its spelling has.
+/// The number spelled at the front of the bytes, and how many bytes its spelling has; `None` where
+/// too few bytes are there (own).
 #[tactic(auto, unfolding(crate::specs::Varint::number_at, crate::specs::Varint::value_of))]
 #[inline(always)]
-pub(crate) fn first_varint(bytes: &[u8]) -> Option<(VarInt, usize)>
+pub fn first_varint(bytes: &[u8]) -> Option<(VarInt, usize)>
     ensures found { MatchOption result (number_at bytes.now ≡ None) (λ x. number_at bytes.now ≡ Some (x.0, drop x.1 bytes.now)) }
     ensures within { IfSome result (λ x. x.1 ≤ length bytes.now) }
 {

@@ -3,6 +3,10 @@ pub mod KindLemmas
 pub mod FrontLemmas
 pub mod WireLemmas
 pub mod ReadLemmas
+pub mod FrameHeadLemmas
+pub mod FrameReadingLemmas
+pub mod FramePollLemmas
+pub mod FramePassLemmas
 pub mod HeaderLemmas
 pub mod StreamKindLemmas
 pub mod HeaderFrontLemmas
@@ -16,3 +20,5 @@ pub mod KeptLemmas
 pub mod PayloadLemmas
 pub mod CloseLemmas
 pub mod CapsuleLemmas
+pub mod WritingLemmas
+pub mod HeaderPollLemmas

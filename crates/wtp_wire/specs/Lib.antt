@@ -4,6 +4,11 @@ pub mod Front
 pub mod Reading
 pub mod Wire
 pub mod Datagram
+pub mod Held
+pub mod FrameNeed
+pub mod FrameHead
+pub mod FramePolling
+pub mod FrameSteps
 pub mod StreamKind
 pub mod Header
 pub mod HeaderFront
@@ -13,3 +18,5 @@ pub mod SettingId
 pub mod Settings
 pub mod Capsule
 pub mod CloseSession
+pub mod HeaderNeed
+pub mod HeaderPolling

@@ -1,12 +1,19 @@
-//! Frames of HTTP/3 (RFC 9114, section 7), read and written whole.
+//! Frames of HTTP/3 (RFC 9114, section 7), read and written whole or poll by poll.
 ghost use Rattle.std.specs.Prelude.{◌≡◌, ◌%◌, ◌≢◌, ◌<◌, ◌≤◌, ◌^◌, ◌+◌, ◌++◌, [], length, IsTrue, IsSome, IfSome, IsOk, OnOk, OnErr, Err, Some, None, ◌↔◌};
 ghost use Rattle.wtp_core.specs.Writer.{LacksRoom, PutsParts};
 ghost use Rattle.wtp_core.specs.Reader.{IsRest};
 ghost use Rattle.wtp_core.specs.Cursor.{left_of, whole_of};
 ghost use Rattle.wtp_core.specs.BufferWriter.{room_in, loan_of, IsUnwritten, Wrote};
 
+mod head;
+pub mod reading;
+pub mod writing;
+
+pub use reading::{FrameReading, IoReadError};
 use std::borrow::CowSlice;
 use std::marker::Model;
+pub use writing::FrameWriting;
+pub use wtp_core::bytes::IoWriteError;
 use wtp_core::bytes::{
     BufferReader, BufferWriter, BytesReader, BytesWriter, EndOfBuffer, PutError,
 };

@@ -1,11 +1,16 @@
-//! Headers of unidirectional streams (RFC 9114, section 6.2), read and written whole.
+//! Headers of unidirectional streams (RFC 9114, section 6.2), read and written whole or poll
+//! by poll.
 ghost use Rattle.std.specs.Prelude.{◌≡◌, ◌≤◌, ◌++◌, length, IsSome, IfSome, IsOk, OnOk, OnErr, Err, Some, None, ◌↔◌};
 ghost use Rattle.wtp_core.specs.Writer.{LacksRoom, PutsParts};
 ghost use Rattle.wtp_core.specs.Reader.{IsRest};
 ghost use Rattle.wtp_core.specs.Cursor.{left_of, whole_of};
 ghost use Rattle.wtp_core.specs.BufferWriter.{room_in, loan_of, IsUnwritten, Wrote};
 
+pub mod polled;
+
+pub use polled::{HeaderReading, HeaderWriting, IoReadError};
 use std::marker::Model;
+pub use wtp_core::bytes::IoWriteError;
 use wtp_core::bytes::{
     BufferReader, BufferWriter, BytesReader, BytesWriter, EndOfBuffer, PutError,
 };

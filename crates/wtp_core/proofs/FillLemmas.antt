@@ -1,0 +1,78 @@
+-- Steps of one fill add up.
+use Rattle.std.proofs.Common.{◌≡◌, ℕ, ◌+◌, ◌<◌, ◌≤◌, List, ◌++◌, length, take, drop, sym, ap, ◌∙◌, arith, append_assoc, length-append, take-add, length-take}
+use Rattle.std.proofs.lemmas.List.{take-take, take-append-le, take-append-drop}
+use Rattle.wtp_core.specs.Source.{Source, AsksOnce}
+use Rattle.wtp_core.specs.Fill.{Gains, HaltIsTrue}
+use Rattle.wtp_core.specs.declared.bytes.fill.Halt.{Halt}
+use Rattle.wtp_core.specs.declared.bytes.fill.Halt.TheVariants as halt
+
+pub front_kept : (m n : ℕ) (xs ys zs : List ℕ) → m ≤ n → take n xs ≡ take n ys → take m ys ≡ take m zs → take m xs ≡ take m zs
+front_kept m n xs ys zs le e f = sym (take-take m n xs le) ∙ ap (λ l. take m l) e ∙ take-take m n ys le ∙ f
+
+pub gains_more : (held xs ys : List ℕ) (a b c : Source) → Gains held xs a b 0 → AsksOnce b c → b.ahead ≡ ys ++ c.ahead → b.waits ≤ c.waits → 0 < length ys → Gains held (xs ++ ys) a c 0
+gains_more held xs ys a b c g asks moved waits some = record {
+  kept = g.kept ∙ ap (λ l. xs ++ l) moved ∙ sym (append_assoc xs ys c.ahead);
+  ending = asks.ending ∙ g.ending;
+  asked = let one = asks.asked in let before = g.asked in omega (arith, length-append xs ys);
+  no_less = let one = asks.no_less in let before = g.no_less in omega arith;
+  waits = let before = g.waits in omega arith;
+}
+
+-- the same buffer after a call that moved n bytes behind the first at
+pub gains_bytes : (held buf new : List ℕ) (at n : ℕ) (a b c : Source) → Gains held (take at buf) a b 0 → take at new ≡ take at buf → n ≤ length (drop at new) → 0 < n → AsksOnce b c → b.ahead ≡ take n (drop at new) ++ c.ahead → c.waits ≡ b.waits → Gains held (take (at + n) new) a c 0
+gains_bytes held buf new at n a b c g same fits some asks moved waits =
+    let shape : take (at + n) new ≡ take at buf ++ take n (drop at new) = take-add at n new ∙ ap (λ l. l ++ take n (drop at new)) same in
+    let counted : length (take n (drop at new)) ≡ n = omega (arith, length-take n (drop at new)) in
+    rw shape (gains_more held (take at buf) (take n (drop at new)) a b c g asks moved (omega arith) (omega arith))
+
+pub gains_none : (held buf new : List ℕ) (at : ℕ) (a b c : Source) → Gains held (take at buf) a b 0 → take at new ≡ take at buf → AsksOnce b c → c.ahead ≡ b.ahead → b.waits ≤ c.waits → Gains held (take at new) a c 1
+gains_none held buf new at a b c g same asks moved waits = record {
+  kept = g.kept ∙ ap (λ l. take at buf ++ l) (sym moved) ∙ ap (λ l. l ++ c.ahead) (sym same);
+  ending = asks.ending ∙ g.ending;
+  asked = let one = asks.asked in let before = g.asked in omega (arith, ap length same);
+  no_less = let one = asks.no_less in let before = g.no_less in omega arith;
+  waits = let before = g.waits in omega arith;
+}
+
+pub gains_then : (x y y' z z' : List ℕ) (a b c : Source) (extra : ℕ) → Gains x y a b 0 → Gains y' z b c extra → y' ≡ y → z' ≡ z → Gains x z' a c extra
+gains_then x y y' z z' a b c extra p q same shown = record {
+  kept = p.kept ∙ ap (λ l. l ++ b.ahead) (sym same) ∙ q.kept ∙ ap (λ l. l ++ c.ahead) (sym shown);
+  ending = q.ending ∙ p.ending;
+  asked = let one = p.asked in let two = q.asked in omega (arith, ap length same, ap length shown);
+  no_less = let one = p.no_less in let two = q.no_less in omega arith;
+  waits = let one = p.waits in let two = q.waits in omega arith;
+}
+
+-- what begins with the bytes that were held has them, and more
+pub begins : (n : ℕ) (old new : List ℕ) → take n new ≡ old → (more : List ℕ) × (new ≡ old ++ more)
+begins n old new e = (drop n new, sym (take-append-drop n new) ∙ ap (λ l. l ++ drop n new) e)
+
+-- the bytes held before and after a fill of the first `need` bytes of a buffer
+pub record Grown (len at need : ℕ) (buf part : List ℕ) : Type 0 where
+  pub shown : take at (part ++ drop need buf) ≡ take at part
+  pub extends : (more : List ℕ) × (take at (part ++ drop need buf) ≡ take len buf ++ more)
+  pub old_len : length (take len buf) ≡ len
+  pub new_len : length (take at (part ++ drop need buf)) ≡ at
+  pub held : take len (take need buf) ≡ take len buf
+  pub front : take len (part ++ drop need buf) ≡ take len buf
+
+pub grown : (len at need : ℕ) (buf part : List ℕ) → len ≤ at → at ≤ need → need ≤ length buf → length part ≡ length (take need buf) → take len part ≡ take len (take need buf) → Grown len at need buf part
+grown len at need buf part le in_part in_buf size front =
+    let need_is : length (take need buf) ≡ need = omega (arith, length-take need buf) in
+    let shows : take at (part ++ drop need buf) ≡ take at part = take-append-le at part (drop need buf) (omega arith) in
+    let old : length (take len buf) ≡ len = omega (arith, length-take len buf) in
+    let kept : take len (take need buf) ≡ take len buf = take-take len need buf (omega arith) in
+    record {
+      shown = shows;
+      extends = begins len (take len buf) (take at (part ++ drop need buf)) (ap (λ l. take len l) shows ∙ take-take len at part le ∙ front ∙ kept);
+      old_len = old;
+      new_len = ap length shows ∙ omega (arith, length-take at part);
+      held = kept;
+      front = front_kept len at (part ++ drop need buf) part buf le shows (front ∙ kept);
+    }
+
+pub halt_then : (h : Halt) (a b c : Source) → b.ending ≡ a.ending → a.waits ≤ b.waits → HaltIsTrue h b c → HaltIsTrue h a c
+halt_then halt.NotReady a b c e w p = omega arith
+halt_then halt.Fin a b c e w p = (p.0, sym e ∙ p.1)
+halt_then halt.Reset a b c e w p = (p.0, sym e ∙ p.1)
+halt_then halt.NotConnected a b c e w p = (p.0, sym e ∙ p.1)

@@ -1,0 +1,45 @@
+use Rattle.std.proofs.Common.{◌≡◌, ℕ, ◌≤◌, List, [], take, ◌∙◌, arith, length-take}
+use Rattle.std.proofs.lemmas.List.{take-take}
+use Rattle.wtp_core.proofs.NeedLemmas.{number_at-cut, number_at-whole}
+use Rattle.wtp_core.proofs.GetLemmas.{halted_varint_told, halted_varint_given, whole_varint_told, whole_varint_given}
+use Rattle.wtp_core.proofs.bytes.get.GetVarint.poll.Goals as goal
+
+-- what was held before stands in front of what is held now
+held_front : (m n : ℕ) (buf new : List ℕ) → m ≤ n → take m new ≡ take m buf → take m (take n new) ≡ take m buf
+held_front m n buf new l e = take-take m n new l ∙ e
+
+pub returns-in-Err-clause-was_cut : goal.returns-in-Err-clause-was_cut
+returns-in-Err-clause-was_cut g c = rw (← c.self.view_is) (number_at-cut (take c.self.inside.len c.self.inside.bytes) c.self.invariant.1)
+
+pub returns-in-Err-clause-cut : goal.returns-in-Err-clause-cut
+returns-in-Err-clause-cut g c = number_at-cut (take c.fill_head.new.len c.fill_head.new.buf) (omega (arith, c.in-Err.ensures.cut, length-take c.fill_head.new.len c.fill_head.new.buf))
+
+pub returns-in-Err-clause-given : goal.returns-in-Err-clause-given
+returns-in-Err-clause-given g c = rw (c.halted.ensures, ← c.self.view_is) (halted_varint_given c.in-Err.halt c.fill_head.new.len c.self.inside.len _ (take c.fill_head.new.len c.fill_head.new.buf)
+    (held_front c.self.inside.len c.fill_head.new.len c.self.inside.bytes c.fill_head.new.buf c.fill_head.ensures.forward c.fill_head.ensures.front))
+
+pub returns-in-Err-clause-polled : goal.returns-in-Err-clause-polled
+returns-in-Err-clause-polled g c = rw (c.halted.ensures, ← c.self.view_is) (halted_varint_told (g.S.AsyncRead.tells c.args.source.now) (g.S.AsyncRead.tells c.fill_head.new.source) c.in-Err.halt c.fill_head.new.len
+    (take c.self.inside.len c.self.inside.bytes) (take c.fill_head.new.len c.fill_head.new.buf)
+    (omega (arith, c.fill_head.ensures.room, length-take c.fill_head.new.len c.fill_head.new.buf)) (omega (arith, c.in-Err.ensures.cut, length-take c.fill_head.new.len c.fill_head.new.buf)) c.in-Err.ensures.tells)
+
+pub unreachable-requires : goal.unreachable-requires
+unreachable-requires g c =
+    let (v, is) = number_at-whole (take c.fill_head.new.len c.fill_head.new.buf) (omega (arith, c.in-Ok.ensures.whole, c.fill_head.ensures.room, length-take c.fill_head.new.len c.fill_head.new.buf)) in
+    cc (is, c.in_default.ensures.found)
+
+pub returns-clause-was_cut : goal.returns-clause-was_cut
+returns-clause-was_cut g c = rw (← c.self.view_is) (number_at-cut (take c.self.inside.len c.self.inside.bytes) c.self.invariant.1)
+
+pub returns-clause-cut : goal.returns-clause-cut
+returns-clause-cut g c = number_at-cut [] (omega arith)
+
+pub returns-clause-given : goal.returns-clause-given
+returns-clause-given g c = rw (← c.self.view_is) (whole_varint_given _ _ c.self.inside.len _ (take c.fill_head.new.len c.fill_head.new.buf)
+    (held_front c.self.inside.len c.fill_head.new.len c.self.inside.bytes c.fill_head.new.buf c.fill_head.ensures.forward c.fill_head.ensures.front)
+    (omega (arith, c.in-Ok.ensures.whole, c.fill_head.ensures.room, length-take c.fill_head.new.len c.fill_head.new.buf)) c.in-Some.ensures.found)
+
+pub returns-clause-polled : goal.returns-clause-polled
+returns-clause-polled g c = rw (← c.self.view_is) (whole_varint_told (g.S.AsyncRead.tells c.args.source.now) (g.S.AsyncRead.tells c.fill_head.new.source) _ _
+    (take c.self.inside.len c.self.inside.bytes) (take c.fill_head.new.len c.fill_head.new.buf)
+    (omega (arith, c.in-Ok.ensures.whole, c.fill_head.ensures.room, length-take c.fill_head.new.len c.fill_head.new.buf)) c.in-Some.ensures.found c.in-Ok.ensures.tells)

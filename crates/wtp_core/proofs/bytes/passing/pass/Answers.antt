@@ -1,0 +1,22 @@
+use Rattle.std.proofs.Common.{◌-◌, ◌<◌, ◌≤◌, arith}
+use Rattle.wtp_core.specs.Passing.{Passed}
+use Rattle.wtp_core.proofs.TellingLemmas.{telling_then}
+use Rattle.wtp_core.proofs.PassLemmas.{passed_then, passed_some}
+use Rattle.wtp_core.proofs.bytes.passing.pass.Goals as goal
+
+pub loop-due-preserved : goal.loop-due-preserved
+loop-due-preserved g c =
+    let inv = c.loop-due.invariant in
+    let n = c.in-Bytes.n in
+    let fits : n ≤ c.min-want.result = c.in-Bytes.ensures.lengths in
+    let small : (n ≤ c.loop-due.due) × (n ≤ c.loop-due.room) = (omega (arith, c.min.ensures, c.min-want.ensures), omega (arith, c.min.ensures, c.min-want.ensures)) in
+    let some : 0 < n = omega arith in
+    let in_due = small.0 in
+    let in_room = small.1 in
+    record {
+      fewer = omega arith;
+      room = omega arith;
+      most = omega arith;
+      tells = telling_then _ _ _ _ _ (λ x z. Passed (c.args.due.now - (c.loop-due.due - n)) x z 0)
+          (λ x y z p q. passed_then (c.args.due.now - c.loop-due.due) n _ 0 x y z (omega arith) p (passed_some n y z some q.0 q.1)) inv.tells c.in-Bytes.ensures.tells;
+    }

@@ -1,0 +1,55 @@
+-- Reading a number, or into a buffer, poll by poll.
+use Rattle.std.specs.Prelude.{◌≡◌, ℕ, ◌<◌, List, [], ◌++◌, length, Some, None, Result, Ok, Err}
+use Rattle.wtp_core.specs.declared.bytes.polled.Polled.{Polled}
+use Rattle.wtp_core.specs.declared.bytes.polled.Polled.TheVariants.{Ready, Pending, Again, NoMemory}
+use Rattle.wtp_core.specs.declared.bytes.polled.IoReadError.{IoReadError}
+use Rattle.wtp_core.specs.Varint.{number_at}
+use Rattle.wtp_core.specs.Source.{Source}
+use Rattle.wtp_core.specs.Polled.{stop}
+
+-- In all of these, old and new are the bytes that the state holds before and after one poll.
+
+-- the source stopped behind all that is ahead, and all of it is held
+pub record Stops (old new : List ℕ) (fault : IoReadError) (a b : Source) : Type 0 where
+  pub none_ahead : b.ahead ≡ []
+  pub held : new ≡ old ++ a.ahead
+  pub why : fault ≡ stop (length new) a.ending
+
+-- the source was not ready, and nothing was lost
+pub record Waits (old new : List ℕ) (a b : Source) : Type 0 where
+  pub waited : a.waits < b.waits
+  pub kept : new ++ b.ahead ≡ old ++ a.ahead
+
+-- ---- a number
+
+abbrev pub VarintPolled : Polled (Result ℕ IoReadError) → List ℕ → List ℕ → Source → Source → Type 0
+VarintPolled (Ready (Ok v)) old new a b = number_at (old ++ a.ahead) ≡ Some (v, b.ahead)
+VarintPolled (Ready (Err e)) old new a b = (number_at (old ++ a.ahead) ≡ None) × Stops old new e a b
+VarintPolled Pending old new a b = Waits old new a b
+VarintPolled Again old new a b = ⊥
+VarintPolled NoMemory old new a b = ⊥
+
+-- More bytes were given behind those held, and none was lost. This holds of each source, also of one that tells nothing.
+abbrev pub VarintGiven : Polled (Result ℕ IoReadError) → List ℕ → List ℕ → Type 0
+VarintGiven (Ready (Ok v)) old new = (new ≡ []) × ((given : List ℕ) × (number_at (old ++ given) ≡ Some (v, [])))
+VarintGiven (Ready (Err e)) old new = (given : List ℕ) × (new ≡ old ++ given)
+VarintGiven Pending old new = (given : List ℕ) × (new ≡ old ++ given)
+VarintGiven Again old new = ⊥
+VarintGiven NoMemory old new = ⊥
+
+-- ---- into a buffer
+
+abbrev pub BufferPolled : {U : Type 0} → Polled (Result U IoReadError) → List ℕ → List ℕ → Source → Source → Type 0
+BufferPolled (Ready (Ok _)) old new a b = new ++ b.ahead ≡ old ++ a.ahead
+BufferPolled (Ready (Err e)) old new a b = Stops old new e a b
+BufferPolled Pending old new a b = Waits old new a b
+BufferPolled Again old new a b = ⊥
+BufferPolled NoMemory old new a b = ⊥
+
+-- It is finished exactly where so many bytes are held. This holds of each source, also of one that tells nothing.
+abbrev pub BufferGiven : {U : Type 0} → Polled (Result U IoReadError) → ℕ → List ℕ → List ℕ → Type 0
+BufferGiven (Ready (Ok _)) room old new = (length new ≡ room) × ((given : List ℕ) × (new ≡ old ++ given))
+BufferGiven (Ready (Err e)) room old new = (length new < room) × ((given : List ℕ) × (new ≡ old ++ given))
+BufferGiven Pending room old new = (length new < room) × ((given : List ℕ) × (new ≡ old ++ given))
+BufferGiven Again room old new = ⊥
+BufferGiven NoMemory room old new = ⊥

@@ -1,0 +1,37 @@
+-- Passing over bytes that nobody keeps.
+use Rattle.std.specs.Prelude.{◌≡◌, ℕ, ◌+◌, ◌<◌, ◌≤◌, [], length, drop, Option, Result, Ok, Err}
+use Rattle.wtp_core.specs.declared.bytes.fill.Halt.{Halt}
+use Rattle.wtp_core.specs.declared.bytes.source.ReadStep.{ReadStep}
+use Rattle.wtp_core.specs.declared.bytes.source.ReadStep.TheVariants.{Bytes, NotReady, Reset, NotConnected}
+use Rattle.wtp_core.specs.Source.{Source, AtEnd, AtReset, AtDisconnection, AsksOnce, Telling}
+use Rattle.wtp_core.specs.Fill.{HaltIsTrue}
+
+-- so many bytes were passed, in at most as many calls and `extra` more
+pub record Passed (gone : ℕ) (a b : Source) (extra : ℕ) : Type 0 where
+  pub there : gone ≤ length a.ahead
+  pub rest : b.ahead ≡ drop gone a.ahead
+  pub ending : b.ending ≡ a.ending
+  pub asked : b.asked ≤ a.asked + gone + extra
+  pub no_less : a.asked ≤ b.asked
+  pub waits : a.waits ≤ b.waits
+
+abbrev pub PassMoves : {U : Type 0} → Result U Halt → ℕ → Source → Source → Type 0
+PassMoves (Ok _) gone a b = Passed gone a b 0
+PassMoves (Err h) gone a b = Passed gone a b 1 × HaltIsTrue h a b
+
+abbrev pub PassTells : {U : Type 0} → Result U Halt → ℕ → Option Source → Option Source → Type 0
+PassTells r gone old now = Telling old now (λ a b. PassMoves r gone a b)
+
+-- ---- one call
+
+abbrev pub CountFits : ReadStep → ℕ → Type 0
+CountFits (Bytes n) room = n ≤ room
+CountFits NotReady room = Unit {0}
+CountFits Reset room = Unit {0}
+CountFits NotConnected room = Unit {0}
+
+abbrev pub StepPasses : ReadStep → Option Source → Option Source → Type 0
+StepPasses (Bytes n) old now = Telling old now (λ a b. Passed n a b 1 × AsksOnce a b × (n ≡ 0 → (b.ahead ≡ []) × (a.ending ≡ AtEnd)))
+StepPasses NotReady old now = Telling old now (λ a b. Passed 0 a b 1 × (a.waits < b.waits))
+StepPasses Reset old now = Telling old now (λ a b. Passed 0 a b 1 × (b.ahead ≡ []) × (a.ending ≡ AtReset))
+StepPasses NotConnected old now = Telling old now (λ a b. Passed 0 a b 1 × (b.ahead ≡ []) × (a.ending ≡ AtDisconnection))

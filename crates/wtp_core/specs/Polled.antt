@@ -1,0 +1,31 @@
+-- The answers of polls, and how reading and writing stop.
+use Rattle.std.specs.Prelude.{◌≡◌, ℕ, ◌+◌, ◌≤◌, ◌==◌, if◌then◌else◌}
+use Rattle.std.specs.declared.io.ErrorKind.{ErrorKind}
+use Rattle.std.specs.declared.io.ErrorKind.TheVariants.{ConnectionReset}
+use Rattle.wtp_core.specs.declared.bytes.polled.IoReadError.{IoReadError}
+use Rattle.wtp_core.specs.declared.bytes.polled.IoReadError.TheVariants as read
+use Rattle.wtp_core.specs.declared.bytes.polled.IoWriteError.{IoWriteError}
+use Rattle.wtp_core.specs.declared.bytes.polled.IoWriteError.TheVariants as write
+use Rattle.wtp_core.specs.Source.{Source, Ending, AtEnd, AtReset, AtDisconnection}
+
+-- the fault of a reading at this ending, where so many bytes were taken of what is read
+abbrev pub stop : ℕ → Ending → IoReadError
+stop taken AtEnd = if taken == 0 then read.ImmediateFin else read.UnexpectedFin
+stop taken AtReset = read.Reset
+stop taken AtDisconnection = read.NotConnected
+
+-- the fault that stands for an error of the system
+abbrev pub read_fault : ErrorKind → IoReadError
+read_fault ConnectionReset = read.Reset
+read_fault _ = read.NotConnected
+
+abbrev pub write_fault : ErrorKind → IoWriteError
+write_fault ConnectionReset = write.Stopped
+write_fault _ = write.NotConnected
+
+-- at most so many calls were counted; the ending stays, and no count falls
+pub record Asks (calls : ℕ) (a b : Source) : Type 0 where
+  pub asked : b.asked ≤ a.asked + calls
+  pub no_less : a.asked ≤ b.asked
+  pub ending : b.ending ≡ a.ending
+  pub waits : a.waits ≤ b.waits

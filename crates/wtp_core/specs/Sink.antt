@@ -1,0 +1,49 @@
+-- What a polled sink tells of itself, and what one call does to it.
+use Rattle.std.specs.Prelude.{◌≡◌, ℕ, ◌+◌, ◌<◌, ◌≤◌, List, [], ◌++◌, take, Option}
+use Rattle.wtp_core.specs.declared.bytes.sink.WriteStep.{WriteStep}
+use Rattle.wtp_core.specs.declared.bytes.sink.WriteStep.TheVariants.{Bytes, NotReady, Stopped, NotConnected, NoMemory}
+use Rattle.wtp_core.specs.Source.{Telling}
+
+-- what a sink that tells gives: the bytes taken, and how often it was not ready, stopped and not connected so far
+pub record Sink : Type 0 where
+  pub taken : List ℕ
+  pub waits : ℕ
+  pub stops : ℕ
+  pub losses : ℕ
+
+-- a vector: these bytes, and none of these answers
+abbrev pub all_taken : List ℕ → Sink
+all_taken bytes = record { taken = bytes; waits = 0; stops = 0; losses = 0 }
+
+-- Each sink, telling or not, keeps these lengths: a front of at least one byte is taken, and none of an empty buffer, which gets no other answer.
+abbrev pub SinkKeepsLengths : WriteStep → ℕ → Type 0
+SinkKeepsLengths (Bytes n) room = (n ≤ room) × (0 < room → 0 < n)
+SinkKeepsLengths NotReady room = 0 < room
+SinkKeepsLengths Stopped room = 0 < room
+SinkKeepsLengths NotConnected room = 0 < room
+SinkKeepsLengths NoMemory room = 0 < room
+
+-- the list grew by these bytes, and the counts by these
+pub record Took (a b : Sink) (bytes : List ℕ) (waits stops losses : ℕ) : Type 0 where
+  pub taken : b.taken ≡ a.taken ++ bytes
+  pub waits_is : b.waits ≡ a.waits + waits
+  pub stops_is : b.stops ≡ a.stops + stops
+  pub losses_is : b.losses ≡ a.losses + losses
+
+abbrev pub SinkMoves : WriteStep → List ℕ → Sink → Sink → Type 0
+SinkMoves (Bytes n) buf a b = Took a b (take n buf) 0 0 0
+SinkMoves NotReady buf a b = Took a b [] 1 0 0
+SinkMoves Stopped buf a b = Took a b [] 0 1 0
+SinkMoves NotConnected buf a b = Took a b [] 0 0 1
+SinkMoves NoMemory buf a b = Took a b [] 0 0 0
+
+abbrev pub SinkTells : WriteStep → List ℕ → Option Sink → Option Sink → Type 0
+SinkTells step buf old new = Telling old new (λ a b. SinkMoves step buf a b)
+
+-- the whole buffer was taken, or no memory was to be had
+abbrev pub TakesWhole : WriteStep → ℕ → Type 0
+TakesWhole (Bytes n) room = n ≡ room
+TakesWhole NotReady room = ⊥
+TakesWhole Stopped room = ⊥
+TakesWhole NotConnected room = ⊥
+TakesWhole NoMemory room = Unit {0}

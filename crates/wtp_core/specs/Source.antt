@@ -1,0 +1,59 @@
+-- What a polled source tells of itself, and what one call does to it.
+use Rattle.std.specs.Prelude.{◌≡◌, ℕ, ◌+◌, ◌<◌, ◌≤◌, List, [], ◌++◌, length, take, Option, Some, None}
+use Rattle.wtp_core.specs.declared.bytes.source.ReadStep.{ReadStep}
+use Rattle.wtp_core.specs.declared.bytes.source.ReadStep.TheVariants.{Bytes, NotReady, Reset, NotConnected}
+
+-- how a source ends, once all that is ahead is taken
+pub data Ending : Type 0 where
+  AtEnd : Ending
+  AtReset : Ending
+  AtDisconnection : Ending
+
+-- what a source that tells gives: the bytes ahead, how they end, a count that a call raises by at most one, and how often it was not ready so far
+pub record Source : Type 0 where
+  pub ahead : List ℕ
+  pub ending : Ending
+  pub asked : ℕ
+  pub waits : ℕ
+
+-- a slice: these bytes, an end, and never a wait; it does not count its calls
+abbrev pub all_ahead : List ℕ → Source
+all_ahead bytes = record { ahead = bytes; ending = AtEnd; asked = 0; waits = 0 }
+
+-- P of what is told before and after, where anything is told before; then something has to be told after, too
+abbrev pub Telling : {X : Type 0} → Option X → Option X → (X → X → Type 0) → Type 0
+Telling None new P = Unit {0}
+Telling (Some a) None P = ⊥
+Telling (Some a) (Some b) P = P a b
+
+-- ---- one call
+
+-- Each source, telling or not, keeps these lengths: no more bytes than there is room; an empty buffer gets no byte and no other answer.
+abbrev pub StepKeepsLengths : ReadStep → ℕ → Type 0
+StepKeepsLengths (Bytes n) room = n ≤ room
+StepKeepsLengths NotReady room = 0 < room
+StepKeepsLengths Reset room = 0 < room
+StepKeepsLengths NotConnected room = 0 < room
+
+-- the call counts at most once, and the ending stays
+pub record AsksOnce (a b : Source) : Type 0 where
+  pub ending : b.ending ≡ a.ending
+  pub asked : b.asked ≤ a.asked + 1
+  pub no_less : a.asked ≤ b.asked
+
+-- nothing is ahead, before and after, and this is how the source ends
+pub record IsOver (a b : Source) (ending : Ending) : Type 0 where
+  pub before : a.ahead ≡ []
+  pub after : b.ahead ≡ []
+  pub how : a.ending ≡ ending
+  pub waits : b.waits ≡ a.waits
+
+-- what the answer says of the bytes: they went from those ahead into the front of the buffer, or none did
+abbrev pub StepMoves : ReadStep → List ℕ → Source → Source → Type 0
+StepMoves (Bytes n) buf a b = (a.ahead ≡ take n buf ++ b.ahead) × (b.waits ≡ a.waits) × (n ≡ 0 → 0 < length buf → IsOver a b AtEnd)
+StepMoves NotReady buf a b = (b.ahead ≡ a.ahead) × (b.waits ≡ a.waits + 1)
+StepMoves Reset buf a b = IsOver a b AtReset
+StepMoves NotConnected buf a b = IsOver a b AtDisconnection
+
+abbrev pub StepTells : ReadStep → List ℕ → Option Source → Option Source → Type 0
+StepTells step buf old new = Telling old new (λ a b. AsksOnce a b × StepMoves step buf a b)

@@ -1,0 +1,43 @@
+-- How many bytes a number has, as far as the bytes held tell (RFC 9000, section 16).
+use Rattle.std.proofs.Common.{◌≡◌, ℕ, ◌<◌, ◌≤◌, List, [], ◌∷◌, ◌++◌, length, slice_index, refl, arith, inl, inr}
+use Rattle.std.proofs.lemmas.Bool.{cases_lt, lt-ltb, le-ltb}
+use Rattle.std.specs.Int.{byte_len}
+use Rattle.wtp_core.specs.Varint.{width_of}
+
+-- how many bytes a number has, at least, that begins with these
+abbrev pub varint_need : List ℕ → ℕ
+varint_need bytes = byte_len (width_of (slice_index bytes 0))
+
+-- the bytes are a proper front of a number's spelling
+abbrev pub IsCut : List ℕ → Type 0
+IsCut bytes = length bytes < varint_need bytes
+
+-- ---- what readers on from these bytes rely on
+
+pub byte_len_range : (b : ℕ) → (0 < byte_len (width_of b)) × (byte_len (width_of b) ≤ 8)
+byte_len_range b = elim (cases_lt b 64) [
+  | inl l ↦ rw (lt-ltb b 64 l) (omega arith, omega arith)
+  | inr l ↦ elim (cases_lt b 128) [
+    | inl m ↦ rw (le-ltb b 64 l, lt-ltb b 128 m) (omega arith, omega arith)
+    | inr m ↦ elim (cases_lt b 192) [
+      | inl n ↦ rw (le-ltb b 64 l, le-ltb b 128 m, lt-ltb b 192 n) (omega arith, omega arith)
+      | inr n ↦ rw (le-ltb b 64 l, le-ltb b 128 m, le-ltb b 192 n) (omega arith, omega arith)
+    ]
+  ]
+]
+
+pub varint_need_range : (h : List ℕ) → (0 < varint_need h) × (varint_need h ≤ 8)
+varint_need_range [] = (omega arith, omega arith)
+varint_need_range (b ∷ h) = byte_len_range b
+
+pub varint_need_most : (h : List ℕ) → varint_need h ≤ 8
+varint_need_most h = (varint_need_range h).1
+
+pub varint_need_grows : (h t : List ℕ) → varint_need h ≤ varint_need (h ++ t)
+varint_need_grows [] [] = omega arith
+varint_need_grows [] (c ∷ t) = (byte_len_range c).0
+varint_need_grows (b ∷ h) t = omega arith
+
+pub varint_need_more : (h xs : List ℕ) → varint_need h ≤ length h → varint_need (h ++ xs) ≡ varint_need h
+varint_need_more [] xs l = absurd (omega arith)
+varint_need_more (b ∷ h) xs l = refl

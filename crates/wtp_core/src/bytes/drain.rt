@@ -1,0 +1,62 @@
+//! Writing a buffer to a sink, as far as the sink goes (own): what the writing states of this crate
+//! and of the one above stand on.
+ghost use Rattle.std.specs.Prelude.{◌≡◌, ℕ, ◌<◌, ◌≤◌, length, take, drop, OnOk, OnErr};
+ghost use Rattle.wtp_core.specs.Sink.{SinkKeepsLengths, SinkTells};
+ghost use Rattle.wtp_core.specs.Drain.{DrainTells, write_halted};
+
+use crate::bytes::polled::{IoWriteError, Polled};
+use crate::bytes::sink::{AsyncWrite, WriteStep};
+
+/// Why not all of a buffer was taken (own).
+#[derive(Clone, Copy)]
+pub enum WriteHalt {
+    /// The sink was not ready.
+    NotReady,
+    /// The other end takes no more.
+    Stopped,
+    /// The sink is not connected.
+    NotConnected,
+    /// The sink found no memory.
+    NoMemory,
+}
+
+/// Writes `bytes` from the place `sent` on, until all is taken; moves the place (own).
+pub fn drain<W: AsyncWrite>(sink: &mut W, bytes: &[u8], sent: &mut usize) -> Result<(), WriteHalt>
+    requires { sent.old ≤ length bytes.now }
+    ensures forward { sent.old ≤ sent.new }
+    ensures all { OnOk result (sent.new ≡ length bytes.now) }
+    ensures part { OnErr result (sent.new < length bytes.now) }
+    ensures tells { DrainTells result (drop sent.old (take sent.new bytes.now)) (W.tells sink.old) (W.tells sink.new) }
+{
+    while *sent < bytes.len() {
+        match write_at(sink, bytes, *sent) {
+            WriteStep::Bytes(n) => *sent += n,
+            WriteStep::NotReady => return Err(WriteHalt::NotReady),
+            WriteStep::Stopped => return Err(WriteHalt::Stopped),
+            WriteStep::NotConnected => return Err(WriteHalt::NotConnected),
+            WriteStep::NoMemory => return Err(WriteHalt::NoMemory),
+        }
+    }
+    Ok(())
+}
+
+// One call, of `bytes[at..]`.
+fn write_at<W: AsyncWrite>(sink: &mut W, bytes: &[u8], at: usize) -> WriteStep
+    requires { at ≤ length bytes.now }
+    ensures lengths { SinkKeepsLengths result (length (drop at bytes.now)) }
+    ensures tells { SinkTells result (drop at bytes.now) (W.tells sink.old) (W.tells sink.new) }
+{
+    sink.poll_write(&bytes[at..])
+}
+
+/// What a writing answers that halted (own).
+pub fn write_halted(halt: WriteHalt) -> Polled<Result<(), IoWriteError>>
+    ensures { result ≡ write_halted halt }
+{
+    match halt {
+        WriteHalt::NotReady => Polled::Pending,
+        WriteHalt::Stopped => Polled::Ready(Err(IoWriteError::Stopped)),
+        WriteHalt::NotConnected => Polled::Ready(Err(IoWriteError::NotConnected)),
+        WriteHalt::NoMemory => Polled::NoMemory,
+    }
+}

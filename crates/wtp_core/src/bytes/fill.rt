@@ -1,0 +1,67 @@
+//! Reading from a source into a buffer, as far as the source goes (own): what the reading states of
+//! this crate and of the one above stand on.
+ghost use Rattle.std.specs.Prelude.{◌≡◌, ℕ, ◌≤◌, length, take, drop};
+ghost use Rattle.wtp_core.specs.Source.{StepKeepsLengths, StepTells};
+ghost use Rattle.wtp_core.specs.Fill.{FillKeepsLengths, FillTells, halted_poll};
+
+use crate::bytes::polled::{IoReadError, Polled};
+use crate::bytes::source::{AsyncRead, ReadStep};
+
+/// Why a buffer was not filled (own).
+#[derive(Clone, Copy)]
+pub enum Halt {
+    /// The source was not ready.
+    NotReady,
+    /// The source ended.
+    Fin,
+    /// The source was reset.
+    Reset,
+    /// The source is not connected.
+    NotConnected,
+}
+
+/// Reads into `buf` from the place `at` on, until it is full; moves the place (own).
+pub fn fill<S: AsyncRead>(source: &mut S, buf: &mut [u8], at: &mut usize) -> Result<(), Halt>
+    requires { at.old ≤ length buf.old }
+    ensures front { take at.old buf.new ≡ take at.old buf.old }
+    ensures forward { at.old ≤ at.new }
+    ensures lengths { FillKeepsLengths result at.new (length buf.new) }
+    ensures tells { FillTells result (take at.old buf.old) (take at.new buf.new) (S.tells source.old) (S.tells source.new) }
+{
+    while *at < buf.len() {
+        match read_at(source, buf, *at) {
+            ReadStep::Bytes(0) => return Err(Halt::Fin),
+            ReadStep::Bytes(n) => *at += n,
+            ReadStep::NotReady => return Err(Halt::NotReady),
+            ReadStep::Reset => return Err(Halt::Reset),
+            ReadStep::NotConnected => return Err(Halt::NotConnected),
+        }
+    }
+    Ok(())
+}
+
+// One call, into `buf[at..]`.
+fn read_at<S: AsyncRead>(source: &mut S, buf: &mut [u8], at: usize) -> ReadStep
+    requires { at ≤ length buf.old }
+    ensures front { take at buf.new ≡ take at buf.old }
+    ensures lengths { StepKeepsLengths result (length (drop at buf.new)) }
+    ensures tells { StepTells result (drop at buf.new) (S.tells source.old) (S.tells source.new) }
+{
+    source.poll_read(&mut buf[at..])
+}
+
+/// What a reading answers that halted with so many bytes taken (own).
+pub fn halted<T>(halt: Halt, taken: usize) -> Polled<Result<T, IoReadError>>
+    ensures { result ≡ halted_poll halt taken }
+{
+    match halt {
+        Halt::NotReady => Polled::Pending,
+        Halt::Fin => Polled::Ready(Err(if taken == 0 {
+            IoReadError::ImmediateFin
+        } else {
+            IoReadError::UnexpectedFin
+        })),
+        Halt::Reset => Polled::Ready(Err(IoReadError::Reset)),
+        Halt::NotConnected => Polled::Ready(Err(IoReadError::NotConnected)),
+    }
+}

@@ -1,0 +1,165 @@
+//! Reading a number, or into a buffer, poll by poll.
+ghost use Rattle.std.specs.Prelude.{◌≡◌, ℕ, ◌<◌, ◌≤◌, List, [], None, length, take, Ok};
+ghost use Rattle.wtp_core.specs.Source.{Telling};
+ghost use Rattle.wtp_core.specs.Polled.{Asks};
+ghost use Rattle.wtp_core.specs.Varint.{number_at};
+ghost use Rattle.wtp_core.specs.VarintNeed.{varint_need, IsCut, varint_need_most, varint_need_grows};
+ghost use Rattle.wtp_core.specs.Getting.{VarintPolled, VarintGiven, BufferPolled, BufferGiven};
+
+use crate::bytes::fill::{fill, halted};
+use crate::bytes::head::{Head, fill_head};
+use crate::bytes::polled::{IoReadError, Polled};
+use crate::bytes::source::AsyncRead;
+use crate::varint::{VarInt, first_varint};
+use std::marker::Model;
+
+/// How many bytes the number at the front has, at least, where these are held (own).
+pub fn varint_need(held: &[u8]) -> usize
+    ensures { result ≡ varint_need held.now }
+{
+    match held.first() {
+        None => 1,
+        Some(first) => VarInt::parse_size(*first),
+    }
+}
+
+/// The front of a number is all of it.
+struct VarintHead;
+
+impl Head for VarintHead {
+    ghost need = { varint_need };
+
+    ghost most = { 8 };
+
+    fn need(held: &[u8]) -> usize {
+        varint_need(held)
+    }
+
+    ghost need_most = { varint_need_most };
+
+    ghost need_grows = { varint_need_grows };
+}
+
+/// Reads one number (RFC 9000, section 16), poll by poll, and not a byte behind it.
+///
+/// It holds the bytes that it took, and loses none of them where a poll does not answer the number.
+#[derive(Drop)]
+pub struct GetVarint {
+    bytes: [u8; 8],
+    len: usize,
+}
+
+impl Model for GetVarint {
+    ghost Value = { List ℕ };
+
+    ghost view = { λ s. take s.len s.bytes };
+
+    ghost invariant = { λ s. (s.len < 8) × IsCut (take s.len s.bytes) };
+}
+
+impl GetVarint {
+    /// A reading that has taken nothing (own).
+    pub fn new() -> Self
+        ensures { result ≡ [] }
+    {
+        GetVarint {
+            bytes: [0; 8],
+            len: 0,
+        }
+    }
+
+    /// Reads on as far as the source goes, in at most 8 calls, and takes no memory.
+    ///
+    /// It answers the number, and is then as new; `Pending` where the source was not ready; or why
+    /// the source gave no more. After both of these it may be polled again.
+    pub fn poll<S: AsyncRead>(&mut self, source: &mut S) -> Polled<Result<VarInt, IoReadError>>
+        ensures was_cut { number_at self.old ≡ None }
+        ensures cut { number_at self.new ≡ None }
+        ensures given { VarintGiven result self.old self.new }
+        ensures polled { Telling (S.tells source.old) (S.tells source.new) (VarintPolled result self.old self.new) }
+        ensures asks { Telling (S.tells source.old) (S.tells source.new) (Asks 8) }
+    {
+        match fill_head::<VarintHead, S>(source, &mut self.bytes, &mut self.len) {
+            Ok(()) => {}
+            Err(halt) => return halted(halt, self.len),
+        }
+        let Some((value, _)) = first_varint(&self.bytes[..self.len]) else {
+            unreachable!()
+        };
+        self.len = 0;
+        Polled::Ready(Ok(value))
+    }
+}
+
+/// Fills a buffer, poll by poll, and takes not a byte behind it.
+///
+/// The bytes that it took stand in the buffer's front, and none of them is lost where a poll does
+/// not answer that it is full.
+#[derive(Drop)]
+pub struct GetBuffer<'a> {
+    buffer: &'a mut [u8],
+    filled: usize,
+    ghost within: { filled ≤ length buffer.now },
+}
+
+impl<'a> GetBuffer<'a> {
+    ghost use Rattle.wtp_core.specs.GetBuffer.{buffer_of, taken_of, room_of, loan_in};
+
+    /// A reading that has taken nothing (own).
+    pub fn new(buffer: &'a mut [u8]) -> Self
+        ensures taken { taken_of result ≡ [] }
+        ensures buffer { buffer_of result ≡ buffer.old }
+        ensures lent { loan_in result ≡ buffer.entry.ghost_name }
+    {
+        GetBuffer { buffer, filled: 0 }
+    }
+
+    /// Reads on as far as the source goes, in at most as many calls as the buffer has bytes, and
+    /// takes no memory.
+    ///
+    /// It answers `Ready(Ok(()))` once the buffer is full, and then stays finished and calls its
+    /// source no more; an empty buffer is full from the start. Otherwise it answers `Pending` where
+    /// the source was not ready, or why the source gave no more, and may be polled again.
+    pub fn poll<S: AsyncRead>(&mut self, source: &mut S) -> Polled<Result<(), IoReadError>>
+        ensures lent { loan_in self.new ≡ loan_in self.old }
+        ensures room { room_of self.new ≡ room_of self.old }
+        ensures given { BufferGiven result (room_of self.old) (taken_of self.old) (taken_of self.new) }
+        ensures polled { Telling (S.tells source.old) (S.tells source.new) (BufferPolled result (taken_of self.old) (taken_of self.new)) }
+        ensures asks { Telling (S.tells source.old) (S.tells source.new) (Asks (room_of self.old)) }
+        ensures finished { length (taken_of self.old) ≡ room_of self.old
+            → (source.new ≡ source.old) × (result ≡ Polled.Ready (Ok tt)) × (buffer_of self.new ≡ buffer_of self.old) }
+    {
+        if self.filled == self.buffer.len() {
+            return Polled::Ready(Ok(()));
+        }
+        match fill(source, self.buffer, &mut self.filled) {
+            Ok(()) => Polled::Ready(Ok(())),
+            Err(halt) => halted(halt, self.filled),
+        }
+    }
+}
+
+/// Makes the reading states of any source. These calls touch nothing.
+pub trait BytesReaderAsync: AsyncRead {
+    ghost use Rattle.wtp_core.specs.GetBuffer.{buffer_of, taken_of, loan_in};
+
+    /// A state that reads one number.
+    fn get_varint(&mut self) -> GetVarint
+        ensures fresh { result ≡ [] }
+        ensures same { self.new ≡ self.old }
+    {
+        GetVarint::new()
+    }
+
+    /// A state that fills the buffer.
+    fn get_buffer<'a>(&mut self, buffer: &'a mut [u8]) -> GetBuffer<'a>
+        ensures taken { taken_of result ≡ [] }
+        ensures buffer { buffer_of result ≡ buffer.old }
+        ensures lent { loan_in result ≡ buffer.entry.ghost_name }
+        ensures same { self.new ≡ self.old }
+    {
+        GetBuffer::new(buffer)
+    }
+}
+
+impl<S: AsyncRead> BytesReaderAsync for S {}

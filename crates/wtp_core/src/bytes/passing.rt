@@ -1,0 +1,43 @@
+//! Passing over bytes of a source that nobody keeps (own).
+ghost use Rattle.std.specs.Prelude.{◌≡◌, ℕ, ◌+◌, ◌-◌, ◌<◌, ◌≤◌, OnOk, OnErr};
+ghost use Rattle.wtp_core.specs.Passing.{PassTells, CountFits, StepPasses};
+
+use crate::bytes::fill::Halt;
+use crate::bytes::source::{AsyncRead, ReadStep};
+
+/// Passes over bytes that are due, at most 4096 of them; what is due falls by as many (own).
+pub fn pass<S: AsyncRead>(source: &mut S, due: &mut u64) -> Result<(), Halt>
+    ensures fewer { due.new ≤ due.old }
+    ensures most { due.old ≤ due.new + 4096 }
+    ensures whole { OnOk result (0 < due.new → due.new + 4096 ≡ due.old) }
+    ensures part { OnErr result (0 < due.new) }
+    ensures some { OnErr result (due.old < due.new + 4096) }
+    ensures tells { PassTells result (due.old - due.new) (S.tells source.old) (S.tells source.new) }
+{
+    let mut room = 4096;
+    let mut scratch = [0; 64];
+    while *due > 0 && room > 0 {
+        let want = (*due).min(room).min(64);
+        match read_some(source, &mut scratch, want as usize) {
+            ReadStep::Bytes(0) => return Err(Halt::Fin),
+            ReadStep::Bytes(n) => {
+                *due -= n as u64;
+                room -= n as u64;
+            }
+            ReadStep::NotReady => return Err(Halt::NotReady),
+            ReadStep::Reset => return Err(Halt::Reset),
+            ReadStep::NotConnected => return Err(Halt::NotConnected),
+        }
+    }
+    Ok(())
+}
+
+// One call, into the first bytes of a buffer.
+fn read_some<S: AsyncRead>(source: &mut S, buf: &mut [u8; 64], want: usize) -> ReadStep
+    requires some { 0 < want }
+    requires fits { want ≤ 64 }
+    ensures lengths { CountFits result want }
+    ensures tells { StepPasses result (S.tells source.old) (S.tells source.new) }
+{
+    source.poll_read(&mut buf[..want])
+}

@@ -1,0 +1,147 @@
+//! Writing a number, or a buffer, poll by poll.
+ghost use Rattle.std.specs.Prelude.{◌≡◌, ℕ, ◌≤◌, List, ◌++◌, length, take, drop, Ok};
+ghost use Rattle.wtp_core.specs.Source.{Telling};
+ghost use Rattle.wtp_core.specs.Varint.{shortest};
+ghost use Rattle.wtp_core.specs.Writing.{Writing, unsent, GoesOn, IsSent, WritePolled};
+
+use crate::bytes::buffer_writer::BufferWriter;
+use crate::bytes::drain::{drain, write_halted};
+use crate::bytes::polled::{IoWriteError, Polled};
+use crate::bytes::sink::AsyncWrite;
+use crate::bytes::writer::BytesWriter;
+use crate::varint::VarInt;
+use std::marker::Model;
+
+/// Writes the shortest spelling of a number (RFC 9000, section 16), poll by poll.
+///
+/// It knows how many of its bytes were sent, and sends none of them twice.
+#[derive(Drop)]
+pub struct PutVarint {
+    bytes: [u8; 8],
+    len: usize,
+    sent: usize,
+}
+
+impl Model for PutVarint {
+    ghost Value = { Writing };
+
+    ghost view = { λ s. record { bytes = take s.len s.bytes; sent = s.sent } };
+
+    ghost invariant = { λ s. (s.len ≤ 8) × (s.sent ≤ s.len) };
+}
+
+impl PutVarint {
+    /// A writing that has sent nothing (own).
+    pub fn new(varint: VarInt) -> Self
+        ensures { result ≡ unsent (shortest varint) }
+    {
+        let mut bytes = [0; 8];
+        let len = spell(varint, &mut bytes);
+        PutVarint {
+            bytes,
+            len,
+            sent: 0,
+        }
+    }
+
+    /// Writes on as far as the sink goes.
+    ///
+    /// It answers `Ready(Ok(()))` once all is sent, and then stays finished and calls its sink no
+    /// more; otherwise what the sink said: not ready (`Pending`), no memory, stopped or not
+    /// connected. After each of these it may be polled again.
+    pub fn poll<W: AsyncWrite>(&mut self, sink: &mut W) -> Polled<Result<(), IoWriteError>>
+        ensures on { GoesOn self.old self.new }
+        ensures whole { IsSent result self.new }
+        ensures polled { Telling (W.tells sink.old) (W.tells sink.new) (WritePolled result self.old self.new) }
+        ensures finished { self.old.sent ≡ length self.old.bytes → (sink.new ≡ sink.old) × (result ≡ Polled.Ready (Ok tt)) }
+    {
+        if self.sent == self.len {
+            return Polled::Ready(Ok(()));
+        }
+        match drain(sink, &self.bytes[..self.len], &mut self.sent) {
+            Ok(()) => Polled::Ready(Ok(())),
+            Err(halt) => write_halted(halt),
+        }
+    }
+}
+
+/// Writes the shortest spelling to the front of the buffer, and answers how many bytes it has (own).
+pub fn spell(varint: VarInt, buffer: &mut [u8]) -> usize
+    requires { 8 ≤ length buffer.old }
+    ensures bytes { buffer.new ≡ shortest varint ++ drop result buffer.old }
+    ensures size { result ≡ length (shortest varint) }
+    ensures most { result ≤ 8 }
+{
+    let size = varint.size();
+    let mut writer = BufferWriter::new(buffer);
+    let put = writer.put_varint(varint);
+    prove!(put.is_ok());
+    size
+}
+
+/// Writes a buffer, poll by poll.
+///
+/// It knows how many of its bytes were sent, and sends none of them twice.
+#[derive(Drop)]
+pub struct PutBuffer<'a> {
+    bytes: &'a [u8],
+    sent: usize,
+}
+
+impl<'a> Model for PutBuffer<'a> {
+    ghost Value = { Writing };
+
+    ghost view = { λ s. record { bytes = s.bytes.now; sent = s.sent } };
+
+    ghost invariant = { λ s. s.sent ≤ length s.bytes.now };
+}
+
+impl<'a> PutBuffer<'a> {
+    /// A writing that has sent nothing (own).
+    pub fn new(bytes: &'a [u8]) -> Self
+        ensures { result ≡ unsent bytes.now }
+    {
+        PutBuffer { bytes, sent: 0 }
+    }
+
+    /// Writes on as far as the sink goes.
+    ///
+    /// It answers `Ready(Ok(()))` once all is sent, and then stays finished and calls its sink no
+    /// more; an empty buffer is sent from the start. Otherwise it answers what the sink said, as
+    /// `PutVarint` does, and may be polled again.
+    pub fn poll<W: AsyncWrite>(&mut self, sink: &mut W) -> Polled<Result<(), IoWriteError>>
+        ensures on { GoesOn self.old self.new }
+        ensures whole { IsSent result self.new }
+        ensures polled { Telling (W.tells sink.old) (W.tells sink.new) (WritePolled result self.old self.new) }
+        ensures finished { self.old.sent ≡ length self.old.bytes → (sink.new ≡ sink.old) × (result ≡ Polled.Ready (Ok tt)) }
+    {
+        if self.sent == self.bytes.len() {
+            return Polled::Ready(Ok(()));
+        }
+        match drain(sink, self.bytes, &mut self.sent) {
+            Ok(()) => Polled::Ready(Ok(())),
+            Err(halt) => write_halted(halt),
+        }
+    }
+}
+
+/// Makes the writing states of any sink. These calls touch nothing.
+pub trait BytesWriterAsync: AsyncWrite {
+    /// A state that writes the number in its shortest spelling.
+    fn put_varint(&mut self, varint: VarInt) -> PutVarint
+        ensures fresh { result ≡ unsent (shortest varint) }
+        ensures same { self.new ≡ self.old }
+    {
+        PutVarint::new(varint)
+    }
+
+    /// A state that writes the buffer.
+    fn put_buffer<'a>(&mut self, buffer: &'a [u8]) -> PutBuffer<'a>
+        ensures fresh { result ≡ unsent buffer.now }
+        ensures same { self.new ≡ self.old }
+    {
+        PutBuffer::new(buffer)
+    }
+}
+
+impl<W: AsyncWrite> BytesWriterAsync for W {}

@@ -1,0 +1,43 @@
+//! Polled sources of bytes, and slices as sources.
+ghost use Rattle.std.specs.Prelude.{◌≡◌, ℕ, Option, Some, None, ◌≤◌, length};
+ghost use Rattle.wtp_core.specs.Source.{Source, StepKeepsLengths, StepTells, all_ahead};
+
+/// One answer of a source.
+#[derive(Clone, Copy, Debug, PartialEq, Eq)]
+pub enum ReadStep {
+    /// So many bytes were moved into the buffer's front; 0 at an end, and where the buffer is empty.
+    Bytes(usize),
+    /// No byte is there yet.
+    NotReady,
+    /// The source was reset, and gives no more.
+    Reset,
+    /// The source is not connected any more, and gives no more.
+    NotConnected,
+}
+
+/// A source of bytes that is asked again and again, and never waits.
+///
+/// What it promises is its contract: an `impl` outside of checked code has to keep it.
+pub trait AsyncRead {
+    // What the source tells of itself, where it tells anything: the bytes ahead, how they end, how
+    // often it was asked and how often it was not ready. A source that tells goes on telling.
+    ghost tells: { Self → Option Source } = { λ _. None };
+
+    /// Moves bytes into the front of the buffer, or says why none. An empty buffer gets `Bytes(0)`.
+    fn poll_read(&mut self, buf: &mut [u8]) -> ReadStep
+        ensures lengths { StepKeepsLengths result (length buf.new) }
+        ensures tells { StepTells result buf.new (tells self.old) (tells self.new) };
+}
+
+impl AsyncRead for &[u8] {
+    ghost tells = { λ s. Some (all_ahead s.now) };
+
+    /// Gives as many of the bytes as the buffer takes, and then an end; it is always ready.
+    fn poll_read(&mut self, buf: &mut [u8]) -> ReadStep {
+        let n = self.len().min(buf.len());
+        let (front, rest) = self.split_at(n);
+        buf[..n].copy_from_slice(front);
+        *self = rest;
+        ReadStep::Bytes(n)
+    }
+}

@@ -1,0 +1,160 @@
+-- What one poll of a reading of a stream header answers.
+use Rattle.std.proofs.Common.{◌≡◌, ◌≢◌, ℕ, ◌+◌, ◌%◌, ◌==◌, ◌<◌, List, [], ◌∷◌, length, take, drop, Option, Some, None, Result, Ok, Err, refl, sym, ap, ◌∙◌, arith, inl, inr, length-drop}
+use Rattle.std.proofs.lemmas.Bool.{cases_lt, cases_Bool}
+use Rattle.wtp_core.specs.declared.bytes.polled.Polled.TheVariants.{Ready}
+use Rattle.wtp_core.specs.declared.bytes.fill.Halt.{Halt}
+use Rattle.wtp_core.specs.declared.bytes.fill.Halt.TheVariants as halt
+use Rattle.wtp_core.specs.Varint.{number_at}
+use Rattle.wtp_core.specs.VarintNeed.{varint_need}
+use Rattle.wtp_core.specs.Source.{Source, Telling}
+use Rattle.wtp_core.specs.Polled.{Asks}
+use Rattle.wtp_core.specs.Fill.{Gains, HaltIsTrue}
+use Rattle.wtp_core.proofs.TellingLemmas.{telling_map}
+use Rattle.wtp_core.proofs.FillLemmas.{begins}
+use Rattle.wtp_core.proofs.GetLemmas.{dry}
+use Rattle.wtp_core.proofs.NeedLemmas.{number_at-cut, number_at-full, number_at-whole}
+use Rattle.wtp_wire.specs.declared.stream_header.StreamKind.{StreamKind}
+use Rattle.wtp_wire.specs.declared.stream_header.StreamKind.TheVariants.{Control, QPackEncoder, QPackDecoder, WebTransport, Exercise}
+use Rattle.wtp_wire.specs.declared.stream_header.ParseError.{ParseError}
+use Rattle.wtp_wire.specs.declared.stream_header.ParseError.TheVariants as parse
+use Rattle.wtp_wire.specs.declared.stream_header.polled.IoReadError.{IoReadError}
+use Rattle.wtp_wire.specs.declared.stream_header.polled.IoReadError.TheVariants.{Parse, IO}
+use Rattle.wtp_wire.specs.StreamKind.{stream_kind_of}
+use Rattle.wtp_wire.specs.Header.{Header}
+use Rattle.wtp_wire.specs.HeaderFront.{HeaderFront, Headed, Unknown, BadId, Short, header_front, session_header_front, typed_header_front, header_extended}
+use Rattle.wtp_wire.specs.HeaderReading.{AnswersHeader}
+use Rattle.wtp_wire.specs.HeaderNeed.{header_need, header_need_is, header_need_most, need_behind, second_need}
+use Rattle.wtp_wire.specs.HeaderPolling.{HeaderPolled, HeaderGiven, HeaderDecided, HeaderAnswered, IsWhole, halted_header}
+use Rattle.wtp_wire.proofs.HeaderFrontLemmas.{header_front-more}
+
+header_typed : (h r : List ℕ) (id : ℕ) → number_at h ≡ Some (id, r) → header_front h ≡ typed_header_front (stream_kind_of id) r
+unfolding header_front
+header_typed h r id e = rw e refl
+
+header_none : (h : List ℕ) → number_at h ≡ None → header_front h ≡ Short
+unfolding header_front
+header_none h e = rw e refl
+
+need_known : (h r : List ℕ) (id : ℕ) → number_at h ≡ Some (id, r) → header_need h ≡ varint_need h + second_need (stream_kind_of id) r
+need_known h r id e = header_need_is h ∙ rw e refl
+
+need_none : (h : List ℕ) → number_at h ≡ None → header_need h ≡ varint_need h
+need_none h e = omega (arith, header_need_is h, ap need_behind e)
+
+-- fewer bytes than are needed are too few
+typed_cut : (k : Option StreamKind) (r : List ℕ) → length r < second_need k r → typed_header_front k r ≡ Short
+unfolding session_header_front
+typed_cut None r l = absurd (omega arith)
+typed_cut (Some Control) r l = absurd (omega arith)
+typed_cut (Some QPackEncoder) r l = absurd (omega arith)
+typed_cut (Some QPackDecoder) r l = absurd (omega arith)
+typed_cut (Some WebTransport) r l = rw (number_at-cut r l) refl
+typed_cut (Some (Exercise number)) r l = absurd (omega arith)
+
+pub header_cut : (h : List ℕ) → length h < header_need h → header_front h ≡ Short
+header_cut h f = elim (cases_lt (length h) (varint_need h)) [
+  | inl l ↦ header_none h (number_at-cut h l)
+  | inr l ↦
+      let (id, is) = number_at-full h l in
+      let r = drop (varint_need h) h in
+      header_typed h r id is ∙ typed_cut (stream_kind_of id) r (omega (arith, need_known h r id is, length-drop (varint_need h) h))
+]
+
+-- a case that leaves nothing
+abbrev pub LeavesNothing : HeaderFront → Type 0
+LeavesNothing (Headed h rest) = rest ≡ []
+LeavesNothing (Unknown rest) = rest ≡ []
+LeavesNothing (BadId rest) = rest ≡ []
+LeavesNothing Short = ⊥
+
+session_whole : (r : List ℕ) → varint_need r ≡ length r → LeavesNothing (session_header_front r)
+unfolding session_header_front
+session_whole r w =
+    let (id, is) = number_at-whole r w in
+    elim (cases_Bool (id % 4 == 0)) [ inl t ↦ rw (is, t) refl | inr t ↦ rw (is, t) refl ]
+
+no_bytes : (r : List ℕ) → length r ≡ 0 → r ≡ []
+no_bytes [] e = refl
+no_bytes (b ∷ r) e = absurd (omega arith)
+
+typed_whole : (k : Option StreamKind) (r : List ℕ) → second_need k r ≡ length r → LeavesNothing (typed_header_front k r)
+typed_whole None r w = no_bytes r (omega arith)
+typed_whole (Some Control) r w = no_bytes r (omega arith)
+typed_whole (Some QPackEncoder) r w = no_bytes r (omega arith)
+typed_whole (Some QPackDecoder) r w = no_bytes r (omega arith)
+typed_whole (Some WebTransport) r w = session_whole r w
+typed_whole (Some (Exercise number)) r w = no_bytes r (omega arith)
+
+-- as many bytes as are needed are a case, and none stand behind it
+pub header_whole : (h : List ℕ) → header_need h ≡ length h → LeavesNothing (header_front h)
+header_whole h w = elim (cases_lt (length h) (varint_need h)) [
+  | inl l ↦ absurd (omega (arith, need_none h (number_at-cut h l)))
+  | inr l ↦
+      let (id, is) = number_at-full h l in
+      let r = drop (varint_need h) h in
+      rw (header_typed h r id is) (typed_whole (stream_kind_of id) r (omega (arith, need_known h r id is, length-drop (varint_need h) h)))
+]
+
+pub whole_headed : (h rest : List ℕ) (x : Header) → header_need h ≡ length h → header_front h ≡ Headed x rest → header_front h ≡ Headed x []
+whole_headed h rest x w e = let none : rest ≡ [] = rw e at (header_whole h w) in e ∙ ap (λ (l : List ℕ). Headed x l) none
+
+pub whole_short : (h : List ℕ) → header_need h ≡ length h → header_front h ≡ Short → ⊥
+whole_short h w e = rw e at (header_whole h w)
+
+whole_unknown : (h rest : List ℕ) → header_need h ≡ length h → header_front h ≡ Unknown rest → header_front h ≡ Unknown []
+whole_unknown h rest w e = let none : rest ≡ [] = rw e at (header_whole h w) in e ∙ ap (λ (l : List ℕ). Unknown l) none
+
+whole_bad : (h rest : List ℕ) → header_need h ≡ length h → header_front h ≡ BadId rest → header_front h ≡ BadId []
+whole_bad h rest w e = let none : rest ≡ [] = rw e at (header_whole h w) in e ∙ ap (λ (l : List ℕ). BadId l) none
+
+pub whole_fault : (e : ParseError) (h rest : List ℕ) → header_need h ≡ length h → AnswersHeader (header_front h) (Err e) rest → IsWhole (Err (Parse e)) h
+whole_fault parse.UnknownStream h rest w e = whole_unknown h rest w e
+whole_fault parse.InvalidSessionId h rest w e = whole_bad h rest w e
+
+-- ---- answers
+
+not_short : (h : List ℕ) (c : HeaderFront) → header_front h ≡ c → c ≢ Short → header_front h ≢ Short
+not_short h c e n s = n (sym e ∙ s)
+
+-- the case stays when bytes follow
+decided : (old h : List ℕ) (a b : Source) (case : List ℕ → HeaderFront) → header_front h ≡ case [] → case [] ≢ Short → header_extended (case []) b.ahead ≡ case b.ahead → Gains old h a b 0 → HeaderDecided old [] a b case
+decided old h a b case e n more g = record {
+  front = ap header_front g.kept ∙ header_front-more h b.ahead (not_short h (case []) e n) ∙ ap (λ (c : HeaderFront). header_extended c b.ahead) e ∙ more;
+  empty = refl;
+}
+
+whole_polled : (r : Result Header IoReadError) (old h : List ℕ) (a b : Source) → IsWhole r h → Gains old h a b 0 → HeaderPolled (Ready r) old [] a b
+whole_polled (Ok x) old h a b w g = decided old h a b (Headed x) w (λ e. cc) refl g
+whole_polled (Err (Parse parse.UnknownStream)) old h a b w g = decided old h a b Unknown w (λ e. cc) refl g
+whole_polled (Err (Parse parse.InvalidSessionId)) old h a b w g = decided old h a b BadId w (λ e. cc) refl g
+whole_polled (Err (IO e)) old h a b w g = absurd w
+
+pub whole_told : (s t : Option Source) (r : Result Header IoReadError) (old h : List ℕ) → IsWhole r h → Telling s t (λ a b. Gains old h a b 0) → Telling s t (HeaderPolled (Ready r) old [])
+whole_told s t r old h w p = telling_map s t _ (HeaderPolled (Ready r) old []) (λ a b g. whole_polled r old h a b w g) p
+
+answered : (m : ℕ) (old h : List ℕ) (case : List ℕ → HeaderFront) → take m h ≡ old → header_front h ≡ case [] → HeaderAnswered old [] case
+answered m old h case front e = let (given, is) = begins m old h front in record { given = given; front = ap header_front (sym is) ∙ e; empty = refl }
+
+pub whole_given : (r : Result Header IoReadError) (m : ℕ) (old h : List ℕ) → take m h ≡ old → IsWhole r h → HeaderGiven (Ready r) old []
+whole_given (Ok x) m old h front w = answered m old h (Headed x) front w
+whole_given (Err (Parse parse.UnknownStream)) m old h front w = answered m old h Unknown front w
+whole_given (Err (Parse parse.InvalidSessionId)) m old h front w = answered m old h BadId front w
+whole_given (Err (IO e)) m old h front w = absurd w
+
+halted_polled : (x : Halt) (old new : List ℕ) (a b : Source) → length new < header_need new → Gains old new a b 1 → HaltIsTrue x a b → HeaderPolled (halted_header x (length new)) old new a b
+halted_polled halt.NotReady old new a b cut g t = record { waited = t; kept = sym g.kept }
+halted_polled halt.Fin old new a b cut g t = let e = dry old new a b 1 g t.0 in (rw (← e) (header_cut new cut), record { none_ahead = t.0; held = e; why = rw t.1 refl })
+halted_polled halt.Reset old new a b cut g t = let e = dry old new a b 1 g t.0 in (rw (← e) (header_cut new cut), record { none_ahead = t.0; held = e; why = rw t.1 refl })
+halted_polled halt.NotConnected old new a b cut g t = let e = dry old new a b 1 g t.0 in (rw (← e) (header_cut new cut), record { none_ahead = t.0; held = e; why = rw t.1 refl })
+
+pub halted_told : (s t : Option Source) (x : Halt) (n : ℕ) (old new : List ℕ) → n ≡ length new → length new < header_need new → Telling s t (λ a b. Gains old new a b 1 × HaltIsTrue x a b) → Telling s t (HeaderPolled (halted_header x n) old new)
+halted_told s t x n old new is cut p = telling_map s t _ (HeaderPolled (halted_header x n) old new) (λ a b q. rw is (halted_polled x old new a b cut q.0 q.1)) p
+
+pub halted_given : (x : Halt) (n m : ℕ) (old new : List ℕ) → take m new ≡ old → HeaderGiven (halted_header x n) old new
+halted_given halt.NotReady n m old new e = begins m old new e
+halted_given halt.Fin n m old new e = begins m old new e
+halted_given halt.Reset n m old new e = begins m old new e
+halted_given halt.NotConnected n m old new e = begins m old new e
+
+pub asks_halted : (s t : Option Source) (x : Halt) (old new : List ℕ) → length new < header_need new → Telling s t (λ a b. Gains old new a b 1 × HaltIsTrue x a b) → Telling s t (Asks 16)
+asks_halted s t x old new cut p = telling_map s t _ (Asks 16) (λ a b q. let g = q.0 in record { asked = let one = g.asked in omega (arith, header_need_most new); no_less = g.no_less; ending = g.ending; waits = g.waits }) p

@@ -1,0 +1,49 @@
+-- The two numbers of a frame and its payload are written one behind the other.
+use Rattle.std.proofs.Common.{◌≡◌, ℕ, ◌+◌, ◌<◌, ◌≤◌, List, [], ◌++◌, length, take, drop, refl, sym, ap, ◌∙◌, arith, inl, inr, append-nil, Option, Ok}
+use Rattle.std.proofs.lemmas.Bool.{cases_lt}
+use Rattle.std.proofs.lemmas.List.{drop-append-le}
+use Rattle.std.proofs.Math.Seq.{drop-append-add, take-append-add, take-append_seam, drop-append_seam}
+use Rattle.wtp_core.specs.declared.bytes.polled.Polled.TheVariants.{Ready}
+use Rattle.wtp_core.specs.declared.bytes.drain.WriteHalt.{WriteHalt}
+use Rattle.wtp_core.specs.declared.bytes.drain.WriteHalt.TheVariants as halt
+use Rattle.wtp_core.specs.Source.{Telling}
+use Rattle.wtp_core.specs.Sink.{Sink}
+use Rattle.wtp_core.specs.Drain.{Grows, WriteHaltIsTrue, write_halted}
+use Rattle.wtp_core.specs.Writing.{Writing, WritePolled}
+use Rattle.wtp_core.proofs.TellingLemmas.{telling_then}
+use Rattle.wtp_core.proofs.DrainLemmas.{grows_then}
+
+take_whole : (xs : List ℕ) → take (length xs) xs ≡ xs
+take_whole xs = ap (λ l. take (length xs) l) (sym (append-nil xs)) ∙ take-append_seam xs []
+
+drop_whole : (xs : List ℕ) → drop (length xs) xs ≡ []
+drop_whole xs = ap (λ l. drop (length xs) l) (sym (append-nil xs)) ∙ drop-append_seam xs []
+
+two_ranges : (h p : List ℕ) (i j k : ℕ) → i ≤ length h → (0 < j → i ≡ length h) → drop i (take (length h) h) ++ drop j (take k p) ≡ drop (i + j) (take (length h + k) (h ++ p))
+two_ranges h p i j k le behind = elim (cases_lt 0 j) [
+  | inl some ↦
+      let at = behind some in
+      sym (rw (at, take-append-add h p k, drop-append-add h (take k p) j, take_whole h, drop_whole h) refl)
+  | inr none ↦
+      let zero : j ≡ 0 = omega arith in
+      let i_is : i + 0 ≡ i = omega arith in
+      sym (rw (zero, i_is, take-append-add h p k, drop-append-le i h (take k p) le, take_whole h) refl)
+]
+
+-- both parts moved on
+pub both_grow : (h p : List ℕ) (i j k : ℕ) (a b c : Sink) → i ≤ length h → (0 < j → i ≡ length h) → Grows (drop i (take (length h) h)) a b → Grows (drop j (take k p)) b c → Grows (drop (i + j) (take (length h + k) (h ++ p))) a c
+both_grow h p i j k a b c le behind g q = rw (← two_ranges h p i j k le behind) (grows_then _ _ a b c g q)
+
+halts : (x : WriteHalt) (old new : Writing) (a b c : Sink) → Grows (drop old.sent (take new.sent old.bytes)) a c → a.waits ≤ b.waits → a.stops ≤ b.stops → a.losses ≤ b.losses → WriteHaltIsTrue x b c → WritePolled (write_halted x) old new a c
+halts halt.NotReady old new a b c g w s l t = (g.taken, omega arith)
+halts halt.Stopped old new a b c g w s l t = (g.taken, omega arith)
+halts halt.NotConnected old new a b c g w s l t = (g.taken, omega arith)
+halts halt.NoMemory old new a b c g w s l t = g.taken
+
+pub written : (s t u : Option Sink) (h p : List ℕ) (i j k : ℕ) (old new : Writing) → i ≤ length h → (0 < j → i ≡ length h) → old ≡ record { bytes = h ++ p; sent = i + j } → new ≡ record { bytes = h ++ p; sent = length h + k }
+    → Telling s t (Grows (drop i (take (length h) h))) → Telling t u (Grows (drop j (take k p))) → Telling s u (WritePolled (Ready (Ok (tt {0}))) old new)
+written s t u h p i j k old new le behind o n g q = rw (o, n) (telling_then s t u _ _ (WritePolled (Ready (Ok (tt {0}))) (record { bytes = h ++ p; sent = i + j }) (record { bytes = h ++ p; sent = length h + k })) (λ a b c x y. let r = both_grow h p i j k a b c le behind x y in r.taken) g q)
+
+pub written_part : (s t u : Option Sink) (x : WriteHalt) (h p : List ℕ) (i j k : ℕ) (old new : Writing) → i ≤ length h → (0 < j → i ≡ length h) → old ≡ record { bytes = h ++ p; sent = i + j } → new ≡ record { bytes = h ++ p; sent = length h + k }
+    → Telling s t (Grows (drop i (take (length h) h))) → Telling t u (λ b c. Grows (drop j (take k p)) b c × WriteHaltIsTrue x b c) → Telling s u (WritePolled (write_halted x) old new)
+written_part s t u x h p i j k old new le behind o n g q = rw (o, n) (telling_then s t u _ _ (WritePolled (write_halted x) (record { bytes = h ++ p; sent = i + j }) (record { bytes = h ++ p; sent = length h + k })) (λ a b c y z. halts x (record { bytes = h ++ p; sent = i + j }) (record { bytes = h ++ p; sent = length h + k }) a b c (both_grow h p i j k a b c le behind y z.0) y.waits y.stops y.losses z.1) g q)

@@ -1,0 +1,46 @@
+use Rattle.std.proofs.Common.{◌≡◌, ℕ, ◌≤◌, List, [], take, ◌∙◌, arith, length-take}
+use Rattle.std.proofs.lemmas.List.{take-take}
+use Rattle.wtp_core.specs.VarintNeed.{varint_need_range}
+use Rattle.wtp_wire.specs.HeaderNeed.{header_need_is}
+use Rattle.wtp_wire.proofs.HeaderPollLemmas.{header_cut, whole_told, whole_given, halted_told, halted_given, asks_halted}
+use Rattle.wtp_wire.proofs.stream_header.polled.HeaderReading.poll.Goals as goal
+
+-- what was held before stands in front of what is held now
+held_front : (m n : ℕ) (buf new : List ℕ) → m ≤ n → take m new ≡ take m buf → take m (take n new) ≡ take m buf
+held_front m n buf new l e = take-take m n new l ∙ e
+
+pub returns-in-Err-clause-was_cut : goal.returns-in-Err-clause-was_cut
+returns-in-Err-clause-was_cut g c = rw (← c.self.view_is) (header_cut (take c.self.inside.len c.self.inside.bytes) c.self.invariant.1)
+
+pub returns-in-Err-clause-cut : goal.returns-in-Err-clause-cut
+returns-in-Err-clause-cut g c = header_cut (take c.fill_head.new.len c.fill_head.new.buf) (omega (arith, c.in-Err.ensures.cut, length-take c.fill_head.new.len c.fill_head.new.buf))
+
+pub returns-in-Err-clause-given : goal.returns-in-Err-clause-given
+returns-in-Err-clause-given g c = rw (c.halted_header.ensures, ← c.self.view_is) (halted_given c.in-Err.halt c.fill_head.new.len c.self.inside.len _ (take c.fill_head.new.len c.fill_head.new.buf)
+    (held_front c.self.inside.len c.fill_head.new.len c.self.inside.bytes c.fill_head.new.buf c.fill_head.ensures.forward c.fill_head.ensures.front))
+
+pub returns-in-Err-clause-polled : goal.returns-in-Err-clause-polled
+returns-in-Err-clause-polled g c = rw (c.halted_header.ensures, ← c.self.view_is) (halted_told (g.S.AsyncRead.tells c.args.source.now) (g.S.AsyncRead.tells c.fill_head.new.source) c.in-Err.halt c.fill_head.new.len
+    (take c.self.inside.len c.self.inside.bytes) (take c.fill_head.new.len c.fill_head.new.buf)
+    (omega (arith, c.fill_head.ensures.room, length-take c.fill_head.new.len c.fill_head.new.buf)) (omega (arith, c.in-Err.ensures.cut, length-take c.fill_head.new.len c.fill_head.new.buf)) c.in-Err.ensures.tells)
+
+pub returns-in-Err-clause-asks : goal.returns-in-Err-clause-asks
+returns-in-Err-clause-asks g c = asks_halted (g.S.AsyncRead.tells c.args.source.now) (g.S.AsyncRead.tells c.fill_head.new.source) c.in-Err.halt
+    (take c.self.inside.len c.self.inside.bytes) (take c.fill_head.new.len c.fill_head.new.buf) (omega (arith, c.in-Err.ensures.cut, length-take c.fill_head.new.len c.fill_head.new.buf)) c.in-Err.ensures.tells
+
+pub invariant_of-self-2 : goal.invariant_of-self-2
+invariant_of-self-2 g c = (omega arith, omega (arith, header_need_is [], (varint_need_range []).0))
+
+pub returns-clause-was_cut : goal.returns-clause-was_cut
+returns-clause-was_cut g c = rw (← c.self.view_is) (header_cut (take c.self.inside.len c.self.inside.bytes) c.self.invariant.1)
+
+pub returns-clause-cut : goal.returns-clause-cut
+returns-clause-cut g c = header_cut [] (omega (arith, header_need_is [], (varint_need_range []).0))
+
+pub returns-clause-given : goal.returns-clause-given
+returns-clause-given g c = rw (← c.self.view_is) (whole_given _ c.self.inside.len _ (take c.fill_head.new.len c.fill_head.new.buf)
+    (held_front c.self.inside.len c.fill_head.new.len c.self.inside.bytes c.fill_head.new.buf c.fill_head.ensures.forward c.fill_head.ensures.front) c.read_whole-answer.ensures)
+
+pub returns-clause-polled : goal.returns-clause-polled
+returns-clause-polled g c = rw (← c.self.view_is) (whole_told (g.S.AsyncRead.tells c.args.source.now) (g.S.AsyncRead.tells c.fill_head.new.source) c.read_whole-answer.result
+    (take c.self.inside.len c.self.inside.bytes) (take c.fill_head.new.len c.fill_head.new.buf) c.read_whole-answer.ensures c.in-Ok.ensures.tells)

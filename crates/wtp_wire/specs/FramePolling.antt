@@ -1,0 +1,87 @@
+-- Reading a frame, poll by poll.
+use Rattle.std.specs.Prelude.{◌≡◌, ℕ, ◌+◌, ◌<◌, ◌≤◌, List, [], ◌++◌, length, Result, Ok, Err}
+use Rattle.wtp_core.specs.declared.bytes.polled.Polled.{Polled}
+use Rattle.wtp_core.specs.declared.bytes.polled.Polled.TheVariants.{Ready, Pending, Again, NoMemory}
+use Rattle.wtp_core.specs.Source.{Source}
+use Rattle.wtp_core.specs.Polled.{stop}
+use Rattle.wtp_wire.specs.declared.frame.FrameKind.{FrameKind}
+use Rattle.wtp_wire.specs.declared.frame.ParseError.TheVariants.{UnknownFrame, InvalidSessionId, PayloadTooBig}
+use Rattle.wtp_wire.specs.declared.frame.reading.IoReadError.{IoReadError}
+use Rattle.wtp_wire.specs.declared.frame.reading.IoReadError.TheVariants.{Parse, IO}
+use Rattle.wtp_wire.specs.Content.{Content}
+use Rattle.wtp_wire.specs.Front.{Front, Framed, Unknown, BadId, TooBig, Short}
+use Rattle.wtp_wire.specs.Held.{Held, new_held, front_held, IsUnknownHead, IsPayloadHead, Skips, Leaves}
+
+-- In all of these, old and new are what the reading holds before and after one poll.
+
+-- this case stands in front, all is taken up to its end, and nothing is held
+pub record Decided (old new : Held) (a b : Source) (case : List ℕ → Front) : Type 0 where
+  pub front : front_held old a.ahead ≡ case b.ahead
+  pub empty : new ≡ new_held
+
+-- the source stopped behind all that is ahead, which is too little
+pub record Stopped (old new : Held) (a b : Source) (fault : IoReadError) : Type 0 where
+  pub leaves : Leaves old new a b
+  pub short : front_held old a.ahead ≡ Short
+  pub none_ahead : b.ahead ≡ []
+  pub why : fault ≡ IO (stop (old.due + length (old.taken ++ a.ahead)) a.ending)
+
+-- as many bytes of an unknown frame were passed as one poll may, and some are still due
+pub record PassesMost (old new : Held) (a b : Source) : Type 0 where
+  pub same : front_held new b.ahead ≡ front_held old a.ahead
+  pub due : 0 < new.due
+  pub skips : Skips old new a b
+  pub most : length skips.payload ≡ 4096
+
+-- a kind's type number and a length above 0 stand in front of a payload that may be read; none of its bytes was held
+pub record WantsPayload (whole : List ℕ) (held : ℕ) : Type 0 where
+  pub kind : FrameKind
+  pub size : ℕ
+  pub head : List ℕ
+  pub rest : List ℕ
+  pub is : IsPayloadHead kind size head
+  pub some : 0 < size
+  pub parts : whole ≡ head ++ rest
+  pub none_held : held ≤ length head
+
+-- what one poll did to a source that tells
+abbrev pub FramePolled : Polled (Result Content IoReadError) → Held → Held → Source → Source → Type 0
+FramePolled (Ready (Ok f)) old new a b = Decided old new a b (Framed f)
+FramePolled (Ready (Err (Parse UnknownFrame))) old new a b = Decided old new a b Unknown × Skips old new a b
+FramePolled (Ready (Err (Parse InvalidSessionId))) old new a b = Decided old new a b BadId
+FramePolled (Ready (Err (Parse PayloadTooBig))) old new a b = Decided old new a b TooBig
+FramePolled (Ready (Err (IO e))) old new a b = Stopped old new a b (IO e)
+FramePolled Pending old new a b = Leaves old new a b × (a.waits < b.waits)
+FramePolled Again old new a b = PassesMost old new a b
+FramePolled NoMemory old new a b = Leaves old new a b × (old.due ≡ 0) × (new.due ≡ 0) × WantsPayload (old.taken ++ a.ahead) (length old.taken)
+
+-- ---- of each source, also of one that tells nothing
+
+-- More bytes were given behind those held, and none was lost; or they are the head of an unknown frame; or fewer bytes of one are due.
+pub record Keeps (old new : Held) : Type 0 where
+  pub kept : new.due ≡ 0 → (old.due ≡ 0) × ((given : List ℕ) × (new.taken ≡ old.taken ++ given))
+  pub begun : old.due ≡ 0 → 0 < new.due → (given : List ℕ) × (passed : ℕ) × IsUnknownHead (passed + new.due) (old.taken ++ given)
+  pub going : 0 < old.due → (0 < new.due) × (new.due ≤ old.due)
+
+-- bytes were given with which those held are this case, and nothing is held
+pub record Answered (old new : Held) (case : List ℕ → Front) : Type 0 where
+  pub given : List ℕ
+  pub front : front_held old given ≡ case []
+  pub empty : new ≡ new_held
+
+-- what is held is the head of a payload that may be read, of at least one byte
+pub record HoldsHead (held : List ℕ) : Type 0 where
+  pub kind : FrameKind
+  pub size : ℕ
+  pub is : IsPayloadHead kind size held
+  pub some : 0 < size
+
+abbrev pub FrameGiven : Polled (Result Content IoReadError) → Held → Held → Type 0
+FrameGiven (Ready (Ok f)) old new = Answered old new (Framed f)
+FrameGiven (Ready (Err (Parse UnknownFrame))) old new = Answered old new Unknown
+FrameGiven (Ready (Err (Parse InvalidSessionId))) old new = Answered old new BadId
+FrameGiven (Ready (Err (Parse PayloadTooBig))) old new = Answered old new TooBig
+FrameGiven (Ready (Err (IO e))) old new = Keeps old new
+FrameGiven Pending old new = Keeps old new
+FrameGiven Again old new = Keeps old new × (0 < new.due)
+FrameGiven NoMemory old new = Keeps old new × (new.due ≡ 0) × HoldsHead new.taken

@@ -1,0 +1,63 @@
+-- Reading a stream header, poll by poll.
+use Rattle.std.specs.Prelude.{◌≡◌, ℕ, List, [], ◌++◌, Result, Ok, Err}
+use Rattle.wtp_core.specs.declared.bytes.polled.Polled.{Polled}
+use Rattle.wtp_core.specs.declared.bytes.polled.Polled.TheVariants.{Ready, Pending, Again, NoMemory}
+use Rattle.wtp_core.specs.declared.bytes.fill.Halt.{Halt}
+use Rattle.wtp_core.specs.declared.bytes.fill.Halt.TheVariants as halt
+use Rattle.wtp_core.specs.Source.{Source, AtEnd, AtReset, AtDisconnection}
+use Rattle.wtp_core.specs.Polled.{stop}
+use Rattle.wtp_core.specs.Getting.{Stops, Waits}
+use Rattle.wtp_wire.specs.declared.stream_header.ParseError.TheVariants.{UnknownStream, InvalidSessionId}
+use Rattle.wtp_wire.specs.declared.stream_header.polled.IoReadError.{IoReadError}
+use Rattle.wtp_wire.specs.declared.stream_header.polled.IoReadError.TheVariants.{Parse, IO}
+use Rattle.wtp_wire.specs.Header.{Header}
+use Rattle.wtp_wire.specs.HeaderFront.{HeaderFront, Headed, Unknown, BadId, Short, header_front}
+
+-- In all of these, old and new are the bytes that the reading holds before and after one poll.
+
+-- this case stands in front, all is taken up to its end, and nothing is held
+pub record HeaderDecided (old new : List ℕ) (a b : Source) (case : List ℕ → HeaderFront) : Type 0 where
+  pub front : header_front (old ++ a.ahead) ≡ case b.ahead
+  pub empty : new ≡ []
+
+-- what one poll did to a source that tells
+abbrev pub HeaderPolled : Polled (Result Header IoReadError) → List ℕ → List ℕ → Source → Source → Type 0
+HeaderPolled (Ready (Ok h)) old new a b = HeaderDecided old new a b (Headed h)
+HeaderPolled (Ready (Err (Parse UnknownStream))) old new a b = HeaderDecided old new a b Unknown
+HeaderPolled (Ready (Err (Parse InvalidSessionId))) old new a b = HeaderDecided old new a b BadId
+HeaderPolled (Ready (Err (IO e))) old new a b = (header_front (old ++ a.ahead) ≡ Short) × Stops old new e a b
+HeaderPolled Pending old new a b = Waits old new a b
+HeaderPolled Again old new a b = ⊥
+HeaderPolled NoMemory old new a b = ⊥
+
+-- bytes were given with which those held are this case, and nothing is held
+pub record HeaderAnswered (old new : List ℕ) (case : List ℕ → HeaderFront) : Type 0 where
+  pub given : List ℕ
+  pub front : header_front (old ++ given) ≡ case []
+  pub empty : new ≡ []
+
+-- More bytes were given behind those held, and none was lost. This holds of each source, also of one that tells nothing.
+abbrev pub HeaderGiven : Polled (Result Header IoReadError) → List ℕ → List ℕ → Type 0
+HeaderGiven (Ready (Ok h)) old new = HeaderAnswered old new (Headed h)
+HeaderGiven (Ready (Err (Parse UnknownStream))) old new = HeaderAnswered old new Unknown
+HeaderGiven (Ready (Err (Parse InvalidSessionId))) old new = HeaderAnswered old new BadId
+HeaderGiven (Ready (Err (IO e))) old new = (given : List ℕ) × (new ≡ old ++ given)
+HeaderGiven Pending old new = (given : List ℕ) × (new ≡ old ++ given)
+HeaderGiven Again old new = ⊥
+HeaderGiven NoMemory old new = ⊥
+
+-- ---- its parts
+
+-- what a reading answers that halted with so many bytes taken
+abbrev pub halted_header : {T : Type 0} → Halt → ℕ → Polled (Result T IoReadError)
+halted_header halt.NotReady taken = Pending
+halted_header halt.Fin taken = Ready (Err (IO (stop taken AtEnd)))
+halted_header halt.Reset taken = Ready (Err (IO (stop taken AtReset)))
+halted_header halt.NotConnected taken = Ready (Err (IO (stop taken AtDisconnection)))
+
+-- what whole bytes are
+abbrev pub IsWhole : Result Header IoReadError → List ℕ → Type 0
+IsWhole (Ok h) bytes = header_front bytes ≡ Headed h []
+IsWhole (Err (Parse UnknownStream)) bytes = header_front bytes ≡ Unknown []
+IsWhole (Err (Parse InvalidSessionId)) bytes = header_front bytes ≡ BadId []
+IsWhole (Err (IO e)) bytes = ⊥

@@ -1,0 +1,63 @@
+-- What a reading of a frame holds between polls.
+use Rattle.std.specs.Prelude.{◌≡◌, ◌≢◌, ℕ, ◌+◌, ◌<◌, ◌≤◌, ◌==◌, List, [], ◌++◌, length, if◌then◌else◌}
+use Rattle.wtp_core.specs.Varint.{bytes_at}
+use Rattle.wtp_core.specs.Source.{Source}
+use Rattle.wtp_wire.specs.declared.frame.FrameKind.{FrameKind}
+use Rattle.wtp_wire.specs.declared.frame.FrameKind.TheVariants.{WebTransport}
+use Rattle.wtp_wire.specs.Kind.{IsKind}
+use Rattle.wtp_wire.specs.Front.{Front, Unknown, Short, Spelled, or_short, front}
+
+-- the bytes held; or in their place how many payload bytes of an unknown frame are still due
+pub record Held : Type 0 where
+  pub taken : List ℕ
+  pub due : ℕ
+
+-- nothing is held, and none are due
+abbrev pub new_held : Held
+new_held = record { taken = []; due = 0 }
+
+-- behind the two numbers of an unknown frame, where n bytes of its payload are due
+abbrev pub skip_front : ℕ → List ℕ → Front
+skip_front n bytes = or_short (bytes_at n bytes) (λ payload. Unknown payload.1)
+
+-- the case of what is held and of the bytes ahead: the front of both; or where bytes are due, an unknown frame once all of those are there
+unfoldable pub front_held : Held → List ℕ → Front
+front_held h ahead = if h.due == 0 then front (h.taken ++ ahead) else skip_front h.due ahead
+
+-- what is held between polls: no whole frame or fault; and no byte where bytes are due
+pub record IsUnfinished (h : Held) : Type 0 where
+  pub short : front_held h [] ≡ Short
+  pub alone : 0 < h.due → h.taken ≡ []
+
+-- s is the type number and the length of an unknown frame whose payload has n bytes
+pub record IsUnknownHead (n : ℕ) (s : List ℕ) : Type 0 where
+  pub id : ℕ
+  pub no_kind : (kind : FrameKind) → IsKind kind id → ⊥
+  pub spelled : Spelled id n s
+
+-- s is the type number and the length of a frame of another kind than WebTransport whose payload of n bytes may be read
+pub record IsPayloadHead (kind : FrameKind) (n : ℕ) (s : List ℕ) : Type 0 where
+  pub id : ℕ
+  pub is_kind : IsKind kind id
+  pub plain : kind ≢ WebTransport
+  pub spelled : Spelled id n s
+  pub bound : n ≤ 4096
+
+-- ---- what one poll did; old and new are what is held before and after
+
+-- The payload bytes `payload` of an unknown frame were passed, and behind them new.due more are due.
+-- `head` is what was held and read in front of them: nothing, where bytes were due before.
+pub record Skips (old new : Held) (a b : Source) : Type 0 where
+  pub head : List ℕ
+  pub payload : List ℕ
+  pub parts : old.taken ++ a.ahead ≡ (head ++ payload) ++ b.ahead
+  pub begun : old.due ≡ 0 → IsUnknownHead (length payload + new.due) head
+  pub going : 0 < old.due → (head ≡ []) × (old.due ≡ length payload + new.due)
+  pub most : length payload ≤ 4096
+  pub empty : new.taken ≡ []
+
+-- Nothing was lost: what is held and ahead is the same, but for fewer than 4096 passed bytes of an unknown frame where some are still due.
+pub record Leaves (old new : Held) (a b : Source) : Type 0 where
+  pub same : front_held new b.ahead ≡ front_held old a.ahead
+  pub kept : new.due ≡ 0 → (old.due ≡ 0) × (new.taken ++ b.ahead ≡ old.taken ++ a.ahead)
+  pub skips : 0 < new.due → (s : Skips old new a b) × (length s.payload < 4096)

@@ -1,0 +1,80 @@
+//! The two numbers in front of a frame: its type, and its length or session.
+ghost use Rattle.std.specs.Prelude.{◌≡◌, ℕ, ◌+◌, ◌<◌, ◌≤◌, List, ◌++◌, length};
+ghost use Rattle.wtp_wire.specs.FrameNeed.{frame_need, frame_need_most, frame_need_grows};
+ghost use Rattle.wtp_wire.specs.FrameHead.{said, said_second};
+
+use crate::frame::FrameKind;
+use wtp_core::bytes::get::varint_need;
+use wtp_core::bytes::head::Head;
+use wtp_core::ids::SessionId;
+use wtp_core::varint::{VarInt, first_varint};
+
+/// What the two numbers say of the bytes behind them.
+#[derive(Clone, Copy)]
+pub(crate) enum Said {
+    /// They are not both there.
+    Unfinished,
+    /// A payload of so many bytes of a frame of this kind.
+    Payload(FrameKind, u64),
+    /// No more bytes of the frame of this session.
+    Session(SessionId),
+    /// A payload of so many bytes of an unknown frame, to be passed over.
+    Skip(u64),
+    /// The second number is no session's.
+    BadSession,
+    /// The payload is too long to be read.
+    TooLong,
+}
+
+/// The two numbers are the front of a frame; both stand in front of each.
+pub(crate) struct FrameHead;
+
+impl Head for FrameHead {
+    ghost need = { frame_need };
+
+    ghost most = { 16 };
+
+    #[tactic(auto, unfolding(crate::specs::FrameNeed::frame_need))]
+    fn need(held: &[u8]) -> usize {
+        let first = varint_need(held);
+        first + varint_need(held.get(first..).unwrap_or(&[]))
+    }
+
+    ghost need_most = { frame_need_most };
+
+    ghost need_grows = { frame_need_grows };
+}
+
+/// What the two numbers at the front say.
+#[tactic(auto, unfolding(crate::specs::FrameHead::said, crate::specs::FrameHead::head_at))]
+pub(crate) fn read_head(held: &[u8]) -> Said
+    ensures { result ≡ said held.now }
+{
+    let Some((id, size)) = first_varint(held) else {
+        return Said::Unfinished;
+    };
+    let Some((number, _)) = first_varint(&held[size..]) else {
+        return Said::Unfinished;
+    };
+    said_second(FrameKind::parse(id), number)
+}
+
+/// What the second number says behind a type number of this kind, or of none.
+fn said_second(kind: Option<FrameKind>, number: VarInt) -> Said
+    ensures { result ≡ said_second kind number }
+{
+    match kind {
+        None => Said::Skip(number.into_inner()),
+        Some(FrameKind::WebTransport) => match SessionId::try_from_varint(number) {
+            Ok(id) => Said::Session(id),
+            Err(_) => Said::BadSession,
+        },
+        Some(kind) => {
+            if number.into_inner() > 4096 {
+                Said::TooLong
+            } else {
+                Said::Payload(kind, number.into_inner())
+            }
+        }
+    }
+}

@@ -1,0 +1,297 @@
+//! Reading a frame, poll by poll.
+ghost use Rattle.std.specs.Prelude.{◌≡◌, ◌≢◌, ℕ, ◌+◌, ◌<◌, ◌≤◌, List, [], ◌++◌, length, take, drop, vec_len, None};
+ghost use Rattle.wtp_core.specs.Source.{Telling};
+ghost use Rattle.wtp_core.specs.Polled.{Asks};
+ghost use Rattle.wtp_wire.specs.Held.{Held, new_held, IsUnfinished};
+ghost use Rattle.wtp_wire.specs.FramePolling.{FramePolled, FrameGiven};
+ghost use Rattle.wtp_wire.specs.FrameSteps.{IsReading, halted_frame, PayloadKeeps, PayloadTells, AdvanceKeeps, AdvanceTells, Grew, answer, CanAnswer, PassedOn, PassedPlain, Started, StartKeeps};
+
+use crate::frame::head::{FrameHead, Said, read_head};
+use crate::frame::{Frame, FrameKind, FrameOwned, ParseError};
+use std::alloc::Global;
+use std::borrow::CowSlice;
+use std::marker::Model;
+use std::mem;
+use wtp_core::bytes;
+use wtp_core::bytes::fill::{Halt, fill};
+use wtp_core::bytes::head::fill_head;
+use wtp_core::bytes::passing::pass;
+use wtp_core::bytes::{AsyncRead, Polled};
+use wtp_core::ids::SessionId;
+
+/// Why no frame was read from a source.
+#[derive(Debug, Drop, PartialEq, Eq, thiserror::Error)]
+pub enum IoReadError {
+    /// The bytes in front are no frame.
+    #[error("{0}")]
+    Parse(ParseError),
+    /// The source gave no more bytes.
+    #[error("{0}")]
+    IO(bytes::IoReadError),
+}
+
+impl From<bytes::IoReadError> for IoReadError {
+    ghost use Rattle.std.specs.Prelude.{◌≡◌};
+    ghost use Rattle.wtp_wire.specs.declared.frame.reading.IoReadError.TheVariants.{IO};
+
+    ghost from_gives = { λ fault error. error ≡ IO fault };
+
+    fn from(fault: bytes::IoReadError) -> Self {
+        IoReadError::IO(fault)
+    }
+}
+
+impl<'a> Frame<'a> {
+    ghost use Rattle.wtp_wire.specs.Kind.{IsKnown};
+    ghost use Rattle.wtp_wire.specs.Content.{content};
+
+    /// A state that reads one frame from a source, poll by poll, and then the next.
+    pub fn read_async(alloc: Global) -> FrameReading
+        ensures { result ≡ new_held }
+    {
+        FrameReading::new(alloc)
+    }
+
+    /// A frame that owns its payload.
+    fn with_payload(kind: FrameKind, payload: Vec<u8>) -> FrameOwned
+        requires known { IsKnown kind }
+        requires plain { kind ≢ FrameKind.WebTransport }
+        requires fits { length payload.items ≤ 4096 }
+        ensures { result ≡ content kind payload.items None }
+    {
+        Frame {
+            kind,
+            payload: CowSlice::Owned(payload),
+            session_id: None,
+        }
+    }
+}
+
+/// Reads one frame from a source, poll by poll, and takes not a byte behind it.
+///
+/// It holds the bytes that it took of a frame, or how many bytes of an unknown frame are still to
+/// be passed over, and loses none of that where a poll does not answer a frame or a fault of the
+/// bytes. Then it is as new, and reads the next one.
+#[derive(Drop)]
+pub struct FrameReading {
+    alloc: Global,
+    head: [u8; 16],
+    len: usize,
+    payload: Vec<u8>,
+    filled: usize,
+    due: u64,
+}
+
+impl Model for FrameReading {
+    ghost Value = { Held };
+
+    ghost view = { λ s. record { taken = take s.len s.head ++ take s.filled s.payload.items; due = s.due } };
+
+    ghost invariant = { λ s. (s.len ≤ 16) × IsReading (take s.len s.head) (vec_len s.payload) s.filled × (0 < s.due → s.len ≡ 0) };
+}
+
+impl FrameReading {
+    /// A reading that has taken nothing (own).
+    pub fn new(alloc: Global) -> Self
+        ensures { result ≡ new_held }
+    {
+        FrameReading {
+            alloc,
+            head: [0; 16],
+            len: 0,
+            payload: Vec::new(alloc),
+            filled: 0,
+            due: 0,
+        }
+    }
+
+    /// Reads on as far as the source goes, in at most 4112 calls.
+    ///
+    /// - `Ready(Ok(frame))` or `Ready(Err(Parse(fault)))`: by `Frame::read` of what was taken and
+    ///   is ahead. The source stands right behind the bytes that decided. Memory is taken for the
+    ///   payload alone, once, before its first byte.
+    /// - `Ready(Err(IO(fault)))`: the source gave no more, and too few bytes came. All are held.
+    /// - `Pending`: the source was not ready. `NoMemory`: none was to be had for a payload of 1 to
+    ///   4096 bytes. All that came is held.
+    /// - `Again`: 4096 bytes of an unknown frame's payload were passed over, and some are still due.
+    ///
+    /// It may be polled again after each of these, over the same source or another.
+    pub fn poll<S: AsyncRead>(&mut self, source: &mut S) -> Polled<Result<FrameOwned, IoReadError>>
+        ensures was_unfinished { IsUnfinished self.old }
+        ensures unfinished { IsUnfinished self.new }
+        ensures given { FrameGiven result self.old self.new }
+        ensures polled { Telling (S.tells source.old) (S.tells source.new) (FramePolled result self.old self.new) }
+        ensures asks { Telling (S.tells source.old) (S.tells source.new) (Asks 4112) }
+    {
+        match self.start(source) {
+            Some(answer) => answer,
+            None => pass_on(source, &mut self.due),
+        }
+    }
+
+    /// Reads on until there is an answer, or until the payload of an unknown frame is next.
+    fn start<S: AsyncRead>(
+        &mut self,
+        source: &mut S,
+    ) -> Option<Polled<Result<FrameOwned, IoReadError>>>
+        ensures was_unfinished { IsUnfinished self.old }
+        ensures keeps { StartKeeps result self.old self.new }
+        ensures started { Telling (S.tells source.old) (S.tells source.new) (Started result self.old self.new) }
+    {
+        if self.due > 0 {
+            return None;
+        }
+        match advance(
+            source,
+            &mut self.head,
+            &mut self.len,
+            &mut self.payload,
+            &mut self.filled,
+        ) {
+            Ok(next) => {
+                let payload = mem::replace(&mut self.payload, Vec::new(self.alloc));
+                self.len = 0;
+                self.filled = 0;
+                match next {
+                    Next::Skip(size) => {
+                        self.due = size;
+                        None
+                    }
+                    Next::Answer(decided) => Some(Polled::Ready(answer(decided, payload))),
+                }
+            }
+            Err(PayloadHalt::NoMemory) => Some(Polled::NoMemory),
+            Err(PayloadHalt::Source(halt)) => Some(halted_frame(halt, self.len + self.filled)),
+        }
+    }
+}
+
+/// What is to be done once the two numbers, and what belongs to them, are held.
+#[derive(Clone, Copy)]
+enum Next {
+    Answer(Decision),
+    Skip(u64),
+}
+
+/// What the bytes held decide.
+#[derive(Clone, Copy)]
+enum Decision {
+    Payload(FrameKind),
+    Session(SessionId),
+    BadSession,
+    TooLong,
+}
+
+/// The answer, with the payload that was read.
+fn answer(decision: Decision, payload: Vec<u8>) -> Result<FrameOwned, IoReadError>
+    requires { CanAnswer decision (length payload.items) }
+    ensures { result ≡ answer decision payload.items }
+{
+    match decision {
+        Decision::Payload(kind) => Ok(Frame::with_payload(kind, payload)),
+        Decision::Session(id) => Ok(Frame::new_webtransport(id)),
+        Decision::BadSession => Err(IoReadError::Parse(ParseError::InvalidSessionId)),
+        Decision::TooLong => Err(IoReadError::Parse(ParseError::PayloadTooBig)),
+    }
+}
+
+/// Reads on until the bytes held decide; they stay as they are then.
+fn advance<S: AsyncRead>(
+    source: &mut S,
+    head: &mut [u8; 16],
+    len: &mut usize,
+    payload: &mut Vec<u8>,
+    filled: &mut usize,
+) -> Result<Next, PayloadHalt>
+    requires fits { len.old ≤ 16 }
+    requires reading { IsReading (take len.old head.old) (vec_len payload.old) filled.old }
+    ensures fits { len.new ≤ 16 }
+    ensures room { len.new ≤ length head.new }
+    ensures keeps { AdvanceKeeps result (take len.old head.old) (take len.new head.new) (vec_len payload.new) filled.old filled.new }
+    ensures grew { Grew (take len.old head.old ++ take filled.old payload.old.items) (take len.new head.new ++ take filled.new payload.new.items) }
+    ensures tells { AdvanceTells result (take len.old head.old ++ take filled.old payload.old.items)
+        (take len.new head.new ++ take filled.new payload.new.items) (S.tells source.old) (S.tells source.new) }
+{
+    match fill_head::<FrameHead, S>(source, head, len) {
+        Ok(()) => {}
+        Err(halt) => return Err(PayloadHalt::Source(halt)),
+    }
+    match read_head(&head[..*len]) {
+        Said::Payload(kind, size) => match fill_payload(source, payload, filled, size as usize) {
+            Ok(()) => Ok(Next::Answer(Decision::Payload(kind))),
+            Err(halt) => Err(halt),
+        },
+        Said::Session(id) => Ok(Next::Answer(Decision::Session(id))),
+        Said::Skip(size) => Ok(Next::Skip(size)),
+        Said::BadSession => Ok(Next::Answer(Decision::BadSession)),
+        Said::TooLong => Ok(Next::Answer(Decision::TooLong)),
+        Said::Unfinished => unreachable!(),
+    }
+}
+
+/// Why a payload is not whole.
+#[derive(Clone, Copy)]
+enum PayloadHalt {
+    Source(Halt),
+    NoMemory,
+}
+
+/// Reads on until a payload of this size is held; its room is taken whole before its first byte.
+fn fill_payload<S: AsyncRead>(
+    source: &mut S,
+    payload: &mut Vec<u8>,
+    filled: &mut usize,
+    size: usize,
+) -> Result<(), PayloadHalt>
+    requires room { vec_len payload.old ≤ size }
+    requires whole { 0 < vec_len payload.old → vec_len payload.old ≡ size }
+    requires within { filled.old ≤ vec_len payload.old }
+    ensures keeps { PayloadKeeps result size (vec_len payload.old) (vec_len payload.new) filled.old filled.new }
+    ensures forward { filled.old ≤ filled.new }
+    ensures front { take filled.old payload.new.items ≡ take filled.old payload.old.items }
+    ensures tells { PayloadTells result (take filled.old payload.old.items) (take filled.new payload.new.items)
+        (S.tells source.old) (S.tells source.new) }
+{
+    if payload.len() < size {
+        if let Err(_) = payload.resize(size, 0) {
+            return Err(PayloadHalt::NoMemory);
+        }
+    }
+    match fill(source, payload.as_mut_slice(), filled) {
+        Ok(()) => Ok(()),
+        Err(halt) => Err(PayloadHalt::Source(halt)),
+    }
+}
+
+/// Passes over payload bytes of an unknown frame, as many as one poll may.
+fn pass_on<S: AsyncRead>(source: &mut S, due: &mut u64) -> Polled<Result<FrameOwned, IoReadError>>
+    ensures plain { PassedPlain result due.old due.new }
+    ensures passed { Telling (S.tells source.old) (S.tells source.new) (PassedOn result due.old due.new) }
+{
+    match pass(source, due) {
+        Ok(()) => {
+            if *due == 0 {
+                Polled::Ready(Err(IoReadError::Parse(ParseError::UnknownFrame)))
+            } else {
+                Polled::Again
+            }
+        }
+        Err(halt) => halted_frame(halt, 1),
+    }
+}
+
+/// What a reading of a frame answers that halted with so many bytes taken.
+fn halted_frame<T>(halt: Halt, taken: usize) -> Polled<Result<T, IoReadError>>
+    ensures { result ≡ halted_frame halt taken }
+{
+    match halt {
+        Halt::NotReady => Polled::Pending,
+        Halt::Fin => Polled::Ready(Err(IoReadError::IO(if taken == 0 {
+            bytes::IoReadError::ImmediateFin
+        } else {
+            bytes::IoReadError::UnexpectedFin
+        }))),
+        Halt::Reset => Polled::Ready(Err(IoReadError::IO(bytes::IoReadError::Reset))),
+        Halt::NotConnected => Polled::Ready(Err(IoReadError::IO(bytes::IoReadError::NotConnected))),
+    }
+}

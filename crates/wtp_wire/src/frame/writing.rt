@@ -1,0 +1,94 @@
+//! Writing a frame, poll by poll.
+ghost use Rattle.std.specs.Prelude.{◌≡◌, ℕ, ◌+◌, ◌<◌, ◌≤◌, List, ◌++◌, length, take, Ok};
+ghost use Rattle.wtp_core.specs.Source.{Telling};
+ghost use Rattle.wtp_core.specs.Varint.{shortest};
+ghost use Rattle.wtp_core.specs.Writing.{Writing, unsent, GoesOn, IsSent, WritePolled};
+
+use crate::frame::Frame;
+use std::marker::Model;
+use wtp_core::bytes::drain::{drain, write_halted};
+use wtp_core::bytes::put::spell;
+use wtp_core::bytes::{AsyncWrite, IoWriteError, Polled};
+use wtp_core::varint::VarInt;
+
+impl<'a> Frame<'a> {
+    ghost use Rattle.wtp_wire.specs.Wire.{wire};
+
+    /// A state that writes the frame to a sink, poll by poll, each number in its shortest spelling.
+    pub fn write_async(&self) -> FrameWriting<'_>
+        ensures { result ≡ unsent (wire self.now) }
+    {
+        let mut head = [0; 16];
+        let second = match self.session_id {
+            Some(session_id) => session_id.into_varint(),
+            None => VarInt::from_u64_unchecked(self.payload.len() as u64),
+        };
+        let len = spell_both(self.kind.id(), second, &mut head);
+        FrameWriting {
+            head,
+            len,
+            head_sent: 0,
+            payload: self.payload.as_slice(),
+            payload_sent: 0,
+        }
+    }
+}
+
+/// Writes the shortest spellings of both numbers to the front of the buffer, and answers how many
+/// bytes they have.
+fn spell_both(first: VarInt, second: VarInt, buffer: &mut [u8]) -> usize
+    requires { 16 ≤ length buffer.old }
+    ensures bytes { take result buffer.new ≡ shortest first ++ shortest second }
+    ensures most { result ≤ 16 }
+{
+    let one = spell(first, buffer);
+    let two = spell(second, &mut buffer[one..]);
+    one + two
+}
+
+/// Writes one frame to a sink, poll by poll.
+///
+/// It knows how many of the frame's bytes were sent, and sends none of them twice. It takes no
+/// memory; the sink may.
+#[derive(Drop)]
+pub struct FrameWriting<'a> {
+    head: [u8; 16],
+    len: usize,
+    head_sent: usize,
+    payload: &'a [u8],
+    payload_sent: usize,
+}
+
+impl<'a> Model for FrameWriting<'a> {
+    ghost Value = { Writing };
+
+    ghost view = { λ s. record { bytes = take s.len s.head ++ s.payload.now; sent = s.head_sent + s.payload_sent } };
+
+    ghost invariant = { λ s. (s.len ≤ 16) × (s.head_sent ≤ s.len) × (s.payload_sent ≤ length s.payload.now) × (0 < s.payload_sent → s.head_sent ≡ s.len) };
+}
+
+impl<'a> FrameWriting<'a> {
+    /// Writes on as far as the sink goes.
+    ///
+    /// It answers `Ready(Ok(()))` once all is sent, and then stays finished and calls its sink no
+    /// more; otherwise what the sink said: not ready (`Pending`), no memory, stopped or not
+    /// connected. After each of these it may be polled again, into the same sink or another.
+    pub fn poll<W: AsyncWrite>(&mut self, sink: &mut W) -> Polled<Result<(), IoWriteError>>
+        ensures on { GoesOn self.old self.new }
+        ensures whole { IsSent result self.new }
+        ensures polled { Telling (W.tells sink.old) (W.tells sink.new) (WritePolled result self.old self.new) }
+        ensures finished { self.old.sent ≡ length self.old.bytes → (sink.new ≡ sink.old) × (result ≡ Polled.Ready (Ok tt)) }
+    {
+        if self.head_sent == self.len && self.payload_sent == self.payload.len() {
+            return Polled::Ready(Ok(()));
+        }
+        match drain(sink, &self.head[..self.len], &mut self.head_sent) {
+            Ok(()) => {}
+            Err(halt) => return write_halted(halt),
+        }
+        match drain(sink, self.payload, &mut self.payload_sent) {
+            Ok(()) => Polled::Ready(Ok(())),
+            Err(halt) => write_halted(halt),
+        }
+    }
+}

@@ -1,0 +1,18 @@
+//! Laws of polled reading.
+ghost use Rattle.std.specs.Prelude.{◌≡◌, ◌<◌, ◌++◌, ℕ, List, length};
+ghost use Rattle.wtp_core.specs.Source.{Source};
+ghost use Rattle.wtp_wire.specs.Front.{IsUnknown, front};
+ghost use Rattle.wtp_wire.specs.Held.{Held, front_held, Skips};
+
+/// Where no byte of an unknown frame is due, the case of what is held and ahead is that of the
+/// bytes held, and those ahead behind them.
+pub fn held_is_in_front()
+    ensures { (h : Held) (ahead : List ℕ) → h.due ≡ 0 → front_held h ahead ≡ front (h.taken ++ ahead) }
+{}
+
+/// What a poll passed over, and any bytes behind it as many as are still due, are an unknown frame;
+/// or what was due of one before.
+pub fn passed_is_unknown()
+    ensures begun { (old new : Held) (a b : Source) (s : Skips old new a b) (z : List ℕ) → length z ≡ new.due → old.due ≡ 0 → IsUnknown ((s.head ++ s.payload) ++ z) }
+    ensures going { (old new : Held) (a b : Source) (s : Skips old new a b) (z : List ℕ) → length z ≡ new.due → 0 < old.due → length ((s.head ++ s.payload) ++ z) ≡ old.due }
+{}

@@ -1,0 +1,225 @@
+//! Reading and writing a stream header, poll by poll.
+ghost use Rattle.std.specs.Prelude.{◌≡◌, ℕ, ◌+◌, ◌<◌, ◌≤◌, List, [], ◌++◌, length, take, Ok};
+ghost use Rattle.wtp_core.specs.Source.{Telling};
+ghost use Rattle.wtp_core.specs.Polled.{Asks};
+ghost use Rattle.wtp_core.specs.Writing.{Writing, unsent, GoesOn, IsSent, WritePolled};
+ghost use Rattle.wtp_wire.specs.HeaderFront.{Short, header_front};
+ghost use Rattle.wtp_wire.specs.HeaderNeed.{header_need, header_need_most, header_need_grows};
+ghost use Rattle.wtp_wire.specs.HeaderPolling.{HeaderPolled, HeaderGiven, IsWhole, halted_header};
+
+use crate::stream_header::{ParseError, StreamHeader, StreamKind};
+use std::marker::Model;
+use wtp_core::bytes;
+use wtp_core::bytes::drain::{drain, write_halted};
+use wtp_core::bytes::fill::Halt;
+use wtp_core::bytes::get::varint_need;
+use wtp_core::bytes::head::{Head, fill_head};
+use wtp_core::bytes::{AsyncRead, AsyncWrite, BufferWriter, IoWriteError, Polled};
+use wtp_core::varint::first_varint;
+
+/// Why no header was read from a source.
+#[derive(Debug, Drop, PartialEq, Eq, thiserror::Error)]
+pub enum IoReadError {
+    /// The bytes in front are no header.
+    #[error("{0}")]
+    Parse(ParseError),
+    /// The source gave no more bytes.
+    #[error("{0}")]
+    IO(bytes::IoReadError),
+}
+
+impl From<bytes::IoReadError> for IoReadError {
+    ghost use Rattle.std.specs.Prelude.{◌≡◌};
+    ghost use Rattle.wtp_wire.specs.declared.stream_header.polled.IoReadError.TheVariants.{IO};
+
+    ghost from_gives = { λ fault error. error ≡ IO fault };
+
+    fn from(fault: bytes::IoReadError) -> Self {
+        IoReadError::IO(fault)
+    }
+}
+
+impl StreamHeader {
+    ghost use Rattle.wtp_wire.specs.HeaderWire.{header_wire};
+
+    /// A state that reads a header from a source, poll by poll.
+    pub fn read_async() -> HeaderReading
+        ensures { result ≡ [] }
+    {
+        HeaderReading::new()
+    }
+
+    /// A state that writes the header to a sink, poll by poll, each number in its shortest spelling.
+    pub fn write_async(&self) -> HeaderWriting
+        ensures { result ≡ unsent (header_wire self.now) }
+    {
+        let mut bytes = [0; 16];
+        let len = self.spell(&mut bytes);
+        HeaderWriting {
+            bytes,
+            len,
+            sent: 0,
+        }
+    }
+
+    /// Writes the header to the front of the buffer, and answers how many bytes it has.
+    fn spell(&self, buffer: &mut [u8]) -> usize
+        requires { 16 ≤ length buffer.old }
+        ensures bytes { take result buffer.new ≡ header_wire self.now }
+        ensures most { result ≤ 16 }
+    {
+        let size = self.write_size();
+        let mut writer = BufferWriter::new(buffer);
+        let written = self.write_to_buffer(&mut writer);
+        prove!(written.is_ok());
+        size
+    }
+}
+
+/// The front of a stream is its type number, and behind WebTransport's one the session.
+struct HeaderHead;
+
+impl Head for HeaderHead {
+    ghost need = { header_need };
+
+    ghost most = { 16 };
+
+    #[tactic(auto, unfolding(crate::specs::HeaderNeed::header_need))]
+    fn need(held: &[u8]) -> usize {
+        let first = varint_need(held);
+        let Some((id, size)) = first_varint(held) else {
+            return first;
+        };
+        match StreamKind::parse(id) {
+            Some(StreamKind::WebTransport) => first + varint_need(&held[size..]),
+            _ => first,
+        }
+    }
+
+    ghost need_most = { header_need_most };
+
+    ghost need_grows = { header_need_grows };
+}
+
+/// Reads one stream header from a source, poll by poll, and takes not a byte behind it.
+///
+/// It holds the bytes that it took, and loses none of them where a poll does not answer a header or
+/// a fault of the bytes. Then it is as new.
+#[derive(Drop)]
+pub struct HeaderReading {
+    bytes: [u8; 16],
+    len: usize,
+}
+
+impl Model for HeaderReading {
+    ghost Value = { List ℕ };
+
+    ghost view = { λ s. take s.len s.bytes };
+
+    ghost invariant = { λ s. (s.len ≤ 16) × (length (take s.len s.bytes) < header_need (take s.len s.bytes)) };
+}
+
+impl HeaderReading {
+    /// A reading that has taken nothing (own).
+    pub fn new() -> Self
+        ensures { result ≡ [] }
+    {
+        HeaderReading {
+            bytes: [0; 16],
+            len: 0,
+        }
+    }
+
+    /// Reads on as far as the source goes, in at most 16 calls, and takes no memory.
+    ///
+    /// - `Ready(Ok(header))` or `Ready(Err(Parse(fault)))`: by `StreamHeader::read` of what was
+    ///   taken and is ahead. The source stands right behind the bytes that decided.
+    /// - `Ready(Err(IO(fault)))`: the source gave no more, and too few bytes came. All are held.
+    /// - `Pending`: the source was not ready. All that came is held.
+    ///
+    /// It may be polled again after each of these, over the same source or another.
+    pub fn poll<S: AsyncRead>(
+        &mut self,
+        source: &mut S,
+    ) -> Polled<Result<StreamHeader, IoReadError>>
+        ensures was_cut { header_front self.old ≡ Short }
+        ensures cut { header_front self.new ≡ Short }
+        ensures given { HeaderGiven result self.old self.new }
+        ensures polled { Telling (S.tells source.old) (S.tells source.new) (HeaderPolled result self.old self.new) }
+        ensures asks { Telling (S.tells source.old) (S.tells source.new) (Asks 16) }
+    {
+        match fill_head::<HeaderHead, S>(source, &mut self.bytes, &mut self.len) {
+            Ok(()) => {}
+            Err(halt) => return halted_header(halt, self.len),
+        }
+        let answer = read_whole(&self.bytes[..self.len]);
+        self.len = 0;
+        Polled::Ready(answer)
+    }
+}
+
+/// What the bytes of a whole header, and no more, are.
+fn read_whole(bytes: &[u8]) -> Result<StreamHeader, IoReadError>
+    requires { header_need bytes.now ≡ length bytes.now }
+    ensures { IsWhole result bytes.now }
+{
+    let mut rest = bytes;
+    match StreamHeader::read(&mut rest) {
+        Ok(Some(header)) => Ok(header),
+        Ok(None) => unreachable!(),
+        Err(fault) => Err(IoReadError::Parse(fault)),
+    }
+}
+
+/// What a reading of a header answers that halted with so many bytes taken.
+fn halted_header<T>(halt: Halt, taken: usize) -> Polled<Result<T, IoReadError>>
+    ensures { result ≡ halted_header halt taken }
+{
+    match halt {
+        Halt::NotReady => Polled::Pending,
+        Halt::Fin => Polled::Ready(Err(IoReadError::IO(if taken == 0 {
+            bytes::IoReadError::ImmediateFin
+        } else {
+            bytes::IoReadError::UnexpectedFin
+        }))),
+        Halt::Reset => Polled::Ready(Err(IoReadError::IO(bytes::IoReadError::Reset))),
+        Halt::NotConnected => Polled::Ready(Err(IoReadError::IO(bytes::IoReadError::NotConnected))),
+    }
+}
+
+/// Writes one stream header to a sink, poll by poll.
+///
+/// It knows how many of the header's bytes were sent, and sends none of them twice. It takes no
+/// memory; the sink may.
+#[derive(Drop)]
+pub struct HeaderWriting {
+    bytes: [u8; 16],
+    len: usize,
+    sent: usize,
+}
+
+impl Model for HeaderWriting {
+    ghost Value = { Writing };
+
+    ghost view = { λ s. record { bytes = take s.len s.bytes; sent = s.sent } };
+
+    ghost invariant = { λ s. (s.len ≤ 16) × (s.sent ≤ s.len) };
+}
+
+impl HeaderWriting {
+    /// Writes on as far as the sink goes, as `FrameWriting` does.
+    pub fn poll<W: AsyncWrite>(&mut self, sink: &mut W) -> Polled<Result<(), IoWriteError>>
+        ensures on { GoesOn self.old self.new }
+        ensures whole { IsSent result self.new }
+        ensures polled { Telling (W.tells sink.old) (W.tells sink.new) (WritePolled result self.old self.new) }
+        ensures finished { self.old.sent ≡ length self.old.bytes → (sink.new ≡ sink.old) × (result ≡ Polled.Ready (Ok tt)) }
+    {
+        if self.sent == self.len {
+            return Polled::Ready(Ok(()));
+        }
+        match drain(sink, &self.bytes[..self.len], &mut self.sent) {
+            Ok(()) => Polled::Ready(Ok(())),
+            Err(halt) => write_halted(halt),
+        }
+    }
+}
