@@ -49,9 +49,10 @@ impl Fault {
 }
 
 /// Lists the input as the words say (`buffer bi-remote`, `buffer bi-local` or `buffer control`;
-/// `buffer` or none for the first), and answers the status with which the program ends: that of the listing; 1 for other words; 3 for input above 1048576
-/// bytes, a read fault and a write fault; 4 where memory is wanting. With 1, 3 and 4 `errors` gets
-/// one line, whose own fault is ignored; before the listing is whole nothing is written to `output`.
+/// `buffer` or none for the first), and answers the status with which the program ends: that of the
+/// listing; 1 for other words; 3 for input above 1048576 bytes, a read fault and a write fault; 4
+/// where memory is wanting. With 1, 3 and 4 `errors` gets one line, whose own fault is ignored;
+/// before the listing is whole nothing is written to `output`.
 pub fn run_program<R: Read, W: Write, E: Write>(
     alloc: Global,
     words: &[String],
@@ -61,6 +62,7 @@ pub fn run_program<R: Read, W: Write, E: Write>(
 ) -> u8
     // Other words are answered before anything is read or written.
     ensures usage { NamesNone (map (λ w. string_bytes w) words.now) → (result ≡ 1) × (input.new ≡ input.old) × (output.new ≡ output.old) }
+    ensures no_usage { result ≡ 1 → NamesNone (map (λ w. string_bytes w) words.now) }
     // Status 0 and 2 come with the whole listing of the whole input.
     ensures lists { (result ≡ 0) ⊎ (result ≡ 2) → ListsWords (map (λ w. string_bytes w) words.now) (R.remaining input.old) (W.contents output.old) (W.contents output.new) result }
     // Status 1 and 4 come with nothing written.
@@ -84,6 +86,7 @@ fn try_run<R: Read, W: Write>(
     output: &mut W,
 ) -> Result<u8, Fault>
     ensures usage { NamesNone (map (λ w. string_bytes w) words.now) → (result ≡ Err Fault.Usage) × (input.new ≡ input.old) }
+    ensures no_usage { result ≡ Err Fault.Usage → NamesNone (map (λ w. string_bytes w) words.now) }
     ensures lists { IfOk result (ListsWords (map (λ w. string_bytes w) words.now) (R.remaining input.old) (W.contents output.old) (W.contents output.new)) }
     ensures status { IfOk result (λ s. (s ≡ 0) ⊎ (s ≡ 2)) }
     ensures quiet { IfErr result (λ e. e ≢ Fault.WriteFault → output.new ≡ output.old) }
