@@ -1,3 +1,4 @@
 pub mod ControlLemmas
 pub mod ListingLemmas
 pub mod WordLemmas
+pub mod ProgramLemmas

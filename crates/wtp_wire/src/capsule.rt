@@ -2,6 +2,8 @@
 ghost use Rattle.std.specs.Prelude.{◌≡◌};
 
 pub mod capsules;
+#[cfg(test)]
+mod tests;
 
 use crate::frame::{Frame, FrameKind};
 use std::marker::Model;
