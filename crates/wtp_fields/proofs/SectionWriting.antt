@@ -2,7 +2,7 @@
 use Rattle.std.proofs.Common.{◌≡◌, List, [], ◌∷◌, ◌++◌, map, sym, ◌∙◌, ap, append_assoc, append-nil}
 use Rattle.std.proofs.lemmas.List.{map-append}
 use Rattle.std.specs.List.{flat_map}
-use Rattle.wtp_fields.specs.Field.{Field}
+use Rattle.wtp_fields.specs.Field.{Field, IsText, AreTexts}
 use Rattle.wtp_fields.specs.FieldLine.{encoded_line}
 use Rattle.wtp_fields.specs.FieldSection.{section_of}
 
@@ -13,3 +13,7 @@ section_push f ps p = ap (λ z. 0 ∷ 0 ∷ z) (ap (flat_map encoded_line) (map-
     all : (qs : List Field) → flat_map encoded_line (qs ++ f p ∷ []) ≡ flat_map encoded_line qs ++ encoded_line (f p)
     all [] = append-nil (encoded_line (f p))
     all (q ∷ qs) = ap (λ z. encoded_line q ++ z) (all qs) ∙ sym (append_assoc (encoded_line q) (flat_map encoded_line qs) (encoded_line (f p)))
+
+pub texts_push : {X : Type 0} (f : X → Field) (ps : List X) (p : X) → AreTexts (map f ps) → IsText (f p).0 × IsText (f p).1 → AreTexts (map f (ps ++ p ∷ []))
+texts_push f [] p h one = (one.0, one.1, tt)
+texts_push f (q ∷ ps) p (name, value, others) one = (name, value, texts_push f ps p others one)

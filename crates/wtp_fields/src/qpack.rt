@@ -7,7 +7,7 @@ ghost use Rattle.std.specs.Prelude.{◌≡◌, ℕ, List, IfOk, IfErr};
 ghost use Rattle.std.specs.Borrow.{Bor};
 ghost use Rattle.std.specs.Iterator.{IsFinite, Drains};
 ghost use Rattle.wtp_fields.specs.declared.qpack.DecodingError.TheVariants.{Memory};
-ghost use Rattle.wtp_fields.specs.Field.{held, lent};
+ghost use Rattle.wtp_fields.specs.Field.{AreTexts, held, lent};
 ghost use Rattle.wtp_fields.specs.Reading.{GivesUnlessMemory};
 ghost use Rattle.wtp_fields.specs.FieldSection.{ReachesLine, map_at, section_of};
 
@@ -99,7 +99,7 @@ impl Encoder {
         requires can { I.can_next pairs }
         requires finite { IsFinite (I.remaining pairs) }
         ensures { IfOk result (λ v. (ps : List (Bor (List ℕ) × Bor (List ℕ)))
-            × Drains I.next_gives pairs ps × (v.items ≡ section_of (lent ps))) }
+            × Drains I.next_gives pairs ps × AreTexts (lent ps) × (v.items ≡ section_of (lent ps))) }
     {
         let mut out = Vec::new(alloc);
         out.extend_from_slice(&[0, 0])?;

@@ -1,6 +1,7 @@
 //! Field lines (RFC 9204, sections 4.5.2 to 4.5.6).
 
 ghost use Rattle.std.specs.Prelude.{◌≡◌, ◌++◌, ◌<◌, OnOk};
+ghost use Rattle.wtp_fields.specs.Field.{IsText};
 ghost use Rattle.wtp_fields.specs.Reading.{Gives, GivesUnlessMemory};
 ghost use Rattle.wtp_fields.specs.StaticTable.{entry_at};
 ghost use Rattle.wtp_fields.specs.FieldLine.{bit, table_of, representation_of, seen, or_not_found, indexed_at, name_reference_at, literal_name_at, line_by, line_at, has_value, encoded_line};
@@ -166,11 +167,21 @@ fn is_value(index: usize, value: &str) -> bool
     }
 }
 
+/// The fact that a text is UTF-8 of fewer than 2^64 bytes.
+fn is_text(text: &str)
+    ensures { IsText text.now }
+{
+    let _len = text.len();
+}
+
 /// Appends the line of a field.
 #[tactic(auto, unfolding(crate::specs::FieldLine::encoded_line))]
 pub fn write(out: &mut Vec<u8>, name: &str, value: &str) -> Result<(), AllocError>
-    ensures { OnOk result (out.new.items ≡ out.old.items ++ encoded_line (name.now, value.now)) }
+    ensures ok { OnOk result (out.new.items ≡ out.old.items ++ encoded_line (name.now, value.now)) }
+    ensures texts { IsText name.now × IsText value.now }
 {
+    is_text(name);
+    is_text(value);
     match static_table::first_entry(name) {
         None => {
             string_literal::write::<3>(out, 0b10, name)?;
