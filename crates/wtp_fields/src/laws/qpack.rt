@@ -1,13 +1,17 @@
 //! Laws of prefixed integers, string literals, field lines and field sections.
-ghost use Rattle.std.specs.Prelude.{◌≡◌, ◌↔◌, ◌⊎◌, ℕ, ◌+◌, ◌*◌, ◌^◌, ◌<◌, ◌≤◌, List, [], ◌++◌, length, Some, Ok, Err};
+ghost use Rattle.std.specs.Prelude.{◌≡◌, ◌↔◌, ◌⊎◌, ℕ, ◌+◌, ◌*◌, ◌^◌, ◌<◌, ◌≤◌, List, [], ◌++◌, length, Some, Ok, Err, MatchResult};
 ghost use Rattle.wtp_fields.specs.declared.qpack.DecodingError.{DecodingError};
-ghost use Rattle.wtp_fields.specs.declared.qpack.DecodingError.TheVariants.{UnexpectedFin, IntegerOverflow, InvalidString};
+ghost use Rattle.wtp_fields.specs.declared.qpack.DecodingError.TheVariants.{UnexpectedFin, IntegerOverflow, InvalidString, Memory};
 ghost use Rattle.wtp_fields.specs.Huffman.{IsHuffman};
-ghost use Rattle.wtp_fields.specs.Field.{Field, IsText, AreTexts, IsMap, field_map, value_of, last_value};
+ghost use Rattle.wtp_fields.specs.Field.{Field, lent, held, IsText, AreTexts, IsMap, field_map, value_of, last_value};
 ghost use Rattle.wtp_fields.specs.Integer.{IsInt, IsOverflow, IsCut, integer_at, shortest_int};
 ghost use Rattle.wtp_fields.specs.StringLiteral.{IsString, huffman_text, string_at, encoded_string};
 ghost use Rattle.wtp_fields.specs.FieldLine.{line_at, encoded_line};
 ghost use Rattle.wtp_fields.specs.FieldSection.{lines_behind, AreLines, ReachesLine, section_at, map_at, section_of};
+
+use crate::qpack::{Decoder, DecodingError, Encoder};
+use std::alloc::Global;
+use std::collections::BTreeMap;
 
 /// Reading an integer and the relations of RFC 7541, section 5.1, are one: a front that spells an integer is read as
 /// it, whatever follows; one that passes 2^64 - 1 with its last byte is an overflow; bytes that end before either are
@@ -72,3 +76,14 @@ pub fn field_maps()
     ensures sent { (fields : List Field) → AreTexts fields
         → map_at (section_of fields) ≡ Ok (field_map fields) }
 {}
+
+/// Encodes fields and decodes them again: the last value of each name comes back, and no other name.
+pub fn encoded_and_decoded(
+    alloc: Global,
+    pairs: &[(&str, &str)],
+) -> Result<BTreeMap<String, String>, DecodingError>
+    ensures { MatchResult result (λ m. held m ≡ field_map (lent pairs.now)) (λ e. e ≡ Memory) }
+{
+    let section = Encoder::encode(alloc, pairs.iter().copied())?;
+    Decoder::decode(alloc, section.as_slice())
+}
