@@ -1,22 +1,27 @@
 -- The steps of the encoder over the bits that wait.
-use Rattle.std.proofs.Common.{List, [], ap, append-nil, append_assoc, arith, get_or, length, pow_mono, refl, subst, suc, sym, take, ℕ, ◌%◌, ◌*◌, ◌++◌, ◌+◌, ◌-◌, ◌/◌, ◌<◌, ◌^◌, ◌∙◌, ◌∷◌, ◌≡◌, ◌≤◌}
+use Rattle.std.proofs.Common.{Bool, List, [], drop, length-append, ap, append-nil, append_assoc, arith, get_or, length, pow_mono, refl, subst, suc, sym, take, ℕ, ◌%◌, ◌*◌, ◌++◌, ◌+◌, ◌-◌, ◌/◌, ◌<◌, ◌^◌, ◌∙◌, ◌∷◌, ◌≡◌, ◌≤◌}
 use Rattle.std.proofs.Math.Nat.{mul-le-mul_right}
 use Rattle.std.proofs.lemmas.List.{take_more}
 use Rattle.std.proofs.lemmas.Nat.{mod_below, one_shl, pow-add, pow_pos, shl_whole, shr_below, shr_split}
 use Rattle.std.specs.Int.{to_be_bytes, w32}
-use Rattle.wtp_fields.specs.Huffman.{IsBytes, IsHuffman, bits_of, code, coded, low_bits, word_of}
-use Rattle.wtp_fields.specs.HuffmanSteps.{Keeps}
-use Rattle.wtp_fields.proofs.HuffmanBits.{be_bits, bits_append, bits_push, low_bits_append, low_bits_length, ones_bits}
+use Rattle.wtp_fields.specs.Huffman.{IsBytes, IsPadding, bits_of, code, coded, low_bits, word_of}
+use Rattle.wtp_fields.specs.HuffmanSteps.{AppendsHuffman, Keeps}
+use Rattle.wtp_fields.specs.HuffmanTables.{front}
+use Rattle.wtp_fields.proofs.HuffmanBits.{be_bits, bits_append, bits_push, drop_low_bits, front_low_bits, low_bits_append, low_bits_length, ones_bits}
 use Rattle.wtp_fields.proofs.HuffmanReading.{coded_append, coded_one}
 
--- one word more waits
-pub word_in : (text out : List ℕ) (i count waiting bits number : ℕ) → coded (take i text) ≡ bits_of out ++ low_bits count waiting → i < length text
+-- one word more waits, behind bytes that were there
+pub word_in : (old text out : List ℕ) (i count waiting bits number : ℕ) → bits_of old ++ coded (take i text) ≡ bits_of out ++ low_bits count waiting → i < length text
     → number < 2 ^ bits → bits ≡ (word_of (get_or text i 0)).bits → number ≡ (word_of (get_or text i 0)).number
-    → coded (take (i + 1) text) ≡ bits_of out ++ low_bits (count + bits) (waiting * 2 ^ bits + number)
+    → bits_of old ++ coded (take (i + 1) text) ≡ bits_of out ++ low_bits (count + bits) (waiting * 2 ^ bits + number)
 unfolding code
-word_in text out i count waiting bits number e lt small eb en =
-    rw (take_more text i 0 lt, coded_append (take i text) (get_or text i 0 ∷ []), coded_one (get_or text i 0), e, low_bits_append count bits waiting number small, ← eb, ← en)
-    (append_assoc (bits_of out) (low_bits count waiting) (low_bits bits number))
+word_in old text out i count waiting bits number e lt small eb en =
+    let x : ℕ = get_or text i 0 in
+    let word : code x ≡ low_bits bits number = rw (← eb, ← en) refl in
+    let more : coded (take (i + 1) text) ≡ coded (take i text) ++ code x = ap coded (take_more text i 0 lt) ∙ coded_append (take i text) (x ∷ []) ∙ ap (λ z. coded (take i text) ++ z) (coded_one x) in
+    ap (λ z. bits_of old ++ z) more ∙ sym (append_assoc (bits_of old) (coded (take i text)) (code x)) ∙ ap (λ z. z ++ code x) e
+    ∙ append_assoc (bits_of out) (low_bits count waiting) (code x)
+    ∙ ap (λ z. bits_of out ++ z) (ap (λ z. low_bits count waiting ++ z) word ∙ sym (low_bits_append count bits waiting number small))
 
 pub word_fits : (count waiting bits number : ℕ) → waiting < 2 ^ count → number < 2 ^ bits → waiting * 2 ^ bits + number < 2 ^ (count + bits)
 word_fits count waiting bits number h small =
@@ -83,21 +88,34 @@ last_joined count waiting some few h =
     let P : ℕ → Type 0 = λ n. waiting * 2 ^ k + (2 ^ k - 1) < 2 ^ n in
     (rw (whole, ones) refl, subst P total fits)
 
+-- bytes whose bits begin with those of others begin with these
+pub appended : (text old out : List ℕ) (pad : List Bool) → IsBytes text → IsBytes old → IsBytes out → IsPadding pad → bits_of out ≡ bits_of old ++ (coded text ++ pad) → AppendsHuffman text old out
+unfolding bits_of
+appended text [] out pad bytes are all p e = record { string = out; bytes = all; is_coded = (bytes, pad, p, e); appended = refl }
+appended text (b ∷ old) [] pad bytes are all p e = absurd (omega (arith, ap length e, length-append (low_bits 8 b ++ bits_of old) (coded text ++ pad), length-append (low_bits 8 b) (bits_of old), low_bits_length 8 b))
+appended text (b ∷ old) (x ∷ out) pad bytes are all p e =
+    let whole : low_bits 8 x ++ bits_of out ≡ low_bits 8 b ++ (bits_of old ++ (coded text ++ pad)) = e ∙ append_assoc (low_bits 8 b) (bits_of old) (coded text ++ pad) in
+    let same : x ≡ b = sym (front_low_bits 8 x (bits_of out) all.0) ∙ ap (front 8) whole ∙ front_low_bits 8 b (bits_of old ++ (coded text ++ pad)) are.0 in
+    let rest : bits_of out ≡ bits_of old ++ (coded text ++ pad) = sym (drop_low_bits 8 x (bits_of out)) ∙ ap (drop 8) whole ∙ drop_low_bits 8 b (bits_of old ++ (coded text ++ pad)) in
+    let later = appended text old out pad bytes are.1 all.1 p rest in
+    record { string = later.string; bytes = later.bytes; is_coded = later.is_coded; appended = ap (λ z. z ∷ out) same ∙ ap (λ z. b ∷ z) later.appended }
+
 -- the last bits, and ones up to a byte
-pub last_out : (text out : List ℕ) (count waiting b : ℕ) → IsBytes text → coded text ≡ bits_of out ++ low_bits count waiting → 0 < count → count < 8 → waiting < 2 ^ count
-    → b ≡ waiting * 2 ^ (8 - count) + (2 ^ (8 - count) - 1) → IsHuffman text (out ++ b ∷ [])
-last_out text out count waiting b bytes e some few fits eb =
+pub last_out : (old text out : List ℕ) (count waiting b : ℕ) → IsBytes text → IsBytes old → IsBytes (out ++ b ∷ []) → bits_of old ++ coded text ≡ bits_of out ++ low_bits count waiting
+    → 0 < count → count < 8 → waiting < 2 ^ count → b ≡ waiting * 2 ^ (8 - count) + (2 ^ (8 - count) - 1) → AppendsHuffman text old (out ++ b ∷ [])
+last_out old text out count waiting b bytes are all e some few fits eb =
     let k : ℕ = 8 - count in
+    let pad : List Bool = low_bits k (2 ^ k - 1) in
     let total : count + k ≡ 8 = omega arith in
     let small : 2 ^ k - 1 < 2 ^ k = omega (arith, pow_pos k) in
-    let cut : low_bits 8 b ≡ low_bits count waiting ++ low_bits k (2 ^ k - 1) = ap (λ n. low_bits n b) (sym total) ∙ ap (λ n. low_bits (count + k) n) eb ∙ low_bits_append count k waiting (2 ^ k - 1) small in
-    let short : length (low_bits k (2 ^ k - 1)) < 8 = omega (arith, low_bits_length k (2 ^ k - 1)) in (
-      bytes,
-      low_bits k (2 ^ k - 1),
-      (short, ones_bits k),
-      rw (bits_push out b, cut, e) (sym (append_assoc (bits_of out) (low_bits count waiting) (low_bits k (2 ^ k - 1)))),
-    )
+    let cut : low_bits 8 b ≡ low_bits count waiting ++ pad = ap (λ n. low_bits n b) (sym total) ∙ ap (λ n. low_bits (count + k) n) eb ∙ low_bits_append count k waiting (2 ^ k - 1) small in
+    let short : length pad < 8 = omega (arith, low_bits_length k (2 ^ k - 1)) in
+    let same : bits_of (out ++ b ∷ []) ≡ bits_of old ++ (coded text ++ pad) =
+    bits_push out b ∙ ap (λ z. bits_of out ++ z) cut ∙ sym (append_assoc (bits_of out) (low_bits count waiting) pad) ∙ ap (λ z. z ++ pad) (sym e) ∙ append_assoc (bits_of old) (coded text) pad in
+    appended text old (out ++ b ∷ []) pad bytes are all (short, ones_bits k) same
 
-pub none_out : (text out : List ℕ) (waiting : ℕ) → IsBytes text → coded text ≡ bits_of out ++ low_bits 0 waiting → IsHuffman text out
+pub none_out : (old text out : List ℕ) (waiting : ℕ) → IsBytes text → IsBytes old → IsBytes out → bits_of old ++ coded text ≡ bits_of out ++ low_bits 0 waiting → AppendsHuffman text old out
 unfolding low_bits
-none_out text out waiting bytes e = (bytes, [], (omega arith, tt), sym (rw e (append-nil (bits_of out ++ []) ∙ append-nil (bits_of out))))
+none_out old text out waiting bytes are all e =
+    let same : bits_of out ≡ bits_of old ++ (coded text ++ []) = sym (append-nil (bits_of out)) ∙ sym e ∙ ap (λ z. bits_of old ++ z) (sym (append-nil (coded text))) in
+    appended text old out [] bytes are all (omega arith, tt) same

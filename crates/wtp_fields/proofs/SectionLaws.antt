@@ -4,7 +4,7 @@ use Rattle.wtp_fields.specs.declared.qpack.DecodingError.{DecodingError}
 use Rattle.wtp_fields.specs.Field.{Field}
 use Rattle.wtp_fields.specs.Reading.{◌>>=◌}
 use Rattle.wtp_fields.specs.FieldLine.{line_at}
-use Rattle.wtp_fields.specs.FieldSection.{lines_behind, AreLines, lines_at, section_at}
+use Rattle.wtp_fields.specs.FieldSection.{lines_behind, AreLines, ReachesLine, lines_at, section_at}
 use Rattle.wtp_fields.proofs.Chosen.{bind_ok, bind_err}
 use Rattle.wtp_fields.proofs.SectionReading.{line_shorter, lines_read, lines_fault}
 
@@ -58,17 +58,15 @@ pub section_cut : (bytes : List ℕ) (e : DecodingError) → lines_behind bytes 
 unfolding section_at
 section_cut bytes f e = rw e refl
 
-pub section_fault : (bytes lines : List ℕ) (fields : List Field) (rest : List ℕ) (e : DecodingError) → lines_behind bytes ≡ Ok lines → AreLines lines fields rest
-    → 0 < length rest → line_at rest ≡ Err e → section_at bytes ≡ Err e
+pub section_fault : (bytes : List ℕ) (e : DecodingError) (reached : ReachesLine bytes) → line_at reached.rest ≡ Err e → section_at bytes ≡ Err e
 unfolding section_at
-section_fault bytes lines fields rest f e are some fault = rw e (lines_fault fields (length lines) lines rest f (omega arith) are some fault)
+section_fault bytes f reached fault = rw (reached.prefix, lines_fault reached.fields (length reached.lines) reached.lines reached.rest f (omega arith) reached.good reached.some fault) refl
 
-pub fault_found : (bytes : List ℕ) (e : DecodingError) → section_at bytes ≡ Err e
-    → (lines_behind bytes ≡ Err e) ⊎ ((lines : List ℕ) × (fields : List Field) × (rest : List ℕ) × (lines_behind bytes ≡ Ok lines) × AreLines lines fields rest × (0 < length rest) × (line_at rest ≡ Err e))
+pub fault_found : (bytes : List ℕ) (e : DecodingError) → section_at bytes ≡ Err e → (lines_behind bytes ≡ Err e) ⊎ ((reached : ReachesLine bytes) × (line_at reached.rest ≡ Err e))
 unfolding section_at
 fault_found bytes f e = elim (bind_err (lines_behind bytes) (λ (lines : List ℕ). lines_at (length lines) lines) f e) [
   | inl cut ↦ inl cut
   | inr behind ↦
       let there = faulty (length behind.0) behind.0 f (omega arith) behind.2 in
-      inr (behind.0, there.lines, there.rest, behind.1, there.are, there.some, there.fault)
+      inr (record { lines = behind.0; fields = there.lines; rest = there.rest; prefix = behind.1; good = there.are; some = there.some }, there.fault)
 ]

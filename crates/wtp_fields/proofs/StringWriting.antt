@@ -5,6 +5,7 @@ use Rattle.std.proofs.lemmas.List.{length-append, length-drop}
 use Rattle.std.proofs.Math.ListN.{drop_of_length-le}
 use lib.Utf8.{scalar, scalars, encode, encodes, scalar_cases}
 use Rattle.wtp_fields.specs.Huffman.{low_bits, bits_of, coded, coded_len, AllOnes, IsPadding, IsBytes, IsHuffman}
+use Rattle.wtp_fields.specs.HuffmanSteps.{AppendsHuffman}
 use Rattle.wtp_fields.specs.HuffmanTables.{front}
 use Rattle.wtp_fields.specs.Integer.{shortest_int}
 use Rattle.wtp_fields.specs.StringLiteral.{filled_bytes, huffman_bytes, encoded_string}
@@ -78,10 +79,11 @@ pub encoded_raw : (n flags : ℕ) (t : List ℕ) → length t ≤ coded_len t �
 unfolding encoded_string
 encoded_raw n flags t more = rw (huffman_bytes_length t, le-ltb (coded_len t) (length t) more) refl
 
-pub written_coded : (n flags size : ℕ) (t body old one two : List ℕ) → (coded_len t < length t) × (size ≡ coded_len t)
-    → one ≡ old ++ shortest_int n (flags * 2 + 1) size → body ≡ huffman_bytes t → two ≡ one ++ body → two ≡ old ++ encoded_string n flags t
-written_coded n flags size t body old one two (less, e) first second third =
-    rw (encoded_coded n flags t less, third, first, second, e) (append_assoc old (shortest_int n (flags * 2 + 1) (coded_len t)) (huffman_bytes t))
+pub written_coded : (n flags size : ℕ) (t old one two : List ℕ) → (coded_len t < length t) × (size ≡ coded_len t)
+    → one ≡ old ++ shortest_int n (flags * 2 + 1) size → AppendsHuffman t one two → two ≡ old ++ encoded_string n flags t
+written_coded n flags size t old one two (less, e) first h =
+    let body : h.string ≡ huffman_bytes t = huffman_same t h.string h.bytes h.is_coded in
+    rw (encoded_coded n flags t less, h.appended, body, first, e) (append_assoc old (shortest_int n (flags * 2 + 1) (coded_len t)) (huffman_bytes t))
 
 pub written_raw : (n flags : ℕ) (t old one two : List ℕ) → (coded_len t < length t → ⊥)
     → one ≡ old ++ shortest_int n (flags * 2) (length t) → two ≡ one ++ t → two ≡ old ++ encoded_string n flags t

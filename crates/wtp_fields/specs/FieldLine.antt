@@ -1,8 +1,9 @@
 -- Field lines (RFC 9204, sections 4.5.2 to 4.5.6).
-use Rattle.std.specs.Prelude.{ℕ, ◌/◌, ◌%◌, ◌^◌, ◌==◌, if◌then◌else◌, Bool, true, false, List, [], ◌∷◌, ◌++◌, Option, Some, None, Result, Ok, Err}
+use Rattle.std.specs.Prelude.{ℕ, ◌/◌, ◌%◌, ◌^◌, ◌==◌, if◌then◌else◌, Bool, true, false, List, [], ◌∷◌, ◌++◌, Option, Some, None, Result, Ok, Err, string_bytes}
 use Rattle.std.specs.Str.{bytes_eq}
 use Rattle.wtp_fields.specs.declared.qpack.DecodingError.{DecodingError}
 use Rattle.wtp_fields.specs.declared.qpack.DecodingError.TheVariants.{UnexpectedFin, DynamicNotSupported, IndexNotfound}
+use Rattle.wtp_fields.specs.declared.qpack.field_line.Line.{Line}
 use Rattle.wtp_fields.specs.declared.qpack.field_line.Table.{Table}
 use Rattle.wtp_fields.specs.declared.qpack.field_line.Table.TheVariants.{Static, Dynamic}
 use Rattle.wtp_fields.specs.declared.qpack.field_line.Representation.{Representation}
@@ -32,6 +33,10 @@ by_bits false false true n = LiteralName  -- 001N, section 4.5.6
 
 abbrev pub representation_of : ℕ → Representation
 representation_of first = by_bits (bit 7 first) (bit 6 first) (bit 5 first) (bit 4 first)
+
+-- what was read of a line: the field and the bytes behind it
+abbrev pub seen : Line → Field × List ℕ
+seen line = ((string_bytes line.name, string_bytes line.value), line.rest.now)
 
 -- ---- reading: the field and the bytes behind it, or the first fault
 

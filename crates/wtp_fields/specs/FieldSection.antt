@@ -1,5 +1,5 @@
 -- Field sections (RFC 9204, section 4.5).
-use Rattle.std.specs.Prelude.{◌≡◌, ℕ, zero, suc, List, [], ◌∷◌, length, Result, Ok}
+use Rattle.std.specs.Prelude.{◌≡◌, ℕ, ◌<◌, zero, suc, List, [], ◌∷◌, length, Result, Ok}
 use Rattle.std.specs.List.{flat_map}
 use Rattle.wtp_fields.specs.declared.qpack.DecodingError.{DecodingError}
 use Rattle.wtp_fields.specs.Field.{Field, field_map}
@@ -19,6 +19,15 @@ lines_behind bytes = do
 abbrev pub AreLines : List ℕ → List Field → List ℕ → Type 0
 AreLines bytes [] rest = bytes ≡ rest
 AreLines bytes (line ∷ lines) rest = (behind : List ℕ) × (line_at bytes ≡ Ok (line, behind)) × AreLines behind lines rest
+
+-- a line begins behind the prefix and good lines
+pub record ReachesLine (section : List ℕ) : Type 0 where
+  pub lines : List ℕ
+  pub fields : List Field
+  pub rest : List ℕ
+  pub prefix : lines_behind section ≡ Ok lines
+  pub good : AreLines lines fields rest
+  pub some : 0 < length rest
 
 -- ---- reading
 

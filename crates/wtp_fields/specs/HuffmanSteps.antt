@@ -16,3 +16,10 @@ pub record Keeps (most : ℕ) (old : List ℕ) (count waiting : ℕ) (new : List
   pub few : left < most
   pub fewer : left ≤ count
   pub fits : rest < 2 ^ left
+
+-- new is old with the text in the Huffman code behind it
+pub record AppendsHuffman (text old new : List ℕ) : Type 0 where
+  pub string : List ℕ
+  pub bytes : IsBytes string
+  pub is_coded : IsHuffman text string
+  pub appended : new ≡ old ++ string

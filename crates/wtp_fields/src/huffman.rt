@@ -15,6 +15,7 @@ mod rows;
 mod tests;
 
 pub use decoding::decode;
+pub(crate) use encoding::append;
 pub use encoding::{encode, encoded_len};
 
 /// Why a text was not decoded.

@@ -1,4 +1,4 @@
-//! Laws of the definitions, each a function that does nothing and whose contract is the law.
+//! Laws of the definitions: the contract of each function is the law. Those over definitions alone do nothing.
 ghost use Rattle.std.specs.Prelude.{◌≡◌, ℕ, ◌<◌, ◌≤◌, List, ◌++◌, length, Bool};
 ghost use Rattle.wtp_fields.specs.Huffman.{code, AllOnes, IsBytes, IsHuffman};
 
@@ -6,7 +6,10 @@ mod headers;
 mod qpack;
 
 pub use headers::{header_maps, header_payloads};
-pub use qpack::{field_lines, field_maps, field_sections, prefixed_integers, string_literals};
+pub use qpack::{
+    encoded_and_decoded, field_lines, field_maps, field_sections, prefixed_integers,
+    string_literals,
+};
 
 /// The Huffman code is a complete prefix code: no code word begins another, none of ones is shorter than eight bits
 /// (so padding is no word), and a word stands at the front of any 30 bits.

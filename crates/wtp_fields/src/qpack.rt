@@ -3,13 +3,13 @@
 //! A peer that is told a table capacity of 0 writes no line that needs the dynamic table, and such a
 //! line is refused.
 
-ghost use Rattle.std.specs.Prelude.{◌≡◌, ◌<◌, ℕ, List, length, IfOk, IfErr, Ok};
+ghost use Rattle.std.specs.Prelude.{◌≡◌, ℕ, List, IfOk, IfErr};
 ghost use Rattle.std.specs.Borrow.{Bor};
 ghost use Rattle.std.specs.Iterator.{IsFinite, Drains};
 ghost use Rattle.wtp_fields.specs.declared.qpack.DecodingError.TheVariants.{Memory};
-ghost use Rattle.wtp_fields.specs.Field.{Field, held, lent};
+ghost use Rattle.wtp_fields.specs.Field.{AreTexts, held, lent};
 ghost use Rattle.wtp_fields.specs.Reading.{GivesUnlessMemory};
-ghost use Rattle.wtp_fields.specs.FieldSection.{lines_behind, AreLines, map_at, section_of};
+ghost use Rattle.wtp_fields.specs.FieldSection.{ReachesLine, map_at, section_of};
 
 pub(crate) mod field_line;
 mod field_section;
@@ -75,7 +75,7 @@ impl Decoder {
     pub fn decode(alloc: Global, section: &[u8]) -> Result<BTreeMap<String, String>, DecodingError>
         ensures read { GivesUnlessMemory (λ m. held m) result (map_at section.now) }
         // Memory is refused only at a line that begins behind the prefix and good lines.
-        ensures memory { IfErr result (λ e. e ≡ Memory → (lines : List ℕ) × (ls : List Field) × (rest : List ℕ) × (lines_behind section.now ≡ Ok lines) × AreLines lines ls rest × (0 < length rest)) }
+        ensures memory { IfErr result (λ e. e ≡ Memory → ReachesLine section.now) }
     {
         match field_section::skip_prefix(section) {
             Ok(lines) => field_section::read_lines(alloc, lines),
@@ -98,12 +98,13 @@ impl Encoder {
     ) -> Result<Vec<u8>, AllocError>
         requires can { I.can_next pairs }
         requires finite { IsFinite (I.remaining pairs) }
-        ensures { IfOk result (λ v. (ps : List (Bor (List ℕ) × Bor (List ℕ))) × Drains I.next_gives pairs ps × (v.items ≡ section_of (lent ps))) }
+        ensures { IfOk result (λ v. (ps : List (Bor (List ℕ) × Bor (List ℕ)))
+            × Drains I.next_gives pairs ps × AreTexts (lent ps) × (v.items ≡ section_of (lent ps))) }
     {
         let mut out = Vec::new(alloc);
         out.extend_from_slice(&[0, 0])?;
         for (name, value) in pairs {
-            field_line::write(alloc, &mut out, name, value)?;
+            field_line::write(&mut out, name, value)?;
         }
         Ok(out)
     }

@@ -1,7 +1,7 @@
 //! From a text to code words.
-ghost use Rattle.std.specs.Prelude.{◌≡◌, ℕ, ◌<◌, ◌^◌, List, length, IfOk, IsOk, SomeIff};
-ghost use Rattle.wtp_fields.specs.Huffman.{coded_len, IsHuffman};
-ghost use Rattle.wtp_fields.specs.HuffmanSteps.{Keeps};
+ghost use Rattle.std.specs.Prelude.{◌≡◌, ℕ, ◌<◌, ◌^◌, List, length, IfOk, OnOk, IsOk, SomeIff};
+ghost use Rattle.wtp_fields.specs.Huffman.{coded_len, IsBytes, IsHuffman};
+ghost use Rattle.wtp_fields.specs.HuffmanSteps.{AppendsHuffman, Keeps};
 
 use super::codes::code_of;
 use std::alloc::{AllocError, Global};
@@ -15,20 +15,36 @@ pub fn encode(alloc: Global, text: &[u8]) -> Result<Vec<u8>, AllocError>
     ensures empty { length text.now ≡ 0 → IsOk result }
 {
     let mut out = Vec::with_capacity(alloc, text.len())?;
+    append(&mut out, text)?;
+    Ok(out)
+}
+
+/// Appends the text in code words, and ones up to a whole byte.
+pub(crate) fn append(out: &mut Vec<u8>, text: &[u8]) -> Result<(), AllocError>
+    ensures coded { OnOk result (AppendsHuffman text.now out.old.items out.new.items) }
+    ensures empty { length text.now ≡ 0 → IsOk result }
+{
+    are_bytes(out.as_slice());
     let mut waiting = 0u64;
     let mut count = 0u32;
     for byte in text {
         let code = code_of(*byte);
         let joined = (waiting << code.bits) + u64::from(code.number);
-        (waiting, count) = give_four(&mut out, joined, count + code.bits)?;
+        (waiting, count) = give_four(out, joined, count + code.bits)?;
     }
-    let (waiting, count) = give_out(&mut out, waiting, count)?;
+    let (waiting, count) = give_out(out, waiting, count)?;
     if count > 0 {
         let room = 8 - count;
         out.push(((waiting << room) + ((1 << room) - 1)) as u8)?;
     }
-    Ok(out)
+    are_bytes(out.as_slice());
+    Ok(())
 }
+
+/// The fact that bytes are below 256.
+fn are_bytes(bytes: &[u8])
+    ensures { IsBytes bytes.now }
+{}
 
 /// How many bytes the coded text has; `None` exactly where `usize` does not hold them.
 pub fn encoded_len(text: &[u8]) -> Option<usize>

@@ -1,24 +1,31 @@
 //! Laws of prefixed integers, string literals, field lines and field sections.
-ghost use Rattle.std.specs.Prelude.{◌≡◌, ◌↔◌, ◌⊎◌, ℕ, ◌+◌, ◌*◌, ◌^◌, ◌<◌, ◌≤◌, List, [], ◌++◌, length, Some, Ok, Err};
+ghost use Rattle.std.specs.Prelude.{◌≡◌, ◌↔◌, ◌⊎◌, ℕ, ◌+◌, ◌*◌, ◌^◌, ◌<◌, ◌≤◌, List, [], ◌++◌, length, Some, Ok, Err, MatchResult};
 ghost use Rattle.wtp_fields.specs.declared.qpack.DecodingError.{DecodingError};
-ghost use Rattle.wtp_fields.specs.declared.qpack.DecodingError.TheVariants.{UnexpectedFin, IntegerOverflow, InvalidString};
+ghost use Rattle.wtp_fields.specs.declared.qpack.DecodingError.TheVariants.{UnexpectedFin, IntegerOverflow, InvalidString, Memory};
 ghost use Rattle.wtp_fields.specs.Huffman.{IsHuffman};
-ghost use Rattle.wtp_fields.specs.Field.{Field, IsText, AreTexts, IsMap, field_map, value_of, last_value};
+ghost use Rattle.wtp_fields.specs.Field.{Field, lent, held, IsText, AreTexts, IsMap, field_map, value_of, last_value};
 ghost use Rattle.wtp_fields.specs.Integer.{IsInt, IsOverflow, IsCut, integer_at, shortest_int};
 ghost use Rattle.wtp_fields.specs.StringLiteral.{IsString, huffman_text, string_at, encoded_string};
 ghost use Rattle.wtp_fields.specs.FieldLine.{line_at, encoded_line};
-ghost use Rattle.wtp_fields.specs.FieldSection.{lines_behind, AreLines, section_at, map_at, section_of};
+ghost use Rattle.wtp_fields.specs.FieldSection.{lines_behind, AreLines, ReachesLine, section_at, map_at, section_of};
+
+use crate::qpack::{Decoder, DecodingError, Encoder};
+use std::alloc::Global;
+use std::collections::BTreeMap;
 
 /// Reading an integer and the relations of RFC 7541, section 5.1, are one: a front that spells an integer is read as
 /// it, whatever follows; one that passes 2^64 - 1 with its last byte is an overflow; bytes that end before either are
 /// cut; and nothing else comes. What is written spells its number, and no spelling is shorter.
 pub fn prefixed_integers()
     ensures read { (n v : ℕ) (s rest : List ℕ) → IsInt n v s → integer_at n (s ++ rest) ≡ Ok (v, rest) }
-    ensures found { (n v : ℕ) (bytes rest : List ℕ) → n ≤ 8 → integer_at n bytes ≡ Ok (v, rest) → (s : List ℕ) × IsInt n v s × (bytes ≡ s ++ rest) }
+    ensures found { (n v : ℕ) (bytes rest : List ℕ) → n ≤ 8 → integer_at n bytes ≡ Ok (v, rest)
+        → (s : List ℕ) × IsInt n v s × (bytes ≡ s ++ rest) }
     ensures overflow { (n : ℕ) (s rest : List ℕ) → IsOverflow n s → integer_at n (s ++ rest) ≡ Err IntegerOverflow }
-    ensures overflow_found { (n : ℕ) (bytes : List ℕ) → n ≤ 8 → integer_at n bytes ≡ Err IntegerOverflow → (s : List ℕ) × (rest : List ℕ) × IsOverflow n s × (bytes ≡ s ++ rest) }
+    ensures overflow_found { (n : ℕ) (bytes : List ℕ) → n ≤ 8 → integer_at n bytes ≡ Err IntegerOverflow
+        → (s : List ℕ) × (rest : List ℕ) × IsOverflow n s × (bytes ≡ s ++ rest) }
     ensures cut { (n : ℕ) (bytes : List ℕ) → n ≤ 8 → (integer_at n bytes ≡ Err UnexpectedFin) ↔ IsCut n bytes }
-    ensures no_other { (n : ℕ) (bytes : List ℕ) (e : DecodingError) → n ≤ 8 → integer_at n bytes ≡ Err e → (e ≡ UnexpectedFin) ⊎ (e ≡ IntegerOverflow) }
+    ensures no_other { (n : ℕ) (bytes : List ℕ) (e : DecodingError) → n ≤ 8 → integer_at n bytes ≡ Err e
+        → (e ≡ UnexpectedFin) ⊎ (e ≡ IntegerOverflow) }
     ensures written { (n flags v : ℕ) → v < 2 ^ 64 → IsInt n v (shortest_int n flags v) }
     ensures shortest { (n flags v : ℕ) (s : List ℕ) → IsInt n v s → length (shortest_int n flags v) ≤ length s }
 {}
@@ -28,25 +35,35 @@ pub fn prefixed_integers()
 pub fn string_literals()
     ensures huffman { (t s : List ℕ) → (huffman_text s ≡ Some t) ↔ IsHuffman t s }
     ensures read { (n : ℕ) (t s rest : List ℕ) → IsString n t s → string_at n (s ++ rest) ≡ Ok (t, rest) }
-    ensures found { (n : ℕ) (t bytes rest : List ℕ) → n ≤ 8 → string_at n bytes ≡ Ok (t, rest) → (s : List ℕ) × IsString n t s × (bytes ≡ s ++ rest) }
-    ensures cut { (n count : ℕ) (size behind : List ℕ) → IsInt n count size → length behind < count → string_at n (size ++ behind) ≡ Err UnexpectedFin }
-    ensures invalid { (n : ℕ) (size body rest : List ℕ) → IsInt n (length body) size → ((t : List ℕ) → ¬ (IsString n t (size ++ body))) → string_at n ((size ++ body) ++ rest) ≡ Err InvalidString }
+    ensures found { (n : ℕ) (t bytes rest : List ℕ) → n ≤ 8 → string_at n bytes ≡ Ok (t, rest)
+        → (s : List ℕ) × IsString n t s × (bytes ≡ s ++ rest) }
+    ensures cut { (n count : ℕ) (size behind : List ℕ) → IsInt n count size → length behind < count
+        → string_at n (size ++ behind) ≡ Err UnexpectedFin }
+    ensures invalid { (n : ℕ) (size body rest : List ℕ) → IsInt n (length body) size
+        → ((t : List ℕ) → ¬ (IsString n t (size ++ body)))
+        → string_at n ((size ++ body) ++ rest) ≡ Err InvalidString }
     ensures written { (n flags : ℕ) (t : List ℕ) → IsText t → IsString n t (encoded_string n flags t) }
 {}
 
 /// An encoded line reads as its field, whatever follows.
 pub fn field_lines()
-    ensures { (field : Field) (rest : List ℕ) → IsText field.0 → IsText field.1 → line_at (encoded_line field ++ rest) ≡ Ok (field, rest) }
+    ensures { (field : Field) (rest : List ℕ) → IsText field.0 → IsText field.1
+        → line_at (encoded_line field ++ rest) ≡ Ok (field, rest) }
 {}
 
 /// Reading a section goes by its lines, one behind the other, behind the two integers of its prefix; its fault is that
 /// of the prefix, or of the first line that has one.
 pub fn field_sections()
-    ensures read { (bytes lines : List ℕ) (fields : List Field) → lines_behind bytes ≡ Ok lines → AreLines lines fields [] → section_at bytes ≡ Ok fields }
-    ensures found { (bytes : List ℕ) (fields : List Field) → section_at bytes ≡ Ok fields → (lines : List ℕ) × (lines_behind bytes ≡ Ok lines) × AreLines lines fields [] }
+    ensures read { (bytes lines : List ℕ) (fields : List Field) → lines_behind bytes ≡ Ok lines
+        → AreLines lines fields [] → section_at bytes ≡ Ok fields }
+    ensures found { (bytes : List ℕ) (fields : List Field) → section_at bytes ≡ Ok fields
+        → (lines : List ℕ) × (lines_behind bytes ≡ Ok lines) × AreLines lines fields [] }
     ensures cut { (bytes : List ℕ) (e : DecodingError) → lines_behind bytes ≡ Err e → section_at bytes ≡ Err e }
-    ensures fault { (bytes lines : List ℕ) (fields : List Field) (rest : List ℕ) (e : DecodingError) → lines_behind bytes ≡ Ok lines → AreLines lines fields rest → 0 < length rest → line_at rest ≡ Err e → section_at bytes ≡ Err e }
-    ensures fault_found { (bytes : List ℕ) (e : DecodingError) → section_at bytes ≡ Err e → (lines_behind bytes ≡ Err e) ⊎ ((lines : List ℕ) × (fields : List Field) × (rest : List ℕ) × (lines_behind bytes ≡ Ok lines) × AreLines lines fields rest × (0 < length rest) × (line_at rest ≡ Err e)) }
+    ensures fault { (bytes : List ℕ) (e : DecodingError) (reached : ReachesLine bytes)
+        → line_at reached.rest ≡ Err e → section_at bytes ≡ Err e }
+    ensures fault_found { (bytes : List ℕ) (e : DecodingError) → section_at bytes ≡ Err e
+        → (lines_behind bytes ≡ Err e)
+        ⊎ ((reached : ReachesLine bytes) × (line_at reached.rest ≡ Err e)) }
     ensures written { (fields : List Field) → AreTexts fields → section_at (section_of fields) ≡ Ok fields }
 {}
 
@@ -56,5 +73,17 @@ pub fn field_maps()
     ensures ordered { (lines : List Field) → IsMap (field_map lines) }
     ensures last { (lines : List Field) (name : List ℕ) → value_of name (field_map lines) ≡ last_value name lines }
     ensures kept { (fields : List Field) → IsMap fields → field_map fields ≡ fields }
-    ensures sent { (fields : List Field) → AreTexts fields → map_at (section_of fields) ≡ Ok (field_map fields) }
+    ensures sent { (fields : List Field) → AreTexts fields
+        → map_at (section_of fields) ≡ Ok (field_map fields) }
 {}
+
+/// Encodes fields and decodes them again: the last value of each name comes back, and no other name.
+pub fn encoded_and_decoded(
+    alloc: Global,
+    pairs: &[(&str, &str)],
+) -> Result<BTreeMap<String, String>, DecodingError>
+    ensures { MatchResult result (λ m. held m ≡ field_map (lent pairs.now)) (λ e. e ≡ Memory) }
+{
+    let section = Encoder::encode(alloc, pairs.iter().copied())?;
+    Decoder::decode(alloc, section.as_slice())
+}

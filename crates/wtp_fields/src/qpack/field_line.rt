@@ -1,9 +1,10 @@
 //! Field lines (RFC 9204, sections 4.5.2 to 4.5.6).
 
-ghost use Rattle.std.specs.Prelude.{◌≡◌, ◌++◌, ◌<◌, string_bytes, OnOk};
+ghost use Rattle.std.specs.Prelude.{◌≡◌, ◌++◌, ◌<◌, OnOk};
+ghost use Rattle.wtp_fields.specs.Field.{IsText};
 ghost use Rattle.wtp_fields.specs.Reading.{Gives, GivesUnlessMemory};
 ghost use Rattle.wtp_fields.specs.StaticTable.{entry_at};
-ghost use Rattle.wtp_fields.specs.FieldLine.{bit, table_of, representation_of, or_not_found, indexed_at, name_reference_at, literal_name_at, line_by, line_at, has_value, encoded_line};
+ghost use Rattle.wtp_fields.specs.FieldLine.{bit, table_of, representation_of, seen, or_not_found, indexed_at, name_reference_at, literal_name_at, line_by, line_at, has_value, encoded_line};
 
 use super::{DecodingError, integer, static_table, string_literal};
 use std::alloc::{AllocError, Global};
@@ -11,7 +12,9 @@ use std::alloc::{AllocError, Global};
 /// The table that an index refers to, by the bit T.
 #[derive(Clone, Copy)]
 pub enum Table {
+    /// The table of the standard, by absolute indices.
     Static,
+    /// The table that the peer fills, which is not supported.
     Dynamic,
 }
 
@@ -33,8 +36,11 @@ pub enum Representation {
 /// A field and the bytes behind its line.
 #[derive(Drop)]
 pub struct Line<'a> {
+    /// The field's name.
     pub name: String,
+    /// The field's value.
     pub value: String,
+    /// The bytes behind the line.
     pub rest: &'a [u8],
 }
 
@@ -89,7 +95,7 @@ fn entry(index: u64) -> Result<(&'static str, &'static str), DecodingError>
 /// The field of a static entry.
 #[tactic(auto, unfolding(crate::specs::FieldLine::indexed_at))]
 fn indexed(alloc: Global, bytes: &[u8]) -> Result<Line<'_>, DecodingError>
-    ensures { GivesUnlessMemory (λ x. ((string_bytes x.name, string_bytes x.value), x.rest.now)) result (indexed_at bytes.now) }
+    ensures { GivesUnlessMemory seen result (indexed_at bytes.now) }
 {
     let (index, rest) = integer::read::<6>(bytes)?;
     let (name, value) = entry(index)?;
@@ -103,7 +109,7 @@ fn indexed(alloc: Global, bytes: &[u8]) -> Result<Line<'_>, DecodingError>
 /// The name of a static entry, and a value.
 #[tactic(auto, unfolding(crate::specs::FieldLine::name_reference_at))]
 fn name_reference(alloc: Global, bytes: &[u8]) -> Result<Line<'_>, DecodingError>
-    ensures { GivesUnlessMemory (λ x. ((string_bytes x.name, string_bytes x.value), x.rest.now)) result (name_reference_at bytes.now) }
+    ensures { GivesUnlessMemory seen result (name_reference_at bytes.now) }
 {
     let (index, rest) = integer::read::<4>(bytes)?;
     let (name, _) = entry(index)?;
@@ -115,7 +121,7 @@ fn name_reference(alloc: Global, bytes: &[u8]) -> Result<Line<'_>, DecodingError
 /// A name and a value.
 #[tactic(auto, unfolding(crate::specs::FieldLine::literal_name_at))]
 fn literal_name(alloc: Global, bytes: &[u8]) -> Result<Line<'_>, DecodingError>
-    ensures { GivesUnlessMemory (λ x. ((string_bytes x.name, string_bytes x.value), x.rest.now)) result (literal_name_at bytes.now) }
+    ensures { GivesUnlessMemory seen result (literal_name_at bytes.now) }
 {
     let (name, rest) = string_literal::read::<3>(alloc, bytes)?;
     let (value, rest) = string_literal::read::<7>(alloc, rest)?;
@@ -128,7 +134,7 @@ fn read_as(
     representation: Representation,
     bytes: &[u8],
 ) -> Result<Line<'_>, DecodingError>
-    ensures { GivesUnlessMemory (λ x. ((string_bytes x.name, string_bytes x.value), x.rest.now)) result (line_by representation bytes.now) }
+    ensures { GivesUnlessMemory seen result (line_by representation bytes.now) }
 {
     match representation {
         Representation::Indexed(Table::Static) => indexed(alloc, bytes),
@@ -143,7 +149,7 @@ fn read_as(
 
 /// The line at the front.
 pub fn read(alloc: Global, bytes: &[u8]) -> Result<Line<'_>, DecodingError>
-    ensures { GivesUnlessMemory (λ x. ((string_bytes x.name, string_bytes x.value), x.rest.now)) result (line_at bytes.now) }
+    ensures { GivesUnlessMemory seen result (line_at bytes.now) }
 {
     match bytes {
         [] => Err(DecodingError::UnexpectedFin),
@@ -161,22 +167,32 @@ fn is_value(index: usize, value: &str) -> bool
     }
 }
 
+/// The fact that a text is UTF-8 of fewer than 2^64 bytes.
+fn is_text(text: &str)
+    ensures { IsText text.now }
+{
+    let _len = text.len();
+}
+
 /// Appends the line of a field.
 #[tactic(auto, unfolding(crate::specs::FieldLine::encoded_line))]
-pub fn write(alloc: Global, out: &mut Vec<u8>, name: &str, value: &str) -> Result<(), AllocError>
-    ensures { OnOk result (out.new.items ≡ out.old.items ++ encoded_line (name.now, value.now)) }
+pub fn write(out: &mut Vec<u8>, name: &str, value: &str) -> Result<(), AllocError>
+    ensures ok { OnOk result (out.new.items ≡ out.old.items ++ encoded_line (name.now, value.now)) }
+    ensures texts { IsText name.now × IsText value.now }
 {
+    is_text(name);
+    is_text(value);
     match static_table::first_entry(name) {
         None => {
-            string_literal::write::<3>(alloc, out, 0b10, name)?;
-            string_literal::write::<7>(alloc, out, 0, value)
+            string_literal::write::<3>(out, 0b10, name)?;
+            string_literal::write::<7>(out, 0, value)
         }
         Some(index) => {
             if is_value(index, value) {
                 integer::write::<6>(out, 0b11, index as u64)
             } else {
                 integer::write::<4>(out, 0b0101, index as u64)?;
-                string_literal::write::<7>(alloc, out, 0, value)
+                string_literal::write::<7>(out, 0, value)
             }
         }
     }

@@ -24,7 +24,8 @@ pub fn skip_prefix(bytes: &[u8]) -> Result<&[u8], DecodingError>
 /// The map of the lines.
 pub fn read_lines(alloc: Global, lines: &[u8]) -> Result<BTreeMap<String, String>, DecodingError>
     ensures found { IfOk result (λ m. (ls : List Field) × AreLines lines.now ls [] × (held m ≡ field_map ls)) }
-    ensures fault { IfErr result (λ e. (ls : List Field) × (rest : List ℕ) × AreLines lines.now ls rest × (0 < length rest) × (e ≢ Memory → line_at rest ≡ Err e)) }
+    ensures fault { IfErr result (λ e. (ls : List Field) × (rest : List ℕ) × AreLines lines.now ls rest
+        × (0 < length rest) × (e ≢ Memory → line_at rest ≡ Err e)) }
 {
     let mut fields = BTreeMap::new(alloc);
     let mut rest = lines;

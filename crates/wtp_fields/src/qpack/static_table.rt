@@ -187,11 +187,7 @@ fn table() -> &'static [(&'static str, &'static str)]
 fn entry_in<'a>(table: &[(&'a str, &'a str)], index: u64) -> Option<(&'a str, &'a str)>
     ensures { option_map lent_field result ≡ slice_get (lent table.now) index }
 {
-    if index < table.len() as u64 {
-        table.get(index as usize).copied()
-    } else {
-        None
-    }
+    table.get(index as usize).copied()
 }
 
 /// The entry of an index.

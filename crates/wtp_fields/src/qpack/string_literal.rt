@@ -1,9 +1,9 @@
 //! String literals (RFC 7541, section 5.2; RFC 9204, section 4.1.2).
 
-ghost use Rattle.std.specs.Prelude.{◌≡◌, ℕ, ◌+◌, ◌-◌, ◌*◌, ◌^◌, ◌<◌, ◌≤◌, ◌++◌, length, string_bytes, IfOk, OnOk, SomeIff};
-ghost use Rattle.wtp_fields.specs.Huffman.{IsBytes, coded_len};
+ghost use Rattle.std.specs.Prelude.{◌≡◌, ℕ, ◌+◌, ◌-◌, ◌*◌, ◌^◌, ◌<◌, ◌≤◌, ◌++◌, length, string_bytes, OnOk, SomeIff};
+ghost use Rattle.wtp_fields.specs.Huffman.{coded_len};
 ghost use Rattle.wtp_fields.specs.Reading.{GivesUnlessMemory};
-ghost use Rattle.wtp_fields.specs.StringLiteral.{flag_above, or_invalid, huffman_text, utf8_text, content, string_at, huffman_bytes, encoded_string};
+ghost use Rattle.wtp_fields.specs.StringLiteral.{flag_above, or_invalid, huffman_text, utf8_text, content, string_at, encoded_string};
 
 use super::{DecodingError, integer};
 use crate::huffman::{self, HuffmanError};
@@ -79,20 +79,6 @@ pub fn read<const N: u32>(alloc: Global, bytes: &[u8]) -> Result<(String, &[u8])
     Ok((text, behind))
 }
 
-/// The fact that bytes are below 256.
-fn are_bytes(bytes: &[u8])
-    ensures { IsBytes bytes.now }
-{}
-
-/// The text in the Huffman code.
-fn coded(alloc: Global, text: &[u8]) -> Result<Vec<u8>, AllocError>
-    ensures { IfOk result (λ s. s.items ≡ huffman_bytes text.now) }
-{
-    let coded = huffman::encode(alloc, text)?;
-    are_bytes(coded.as_slice());
-    Ok(coded)
-}
-
 /// How long the text is in the Huffman code, where that is strictly shorter.
 fn shorter_len(text: &[u8]) -> Option<usize>
     ensures { SomeIff result (coded_len text.now < length text.now) (coded_len text.now) }
@@ -101,12 +87,7 @@ fn shorter_len(text: &[u8]) -> Option<usize>
 }
 
 /// Appends a text behind its length, under the flags: in the Huffman code where that is strictly shorter.
-pub fn write<const N: u32>(
-    alloc: Global,
-    out: &mut Vec<u8>,
-    flags: u8,
-    text: &str,
-) -> Result<(), AllocError>
+pub fn write<const N: u32>(out: &mut Vec<u8>, flags: u8, text: &str) -> Result<(), AllocError>
     requires some { 1 ≤ N }
     requires few { N ≤ 7 }
     requires small { flags < 64 }
@@ -117,8 +98,7 @@ pub fn write<const N: u32>(
     match shorter_len(bytes) {
         Some(size) => {
             integer::write::<N>(out, flags * 2 + 1, size as u64)?;
-            let coded = coded(alloc, bytes)?;
-            out.extend_from_slice(coded.as_slice())?;
+            huffman::append(out, bytes)?;
         }
         None => {
             integer::write::<N>(out, flags * 2, bytes.len() as u64)?;
@@ -136,9 +116,9 @@ mod tests {
     /// The bytes of a string, written once more where memory was refused.
     fn written(alloc: Global, text: &str) -> Result<Vec<u8>, AllocError> {
         let mut out = Vec::new(alloc);
-        if write::<5>(alloc, &mut out, 0, text).is_err() {
+        if write::<5>(&mut out, 0, text).is_err() {
             out.clear();
-            write::<5>(alloc, &mut out, 0, text)?;
+            write::<5>(&mut out, 0, text)?;
         }
         Ok(out)
     }

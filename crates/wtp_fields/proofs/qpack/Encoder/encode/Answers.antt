@@ -2,17 +2,20 @@ use Rattle.std.proofs.Common.{◌∙◌, sym, refl, ap, ◌++◌}
 use Rattle.wtp_fields.specs.Field.{lent_field}
 use Rattle.wtp_fields.specs.FieldLine.{encoded_line}
 use Rattle.wtp_fields.specs.FieldSection.{section_of}
-use Rattle.wtp_fields.proofs.SectionWriting.{section_push}
+use Rattle.wtp_fields.proofs.SectionWriting.{section_push, texts_push}
 use Rattle.wtp_fields.proofs.qpack.Encoder.encode.Goals as goal
 
 pub loop-name-init : goal.loop-name-init
 unfolding section_of
-loop-name-init g c = rw (c.in_ok-extend_from_slice.ensures.items, c.new-out.ensures.items) refl
+loop-name-init g c = record { texts = tt; so_far = rw (c.in_ok-extend_from_slice.ensures.items, c.new-out.ensures.items) refl }
 
 pub loop-name-preserved : goal.loop-name-preserved
-loop-name-preserved g c =
-    c.in_ok-write.ensures ∙ ap (λ z. z ++ encoded_line (c.in-Some.name.now, c.in-Some.value.now)) c.loop-name.invariant
-    ∙ sym (section_push lent_field c.loop-name.yielded (c.in-Some.name, c.in-Some.value))
+loop-name-preserved g c = record {
+  texts = texts_push lent_field c.loop-name.yielded (c.in-Some.name, c.in-Some.value) c.loop-name.invariant.texts c.in_ok-write.ensures.texts;
+  so_far =
+      c.in_ok-write.ensures.ok ∙ ap (λ z. z ++ encoded_line (c.in-Some.name.now, c.in-Some.value.now)) c.loop-name.invariant.so_far
+      ∙ sym (section_push lent_field c.loop-name.yielded (c.in-Some.name, c.in-Some.value));
+}
 
 pub returns : goal.returns
-returns g c = rw (← c.into_iter-name-iterator.ensures.into_iter_gives) (c.loop-name.yielded, (c.next.new.self, (c.loop-name.name-iterator, c.loop-name.yielded_by, c.in-None.ensures.steps)), c.loop-name.invariant)
+returns g c = rw (← c.into_iter-name-iterator.ensures.into_iter_gives) (c.loop-name.yielded, (c.next.new.self, (c.loop-name.name-iterator, c.loop-name.yielded_by, c.in-None.ensures.steps)), c.loop-name.invariant.texts, c.loop-name.invariant.so_far)
