@@ -6,11 +6,12 @@ ghost use Rattle.wtp_fields.specs.SessionRequest.{request_in};
 
 mod request;
 mod response;
-
-pub use request::{InsertError, ReservedHeader, SessionRequest, UrlParseError};
-pub use response::{AddError, SessionResponse};
+#[cfg(test)]
+mod tests;
 
 use crate::headers::Headers;
+pub use request::{InsertError, ReservedHeader, SessionRequest, UrlParseError};
+pub use response::{AddError, SessionResponse};
 use std::alloc::{AllocError, Global};
 use thiserror::Error;
 use wtp_core::error::{ErrorCode, Refused};
