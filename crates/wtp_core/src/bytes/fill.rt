@@ -21,6 +21,7 @@ pub enum Halt {
 }
 
 /// Reads into `buf` from the place `at` on, until it is full; moves the place (own).
+#[inline(always)]
 pub fn fill<S: AsyncRead>(source: &mut S, buf: &mut [u8], at: &mut usize) -> Result<(), Halt>
     requires { at.old ≤ length buf.old }
     ensures front { take at.old buf.new ≡ take at.old buf.old }
@@ -41,6 +42,7 @@ pub fn fill<S: AsyncRead>(source: &mut S, buf: &mut [u8], at: &mut usize) -> Res
 }
 
 // One call, into `buf[at..]`.
+#[inline(always)]
 fn read_at<S: AsyncRead>(source: &mut S, buf: &mut [u8], at: usize) -> ReadStep
     requires { at ≤ length buf.old }
     ensures front { take at buf.new ≡ take at buf.old }

@@ -14,12 +14,13 @@ use crate::varint::{VarInt, first_varint};
 use std::marker::Model;
 
 /// How many bytes the number at the front has, at least, where these are held (own).
+#[inline(always)]
 pub fn varint_need(held: &[u8]) -> usize
     ensures { result ≡ varint_need held.now }
 {
     match held.first() {
         None => 1,
-        Some(first) => VarInt::parse_size(*first),
+        Some(first) => 1 << (*first >> 6),
     }
 }
 

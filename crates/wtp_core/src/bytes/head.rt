@@ -25,6 +25,7 @@ pub trait Head {
 }
 
 /// Reads on until all that is needed is held, and not a byte more (own).
+#[inline(always)]
 pub fn fill_head<H: Head, S: AsyncRead>(
     source: &mut S,
     buf: &mut [u8],

@@ -33,7 +33,16 @@ impl AsyncRead for &[u8] {
     ghost tells = { λ s. Some (all_ahead s.now) };
 
     /// Gives as many of the bytes as the buffer takes, and then an end; it is always ready.
+    #[inline(always)]
     fn poll_read(&mut self, buf: &mut [u8]) -> ReadStep {
+        // The two bytes in front of most frames are moved without a call.
+        if buf.len() == 2 && self.len() >= 2 {
+            let (front, rest) = self.split_at(2);
+            buf[0] = front[0];
+            buf[1] = front[1];
+            *self = rest;
+            return ReadStep::Bytes(2);
+        }
         let n = self.len().min(buf.len());
         let (front, rest) = self.split_at(n);
         buf[..n].copy_from_slice(front);

@@ -34,6 +34,7 @@ impl Head for FrameHead {
 
     ghost most = { 16 };
 
+    #[inline(always)]
     #[tactic(auto, unfolding(crate::specs::FrameNeed::frame_need))]
     fn need(held: &[u8]) -> usize {
         let first = varint_need(held);
@@ -46,6 +47,7 @@ impl Head for FrameHead {
 }
 
 /// What the two numbers at the front say.
+#[inline(always)]
 #[tactic(auto, unfolding(crate::specs::FrameHead::said, crate::specs::FrameHead::head_at))]
 pub(crate) fn read_head(held: &[u8]) -> Said
     ensures { result ≡ said held.now }
@@ -60,6 +62,7 @@ pub(crate) fn read_head(held: &[u8]) -> Said
 }
 
 /// What the second number says behind a type number of this kind, or of none.
+#[inline(always)]
 fn said_second(kind: Option<FrameKind>, number: VarInt) -> Said
     ensures { result ≡ said_second kind number }
 {

@@ -116,6 +116,7 @@ impl FrameReading {
     /// - `Again`: 4096 bytes of an unknown frame's payload were passed over, and some are still due.
     ///
     /// It may be polled again after each of these, over the same source or another.
+    #[inline(always)]
     pub fn poll<S: AsyncRead>(&mut self, source: &mut S) -> Polled<Result<FrameOwned, IoReadError>>
         ensures was_unfinished { IsUnfinished self.old }
         ensures unfinished { IsUnfinished self.new }
@@ -130,6 +131,7 @@ impl FrameReading {
     }
 
     /// Reads on until there is an answer, or until the payload of an unknown frame is next.
+    #[inline(always)]
     fn start<S: AsyncRead>(
         &mut self,
         source: &mut S,
@@ -183,6 +185,7 @@ enum Decision {
 }
 
 /// The answer, with the payload that was read.
+#[inline(always)]
 fn answer(decision: Decision, payload: Vec<u8>) -> Result<FrameOwned, IoReadError>
     requires { CanAnswer decision (length payload.items) }
     ensures { result ≡ answer decision payload.items }
@@ -196,6 +199,7 @@ fn answer(decision: Decision, payload: Vec<u8>) -> Result<FrameOwned, IoReadErro
 }
 
 /// Reads on until the bytes held decide; they stay as they are then.
+#[inline(always)]
 fn advance<S: AsyncRead>(
     source: &mut S,
     head: &mut [u8; 16],
@@ -237,6 +241,7 @@ enum PayloadHalt {
 }
 
 /// Reads on until a payload of this size is held; its room is taken whole before its first byte.
+#[inline(always)]
 fn fill_payload<S: AsyncRead>(
     source: &mut S,
     payload: &mut Vec<u8>,
@@ -253,7 +258,7 @@ fn fill_payload<S: AsyncRead>(
         (S.tells source.old) (S.tells source.new) }
 {
     if payload.len() < size {
-        if let Err(_) = payload.resize(size, 0) {
+        if payload.reserve_exact(size).is_err() || payload.resize(size, 0).is_err() {
             return Err(PayloadHalt::NoMemory);
         }
     }
