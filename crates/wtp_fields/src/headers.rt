@@ -141,7 +141,6 @@ fn is_pseudo(name: &str) -> bool
 
 /// Appends the lines of the pseudo-header fields, or of the others.
 fn write_group(
-    alloc: Global,
     out: &mut Vec<u8>,
     fields: &BTreeMap<String, String>,
     pseudo: bool,
@@ -150,7 +149,7 @@ fn write_group(
 {
     for (name, value) in fields {
         if is_pseudo(name.as_str()) == pseudo {
-            field_line::write(alloc, out, name.as_str(), value.as_str())?;
+            field_line::write(out, name.as_str(), value.as_str())?;
         }
     }
     Ok(())
@@ -163,7 +162,7 @@ fn written(alloc: Global, fields: &BTreeMap<String, String>) -> Result<Vec<u8>, 
 {
     let mut out = Vec::new(alloc);
     out.extend_from_slice(&[0, 0])?;
-    write_group(alloc, &mut out, fields, true)?;
-    write_group(alloc, &mut out, fields, false)?;
+    write_group(&mut out, fields, true)?;
+    write_group(&mut out, fields, false)?;
     Ok(out)
 }
