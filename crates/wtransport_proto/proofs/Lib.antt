@@ -1,3 +1,5 @@
 pub mod RunLemmas
 pub mod ReadingLemmas
 pub mod RunLaws
+pub mod HeldRunLemmas
+pub mod StreamPollLemmas

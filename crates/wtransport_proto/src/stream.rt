@@ -11,11 +11,15 @@ use wtp_wire::stream_header::{StreamHeader, StreamKind};
 
 pub mod bilocal;
 pub mod biremote;
+mod polled;
 mod reading;
 pub mod session;
 pub mod types;
 pub mod unilocal;
 pub mod uniremote;
+
+pub use polled::IoReadError;
+pub use wtp_core::bytes::IoWriteError;
 
 /// A stream of kind `K` in state `S` (see `types`).
 #[derive(Debug, Drop)]

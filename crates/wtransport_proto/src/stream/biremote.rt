@@ -2,26 +2,30 @@
 ghost use Rattle.std.specs.Prelude.{◌≡◌, ◌≤◌, ◌↔◌, true, length, Err, IsOk, OnOk, OnErr};
 ghost use Rattle.wtp_core.specs.Reader.{IsRest};
 ghost use Rattle.wtp_core.specs.Cursor.{left_of, whole_of};
+ghost use Rattle.wtp_core.specs.Source.{Telling};
+ghost use Rattle.wtp_core.specs.Polled.{Asks};
 ghost use Rattle.wtp_core.specs.Writer.{PutsParts, LacksRoom};
 ghost use Rattle.wtp_core.specs.BufferWriter.{room_in, loan_of, IsUnwritten, Wrote};
 ghost use Rattle.wtp_wire.specs.Front.{front};
+ghost use Rattle.wtp_wire.specs.Held.{IsUnfinished};
 ghost use Rattle.wtp_wire.specs.Wire.{parts_of, wire};
 ghost use Rattle.wtransport_proto.specs.Reading.{AnswersFrame, AnswersRun, StandsAfter};
 ghost use Rattle.wtransport_proto.specs.Rule.{RemoteBi};
 ghost use Rattle.wtransport_proto.specs.Run.{past_unknown};
+ghost use Rattle.wtransport_proto.specs.StreamPolling.{StreamPolled, StreamGiven};
 ghost use Rattle.wtransport_proto.specs.Streams.{first_of, request_of, session_of};
 
-use crate::stream::Stream;
 use crate::stream::reading::{self, Rule};
 use crate::stream::session::StreamSession;
 use crate::stream::types::{Bi, BiRemote, H3, Quic, Session, WT};
+use crate::stream::{IoReadError, Stream, polled};
 use wtp_core::bytes::{
-    BufferReader, BufferWriter, BytesReader, BytesWriter, EndOfBuffer, PutError,
+    AsyncRead, BufferReader, BufferWriter, BytesReader, BytesWriter, EndOfBuffer, Polled, PutError,
 };
 use wtp_core::error::ErrorCode;
 use wtp_core::ids::SessionId;
 use wtp_fields::session::SessionRequest;
-use wtp_wire::frame::{Frame, FrameKind};
+use wtp_wire::frame::{Frame, FrameKind, FrameOwned, FrameReading};
 
 /// A stream of QUIC.
 pub type StreamBiRemoteQuic = Stream<BiRemote, Quic>;
@@ -87,6 +91,31 @@ impl StreamBiRemoteH3 {
         ensures whole { whole_of reader.new ≡ whole_of reader.old }
     {
         reading::read_frame_from_buffer::<Self>(&mut self.stage.first_frame_done, reader)
+    }
+
+    /// Reads the next frame, poll by poll, by the rules of `read_frame`.
+    ///
+    /// - `Ready(Ok(frame))`: the next frame. The source stands right behind it.
+    /// - `Ready(Err(H3(code)))`: the code that `read_frame` answers, behind the bytes that decided;
+    ///   or `Frame` at an end inside a frame.
+    /// - `Ready(Err(IO(fault)))`: the source gave no more; `ImmediateFin` where nothing is held.
+    /// - `Pending`: the source was not ready. `NoMemory`: none was to be had for a payload.
+    /// - `Again`: an unknown frame was passed over, or 4096 bytes of its payload.
+    ///
+    /// The reading holds what came of a frame, and loses nothing. It may be polled again after each
+    /// of these, over the same source or another.
+    pub fn read_frame_async<S: AsyncRead>(
+        &mut self,
+        reading: &mut FrameReading,
+        source: &mut S,
+    ) -> Polled<Result<FrameOwned, IoReadError>>
+        ensures was_unfinished { IsUnfinished reading.old }
+        ensures unfinished { IsUnfinished reading.new }
+        ensures given { StreamGiven RemoteBi result (first_of self.old) (first_of self.new) reading.old reading.new }
+        ensures polled { Telling (S.tells source.old) (S.tells source.new) (StreamPolled RemoteBi result (first_of self.old) (first_of self.new) reading.old reading.new) }
+        ensures asks { Telling (S.tells source.old) (S.tells source.new) (Asks 4112) }
+    {
+        polled::poll_frame::<Self, S>(&mut self.stage.first_frame_done, reading, source)
     }
 
     /// Writes a frame as `Frame::write` does.

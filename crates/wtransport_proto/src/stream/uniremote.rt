@@ -2,20 +2,24 @@
 ghost use Rattle.std.specs.Prelude.{◌≡◌, ◌↔◌, false, IsTrue};
 ghost use Rattle.wtp_core.specs.Reader.{IsRest};
 ghost use Rattle.wtp_core.specs.Cursor.{left_of, whole_of};
+ghost use Rattle.wtp_core.specs.Source.{Telling};
+ghost use Rattle.wtp_core.specs.Polled.{Asks};
 ghost use Rattle.wtp_wire.specs.Front.{front};
+ghost use Rattle.wtp_wire.specs.Held.{IsUnfinished};
 ghost use Rattle.wtp_wire.specs.HeaderFront.{header_front};
 ghost use Rattle.wtransport_proto.specs.Reading.{AnswersFrame, AnswersRun, StandsAfter};
 ghost use Rattle.wtransport_proto.specs.Rule.{RemoteUni};
 ghost use Rattle.wtransport_proto.specs.Run.{past_unknown};
+ghost use Rattle.wtransport_proto.specs.StreamPolling.{StreamPolled, StreamGiven};
 ghost use Rattle.wtransport_proto.specs.Streams.{CanRead};
 ghost use Rattle.wtransport_proto.specs.Upgrading.{AnswersUpgrade};
 
-use crate::stream::Stream;
 use crate::stream::reading::{self, Rule};
 use crate::stream::types::{H3, Quic, UniRemote, WT};
-use wtp_core::bytes::{BufferReader, BytesReader};
+use crate::stream::{IoReadError, Stream, polled};
+use wtp_core::bytes::{AsyncRead, BufferReader, BytesReader, Polled};
 use wtp_core::error::ErrorCode;
-use wtp_wire::frame::{Frame, FrameKind};
+use wtp_wire::frame::{Frame, FrameKind, FrameOwned, FrameReading};
 use wtp_wire::stream_header::{ParseError, StreamHeader, StreamKind};
 
 /// A stream of QUIC.
@@ -116,6 +120,33 @@ impl StreamUniRemoteH3 {
         ensures same { self.new ≡ self.old }
     {
         reading::read_frame_from_buffer::<Self>(&mut true, reader)
+    }
+
+    /// Reads the next frame, poll by poll, by the rules of `read_frame`.
+    ///
+    /// - `Ready(Ok(frame))`: the next frame. The source stands right behind it.
+    /// - `Ready(Err(H3(code)))`: the code that `read_frame` answers, behind the bytes that decided;
+    ///   or `Frame` at an end inside a frame.
+    /// - `Ready(Err(IO(fault)))`: the source gave no more; `ImmediateFin` where nothing is held.
+    /// - `Pending`: the source was not ready. `NoMemory`: none was to be had for a payload.
+    /// - `Again`: an unknown frame was passed over, or 4096 bytes of its payload.
+    ///
+    /// The reading holds what came of a frame, and loses nothing. It may be polled again after each
+    /// of these, over the same source or another.
+    pub fn read_frame_async<S: AsyncRead>(
+        &mut self,
+        reading: &mut FrameReading,
+        source: &mut S,
+    ) -> Polled<Result<FrameOwned, IoReadError>>
+        requires { CanRead self.old }
+        ensures was_unfinished { IsUnfinished reading.old }
+        ensures unfinished { IsUnfinished reading.new }
+        ensures given { StreamGiven RemoteUni result false false reading.old reading.new }
+        ensures polled { Telling (S.tells source.old) (S.tells source.new) (StreamPolled RemoteUni result false false reading.old reading.new) }
+        ensures asks { Telling (S.tells source.old) (S.tells source.new) (Asks 4112) }
+        ensures same { self.new ≡ self.old }
+    {
+        polled::poll_frame::<Self, S>(&mut true, reading, source)
     }
 }
 

@@ -1,0 +1,108 @@
+-- One poll of a stream, from one poll of its reading.
+use Rattle.std.proofs.Common.{◌≡◌, ℕ, ◌<◌, ◌≤◌, Bool, true, false, List, [], ◌++◌, length, refl, sym, ap, ◌∙◌, arith, Option, Some, None, Result, Ok, Err, inl, inr}
+use Rattle.std.proofs.lemmas.Bool.{cases_lt, ne_eqb}
+use Rattle.wtp_core.specs.declared.error.ErrorCode.{ErrorCode}
+use Rattle.wtp_core.specs.declared.error.ErrorCode.TheVariants.{Id, ExcessiveLoad}
+use Rattle.wtp_core.specs.declared.bytes.polled.Polled.{Polled}
+use Rattle.wtp_core.specs.declared.bytes.polled.Polled.TheVariants.{Ready, Pending, Again, NoMemory}
+use Rattle.wtp_core.specs.declared.bytes.polled.IoReadError as bytes
+use Rattle.wtp_core.specs.declared.bytes.polled.IoReadError.TheVariants as io
+use Rattle.wtp_core.specs.Source.{Source, AtEnd, AtReset, AtDisconnection, Telling}
+use Rattle.wtp_core.specs.Source as source
+use Rattle.wtp_core.specs.Polled.{stop}
+use Rattle.wtp_core.proofs.TellingLemmas.{telling_map}
+use Rattle.wtp_wire.specs.declared.frame.ParseError.TheVariants as parse
+use Rattle.wtp_wire.specs.declared.frame.reading.IoReadError.{IoReadError}
+use Rattle.wtp_wire.specs.declared.frame.reading.IoReadError.TheVariants as reading
+use Rattle.wtp_wire.specs.Content.{Content, kind_in}
+use Rattle.wtp_wire.specs.Front.{Front, Framed, Unknown, BadId, TooBig, Short}
+use Rattle.wtp_wire.specs.Held.{Held, front_held}
+use Rattle.wtp_wire.specs.FramePolling.{Decided, Stopped, FramePolled}
+use Rattle.wtransport_proto.specs.declared.stream.polled.IoReadError.TheVariants as stream
+use Rattle.wtransport_proto.specs.Rule.{Role, rule}
+use Rattle.wtransport_proto.specs.Run.{Run, H3, ends}
+use Rattle.wtransport_proto.specs.HeldRun.{tail_of, stop_of, count_held, run_of}
+use Rattle.wtransport_proto.specs.StreamPolling.{IsFault, IsDry, stream_fault, EndsSo, Faults, PassesUnknown, StreamPolled}
+use Rattle.wtransport_proto.proofs.HeldRunLemmas.{read_front, framed_size, bad_size, big_size, size_new, leaves_size, run_refused, run_case}
+
+-- ---- faults
+
+ends_h3 : (r : Run) (c : ErrorCode) → r ≡ ends (H3 c) → EndsSo r [] (stream.H3 c)
+ends_h3 r c e = record { frames = ap (λ (x : Run). x.frames) e; fault = ap (λ (x : Run). x.ending) e }
+
+pub refused_ends : (role : Role) (first next : Bool) (old new : Held) (f : Content) (c : ErrorCode) (a b : Source) → rule role first (kind_in f) ≡ Some c → next ≡ false → Decided old new a b (Framed f) → Faults role first next old new (stream.H3 c) a b
+refused_ends role first next old new f c a b r n d = record {
+  ends = ends_h3 (run_of role first old a) c (run_refused role first old a.ahead b.ahead (tail_of a.ending) f c d.front r);
+  size = omega (arith, framed_size old new f a b d);
+  flag = rw d.front n;
+  place = rw d.front (d.empty, refl);
+  dry = tt;
+}
+
+pub bad_ends : (role : Role) (first : Bool) (old new : Held) (a b : Source) → Decided old new a b BadId → Faults role first first old new (stream.H3 Id) a b
+bad_ends role first old new a b d = record {
+  ends = ends_h3 (run_of role first old a) Id (run_case role first old a.ahead (tail_of a.ending) (BadId b.ahead) d.front);
+  size = omega (arith, size_new new b d.empty, bad_size (old.taken ++ a.ahead) b.ahead (read_front old a.ahead (BadId b.ahead) d.front tt));
+  flag = rw d.front refl;
+  place = rw d.front (d.empty, refl);
+  dry = tt;
+}
+
+pub big_ends : (role : Role) (first : Bool) (old new : Held) (a b : Source) → Decided old new a b TooBig → Faults role first first old new (stream.H3 ExcessiveLoad) a b
+big_ends role first old new a b d = record {
+  ends = ends_h3 (run_of role first old a) ExcessiveLoad (run_case role first old a.ahead (tail_of a.ending) (TooBig b.ahead) d.front);
+  size = omega (arith, size_new new b d.empty, big_size (old.taken ++ a.ahead) b.ahead (read_front old a.ahead (TooBig b.ahead) d.front tt));
+  flag = rw d.front refl;
+  place = rw d.front (d.empty, refl);
+  dry = tt;
+}
+
+fault_at : (e : source.Ending) (n : ℕ) → IsFault (stream_fault (stop n e)) (stop_of n (tail_of e))
+fault_at AtEnd n = elim (cases_lt 0 n) [ inl l ↦ rw (ne_eqb n 0 (λ z. omega arith)) refl | inr l ↦ let z : n ≡ 0 = omega arith in rw z refl ]
+fault_at AtReset n = refl
+fault_at AtDisconnection n = refl
+
+is_dry : (e : bytes.IoReadError) (b : Source) → b.ahead ≡ [] → IsDry (stream_fault e) b
+is_dry io.ImmediateFin b e = e
+is_dry io.UnexpectedFin b e = tt
+is_dry io.Reset b e = e
+is_dry io.NotConnected b e = e
+
+pub io_ends : (role : Role) (first : Bool) (old new : Held) (e : bytes.IoReadError) (a b : Source) → Stopped old new a b (reading.IO e) → Faults role first first old new (stream_fault e) a b
+io_ends role first old new e a b s =
+    let is : e ≡ stop (count_held old a.ahead) a.ending = let why = s.why in cc in
+    let r = run_case role first old a.ahead (tail_of a.ending) Short s.short in
+    record {
+      ends = record { frames = ap (λ (x : Run). x.frames) r; fault = rw (r, is) (fault_at a.ending (count_held old a.ahead)) };
+      size = leaves_size old new a b s.leaves;
+      flag = rw s.short refl;
+      place = rw s.short (s.leaves, s.none_ahead);
+      dry = is_dry e b s.none_ahead;
+    }
+
+-- ---- one poll of a stream
+
+pub refused_told : (s t : Option Source) (r : Polled (Result Content IoReadError)) (f : Content) (c : ErrorCode) (role : Role) (first next : Bool) (old new : Held) → r ≡ Ready (Ok f) → rule role first (kind_in f) ≡ Some c → next ≡ false
+    → Telling s t (FramePolled r old new) → Telling s t (StreamPolled role (Ready (Err (stream.H3 c))) first next old new)
+refused_told s t r f c role first next old new e is n p = telling_map s t (λ a b. Decided old new a b (Framed f)) (StreamPolled role (Ready (Err (stream.H3 c))) first next old new)
+    (λ a b d. refused_ends role first next old new f c a b is n d) (rw e at p)
+
+pub bad_told : (s t : Option Source) (r : Polled (Result Content IoReadError)) (role : Role) (first : Bool) (old new : Held) → r ≡ Ready (Err (reading.Parse parse.InvalidSessionId))
+    → Telling s t (FramePolled r old new) → Telling s t (StreamPolled role (Ready (Err (stream.H3 Id))) first first old new)
+bad_told s t r role first old new e p = telling_map s t (λ a b. Decided old new a b BadId) (StreamPolled role (Ready (Err (stream.H3 Id))) first first old new)
+    (λ a b d. bad_ends role first old new a b d) (rw e at p)
+
+pub big_told : (s t : Option Source) (r : Polled (Result Content IoReadError)) (role : Role) (first : Bool) (old new : Held) → r ≡ Ready (Err (reading.Parse parse.PayloadTooBig))
+    → Telling s t (FramePolled r old new) → Telling s t (StreamPolled role (Ready (Err (stream.H3 ExcessiveLoad))) first first old new)
+big_told s t r role first old new e p = telling_map s t (λ a b. Decided old new a b TooBig) (StreamPolled role (Ready (Err (stream.H3 ExcessiveLoad))) first first old new)
+    (λ a b d. big_ends role first old new a b d) (rw e at p)
+
+pub io_told : (s t : Option Source) (r : Polled (Result Content IoReadError)) (x : bytes.IoReadError) (role : Role) (first : Bool) (old new : Held) → r ≡ Ready (Err (reading.IO x))
+    → Telling s t (FramePolled r old new) → Telling s t (StreamPolled role (Ready (Err (stream_fault x))) first first old new)
+io_told s t r x role first old new e p = telling_map s t (FramePolled (Ready (Err (reading.IO x))) old new) (StreamPolled role (Ready (Err (stream_fault x))) first first old new)
+    (λ a b d. io_ends role first old new x a b d) (rw e at p)
+
+pub again_told : (s t : Option Source) (r : Polled (Result Content IoReadError)) (role : Role) (first : Bool) (old new : Held) → r ≡ Again
+    → Telling s t (FramePolled r old new) → Telling s t (StreamPolled role Again first first old new)
+again_told s t r role first old new e p = telling_map s t (FramePolled Again old new) (PassesUnknown first first old new)
+    (λ a b d. record { skips = d.skips; whole = λ z. let some = d.due in absurd (omega arith); part = λ _. (d.same, d.most); flag = refl }) (rw e at p)

@@ -1,0 +1,51 @@
+-- The run of what a reading holds and of the bytes ahead of it.
+--
+-- It is the run of the bytes held and those ahead behind them; where payload bytes of an unknown frame are
+-- due in place of bytes held, it is the run of the bytes behind those. The laws `held_run_is_run` and
+-- `held_run_passes_due` say just that.
+use Rattle.std.specs.Prelude.{ℕ, ◌+◌, ◌==◌, Bool, false, List, ◌++◌, length, if◌then◌else◌}
+use Rattle.wtp_core.specs.declared.error.ErrorCode.TheVariants.{Id, ExcessiveLoad, Frame}
+use Rattle.wtp_core.specs.Source.{Source, AtEnd, AtReset, AtDisconnection}
+use Rattle.wtp_core.specs.Source as source
+use Rattle.wtp_wire.specs.Content.{Content, kind_in}
+use Rattle.wtp_wire.specs.Front.{Front, Framed, Unknown, BadId, TooBig, Short}
+use Rattle.wtp_wire.specs.Held.{Held, front_held}
+use Rattle.wtransport_proto.specs.Rule.{Role, rule}
+use Rattle.wtransport_proto.specs.Run.{Run, Tail, MayGoOn, Ended, WasReset, Lost, Ending, Open, H3, ImmediateFin, Reset, NotConnected, ends, judged, run}
+
+-- how the bytes of a source end
+abbrev pub tail_of : source.Ending → Tail
+tail_of AtEnd = Ended
+tail_of AtReset = WasReset
+tail_of AtDisconnection = Lost
+
+-- the ending where the bytes are too few for a frame, and so many are there
+abbrev pub stop_of : ℕ → Tail → Ending
+stop_of n MayGoOn = Open n
+stop_of n Ended = if n == 0 then ImmediateFin else H3 Frame
+stop_of n WasReset = Reset
+stop_of n Lost = NotConnected
+
+-- the run by the case in front
+abbrev pub run_by : Role → Bool → Tail → ℕ → Front → Run
+run_by role first tail n (Framed f rest) = judged (rule role first (kind_in f)) f (run role false rest tail)
+run_by role first tail n (Unknown rest) = run role first rest tail
+run_by role first tail n (BadId rest) = ends (H3 Id)
+run_by role first tail n (TooBig rest) = ends (H3 ExcessiveLoad)
+run_by role first tail n Short = ends (stop_of n tail)
+
+-- how many bytes are held and ahead; those that are due count too
+abbrev pub count_held : Held → List ℕ → ℕ
+count_held h ahead = h.due + length (h.taken ++ ahead)
+
+-- the run of what is held and of the bytes ahead
+unfoldable pub run_held : Role → Bool → Held → List ℕ → Tail → Run
+run_held role first h ahead tail = run_by role first tail (count_held h ahead) (front_held h ahead)
+
+-- the same over a source
+abbrev pub run_of : Role → Bool → Held → Source → Run
+run_of role first h s = run_held role first h s.ahead (tail_of s.ending)
+
+-- how many bytes are held and ahead of a source
+abbrev pub size_of : Held → Source → ℕ
+size_of h s = length (h.taken ++ s.ahead)

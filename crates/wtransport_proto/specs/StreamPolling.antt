@@ -1,0 +1,114 @@
+-- Reading a frame of a stream, poll by poll.
+use Rattle.std.specs.Prelude.{◌≡◌, ◌⊎◌, ℕ, ◌<◌, ◌≤◌, Bool, true, false, List, [], ◌++◌, length, Option, Some, None, Result, Ok, Err}
+use Rattle.wtp_core.specs.declared.error.ErrorCode.{ErrorCode}
+use Rattle.wtp_core.specs.declared.error.ErrorCode.TheVariants.{Id, ExcessiveLoad, Frame}
+use Rattle.wtp_core.specs.declared.bytes.polled.Polled.{Polled}
+use Rattle.wtp_core.specs.declared.bytes.polled.Polled.TheVariants.{Ready, Pending, Again, NoMemory}
+use Rattle.wtp_core.specs.declared.bytes.polled.IoReadError as bytes
+use Rattle.wtp_core.specs.declared.bytes.polled.IoReadError.TheVariants as io
+use Rattle.wtp_core.specs.Source.{Source}
+use Rattle.wtp_wire.specs.Content.{Content, kind_in}
+use Rattle.wtp_wire.specs.Front.{Front, Framed, Unknown, BadId, TooBig, Short}
+use Rattle.wtp_wire.specs.Held.{Held, new_held, front_held, Skips, Leaves}
+use Rattle.wtp_wire.specs.FramePolling.{Decided, WantsPayload, Keeps, Answered, HoldsHead}
+use Rattle.wtransport_proto.specs.declared.stream.polled.IoReadError.{IoReadError}
+use Rattle.wtransport_proto.specs.declared.stream.polled.IoReadError.TheVariants as stream
+use Rattle.wtransport_proto.specs.Rule.{Role, rule}
+use Rattle.wtransport_proto.specs.Reading.{FirstAfter}
+use Rattle.wtransport_proto.specs.Run.{Run, Ending, H3, ImmediateFin, Reset, NotConnected}
+use Rattle.wtransport_proto.specs.HeldRun.{run_of, size_of}
+
+-- In all of these, old and new are what the reading holds before and after one poll; first and next say whether the next frame would be the first of its stream.
+
+-- a stream's fault at this ending of a run
+abbrev pub IsFault : IoReadError → Ending → Type 0
+IsFault (stream.H3 c) e = e ≡ H3 c
+IsFault (stream.IO io.ImmediateFin) e = e ≡ ImmediateFin
+IsFault (stream.IO io.UnexpectedFin) e = ⊥
+IsFault (stream.IO io.Reset) e = e ≡ Reset
+IsFault (stream.IO io.NotConnected) e = e ≡ NotConnected
+
+-- a stream's fault for one of a source: an end inside a frame is a fault of the frame
+abbrev pub stream_fault : bytes.IoReadError → IoReadError
+stream_fault io.ImmediateFin = stream.IO io.ImmediateFin
+stream_fault io.UnexpectedFin = stream.H3 Frame
+stream_fault io.Reset = stream.IO io.Reset
+stream_fault io.NotConnected = stream.IO io.NotConnected
+
+-- the run is these frames and this fault
+pub record EndsSo (r : Run) (fs : List Content) (x : IoReadError) : Type 0 where
+  pub frames : r.frames ≡ fs
+  pub fault : IsFault x r.ending
+
+-- a fault of the source comes behind all that was ahead
+abbrev pub IsDry : IoReadError → Source → Type 0
+IsDry (stream.H3 c) b = Unit {0}
+IsDry (stream.IO e) b = b.ahead ≡ []
+
+-- ---- what one poll did to a source that tells
+
+-- this frame was taken, and no byte behind it
+pub record TakesFrame (role : Role) (first next : Bool) (old new : Held) (f : Content) (a b : Source) : Type 0 where
+  pub decided : Decided old new a b (Framed f)
+  pub allowed : rule role first (kind_in f) ≡ None
+  pub flag : next ≡ false
+
+-- What a fault leaves. What decided is taken whole, and no byte behind it; where the bytes are too few, nothing is ahead, and nothing was lost.
+abbrev pub StandsBehind : Front → Held → Held → Source → Source → Type 0
+StandsBehind (Framed f rest) old new a b = (new ≡ new_held) × (rest ≡ b.ahead)
+StandsBehind (Unknown rest) old new a b = ⊥
+StandsBehind (BadId rest) old new a b = (new ≡ new_held) × (rest ≡ b.ahead)
+StandsBehind (TooBig rest) old new a b = (new ≡ new_held) × (rest ≡ b.ahead)
+StandsBehind Short old new a b = Leaves old new a b × (b.ahead ≡ [])
+
+-- the run has no frame more, and ends with this fault
+pub record Faults (role : Role) (first next : Bool) (old new : Held) (x : IoReadError) (a b : Source) : Type 0 where
+  pub ends : EndsSo (run_of role first old a) [] x
+  pub size : size_of new b ≤ size_of old a
+  pub flag : FirstAfter role first (front_held old a.ahead) next
+  pub place : StandsBehind (front_held old a.ahead) old new a b
+  pub dry : IsDry x b
+
+-- an unknown frame was passed over; or 4096 bytes of its payload, and some are still due
+pub record PassesUnknown (first next : Bool) (old new : Held) (a b : Source) : Type 0 where
+  pub skips : Skips old new a b
+  pub whole : new.due ≡ 0 → Decided old new a b Unknown
+  pub part : 0 < new.due → (front_held new b.ahead ≡ front_held old a.ahead) × (length skips.payload ≡ 4096)
+  pub flag : next ≡ first
+
+-- no memory was to be had for the payload of a frame, none of whose bytes was held
+pub record LacksMemory (first next : Bool) (old new : Held) (a b : Source) : Type 0 where
+  pub leaves : Leaves old new a b
+  pub none_due : old.due ≡ 0
+  pub none_due_now : new.due ≡ 0
+  pub wants : WantsPayload (old.taken ++ a.ahead) (length old.taken)
+  pub flag : next ≡ first
+
+abbrev pub StreamPolled : Role → Polled (Result Content IoReadError) → Bool → Bool → Held → Held → Source → Source → Type 0
+StreamPolled role (Ready (Ok f)) first next old new a b = TakesFrame role first next old new f a b
+StreamPolled role (Ready (Err x)) first next old new a b = Faults role first next old new x a b
+StreamPolled role Pending first next old new a b = Leaves old new a b × (next ≡ first) × (a.waits < b.waits)
+StreamPolled role Again first next old new a b = PassesUnknown first next old new a b
+StreamPolled role NoMemory first next old new a b = LacksMemory first next old new a b
+
+-- ---- of each source, also of one that tells nothing
+
+-- The frame that the rule refuses was given whole; or a number that is no session's; or a length that is too big. Or the source ended inside a frame.
+abbrev pub CodeGiven : Role → Bool → Bool → Held → Held → ErrorCode → Type 0
+CodeGiven role first next old new c =
+    ((f : Content) × Answered old new (Framed f) × (rule role first (kind_in f) ≡ Some c) × (next ≡ false))
+    ⊎ ((c ≡ Id) × Answered old new BadId × (next ≡ first))
+    ⊎ ((c ≡ ExcessiveLoad) × Answered old new TooBig × (next ≡ first))
+    ⊎ ((c ≡ Frame) × Keeps old new × (next ≡ first))
+
+-- an unknown frame was given whole, or a part of its payload
+abbrev pub PassGiven : Held → Held → Type 0
+PassGiven old new = Answered old new Unknown ⊎ (Keeps old new × (0 < new.due))
+
+abbrev pub StreamGiven : Role → Polled (Result Content IoReadError) → Bool → Bool → Held → Held → Type 0
+StreamGiven role (Ready (Ok f)) first next old new = Answered old new (Framed f) × (rule role first (kind_in f) ≡ None) × (next ≡ false)
+StreamGiven role (Ready (Err (stream.H3 c))) first next old new = CodeGiven role first next old new c
+StreamGiven role (Ready (Err (stream.IO e))) first next old new = Keeps old new × (next ≡ first)
+StreamGiven role Pending first next old new = Keeps old new × (next ≡ first)
+StreamGiven role Again first next old new = PassGiven old new × (next ≡ first)
+StreamGiven role NoMemory first next old new = Keeps old new × (new.due ≡ 0) × HoldsHead new.taken × (next ≡ first)
