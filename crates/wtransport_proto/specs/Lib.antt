@@ -5,6 +5,7 @@ pub mod Reading
 pub mod Upgrading
 pub mod HeldRun
 pub mod StreamPolling
+pub mod Driving
 pub use Rattle.wtp_core.specs.Varint
 pub use Rattle.wtp_core.specs.Reader
 pub use Rattle.wtp_core.specs.Cursor
