@@ -3,3 +3,4 @@ pub mod ReadingLemmas
 pub mod RunLaws
 pub mod HeldRunLemmas
 pub mod StreamPollLemmas
+pub mod DriveLemmas

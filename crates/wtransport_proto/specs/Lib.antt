@@ -5,6 +5,8 @@ pub mod Reading
 pub mod Upgrading
 pub mod HeldRun
 pub mod StreamPolling
+pub mod Driving
+pub mod StreamWriting
 pub use Rattle.wtp_core.specs.Varint
 pub use Rattle.wtp_core.specs.Reader
 pub use Rattle.wtp_core.specs.Cursor
@@ -13,6 +15,8 @@ pub use Rattle.wtp_core.specs.BufferWriter
 pub use Rattle.wtp_core.specs.Ids
 pub use Rattle.wtp_core.specs.Source
 pub use Rattle.wtp_core.specs.Polled
+pub use Rattle.wtp_core.specs.Sink
+pub use Rattle.wtp_core.specs.Writing
 pub use Rattle.wtp_core.specs.ErrorCodes
 pub use Rattle.wtp_wire.specs.Kind
 pub use Rattle.wtp_wire.specs.Content

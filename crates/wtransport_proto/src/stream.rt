@@ -11,6 +11,7 @@ use wtp_wire::stream_header::{StreamHeader, StreamKind};
 
 pub mod bilocal;
 pub mod biremote;
+mod driving;
 mod polled;
 mod reading;
 pub mod session;
@@ -18,6 +19,7 @@ pub mod types;
 pub mod unilocal;
 pub mod uniremote;
 
+pub use driving::{Driven, ReadsFrames, drive};
 pub use polled::IoReadError;
 pub use wtp_core::bytes::IoWriteError;
 

@@ -1,11 +1,12 @@
 //! Streams in both directions that this end opened.
-ghost use Rattle.std.specs.Prelude.{◌≡◌, ◌≢◌, ◌≤◌, ◌↔◌, true, false, length, Err, IsTrue, IfOk, IfErr, IsOk, OnOk, OnErr};
+ghost use Rattle.std.specs.Prelude.{◌≡◌, ◌≢◌, ◌≤◌, ◌↔◌, true, false, length, Err, IsTrue, IfOk, IfErr, IsOk, OnOk, OnErr, Ok};
 ghost use Rattle.wtp_core.specs.Reader.{IsRest};
 ghost use Rattle.wtp_core.specs.Cursor.{left_of, whole_of};
 ghost use Rattle.wtp_core.specs.Source.{Telling};
 ghost use Rattle.wtp_core.specs.Polled.{Asks};
 ghost use Rattle.wtp_core.specs.Writer.{PutsParts, LacksRoom};
 ghost use Rattle.wtp_core.specs.BufferWriter.{room_in, loan_of, IsUnwritten, Wrote};
+ghost use Rattle.wtp_core.specs.Writing.{GoesOn, IsSent, WritePolled};
 ghost use Rattle.wtp_wire.specs.Content.{WebTransportOf, kind_in};
 ghost use Rattle.wtp_wire.specs.Front.{front};
 ghost use Rattle.wtp_wire.specs.Held.{IsUnfinished};
@@ -14,20 +15,22 @@ ghost use Rattle.wtransport_proto.specs.Reading.{AnswersFrame, AnswersRun, Stand
 ghost use Rattle.wtransport_proto.specs.Rule.{LocalBi};
 ghost use Rattle.wtransport_proto.specs.Run.{past_unknown};
 ghost use Rattle.wtransport_proto.specs.StreamPolling.{StreamPolled, StreamGiven};
+ghost use Rattle.wtransport_proto.specs.StreamWriting.{WritesPlain, Begun};
 ghost use Rattle.wtransport_proto.specs.Streams.{can_upgrade, request_of, session_of};
 ghost use Rattle.wtransport_proto.specs.Upgrading.{write_answer};
 
 use crate::stream::reading::{self, Rule};
 use crate::stream::session::StreamSession;
 use crate::stream::types::{Bi, BiLocal, H3, Quic, Session, WT};
-use crate::stream::{IoReadError, Stream, polled};
+use crate::stream::{IoReadError, IoWriteError, Stream, polled};
 use wtp_core::bytes::{
-    AsyncRead, BufferReader, BufferWriter, BytesReader, BytesWriter, EndOfBuffer, Polled, PutError,
+    AsyncRead, AsyncWrite, BufferReader, BufferWriter, BytesReader, BytesWriter, EndOfBuffer,
+    Polled, PutError,
 };
 use wtp_core::error::ErrorCode;
 use wtp_core::ids::SessionId;
 use wtp_fields::session::SessionRequest;
-use wtp_wire::frame::{Frame, FrameKind, FrameOwned, FrameReading};
+use wtp_wire::frame::{Frame, FrameKind, FrameOwned, FrameReading, FrameWriting};
 
 /// A stream of QUIC.
 pub type StreamBiLocalQuic = Stream<BiLocal, Quic>;
@@ -157,6 +160,30 @@ impl StreamBiLocalH3 {
         frame.write_to_buffer(writer)?;
         self.stage.first_frame_done = true;
         Ok(())
+    }
+
+    /// Writes a frame, poll by poll, as `FrameWriting` does. Its kind is not
+    /// WebTransport, which is for `upgrade_async`.
+    ///
+    /// A stream to which a frame was written whole cannot be upgraded any more; after every other
+    /// answer it is as it was.
+    pub fn write_frame_async<W: AsyncWrite>(
+        &mut self,
+        writing: &mut FrameWriting<'_>,
+        sink: &mut W,
+    ) -> Polled<Result<(), IoWriteError>>
+        requires { WritesPlain writing.old }
+        ensures on { GoesOn writing.old writing.new }
+        ensures whole { IsSent result writing.new }
+        ensures polled { Telling (W.tells sink.old) (W.tells sink.new) (WritePolled result writing.old writing.new) }
+        ensures finished { writing.old.sent ≡ length writing.old.bytes → (sink.new ≡ sink.old) × (result ≡ Polled.Ready (Ok tt)) }
+        ensures begun { Begun result self.old self.new }
+    {
+        let answer = writing.poll(sink);
+        if let Polled::Ready(Ok(())) = answer {
+            self.stage.first_frame_done = true;
+        }
+        answer
     }
 
     /// Whether `upgrade` may be called: no write of a frame succeeded before.

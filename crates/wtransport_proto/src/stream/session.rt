@@ -1,11 +1,12 @@
 //! Streams that carry the request for a session, and its response.
-ghost use Rattle.std.specs.Prelude.{◌≡◌, ◌≤◌, ◌↔◌, false, length, Err, IsOk, OnOk, OnErr};
+ghost use Rattle.std.specs.Prelude.{◌≡◌, ◌≤◌, ◌↔◌, false, length, Err, IsOk, OnOk, OnErr, Ok};
 ghost use Rattle.wtp_core.specs.Reader.{IsRest};
 ghost use Rattle.wtp_core.specs.Cursor.{left_of, whole_of};
 ghost use Rattle.wtp_core.specs.Source.{Telling};
 ghost use Rattle.wtp_core.specs.Polled.{Asks};
 ghost use Rattle.wtp_core.specs.Writer.{PutsParts, LacksRoom};
 ghost use Rattle.wtp_core.specs.BufferWriter.{room_in, loan_of, IsUnwritten, Wrote};
+ghost use Rattle.wtp_core.specs.Writing.{GoesOn, IsSent, WritePolled};
 ghost use Rattle.wtp_wire.specs.Front.{front};
 ghost use Rattle.wtp_wire.specs.Held.{IsUnfinished};
 ghost use Rattle.wtp_wire.specs.Wire.{parts_of, wire};
@@ -17,13 +18,14 @@ ghost use Rattle.wtransport_proto.specs.Streams.{request_of};
 
 use crate::stream::reading::{self, Rule};
 use crate::stream::types::{Bi, Session};
-use crate::stream::{IoReadError, Stream, polled};
+use crate::stream::{IoReadError, IoWriteError, Stream, polled};
 use wtp_core::bytes::{
-    AsyncRead, BufferReader, BufferWriter, BytesReader, BytesWriter, EndOfBuffer, Polled, PutError,
+    AsyncRead, AsyncWrite, BufferReader, BufferWriter, BytesReader, BytesWriter, EndOfBuffer,
+    Polled, PutError,
 };
 use wtp_core::error::ErrorCode;
 use wtp_fields::session::SessionRequest;
-use wtp_wire::frame::{Frame, FrameKind, FrameOwned, FrameReading};
+use wtp_wire::frame::{Frame, FrameKind, FrameOwned, FrameReading, FrameWriting};
 
 /// A stream that carries the request for a session, and its response.
 pub type StreamSession = Stream<Bi, Session>;
@@ -110,6 +112,20 @@ impl StreamSession {
         ensures loan { loan_of writer.new ≡ loan_of writer.old }
     {
         frame.write_to_buffer(writer)
+    }
+
+    /// Writes a frame, poll by poll, as `FrameWriting` does.
+    pub fn write_frame_async<W: AsyncWrite>(
+        &self,
+        writing: &mut FrameWriting<'_>,
+        sink: &mut W,
+    ) -> Polled<Result<(), IoWriteError>>
+        ensures on { GoesOn writing.old writing.new }
+        ensures whole { IsSent result writing.new }
+        ensures polled { Telling (W.tells sink.old) (W.tells sink.new) (WritePolled result writing.old writing.new) }
+        ensures finished { writing.old.sent ≡ length writing.old.bytes → (sink.new ≡ sink.old) × (result ≡ Polled.Ready (Ok tt)) }
+    {
+        writing.poll(sink)
     }
 
     /// The request for the session.

@@ -1,17 +1,19 @@
 //! Streams in one direction that this end opened.
-ghost use Rattle.std.specs.Prelude.{◌≡◌, ◌≢◌, ◌≤◌, ◌↔◌, length, Err, IfOk, IfErr, IsOk, OnOk, OnErr};
+ghost use Rattle.std.specs.Prelude.{◌≡◌, ◌≢◌, ◌≤◌, ◌↔◌, length, Err, IfOk, IfErr, IsOk, OnOk, OnErr, Ok};
+ghost use Rattle.wtp_core.specs.Source.{Telling};
 ghost use Rattle.wtp_core.specs.Writer.{PutsParts, LacksRoom};
 ghost use Rattle.wtp_core.specs.BufferWriter.{room_in, loan_of, IsUnwritten, Wrote};
+ghost use Rattle.wtp_core.specs.Writing.{GoesOn, IsSent, WritePolled};
 ghost use Rattle.wtp_wire.specs.Header.{header_kind};
 ghost use Rattle.wtp_wire.specs.HeaderWire.{header_parts, header_wire};
 ghost use Rattle.wtp_wire.specs.Wire.{parts_of, wire};
 ghost use Rattle.wtransport_proto.specs.Streams.{header_of};
 ghost use Rattle.wtransport_proto.specs.Upgrading.{write_answer};
 
-use crate::stream::Stream;
 use crate::stream::types::{H3, Quic, UniLocal, WT};
-use wtp_core::bytes::{BufferWriter, BytesWriter, EndOfBuffer, PutError};
-use wtp_wire::frame::Frame;
+use crate::stream::{IoWriteError, Stream};
+use wtp_core::bytes::{AsyncWrite, BufferWriter, BytesWriter, EndOfBuffer, Polled, PutError};
+use wtp_wire::frame::{Frame, FrameWriting};
 use wtp_wire::stream_header::{StreamHeader, StreamKind};
 
 /// A stream of QUIC.
@@ -99,5 +101,22 @@ impl StreamUniLocalH3 {
         ensures same { self.new ≡ self.old }
     {
         frame.write_to_buffer(writer)
+    }
+
+    /// Writes a frame, poll by poll, as `FrameWriting` does, with the condition of
+    /// `write_frame`. The stream stays as it is.
+    pub fn write_frame_async<W: AsyncWrite>(
+        &mut self,
+        writing: &mut FrameWriting<'_>,
+        sink: &mut W,
+    ) -> Polled<Result<(), IoWriteError>>
+        requires { header_kind (header_of self.old) ≢ StreamKind.WebTransport }
+        ensures on { GoesOn writing.old writing.new }
+        ensures whole { IsSent result writing.new }
+        ensures polled { Telling (W.tells sink.old) (W.tells sink.new) (WritePolled result writing.old writing.new) }
+        ensures finished { writing.old.sent ≡ length writing.old.bytes → (sink.new ≡ sink.old) × (result ≡ Polled.Ready (Ok tt)) }
+        ensures same { self.new ≡ self.old }
+    {
+        writing.poll(sink)
     }
 }

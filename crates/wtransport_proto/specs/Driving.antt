@@ -1,0 +1,44 @@
+-- Driving a stream: polls of it until one has to wait, fails, or enough were made.
+use Rattle.std.specs.Prelude.{◌≡◌, ℕ, ◌+◌, ◌*◌, ◌<◌, ◌≤◌, Bool, false, List, ◌++◌}
+use Rattle.wtp_core.specs.Source.{Source}
+use Rattle.wtp_core.specs.Polled.{Asks}
+use Rattle.wtp_wire.specs.Content.{Content}
+use Rattle.wtp_wire.specs.Held.{Held}
+use Rattle.wtransport_proto.specs.declared.stream.polled.IoReadError.{IoReadError}
+use Rattle.wtransport_proto.specs.declared.stream.driving.Driven.{Driven}
+use Rattle.wtransport_proto.specs.declared.stream.driving.Driven.TheVariants as driven
+use Rattle.wtransport_proto.specs.Rule.{Role}
+use Rattle.wtransport_proto.specs.Run.{Run}
+use Rattle.wtransport_proto.specs.HeldRun.{run_of, size_of}
+use Rattle.wtransport_proto.specs.StreamPolling.{EndsSo, IsDry}
+
+-- A stream changed in nothing but whether its next frame is the first, and that for good.
+pub record ChangesFirst {X : Type 0} (first : X → Bool) (old new : X) : Type 0 where
+  pub same : first new ≡ first old → new ≡ old
+  pub for_good : first old ≡ false → first new ≡ false
+
+-- these frames, and then a run
+abbrev pub after : List Content → Run → Run
+after fs r = record { frames = fs ++ r.frames; ending = r.ending }
+
+-- The run of before is these frames, and then that of now.
+abbrev pub RunsOn : Role → Bool → Bool → Held → Held → List Content → Source → Source → Type 0
+RunsOn role first next old new fs a b = run_of role first old a ≡ after fs (run_of role next new b)
+
+-- what so many polls did to a source that tells: no byte more is held and ahead than before
+pub record DriveKeeps (old new : Held) (polls : ℕ) (a b : Source) : Type 0 where
+  pub size : size_of new b ≤ size_of old a
+  pub asks : Asks (4112 * polls) a b
+
+-- what a drive did that put out the frames fs
+abbrev pub DriveDid : Role → Driven → Bool → Bool → Held → Held → List Content → ℕ → Source → Source → Type 0
+DriveDid role (driven.Ended x) first next old new fs polls a b = EndsSo (run_of role first old a) fs x × IsDry x b × DriveKeeps old new polls a b
+DriveDid role driven.Waiting first next old new fs polls a b = RunsOn role first next old new fs a b × (a.waits < b.waits) × DriveKeeps old new polls a b
+DriveDid role driven.Spent first next old new fs polls a b = RunsOn role first next old new fs a b × (size_of new b + polls ≤ size_of old a) × DriveKeeps old new polls a b
+DriveDid role driven.NoMemory first next old new fs polls a b = RunsOn role first next old new fs a b × DriveKeeps old new polls a b
+
+-- what a drive did so far, in so many polls that each took something
+pub record Drove (role : Role) (first next : Bool) (old new : Held) (fs : List Content) (polls : ℕ) (a b : Source) : Type 0 where
+  pub run : RunsOn role first next old new fs a b
+  pub shorter : size_of new b + polls ≤ size_of old a
+  pub asks : Asks (4112 * polls) a b

@@ -1,0 +1,27 @@
+-- Writing a frame to a stream, poll by poll.
+use Rattle.std.specs.Prelude.{◌≡◌, ◌≢◌, false, Result, Ok, Err}
+use Rattle.wtp_core.specs.declared.bytes.polled.Polled.{Polled}
+use Rattle.wtp_core.specs.declared.bytes.polled.Polled.TheVariants.{Ready, Pending, Again, NoMemory}
+use Rattle.wtp_core.specs.declared.bytes.polled.IoWriteError.{IoWriteError}
+use Rattle.wtp_core.specs.Writing.{Writing}
+use Rattle.wtp_wire.specs.declared.frame.FrameKind.TheVariants.{WebTransport}
+use Rattle.wtp_wire.specs.Content.{Content, kind_in}
+use Rattle.wtp_wire.specs.Wire.{wire}
+use Rattle.wtransport_proto.specs.declared.stream.Stream.{Stream}
+use Rattle.wtransport_proto.specs.declared.stream.types.BiLocal.{BiLocal}
+use Rattle.wtransport_proto.specs.declared.stream.types.H3.{H3}
+use Rattle.wtransport_proto.specs.Streams.{can_upgrade}
+
+-- it writes a frame of another kind than WebTransport
+pub record WritesPlain (w : Writing) : Type 0 where
+  pub frame : Content
+  pub plain : kind_in frame ≢ WebTransport
+  pub bytes : w.bytes ≡ wire frame
+
+-- a stream to which a frame was written whole cannot be upgraded any more; no other answer changes it
+abbrev pub Begun : {U : Type 0} → Polled (Result U IoWriteError) → Stream BiLocal (H3 (Unit {0})) → Stream BiLocal (H3 (Unit {0})) → Type 0
+Begun (Ready (Ok _)) old new = can_upgrade new ≡ false
+Begun (Ready (Err e)) old new = new ≡ old
+Begun Pending old new = new ≡ old
+Begun Again old new = new ≡ old
+Begun NoMemory old new = new ≡ old

@@ -1,0 +1,184 @@
+//! Driving a stream: reading its frames poll by poll, as far as its source goes.
+ghost use Rattle.std.specs.Prelude.{◌≡◌, ℕ, ◌≤◌, Bool, IsTrue, ◌↔◌, ◌++◌, length, drop, false};
+ghost use Rattle.wtp_core.specs.Source.{Telling};
+ghost use Rattle.wtp_core.specs.Polled.{Asks};
+ghost use Rattle.wtp_wire.specs.Held.{IsUnfinished};
+ghost use Rattle.wtransport_proto.specs.Rule.{Role, RemoteBi, LocalBi, RemoteUni, InSession};
+ghost use Rattle.wtransport_proto.specs.Streams.{first_of, CanRead};
+ghost use Rattle.wtransport_proto.specs.StreamPolling.{StreamPolled, StreamGiven};
+ghost use Rattle.wtransport_proto.specs.Driving.{ChangesFirst, DriveDid};
+
+use crate::stream::IoReadError;
+use crate::stream::bilocal::StreamBiLocalH3;
+use crate::stream::biremote::StreamBiRemoteH3;
+use crate::stream::polled::poll_frame;
+use crate::stream::session::StreamSession;
+use crate::stream::uniremote::StreamUniRemoteH3;
+use wtp_core::bytes::{AsyncRead, Polled};
+use wtp_wire::frame::{FrameOwned, FrameReading};
+
+/// A stream from which frames are read (own).
+pub trait ReadsFrames {
+    // Which reading state it is.
+    ghost role: { Role };
+
+    // Whether no frame was read whole before.
+    ghost first: { Self → Bool };
+
+    // Whether frames may be read.
+    ghost can: { Self → Type 0 };
+
+    /// Whether frames may be read.
+    fn can_read(&self) -> bool
+        ensures { IsTrue result ↔ can self.now };
+
+    /// Reads the next frame, poll by poll, as the stream's own `read_frame_async` does. Frames may
+    /// be read, as `can_read` tells.
+    fn read_frame_async<S: AsyncRead>(
+        &mut self,
+        reading: &mut FrameReading,
+        source: &mut S,
+    ) -> Polled<Result<FrameOwned, IoReadError>>
+        requires { can self.old }
+        ensures can { can self.new }
+        ensures changes { ChangesFirst first self.old self.new }
+        ensures was_unfinished { IsUnfinished reading.old }
+        ensures unfinished { IsUnfinished reading.new }
+        ensures given { StreamGiven role result (first self.old) (first self.new) reading.old reading.new }
+        ensures polled { Telling (S.tells source.old) (S.tells source.new) (StreamPolled role result (first self.old) (first self.new) reading.old reading.new) }
+        ensures asks { Telling (S.tells source.old) (S.tells source.new) (Asks 4112) };
+}
+
+impl ReadsFrames for StreamBiRemoteH3 {
+    ghost role = { RemoteBi };
+
+    ghost first = { first_of };
+
+    ghost can = { λ _. Unit {0} };
+
+    fn can_read(&self) -> bool {
+        true
+    }
+
+    fn read_frame_async<S: AsyncRead>(
+        &mut self,
+        reading: &mut FrameReading,
+        source: &mut S,
+    ) -> Polled<Result<FrameOwned, IoReadError>> {
+        poll_frame::<Self, S>(&mut self.stage.first_frame_done, reading, source)
+    }
+}
+
+impl ReadsFrames for StreamBiLocalH3 {
+    ghost role = { LocalBi };
+
+    ghost first = { λ _. false };
+
+    ghost can = { λ _. Unit {0} };
+
+    fn can_read(&self) -> bool {
+        true
+    }
+
+    fn read_frame_async<S: AsyncRead>(
+        &mut self,
+        reading: &mut FrameReading,
+        source: &mut S,
+    ) -> Polled<Result<FrameOwned, IoReadError>> {
+        poll_frame::<Self, S>(&mut true, reading, source)
+    }
+}
+
+impl ReadsFrames for StreamUniRemoteH3 {
+    ghost role = { RemoteUni };
+
+    ghost first = { λ _. false };
+
+    ghost can = { CanRead };
+
+    fn can_read(&self) -> bool {
+        StreamUniRemoteH3::can_read(self)
+    }
+
+    fn read_frame_async<S: AsyncRead>(
+        &mut self,
+        reading: &mut FrameReading,
+        source: &mut S,
+    ) -> Polled<Result<FrameOwned, IoReadError>> {
+        poll_frame::<Self, S>(&mut true, reading, source)
+    }
+}
+
+impl ReadsFrames for StreamSession {
+    ghost role = { InSession };
+
+    ghost first = { λ _. false };
+
+    ghost can = { λ _. Unit {0} };
+
+    fn can_read(&self) -> bool {
+        true
+    }
+
+    fn read_frame_async<S: AsyncRead>(
+        &mut self,
+        reading: &mut FrameReading,
+        source: &mut S,
+    ) -> Polled<Result<FrameOwned, IoReadError>> {
+        poll_frame::<Self, S>(&mut true, reading, source)
+    }
+}
+
+/// How a drive ended (own).
+#[derive(Debug, Drop, PartialEq, Eq)]
+pub enum Driven {
+    /// The stream gives no more frames.
+    Ended(IoReadError),
+    /// The source was not ready.
+    Waiting,
+    /// All polls were made, and each took something.
+    Spent,
+    /// No memory was to be had, for a payload or for a place in the list.
+    NoMemory,
+}
+
+/// Polls the stream at most `polls` times, and puts each frame behind those in `out` (own).
+///
+/// It ends at the first fault, where the source is not ready, and where no memory is to be had. In
+/// every case nothing is lost: what was there is the frames put out and what is held and ahead now.
+/// It may be called again after each answer, with the same stream, reading and list, over the same
+/// source or another. With no polls it touches nothing. Frames may be read, as `can_read` tells.
+pub fn drive<K: ReadsFrames, S: AsyncRead>(
+    stream: &mut K,
+    reading: &mut FrameReading,
+    source: &mut S,
+    out: &mut Vec<FrameOwned>,
+    polls: u32,
+) -> Driven
+    requires { K.can stream.old }
+    ensures can { K.can stream.new }
+    ensures changes { ChangesFirst K.first stream.old stream.new }
+    ensures unfinished { IsUnfinished reading.old → IsUnfinished reading.new }
+    ensures appends { out.new.items ≡ out.old.items ++ drop (length out.old.items) out.new.items }
+    ensures most { length (drop (length out.old.items) out.new.items) ≤ polls }
+    ensures did { Telling (S.tells source.old) (S.tells source.new) (DriveDid K.role result (K.first stream.old) (K.first stream.new)
+        reading.old reading.new (drop (length out.old.items) out.new.items) polls) }
+    ensures none { polls ≡ 0 → (result ≡ Driven.Spent) × (stream.new ≡ stream.old) × (reading.new ≡ reading.old) × (source.new ≡ source.old) × (out.new ≡ out.old) }
+{
+    for _turn in 0..polls {
+        if let Err(_) = out.reserve(1) {
+            return Driven::NoMemory;
+        }
+        match stream.read_frame_async(reading, source) {
+            Polled::Ready(Ok(frame)) => match out.push(frame) {
+                Ok(()) => {}
+                Err(_) => unreachable!(),
+            },
+            Polled::Ready(Err(fault)) => return Driven::Ended(fault),
+            Polled::Pending => return Driven::Waiting,
+            Polled::Again => {}
+            Polled::NoMemory => return Driven::NoMemory,
+        }
+    }
+    Driven::Spent
+}
