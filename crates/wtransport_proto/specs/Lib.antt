@@ -8,6 +8,7 @@ pub mod StreamPolling
 pub mod Driving
 pub mod StreamWriting
 pub mod UpgradeSteps
+pub mod Agreeing
 pub use Rattle.wtp_core.specs.Varint
 pub use Rattle.wtp_core.specs.Reader
 pub use Rattle.wtp_core.specs.Cursor
