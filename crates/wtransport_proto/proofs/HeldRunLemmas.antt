@@ -1,6 +1,6 @@
 -- The run of what is held, and how it goes on poll by poll.
-use Rattle.std.proofs.Common.{◌≡◌, ◌≢◌, ℕ, ◌+◌, ◌*◌, ◌==◌, ◌<◌, ◌≤◌, Bool, true, false, List, [], ◌∷◌, ◌++◌, length, refl, sym, ap, subst, ◌∙◌, arith, append_assoc, append-nil, length-append, Option, Some, None, inl, inr, ◌⊎◌}
-use Rattle.std.proofs.lemmas.Bool.{cases_lt, ne_eqb}
+use Rattle.std.proofs.Common.{◌≡◌, ◌≢◌, ℕ, ◌+◌, ◌*◌, ◌==◌, ◌<◌, ◌≤◌, Bool, true, false, List, [], ◌∷◌, ◌++◌, length, drop, refl, sym, ap, subst, ◌∙◌, arith, append_assoc, append-nil, length-append, Option, Some, None, inl, inr, ◌⊎◌}
+use Rattle.std.proofs.lemmas.Bool.{cases_lt, ne_eqb, le-ltb, lt-ltb}
 use Rattle.wtp_core.specs.declared.error.ErrorCode.{ErrorCode}
 use Rattle.wtp_core.specs.Varint.{bytes_at}
 use Rattle.wtp_core.specs.Source.{Source, AtEnd, AtReset, AtDisconnection}
@@ -195,3 +195,19 @@ frame_run role first next old new f a b t ending =
     run_framed role first old a.ahead b.ahead (tail_of a.ending) f t.decided.front t.allowed
     ∙ ap (λ (x : source.Ending). follows f (run role false b.ahead (tail_of x))) (sym ending)
     ∙ ap (λ (r : Run). follows f r) (sym (run_new role false new b t.decided.empty) ∙ ap (λ (x : Bool). run_of role x new b) (sym t.flag))
+
+-- ---- where payload bytes of an unknown frame are due
+
+skip_there : (d : ℕ) (xs : List ℕ) → d ≤ length xs → skip_front d xs ≡ Unknown (drop d xs)
+unfolding bytes_at
+skip_there d xs l = rw (le-ltb (length xs) d l) refl
+
+skip_short : (d : ℕ) (xs : List ℕ) → length xs < d → skip_front d xs ≡ Short
+unfolding bytes_at
+skip_short d xs l = rw (lt-ltb (length xs) d l) refl
+
+pub run_held-due : (role : Role) (first : Bool) (h : Held) (xs : List ℕ) (tail : Tail) → 0 < h.due → h.due ≤ length xs → run_held role first h xs tail ≡ run role first (drop h.due xs) tail
+run_held-due role first h xs tail l there = run_case role first h xs tail (Unknown (drop h.due xs)) (front_due h.taken h.due xs l ∙ skip_there h.due xs there)
+
+pub run_held-lacks : (role : Role) (first : Bool) (h : Held) (xs : List ℕ) (tail : Tail) → length xs < h.due → run_held role first h xs tail ≡ ends (stop_of (count_held h xs) tail)
+run_held-lacks role first h xs tail l = run_case role first h xs tail Short (front_due h.taken h.due xs (omega arith) ∙ skip_short h.due xs l)

@@ -4,3 +4,4 @@ pub mod RunLaws
 pub mod HeldRunLemmas
 pub mod StreamPollLemmas
 pub mod DriveLemmas
+pub mod AgreeLemmas

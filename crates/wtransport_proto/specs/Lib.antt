@@ -7,6 +7,8 @@ pub mod HeldRun
 pub mod StreamPolling
 pub mod Driving
 pub mod StreamWriting
+pub mod UpgradeSteps
+pub mod Agreeing
 pub use Rattle.wtp_core.specs.Varint
 pub use Rattle.wtp_core.specs.Reader
 pub use Rattle.wtp_core.specs.Cursor
@@ -29,4 +31,5 @@ pub use Rattle.wtp_wire.specs.StreamKind
 pub use Rattle.wtp_wire.specs.Header
 pub use Rattle.wtp_wire.specs.HeaderFront
 pub use Rattle.wtp_wire.specs.HeaderWire
+pub use Rattle.wtp_wire.specs.HeaderPolling
 pub use Rattle.wtp_fields.specs.Field

@@ -1,11 +1,14 @@
 //! Laws of the definitions that contracts of this crate cite. Each function does nothing: its
 //! contract is the law.
-ghost use Rattle.std.specs.Prelude.{◌≡◌, ◌≢◌, ℕ, List, Bool, false, Some, None};
+ghost use Rattle.std.specs.Prelude.{◌≡◌, ◌≢◌, ◌<◌, ◌≤◌, ◌++◌, ℕ, List, Bool, false, Some, None, length, drop};
 ghost use Rattle.wtp_core.specs.declared.error.ErrorCode.{ErrorCode};
 ghost use Rattle.wtp_core.specs.declared.error.ErrorCode.TheVariants.{Id, ExcessiveLoad};
 ghost use Rattle.wtp_wire.specs.Content.{Content, kind_in};
 ghost use Rattle.wtp_wire.specs.Front.{Framed, Unknown, BadId, TooBig, Short, front};
+ghost use Rattle.wtp_wire.specs.Held.{Held};
 ghost use Rattle.wtp_wire.specs.declared.frame.FrameKind.{FrameKind};
+ghost use Rattle.wtransport_proto.specs.Agreeing.{Agrees};
+ghost use Rattle.wtransport_proto.specs.HeldRun.{run_held, stop_of, count_held};
 ghost use Rattle.wtransport_proto.specs.Rule.{Role, RemoteBi, rule};
 ghost use Rattle.wtransport_proto.specs.Run.{Tail, MayGoOn, H3, past_unknown, run, ends, follows, stop, counted};
 
@@ -35,4 +38,20 @@ pub fn past_unknown_by_front()
 pub fn only_remote_bi_counts()
     ensures rules { (role : Role) (f g : Bool) (kind : FrameKind) → role ≢ RemoteBi → rule role f kind ≡ rule role g kind }
     ensures runs { (role : Role) (f g : Bool) (bytes : List ℕ) (tail : Tail) → role ≢ RemoteBi → run role f bytes tail ≡ run role g bytes tail }
+{}
+
+/// The run of what a reading holds and of the bytes ahead: that of the bytes held, and those ahead
+/// behind them. Where payload bytes of an unknown frame are due, it is the run of the bytes behind
+/// those; with fewer bytes ahead it has no frame.
+pub fn run_held_by_bytes()
+    ensures held { (role : Role) (first : Bool) (h : Held) (ahead : List ℕ) (tail : Tail) → tail ≢ MayGoOn → h.due ≡ 0 → run_held role first h ahead tail ≡ run role first (h.taken ++ ahead) tail }
+    ensures due { (role : Role) (first : Bool) (h : Held) (ahead : List ℕ) (tail : Tail) → 0 < h.due → h.due ≤ length ahead → run_held role first h ahead tail ≡ run role first (drop h.due ahead) tail }
+    ensures lacking { (role : Role) (first : Bool) (h : Held) (ahead : List ℕ) (tail : Tail) → length ahead < h.due → run_held role first h ahead tail ≡ ends (stop_of (count_held h ahead) tail) }
+{}
+
+/// Whole and polled reading agree: the run of bytes that may go on has the frames of the run of the
+/// same bytes with an end, and its error code. The one is left open exactly where the other stops
+/// since the bytes are too few.
+pub fn buffered_and_polled_agree()
+    ensures { (role : Role) (first : Bool) (bytes : List ℕ) (tail : Tail) → tail ≢ MayGoOn → Agrees tail bytes (run role first bytes MayGoOn) (run role first bytes tail) }
 {}

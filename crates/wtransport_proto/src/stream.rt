@@ -9,6 +9,7 @@ use crate::stream::types::{H3, WT};
 use wtp_core::ids::SessionId;
 use wtp_wire::stream_header::{StreamHeader, StreamKind};
 
+mod accepting;
 pub mod bilocal;
 pub mod biremote;
 mod driving;
@@ -18,9 +19,12 @@ pub mod session;
 pub mod types;
 pub mod unilocal;
 pub mod uniremote;
+mod upgrading;
 
+pub use accepting::UniAccepting;
 pub use driving::{Driven, ReadsFrames, drive};
 pub use polled::IoReadError;
+pub use upgrading::{BiUpgrading, UniUpgrading};
 pub use wtp_core::bytes::IoWriteError;
 
 /// A stream of kind `K` in state `S` (see `types`).

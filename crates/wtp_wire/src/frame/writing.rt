@@ -4,11 +4,12 @@ ghost use Rattle.wtp_core.specs.Source.{Telling};
 ghost use Rattle.wtp_core.specs.Varint.{shortest};
 ghost use Rattle.wtp_core.specs.Writing.{Writing, unsent, GoesOn, IsSent, WritePolled};
 
-use crate::frame::Frame;
+use crate::frame::{Frame, FrameKind};
 use std::marker::Model;
 use wtp_core::bytes::drain::{drain, write_halted};
 use wtp_core::bytes::put::spell;
 use wtp_core::bytes::{AsyncWrite, IoWriteError, Polled};
+use wtp_core::ids::SessionId;
 use wtp_core::varint::VarInt;
 
 impl<'a> Frame<'a> {
@@ -29,6 +30,27 @@ impl<'a> Frame<'a> {
             len,
             head_sent: 0,
             payload: self.payload.as_slice(),
+            payload_sent: 0,
+        }
+    }
+}
+
+impl FrameWriting<'static> {
+    ghost use Rattle.wtp_wire.specs.Content.{WebTransportOf};
+    ghost use Rattle.wtp_wire.specs.Wire.{wire};
+
+    /// A writing of the frame that makes its stream one of this session, which has sent nothing (own).
+    pub fn of_session(session_id: SessionId) -> Self
+        ensures { result ≡ unsent (wire (WebTransportOf session_id)) }
+    {
+        let mut head = [0; 16];
+        let kind = FrameKind::WebTransport;
+        let len = spell_both(kind.id(), session_id.into_varint(), &mut head);
+        FrameWriting {
+            head,
+            len,
+            head_sent: 0,
+            payload: &[],
             payload_sent: 0,
         }
     }

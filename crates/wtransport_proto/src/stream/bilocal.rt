@@ -6,7 +6,7 @@ ghost use Rattle.wtp_core.specs.Source.{Telling};
 ghost use Rattle.wtp_core.specs.Polled.{Asks};
 ghost use Rattle.wtp_core.specs.Writer.{PutsParts, LacksRoom};
 ghost use Rattle.wtp_core.specs.BufferWriter.{room_in, loan_of, IsUnwritten, Wrote};
-ghost use Rattle.wtp_core.specs.Writing.{GoesOn, IsSent, WritePolled};
+ghost use Rattle.wtp_core.specs.Writing.{GoesOn, IsSent, WritePolled, unsent};
 ghost use Rattle.wtp_wire.specs.Content.{WebTransportOf, kind_in};
 ghost use Rattle.wtp_wire.specs.Front.{front};
 ghost use Rattle.wtp_wire.specs.Held.{IsUnfinished};
@@ -22,7 +22,7 @@ ghost use Rattle.wtransport_proto.specs.Upgrading.{write_answer};
 use crate::stream::reading::{self, Rule};
 use crate::stream::session::StreamSession;
 use crate::stream::types::{Bi, BiLocal, H3, Quic, Session, WT};
-use crate::stream::{IoReadError, IoWriteError, Stream, polled};
+use crate::stream::{BiUpgrading, IoReadError, IoWriteError, Stream, polled};
 use wtp_core::bytes::{
     AsyncRead, AsyncWrite, BufferReader, BufferWriter, BytesReader, BytesWriter, EndOfBuffer,
     Polled, PutError,
@@ -224,6 +224,21 @@ impl StreamBiLocalH3 {
         ensures { result ≡ length (wire (WebTransportOf session_id)) }
     {
         Frame::new_webtransport(session_id).write_size()
+    }
+
+    /// A state that makes it a stream of this session, poll by poll, as `upgrade` does. It can be
+    /// upgraded, as `can_upgrade` tells.
+    pub fn upgrade_async(self, session_id: SessionId) -> BiUpgrading
+        requires { IsTrue (can_upgrade self) }
+        ensures stream { result.stream ≡ self }
+        ensures session { result.session_id ≡ session_id }
+        ensures writing { result.writing ≡ unsent (wire (WebTransportOf session_id)) }
+    {
+        BiUpgrading {
+            stream: self,
+            session_id,
+            writing: FrameWriting::of_session(session_id),
+        }
     }
 
     /// The same as the stream of a session, for which this is the request.

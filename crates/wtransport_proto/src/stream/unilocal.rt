@@ -3,7 +3,7 @@ ghost use Rattle.std.specs.Prelude.{◌≡◌, ◌≢◌, ◌≤◌, ◌↔◌, 
 ghost use Rattle.wtp_core.specs.Source.{Telling};
 ghost use Rattle.wtp_core.specs.Writer.{PutsParts, LacksRoom};
 ghost use Rattle.wtp_core.specs.BufferWriter.{room_in, loan_of, IsUnwritten, Wrote};
-ghost use Rattle.wtp_core.specs.Writing.{GoesOn, IsSent, WritePolled};
+ghost use Rattle.wtp_core.specs.Writing.{GoesOn, IsSent, WritePolled, unsent};
 ghost use Rattle.wtp_wire.specs.Header.{header_kind};
 ghost use Rattle.wtp_wire.specs.HeaderWire.{header_parts, header_wire};
 ghost use Rattle.wtp_wire.specs.Wire.{parts_of, wire};
@@ -11,7 +11,7 @@ ghost use Rattle.wtransport_proto.specs.Streams.{header_of};
 ghost use Rattle.wtransport_proto.specs.Upgrading.{write_answer};
 
 use crate::stream::types::{H3, Quic, UniLocal, WT};
-use crate::stream::{IoWriteError, Stream};
+use crate::stream::{IoWriteError, Stream, UniUpgrading};
 use wtp_core::bytes::{AsyncWrite, BufferWriter, BytesWriter, EndOfBuffer, Polled, PutError};
 use wtp_wire::frame::{Frame, FrameWriting};
 use wtp_wire::stream_header::{StreamHeader, StreamKind};
@@ -58,6 +58,20 @@ impl StreamUniLocalQuic {
                 },
             }),
             Err(error) => Err((self, error)),
+        }
+    }
+
+    /// A state that makes it a stream of HTTP/3 with this header, poll by poll, as `upgrade` does.
+    pub fn upgrade_async(self, header: StreamHeader) -> UniUpgrading
+        ensures stream { result.stream ≡ self }
+        ensures header { result.header ≡ header }
+        ensures writing { result.writing ≡ unsent (header_wire header) }
+    {
+        let writing = header.write_async();
+        UniUpgrading {
+            stream: self,
+            header,
+            writing,
         }
     }
 

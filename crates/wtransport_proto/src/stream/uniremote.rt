@@ -1,5 +1,5 @@
 //! Streams in one direction that the peer opened.
-ghost use Rattle.std.specs.Prelude.{◌≡◌, ◌↔◌, false, IsTrue};
+ghost use Rattle.std.specs.Prelude.{◌≡◌, ◌↔◌, [], false, IsTrue};
 ghost use Rattle.wtp_core.specs.Reader.{IsRest};
 ghost use Rattle.wtp_core.specs.Cursor.{left_of, whole_of};
 ghost use Rattle.wtp_core.specs.Source.{Telling};
@@ -16,7 +16,7 @@ ghost use Rattle.wtransport_proto.specs.Upgrading.{AnswersUpgrade};
 
 use crate::stream::reading::{self, Rule};
 use crate::stream::types::{H3, Quic, UniRemote, WT};
-use crate::stream::{IoReadError, Stream, polled};
+use crate::stream::{IoReadError, Stream, UniAccepting, polled};
 use wtp_core::bytes::{AsyncRead, BufferReader, BytesReader, Polled};
 use wtp_core::error::ErrorCode;
 use wtp_wire::frame::{Frame, FrameKind, FrameOwned, FrameReading};
@@ -74,6 +74,17 @@ impl StreamUniRemoteQuic {
             Ok(None) => Ok(MaybeUpgradeH3::Quic(self)),
             Err(ParseError::UnknownStream) => Err(ErrorCode::StreamCreation),
             Err(ParseError::InvalidSessionId) => Err(ErrorCode::Id),
+        }
+    }
+
+    /// A state that reads the stream's header, poll by poll, as `upgrade` does.
+    pub fn upgrade_async(self) -> UniAccepting
+        ensures stream { result.stream ≡ self }
+        ensures reading { result.reading ≡ [] }
+    {
+        UniAccepting {
+            stream: self,
+            reading: StreamHeader::read_async(),
         }
     }
 }

@@ -1,0 +1,107 @@
+-- Upgrading a stream, poll by poll.
+use Rattle.std.specs.Prelude.{◌≡◌, ◌⊎◌, ℕ, ◌<◌, List, [], ◌++◌, length, drop}
+use Rattle.wtp_core.specs.declared.bytes.polled.Stepped.{Stepped}
+use Rattle.wtp_core.specs.declared.bytes.polled.Stepped.TheVariants.{Done, Pending, NoMemory, Failed}
+use Rattle.wtp_core.specs.declared.bytes.polled.IoReadError.TheVariants as read
+use Rattle.wtp_core.specs.declared.bytes.polled.IoWriteError.{IoWriteError}
+use Rattle.wtp_core.specs.declared.bytes.polled.IoWriteError.TheVariants as write
+use Rattle.wtp_core.specs.declared.error.ErrorCode.{ErrorCode}
+use Rattle.wtp_core.specs.declared.error.ErrorCode.TheVariants.{StreamCreation, Id, Frame}
+use Rattle.wtp_core.specs.Source.{Source}
+use Rattle.wtp_core.specs.Sink.{Sink}
+use Rattle.wtp_core.specs.Getting.{Stops, Waits}
+use Rattle.wtp_core.specs.Writing.{Writing, GoesOn, Sends}
+use Rattle.wtp_wire.specs.HeaderFront.{Headed, Unknown, BadId, Short, header_front}
+use Rattle.wtp_wire.specs.HeaderPolling.{HeaderDecided, HeaderAnswered}
+use Rattle.wtransport_proto.specs.declared.stream.Stream.{Stream}
+use Rattle.wtransport_proto.specs.declared.stream.types.BiLocal.{BiLocal}
+use Rattle.wtransport_proto.specs.declared.stream.types.UniLocal.{UniLocal}
+use Rattle.wtransport_proto.specs.declared.stream.types.UniRemote.{UniRemote}
+use Rattle.wtransport_proto.specs.declared.stream.types.H3.{H3}
+use Rattle.wtransport_proto.specs.declared.stream.types.WT.{WT}
+use Rattle.wtransport_proto.specs.declared.stream.polled.IoReadError.{IoReadError}
+use Rattle.wtransport_proto.specs.declared.stream.polled.IoReadError.TheVariants as stream
+use Rattle.wtransport_proto.specs.declared.stream.upgrading.BiUpgrading.{BiUpgrading}
+use Rattle.wtransport_proto.specs.declared.stream.upgrading.UniUpgrading.{UniUpgrading}
+use Rattle.wtransport_proto.specs.declared.stream.accepting.UniAccepting.{UniAccepting}
+use Rattle.wtp_wire.specs.Header.{Header}
+use Rattle.wtransport_proto.specs.Streams.{header_of, session_of}
+
+-- ---- upgrades that are written
+
+-- what one poll did to a sink that tells, where each state that is handed back holds such a writing: the sink's list grew by the bytes from those sent before up to those sent now, and by all of them where it is done
+abbrev pub StepSends : {P T : Type 0} → (P → Writing) → Stepped P T IoWriteError → Writing → Sink → Sink → Type 0
+StepSends writing (Done t) old a b = b.taken ≡ a.taken ++ drop old.sent old.bytes
+StepSends writing (Pending p) old a b = Sends old (writing p) a b × (a.waits < b.waits)
+StepSends writing (NoMemory p) old a b = Sends old (writing p) a b
+StepSends writing (Failed p write.Stopped) old a b = Sends old (writing p) a b × (a.stops < b.stops)
+StepSends writing (Failed p write.NotConnected) old a b = Sends old (writing p) a b × (a.losses < b.losses)
+
+-- new has sent no less than old, and not all
+pub record SentPart (old new : Writing) : Type 0 where
+  pub on : GoesOn old new
+  pub part : new.sent < length new.bytes
+
+-- what a state of an upgrade to a stream of a session writes
+abbrev pub bi_writing : BiUpgrading → Writing
+bi_writing u = u.writing
+
+abbrev pub BiGoesOn : BiUpgrading → BiUpgrading → Type 0
+BiGoesOn old new = (new.stream ≡ old.stream) × (new.session_id ≡ old.session_id) × SentPart old.writing new.writing
+
+-- This holds of each sink, also of one that tells nothing.
+abbrev pub BiStepped : Stepped BiUpgrading (Stream BiLocal WT) IoWriteError → BiUpgrading → Type 0
+BiStepped (Done s) old = session_of s ≡ old.session_id
+BiStepped (Pending p) old = BiGoesOn old p
+BiStepped (NoMemory p) old = BiGoesOn old p
+BiStepped (Failed p e) old = BiGoesOn old p
+
+-- what a state of an upgrade by a header writes
+abbrev pub uni_writing : UniUpgrading → Writing
+uni_writing u = u.writing
+
+abbrev pub UniGoesOn : UniUpgrading → UniUpgrading → Type 0
+UniGoesOn old new = (new.stream ≡ old.stream) × (new.header ≡ old.header) × SentPart old.writing new.writing
+
+-- This holds of each sink, also of one that tells nothing.
+abbrev pub UniStepped : Stepped UniUpgrading (Stream UniLocal (H3 Header)) IoWriteError → UniUpgrading → Type 0
+UniStepped (Done s) old = header_of s ≡ old.header
+UniStepped (Pending p) old = UniGoesOn old p
+UniStepped (NoMemory p) old = UniGoesOn old p
+UniStepped (Failed p e) old = UniGoesOn old p
+
+-- ---- the upgrade that is read
+
+-- In these, old and new are the bytes that the state holds before and after one poll.
+
+-- a type number that is not known, or a number that is no session's; or the source ended inside the header
+abbrev pub HeaderFault : ErrorCode → List ℕ → List ℕ → Source → Source → Type 0
+HeaderFault c old new a b =
+    ((c ≡ StreamCreation) × HeaderDecided old new a b Unknown)
+    ⊎ ((c ≡ Id) × HeaderDecided old new a b BadId)
+    ⊎ ((c ≡ Frame) × (header_front (old ++ a.ahead) ≡ Short) × Stops old new read.UnexpectedFin a b)
+
+-- what one poll did to a source that tells
+abbrev pub AcceptPolled : Stepped UniAccepting (Stream UniRemote (H3 Header)) IoReadError → List ℕ → Source → Source → Type 0
+AcceptPolled (Done s) old a b = header_front (old ++ a.ahead) ≡ Headed (header_of s) b.ahead
+AcceptPolled (Pending p) old a b = Waits old p.reading a b
+AcceptPolled (NoMemory p) old a b = ⊥
+AcceptPolled (Failed p (stream.H3 c)) old a b = HeaderFault c old p.reading a b
+AcceptPolled (Failed p (stream.IO e)) old a b = (header_front (old ++ a.ahead) ≡ Short) × Stops old p.reading e a b
+
+abbrev pub Grew : List ℕ → List ℕ → Type 0
+Grew old new = (given : List ℕ) × (new ≡ old ++ given)
+
+abbrev pub HeaderFaultGiven : ErrorCode → List ℕ → List ℕ → Type 0
+HeaderFaultGiven c old new =
+    ((c ≡ StreamCreation) × HeaderAnswered old new Unknown)
+    ⊎ ((c ≡ Id) × HeaderAnswered old new BadId)
+    ⊎ ((c ≡ Frame) × Grew old new)
+
+-- This holds of each source, also of one that tells nothing.
+abbrev pub AcceptGiven : Stepped UniAccepting (Stream UniRemote (H3 Header)) IoReadError → UniAccepting → Type 0
+AcceptGiven (Done s) old = (given : List ℕ) × (header_front (old.reading ++ given) ≡ Headed (header_of s) [])
+AcceptGiven (Pending p) old = (p.stream ≡ old.stream) × Grew old.reading p.reading
+AcceptGiven (NoMemory p) old = ⊥
+AcceptGiven (Failed p (stream.H3 c)) old = (p.stream ≡ old.stream) × HeaderFaultGiven c old.reading p.reading
+AcceptGiven (Failed p (stream.IO e)) old = (p.stream ≡ old.stream) × Grew old.reading p.reading

@@ -1,0 +1,60 @@
+//! Reading the header of a stream that the peer opened, poll by poll.
+use crate::stream::polled::stream_fault;
+use crate::stream::types::H3;
+use crate::stream::uniremote::{StreamUniRemoteH3, StreamUniRemoteQuic};
+use crate::stream::{IoReadError, Stream};
+use wtp_core::bytes::{AsyncRead, Polled, Stepped};
+use wtp_core::error::ErrorCode;
+use wtp_wire::stream_header;
+use wtp_wire::stream_header::{HeaderReading, ParseError};
+
+/// Makes a stream one of HTTP/3 by the header that is read from it, poll by poll (own).
+#[derive(Drop)]
+pub struct UniAccepting {
+    pub(crate) stream: StreamUniRemoteQuic,
+    pub(crate) reading: HeaderReading,
+}
+
+impl UniAccepting {
+    ghost use Rattle.std.specs.Prelude.{◌≡◌};
+    ghost use Rattle.wtp_core.specs.Source.{Telling};
+    ghost use Rattle.wtp_core.specs.Polled.{Asks};
+    ghost use Rattle.wtransport_proto.specs.UpgradeSteps.{AcceptPolled, AcceptGiven};
+
+    /// Reads on as far as the source goes, in at most 16 calls, and takes no memory. `Done` once
+    /// the header is read; the source stands right behind it.
+    ///
+    /// With every other answer the state is handed back, and holds what came. `Failed` has
+    /// `StreamCreation` behind a type number that is not known, which must not be taken for a fault
+    /// of the connection (RFC 9114, section 6.2), `Id` behind WebTransport's and a number that is no
+    /// session's, `Frame` at an end inside the header, or the fault of the source.
+    pub fn poll<S: AsyncRead>(
+        mut self,
+        source: &mut S,
+    ) -> Stepped<Self, StreamUniRemoteH3, IoReadError>
+        ensures given { AcceptGiven result self }
+        ensures polled { Telling (S.tells source.old) (S.tells source.new) (AcceptPolled result self.reading) }
+        ensures asks { Telling (S.tells source.old) (S.tells source.new) (Asks 16) }
+    {
+        match self.reading.poll(source) {
+            Polled::Ready(Ok(header)) => Stepped::Done(Stream {
+                kind: self.stream.kind,
+                stage: H3 {
+                    header,
+                    first_frame_done: false,
+                },
+            }),
+            Polled::Ready(Err(stream_header::IoReadError::Parse(ParseError::UnknownStream))) => {
+                Stepped::Failed(self, IoReadError::H3(ErrorCode::StreamCreation))
+            }
+            Polled::Ready(Err(stream_header::IoReadError::Parse(ParseError::InvalidSessionId))) => {
+                Stepped::Failed(self, IoReadError::H3(ErrorCode::Id))
+            }
+            Polled::Ready(Err(stream_header::IoReadError::IO(fault))) => {
+                Stepped::Failed(self, stream_fault(fault))
+            }
+            Polled::Pending => Stepped::Pending(self),
+            Polled::NoMemory | Polled::Again => unreachable!(),
+        }
+    }
+}

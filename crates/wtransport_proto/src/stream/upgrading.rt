@@ -1,0 +1,88 @@
+//! Upgrading a stream that this end opened, poll by poll.
+use crate::stream::bilocal::{StreamBiLocalH3, StreamBiLocalWT};
+use crate::stream::types::{H3, WT};
+use crate::stream::unilocal::{StreamUniLocalH3, StreamUniLocalQuic};
+use crate::stream::{IoWriteError, Stream};
+use wtp_core::bytes::{AsyncWrite, Polled, Stepped};
+use wtp_core::ids::SessionId;
+use wtp_wire::frame::FrameWriting;
+use wtp_wire::stream_header::{HeaderWriting, StreamHeader};
+
+/// Makes a stream one of a session by a WebTransport frame, poll by poll (own).
+#[derive(Drop)]
+pub struct BiUpgrading {
+    pub(crate) stream: StreamBiLocalH3,
+    pub(crate) session_id: SessionId,
+    pub(crate) writing: FrameWriting<'static>,
+}
+
+impl BiUpgrading {
+    ghost use Rattle.std.specs.Prelude.{◌≡◌};
+    ghost use Rattle.wtp_core.specs.Source.{Telling};
+    ghost use Rattle.wtransport_proto.specs.UpgradeSteps.{BiStepped, StepSends, bi_writing};
+
+    /// Writes on as far as the sink goes, as `FrameWriting` does; `Done` once all is sent.
+    ///
+    /// With every other answer the state is handed back: it knows what was sent, and may be polled
+    /// again, into the same sink or another.
+    pub fn poll<W: AsyncWrite>(
+        mut self,
+        sink: &mut W,
+    ) -> Stepped<Self, StreamBiLocalWT, IoWriteError>
+        ensures stepped { BiStepped result self }
+        ensures sends { Telling (W.tells sink.old) (W.tells sink.new) (StepSends bi_writing result self.writing) }
+    {
+        match self.writing.poll(sink) {
+            Polled::Ready(Ok(())) => Stepped::Done(Stream {
+                kind: self.stream.kind,
+                stage: WT {
+                    session_id: self.session_id,
+                },
+            }),
+            Polled::Ready(Err(fault)) => Stepped::Failed(self, fault),
+            Polled::Pending => Stepped::Pending(self),
+            Polled::NoMemory => Stepped::NoMemory(self),
+            Polled::Again => unreachable!(),
+        }
+    }
+}
+
+/// Makes a stream one of HTTP/3 by its header, poll by poll (own).
+#[derive(Drop)]
+pub struct UniUpgrading {
+    pub(crate) stream: StreamUniLocalQuic,
+    pub(crate) header: StreamHeader,
+    pub(crate) writing: HeaderWriting,
+}
+
+impl UniUpgrading {
+    ghost use Rattle.std.specs.Prelude.{◌≡◌};
+    ghost use Rattle.wtp_core.specs.Source.{Telling};
+    ghost use Rattle.wtransport_proto.specs.UpgradeSteps.{UniStepped, StepSends, uni_writing};
+
+    /// Writes on as far as the sink goes, as `HeaderWriting` does; `Done` once all is sent.
+    ///
+    /// With every other answer the state is handed back: it knows what was sent, and may be polled
+    /// again, into the same sink or another.
+    pub fn poll<W: AsyncWrite>(
+        mut self,
+        sink: &mut W,
+    ) -> Stepped<Self, StreamUniLocalH3, IoWriteError>
+        ensures stepped { UniStepped result self }
+        ensures sends { Telling (W.tells sink.old) (W.tells sink.new) (StepSends uni_writing result self.writing) }
+    {
+        match self.writing.poll(sink) {
+            Polled::Ready(Ok(())) => Stepped::Done(Stream {
+                kind: self.stream.kind,
+                stage: H3 {
+                    header: self.header,
+                    first_frame_done: false,
+                },
+            }),
+            Polled::Ready(Err(fault)) => Stepped::Failed(self, fault),
+            Polled::Pending => Stepped::Pending(self),
+            Polled::NoMemory => Stepped::NoMemory(self),
+            Polled::Again => unreachable!(),
+        }
+    }
+}
