@@ -13,7 +13,7 @@ use Rattle.wtransport_proto.specs.declared.stream.driving.Driven.TheVariants as 
 use Rattle.wtransport_proto.specs.Rule.{Role}
 use Rattle.wtransport_proto.specs.Run.{Run}
 use Rattle.wtransport_proto.specs.HeldRun.{run_of, size_of}
-use Rattle.wtransport_proto.specs.StreamPolling.{IsFault, EndsSo, Faults, TakesFrame, PassesUnknown, StreamPolled}
+use Rattle.wtransport_proto.specs.StreamPolling.{EndsSo, Faults, TakesFrame, PassesUnknown, StreamPolled}
 use Rattle.wtransport_proto.specs.Driving.{ChangesFirst, after, RunsOn, DriveKeeps, DriveDid, Drove}
 use Rattle.wtransport_proto.proofs.HeldRunLemmas.{leaves_run, leaves_size, unknown_run, unknown_size, frame_run, framed_size}
 

@@ -1,10 +1,10 @@
 -- One poll of a stream, from one poll of its reading.
-use Rattle.std.proofs.Common.{◌≡◌, ℕ, ◌<◌, ◌≤◌, Bool, true, false, List, [], ◌++◌, length, refl, sym, ap, ◌∙◌, arith, Option, Some, None, Result, Ok, Err, inl, inr}
+use Rattle.std.proofs.Common.{◌≡◌, ℕ, Bool, false, [], ◌++◌, refl, ap, arith, Option, Some, Result, Ok, Err, inl, inr}
 use Rattle.std.proofs.lemmas.Bool.{cases_lt, ne_eqb}
 use Rattle.wtp_core.specs.declared.error.ErrorCode.{ErrorCode}
 use Rattle.wtp_core.specs.declared.error.ErrorCode.TheVariants.{Id, ExcessiveLoad}
 use Rattle.wtp_core.specs.declared.bytes.polled.Polled.{Polled}
-use Rattle.wtp_core.specs.declared.bytes.polled.Polled.TheVariants.{Ready, Pending, Again, NoMemory}
+use Rattle.wtp_core.specs.declared.bytes.polled.Polled.TheVariants.{Ready, Again}
 use Rattle.wtp_core.specs.declared.bytes.polled.IoReadError as bytes
 use Rattle.wtp_core.specs.declared.bytes.polled.IoReadError.TheVariants as io
 use Rattle.wtp_core.specs.Source.{Source, AtEnd, AtReset, AtDisconnection, Telling}
@@ -15,8 +15,8 @@ use Rattle.wtp_wire.specs.declared.frame.ParseError.TheVariants as parse
 use Rattle.wtp_wire.specs.declared.frame.reading.IoReadError.{IoReadError}
 use Rattle.wtp_wire.specs.declared.frame.reading.IoReadError.TheVariants as reading
 use Rattle.wtp_wire.specs.Content.{Content, kind_in}
-use Rattle.wtp_wire.specs.Front.{Front, Framed, Unknown, BadId, TooBig, Short}
-use Rattle.wtp_wire.specs.Held.{Held, front_held}
+use Rattle.wtp_wire.specs.Front.{Framed, BadId, TooBig, Short}
+use Rattle.wtp_wire.specs.Held.{Held}
 use Rattle.wtp_wire.specs.FramePolling.{Decided, Stopped, FramePolled}
 use Rattle.wtransport_proto.specs.declared.stream.polled.IoReadError.TheVariants as stream
 use Rattle.wtransport_proto.specs.Rule.{Role, rule}

@@ -4,7 +4,6 @@ use Rattle.wtp_core.specs.Source.{Source}
 use Rattle.wtp_core.specs.Polled.{Asks}
 use Rattle.wtp_wire.specs.Content.{Content}
 use Rattle.wtp_wire.specs.Held.{Held}
-use Rattle.wtransport_proto.specs.declared.stream.polled.IoReadError.{IoReadError}
 use Rattle.wtransport_proto.specs.declared.stream.driving.Driven.{Driven}
 use Rattle.wtransport_proto.specs.declared.stream.driving.Driven.TheVariants as driven
 use Rattle.wtransport_proto.specs.Rule.{Role}

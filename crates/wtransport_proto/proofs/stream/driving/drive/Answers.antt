@@ -1,4 +1,4 @@
-use Rattle.std.proofs.Common.{◌≡◌, ℕ, ◌+◌, ◌<◌, List, [], ◌∷◌, ◌++◌, length, drop, refl, sym, ap, ◌∙◌, arith, append-nil}
+use Rattle.std.proofs.Common.{◌≡◌, [], ◌∷◌, ◌++◌, length, drop, refl, sym, ap, ◌∙◌, arith, append-nil}
 use Rattle.wtransport_proto.proofs.DriveLemmas.{first_same, first_on, none_yet, pushed, pushed_appends, pushed_most, told_start, told_still, told_waiting, told_frame, told_unknown}
 use Rattle.wtransport_proto.proofs.stream.driving.drive.Goals as goal
 use Rattle.wtransport_proto.proofs.stream.driving.drive.Goals.{in-Ready-Ok+in-Ok, in-Again}

@@ -1,4 +1,4 @@
-use Rattle.std.proofs.Common.{◌≡◌, ℕ, ◌++◌, ◌≤◌, length, drop}
+use Rattle.std.proofs.Common.{◌≡◌, ◌++◌, ◌≤◌, length, drop}
 use Rattle.wtp_core.specs.Source.{Telling}
 use Rattle.wtp_wire.specs.Held.{IsUnfinished}
 use Rattle.wtransport_proto.specs.Driving.{ChangesFirst, Drove}

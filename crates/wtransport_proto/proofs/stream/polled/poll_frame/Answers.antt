@@ -1,4 +1,4 @@
-use Rattle.std.proofs.Common.{◌≡◌, true, false, not, refl, Ok, Err, sym, ap, ◌∙◌}
+use Rattle.std.proofs.Common.{not, ap}
 use Rattle.wtransport_proto.proofs.StreamPollLemmas.{refused_told, bad_told, big_told, io_told, again_told}
 use Rattle.wtransport_proto.proofs.stream.polled.poll_frame.Goals as goal
 
