@@ -1,0 +1,77 @@
+//! A server's first steps over slices: a request is read and answered. README shows this code.
+use std::alloc::Global;
+use std::test::Fail;
+use wtransport_proto::bytes::BufferReader;
+use wtransport_proto::session::{SessionRequest, SessionResponse, request_of_frame};
+use wtransport_proto::stream::bilocal::StreamBiLocalQuic;
+use wtransport_proto::stream::biremote::StreamBiRemoteQuic;
+use wtransport_proto::stream::session::StreamSession;
+
+/// Answers the request in front of the bytes of a stream that the peer opened, and makes the stream
+/// that of its session; `None` where more bytes are needed.
+fn serve(
+    alloc: Global,
+    bytes: &[u8],
+    answer: &mut Vec<u8>,
+) -> Result<Option<StreamSession>, Fail> {
+    let mut stream = StreamBiRemoteQuic::accept_bi().upgrade();
+    let mut reader = BufferReader::new(bytes);
+    let Some(frame) = stream.read_frame_from_buffer(&mut reader)? else {
+        return Ok(None);
+    };
+    let request = request_of_frame(alloc, &frame)?;
+    let response = match request.path() {
+        "/chat" => SessionResponse::ok(alloc)?,
+        _ => SessionResponse::not_found(alloc)?,
+    };
+    stream.write_frame(response.headers().generate_frame(alloc)?, answer)?;
+    Ok(Some(stream.into_session(request)))
+}
+
+/// The bytes that a client sends for this URL.
+fn asked(alloc: Global, url: &str) -> Result<Vec<u8>, Fail> {
+    let request = SessionRequest::new(alloc, url)?;
+    let mut stream = StreamBiLocalQuic::open_bi().upgrade();
+    let mut bytes = Vec::new(alloc);
+    stream.write_frame(request.headers().generate_frame(alloc)?, &mut bytes)?;
+    Ok(bytes)
+}
+
+/// A client's URL, the path that the server sees, and the bytes that answer it: the name `:status`
+/// at index 24 of the static table (RFC 9204, appendix A), 200 in the Huffman code, and 404 plain,
+/// which is as short.
+const ANSWERS: [(&str, &str, &[u8]); 2] = [
+    (
+        "https://example.com/chat",
+        "/chat",
+        b"\x01\x07\x00\x00\x5f\x09\x82\x10\x01",
+    ),
+    (
+        "https://example.com/other",
+        "/other",
+        b"\x01\x08\x00\x00\x5f\x09\x03404",
+    ),
+];
+
+#[test]
+fn a_request_is_answered(rt: HostRuntime) -> Result<(), Fail> {
+    for (url, path, expected) in ANSWERS {
+        let bytes = asked(rt.alloc(), url)?;
+        let mut answer = Vec::new(rt.alloc());
+        let stream = serve(rt.alloc(), bytes.as_slice(), &mut answer)?.ok_or("a session")?;
+        assert_eq!(rt; stream.request().authority(), "example.com");
+        assert_eq!(rt; stream.request().path(), path);
+        assert_eq!(rt; answer.as_slice(), expected);
+    }
+    Ok(())
+}
+
+#[test]
+fn a_request_that_is_not_whole_is_waited_for(rt: HostRuntime) -> Result<(), Fail> {
+    let bytes = asked(rt.alloc(), "https://example.com/chat")?;
+    let (_last, front) = bytes.as_slice().split_last().ok_or("bytes")?;
+    let mut answer = Vec::new(rt.alloc());
+    assert!(rt; serve(rt.alloc(), front, &mut answer)?.is_none());
+    assert!(rt; answer.is_empty());
+    Ok(())
+}
