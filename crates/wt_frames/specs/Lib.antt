@@ -1,3 +1,5 @@
+pub mod CutSource
 pub mod Lines
 pub mod Listings
 pub mod Program
+pub mod Stepped
