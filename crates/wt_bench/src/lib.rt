@@ -8,6 +8,8 @@ ghost use Rattle.wtp_fields.specs.Huffman.{IsHuffman};
 use std::alloc::Global;
 use wtp_fields::huffman;
 
+mod frames;
+
 /// Copies bytes to the front of `out`, and answers how many, or -1 where it has too little room.
 fn put(bytes: &[u8], out: &mut [u8]) -> i64
     ensures count { length bytes.now ≤ length out.old → result ≡ pos (length bytes.now) }

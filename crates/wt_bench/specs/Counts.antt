@@ -1,0 +1,15 @@
+-- How many frames are counted.
+use Rattle.std.specs.Prelude.{ℕ, ℤ, pos, negsuc, length}
+use Rattle.wtransport_proto.specs.Run.{Run, Ending, Open, H3, ImmediateFin, Reset, NotConnected}
+
+-- so many where a run ends with no fault, in front of a frame; else -1
+abbrev pub count_at : Ending → ℕ → ℤ
+count_at (Open left) n = pos n
+count_at (H3 code) n = negsuc 0
+count_at ImmediateFin n = pos n
+count_at Reset n = negsuc 0
+count_at NotConnected n = negsuc 0
+
+-- the frames of a run
+abbrev pub count_of : Run → ℤ
+count_of r = count_at r.ending (length r.frames)
