@@ -5,6 +5,9 @@
 ghost use Rattle.std.specs.Prelude.{◌≡◌, ◌≢◌, ◌≤◌, ◌<◌, ℕ, pos, negsuc, List, length};
 ghost use Rattle.wtp_fields.specs.Huffman.{IsHuffman};
 
+mod fields;
+mod pair;
+
 use std::alloc::Global;
 use wtp_fields::huffman;
 
