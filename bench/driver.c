@@ -190,6 +190,21 @@ static size_t pairs_of(const uint8_t *at, bench_pair *pairs) {
   return count;
 }
 
+/* Whether each library that decodes takes each library's section of these pairs. */
+static void cross(const bench_pair *pairs, size_t fields, void **libraries, int count) {
+  for (int i = 0; i < count; ++i) {
+    writes_pairs encode = (writes_pairs)dlsym(libraries[i], "bench_qpack_encode");
+    int64_t len = encode ? encode(pairs, fields, out, sizeof out) : 0;
+    for (int k = 0; encode && k < count; ++k) {
+      reads decode = (reads)dlsym(libraries[k], "bench_qpack_decode");
+      if (decode && (len < 0 || decode(out, (size_t)len) != (int64_t)fields)) {
+        printf("a section that library %d wrote has not %zu fields for library %d\n", i, fields, k);
+        exit(1);
+      }
+    }
+  }
+}
+
 static void sections(const char *folder, void **libraries, int count) {
   static const char *const sets[] = {"request", "20-fields"};
   static bench_pair pairs[PAIRS];
@@ -198,6 +213,7 @@ static void sections(const char *folder, void **libraries, int count) {
     size_t len;
     snprintf(name, sizeof name, "pairs-%s.bin", sets[i]);
     size_t fields = pairs_of(load(folder, name, &len), pairs);
+    cross(pairs, fields, libraries, count);
     input section = {.wanted = (int64_t)fields}, map = {.len = fields, .wanted = -1};
     snprintf(name, sizeof name, "section-%s.bin", sets[i]);
     section.bytes = load(folder, name, &section.len);

@@ -1,4 +1,5 @@
-/* abi.h over the crate wt_bench. A Global takes no bytes, and a slice is its address and its length. */
+/* abi.h over the crate wt_bench. A Global takes no bytes, a slice is its address and its length, and a pair of slices
+   lies as bench_pair does. */
 #include "abi.h"
 
 int64_t wt_bench_list(const uint8_t *bytes, size_t len, size_t *payloads);
@@ -6,6 +7,9 @@ int64_t wt_bench_poll(const uint8_t *bytes, size_t len);
 int64_t wt_bench_drive(const uint8_t *bytes, size_t len);
 int64_t wt_bench_huffman_decode(const uint8_t *text, size_t len, uint8_t *out, size_t room);
 int64_t wt_bench_huffman_encode(const uint8_t *text, size_t len, uint8_t *out, size_t room);
+int64_t wt_bench_qpack_decode(const uint8_t *section, size_t len);
+int64_t wt_bench_qpack_encode(const bench_pair *pairs, size_t count, uint8_t *out, size_t room);
+int64_t wt_bench_settings(const uint8_t *payload, size_t len);
 
 int64_t bench_huffman_decode(const uint8_t *text, size_t len, uint8_t *out, size_t room) {
   return wt_bench_huffman_decode(text, len, out, room);
@@ -26,3 +30,11 @@ int64_t bench_list(const uint8_t *bytes, size_t len) {
 int64_t bench_poll(const uint8_t *bytes, size_t len) { return wt_bench_poll(bytes, len); }
 
 int64_t bench_drive(const uint8_t *bytes, size_t len) { return wt_bench_drive(bytes, len); }
+
+int64_t bench_qpack_decode(const uint8_t *section, size_t len) { return wt_bench_qpack_decode(section, len); }
+
+int64_t bench_qpack_encode(const bench_pair *pairs, size_t count, uint8_t *out, size_t room) {
+  return wt_bench_qpack_encode(pairs, count, out, room);
+}
+
+int64_t bench_settings(const uint8_t *payload, size_t len) { return wt_bench_settings(payload, len); }

@@ -5,10 +5,12 @@
 ghost use Rattle.std.specs.Prelude.{◌≡◌, ◌≢◌, ◌≤◌, ◌<◌, ℕ, pos, negsuc, List, length};
 ghost use Rattle.wtp_fields.specs.Huffman.{IsHuffman};
 
+mod fields;
+mod frames;
+mod pair;
+
 use std::alloc::Global;
 use wtp_fields::huffman;
-
-mod frames;
 
 /// Copies bytes to the front of `out`, and answers how many, or -1 where it has too little room.
 fn put(bytes: &[u8], out: &mut [u8]) -> i64

@@ -1,0 +1,76 @@
+//! Field sections and settings, for C.
+
+ghost use Rattle.std.specs.Prelude.{◌≡◌, ◌≢◌, ℕ, ◌<◌, ◌^◌, pos, negsuc, List, length, Ok};
+ghost use Rattle.wtp_fields.specs.Field.{Field};
+ghost use Rattle.wt_bench.specs.Fields.{given};
+ghost use Rattle.wtp_fields.specs.FieldSection.{map_at, section_of};
+ghost use Rattle.wtp_wire.specs.Settings.{settings_in};
+
+use super::pair::Pair;
+use super::put;
+use std::alloc::Global;
+use std::borrow::CowSlice;
+use wtp_fields::qpack::{Decoder, Encoder};
+use wtp_wire::frame::Frame;
+use wtp_wire::settings::Settings;
+
+/// Pairs in turn, as texts.
+#[derive(Drop)]
+struct Texts<'s, 'a> {
+    pairs: &'s [Pair<'a>],
+    at: usize,
+}
+
+impl<'s, 'a> Iterator for Texts<'s, 'a> {
+    type Item = (&'a str, &'a str);
+
+    ghost use Rattle.std.specs.Prelude.{drop};
+    ghost use Rattle.std.specs.Iterator.{YieldsFirstBy, item_count};
+    ghost use Rattle.wtp_fields.specs.Field.{lent_field};
+    ghost use Rattle.wt_bench.specs.Fields.{given};
+
+    ghost next_gives = { YieldsFirstBy lent_field (λ s. given (drop s.at s.pairs.now)) };
+
+    ghost remaining = { item_count (λ s. given (drop s.at s.pairs.now)) };
+
+    fn next(&mut self) -> Option<(&'a str, &'a str)> {
+        let pair = self.pairs.get(self.at)?;
+        self.at += 1;
+        Some(pair.texts())
+    }
+}
+
+/// Decodes a field section: the pairs of its map.
+#[unsafe(no_mangle)]
+pub extern "C" fn wt_bench_qpack_decode(alloc: Global, section: &[u8]) -> i64
+    ensures { result ≢ negsuc 0 → (m : List Field) × (map_at section.now ≡ Ok m) × (result ≡ pos (length m)) }
+{
+    match Decoder::decode(alloc, section) {
+        Ok(fields) => fields.len().cast_signed() as i64,
+        Err(_) => -1,
+    }
+}
+
+/// Encodes pairs: the bytes of their field section put into `out`.
+#[unsafe(no_mangle)]
+pub extern "C" fn wt_bench_qpack_encode(alloc: Global, pairs: &[Pair<'_>], out: &mut [u8]) -> i64
+    ensures { result ≢ negsuc 0 → result ≡ pos (length (section_of (given pairs.now))) }
+{
+    match Encoder::encode(alloc, Texts { pairs, at: 0 }) {
+        Ok(section) => put(section.as_slice(), out),
+        Err(_) => -1,
+    }
+}
+
+/// Reads the payload of a SETTINGS frame: 1 where it is taken.
+#[unsafe(no_mangle)]
+pub extern "C" fn wt_bench_settings(alloc: Global, payload: &[u8]) -> i64
+    requires { length payload.now < 2 ^ 62 }
+    ensures { result ≢ negsuc 0 → (m : List (ℕ × ℕ)) × (settings_in payload.now ≡ Ok m) }
+{
+    let frame = Frame::new_settings(CowSlice::Borrowed(payload));
+    match Settings::with_frame(alloc, &frame) {
+        Ok(_) => 1,
+        Err(_) => -1,
+    }
+}

@@ -1,0 +1,31 @@
+//! A pair of texts as C hands it over.
+
+ghost use Rattle.std.specs.Prelude.{◌≡◌, true};
+ghost use Rattle.std.specs.Str.{is_utf8};
+
+/// A name and a value as C hands them over: texts, but no texts can cross.
+#[repr(C)]
+#[derive(Clone, Copy)]
+pub struct Pair<'a> {
+    /// The name, which is UTF-8.
+    pub name: &'a [u8],
+    /// The value, which is UTF-8.
+    pub value: &'a [u8],
+    pub ghost is_name: { is_utf8 name.now ≡ true },
+    pub ghost is_value: { is_utf8 value.now ≡ true },
+}
+
+impl<'a> Pair<'a> {
+    /// The two texts, which are not tested again.
+    pub fn texts(self) -> (&'a str, &'a str)
+        ensures name { result.0.now ≡ self.entry.name.now }
+        ensures value { result.1.now ≡ self.entry.value.now }
+    {
+        unsafe {
+            (
+                str::from_utf8_unchecked(self.name),
+                str::from_utf8_unchecked(self.value),
+            )
+        }
+    }
+}
