@@ -12,6 +12,8 @@ mod ids;
 #[cfg(test)]
 mod listings;
 #[cfg(test)]
+mod pieces;
+#[cfg(test)]
 mod programs;
 #[cfg(test)]
 mod readers;
