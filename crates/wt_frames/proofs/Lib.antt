@@ -1,4 +1,5 @@
 pub mod ControlLemmas
 pub mod ListingLemmas
+pub mod RequestLemmas
 pub mod WordLemmas
 pub mod ProgramLemmas

@@ -1,3 +1,4 @@
 pub mod Lines
 pub mod Listings
+pub mod Requests
 pub mod Program

@@ -10,6 +10,7 @@ use wtransport_proto::frame::{Frame, FrameKind};
 
 pub mod frames;
 mod recorded;
+pub mod request;
 
 /// The stream that was recorded.
 #[derive(Clone, Copy, Debug, PartialEq, Eq)]
