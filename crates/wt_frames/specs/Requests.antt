@@ -9,7 +9,7 @@ use Rattle.wtransport_proto.specs.Content.{Content}
 use Rattle.wtransport_proto.specs.Field.{Field}
 use Rattle.wtransport_proto.specs.Front.{Front, Framed, Unknown, BadId, TooBig, Short, front}
 use Rattle.wtransport_proto.specs.Rule.{RemoteBi}
-use Rattle.wtransport_proto.specs.Run.{Run, Ending, Open, H3, MayGoOn, past_unknown, run}
+use Rattle.wtransport_proto.specs.Run.{Ending, Open, H3, MayGoOn, past_unknown, run}
 use Rattle.wtransport_proto.specs.SessionRequest.{request_in}
 
 -- the line of a field
