@@ -16,6 +16,8 @@ mod programs;
 #[cfg(test)]
 mod readers;
 #[cfg(test)]
+mod requests;
+#[cfg(test)]
 mod streams;
 #[cfg(test)]
 mod varints;
