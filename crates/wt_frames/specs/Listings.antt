@@ -5,7 +5,7 @@ use Rattle.wt_frames.specs.declared.listing.ListKind.{ListKind}
 use Rattle.wt_frames.specs.declared.listing.ListKind.TheVariants.{BiRemote, BiLocal, Control}
 use Rattle.wt_frames.specs.Lines.{Listed, text_of, status_of}
 use Rattle.wtransport_proto.specs.Rule.{Role, RemoteBi, LocalBi, RemoteUni}
-use Rattle.wtransport_proto.specs.Run.{Run, run, MayGoOn}
+use Rattle.wtransport_proto.specs.Run.{Run, run, MayGoOn, Ended}
 
 -- the stream whose bytes are listed
 abbrev pub role_of : ListKind → Role
@@ -16,6 +16,10 @@ role_of Control = RemoteUni
 -- the run of a recorded stream from its start: its bytes may go on
 abbrev pub recorded : ListKind → List ℕ → Run
 recorded kind input = run (role_of kind) true input MayGoOn
+
+-- the run of a stream in both directions that the peer opened, from its start to its end
+abbrev pub stepped : List ℕ → Run
+stepped input = run RemoteBi true input Ended
 
 -- the listing is that of the run
 pub record IsListing (l : Listing) (r : Run) : Type 0 where

@@ -8,9 +8,11 @@ use std::alloc::{AllocError, Global};
 use wtransport_proto::error::ErrorCode;
 use wtransport_proto::frame::{Frame, FrameKind};
 
+mod cut_source;
 pub mod frames;
 mod recorded;
 pub mod request;
+pub mod stepped;
 
 /// The stream that was recorded.
 #[derive(Clone, Copy, Debug, PartialEq, Eq)]
