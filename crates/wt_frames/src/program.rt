@@ -2,13 +2,14 @@
 ghost use Rattle.std.specs.Prelude.{◌≡◌, ◌≢◌, ◌≤◌, ◌<◌, ◌⊎◌, map, length, Err, IfOk, IfErr, IfSome, OnOk, vec_len, string_bytes};
 ghost use Rattle.std.specs.Io.KnownBytes.{Appends};
 ghost use Rattle.wt_frames.specs.Listings.{Says};
-ghost use Rattle.wt_frames.specs.Program.{fault_status, listing_of, NamesNone, ListsWords};
+ghost use Rattle.wt_frames.specs.Program.{fault_status, CanList, listing_of, NamesNone, ListsWords};
 
 mod words;
 
 use crate::listing::Listing;
 use crate::listing::frames::list_frames;
 use crate::listing::request::list_request;
+use crate::listing::stepped::list_stepped;
 use std::alloc::{AllocError, Global};
 use std::io::{Read, Write};
 pub use words::Command;
@@ -57,6 +58,8 @@ impl Fault {
 ///
 /// - `buffer bi-remote`, `buffer bi-local`, `buffer control`: the frames, by [`list_frames`];
 ///   `buffer` or no word for the first.
+/// - `stepped k`: the frames, by [`list_stepped`]; `k` is written in decimal digits alone, leading
+///   zeros among them, and from 1 to 1048576.
 /// - `request`: the fields of the request, by [`list_request`].
 ///
 /// The status is that of the listing; 1 for other words; 3 for input above 1048576 bytes, a read
@@ -109,11 +112,13 @@ fn try_run<R: Read, W: Write>(
 
 /// The listing of a command.
 fn list(alloc: Global, command: Command, input: &[u8]) -> Result<Listing, AllocError>
+    requires { CanList command }
     ensures listing { IfOk result (λ l. Says l (listing_of command input.now)) }
     ensures status { IfOk result (λ l. (l.status ≡ 0) ⊎ (l.status ≡ 2)) }
 {
     match command {
         Command::Buffer(kind) => list_frames(alloc, kind, input),
+        Command::Stepped(size) => list_stepped(alloc, size, input),
         Command::Request => list_request(alloc, input),
     }
 }
