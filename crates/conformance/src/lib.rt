@@ -18,6 +18,8 @@ mod programs;
 #[cfg(test)]
 mod readers;
 #[cfg(test)]
+mod requests;
+#[cfg(test)]
 mod server;
 #[cfg(test)]
 mod streams;

@@ -92,8 +92,15 @@ const LISTING: &str = "WEBTRANSPORT 4\nDATA 1\nEND 0\n";
 
 const FAULT: &str = "FAULT FrameUnexpectedError 261\n";
 
+/// The HEADERS frame of the request for `https://example.com/`.
+const REQUEST: [u8; 42] =
+    *b"\x01\x28\x00\x00\x50\x88\x2f\x91\xd3\x5d\x05\x5c\x87\xa7\xcf\xc1\x2f\x00\xb9\x5d\x87\x49\xc8\x7a\x3f\x89\xf0\x58\xd3\x60\xea\x45\x67\xb1\x3f\x5f\x07\x84\x9d\x29\xad\x1f";
+
+const FIELDS: &str =
+    "FIELD :authority=example.com\nFIELD :method=CONNECT\nFIELD :path=/\nFIELD :protocol=webtransport\nFIELD :scheme=https\nEND 0\n";
+
 /// Words that name a listing, input, status and text.
-const NAMED: [(&[&str], &[u8], u8, &str); 8] = [
+const NAMED: [(&[&str], &[u8], u8, &str); 11] = [
     (&[], &INPUT, 0, LISTING),
     (&["buffer"], &INPUT, 0, LISTING),
     (&["buffer", "bi-remote"], &INPUT, 0, LISTING),
@@ -107,6 +114,9 @@ const NAMED: [(&[&str], &[u8], u8, &str); 8] = [
         0,
         "SETTINGS 0\nEND 0\n",
     ),
+    (&["request"], &REQUEST, 0, FIELDS),
+    (&["request"], b"\x00\x05a", 0, "END 3\n"),
+    (&["request"], &INPUT, 2, FAULT),
 ];
 
 #[test]
@@ -117,7 +127,7 @@ fn the_words_choose_the_listing(rt: HostRuntime) -> Result<(), Fail> {
             step: 1,
             fails: false,
         };
-        let ran = run(rt.alloc(), words, &mut input, 100, 100)?;
+        let ran = run(rt.alloc(), words, &mut input, 200, 100)?;
         assert_eq!(rt; ran.status, status, "{text}");
         assert_eq!(rt; ran.output.as_slice(), text.as_bytes());
         assert!(rt; ran.errors.is_empty());
@@ -126,16 +136,28 @@ fn the_words_choose_the_listing(rt: HostRuntime) -> Result<(), Fail> {
 }
 
 /// Words that name none.
-const OTHERS: [&[&str]; 9] = [
+const OTHERS: [&[&str]; 21] = [
     &["buffer", "bi-remote", "x"],
     &["buffer", "bi-local", ""],
     &["buffer", "bi-local "],
     &["buffer", "uni"],
+    &["buffer", "request"],
     &["control"],
     &["bi-local", "buffer"],
-    &["stepped"],
-    &["request"],
+    &["request", ""],
+    &["request", "bi-remote"],
+    &["Request"],
     &[""],
+    &["stepped"],
+    &["stepped", ""],
+    &["stepped", "0"],
+    &["stepped", "000"],
+    &["stepped", "1048577"],
+    &["stepped", "18446744073709551617"],
+    &["stepped", "+1"],
+    &["stepped", "-1"],
+    &["stepped", "1 "],
+    &["stepped", "1", "1"],
 ];
 
 #[test]

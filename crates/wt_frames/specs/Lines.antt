@@ -32,3 +32,12 @@ status_of NotConnected = 3
 -- all lines of a run
 abbrev pub text_of : Run → List ℕ
 text_of r = flat_map line r.frames ++ last_line r.ending
+
+-- what a listing says: its text, and the status with which the program ends
+pub record Listed : Type 0 where
+  pub text : List ℕ
+  pub status : ℕ
+
+-- the listing of a run
+abbrev pub listed : Run → Listed
+listed r = record { text = text_of r; status = status_of r.ending }

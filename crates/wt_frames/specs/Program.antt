@@ -1,12 +1,16 @@
 -- The words of the program, its faults and statuses, and what it writes.
 use Rattle.std.specs.Prelude.{◌≡◌, ◌⊎◌, ℕ, ◌≤◌, List, [], ◌∷◌, length, Option, IfSome, codes}
 use Rattle.std.specs.Io.KnownBytes.{Appends}
+use Rattle.std.specs.Str.Parse.{IsNumeral, digits_value}
 use Rattle.wt_frames.specs.declared.listing.ListKind.{ListKind}
 use Rattle.wt_frames.specs.declared.listing.ListKind.TheVariants.{BiRemote, BiLocal, Control}
+use Rattle.wt_frames.specs.declared.program.words.Command.{Command}
+use Rattle.wt_frames.specs.declared.program.words.Command.TheVariants.{Buffer, Stepped, Request}
 use Rattle.wt_frames.specs.declared.program.Fault.{Fault}
 use Rattle.wt_frames.specs.declared.program.Fault.TheVariants.{Usage, InputTooLong, ReadFault, WriteFault, NoMemory}
-use Rattle.wt_frames.specs.Lines.{text_of, status_of}
-use Rattle.wt_frames.specs.Listings.{recorded}
+use Rattle.wt_frames.specs.Lines.{Listed, listed}
+use Rattle.wt_frames.specs.Listings.{recorded, stepped}
+use Rattle.wt_frames.specs.Requests.{request_listing}
 
 -- the status of a fault
 abbrev pub fault_status : Fault → ℕ
@@ -22,18 +26,39 @@ name_of BiRemote = codes "bi-remote"
 name_of BiLocal = codes "bi-local"
 name_of Control = codes "control"
 
--- the words name this listing; none, and "buffer" alone, name that of BiRemote
-abbrev pub Names : List (List ℕ) → ListKind → Type 0
-Names words kind = (words ≡ codes "buffer" ∷ name_of kind ∷ []) ⊎ ((kind ≡ BiRemote) × ((words ≡ []) ⊎ (words ≡ codes "buffer" ∷ [])))
+-- the word writes this number of bytes, from 1 to 1048576, in decimal digits and nothing else
+pub record WritesSize (word : List ℕ) (k : ℕ) : Type 0 where
+  pub digits : IsNumeral 10 word
+  pub value : k ≡ digits_value 10 word
+  pub some : 1 ≤ k
+  pub few : k ≤ 1048576
 
--- no listing has these words
+-- the words name this command; none, and "buffer" alone, name the listing of BiRemote
+abbrev pub Names : List (List ℕ) → Command → Type 0
+Names words (Buffer kind) = (words ≡ codes "buffer" ∷ name_of kind ∷ []) ⊎ ((kind ≡ BiRemote) × ((words ≡ []) ⊎ (words ≡ codes "buffer" ∷ [])))
+Names words (Stepped k) = (word : List ℕ) × (words ≡ codes "stepped" ∷ word ∷ []) × WritesSize word k
+Names words Request = words ≡ codes "request" ∷ []
+
+-- no command has these words
 abbrev pub NamesNone : List (List ℕ) → Type 0
-NamesNone words = (kind : ListKind) → Names words kind → ⊥
+NamesNone words = (command : Command) → Names words command → ⊥
+
+-- a stream gives at least one byte a call
+abbrev pub CanList : Command → Type 0
+CanList (Buffer kind) = Unit {0}
+CanList (Stepped k) = 1 ≤ k
+CanList Request = Unit {0}
+
+-- what the command lists of this input
+abbrev pub listing_of : Command → List ℕ → Listed
+listing_of (Buffer kind) input = listed (recorded kind input)
+listing_of (Stepped k) input = listed (stepped input)
+listing_of Request input = request_listing input
 
 -- the listing of this input was written, and its status answered, as far as input and output tell their bytes
-abbrev pub Lists : ListKind → Option (List ℕ) → Option (List ℕ) → Option (List ℕ) → ℕ → Type 0
-Lists kind input output written status = IfSome input (λ bytes. (status ≡ status_of (recorded kind bytes).ending) × (length bytes ≤ 1048576) × Appends output written (text_of (recorded kind bytes)))
+abbrev pub Lists : Command → Option (List ℕ) → Option (List ℕ) → Option (List ℕ) → ℕ → Type 0
+Lists command input output written status = IfSome input (λ bytes. (status ≡ (listing_of command bytes).status) × (length bytes ≤ 1048576) × Appends output written (listing_of command bytes).text)
 
 -- what a run of the program without a fault did
 abbrev pub ListsWords : List (List ℕ) → Option (List ℕ) → Option (List ℕ) → Option (List ℕ) → ℕ → Type 0
-ListsWords words input output written status = (kind : ListKind) × Names words kind × Lists kind input output written status
+ListsWords words input output written status = (command : Command) × Names words command × Lists command input output written status

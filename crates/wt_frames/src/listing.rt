@@ -11,6 +11,7 @@ use wtransport_proto::frame::{Frame, FrameKind};
 mod cut_source;
 pub mod frames;
 mod recorded;
+pub mod request;
 pub mod stepped;
 
 /// The stream that was recorded.

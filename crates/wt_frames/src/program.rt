@@ -1,13 +1,19 @@
 //! The program: its words, its input and output, and its statuses.
-ghost use Rattle.std.specs.Prelude.{◌≡◌, ◌≢◌, ◌≤◌, ◌<◌, ◌⊎◌, map, length, Err, IfOk, IfErr, IfSome, IfNone, OnOk, vec_len, string_bytes};
+ghost use Rattle.std.specs.Prelude.{◌≡◌, ◌≢◌, ◌≤◌, ◌<◌, ◌⊎◌, map, length, Err, IfOk, IfErr, IfSome, OnOk, vec_len, string_bytes};
 ghost use Rattle.std.specs.Io.KnownBytes.{Appends};
-ghost use Rattle.wt_frames.specs.Program.{fault_status, name_of, Names, NamesNone, ListsWords};
-ghost use Rattle.wt_frames.specs.declared.listing.ListKind.{ListKind};
+ghost use Rattle.wt_frames.specs.Listings.{Says};
+ghost use Rattle.wt_frames.specs.Program.{fault_status, CanList, listing_of, NamesNone, ListsWords};
 
-use crate::listing::ListKind;
+mod words;
+
+use crate::listing::Listing;
 use crate::listing::frames::list_frames;
-use std::alloc::Global;
+use crate::listing::request::list_request;
+use crate::listing::stepped::list_stepped;
+use std::alloc::{AllocError, Global};
 use std::io::{Read, Write};
+pub use words::Command;
+use words::named_command;
 
 /// How many bytes of input are listed at most.
 const MAX_INPUT: usize = 1_048_576;
@@ -48,11 +54,17 @@ impl Fault {
     }
 }
 
-/// Lists the input as the words say (`buffer bi-remote`, `buffer bi-local` or `buffer control`;
-/// `buffer` or none for the first), and answers the status with which the program ends: that of the
-/// listing; 1 for other words; 3 for input above 1048576 bytes, a read fault and a write fault; 4
-/// where memory is wanting. With 1, 3 and 4 `errors` gets one line, whose own fault is ignored;
-/// before the listing is whole nothing is written to `output`.
+/// Lists the input as the words say, and answers the status with which the program ends.
+///
+/// - `buffer bi-remote`, `buffer bi-local`, `buffer control`: the frames, by [`list_frames`];
+///   `buffer` or no word for the first.
+/// - `stepped k`: the frames, by [`list_stepped`]; `k` is written in decimal digits alone, leading
+///   zeros among them, and from 1 to 1048576.
+/// - `request`: the fields of the request, by [`list_request`].
+///
+/// The status is that of the listing; 1 for other words; 3 for input above 1048576 bytes, a read
+/// fault and a write fault; 4 where memory is wanting. With 1, 3 and 4 `errors` gets one line, whose
+/// own fault is ignored; before the listing is whole nothing is written to `output`.
 pub fn run_program<R: Read, W: Write, E: Write>(
     alloc: Global,
     words: &[String],
@@ -91,36 +103,23 @@ fn try_run<R: Read, W: Write>(
     ensures status { IfOk result (λ s. (s ≡ 0) ⊎ (s ≡ 2)) }
     ensures quiet { IfErr result (λ e. e ≢ Fault.WriteFault → output.new ≡ output.old) }
 {
-    let kind = list_kind(words).ok_or(Fault::Usage)?;
+    let command = named_command(words).ok_or(Fault::Usage)?;
     let bytes = read_input(alloc, input)?;
-    let listing = list_frames(alloc, kind, bytes.as_slice()).map_err(|_| Fault::NoMemory)?;
+    let listing = list(alloc, command, bytes.as_slice()).map_err(|_| Fault::NoMemory)?;
     write_output(output, listing.text.as_slice())?;
     Ok(listing.status)
 }
 
-/// The stream that the words name, where they name one.
-fn list_kind(words: &[String]) -> Option<ListKind>
-    ensures named { IfSome result (Names (map (λ w. string_bytes w) words.now)) }
-    ensures none { IfNone result (NamesNone (map (λ w. string_bytes w) words.now)) }
+/// The listing of a command.
+fn list(alloc: Global, command: Command, input: &[u8]) -> Result<Listing, AllocError>
+    requires { CanList command }
+    ensures listing { IfOk result (λ l. Says l (listing_of command input.now)) }
+    ensures status { IfOk result (λ l. (l.status ≡ 0) ⊎ (l.status ≡ 2)) }
 {
-    match words {
-        [] => Some(ListKind::BiRemote),
-        [word] if word.as_str() == "buffer" => Some(ListKind::BiRemote),
-        [word, name] if word.as_str() == "buffer" => named_kind(name.as_str()),
-        _ => None,
-    }
-}
-
-/// The stream of this name.
-fn named_kind(name: &str) -> Option<ListKind>
-    ensures named { IfSome result (λ kind. name.now ≡ name_of kind) }
-    ensures none { IfNone result ((kind : ListKind) → name.now ≢ name_of kind) }
-{
-    match name {
-        "bi-remote" => Some(ListKind::BiRemote),
-        "bi-local" => Some(ListKind::BiLocal),
-        "control" => Some(ListKind::Control),
-        _ => None,
+    match command {
+        Command::Buffer(kind) => list_frames(alloc, kind, input),
+        Command::Stepped(size) => list_stepped(alloc, size, input),
+        Command::Request => list_request(alloc, input),
     }
 }
 

@@ -33,3 +33,5 @@ pub use Rattle.wtp_wire.specs.HeaderFront
 pub use Rattle.wtp_wire.specs.HeaderWire
 pub use Rattle.wtp_wire.specs.HeaderPolling
 pub use Rattle.wtp_fields.specs.Field
+pub use Rattle.wtp_fields.specs.SessionRequest
+pub use Rattle.wtp_fields.specs.Headers
