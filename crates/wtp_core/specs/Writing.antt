@@ -1,10 +1,11 @@
 -- Writing bytes, poll by poll.
-use Rattle.std.specs.Prelude.{◌≡◌, ℕ, ◌<◌, ◌≤◌, List, ◌++◌, length, take, drop, Result, Ok, Err}
+use Rattle.std.specs.Prelude.{◌≡◌, ℕ, ◌<◌, ◌≤◌, List, length, take, drop, Result, Ok, Err}
 use Rattle.wtp_core.specs.declared.bytes.polled.Polled.{Polled}
 use Rattle.wtp_core.specs.declared.bytes.polled.Polled.TheVariants.{Ready, Pending, Again, NoMemory}
 use Rattle.wtp_core.specs.declared.bytes.polled.IoWriteError.{IoWriteError}
 use Rattle.wtp_core.specs.declared.bytes.polled.IoWriteError.TheVariants as fault
 use Rattle.wtp_core.specs.Sink.{Sink}
+use Rattle.wtp_core.specs.Drain.{Grows}
 
 -- all the bytes that are to be written, and how many of them were sent
 pub record Writing : Type 0 where
@@ -29,9 +30,9 @@ IsSent Pending new = new.sent < length new.bytes
 IsSent Again new = ⊥
 IsSent NoMemory new = new.sent < length new.bytes
 
--- the sink's list grew by the bytes from those sent before up to those sent now
+-- the sink's list grew by the bytes from those sent before up to those sent now, and no count fell
 abbrev pub Sends : Writing → Writing → Sink → Sink → Type 0
-Sends old new a b = b.taken ≡ a.taken ++ drop old.sent (take new.sent old.bytes)
+Sends old new a b = Grows (drop old.sent (take new.sent old.bytes)) a b
 
 -- what one poll did, and why it stopped: each reason only where the sink said so in this poll
 abbrev pub WritePolled : {U : Type 0} → Polled (Result U IoWriteError) → Writing → Writing → Sink → Sink → Type 0

@@ -35,14 +35,14 @@ pub both_grow : (h p : List ℕ) (i j k : ℕ) (a b c : Sink) → i ≤ length h
 both_grow h p i j k a b c le behind g q = rw (← two_ranges h p i j k le behind) (grows_then _ _ a b c g q)
 
 halts : (x : WriteHalt) (old new : Writing) (a b c : Sink) → Grows (drop old.sent (take new.sent old.bytes)) a c → a.waits ≤ b.waits → a.stops ≤ b.stops → a.losses ≤ b.losses → WriteHaltIsTrue x b c → WritePolled (write_halted x) old new a c
-halts halt.NotReady old new a b c g w s l t = (g.taken, omega arith)
-halts halt.Stopped old new a b c g w s l t = (g.taken, omega arith)
-halts halt.NotConnected old new a b c g w s l t = (g.taken, omega arith)
-halts halt.NoMemory old new a b c g w s l t = g.taken
+halts halt.NotReady old new a b c g w s l t = (g, omega arith)
+halts halt.Stopped old new a b c g w s l t = (g, omega arith)
+halts halt.NotConnected old new a b c g w s l t = (g, omega arith)
+halts halt.NoMemory old new a b c g w s l t = g
 
 pub written : (s t u : Option Sink) (h p : List ℕ) (i j k : ℕ) (old new : Writing) → i ≤ length h → (0 < j → i ≡ length h) → old ≡ record { bytes = h ++ p; sent = i + j } → new ≡ record { bytes = h ++ p; sent = length h + k }
     → Telling s t (Grows (drop i (take (length h) h))) → Telling t u (Grows (drop j (take k p))) → Telling s u (WritePolled (Ready (Ok (tt {0}))) old new)
-written s t u h p i j k old new le behind o n g q = rw (o, n) (telling_then s t u _ _ (WritePolled (Ready (Ok (tt {0}))) (record { bytes = h ++ p; sent = i + j }) (record { bytes = h ++ p; sent = length h + k })) (λ a b c x y. let r = both_grow h p i j k a b c le behind x y in r.taken) g q)
+written s t u h p i j k old new le behind o n g q = rw (o, n) (telling_then s t u _ _ (WritePolled (Ready (Ok (tt {0}))) (record { bytes = h ++ p; sent = i + j }) (record { bytes = h ++ p; sent = length h + k })) (λ a b c x y. both_grow h p i j k a b c le behind x y) g q)
 
 pub written_part : (s t u : Option Sink) (x : WriteHalt) (h p : List ℕ) (i j k : ℕ) (old new : Writing) → i ≤ length h → (0 < j → i ≡ length h) → old ≡ record { bytes = h ++ p; sent = i + j } → new ≡ record { bytes = h ++ p; sent = length h + k }
     → Telling s t (Grows (drop i (take (length h) h))) → Telling t u (λ b c. Grows (drop j (take k p)) b c × WriteHaltIsTrue x b c) → Telling s u (WritePolled (write_halted x) old new)

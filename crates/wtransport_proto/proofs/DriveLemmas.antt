@@ -56,7 +56,7 @@ after_none fs r e = rw e refl
 after_more : (fs : List Content) (f : Content) (r : Run) → after fs (after (f ∷ []) r) ≡ after (fs ++ f ∷ []) r
 after_more fs f r = ap (λ (l : List Content). record { frames = l; ending = r.ending }) (sym (append_assoc fs (f ∷ []) r.frames))
 
-asks_more : (n : ℕ) (a b c : Source) → Asks (4112 * n) a b → Asks 4112 b c → Asks (4112 * (n + 1)) a c
+pub asks_more : (n : ℕ) (a b c : Source) → Asks (4112 * n) a b → Asks 4112 b c → Asks (4112 * (n + 1)) a c
 asks_more n a b c g k = record {
   asked = let one = g.asked in let two = k.asked in omega arith;
   no_less = let one = g.no_less in let two = k.no_less in omega arith;
@@ -72,7 +72,7 @@ asks_within n m a b l g = record {
   waits = g.waits;
 }
 
-asks_last : (n polls : ℕ) (a b c : Source) → n < polls → Asks (4112 * n) a b → Asks 4112 b c → Asks (4112 * polls) a c
+pub asks_last : (n polls : ℕ) (a b c : Source) → n < polls → Asks (4112 * n) a b → Asks 4112 b c → Asks (4112 * polls) a c
 asks_last n polls a b c lt g k = asks_within (n + 1) polls a c (omega arith) (asks_more n a b c g k)
 
 pub drove_start : (role : Role) (first : Bool) (h : Held) (fs : List Content) (a : Source) → fs ≡ [] → Drove role first first h h fs 0 a a

@@ -37,7 +37,7 @@ not_read : (o : Option (List ℕ × List ℕ)) (c : Front) → skipped o ≡ c �
 not_read None c e h = subst IsRead (sym e) h
 not_read (Some x) c e h = subst IsRead (sym e) h
 
-skip_not_read : (d : ℕ) (xs : List ℕ) (c : Front) → skip_front d xs ≡ c → IsRead c → ⊥
+pub skip_not_read : (d : ℕ) (xs : List ℕ) (c : Front) → skip_front d xs ≡ c → IsRead c → ⊥
 skip_not_read d xs c e h = not_read (bytes_at d xs) c (split (bytes_at d xs) ∙ e) h
   where
     split : (o : Option (List ℕ × List ℕ)) → skipped o ≡ or_short o (λ p. Unknown p.1)

@@ -5,3 +5,5 @@ pub mod HeldRunLemmas
 pub mod StreamPollLemmas
 pub mod DriveLemmas
 pub mod AgreeLemmas
+pub mod SendLemmas
+pub mod JourneyLemmas

@@ -9,6 +9,7 @@ pub mod Driving
 pub mod StreamWriting
 pub mod UpgradeSteps
 pub mod Agreeing
+pub mod Journey
 pub use Rattle.wtp_core.specs.Varint
 pub use Rattle.wtp_core.specs.Reader
 pub use Rattle.wtp_core.specs.Cursor
@@ -18,6 +19,7 @@ pub use Rattle.wtp_core.specs.Ids
 pub use Rattle.wtp_core.specs.Source
 pub use Rattle.wtp_core.specs.Polled
 pub use Rattle.wtp_core.specs.Sink
+pub use Rattle.wtp_core.specs.Drain
 pub use Rattle.wtp_core.specs.Writing
 pub use Rattle.wtp_core.specs.ErrorCodes
 pub use Rattle.wtp_wire.specs.Kind

@@ -9,6 +9,7 @@ use Rattle.wtp_core.specs.declared.error.ErrorCode.{ErrorCode}
 use Rattle.wtp_core.specs.declared.error.ErrorCode.TheVariants.{StreamCreation, Id, Frame}
 use Rattle.wtp_core.specs.Source.{Source}
 use Rattle.wtp_core.specs.Sink.{Sink}
+use Rattle.wtp_core.specs.Drain.{Grows}
 use Rattle.wtp_core.specs.Getting.{Stops, Waits}
 use Rattle.wtp_core.specs.Writing.{Writing, GoesOn, Sends}
 use Rattle.wtp_wire.specs.HeaderFront.{Headed, Unknown, BadId, Short, header_front}
@@ -29,9 +30,9 @@ use Rattle.wtransport_proto.specs.Streams.{header_of, session_of}
 
 -- ---- upgrades that are written
 
--- what one poll did to a sink that tells, where each state that is handed back holds such a writing: the sink's list grew by the bytes from those sent before up to those sent now, and by all of them where it is done
+-- what one poll did to a sink that tells, where each state that is handed back holds such a writing: the sink's list grew by the bytes from those sent before up to those sent now, and by all of them where it is done; no count fell
 abbrev pub StepSends : {P T : Type 0} → (P → Writing) → Stepped P T IoWriteError → Writing → Sink → Sink → Type 0
-StepSends writing (Done t) old a b = b.taken ≡ a.taken ++ drop old.sent old.bytes
+StepSends writing (Done t) old a b = Grows (drop old.sent old.bytes) a b
 StepSends writing (Pending p) old a b = Sends old (writing p) a b × (a.waits < b.waits)
 StepSends writing (NoMemory p) old a b = Sends old (writing p) a b
 StepSends writing (Failed p write.Stopped) old a b = Sends old (writing p) a b × (a.stops < b.stops)

@@ -1,15 +1,19 @@
 //! Laws of the definitions that contracts of this crate cite. Each function does nothing: its
 //! contract is the law.
-ghost use Rattle.std.specs.Prelude.{◌≡◌, ◌≢◌, ◌<◌, ◌≤◌, ◌++◌, ℕ, List, Bool, false, Some, None, length, drop};
+ghost use Rattle.std.specs.Prelude.{◌≡◌, ◌≢◌, ◌<◌, ◌≤◌, ◌++◌, ℕ, List, Bool, false, Some, None, Ok, length, drop};
 ghost use Rattle.wtp_core.specs.declared.error.ErrorCode.{ErrorCode};
 ghost use Rattle.wtp_core.specs.declared.error.ErrorCode.TheVariants.{Id, ExcessiveLoad};
-ghost use Rattle.wtp_wire.specs.Content.{Content, kind_in};
+ghost use Rattle.wtp_fields.specs.Field.{Field, IsMap, AreTexts};
+ghost use Rattle.wtp_fields.specs.FieldSection.{map_at};
+ghost use Rattle.wtp_fields.specs.Headers.{payload};
+ghost use Rattle.wtp_wire.specs.Content.{Content, HeadersOf, kind_in};
 ghost use Rattle.wtp_wire.specs.Front.{Framed, Unknown, BadId, TooBig, Short, front};
 ghost use Rattle.wtp_wire.specs.Held.{Held};
+ghost use Rattle.wtp_wire.specs.Wire.{wire};
 ghost use Rattle.wtp_wire.specs.declared.frame.FrameKind.{FrameKind};
 ghost use Rattle.wtransport_proto.specs.Agreeing.{Agrees};
 ghost use Rattle.wtransport_proto.specs.HeldRun.{run_held, stop_of, count_held};
-ghost use Rattle.wtransport_proto.specs.Rule.{Role, RemoteBi, rule};
+ghost use Rattle.wtransport_proto.specs.Rule.{Role, RemoteBi, RemoteUni, rule};
 ghost use Rattle.wtransport_proto.specs.Run.{Tail, MayGoOn, H3, past_unknown, run, ends, follows, stop, counted};
 
 /// The run goes by the case of the bytes, but for unknown frames.
@@ -54,4 +58,12 @@ pub fn run_held_by_bytes()
 /// since the bytes are too few.
 pub fn buffered_and_polled_agree()
     ensures { (role : Role) (first : Bool) (bytes : List ℕ) (tail : Tail) → tail ≢ MayGoOn → Agrees tail bytes (run role first bytes MayGoOn) (run role first bytes tail) }
+{}
+
+/// A header map that is sent whole is read back as the same map: on each stream that goes in both
+/// directions, the run of the bytes of its frame, and any bytes behind them, begins with that frame,
+/// and the map of the frame's section is the map.
+pub fn header_run()
+    ensures sent { (role : Role) (first : Bool) (m : List Field) (rest : List ℕ) (tail : Tail) → role ≢ RemoteUni → length (payload m) ≤ 4096 → run role first (wire (HeadersOf (payload m)) ++ rest) tail ≡ follows (HeadersOf (payload m)) (run role false rest tail) }
+    ensures again { (m : List Field) → IsMap m → AreTexts m → map_at (payload m) ≡ Ok m }
 {}

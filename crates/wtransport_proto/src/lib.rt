@@ -8,6 +8,7 @@ pub use wtp_core::{bytes, error, ids, varint};
 pub use wtp_fields::{headers, huffman, qpack, session};
 pub use wtp_wire::{capsule, datagram, frame, settings, stream_header};
 
+pub mod journey;
 pub mod laws;
 pub mod stream;
 

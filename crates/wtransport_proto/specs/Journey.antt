@@ -1,0 +1,153 @@
+-- A header map's way over a stream: sent whole by one end, and read back by the other.
+use Rattle.std.specs.Prelude.{◌≡◌, ◌≢◌, ℕ, ◌+◌, ◌<◌, ◌≤◌, Bool, false, List, [], ◌++◌, length, take, None, Result, Ok, Err}
+use Rattle.wtp_core.specs.declared.bytes.polled.IoWriteError.TheVariants as fault
+use Rattle.wtp_core.specs.declared.error.Refused.TheVariants as refused
+use Rattle.wtp_core.specs.Source.{Source}
+use Rattle.wtp_core.specs.Sink.{Sink}
+use Rattle.wtp_core.specs.Drain.{Grows}
+use Rattle.wtp_wire.specs.declared.frame.FrameKind.TheVariants.{Headers}
+use Rattle.wtp_wire.specs.Content.{Content, HeadersOf, kind_in}
+use Rattle.wtp_wire.specs.Front.{Front, Framed, Unknown, BadId, TooBig, Short, front}
+use Rattle.wtp_wire.specs.Held.{Held, front_held}
+use Rattle.wtp_wire.specs.Wire.{wire}
+use Rattle.wtp_fields.specs.Field.{Field}
+use Rattle.wtp_fields.specs.Headers.{payload, headers_at}
+use Rattle.wtransport_proto.specs.declared.stream.polled.IoReadError.{IoReadError}
+use Rattle.wtransport_proto.specs.declared.journey.SendError.{SendError}
+use Rattle.wtransport_proto.specs.declared.journey.SendError.TheVariants as send
+use Rattle.wtransport_proto.specs.declared.journey.ReceiveError.{ReceiveError}
+use Rattle.wtransport_proto.specs.declared.journey.ReceiveError.TheVariants as receive
+use Rattle.wtransport_proto.specs.declared.journey.JourneyError.{JourneyError}
+use Rattle.wtransport_proto.specs.declared.journey.JourneyError.TheVariants as journey
+use Rattle.wtransport_proto.specs.Rule.{Role, RemoteUni, rule}
+use Rattle.wtransport_proto.specs.Run.{past_unknown, run}
+use Rattle.wtransport_proto.specs.HeldRun.{tail_of, run_of, size_of}
+use Rattle.wtransport_proto.specs.StreamPolling.{EndsSo, IsDry}
+use Rattle.wtransport_proto.specs.Reading.{FirstAfter}
+
+-- In all of these, a and b are what the sink or the source tells before and after the call.
+
+-- ---- sending
+
+-- why sending was given up after at most so many turns: the sink said so
+abbrev pub GaveUp : SendError → ℕ → Sink → Sink → Type 0
+GaveUp send.Waiting turns a b = a.waits + turns ≤ b.waits
+GaveUp (send.IO fault.Stopped) turns a b = a.stops < b.stops
+GaveUp (send.IO fault.NotConnected) turns a b = a.losses < b.losses
+GaveUp send.Memory turns a b = Unit {0}
+
+-- the sink took a front of these bytes, and not all
+pub record TookPart (whole : List ℕ) (a b : Sink) : Type 0 where
+  pub sent : ℕ
+  pub part : sent < length whole
+  pub grows : Grows (take sent whole) a b
+
+abbrev pub SendDid : {U : Type 0} → List ℕ → ℕ → Result U SendError → Sink → Sink → Type 0
+SendDid whole turns (Ok _) a b = Grows whole a b
+SendDid whole turns (Err e) a b = TookPart whole a b × GaveUp e turns a b
+
+-- ---- receiving
+
+-- In these, first and next say whether the next frame would be the first of its stream.
+
+-- the front behind an unknown frame is that of the bytes behind all of them
+abbrev pub past_front : Front → Front
+past_front (Framed f rest) = Framed f rest
+past_front (Unknown rest) = front (past_unknown rest)
+past_front (BadId rest) = BadId rest
+past_front (TooBig rest) = TooBig rest
+past_front Short = Short
+
+-- No frame came, and this is held of one. Nothing was lost but unknown frames.
+pub record Kept (role : Role) (first next : Bool) (held : Held) (a b : Source) : Type 0 where
+  pub run : run role first a.ahead (tail_of a.ending) ≡ run_of role next held b
+  pub known : past_front (front_held held b.ahead) ≡ front (past_unknown a.ahead)
+  pub flag : next ≡ first
+
+-- Each of so many turns waited or took some of an unknown frame; where a frame stands in front, it still does, and each waited.
+pub record Turned (role : Role) (first next : Bool) (turns : ℕ) (held : Held) (a b : Source) : Type 0 where
+  pub kept : Kept role first next held a b
+  pub moved : size_of held b + a.waits + turns ≤ length a.ahead + b.waits
+  pub waited : (f : Content) (rest : List ℕ) → front a.ahead ≡ Framed f rest → (front_held held b.ahead ≡ Framed f rest) × (a.waits + turns ≤ b.waits)
+
+-- This frame stands behind the unknown frames in front, the stream allows it, and it was taken, and no byte behind it.
+pub record Takes (role : Role) (first next : Bool) (f : Content) (a b : Source) : Type 0 where
+  pub known : front (past_unknown a.ahead) ≡ Framed f b.ahead
+  pub allowed : rule role first (kind_in f) ≡ None
+  pub flag : next ≡ false
+
+-- what decided is taken whole, and no byte behind it; where the bytes are too few, nothing is ahead
+abbrev pub Behind : Front → List ℕ → Type 0
+Behind (Framed f rest) left = left ≡ rest
+Behind (Unknown rest) left = ⊥
+Behind (BadId rest) left = left ≡ rest
+Behind (TooBig rest) left = left ≡ rest
+Behind Short left = left ≡ []
+
+-- the stream gives no frame more, and ends with this fault
+pub record Breaks (role : Role) (first next : Bool) (x : IoReadError) (a b : Source) : Type 0 where
+  pub ends : EndsSo (run role first a.ahead (tail_of a.ending)) [] x
+  pub flag : FirstAfter role first (front (past_unknown a.ahead)) next
+  pub place : Behind (front (past_unknown a.ahead)) b.ahead
+  pub dry : IsDry x b
+
+-- what reading a frame did
+abbrev pub FrameDid : Role → Bool → Bool → ℕ → Result Content ReceiveError → Source → Source → Type 0
+FrameDid role first next turns (Ok f) a b = Takes role first next f a b
+FrameDid role first next turns (Err receive.Waiting) a b = (held : Held) × Turned role first next turns held a b
+FrameDid role first next turns (Err (receive.Stream x)) a b = Breaks role first next x a b
+FrameDid role first next turns (Err (receive.OtherKind kind)) a b = ⊥
+FrameDid role first next turns (Err (receive.Section e)) a b = ⊥
+FrameDid role first next turns (Err receive.Memory) a b = (held : Held) × Kept role first next held a b
+
+-- what reading the map of a frame did
+abbrev pub MapDid : Role → Bool → Bool → ℕ → Result (List Field) ReceiveError → Source → Source → Type 0
+MapDid role first next turns (Ok m) a b = (p : List ℕ) × Takes role first next (HeadersOf p) a b × (headers_at p ≡ Ok m)
+MapDid role first next turns (Err receive.Waiting) a b = FrameDid role first next turns (Err receive.Waiting) a b
+MapDid role first next turns (Err (receive.Stream x)) a b = FrameDid role first next turns (Err (receive.Stream x)) a b
+MapDid role first next turns (Err (receive.OtherKind kind)) a b = (f : Content) × Takes role first next f a b × (kind_in f ≡ kind) × (kind ≢ Headers)
+MapDid role first next turns (Err (receive.Section e)) a b = (p : List ℕ) × Takes role first next (HeadersOf p) a b × (e ≢ refused.Memory → headers_at p ≡ Err e)
+MapDid role first next turns (Err receive.Memory) a b = FrameDid role first next turns (Err receive.Memory) a b
+
+-- m came back, and rest is ahead; or each turn waited, or memory was wanting
+abbrev pub CameBack : List Field → List ℕ → ℕ → Result (List Field) ReceiveError → Source → Source → Type 0
+CameBack m rest turns (Ok n) a b = (n ≡ m) × (b.ahead ≡ rest)
+CameBack m rest turns (Err receive.Waiting) a b = a.waits + turns ≤ b.waits
+CameBack m rest turns (Err (receive.Stream x)) a b = ⊥
+CameBack m rest turns (Err (receive.OtherKind kind)) a b = ⊥
+CameBack m rest turns (Err (receive.Section (refused.Code c))) a b = ⊥
+CameBack m rest turns (Err (receive.Section refused.Memory)) a b = Unit {0}
+CameBack m rest turns (Err receive.Memory) a b = Unit {0}
+
+-- Where the frame of the map m stands in front of the source, whatever follows and however it is cut or delayed, and its payload may be read, m comes back.
+abbrev pub ReadsBack : Role → List Field → ℕ → Result (List Field) ReceiveError → Source → Source → Type 0
+ReadsBack role m turns result a b = (rest : List ℕ) → role ≢ RemoteUni → length (payload m) ≤ 4096 → a.ahead ≡ wire (HeadersOf (payload m)) ++ rest → CameBack m rest turns result a b
+
+-- ---- both
+
+-- Reading began only where all was sent.
+abbrev pub Sent : List ℕ → ℕ → Result (List Field) JourneyError → Sink → Sink → Type 0
+Sent whole turns (Ok m) a b = Grows whole a b
+Sent whole turns (Err (journey.Frame e)) a b = b ≡ a
+Sent whole turns (Err (journey.Send e)) a b = TookPart whole a b × GaveUp e turns a b
+Sent whole turns (Err (journey.Receive e)) a b = Grows whole a b
+
+abbrev pub Received : Role → Bool → Bool → ℕ → Result (List Field) JourneyError → Source → Source → Type 0
+Received role first next turns (Ok m) a b = MapDid role first next turns (Ok m) a b
+Received role first next turns (Err (journey.Frame e)) a b = b ≡ a
+Received role first next turns (Err (journey.Send e)) a b = b ≡ a
+Received role first next turns (Err (journey.Receive e)) a b = MapDid role first next turns (Err e) a b
+
+-- what holds where reading did not begin
+abbrev pub UnlessRead : Result (List Field) JourneyError → Type 0 → Type 0
+UnlessRead (Ok m) P = Unit {0}
+UnlessRead (Err (journey.Frame e)) P = P
+UnlessRead (Err (journey.Send e)) P = P
+UnlessRead (Err (journey.Receive e)) P = Unit {0}
+
+-- the map that was sent is the one that comes back
+abbrev pub SentBack : Role → List Field → ℕ → Result (List Field) JourneyError → Source → Source → Type 0
+SentBack role m turns (Ok n) a b = ReadsBack role m turns (Ok n) a b
+SentBack role m turns (Err (journey.Frame e)) a b = b ≡ a
+SentBack role m turns (Err (journey.Send e)) a b = b ≡ a
+SentBack role m turns (Err (journey.Receive e)) a b = ReadsBack role m turns (Err e) a b

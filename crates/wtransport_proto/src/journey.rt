@@ -1,0 +1,175 @@
+//! A header map's way over a stream: sent whole by one end, and read back by the other.
+//!
+//! Polls are repeated a bounded number of times here, as a caller with nothing else to do would.
+ghost use Rattle.std.specs.Prelude.{◌≡◌, ◌≤◌, ◌*◌, ◌^◌, List, length, Err};
+ghost use Rattle.wtp_core.specs.Source.{Telling};
+ghost use Rattle.wtp_core.specs.Polled.{Asks};
+ghost use Rattle.wtp_wire.specs.Content.{HeadersOf};
+ghost use Rattle.wtp_wire.specs.Wire.{wire};
+ghost use Rattle.wtp_fields.specs.Field.{Field, IsMap, AreTexts};
+ghost use Rattle.wtp_fields.specs.Headers.{payload};
+ghost use Rattle.wtransport_proto.specs.Driving.{ChangesFirst};
+ghost use Rattle.wtransport_proto.specs.Journey.{SendDid, FrameDid, MapDid, ReadsBack, Sent, Received, UnlessRead, SentBack};
+
+use crate::stream::{IoReadError, IoWriteError, ReadsFrames};
+use std::alloc::Global;
+use wtp_core::bytes::{AsyncRead, AsyncWrite, Polled};
+use wtp_core::error::Refused;
+use wtp_fields::headers::Headers;
+use wtp_wire::frame::{Frame, FrameKind, FrameOwned, FrameReading, GenerateError};
+
+/// Why a frame was not sent whole (own).
+#[derive(Debug, Drop, PartialEq, Eq, thiserror::Error)]
+pub enum SendError {
+    /// The sink was not ready in any turn.
+    #[error("the sink is not ready")]
+    Waiting,
+    /// The sink takes no more.
+    #[error("{0}")]
+    IO(IoWriteError),
+    /// No memory.
+    #[error("no memory")]
+    Memory,
+}
+
+/// Why no header map was read (own).
+#[derive(Debug, Drop, PartialEq, Eq, thiserror::Error)]
+pub enum ReceiveError {
+    /// No frame came in any turn: the source was not ready, or gave a part of an unknown frame.
+    #[error("the source is not ready")]
+    Waiting,
+    /// The stream gives no frame.
+    #[error("{0}")]
+    Stream(IoReadError),
+    /// The frame's kind is not HEADERS.
+    #[error("no HEADERS frame")]
+    OtherKind(FrameKind),
+    /// The frame's payload is no map, or no memory was to be had for the map.
+    #[error("{0}")]
+    Section(Refused),
+    /// No memory was to be had for the frame.
+    #[error("no memory")]
+    Memory,
+}
+
+/// Where a header map's way ended (own).
+#[derive(Debug, Drop, PartialEq, Eq, thiserror::Error)]
+pub enum JourneyError {
+    /// No frame was made of the map.
+    #[error("{0}")]
+    Frame(GenerateError),
+    /// The frame was not sent whole.
+    #[error("{0}")]
+    Send(SendError),
+    /// No map was read.
+    #[error("{0}")]
+    Receive(ReceiveError),
+}
+
+/// Sends a frame whole, in at most so many polls (own).
+///
+/// With an error a part of it was sent, and the rest cannot be sent any more. `Waiting` comes where
+/// the sink was not ready in each turn.
+pub fn send<W: AsyncWrite>(frame: &Frame<'_>, sink: &mut W, turns: u32) -> Result<(), SendError>
+    ensures { Telling (W.tells sink.old) (W.tells sink.new) (SendDid (wire frame.now) turns result) }
+{
+    let mut writing = frame.write_async();
+    for _turn in 0..turns {
+        match writing.poll(sink) {
+            Polled::Ready(Ok(())) => return Ok(()),
+            Polled::Ready(Err(fault)) => return Err(SendError::IO(fault)),
+            Polled::Pending => {}
+            Polled::NoMemory => return Err(SendError::Memory),
+            Polled::Again => unreachable!(),
+        }
+    }
+    Err(SendError::Waiting)
+}
+
+/// Reads the next frame, in at most so many polls.
+fn next_frame<K: ReadsFrames, S: AsyncRead>(
+    alloc: Global,
+    stream: &mut K,
+    source: &mut S,
+    turns: u32,
+) -> Result<FrameOwned, ReceiveError>
+    requires { K.can stream.old }
+    ensures can { K.can stream.new }
+    ensures changes { ChangesFirst K.first stream.old stream.new }
+    ensures read { Telling (S.tells source.old) (S.tells source.new) (FrameDid K.role (K.first stream.old) (K.first stream.new) turns result) }
+    ensures asks { Telling (S.tells source.old) (S.tells source.new) (Asks (4112 * turns)) }
+{
+    let mut reading = FrameReading::new(alloc);
+    for _turn in 0..turns {
+        match stream.read_frame_async(&mut reading, source) {
+            Polled::Ready(Ok(frame)) => return Ok(frame),
+            Polled::Ready(Err(fault)) => return Err(ReceiveError::Stream(fault)),
+            Polled::Pending | Polled::Again => {}
+            Polled::NoMemory => return Err(ReceiveError::Memory),
+        }
+    }
+    Err(ReceiveError::Waiting)
+}
+
+/// Reads the map of the next frame, in at most so many polls (own). Unknown frames are passed over.
+///
+/// The source then stands right behind the frame. What came of a frame that is not all there after
+/// the last turn is lost. Frames may be read, as `can_read` tells.
+///
+/// Where the frame of a map stands in front, with a payload of at most 4096 bytes, and the stream
+/// allows HEADERS frames, that map is read, or each turn waited, or memory was wanting.
+pub fn receive<K: ReadsFrames, S: AsyncRead>(
+    alloc: Global,
+    stream: &mut K,
+    source: &mut S,
+    turns: u32,
+) -> Result<Headers, ReceiveError>
+    requires { K.can stream.old }
+    ensures can { K.can stream.new }
+    ensures changes { ChangesFirst K.first stream.old stream.new }
+    ensures read { Telling (S.tells source.old) (S.tells source.new) (MapDid K.role (K.first stream.old) (K.first stream.new) turns result) }
+    ensures back { (m : List Field) → IsMap m → AreTexts m → Telling (S.tells source.old) (S.tells source.new) (ReadsBack K.role m turns result) }
+    ensures asks { Telling (S.tells source.old) (S.tells source.new) (Asks (4112 * turns)) }
+{
+    let frame = next_frame(alloc, stream, source, turns)?;
+    match frame.kind() {
+        FrameKind::Headers => match Headers::with_frame(alloc, &frame) {
+            Ok(headers) => Ok(headers),
+            Err(refused) => Err(ReceiveError::Section(refused)),
+        },
+        kind => Err(ReceiveError::OtherKind(kind)),
+    }
+}
+
+/// Sends a header map whole, and then reads one from a stream; each in at most so many polls (own).
+///
+/// Where the map's frame stands in front of the source, with a payload of at most 4096 bytes, and
+/// the stream allows HEADERS frames, the map that is read is the one that was sent, and what stood
+/// behind the frame is ahead. No fault of reading can come then. Frames may be read, as `can_read`
+/// tells.
+pub fn send_and_receive<W: AsyncWrite, K: ReadsFrames, S: AsyncRead>(
+    alloc: Global,
+    headers: &Headers,
+    sink: &mut W,
+    stream: &mut K,
+    source: &mut S,
+    turns: u32,
+) -> Result<Headers, JourneyError>
+    requires { K.can stream.old }
+    ensures back { Telling (S.tells source.old) (S.tells source.new) (SentBack K.role headers.now turns result) }
+    ensures sent { Telling (W.tells sink.old) (W.tells sink.new) (Sent (wire (HeadersOf (payload headers.now))) turns result) }
+    ensures received { Telling (S.tells source.old) (S.tells source.new) (Received K.role (K.first stream.old) (K.first stream.new) turns result) }
+    ensures asks { Telling (S.tells source.old) (S.tells source.new) (Asks (4112 * turns)) }
+    ensures unread { UnlessRead result ((stream.new ≡ stream.old) × (source.new ≡ source.old)) }
+    ensures too_long { result ≡ Err (JourneyError.Frame GenerateError.PayloadTooLong) → 2 ^ 62 ≤ length (payload headers.now) }
+    ensures can { K.can stream.new }
+    ensures changes { ChangesFirst K.first stream.old stream.new }
+{
+    let _fields = headers.as_ref();
+    let frame = headers.generate_frame(alloc).map_err(JourneyError::Frame)?;
+    send(&frame, sink, turns).map_err(JourneyError::Send)?;
+    match receive(alloc, stream, source, turns) {
+        Ok(headers) => Ok(headers),
+        Err(error) => Err(JourneyError::Receive(error)),
+    }
+}
