@@ -1,5 +1,5 @@
 -- The names of the static table, and the scan for the first entry.
-use Rattle.std.proofs.Common.{◌≡◌, ℕ, suc, ◌<◌, ◌≤◌, ◌==◌, inl, inr, Bool, true, false, ◌&&◌, List, [], ◌∷◌, map, length, get_or, refl, sym, ◌∙◌, ap, arith, subst, Option, Some, None, Contains, HoldsAt, IfSome, IfNone}
+use Rattle.std.proofs.Common.{◌≡◌, ℕ, zero, suc, cond, filter, eq-eqb, ◌<◌, ◌≤◌, ◌==◌, inl, inr, Bool, true, false, ◌&&◌, List, [], ◌∷◌, map, length, get_or, refl, sym, ◌∙◌, ap, arith, subst, Option, Some, None, Contains, HoldsAt, IfSome, IfNone}
 use Rattle.std.specs.Str.{bytes_eq}
 use Rattle.std.specs.List.{list_all, list_any, AllByRecursion}
 use Rattle.std.proofs.lemmas.List.Sums.{AllPass-from_list_all}
@@ -11,6 +11,8 @@ use Rattle.std.specs.List.Sorted.{IsNonDecreasingBy, IsPartitionPoint, IsStrictl
 use Rattle.std.specs.declared.cmp.Ordering.{Ordering}
 use Rattle.std.specs.declared.cmp.Ordering.TheVariants.{Less, Equal, Greater}
 use Rattle.std.proofs.lemmas.Bool.{and_parts, or_cases, cases_lt, cases_eq, eqb-true}
+use Rattle.std.proofs.lemmas.Bool.Decides.{eqb_tells}
+use Rattle.std.proofs.lemmas.List.Kept.{IsStrictlySortedBy-filter}
 use Rattle.std.proofs.lemmas.Cmp.{nat_list_cmp_total, tied_itself}
 use Rattle.std.proofs.lemmas.Map.Lookups.{exact_bytes}
 use Rattle.std.proofs.lemmas.Slice.Eq.{bytes_eq-Decides}
@@ -18,10 +20,11 @@ use Rattle.std.proofs.lemmas.List.{length-map, get_or_default, get_or-map as get
 use Rattle.std.proofs.Math.ListN.{get_or-map}
 use Rattle.std.proofs.lemmas.Map.Keys.{Less-from_sorted}
 use Rattle.std.proofs.lemmas.List.Quantifiers.{position-Some}
+use Rattle.std.specs.List.{slice_get}
 use Rattle.std.proofs.lemmas.Option.{slice_get-get_or, slice_get_past}
 use Rattle.wtp_fields.specs.Field.{Field}
 use Rattle.wtp_fields.specs.StaticTable.{static_table, entry_at, first_entry}
-use Rattle.wtp_fields.specs.StaticNames.{Numbered, lent_name, numbered, AreOrdered, static_names}
+use Rattle.wtp_fields.specs.StaticNames.{Numbered, lent_name, numbered, AreOrdered, static_names, static_names_of, begins_with}
 
 -- ---- a binary search among ordered names
 
@@ -172,6 +175,102 @@ first_by_name name None found absent = by_cases (first_entry name) refl
         let entry : Field = get_or static_table j ([], []) in
         let one = listed entry (AllPass-from_list_all is_listed static_table entries_listed j ([], []) there.0) in
         absurd (absent names_ordered one.0 (subst (λ z. Contains static_names (z, one.0)) (same_bytes entry.0 name there.1) one.1))
+
+-- ---- the names that begin with a byte
+
+none_pass : {X : Type 0} (p : X → Bool) (xs : List X) → AllByRecursion (λ x. p x ≡ false) xs → filter p xs ≡ []
+none_pass p [] h = refl
+none_pass p (x ∷ xs) h = ap (λ b. cond b (x ∷ filter p xs) (filter p xs)) h.0 ∙ none_pass p xs h.1
+
+-- no name begins with another byte than these
+pub no_names : (b : ℕ) → (b ≡ 58 → ⊥) → (b ≡ 97 → ⊥) → (b ≡ 99 → ⊥) → (b ≡ 100 → ⊥) → (b ≡ 101 → ⊥) → (b ≡ 102 → ⊥) → (b ≡ 105 → ⊥) → (b ≡ 108 → ⊥) → (b ≡ 111 → ⊥) → (b ≡ 112 → ⊥) → (b ≡ 114 → ⊥) → (b ≡ 115 → ⊥) → (b ≡ 116 → ⊥) → (b ≡ 117 → ⊥) → (b ≡ 118 → ⊥) → (b ≡ 120 → ⊥)
+    → static_names_of b ≡ []
+unfolding static_names_of static_names
+no_names b h58 h97 h99 h100 h101 h102 h105 h108 h111 h112 h114 h115 h116 h117 h118 h120 =
+    let n58 = other 58 h58 in
+    let n97 = other 97 h97 in
+    let n99 = other 99 h99 in
+    let n100 = other 100 h100 in
+    let n101 = other 101 h101 in
+    let n102 = other 102 h102 in
+    let n105 = other 105 h105 in
+    let n108 = other 108 h108 in
+    let n111 = other 111 h111 in
+    let n112 = other 112 h112 in
+    let n114 = other 114 h114 in
+    let n115 = other 115 h115 in
+    let n116 = other 116 h116 in
+    let n117 = other 117 h117 in
+    let n118 = other 118 h118 in
+    let n120 = other 120 h120 in
+    none_pass (λ (e : Numbered). begins_with b e.0) static_names
+    (n58, (n58, (n58, (n58, (n58, (n97, (n97, (n97, (n97, (n97, (n97, (n97, (n97, (n97, (n97, (n97, (n97, (n97, (n97, (n99, (n99, (n99, (n99, (n99, (n99, (n99, (n100, (n101, (n101, (n101, (n102, (n105, (n105, (n105, (n108, (n108, (n108, (n111, (n112, (n114, (n114, (n115, (n115, (n115, (n116, (n117, (n117, (n118, (n120, (n120, (n120, (n120, tt))))))))))))))))))))))))))))))))))))))))))))))))))))
+  where
+    other : (k : ℕ) → (b ≡ k → ⊥) → (k == b) ≡ false
+    other k h = elim (eqb_tells k b) [ inl same ↦ absurd (h (sym same.1)) | inr different ↦ different.0 ]
+
+behind : {X : Type 0} (x : X) (xs : List X) (y : X) → Contains xs y → Contains (x ∷ xs) y
+behind x xs y (k, within, e) = (suc k, omega (arith, within), e)
+
+filtered_in : {X : Type 0} (p : X → Bool) (xs : List X) (y : X) → Contains (filter p xs) y → Contains xs y
+filtered_in p [] y there = there
+filtered_in {X} p (x ∷ xs) y there = by_cases (λ there. behind x xs y (filtered_in p xs y there)) (p x) there
+  where
+    by_cases : (Contains (filter p xs) y → Contains (x ∷ xs) y) → (b : Bool) → Contains (cond b (x ∷ filter p xs) (filter p xs)) y → Contains (x ∷ xs) y
+    by_cases more true (zero, within, e) = (zero, omega arith, e)
+    by_cases more true (suc k, within, e) = more (k, omega (arith, within), e)
+    by_cases more false there = more there
+
+in_filtered : {X : Type 0} (p : X → Bool) (xs : List X) (y : X) → Contains xs y → p y ≡ true → Contains (filter p xs) y
+in_filtered p [] y there passes = there
+in_filtered p (x ∷ xs) y (zero, within, e) passes =
+    let first : p x ≡ true = ap p e ∙ passes in
+    rw first (zero, omega arith, e)
+in_filtered {X} p (x ∷ xs) y (suc k, within, e) passes = by_cases (in_filtered p xs y (k, omega (arith, within), e) passes) (p x)
+  where
+    by_cases : Contains (filter p xs) y → (b : Bool) → Contains (cond b (x ∷ filter p xs) (filter p xs)) y
+    by_cases more true = behind x (filter p xs) y more
+    by_cases more false = more
+
+names_filtered : (first : ℕ) (names : List Numbered)
+    → map (λ (e : Numbered). e.0) (filter (λ (e : Numbered). begins_with first e.0) names) ≡ filter (begins_with first) (map (λ (e : Numbered). e.0) names)
+names_filtered first [] = refl
+names_filtered first (e ∷ es) = by_cases (names_filtered first es) (begins_with first e.0)
+  where
+    chosen : List Numbered
+    chosen = filter (λ (e : Numbered). begins_with first e.0) es
+
+    by_cases : map (λ (e : Numbered). e.0) chosen ≡ filter (begins_with first) (map (λ (e : Numbered). e.0) es)
+        → (b : Bool) → map (λ (e : Numbered). e.0) (cond b (e ∷ chosen) chosen) ≡ cond b (e.0 ∷ filter (begins_with first) (map (λ (e : Numbered). e.0) es)) (filter (begins_with first) (map (λ (e : Numbered). e.0) es))
+    by_cases more true = ap (λ z. e.0 ∷ z) more
+    by_cases more false = more
+
+part_ordered : (first : ℕ) → AreOrdered (static_names_of first)
+unfolding static_names_of
+part_ordered first = rw (names_filtered first static_names) (IsStrictlySortedBy-filter (slice_cmp nat_cmp) (begins_with first) (map (λ (e : Numbered). e.0) static_names) names_ordered)
+
+begins : (name : List ℕ) (first : ℕ) → Some first ≡ slice_get name 0 → begins_with first name ≡ true
+begins [] first is = cc
+begins (b ∷ bs) first is =
+    let same : first ≡ b = cc is in
+    rw same (eq-eqb b b refl)
+
+-- what is found among the names that begin with a name's first byte is the name's first entry
+pub first_by_start : (name : List ℕ) (first : ℕ) (o : Option ℕ) → Some first ≡ slice_get name 0
+    → IfSome o (λ k. Contains (static_names_of first) (name, k))
+    → (AreOrdered (static_names_of first) → IfNone o ((k : ℕ) → Contains (static_names_of first) (name, k) → ⊥))
+    → o ≡ first_entry name
+unfolding static_names_of
+first_by_start name first (Some k) is found absent =
+    first_by_name name (Some k) (filtered_in (λ (e : Numbered). begins_with first e.0) static_names (name, k) found) (λ ordered. tt)
+first_by_start name first None is found absent =
+    first_by_name name None tt (λ ordered k there. absent (part_ordered first) k (in_filtered (λ (e : Numbered). begins_with first e.0) static_names (name, k) there (begins name first is)))
+
+-- the empty name has no entry
+pub no_name : (name : List ℕ) → None ≡ slice_get name 0 → first_entry name ≡ None
+unfolding static_table
+no_name [] is = refl
+no_name (b ∷ bs) is = cc
 
 -- ---- entries by their indices
 

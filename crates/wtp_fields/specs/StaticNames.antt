@@ -1,5 +1,5 @@
 -- The names of the static table in the order of their bytes, by which an index is looked up.
-use Rattle.std.specs.Prelude.{ℕ, List, map}
+use Rattle.std.specs.Prelude.{ℕ, ◌==◌, Bool, false, List, [], ◌∷◌, map, filter}
 use Rattle.std.specs.Borrow.{Bor}
 use Rattle.std.specs.Ordering.{nat_cmp}
 use Rattle.std.specs.Cmp.Lexicographic.{slice_cmp}
@@ -23,3 +23,11 @@ AreOrdered names = IsStrictlySortedBy (slice_cmp nat_cmp) (map (λ (e : Numbered
 
 unfoldable pub static_names : List Numbered
 static_names = map (λ e. (e.0.now, e.1)) NAMES
+
+abbrev pub begins_with : ℕ → List ℕ → Bool
+begins_with first [] = false
+begins_with first (b ∷ bs) = b == first
+
+-- those that begin with a byte
+unfoldable pub static_names_of : ℕ → List Numbered
+static_names_of first = filter (λ e. begins_with first e.0) static_names

@@ -10,7 +10,7 @@ ghost use Rattle.wtp_fields.specs.Headers.{payload, headers_at, GivesUnlessRefus
 #[cfg(test)]
 mod tests;
 
-use crate::qpack::{Decoder, DecodingError, field_line};
+use crate::qpack::{Decoder, DecodingError, field_line, field_section};
 use std::alloc::{AllocError, Global};
 use std::borrow::CowSlice;
 use std::collections::BTreeMap;
@@ -160,8 +160,7 @@ fn write_group(
 fn written(alloc: Global, fields: &BTreeMap<String, String>) -> Result<Vec<u8>, AllocError>
     ensures { IfOk result (λ v. v.items ≡ payload (held fields.now)) }
 {
-    let mut out = Vec::new(alloc);
-    out.extend_from_slice(&[0, 0])?;
+    let mut out = field_section::begun(alloc)?;
     write_group(&mut out, fields, true)?;
     write_group(&mut out, fields, false)?;
     Ok(out)

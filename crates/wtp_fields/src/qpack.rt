@@ -12,7 +12,7 @@ ghost use Rattle.wtp_fields.specs.Reading.{GivesUnlessMemory};
 ghost use Rattle.wtp_fields.specs.FieldSection.{ReachesLine, map_at, section_of};
 
 pub(crate) mod field_line;
-mod field_section;
+pub(crate) mod field_section;
 mod integer;
 mod static_table;
 mod string_literal;
@@ -101,8 +101,7 @@ impl Encoder {
         ensures { IfOk result (λ v. (ps : List (Bor (List ℕ) × Bor (List ℕ)))
             × Drains I.next_gives pairs ps × AreTexts (lent ps) × (v.items ≡ section_of (lent ps))) }
     {
-        let mut out = Vec::new(alloc);
-        out.extend_from_slice(&[0, 0])?;
+        let mut out = field_section::begun(alloc)?;
         for (name, value) in pairs {
             field_line::write(&mut out, name, value)?;
         }

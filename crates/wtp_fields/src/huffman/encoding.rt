@@ -6,6 +6,9 @@ ghost use Rattle.wtp_fields.specs.HuffmanSteps.{AppendsHuffman, Keeps};
 use super::codes::code_of;
 use std::alloc::{AllocError, Global};
 
+/// So many bits are counted before they are added up as bytes.
+const MANY: u64 = 1 << 32;
+
 /// The text in code words, and ones up to a whole byte (RFC 7541, section 5.2).
 ///
 /// Memory is taken at once, as much as the text has, and more only for a text that gets longer; an empty text takes
@@ -52,17 +55,15 @@ pub fn encoded_len(text: &[u8]) -> Option<usize>
     ensures length { (s : List ℕ) → IsHuffman text.now s → length s ≡ coded_len text.now }
 {
     let mut bytes = 0usize;
-    let mut bits = 0u32;
+    let mut bits = 0u64;
     for byte in text {
-        bits += code_of(*byte).bits;
-        bytes = bytes.checked_add((bits / 8) as usize)?;
-        bits %= 8;
+        bits += u64::from(code_of(*byte).bits);
+        if bits >= MANY {
+            bytes = bytes.checked_add((bits / 8) as usize)?;
+            bits %= 8;
+        }
     }
-    if bits > 0 {
-        bytes.checked_add(1)
-    } else {
-        Some(bytes)
-    }
+    bytes.checked_add(((bits + 7) / 8) as usize)
 }
 
 /// Gives out four bytes of the bits that wait where there are so many, and answers what still waits.

@@ -1,6 +1,6 @@
 //! The parts of a field section (RFC 9204, section 4.5).
 
-ghost use Rattle.std.specs.Prelude.{◌≡◌, ◌≢◌, ℕ, ◌<◌, List, [], length, IfOk, IfErr, Ok, Err};
+ghost use Rattle.std.specs.Prelude.{◌≡◌, ◌≢◌, ℕ, ◌<◌, List, [], ◌∷◌, length, IfOk, IfErr, Ok, Err};
 ghost use Rattle.wtp_fields.specs.declared.qpack.DecodingError.TheVariants.{Memory};
 ghost use Rattle.wtp_fields.specs.Field.{Field, held, field_map};
 ghost use Rattle.wtp_fields.specs.Reading.{Gives};
@@ -8,8 +8,20 @@ ghost use Rattle.wtp_fields.specs.FieldLine.{line_at};
 ghost use Rattle.wtp_fields.specs.FieldSection.{lines_behind, AreLines};
 
 use super::{DecodingError, field_line, integer};
-use std::alloc::Global;
+use std::alloc::{AllocError, Global};
 use std::collections::BTreeMap;
+
+/// The room that is taken for a section at first; it grows for a longer one.
+const ROOM: usize = 256;
+
+/// The empty prefix, and room for lines behind it.
+pub fn begun(alloc: Global) -> Result<Vec<u8>, AllocError>
+    ensures { IfOk result (λ v. v.items ≡ 0 ∷ 0 ∷ []) }
+{
+    let mut out = Vec::with_capacity(alloc, ROOM)?;
+    out.extend_from_slice(&[0, 0])?;
+    Ok(out)
+}
 
 /// The bytes behind the two integers in front of the lines, whose values are passed over.
 #[tactic(auto, unfolding(crate::specs::FieldSection::lines_behind))]

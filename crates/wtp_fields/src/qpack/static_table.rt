@@ -3,7 +3,7 @@
 ghost use Rattle.std.specs.Prelude.{◌≡◌, ℕ, option_map, slice_get, IfSome, IfNone, Contains};
 ghost use Rattle.wtp_fields.specs.Field.{lent, lent_field};
 ghost use Rattle.wtp_fields.specs.StaticTable.{static_table, entry_at, first_entry};
-ghost use Rattle.wtp_fields.specs.StaticNames.{numbered, static_names, AreOrdered};
+ghost use Rattle.wtp_fields.specs.StaticNames.{numbered, static_names_of, AreOrdered};
 
 #[cfg(test)]
 mod tests;
@@ -197,11 +197,29 @@ pub fn entry(index: u64) -> Option<(&'static str, &'static str)>
     entry_in(table(), index)
 }
 
-/// The names in the order of their bytes.
-fn names() -> &'static [(&'static str, usize)]
-    ensures { numbered result.now ≡ static_names }
+/// The names that begin with a byte, in the order of their bytes.
+fn names_of(first: u8) -> &'static [(&'static str, usize)]
+    ensures { numbered result.now ≡ static_names_of first }
 {
-    &NAMES
+    match first {
+        b':' => &NAMES[..5],
+        b'a' => &NAMES[5..19],
+        b'c' => &NAMES[19..26],
+        b'd' => &NAMES[26..27],
+        b'e' => &NAMES[27..30],
+        b'f' => &NAMES[30..31],
+        b'i' => &NAMES[31..34],
+        b'l' => &NAMES[34..37],
+        b'o' => &NAMES[37..38],
+        b'p' => &NAMES[38..39],
+        b'r' => &NAMES[39..41],
+        b's' => &NAMES[41..44],
+        b't' => &NAMES[44..45],
+        b'u' => &NAMES[45..47],
+        b'v' => &NAMES[47..48],
+        b'x' => &NAMES[48..],
+        _ => &[],
+    }
 }
 
 /// The index beside a name, by binary search.
@@ -215,9 +233,10 @@ fn index_in(names: &[(&str, usize)], name: &str) -> Option<usize>
     }
 }
 
-/// The index of the first entry of a name.
+/// The index of the first entry of a name: looked for among the names that begin with the same byte.
 pub fn first_entry(name: &str) -> Option<usize>
     ensures { result ≡ first_entry name.now }
 {
-    index_in(names(), name)
+    let first = name.as_bytes().first()?;
+    index_in(names_of(*first), name)
 }

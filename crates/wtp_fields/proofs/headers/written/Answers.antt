@@ -1,8 +1,7 @@
-use Rattle.std.proofs.Common.{refl}
 use Rattle.wtp_fields.specs.Field.{held}
 use Rattle.wtp_fields.proofs.Payloads.{payload_written}
 use Rattle.wtp_fields.proofs.headers.written.Goals as goal
 
 pub returns : goal.returns
 returns c =
-    payload_written (held c.args.fields.now) _ _ _ (rw (c.in_ok-extend_from_slice.ensures.items, c.new-out.ensures.items) refl) c.in_ok-write_group.ensures c.in_ok-write_group-2.ensures
+    payload_written (held c.args.fields.now) _ _ _ c.in_ok-out.ensures c.in_ok-write_group.ensures c.in_ok-write_group-2.ensures

@@ -6,6 +6,6 @@ abbrev pub invariant-loop-byte : goal.invariant-loop-byte
 invariant-loop-byte l =
     record {
       so_far : 8 * l.bytes + l.bits ≡ length (coded (take l.byte-index l.text));
-      few : l.bits < 8;
+      few : l.bits < 2 ^ 32;
       fits : l.bytes < 2 ^ 64;
     }

@@ -1,4 +1,4 @@
-use Rattle.std.proofs.Common.{◌∙◌, sym, refl, ap, ◌++◌}
+use Rattle.std.proofs.Common.{◌∙◌, sym, ap, ◌++◌}
 use Rattle.wtp_fields.specs.Field.{lent_field}
 use Rattle.wtp_fields.specs.FieldLine.{encoded_line}
 use Rattle.wtp_fields.specs.FieldSection.{section_of}
@@ -7,7 +7,7 @@ use Rattle.wtp_fields.proofs.qpack.Encoder.encode.Goals as goal
 
 pub loop-name-init : goal.loop-name-init
 unfolding section_of
-loop-name-init g c = record { texts = tt; so_far = rw (c.in_ok-extend_from_slice.ensures.items, c.new-out.ensures.items) refl }
+loop-name-init g c = record { texts = tt; so_far = c.in_ok-out.ensures }
 
 pub loop-name-preserved : goal.loop-name-preserved
 loop-name-preserved g c = record {
