@@ -14,6 +14,8 @@ mod listings;
 #[cfg(test)]
 mod pieces;
 #[cfg(test)]
+mod polled_bytes;
+#[cfg(test)]
 mod programs;
 #[cfg(test)]
 mod readers;
