@@ -11,7 +11,7 @@ use wtransport_proto::stream::biremote::StreamBiRemoteQuic;
 use wtransport_proto::stream::session::StreamSession;
 
 /// The stream of a session, opened at this end.
-fn opened(alloc: Global) -> Result<StreamSession, UrlParseError> {
+pub(crate) fn opened(alloc: Global) -> Result<StreamSession, UrlParseError> {
     let request = SessionRequest::new(alloc, "https://example.com/a?b")?;
     Ok(StreamBiLocalQuic::open_bi().upgrade().into_session(request))
 }

@@ -9,7 +9,7 @@ use wtransport_proto::stream_header::StreamKind;
 use wtransport_proto::varint::VarInt;
 
 /// The stream whose header is read from these bytes.
-fn upgraded(mut header: &[u8]) -> Result<StreamUniRemoteH3, Fail> {
+pub(crate) fn upgraded(mut header: &[u8]) -> Result<StreamUniRemoteH3, Fail> {
     match StreamUniRemoteQuic::accept_uni().upgrade(&mut header)? {
         MaybeUpgradeH3::H3(stream) => Ok(stream),
         MaybeUpgradeH3::Quic(_) => Err("a whole header")?,

@@ -1,0 +1,240 @@
+//! Reading frames from streams, poll by poll.
+use crate::pieces::{Answers, End, Trickle};
+use crate::streams::answers::{Answer, Answered, CUT, FIN, check_answer, check_polls, padded};
+use std::process::Abort;
+use std::test::Fail;
+use wtransport_proto::bytes::{IoReadError as Fault, Polled, ReadStep};
+use wtransport_proto::error::ErrorCode;
+use wtransport_proto::frame::{Frame, FrameReading};
+use wtransport_proto::stream::IoReadError;
+use wtransport_proto::stream::biremote::{StreamBiRemoteH3, StreamBiRemoteQuic};
+
+/// What a source gives, and in which steps; the answers of the polls, and what the row shows.
+type Row = (
+    &'static [u8],
+    &'static [ReadStep],
+    &'static [Answer<'static>],
+    &'static str,
+);
+
+const ROWS: [Row; 9] = [
+    (b"", &[], &[FIN], "nothing"),
+    (b"\x00", &[], &[CUT], "a cut frame"),
+    (
+        b"\x00",
+        &[ReadStep::Bytes(1), ReadStep::Reset],
+        &[Answer::Fault(IoReadError::IO(Fault::Reset))],
+        "a cut frame and a reset",
+    ),
+    (b"\x0a", &[], &[CUT], "an unknown type alone"),
+    (
+        b"\x0a\x00\x00\x01a",
+        &[],
+        &[Answer::Again, Answer::Frame(0x00, b"a"), FIN],
+        "unknown and empty, then data",
+    ),
+    (
+        b"\x04\x02\x33\x01\x40\x41\x00",
+        &[],
+        &[
+            Answer::Fault(IoReadError::H3(ErrorCode::FrameUnexpected)),
+            CUT,
+            FIN,
+        ],
+        "a refused frame counts as the first",
+    ),
+    (
+        b"\x0a\xff\xff\xff\xff\xff\xff\xff\xff",
+        &[],
+        &[CUT],
+        "unknown, of the largest length",
+    ),
+    (
+        b"\x0a\x05abcde\x00\x00",
+        &[ReadStep::Bytes(3), ReadStep::NotReady],
+        &[
+            Answer::Pending,
+            Answer::Again,
+            Answer::Frame(0x00, b""),
+            FIN,
+        ],
+        "not ready inside an unknown frame",
+    ),
+    (
+        b"\x00\x01a",
+        &[
+            ReadStep::Reset,
+            ReadStep::Bytes(1),
+            ReadStep::NotConnected,
+            ReadStep::Bytes(1),
+            ReadStep::Reset,
+        ],
+        &[
+            Answer::Fault(IoReadError::IO(Fault::Reset)),
+            Answer::Fault(IoReadError::IO(Fault::NotConnected)),
+            Answer::Fault(IoReadError::IO(Fault::Reset)),
+            Answer::Frame(0x00, b"a"),
+            FIN,
+        ],
+        "faults that pass",
+    ),
+];
+
+#[test]
+fn polls_answer_by_the_bytes(rt: HostRuntime) {
+    for (bytes, steps, answers, word) in ROWS {
+        let mut stream = StreamBiRemoteQuic::accept_bi().upgrade();
+        let mut reading = Frame::read_async(rt.alloc());
+        let mut source = Answers::new(bytes, steps);
+        check_polls(&rt, &mut stream, &mut reading, &mut source, answers, word);
+    }
+}
+
+/// The front of the bytes, behind which come zeros, how many bytes there are in all, the answers of
+/// the polls, and what the row shows. A data frame of no bytes is two zeros.
+const LONG: [([u8; 3], usize, &'static [Answer<'static>], &'static str); 4] = [
+    (
+        [0x0a, 0x50, 0x00],
+        3 + 4096 + 2,
+        &[Answer::Again, Answer::Frame(0x00, b""), FIN],
+        "4096 bytes are one part",
+    ),
+    (
+        [0x0a, 0x50, 0x01],
+        3 + 4097 + 2,
+        &[Answer::Again, Answer::Again, Answer::Frame(0x00, b""), FIN],
+        "4097 bytes are two parts",
+    ),
+    (
+        [0x0a, 0x60, 0x00],
+        3 + 8192 + 2,
+        &[Answer::Again, Answer::Again, Answer::Frame(0x00, b""), FIN],
+        "8192 bytes are two parts",
+    ),
+    (
+        [0x0a, 0x50, 0x01],
+        3 + 4096,
+        &[Answer::Again, CUT],
+        "the last byte is missing",
+    ),
+];
+
+#[test]
+fn long_unknown_frames_are_passed_in_parts(rt: HostRuntime) -> Result<(), Fail> {
+    for (front, len, answers, word) in LONG {
+        let bytes = padded(rt.alloc(), &front, len)?;
+        let mut stream = StreamBiRemoteQuic::accept_bi().upgrade();
+        let mut reading = Frame::read_async(rt.alloc());
+        let mut source = bytes.as_slice();
+        check_polls(&rt, &mut stream, &mut reading, &mut source, answers, word);
+    }
+    Ok(())
+}
+
+/// Past so many waits, the next poll answers this.
+fn check_late<R: Abort>(
+    rt: &R,
+    stream: &mut StreamBiRemoteH3,
+    reading: &mut FrameReading,
+    source: &mut Trickle<'_>,
+    waits: usize,
+    answer: Answer<'_>,
+) {
+    for _turn in 0..waits {
+        check_polls(rt, stream, reading, source, &[Answer::Pending], "late");
+    }
+    check_polls(rt, stream, reading, source, &[answer], "there");
+}
+
+#[test]
+fn each_byte_may_come_late(rt: HostRuntime) {
+    let mut stream = StreamBiRemoteQuic::accept_bi().upgrade();
+    let mut reading = Frame::read_async(rt.alloc());
+    let mut source = Trickle::new(EXERCISE_THEN_SESSION, End::Fin);
+    let exercise = Answer::Frame(0x21, b"Payload");
+    check_late(&rt, &mut stream, &mut reading, &mut source, 9, exercise);
+    check_late(&rt, &mut stream, &mut reading, &mut source, 3, CUT);
+    check_late(&rt, &mut stream, &mut reading, &mut source, 1, FIN);
+}
+
+#[test]
+fn a_second_source_goes_on(rt: HostRuntime) {
+    let mut stream = StreamBiRemoteQuic::accept_bi().upgrade();
+    let mut reading = Frame::read_async(rt.alloc());
+    let steps = [ReadStep::Bytes(3), ReadStep::Reset];
+    let mut source = Answers::new(b"\x0a\x05a", &steps);
+    let reset = [Answer::Fault(IoReadError::IO(Fault::Reset))];
+    check_polls(&rt, &mut stream, &mut reading, &mut source, &reset, "first");
+    let mut source = b"bcde\x00\x00".as_slice();
+    let rest = [Answer::Again, Answer::Frame(0x00, b""), FIN];
+    check_polls(&rt, &mut stream, &mut reading, &mut source, &rest, "second");
+}
+
+/// An exercise frame of nine bytes, and a frame of session 0 that comes too late.
+const EXERCISE_THEN_SESSION: &[u8] = b"\x21\x07Payload\x40\x41\x00";
+
+/// What a stream answers last over the first so many of these bytes, which end so.
+fn last_answer(len: usize, end: End) -> Answer<'static> {
+    match (len, end) {
+        (12, _) => CUT,
+        (0 | 9, End::Fin) => FIN,
+        (_, End::Fin) => CUT,
+        (_, End::Reset) => Answer::Fault(IoReadError::IO(Fault::Reset)),
+        (_, End::NotConnected) => Answer::Fault(IoReadError::IO(Fault::NotConnected)),
+    }
+}
+
+/// The next answer but that the source is not ready, or that no memory is to be had.
+fn answered(
+    stream: &mut StreamBiRemoteH3,
+    reading: &mut FrameReading,
+    source: &mut Trickle<'_>,
+) -> Answered {
+    for _turn in 0..20 {
+        match stream.read_frame_async(reading, source) {
+            Polled::Pending | Polled::NoMemory => {}
+            answered => return answered,
+        }
+    }
+    Polled::Pending
+}
+
+/// Over the first so many of the bytes the stream answers by the table, and then the same again.
+fn check_stop<R: Abort + AllocGlobal>(rt: &R, len: usize, end: End) {
+    let mut stream = StreamBiRemoteQuic::accept_bi().upgrade();
+    let mut reading = Frame::read_async(rt.alloc());
+    let mut source = Trickle::new(EXERCISE_THEN_SESSION.get(..len).unwrap_or(&[]), end);
+    if len >= 9 {
+        let first = answered(&mut stream, &mut reading, &mut source);
+        check_answer(rt, &first, &Answer::Frame(0x21, b"Payload"), "first");
+    }
+    let last = answered(&mut stream, &mut reading, &mut source);
+    check_answer(rt, &last, &last_answer(len, end), "last");
+    if len < 12 {
+        let again = answered(&mut stream, &mut reading, &mut source);
+        check_answer(rt, &again, &last_answer(len, end), "again");
+    }
+}
+
+#[test]
+fn bytes_may_stop_at_each_place(rt: HostRuntime) {
+    for len in 0..13usize {
+        check_stop(&rt, len, End::Fin);
+        check_stop(&rt, len, End::Reset);
+        check_stop(&rt, len, End::NotConnected);
+    }
+}
+
+#[test]
+fn refused_memory_for_a_payload_is_asked_for_again(rt: HostRuntime) {
+    let mut stream = StreamBiRemoteQuic::accept_bi().upgrade();
+    let mut reading = Frame::read_async(rt.alloc());
+    let mut source = b"\x00\x03abc".as_slice();
+    let mut answered = stream.read_frame_async(&mut reading, &mut source);
+    if let Polled::NoMemory = answered {
+        assert_eq!(rt; source, b"abc".as_slice());
+        answered = stream.read_frame_async(&mut reading, &mut source);
+    }
+    check_answer(&rt, &answered, &Answer::Frame(0x00, b"abc"), "data");
+    assert!(rt; source.is_empty());
+}
