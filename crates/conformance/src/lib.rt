@@ -10,6 +10,8 @@ mod frames;
 #[cfg(test)]
 mod ids;
 #[cfg(test)]
+mod journey;
+#[cfg(test)]
 mod listings;
 #[cfg(test)]
 mod pieces;

@@ -14,7 +14,7 @@ use Rattle.wtp_wire.specs.Front.{Front, Framed, Unknown, BadId, TooBig, Short, f
 use Rattle.wtp_wire.specs.Held.{Held, new_held, front_held, Leaves}
 use Rattle.wtp_wire.specs.Wire.{wire}
 use Rattle.wtp_fields.specs.Field.{Field, IsMap, AreTexts}
-use Rattle.wtp_fields.specs.Headers.{payload, headers_at, or_decompression}
+use Rattle.wtp_fields.specs.Headers.{payload, headers_at, or_decompression, BeginsLine}
 use Rattle.wtp_wire.proofs.FramePollLemmas.{front_none, front_due}
 use Rattle.wtp_wire.proofs.WireLemmas.{front-wire}
 use Rattle.wtp_fields.proofs.Payloads.{payload_again}
@@ -226,7 +226,7 @@ reads_back role first next turns m (Err (receive.OtherKind kind)) a b ordered te
     let at : front a.ahead ≡ Framed (HeadersOf (payload m)) rest = ap front is ∙ front-wire (HeadersOf (payload m)) rest small in
     let same = found role first next f (HeadersOf (payload m)) rest a b at t in
     other (sym of ∙ ap kind_in same.0)
-reads_back role first next turns m (Err (receive.Section e)) a b ordered texts (p, t, bad) rest allowed small is =
+reads_back role first next turns m (Err (receive.Section e)) a b ordered texts (p, t, bad, memory) rest allowed small is =
     let at : front a.ahead ≡ Framed (HeadersOf (payload m)) rest = ap front is ∙ front-wire (HeadersOf (payload m)) rest small in
     let same = found role first next (HeadersOf p) (HeadersOf (payload m)) rest a b at t in
     let one : p ≡ payload m = let e = same.0 in cc in
@@ -243,9 +243,9 @@ pub told_read : (s t : Option Source) (role : Role) (first next : Bool) (turns :
     → Telling s t (FrameDid role first next turns (Ok f)) → Telling s t (MapDid role first next turns (Ok n))
 told_read s t role first next turns f n kind read p = telling_map s t (Takes role first next f) (MapDid role first next turns (Ok n)) (λ a b k. (payload_in f, rw (← is_headers f kind) k, read)) p
 
-pub told_section : (s t : Option Source) (role : Role) (first next : Bool) (turns : ℕ) (f : Content) (e : Refused) → kind_in f ≡ Headers → (e ≢ refused.Memory → headers_at (payload_in f) ≡ Err e)
+pub told_section : (s t : Option Source) (role : Role) (first next : Bool) (turns : ℕ) (f : Content) (e : Refused) → kind_in f ≡ Headers → (e ≢ refused.Memory → headers_at (payload_in f) ≡ Err e) → (e ≡ refused.Memory → BeginsLine (payload_in f))
     → Telling s t (FrameDid role first next turns (Ok f)) → Telling s t (MapDid role first next turns (Err (receive.Section e)))
-told_section s t role first next turns f e kind bad p = telling_map s t (Takes role first next f) (MapDid role first next turns (Err (receive.Section e))) (λ a b k. (payload_in f, rw (← is_headers f kind) k, bad)) p
+told_section s t role first next turns f e kind bad memory p = telling_map s t (Takes role first next f) (MapDid role first next turns (Err (receive.Section e))) (λ a b k. (payload_in f, rw (← is_headers f kind) k, bad, memory)) p
 
 pub told_other : (s t : Option Source) (role : Role) (first next : Bool) (turns : ℕ) (f : Content) (kind : FrameKind) → kind ≡ kind_in f → kind ≢ Headers
     → Telling s t (FrameDid role first next turns (Ok f)) → Telling s t (MapDid role first next turns (Err (receive.OtherKind kind)))

@@ -11,7 +11,7 @@ use Rattle.wtp_wire.specs.Front.{Front, Framed, Unknown, BadId, TooBig, Short, f
 use Rattle.wtp_wire.specs.Held.{Held, front_held}
 use Rattle.wtp_wire.specs.Wire.{wire}
 use Rattle.wtp_fields.specs.Field.{Field}
-use Rattle.wtp_fields.specs.Headers.{payload, headers_at}
+use Rattle.wtp_fields.specs.Headers.{payload, headers_at, BeginsLine}
 use Rattle.wtransport_proto.specs.declared.stream.polled.IoReadError.{IoReadError}
 use Rattle.wtransport_proto.specs.declared.journey.SendError.{SendError}
 use Rattle.wtransport_proto.specs.declared.journey.SendError.TheVariants as send
@@ -106,7 +106,7 @@ MapDid role first next turns (Ok m) a b = (p : List ℕ) × Takes role first nex
 MapDid role first next turns (Err receive.Waiting) a b = FrameDid role first next turns (Err receive.Waiting) a b
 MapDid role first next turns (Err (receive.Stream x)) a b = FrameDid role first next turns (Err (receive.Stream x)) a b
 MapDid role first next turns (Err (receive.OtherKind kind)) a b = (f : Content) × Takes role first next f a b × (kind_in f ≡ kind) × (kind ≢ Headers)
-MapDid role first next turns (Err (receive.Section e)) a b = (p : List ℕ) × Takes role first next (HeadersOf p) a b × (e ≢ refused.Memory → headers_at p ≡ Err e)
+MapDid role first next turns (Err (receive.Section e)) a b = (p : List ℕ) × Takes role first next (HeadersOf p) a b × (e ≢ refused.Memory → headers_at p ≡ Err e) × (e ≡ refused.Memory → BeginsLine p)
 MapDid role first next turns (Err receive.Memory) a b = FrameDid role first next turns (Err receive.Memory) a b
 
 -- m came back, and rest is ahead; or each turn waited, or memory was wanting

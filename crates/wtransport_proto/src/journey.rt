@@ -165,6 +165,7 @@ pub fn send_and_receive<W: AsyncWrite, K: ReadsFrames, S: AsyncRead>(
     ensures can { K.can stream.new }
     ensures changes { ChangesFirst K.first stream.old stream.new }
 {
+    // Each name stands in the map once, and all are texts.
     let _fields = headers.as_ref();
     let frame = headers.generate_frame(alloc).map_err(JourneyError::Frame)?;
     send(&frame, sink, turns).map_err(JourneyError::Send)?;

@@ -1,4 +1,4 @@
-use Rattle.std.proofs.Common.{◌≡◌, sym, ◌∙◌, rules, Ok, Err}
+use Rattle.std.proofs.Common.{◌≡◌, ap, sym, ◌∙◌, rules, Ok, Err}
 use Rattle.wtransport_proto.specs.declared.journey.ReceiveError.{ReceiveError}
 use Rattle.wtransport_proto.specs.declared.journey.ReceiveError.TheVariants as receive
 use Rattle.wtransport_proto.proofs.JourneyLemmas.{told_back, told_read, told_section, told_other, told_failed}
@@ -31,7 +31,7 @@ returns-in-Headers-clause-back g c = λ m ordered texts.
     let role = g.K.ReadsFrames.role in
     let first = g.K.ReadsFrames.first c.args.stream.now in
     let next = g.K.ReadsFrames.first c.next_frame.new.stream in
-    told_back s t role first next c.args.turns m (Err (receive.Section c.in-Err.refused)) ordered texts (told_section s t role first next c.args.turns c.in_ok-frame.frame c.in-Err.refused (sym c.kind.ensures.kind ∙ c.in-Headers.is) c.in-Err.ensures.read c.in_ok-frame.ensures.read)
+    told_back s t role first next c.args.turns m (Err (receive.Section c.in-Err.refused)) ordered texts (told_section s t role first next c.args.turns c.in_ok-frame.frame c.in-Err.refused (sym c.kind.ensures.kind ∙ c.in-Headers.is) c.in-Err.ensures.read (λ z. c.in-Err.ensures.memory (ap Err z)) c.in_ok-frame.ensures.read)
 
 pub returns : goal.returns
 returns g c =
