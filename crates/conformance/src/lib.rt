@@ -18,6 +18,8 @@ mod pieces;
 #[cfg(test)]
 mod polled_bytes;
 #[cfg(test)]
+mod polled_frames;
+#[cfg(test)]
 mod polled_headers;
 #[cfg(test)]
 mod programs;
