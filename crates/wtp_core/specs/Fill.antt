@@ -1,5 +1,5 @@
 -- What filling a buffer does to a source.
-use Rattle.std.specs.Prelude.{◌≡◌, ℕ, ◌+◌, ◌<◌, ◌≤◌, List, [], ◌++◌, length, Option, Result, Ok, Err}
+use Rattle.std.specs.Prelude.{◌≡◌, ℕ, ◌+◌, ◌<◌, ◌≤◌, List, [], ◌++◌, length, take, Option, Result, Ok, Err}
 use Rattle.wtp_core.specs.declared.bytes.fill.Halt.{Halt}
 use Rattle.wtp_core.specs.declared.bytes.fill.Halt.TheVariants as halt
 use Rattle.wtp_core.specs.declared.bytes.polled.Polled.{Polled}
@@ -34,6 +34,11 @@ FillMoves (Err h) held new a b = Gains held new a b 1 × HaltIsTrue h a b
 
 abbrev pub FillTells : {U : Type 0} → Result U Halt → List ℕ → List ℕ → Option Source → Option Source → Type 0
 FillTells r held new old now = Telling old now (λ a b. FillMoves r held new a b)
+
+-- the same of one call, into a buffer that held nothing
+abbrev pub BeginMoves : Result ℕ Halt → List ℕ → Source → Source → Type 0
+BeginMoves (Ok n) buf a b = Gains [] (take n buf) a b 0
+BeginMoves (Err h) buf a b = Gains [] [] a b 1 × HaltIsTrue h a b
 
 -- what a reading answers that halted with so many bytes taken
 abbrev pub halted_poll : {T : Type 0} → Halt → ℕ → Polled (Result T IoReadError)

@@ -1,3 +1,4 @@
+mod TakeHeadLemmas
 pub mod ContentLemmas
 pub mod KindLemmas
 pub mod FrontLemmas

@@ -1,8 +1,8 @@
 //! Reading from a source into a buffer, as far as the source goes (own): what the reading states of
 //! this crate and of the one above stand on.
-ghost use Rattle.std.specs.Prelude.{◌≡◌, ℕ, ◌≤◌, length, take, drop};
-ghost use Rattle.wtp_core.specs.Source.{StepKeepsLengths, StepTells};
-ghost use Rattle.wtp_core.specs.Fill.{FillKeepsLengths, FillTells, halted_poll};
+ghost use Rattle.std.specs.Prelude.{◌≡◌, ℕ, ◌<◌, ◌≤◌, length, take, drop, IfOk};
+ghost use Rattle.wtp_core.specs.Source.{StepKeepsLengths, StepTells, Telling};
+ghost use Rattle.wtp_core.specs.Fill.{BeginMoves, FillKeepsLengths, FillTells, halted_poll};
 
 use crate::bytes::polled::{IoReadError, Polled};
 use crate::bytes::source::{AsyncRead, ReadStep};
@@ -50,6 +50,22 @@ fn read_at<S: AsyncRead>(source: &mut S, buf: &mut [u8], at: usize) -> ReadStep
     ensures tells { StepTells result (drop at buf.new) (S.tells source.old) (S.tells source.new) }
 {
     source.poll_read(&mut buf[at..])
+}
+
+/// One call, into the front of a buffer that holds nothing: how many bytes came (own).
+#[inline(always)]
+pub fn begin<S: AsyncRead>(source: &mut S, buf: &mut [u8]) -> Result<usize, Halt>
+    requires { 0 < length buf.old }
+    ensures some { IfOk result (λ n. (0 < n) × (n ≤ length buf.new)) }
+    ensures tells { Telling (S.tells source.old) (S.tells source.new) (BeginMoves result buf.new) }
+{
+    match source.poll_read(buf) {
+        ReadStep::Bytes(0) => Err(Halt::Fin),
+        ReadStep::Bytes(n) => Ok(n),
+        ReadStep::NotReady => Err(Halt::NotReady),
+        ReadStep::Reset => Err(Halt::Reset),
+        ReadStep::NotConnected => Err(Halt::NotConnected),
+    }
 }
 
 /// What a reading answers that halted with so many bytes taken (own).

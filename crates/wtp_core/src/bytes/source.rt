@@ -36,12 +36,8 @@ impl AsyncRead for &[u8] {
     #[inline(always)]
     fn poll_read(&mut self, buf: &mut [u8]) -> ReadStep {
         // The two bytes in front of most frames are moved without a call.
-        if buf.len() == 2 && self.len() >= 2 {
-            let (front, rest) = self.split_at(2);
-            buf[0] = front[0];
-            buf[1] = front[1];
-            *self = rest;
-            return ReadStep::Bytes(2);
+        if buf.len() == 2 {
+            return read_two(self, buf);
         }
         let n = self.len().min(buf.len());
         let (front, rest) = self.split_at(n);
@@ -49,4 +45,24 @@ impl AsyncRead for &[u8] {
         *self = rest;
         ReadStep::Bytes(n)
     }
+}
+
+// At most two bytes, into a buffer of two.
+#[inline(always)]
+fn read_two(bytes: &mut &[u8], buf: &mut [u8]) -> ReadStep
+    requires { length buf.old ≡ 2 }
+    ensures lengths { StepKeepsLengths result (length buf.new) }
+    ensures tells { StepTells result buf.new (Some (all_ahead bytes.old.now)) (Some (all_ahead bytes.new.now)) }
+{
+    let Some((first, behind)) = bytes.split_first() else {
+        return ReadStep::Bytes(0);
+    };
+    buf[0] = *first;
+    *bytes = behind;
+    let Some((second, behind)) = behind.split_first() else {
+        return ReadStep::Bytes(1);
+    };
+    buf[1] = *second;
+    *bytes = behind;
+    ReadStep::Bytes(2)
 }

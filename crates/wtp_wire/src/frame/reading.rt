@@ -1,19 +1,22 @@
 //! Reading a frame, poll by poll.
-ghost use Rattle.std.specs.Prelude.{◌≡◌, ◌≢◌, ℕ, ◌+◌, ◌<◌, ◌≤◌, List, [], ◌++◌, length, take, drop, vec_len, None};
+ghost use Rattle.std.specs.Prelude.{◌≡◌, ◌≢◌, ℕ, ◌+◌, ◌<◌, ◌≤◌, List, [], ◌++◌, length, take, drop, vec_len, None, IfOk, OnOk, OnErr};
 ghost use Rattle.wtp_core.specs.Source.{Telling};
 ghost use Rattle.wtp_core.specs.Polled.{Asks};
+ghost use Rattle.wtp_core.specs.Fill.{FillTells};
+ghost use Rattle.wtp_wire.specs.FrameHead.{said};
+ghost use Rattle.wtp_wire.specs.FrameNeed.{frame_need};
 ghost use Rattle.wtp_wire.specs.Held.{Held, new_held, IsUnfinished};
 ghost use Rattle.wtp_wire.specs.FramePolling.{FramePolled, FrameGiven};
 ghost use Rattle.wtp_wire.specs.FrameSteps.{IsReading, halted_frame, PayloadKeeps, PayloadTells, AdvanceKeeps, AdvanceTells, Grew, answer, CanAnswer, PassedOn, PassedPlain, Started, StartKeeps};
 
 use crate::frame::head::{FrameHead, Said, read_head};
 use crate::frame::{Frame, FrameKind, FrameOwned, ParseError};
-use std::alloc::Global;
+use std::alloc::{AllocError, Global};
 use std::borrow::CowSlice;
 use std::marker::Model;
 use std::mem;
 use wtp_core::bytes;
-use wtp_core::bytes::fill::{Halt, fill};
+use wtp_core::bytes::fill::{Halt, begin, fill};
 use wtp_core::bytes::head::fill_head;
 use wtp_core::bytes::passing::pass;
 use wtp_core::bytes::{AsyncRead, Polled};
@@ -216,11 +219,11 @@ fn advance<S: AsyncRead>(
     ensures tells { AdvanceTells result (take len.old head.old ++ take filled.old payload.old.items)
         (take len.new head.new ++ take filled.new payload.new.items) (S.tells source.old) (S.tells source.new) }
 {
-    match fill_head::<FrameHead, S>(source, head, len) {
-        Ok(()) => {}
+    let said = match take_head(source, head, len) {
+        Ok(said) => said,
         Err(halt) => return Err(PayloadHalt::Source(halt)),
-    }
-    match read_head(&head[..*len]) {
+    };
+    match said {
         Said::Payload(kind, size) => match fill_payload(source, payload, filled, size as usize) {
             Ok(()) => Ok(Next::Answer(Decision::Payload(kind))),
             Err(halt) => Err(halt),
@@ -230,6 +233,43 @@ fn advance<S: AsyncRead>(
         Said::BadSession => Ok(Next::Answer(Decision::BadSession)),
         Said::TooLong => Ok(Next::Answer(Decision::TooLong)),
         Said::Unfinished => unreachable!(),
+    }
+}
+
+/// Reads on until the two numbers are held, and answers what they say.
+#[inline(always)]
+fn take_head<S: AsyncRead>(
+    source: &mut S,
+    head: &mut [u8; 16],
+    len: &mut usize,
+) -> Result<Said, Halt>
+    requires fits { len.old ≤ 16 }
+    requires within { len.old ≤ frame_need (take len.old head.old) }
+    ensures says { IfOk result (λ s. s ≡ said (take len.new head.new)) }
+    ensures whole { OnOk result (frame_need (take len.new head.new) ≡ len.new) }
+    ensures cut { OnErr result (len.new < frame_need (take len.new head.new)) }
+    ensures forward { len.old ≤ len.new }
+    ensures front { take len.old head.new ≡ take len.old head.old }
+    ensures room { len.new ≤ 16 }
+    ensures stays { frame_need (take len.old head.old) ≡ len.old → (len.new ≡ len.old) × (head.new ≡ head.old) }
+    ensures tells { FillTells result (take len.old head.old) (take len.new head.new) (S.tells source.old) (S.tells source.new) }
+{
+    if *len == 0 {
+        // Each number has at least one byte, and most have no more.
+        let mut front = [0; 2];
+        match begin(source, &mut front) {
+            Ok(count) => *len = count,
+            Err(halt) => return Err(halt),
+        }
+        head[0] = front[0];
+        head[1] = front[1];
+        if *len == 2 && front[0] < 64 && front[1] < 64 {
+            return Ok(read_head(&front));
+        }
+    }
+    match fill_head::<FrameHead, S>(source, head, len) {
+        Ok(()) => Ok(read_head(&head[..*len])),
+        Err(halt) => Err(halt),
     }
 }
 
@@ -258,13 +298,34 @@ fn fill_payload<S: AsyncRead>(
         (S.tells source.old) (S.tells source.new) }
 {
     if payload.len() < size {
-        if payload.reserve_exact(size).is_err() || payload.resize(size, 0).is_err() {
-            return Err(PayloadHalt::NoMemory);
+        match payload_room(*payload.allocator(), size) {
+            Ok(room) => *payload = room,
+            Err(_) => return Err(PayloadHalt::NoMemory),
         }
     }
     match fill(source, payload.as_mut_slice(), filled) {
         Ok(()) => Ok(()),
         Err(halt) => Err(PayloadHalt::Source(halt)),
+    }
+}
+
+/// Room for a payload of this size. An allocator gives no less than 24 bytes, and those are cleared by
+/// a few moves, with no call.
+#[inline(always)]
+fn payload_room(alloc: Global, size: usize) -> Result<Vec<u8>, AllocError>
+    ensures { IfOk result (λ room. vec_len room ≡ size) }
+{
+    if size > 24 {
+        let mut room = Vec::with_capacity(alloc, size)?;
+        room.resize(size, 0)?;
+        return Ok(room);
+    }
+    match Vec::from_array(alloc, [0; 24]) {
+        Ok(mut room) => {
+            room.truncate(size);
+            Ok(room)
+        }
+        Err(_) => Err(AllocError),
     }
 }
 

@@ -106,6 +106,7 @@ impl StreamBiRemoteH3 {
     ///
     /// The reading holds what came of a frame, and loses nothing. It may be polled again after each
     /// of these, over the same source or another.
+    #[inline(always)]
     pub fn read_frame_async<S: AsyncRead>(
         &mut self,
         reading: &mut FrameReading,

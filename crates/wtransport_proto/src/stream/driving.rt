@@ -60,6 +60,7 @@ impl ReadsFrames for StreamBiRemoteH3 {
         true
     }
 
+    #[inline(always)]
     fn read_frame_async<S: AsyncRead>(
         &mut self,
         reading: &mut FrameReading,
@@ -80,6 +81,7 @@ impl ReadsFrames for StreamBiLocalH3 {
         true
     }
 
+    #[inline(always)]
     fn read_frame_async<S: AsyncRead>(
         &mut self,
         reading: &mut FrameReading,
@@ -100,6 +102,7 @@ impl ReadsFrames for StreamUniRemoteH3 {
         StreamUniRemoteH3::can_read(self)
     }
 
+    #[inline(always)]
     fn read_frame_async<S: AsyncRead>(
         &mut self,
         reading: &mut FrameReading,
@@ -120,6 +123,7 @@ impl ReadsFrames for StreamSession {
         true
     }
 
+    #[inline(always)]
     fn read_frame_async<S: AsyncRead>(
         &mut self,
         reading: &mut FrameReading,

@@ -25,6 +25,7 @@ pub enum IoReadError {
 }
 
 /// Polls the reading, judges its answer by the rule of `K`, and notes that a frame was read whole.
+#[inline(always)]
 pub(crate) fn poll_frame<K: Rule, S: AsyncRead>(
     first_frame_done: &mut bool,
     reading: &mut FrameReading,
