@@ -16,6 +16,8 @@ mod programs;
 #[cfg(test)]
 mod readers;
 #[cfg(test)]
+mod stepped;
+#[cfg(test)]
 mod streams;
 #[cfg(test)]
 mod varints;
