@@ -30,6 +30,8 @@ mod requests;
 #[cfg(test)]
 mod server;
 #[cfg(test)]
+mod stepped;
+#[cfg(test)]
 mod streams;
 #[cfg(test)]
 mod varints;
