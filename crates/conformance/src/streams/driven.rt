@@ -141,6 +141,30 @@ fn waits_lose_no_frame(rt: HostRuntime) {
     check_frames(&rt, &out, &[(0x21, b"Payload")]);
 }
 
+#[test]
+fn a_drive_goes_on_over_a_second_source(rt: HostRuntime) {
+    let mut stream = StreamBiRemoteQuic::accept_bi().upgrade();
+    let mut reading = Frame::read_async(rt.alloc());
+    let mut out = Vec::new(rt.alloc());
+    let mut source = Trickle::new(b"\x00", End::Reset);
+    for end in [
+        Driven::Waiting,
+        Driven::Waiting,
+        Driven::Ended(IoReadError::IO(Fault::Reset)),
+    ] {
+        assert_eq!(rt;
+            driven(&mut stream, &mut reading, &mut source, &mut out, 10),
+            end
+        );
+    }
+    let mut source = b"\x01a".as_slice();
+    assert_eq!(rt;
+        driven(&mut stream, &mut reading, &mut source, &mut out, 10),
+        FIN
+    );
+    check_frames(&rt, &out, &[(0x00, b"a")]);
+}
+
 /// Driven over the bytes, the stream puts out these frames and ends so.
 fn check_driven<R: Abort + AllocGlobal, K: ReadsFrames>(
     rt: &R,

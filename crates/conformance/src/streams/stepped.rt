@@ -3,7 +3,7 @@ use crate::pieces::{End, Paced, Trickle};
 use crate::streams::answers::{session_4, stops_behind};
 use std::process::Abort;
 use std::test::Fail;
-use wtransport_proto::bytes::{AsyncRead, IoReadError as Fault, IoWriteError, Stepped};
+use wtransport_proto::bytes::{AsyncRead, IoReadError as Fault, IoWriteError, Stepped, WriteStep};
 use wtransport_proto::error::ErrorCode;
 use wtransport_proto::stream::bilocal::{StreamBiLocalQuic, StreamBiLocalWT};
 use wtransport_proto::stream::unilocal::{StreamUniLocalH3, StreamUniLocalQuic};
@@ -46,6 +46,37 @@ fn a_session_frame_goes_on_elsewhere(rt: HostRuntime) -> Result<(), Fail> {
     for room in 0..3usize {
         check_bi_stop(&rt, room)?;
     }
+    Ok(())
+}
+
+/// Not ready, two bytes, not ready, a loss; then it takes all.
+const HALTS: [WriteStep; 4] = [
+    WriteStep::NotReady,
+    WriteStep::Bytes(2),
+    WriteStep::NotReady,
+    WriteStep::NotConnected,
+];
+
+#[test]
+fn a_session_frame_waits_for_its_sink(rt: HostRuntime) -> Result<(), Fail> {
+    let stream = StreamBiLocalQuic::open_bi().upgrade();
+    let mut sink = Paced::new(rt.alloc(), &HALTS);
+    let Stepped::Pending(upgrading) = stream.upgrade_async(session_4()?).poll(&mut sink) else {
+        return Err("not ready")?;
+    };
+    let Stepped::Pending(upgrading) = upgrading.poll(&mut sink) else {
+        return Err("not ready again")?;
+    };
+    assert_eq!(rt; sink.taken(), [0x40, 0x41].as_slice());
+    let Stepped::Failed(upgrading, fault) = upgrading.poll(&mut sink) else {
+        return Err("lost")?;
+    };
+    assert_eq!(rt; fault, IoWriteError::NotConnected);
+    let Stepped::Done(stream) = upgrading.poll(&mut sink) else {
+        return Err("done")?;
+    };
+    assert_eq!(rt; sink.taken(), [0x40, 0x41, 0x04].as_slice());
+    assert_eq!(rt; stream.session_id(), session_4()?);
     Ok(())
 }
 
@@ -95,6 +126,30 @@ fn a_header_goes_on_elsewhere(rt: HostRuntime) -> Result<(), Fail> {
     for room in 0..3usize {
         check_uni_stop(&rt, room)?;
     }
+    Ok(())
+}
+
+#[test]
+fn a_header_waits_for_its_sink(rt: HostRuntime) -> Result<(), Fail> {
+    let header = StreamHeader::new_webtransport(session_4()?);
+    let mut sink = Paced::new(rt.alloc(), &HALTS);
+    let upgrading = StreamUniLocalQuic::open_uni().upgrade_async(header);
+    let Stepped::Pending(upgrading) = upgrading.poll(&mut sink) else {
+        return Err("not ready")?;
+    };
+    let Stepped::Pending(upgrading) = upgrading.poll(&mut sink) else {
+        return Err("not ready again")?;
+    };
+    assert_eq!(rt; sink.taken(), [0x40, 0x54].as_slice());
+    let Stepped::Failed(upgrading, fault) = upgrading.poll(&mut sink) else {
+        return Err("lost")?;
+    };
+    assert_eq!(rt; fault, IoWriteError::NotConnected);
+    let Stepped::Done(stream) = upgrading.poll(&mut sink) else {
+        return Err("done")?;
+    };
+    assert_eq!(rt; sink.taken(), [0x40, 0x54, 0x04].as_slice());
+    assert_eq!(rt; stream.kind(), StreamKind::WebTransport);
     Ok(())
 }
 

@@ -5,7 +5,7 @@ use crate::streams::session::opened;
 use std::borrow::CowSlice;
 use std::process::Abort;
 use std::test::Fail;
-use wtransport_proto::bytes::{IoWriteError, Polled, Stepped};
+use wtransport_proto::bytes::{IoWriteError, Polled, Stepped, WriteStep};
 use wtransport_proto::frame::Frame;
 use wtransport_proto::stream::bilocal::StreamBiLocalQuic;
 use wtransport_proto::stream::biremote::StreamBiRemoteQuic;
@@ -29,7 +29,11 @@ fn check_stop<R: Abort + AllocGlobal>(rt: &R, room: usize) {
     assert_eq!(rt; Some(sink.taken()), wire.get(..room));
     assert!(rt; stream.can_upgrade());
     let mut vector = Vec::new(rt.alloc());
-    assert_eq!(rt; stream.write_frame_async(&mut writing, &mut vector), DONE);
+    let mut answer = stream.write_frame_async(&mut writing, &mut vector);
+    if let Polled::NoMemory = answer {
+        answer = stream.write_frame_async(&mut writing, &mut vector);
+    }
+    assert_eq!(rt; answer, DONE);
     assert_eq!(rt; Some(vector.as_slice()), wire.get(room..));
     assert!(rt; !stream.can_upgrade());
 }
@@ -41,15 +45,65 @@ fn a_frame_goes_on_elsewhere(rt: HostRuntime) {
     }
 }
 
+/// Once all is sent, the sink is not called any more.
+#[test]
+fn a_frame_that_was_written_ends_upgrading(rt: HostRuntime) {
+    let steps = [
+        WriteStep::NotReady,
+        WriteStep::Bytes(2),
+        WriteStep::NotReady,
+        WriteStep::NotConnected,
+        WriteStep::Bytes(1),
+        WriteStep::Stopped,
+    ];
+    let frame = Frame::new_data(CowSlice::Borrowed(b"a"));
+    let mut stream = StreamBiLocalQuic::open_bi().upgrade();
+    let mut writing = frame.write_async();
+    let mut sink = Paced::new(rt.alloc(), &steps);
+    assert_eq!(rt;
+        stream.write_frame_async(&mut writing, &mut sink),
+        Polled::Pending
+    );
+    assert_eq!(rt;
+        stream.write_frame_async(&mut writing, &mut sink),
+        Polled::Pending
+    );
+    assert_eq!(rt;
+        stream.write_frame_async(&mut writing, &mut sink),
+        Polled::Ready(Err(IoWriteError::NotConnected))
+    );
+    assert!(rt; stream.can_upgrade());
+    assert_eq!(rt; stream.write_frame_async(&mut writing, &mut sink), DONE);
+    assert!(rt; !stream.can_upgrade());
+    assert_eq!(rt; stream.write_frame_async(&mut writing, &mut sink), DONE);
+    assert_eq!(rt; sink.left(), 1);
+    assert_eq!(rt; sink.taken(), b"\x00\x01a".as_slice());
+}
+
 #[test]
 fn refused_memory_for_a_frame_is_asked_for_again(rt: HostRuntime) {
-    let frame = Frame::new_data(CowSlice::Borrowed(b"a"));
+    let frame = Frame::new_data(CowSlice::Borrowed(b"abc"));
     let mut stream = StreamBiLocalQuic::open_bi().upgrade();
     let mut writing = frame.write_async();
     let mut vector = Vec::new(rt.alloc());
     let mut answer = stream.write_frame_async(&mut writing, &mut vector);
     if let Polled::NoMemory = answer {
         assert!(rt; stream.can_upgrade());
+        answer = stream.write_frame_async(&mut writing, &mut vector);
+    }
+    assert_eq!(rt; answer, DONE);
+    assert_eq!(rt; vector.as_slice(), b"\x00\x03abc".as_slice());
+    assert!(rt; !stream.can_upgrade());
+}
+
+#[test]
+fn a_frame_is_written_whole(rt: HostRuntime) {
+    let frame = Frame::new_data(CowSlice::Borrowed(b"a"));
+    let mut stream = StreamBiLocalQuic::open_bi().upgrade();
+    let mut writing = frame.write_async();
+    let mut vector = Vec::new(rt.alloc());
+    let mut answer = stream.write_frame_async(&mut writing, &mut vector);
+    if let Polled::NoMemory = answer {
         answer = stream.write_frame_async(&mut writing, &mut vector);
     }
     assert_eq!(rt; answer, DONE);
