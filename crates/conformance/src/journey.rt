@@ -92,6 +92,29 @@ fn a_map_comes_back(rt: HostRuntime) -> Result<(), Fail> {
     travels(&rt, rt.alloc(), &headers, &mut session)
 }
 
+#[test]
+fn no_turn_touches_nothing(rt: HostRuntime) -> Result<(), Fail> {
+    let headers = made(rt.alloc())?;
+    let mut stream = StreamBiRemoteQuic::accept_bi().upgrade();
+    let mut sink = Vec::new(rt.alloc());
+    let mut source = BYTES;
+    let outcome = journey::send_and_receive(
+        rt.alloc(),
+        &headers,
+        &mut sink,
+        &mut stream,
+        &mut source,
+        0,
+    );
+    match outcome.err() {
+        Some(JourneyError::Frame(error)) => assert_eq!(rt; error, GenerateError::Memory),
+        error => assert_eq!(rt; error, Some(JourneyError::Send(SendError::Waiting))),
+    }
+    assert!(rt; sink.is_empty());
+    assert_eq!(rt; source, BYTES);
+    Ok(())
+}
+
 /// Why no map is read from bytes that take no memory, on a stream that the peer opened.
 fn refusal(alloc: Global, bytes: &[u8], turns: u32) -> Option<ReceiveError> {
     let mut stream = StreamBiRemoteQuic::accept_bi().upgrade();
