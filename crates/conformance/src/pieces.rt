@@ -147,6 +147,24 @@ impl AsyncRead for Answers<'_> {
     }
 }
 
+static ONE_A_CALL: [WriteStep; 10] = [
+    WriteStep::Bytes(1),
+    WriteStep::Bytes(1),
+    WriteStep::Bytes(1),
+    WriteStep::Bytes(1),
+    WriteStep::Bytes(1),
+    WriteStep::Bytes(1),
+    WriteStep::Bytes(1),
+    WriteStep::Bytes(1),
+    WriteStep::Stopped,
+    WriteStep::NotConnected,
+];
+
+/// Answers of a sink that takes so many bytes (8 at most), one a call, then stops, and is then lost.
+pub(crate) fn stops_behind(bytes: usize) -> &'static [WriteStep] {
+    ONE_A_CALL.get(8usize.wrapping_sub(bytes)..).unwrap_or(&[])
+}
+
 /// Answers of a sink that is not ready before each byte and takes one a call, for 32 bytes.
 pub(crate) static BYTE_BY_BYTE: [[WriteStep; 2]; 32] = [[
     WriteStep::NotReady,

@@ -1,5 +1,5 @@
 //! Numbers and buffers, read and written poll by poll.
-use crate::pieces::{Answers, BYTE_BY_BYTE, End, Paced, Trickle};
+use crate::pieces::{Answers, BYTE_BY_BYTE, End, Paced, Trickle, stops_behind};
 use std::io;
 use std::io::ErrorKind;
 use std::process::Abort;
@@ -223,21 +223,11 @@ fn a_buffer_is_written(rt: HostRuntime) {
     assert_eq!(rt; slow.taken(), TEXT.as_slice());
 }
 
-/// One byte a call, and then no more: from the middle of it on, this or fewer bytes and a stop.
-const ONE_A_CALL: [WriteStep; 5] = [
-    WriteStep::Bytes(1),
-    WriteStep::Bytes(1),
-    WriteStep::Bytes(1),
-    WriteStep::Stopped,
-    WriteStep::NotConnected,
-];
-
 #[test]
 fn a_stopped_number_is_written_on(rt: HostRuntime) {
     let bytes = [0x9d, 0x7f, 0x3e, 0x7d];
     for sent in 0..=3usize {
-        let steps = ONE_A_CALL.get(3usize.wrapping_sub(sent)..).unwrap_or(&[]);
-        let mut sink = Paced::new(rt.alloc(), steps);
+        let mut sink = Paced::new(rt.alloc(), stops_behind(sent));
         let mut writing = PutVarint::new(VarInt::from_u32(494878333));
         for fault in [IoWriteError::Stopped, IoWriteError::NotConnected] {
             assert_eq!(rt;
@@ -256,8 +246,7 @@ fn a_stopped_number_is_written_on(rt: HostRuntime) {
 #[test]
 fn a_stopped_buffer_is_written_on(rt: HostRuntime) {
     for sent in 0..=3usize {
-        let steps = ONE_A_CALL.get(3usize.wrapping_sub(sent)..).unwrap_or(&[]);
-        let mut sink = Paced::new(rt.alloc(), steps);
+        let mut sink = Paced::new(rt.alloc(), stops_behind(sent));
         let mut writing = PutBuffer::new(TEXT);
         for fault in [IoWriteError::Stopped, IoWriteError::NotConnected] {
             assert_eq!(rt;

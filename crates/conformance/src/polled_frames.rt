@@ -1,6 +1,6 @@
 //! Frames, read and written poll by poll.
-use crate::pieces::{Answers, BYTE_BY_BYTE, End, Paced, Trickle};
-use std::alloc::{AllocError, Global};
+use crate::pieces::{Answers, BYTE_BY_BYTE, End, Paced, Trickle, stops_behind};
+use std::alloc::AllocError;
 use std::borrow::CowSlice;
 use std::process::Abort;
 use std::test::Fail;
@@ -84,15 +84,18 @@ fn check_pending<R: Abort, S: AsyncRead>(
     }
 }
 
+/// A table of 2 bytes, one blocked stream, datagrams, WebTransport and three sessions.
 const SETTINGS: &[u8; 22] = &[
     0x04, 0x14, 0x01, 0x02, 0x07, 0x01, 0x33, 0x01, 0xab, 0x60, 0x37, 0x42, 0x01, 0xc0, 0x00, 0x00,
     0x00, 0xc6, 0x71, 0x70, 0x6a, 0x03,
 ];
 
+/// `key1` is `value1`.
 const HEADERS: &[u8; 14] = &[
     0x01, 0x0c, 0x00, 0x00, 0x2b, 0xea, 0x5f, 0x41, 0x85, 0xee, 0x3a, 0x2d, 0x28, 0x7f,
 ];
 
+/// The stream is one of session 0.
 const SESSION: &[u8; 3] = &[0x40, 0x41, 0x00];
 
 /// The frame's bytes, whole and byte by byte, and then no more.
@@ -364,21 +367,10 @@ fn a_waiting_and_stopped_frame_is_written(rt: HostRuntime) {
     assert_eq!(rt; sink.taken(), [0x00, 0x03, 0x61, 0x62].as_slice());
 }
 
-/// One byte a call, then a stop and a loss: its end from a place on has fewer bytes.
-const ONE_A_CALL: [WriteStep; 6] = [
-    WriteStep::Bytes(1),
-    WriteStep::Bytes(1),
-    WriteStep::Bytes(1),
-    WriteStep::Bytes(1),
-    WriteStep::Stopped,
-    WriteStep::NotConnected,
-];
-
 /// A frame into a sink that takes so many bytes, one a call, and the rest of it into a vector.
 fn check_stopped<R: Abort + AllocGlobal>(rt: &R, sent: usize) {
     let frame = Frame::new_data(CowSlice::Borrowed(b"abc"));
-    let steps = ONE_A_CALL.get(4usize.wrapping_sub(sent)..).unwrap_or(&[]);
-    let mut sink = Paced::new(rt.alloc(), steps);
+    let mut sink = Paced::new(rt.alloc(), stops_behind(sent));
     let mut writing = frame.write_async();
     for fault in [IoWriteError::Stopped, IoWriteError::NotConnected] {
         assert_eq!(rt;

@@ -1,9 +1,9 @@
 //! Headers of streams, read and written poll by poll.
-use crate::pieces::{Answers, BYTE_BY_BYTE, End, Paced, Trickle};
+use crate::pieces::{Answers, BYTE_BY_BYTE, End, Paced, Trickle, stops_behind};
 use std::process::Abort;
 use std::test::Fail;
 use wtransport_proto::bytes;
-use wtransport_proto::bytes::{AsyncRead, IoWriteError, Polled, ReadStep, WriteStep};
+use wtransport_proto::bytes::{AsyncRead, IoWriteError, Polled, ReadStep};
 use wtransport_proto::ids::SessionId;
 use wtransport_proto::stream_header::{
     HeaderReading, IoReadError, ParseError, StreamHeader, StreamKind,
@@ -47,6 +47,7 @@ fn check_read<R: Abort>(rt: &R, bytes: &[u8], answer: &Answer) {
     assert!(rt; slow.rest().is_empty());
 }
 
+/// The header of session 0.
 const SESSION: &[u8; 3] = &[0x40, 0x54, 0x00];
 
 /// The header of session 2^62 - 4.
@@ -189,19 +190,10 @@ fn headers_are_written(rt: HostRuntime) -> Result<(), Fail> {
     Ok(())
 }
 
-/// One byte a call, then a stop and a loss: its end from a place on has fewer bytes.
-const ONE_A_CALL: [WriteStep; 4] = [
-    WriteStep::Bytes(1),
-    WriteStep::Bytes(1),
-    WriteStep::Stopped,
-    WriteStep::NotConnected,
-];
-
 #[test]
 fn a_stopped_header_is_written_on(rt: HostRuntime) -> Result<(), Fail> {
     for sent in 0..=2usize {
-        let steps = ONE_A_CALL.get(2usize.wrapping_sub(sent)..).unwrap_or(&[]);
-        let mut sink = Paced::new(rt.alloc(), steps);
+        let mut sink = Paced::new(rt.alloc(), stops_behind(sent));
         let mut writing = session(0)?.write_async();
         for fault in [IoWriteError::Stopped, IoWriteError::NotConnected] {
             assert_eq!(rt;
