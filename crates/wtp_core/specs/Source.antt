@@ -57,3 +57,7 @@ StepMoves NotConnected buf a b = IsOver a b AtDisconnection
 
 abbrev pub StepTells : ReadStep → List ℕ → Option Source → Option Source → Type 0
 StepTells step buf old new = Telling old new (λ a b. AsksOnce a b × StepMoves step buf a b)
+
+-- these bytes were taken from those ahead, in one call
+abbrev pub WholeMoves : List ℕ → Source → Source → Type 0
+WholeMoves bytes a b = AsksOnce a b × (a.ahead ≡ bytes ++ b.ahead) × (b.waits ≡ a.waits)

@@ -1,6 +1,8 @@
 //! Polled sources of bytes, and slices as sources.
-ghost use Rattle.std.specs.Prelude.{◌≡◌, ℕ, Option, Some, None, ◌≤◌, length};
-ghost use Rattle.wtp_core.specs.Source.{Source, StepKeepsLengths, StepTells, all_ahead};
+ghost use Rattle.std.specs.Prelude.{◌≡◌, ℕ, Option, Some, None, ◌≤◌, length, take, vec_len, IfOk, IfSome};
+ghost use Rattle.wtp_core.specs.Source.{Source, StepKeepsLengths, StepTells, Telling, WholeMoves, all_ahead};
+
+use std::alloc::{AllocError, Global};
 
 /// One answer of a source.
 #[derive(Clone, Copy, Debug, PartialEq, Eq)]
@@ -27,6 +29,17 @@ pub trait AsyncRead {
     fn poll_read(&mut self, buf: &mut [u8]) -> ReadStep
         ensures lengths { StepKeepsLengths result (length buf.new) }
         ensures tells { StepTells result buf.new (tells self.old) (tells self.new) };
+
+    /// The next bytes, `size` of them, in a vector of their own, where the source has them all at
+    /// hand. `None`, and nothing is taken, where it hasn't or where no memory is to be had (own).
+    fn poll_whole(&mut self, alloc: Global, size: usize) -> Option<Vec<u8>>
+        ensures whole { IfSome result (λ v. (vec_len v ≡ size) × Telling (tells self.old) (tells self.new) (WholeMoves v.items)) }
+        ensures none { result ≡ None → self.new ≡ self.old }
+    {
+        let _ = alloc;
+        let _ = size;
+        None
+    }
 }
 
 impl AsyncRead for &[u8] {
@@ -45,6 +58,41 @@ impl AsyncRead for &[u8] {
         *self = rest;
         ReadStep::Bytes(n)
     }
+
+    #[inline(always)]
+    fn poll_whole(&mut self, alloc: Global, size: usize) -> Option<Vec<u8>> {
+        if self.len() < size {
+            return None;
+        }
+        match copied(alloc, self, size) {
+            Ok(copy) => {
+                *self = self.split_at(size).1;
+                Some(copy)
+            }
+            Err(_) => None,
+        }
+    }
+}
+
+// The first bytes in a vector of their own. An allocator gives no less than 24 bytes, and so many are
+// moved without a call.
+#[inline(always)]
+fn copied(alloc: Global, bytes: &[u8], size: usize) -> Result<Vec<u8>, AllocError>
+    requires { size ≤ length bytes.now }
+    ensures { IfOk result (λ v. v.items ≡ take size bytes.now) }
+{
+    if size <= 24 {
+        if let Some(front) = bytes.first_chunk::<24>() {
+            return match Vec::from_array(alloc, *front) {
+                Ok(mut copy) => {
+                    copy.truncate(size);
+                    Ok(copy)
+                }
+                Err(_) => Err(AllocError),
+            };
+        }
+    }
+    Vec::from_slice(alloc, bytes.split_at(size).0)
 }
 
 // At most two bytes, into a buffer of two.

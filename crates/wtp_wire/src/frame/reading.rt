@@ -11,7 +11,7 @@ ghost use Rattle.wtp_wire.specs.FrameSteps.{IsReading, halted_frame, PayloadKeep
 
 use crate::frame::head::{FrameHead, Said, read_head};
 use crate::frame::{Frame, FrameKind, FrameOwned, ParseError};
-use std::alloc::{AllocError, Global};
+use std::alloc::Global;
 use std::borrow::CowSlice;
 use std::marker::Model;
 use std::mem;
@@ -298,34 +298,18 @@ fn fill_payload<S: AsyncRead>(
         (S.tells source.old) (S.tells source.new) }
 {
     if payload.len() < size {
-        match payload_room(*payload.allocator(), size) {
-            Ok(room) => *payload = room,
-            Err(_) => return Err(PayloadHalt::NoMemory),
+        if let Some(whole) = source.poll_whole(*payload.allocator(), size) {
+            *payload = whole;
+            *filled = size;
+            return Ok(());
+        }
+        if payload.reserve_exact(size).is_err() || payload.resize(size, 0).is_err() {
+            return Err(PayloadHalt::NoMemory);
         }
     }
     match fill(source, payload.as_mut_slice(), filled) {
         Ok(()) => Ok(()),
         Err(halt) => Err(PayloadHalt::Source(halt)),
-    }
-}
-
-/// Room for a payload of this size. An allocator gives no less than 24 bytes, and those are cleared by
-/// a few moves, with no call.
-#[inline(always)]
-fn payload_room(alloc: Global, size: usize) -> Result<Vec<u8>, AllocError>
-    ensures { IfOk result (λ room. vec_len room ≡ size) }
-{
-    if size > 24 {
-        let mut room = Vec::with_capacity(alloc, size)?;
-        room.resize(size, 0)?;
-        return Ok(room);
-    }
-    match Vec::from_array(alloc, [0; 24]) {
-        Ok(mut room) => {
-            room.truncate(size);
-            Ok(room)
-        }
-        Err(_) => Err(AllocError),
     }
 }
 
