@@ -18,6 +18,8 @@ mod readers;
 #[cfg(test)]
 mod requests;
 #[cfg(test)]
+mod stepped;
+#[cfg(test)]
 mod streams;
 #[cfg(test)]
 mod varints;

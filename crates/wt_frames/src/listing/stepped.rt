@@ -34,6 +34,7 @@ pub fn list_stepped(alloc: Global, k: usize, input: &[u8]) -> Result<Listing, Al
     let mut source = CutSource::new(input, k);
     let mut frames = Vec::new(alloc);
     let mut text = Vec::new(alloc);
+    // Each drive waits or takes bytes, and the source waits at most once more than it has bytes.
     'drives: loop {
         let driven = drive(&mut stream, &mut reading, &mut source, &mut frames, POLLS);
         add_lines(alloc, &mut text, frames.as_slice())?;
@@ -64,11 +65,11 @@ fn closed(alloc: Global, mut text: Vec<u8>, fault: IoReadError) -> Result<Listin
     ensures status { (e : Ending) → IsFault fault e → IfOk result (λ l. l.status ≡ status_of e) }
     ensures either { IfOk result (λ l. (l.status ≡ 0) ⊎ (l.status ≡ 2)) }
 {
-    let (line, status) = match fault {
+    let (last, status) = match fault {
         IoReadError::H3(code) => (fault_line(alloc, code)?, 2),
         IoReadError::IO(bytes::IoReadError::ImmediateFin) => (end_line(alloc, 0)?, 0),
         IoReadError::IO(_) => unreachable!(),
     };
-    text.extend_from_slice(line.as_bytes())?;
+    text.extend_from_slice(last.as_bytes())?;
     Ok(Listing { text, status })
 }
