@@ -92,6 +92,8 @@ const LISTING: &str = "WEBTRANSPORT 4\nDATA 1\nEND 0\n";
 
 const FAULT: &str = "FAULT FrameUnexpectedError 261\n";
 
+const CUT: &str = "FAULT FrameError 262\n";
+
 /// The HEADERS frame of the request for `https://example.com/`.
 const REQUEST: [u8; 42] =
     *b"\x01\x28\x00\x00\x50\x88\x2f\x91\xd3\x5d\x05\x5c\x87\xa7\xcf\xc1\x2f\x00\xb9\x5d\x87\x49\xc8\x7a\x3f\x89\xf0\x58\xd3\x60\xea\x45\x67\xb1\x3f\x5f\x07\x84\x9d\x29\xad\x1f";
@@ -100,7 +102,7 @@ const FIELDS: &str =
     "FIELD :authority=example.com\nFIELD :method=CONNECT\nFIELD :path=/\nFIELD :protocol=webtransport\nFIELD :scheme=https\nEND 0\n";
 
 /// Words that name a listing, input, status and text.
-const NAMED: [(&[&str], &[u8], u8, &str); 11] = [
+const NAMED: [(&[&str], &[u8], u8, &str); 17] = [
     (&[], &INPUT, 0, LISTING),
     (&["buffer"], &INPUT, 0, LISTING),
     (&["buffer", "bi-remote"], &INPUT, 0, LISTING),
@@ -114,6 +116,12 @@ const NAMED: [(&[&str], &[u8], u8, &str); 11] = [
         0,
         "SETTINGS 0\nEND 0\n",
     ),
+    (&["stepped", "1"], &INPUT, 0, LISTING),
+    (&["stepped", "1048576"], &INPUT, 0, LISTING),
+    (&["stepped", "0003"], &INPUT, 0, LISTING),
+    (&["stepped", "1"], b"\x00\x05a", 2, CUT),
+    (&["stepped", "01048576"], b"\x0a\x05a", 2, CUT),
+    (&["stepped", "0000000000000000000000002"], b"", 0, "END 0\n"),
     (&["request"], &REQUEST, 0, FIELDS),
     (&["request"], b"\x00\x05a", 0, "END 3\n"),
     (&["request"], &INPUT, 2, FAULT),

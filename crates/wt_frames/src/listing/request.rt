@@ -57,8 +57,8 @@ fn list_fields(
         let line = field_line(alloc, name.as_str(), value.as_str())?;
         text.extend_from_slice(line.as_bytes())?;
     }
-    let line = end_line(alloc, rest)?;
-    text.extend_from_slice(line.as_bytes())?;
+    let last = end_line(alloc, rest)?;
+    text.extend_from_slice(last.as_bytes())?;
     Ok(Listing { text, status: 0 })
 }
 

@@ -50,14 +50,8 @@ fn detailed_command(name: &str, detail: &str) -> Option<Command>
     ensures none { IfNone result (NamesNone (name.now ∷ detail.now ∷ [])) }
 {
     match name {
-        "buffer" => match named_kind(detail) {
-            Some(kind) => Some(Command::Buffer(kind)),
-            None => None,
-        },
-        "stepped" => match written_size(detail) {
-            Some(size) => Some(Command::Stepped(size)),
-            None => None,
-        },
+        "buffer" => named_kind(detail).map(Command::Buffer),
+        "stepped" => written_size(detail).map(Command::Stepped),
         _ => None,
     }
 }
