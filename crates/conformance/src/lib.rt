@@ -14,6 +14,12 @@ mod listings;
 #[cfg(test)]
 mod pieces;
 #[cfg(test)]
+mod polled_bytes;
+#[cfg(test)]
+mod polled_frames;
+#[cfg(test)]
+mod polled_headers;
+#[cfg(test)]
 mod programs;
 #[cfg(test)]
 mod readers;

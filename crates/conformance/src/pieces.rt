@@ -4,7 +4,7 @@ ghost use Rattle.wtp_core.specs.Source.{Source, Ending, AtEnd, AtReset, AtDiscon
 ghost use Rattle.wtp_core.specs.Sink.{Sink};
 
 use std::alloc::Global;
-use wtransport_proto::bytes::{AsyncRead, AsyncWrite, ReadStep, WriteStep};
+use wtransport_proto::bytes::{AsyncRead, AsyncWrite, IoReadError, ReadStep, WriteStep};
 
 /// How a source ends.
 #[derive(Clone, Copy, Debug, PartialEq, Eq)]
@@ -12,6 +12,20 @@ pub(crate) enum End {
     Fin,
     Reset,
     NotConnected,
+}
+
+impl End {
+    pub(crate) const EACH: [End; 3] = [End::Fin, End::Reset, End::NotConnected];
+
+    /// What a reading answers at this end, where it took so many bytes of what it reads.
+    pub(crate) fn fault(self, taken: usize) -> IoReadError {
+        match self {
+            End::Fin if taken == 0 => IoReadError::ImmediateFin,
+            End::Fin => IoReadError::UnexpectedFin,
+            End::Reset => IoReadError::Reset,
+            End::NotConnected => IoReadError::NotConnected,
+        }
+    }
 }
 
 /// Gives one byte a call, and is not ready once before each byte and once before its end, where it
@@ -132,6 +146,30 @@ impl AsyncRead for Answers<'_> {
         ReadStep::Bytes(n)
     }
 }
+
+static ONE_A_CALL: [WriteStep; 10] = [
+    WriteStep::Bytes(1),
+    WriteStep::Bytes(1),
+    WriteStep::Bytes(1),
+    WriteStep::Bytes(1),
+    WriteStep::Bytes(1),
+    WriteStep::Bytes(1),
+    WriteStep::Bytes(1),
+    WriteStep::Bytes(1),
+    WriteStep::Stopped,
+    WriteStep::NotConnected,
+];
+
+/// Answers of a sink that takes so many bytes (8 at most), one a call, then stops, and is then lost.
+pub(crate) fn stops_behind(bytes: usize) -> &'static [WriteStep] {
+    ONE_A_CALL.get(8usize.wrapping_sub(bytes)..).unwrap_or(&[])
+}
+
+/// Answers of a sink that is not ready before each byte and takes one a call, for 32 bytes.
+pub(crate) static BYTE_BY_BYTE: [[WriteStep; 2]; 32] = [[
+    WriteStep::NotReady,
+    WriteStep::Bytes(1),
+]; 32];
 
 /// Answers by a list, where `Bytes(n)` takes at most n bytes, and at least one; then it takes all,
 /// as a vector does. It tells all that it takes.
