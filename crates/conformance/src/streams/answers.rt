@@ -55,18 +55,24 @@ pub(crate) fn stops_behind(room: usize) -> &'static [WriteStep] {
     STOPS.get(4usize.saturating_sub(room)..).unwrap_or(&[])
 }
 
-/// The answer is this one.
-pub(crate) fn check_answer<R: Abort>(rt: &R, answered: &Answered, answer: &Answer<'_>, word: &str) {
+/// The answer is this one. What the row shows and the place in it are for the message.
+pub(crate) fn check_answer<R: Abort>(
+    rt: &R,
+    answered: &Answered,
+    answer: &Answer<'_>,
+    word: &str,
+    place: usize,
+) {
     match (answered, answer) {
         (Polled::Ready(Ok(frame)), Answer::Frame(number, payload)) => {
             check_frame(rt, frame, *number, payload, word);
         }
         (Polled::Ready(Err(fault)), Answer::Fault(wanted)) => {
-            assert!(rt; fault == wanted, "{word}: {fault:?}");
+            assert!(rt; fault == wanted, "{word}, {place}: {fault:?}");
         }
         (Polled::Pending, Answer::Pending) => {}
         (Polled::Again, Answer::Again) => {}
-        _ => panic!(rt; "{word}: another answer"),
+        _ => panic!(rt; "{word}, {place}: another answer"),
     }
 }
 
@@ -92,11 +98,11 @@ pub(crate) fn check_polls<R: Abort, S: AsyncRead>(
     answers: &[Answer<'_>],
     word: &str,
 ) {
-    for answer in answers {
+    for (place, answer) in answers.iter().enumerate() {
         let mut answered = stream.read_frame_async(reading, source);
         if let Polled::NoMemory = answered {
             answered = stream.read_frame_async(reading, source);
         }
-        check_answer(rt, &answered, answer, word);
+        check_answer(rt, &answered, answer, word, place);
     }
 }

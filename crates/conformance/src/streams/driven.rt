@@ -9,7 +9,7 @@ use wtransport_proto::bytes::{AsyncRead, IoReadError as Fault};
 use wtransport_proto::error::ErrorCode;
 use wtransport_proto::frame::{Frame, FrameOwned, FrameReading};
 use wtransport_proto::stream::bilocal::StreamBiLocalQuic;
-use wtransport_proto::stream::biremote::{StreamBiRemoteH3, StreamBiRemoteQuic};
+use wtransport_proto::stream::biremote::StreamBiRemoteQuic;
 use wtransport_proto::stream::{Driven, IoReadError, ReadsFrames, drive};
 
 const FIN: Driven = Driven::Ended(IoReadError::IO(Fault::ImmediateFin));
@@ -17,13 +17,15 @@ const FIN: Driven = Driven::Ended(IoReadError::IO(Fault::ImmediateFin));
 const CUT: Driven = Driven::Ended(IoReadError::H3(ErrorCode::Frame));
 
 /// Drives the stream; where no memory is to be had, once more.
-fn driven<S: AsyncRead>(
-    stream: &mut StreamBiRemoteH3,
+fn driven<K: ReadsFrames, S: AsyncRead>(
+    stream: &mut K,
     reading: &mut FrameReading,
     source: &mut S,
     out: &mut Vec<FrameOwned>,
     polls: u32,
-) -> Driven {
+) -> Driven
+    requires { K.can stream.old }
+{
     match drive(stream, reading, source, out, polls) {
         Driven::NoMemory => drive(stream, reading, source, out, polls),
         driven => driven,
@@ -172,14 +174,16 @@ fn check_driven<R: Abort + AllocGlobal, K: ReadsFrames>(
     bytes: &[u8],
     frames: &[(u64, &[u8])],
     fault: IoReadError,
+    word: &str,
 ) {
     let mut reading = Frame::read_async(rt.alloc());
     let mut out = Vec::new(rt.alloc());
     let mut source = bytes;
     assert!(rt; stream.can_read());
     assert_eq!(rt;
-        drive(stream, &mut reading, &mut source, &mut out, 10),
-        Driven::Ended(fault)
+        driven(stream, &mut reading, &mut source, &mut out, 10),
+        Driven::Ended(fault),
+        "{word}"
     );
     check_frames(rt, &out, frames);
 }
@@ -193,14 +197,35 @@ fn each_reading_state_is_driven(rt: HostRuntime) -> Result<(), Fail> {
     let late = IoReadError::H3(ErrorCode::Frame);
     let session = b"\x40\x41\x00\x40\x41\x00";
     let mut stream = StreamBiRemoteQuic::accept_bi().upgrade();
-    check_driven(&rt, &mut stream, session, &[(0x41, b"")], late);
+    check_driven(
+        &rt,
+        &mut stream,
+        session,
+        &[(0x41, b"")],
+        late,
+        "opened there",
+    );
     let mut stream = StreamBiLocalQuic::open_bi().upgrade();
-    check_driven(&rt, &mut stream, session, &[], UNEXPECTED);
+    check_driven(&rt, &mut stream, session, &[], UNEXPECTED, "opened here");
     let mut stream = opened(rt.alloc())?;
     let headers = b"\x01\x01a\x04\x00";
-    check_driven(&rt, &mut stream, headers, &[(0x01, b"a")], UNEXPECTED);
+    check_driven(
+        &rt,
+        &mut stream,
+        headers,
+        &[(0x01, b"a")],
+        UNEXPECTED,
+        "of a session",
+    );
     let mut stream = upgraded(&[0x00])?;
     let settings = b"\x04\x00\x07\x01\x00\x04\x00";
-    check_driven(&rt, &mut stream, settings, &[(0x04, b""), (0x04, b"")], fin);
+    check_driven(
+        &rt,
+        &mut stream,
+        settings,
+        &[(0x04, b""), (0x04, b"")],
+        fin,
+        "control",
+    );
     Ok(())
 }

@@ -206,13 +206,13 @@ fn check_stop<R: Abort + AllocGlobal>(rt: &R, len: usize, end: End) {
     let mut source = Trickle::new(EXERCISE_THEN_SESSION.get(..len).unwrap_or(&[]), end);
     if len >= 9 {
         let first = answered(&mut stream, &mut reading, &mut source);
-        check_answer(rt, &first, &Answer::Frame(0x21, b"Payload"), "first");
+        check_answer(rt, &first, &Answer::Frame(0x21, b"Payload"), "first", len);
     }
     let last = answered(&mut stream, &mut reading, &mut source);
-    check_answer(rt, &last, &last_answer(len, end), "last");
+    check_answer(rt, &last, &last_answer(len, end), "last", len);
     if len < 12 {
         let again = answered(&mut stream, &mut reading, &mut source);
-        check_answer(rt, &again, &last_answer(len, end), "again");
+        check_answer(rt, &again, &last_answer(len, end), "again", len);
     }
 }
 
@@ -235,6 +235,6 @@ fn refused_memory_for_a_payload_is_asked_for_again(rt: HostRuntime) {
         assert_eq!(rt; source, b"abc".as_slice());
         answered = stream.read_frame_async(&mut reading, &mut source);
     }
-    check_answer(&rt, &answered, &Answer::Frame(0x00, b"abc"), "data");
+    check_answer(&rt, &answered, &Answer::Frame(0x00, b"abc"), "data", 0);
     assert!(rt; source.is_empty());
 }

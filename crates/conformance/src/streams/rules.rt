@@ -10,8 +10,8 @@ use wtransport_proto::stream::IoReadError;
 use wtransport_proto::stream::bilocal::StreamBiLocalQuic;
 use wtransport_proto::stream::biremote::StreamBiRemoteQuic;
 
-/// What a source gives before its end, and the answers of the polls.
-type Row = (&'static [u8], &'static [Answer<'static>]);
+/// What a source gives before its end, the answers of the polls, and what the row shows.
+type Row = (&'static [u8], &'static [Answer<'static>], &'static str);
 
 const UNEXPECTED: Answer<'static> = Answer::Fault(IoReadError::H3(ErrorCode::FrameUnexpected));
 
@@ -21,63 +21,75 @@ const TOO_BIG: Answer<'static> = Answer::Fault(IoReadError::H3(ErrorCode::Excess
 
 /// A stream that the peer opened: a session may come first, and not behind a frame that was read.
 const OPENED_THERE: [Row; 9] = [
-    (b"\x00\x01a", &[Answer::Frame(0x00, b"a"), FIN]),
-    (b"\x01\x01a", &[Answer::Frame(0x01, b"a"), FIN]),
-    (b"\x04\x00", &[UNEXPECTED, FIN]),
-    (b"\x40\x41\x04", &[Answer::Frame(0x41, b""), FIN]),
-    (b"\x21\x01a", &[Answer::Frame(0x21, b"a"), FIN]),
+    (b"\x00\x01a", &[Answer::Frame(0x00, b"a"), FIN], "data"),
+    (b"\x01\x01a", &[Answer::Frame(0x01, b"a"), FIN], "headers"),
+    (b"\x04\x00", &[UNEXPECTED, FIN], "settings"),
+    (
+        b"\x40\x41\x04",
+        &[Answer::Frame(0x41, b""), FIN],
+        "a session",
+    ),
+    (b"\x21\x01a", &[Answer::Frame(0x21, b"a"), FIN], "exercise"),
     (
         b"\x0a\x00\x40\x41\x04",
         &[Answer::Again, Answer::Frame(0x41, b""), FIN],
+        "a session behind an unknown frame",
     ),
     (
         b"\x40\x41\x01\x40\x41\x04",
         &[BAD_SESSION, Answer::Frame(0x41, b""), FIN],
+        "a session behind a number that is none",
     ),
     (
         b"\x00\x50\x01\x40\x41\x04",
         &[TOO_BIG, Answer::Frame(0x41, b""), FIN],
+        "a session behind a length that is too big",
     ),
     (
         b"\x00\x00\x40\x41\x04",
         &[Answer::Frame(0x00, b""), CUT, FIN],
+        "a session behind data",
     ),
 ];
 
 #[test]
 fn a_stream_opened_there_keeps_its_rule(rt: HostRuntime) {
-    for (bytes, answers) in OPENED_THERE {
+    for (bytes, answers, word) in OPENED_THERE {
         let mut stream = StreamBiRemoteQuic::accept_bi().upgrade();
         let mut reading = Frame::read_async(rt.alloc());
         let mut source = bytes;
-        check_polls(&rt, &mut stream, &mut reading, &mut source, answers, "rule");
+        check_polls(&rt, &mut stream, &mut reading, &mut source, answers, word);
     }
 }
 
 /// A stream in both directions that was opened here, or that has its session.
 const OPENED_HERE: [Row; 8] = [
-    (b"\x00\x01a", &[Answer::Frame(0x00, b"a"), FIN]),
-    (b"\x01\x01a", &[Answer::Frame(0x01, b"a"), FIN]),
-    (b"\x04\x00", &[UNEXPECTED, FIN]),
-    (b"\x40\x41\x04", &[UNEXPECTED, FIN]),
-    (b"\x21\x01a", &[Answer::Frame(0x21, b"a"), FIN]),
-    (b"\x0a\x01x\x00", &[Answer::Again, CUT]),
-    (b"\x40\x41\x01", &[BAD_SESSION, FIN]),
-    (b"\x00\x50\x01", &[TOO_BIG, FIN]),
+    (b"\x00\x01a", &[Answer::Frame(0x00, b"a"), FIN], "data"),
+    (b"\x01\x01a", &[Answer::Frame(0x01, b"a"), FIN], "headers"),
+    (b"\x04\x00", &[UNEXPECTED, FIN], "settings"),
+    (b"\x40\x41\x04", &[UNEXPECTED, FIN], "a session"),
+    (b"\x21\x01a", &[Answer::Frame(0x21, b"a"), FIN], "exercise"),
+    (
+        b"\x0a\x01x\x00",
+        &[Answer::Again, CUT],
+        "a cut frame behind an unknown one",
+    ),
+    (b"\x40\x41\x01", &[BAD_SESSION, FIN], "no session"),
+    (b"\x00\x50\x01", &[TOO_BIG, FIN], "length 4097"),
 ];
 
 #[test]
 fn a_stream_opened_here_keeps_its_rule(rt: HostRuntime) {
     let stream = StreamBiLocalQuic::open_bi().upgrade();
-    for (bytes, answers) in OPENED_HERE {
+    for (bytes, answers, word) in OPENED_HERE {
         let mut reading = Frame::read_async(rt.alloc());
         let mut source = bytes;
-        for answer in answers {
+        for (place, answer) in answers.iter().enumerate() {
             let mut answered = stream.read_frame_async(&mut reading, &mut source);
             if let Polled::NoMemory = answered {
                 answered = stream.read_frame_async(&mut reading, &mut source);
             }
-            check_answer(&rt, &answered, answer, "rule");
+            check_answer(&rt, &answered, answer, word, place);
         }
     }
     assert!(rt; stream.can_upgrade());
@@ -86,15 +98,15 @@ fn a_stream_opened_here_keeps_its_rule(rt: HostRuntime) {
 #[test]
 fn the_stream_of_a_session_keeps_its_rule(rt: HostRuntime) -> Result<(), Fail> {
     let stream = opened(rt.alloc())?;
-    for (bytes, answers) in OPENED_HERE {
+    for (bytes, answers, word) in OPENED_HERE {
         let mut reading = Frame::read_async(rt.alloc());
         let mut source = bytes;
-        for answer in answers {
+        for (place, answer) in answers.iter().enumerate() {
             let mut answered = stream.read_frame_async(&mut reading, &mut source);
             if let Polled::NoMemory = answered {
                 answered = stream.read_frame_async(&mut reading, &mut source);
             }
-            check_answer(&rt, &answered, answer, "rule");
+            check_answer(&rt, &answered, answer, word, place);
         }
     }
     Ok(())
@@ -102,14 +114,15 @@ fn the_stream_of_a_session_keeps_its_rule(rt: HostRuntime) -> Result<(), Fail> {
 
 /// A control stream that the peer opened.
 const CONTROL: [Row; 8] = [
-    (b"\x00\x01a", &[UNEXPECTED, FIN]),
-    (b"\x01\x01a", &[UNEXPECTED, FIN]),
+    (b"\x00\x01a", &[UNEXPECTED, FIN], "data"),
+    (b"\x01\x01a", &[UNEXPECTED, FIN], "headers"),
     (
         b"\x04\x02\x33\x01",
         &[Answer::Frame(0x04, b"\x33\x01"), FIN],
+        "settings",
     ),
-    (b"\x40\x41\x04", &[UNEXPECTED, FIN]),
-    (b"\x21\x01a", &[Answer::Frame(0x21, b"a"), FIN]),
+    (b"\x40\x41\x04", &[UNEXPECTED, FIN], "a session"),
+    (b"\x21\x01a", &[Answer::Frame(0x21, b"a"), FIN], "exercise"),
     (
         b"\x04\x00\x07\x01\x00\x04\x00",
         &[
@@ -118,18 +131,19 @@ const CONTROL: [Row; 8] = [
             Answer::Frame(0x04, b""),
             FIN,
         ],
+        "an unknown frame between settings",
     ),
-    (b"\x40\x41\x01", &[BAD_SESSION, FIN]),
-    (b"\x00\x50\x01", &[TOO_BIG, FIN]),
+    (b"\x40\x41\x01", &[BAD_SESSION, FIN], "no session"),
+    (b"\x00\x50\x01", &[TOO_BIG, FIN], "length 4097"),
 ];
 
 #[test]
 fn a_control_stream_keeps_its_rule(rt: HostRuntime) -> Result<(), Fail> {
     let mut stream = upgraded(&[0x00])?;
-    for (bytes, answers) in CONTROL {
+    for (bytes, answers, word) in CONTROL {
         let mut reading = Frame::read_async(rt.alloc());
         let mut source = bytes;
-        for answer in answers {
+        for (place, answer) in answers.iter().enumerate() {
             if !stream.can_read() {
                 return Err("frames may be read")?;
             }
@@ -137,7 +151,7 @@ fn a_control_stream_keeps_its_rule(rt: HostRuntime) -> Result<(), Fail> {
             if let Polled::NoMemory = answered {
                 answered = stream.read_frame_async(&mut reading, &mut source);
             }
-            check_answer(&rt, &answered, answer, "rule");
+            check_answer(&rt, &answered, answer, word, place);
         }
     }
     Ok(())
