@@ -1,7 +1,7 @@
 -- A header map's way: what polls of a sending and of a reading add up to, and that the map comes back.
 use Rattle.std.proofs.Common.{◌≡◌, ◌≢◌, ℕ, ◌+◌, ◌*◌, ◌<◌, ◌≤◌, Bool, false, List, [], ◌∷◌, ◌++◌, length, refl, sym, ap, ◌∙◌, arith, inl, inr, Option, None, Result, Ok, Err}
 use Rattle.std.proofs.lemmas.Bool.{cases_lt}
-use Rattle.wtp_core.specs.declared.bytes.polled.Polled.TheVariants.{Ready, Pending, Again, NoMemory}
+use Rattle.wtp_core.specs.declared.bytes.polled.Polled.TheVariants.{Pending, Again, NoMemory}
 use Rattle.wtp_core.specs.Source.{Source, Telling}
 use Rattle.wtp_core.specs.Polled.{Asks}
 use Rattle.wtp_core.proofs.TellingLemmas.{telling_map, telling_same, telling_then, telling_both}
@@ -18,15 +18,13 @@ use Rattle.wtp_fields.specs.Headers.{payload, headers_at, or_decompression, Begi
 use Rattle.wtp_wire.proofs.FramePollLemmas.{front_none, front_due}
 use Rattle.wtp_wire.proofs.WireLemmas.{front-wire}
 use Rattle.wtp_fields.proofs.Payloads.{payload_again}
-use Rattle.wtransport_proto.specs.declared.stream.polled.IoReadError.{IoReadError}
 use Rattle.wtransport_proto.specs.declared.journey.ReceiveError.{ReceiveError}
 use Rattle.wtransport_proto.specs.declared.journey.ReceiveError.TheVariants as receive
 use Rattle.wtransport_proto.specs.Rule.{Role, RemoteBi, LocalBi, RemoteUni, InSession, rule}
 use Rattle.wtransport_proto.specs.Run.{Run, Tail, past_unknown, run, follows}
 use Rattle.wtransport_proto.specs.HeldRun.{tail_of, run_of}
-use Rattle.wtransport_proto.specs.StreamPolling.{StandsBehind, Faults, TakesFrame, PassesUnknown, LacksMemory, StreamPolled}
-use Rattle.wtransport_proto.specs.Reading.{FirstAfter}
-use Rattle.wtransport_proto.specs.Journey.{past_front, Kept, Turned, Takes, Behind, Breaks, FrameDid, MapDid, CameBack, ReadsBack}
+use Rattle.wtransport_proto.specs.StreamPolling.{PassesUnknown, LacksMemory, StreamPolled}
+use Rattle.wtransport_proto.specs.Journey.{past_front, Kept, Turned, Takes, FrameDid, MapDid, CameBack, ReadsBack}
 use Rattle.wtransport_proto.proofs.RunLemmas.{past_unknown-unknown, past_unknown-framed, past_unknown-bad, past_unknown-big, past_unknown-short}
 use Rattle.wtransport_proto.proofs.RunLaws.{run-allowed}
 use Rattle.wtransport_proto.proofs.HeldRunLemmas.{skip_not_read, leaves_run, leaves_size, unknown_run, unknown_size, run_new}
@@ -104,38 +102,6 @@ turned_unknown role f0 f1 f2 n mid new a b c g p k = record {
   waited = λ f rest is. let one = g.waited f rest is in absurd (no_unknown f1 f2 mid new b c f rest p one.0);
 }
 
-taken : (role : Role) (f0 f1 f2 : Bool) (mid new : Held) (f : Content) (a b c : Source) → Kept role f0 f1 mid a b → TakesFrame role f1 f2 mid new f b c → Takes role f0 f2 f a c
-taken role f0 f1 f2 mid new f a b c g t = record {
-  known = sym g.known ∙ ap past_front t.decided.front;
-  allowed = ap (λ (x : Bool). rule role x (kind_in f)) (sym g.flag) ∙ t.allowed;
-  flag = t.flag;
-}
-
-behind : (c : Front) (old new : Held) (a b : Source) → StandsBehind c old new a b → Behind (past_front c) b.ahead
-behind (Framed f rest) old new a b p = sym p.1
-behind (Unknown rest) old new a b p = absurd p
-behind (BadId rest) old new a b p = sym p.1
-behind (TooBig rest) old new a b p = sym p.1
-behind Short old new a b p = p.1
-
-first_behind : (role : Role) (c : Front) (first f1 next : Bool) (old new : Held) (a b : Source) → StandsBehind c old new a b → f1 ≡ first → FirstAfter role f1 c next → FirstAfter role first (past_front c) next
-first_behind role (Framed f rest) first f1 next old new a b p e h = h
-first_behind role (Unknown rest) first f1 next old new a b p e h = absurd p
-first_behind role (BadId rest) first f1 next old new a b p e h = h ∙ e
-first_behind role (TooBig rest) first f1 next old new a b p e h = h ∙ e
-first_behind role Short first f1 next old new a b p e h = h ∙ e
-
-broken : (role : Role) (f0 f1 f2 : Bool) (mid new : Held) (x : IoReadError) (a b c : Source) → Kept role f0 f1 mid a b → Faults role f1 f2 mid new x b c → Breaks role f0 f2 x a c
-broken role f0 f1 f2 mid new x a b c g t = record {
-  ends = record {
-    frames = ap (λ (r : Run). r.frames) g.run ∙ t.ends.frames;
-    fault = rw (ap (λ (r : Run). r.ending) g.run) t.ends.fault;
-  };
-  flag = rw g.known at (first_behind role (front_held mid b.ahead) f0 f1 f2 mid new b c t.place g.flag t.flag);
-  place = rw g.known at (behind (front_held mid b.ahead) mid new b c t.place);
-  dry = t.dry;
-}
-
 -- ---- the same of what is told
 
 pub told_start : (s : Option Source) (role : Role) (first : Bool) (h : Held) → h ≡ new_held → Telling s s (Turned role first first 0 h)
@@ -155,27 +121,12 @@ told_unknown s t u role f0 f1 f2 n mid new p q k =
     (λ a b c g h. turned_unknown role f0 f1 f2 n mid new a b c g h.0 h.1)
     p (telling_both t u (PassesUnknown f1 f2 mid new) (Asks 4112) q k)
 
-pub told_frame : (s t u : Option Source) (role : Role) (f0 f1 f2 : Bool) (n turns : ℕ) (mid new : Held) (f : Content)
-    → Telling s t (Turned role f0 f1 n mid) → Telling t u (StreamPolled role (Ready (Ok f)) f1 f2 mid new) → Telling s u (FrameDid role f0 f2 turns (Ok f))
-told_frame s t u role f0 f1 f2 n turns mid new f p q =
-    telling_then s t u (Turned role f0 f1 n mid) (TakesFrame role f1 f2 mid new f) (FrameDid role f0 f2 turns (Ok f))
-    (λ a b c g h. taken role f0 f1 f2 mid new f a b c g.kept h) p q
-
-pub told_ended : (s t u : Option Source) (role : Role) (f0 f1 f2 : Bool) (n turns : ℕ) (mid new : Held) (x : IoReadError)
-    → Telling s t (Turned role f0 f1 n mid) → Telling t u (StreamPolled role (Ready (Err x)) f1 f2 mid new) → Telling s u (FrameDid role f0 f2 turns (Err (receive.Stream x)))
-told_ended s t u role f0 f1 f2 n turns mid new x p q =
-    telling_then s t u (Turned role f0 f1 n mid) (Faults role f1 f2 mid new x) (FrameDid role f0 f2 turns (Err (receive.Stream x)))
-    (λ a b c g h. broken role f0 f1 f2 mid new x a b c g.kept h) p q
-
 pub told_memory : (s t u : Option Source) (role : Role) (f0 f1 f2 : Bool) (n turns : ℕ) (mid new : Held)
     → Telling s t (Turned role f0 f1 n mid) → Telling t u (StreamPolled role NoMemory f1 f2 mid new) → Telling t u (Asks 4112) → Telling s u (FrameDid role f0 f2 turns (Err receive.Memory))
 told_memory s t u role f0 f1 f2 n turns mid new p q k =
     telling_then s t u (Turned role f0 f1 n mid) (λ b c. LacksMemory f1 f2 mid new b c × Asks 4112 b c) (FrameDid role f0 f2 turns (Err receive.Memory))
     (λ a b c g h. (new, kept_still role f0 f1 f2 mid new a b c g.kept h.0.leaves h.0.flag h.1.ending))
     p (telling_both t u (LacksMemory f1 f2 mid new) (Asks 4112) q k)
-
-pub told_turned : (s t : Option Source) (role : Role) (f0 f1 : Bool) (turns : ℕ) (new : Held) → Telling s t (Turned role f0 f1 turns new) → Telling s t (FrameDid role f0 f1 turns (Err receive.Waiting))
-told_turned s t role f0 f1 turns new p = telling_map s t (Turned role f0 f1 turns new) (FrameDid role f0 f1 turns (Err receive.Waiting)) (λ a b g. (new, g)) p
 
 -- ---- calls
 
