@@ -8,8 +8,8 @@
 #include <string.h>
 #include <time.h>
 
-enum { ROUNDS = 15, LIBRARIES = 4, PAIRS = 64, PIECES = 1024 };
-static const double ROUND = 0.04; /* seconds */
+enum { ROUNDS = 400, LIBRARIES = 4, PAIRS = 64, PIECES = 1024 };
+static const double ROUND = 0.0015; /* seconds; short ones, since on a shared machine a long one is always interrupted */
 
 typedef int64_t (*reads)(const uint8_t *, size_t);
 typedef int64_t (*writes)(const uint8_t *, size_t, uint8_t *, size_t);
