@@ -411,19 +411,28 @@ fn refused_memory_loses_no_byte_read(rt: HostRuntime) {
     assert!(rt; source.is_empty());
 }
 
-#[test]
-fn refused_memory_sends_each_byte_once(rt: HostRuntime) {
-    let frame = Frame::new_data(CowSlice::Borrowed(b"abc"));
+/// A frame into a vector, polled again where memory was refused, before or behind the head.
+fn check_refused<R: Abort + AllocGlobal>(rt: &R, frame: &Frame<'_>, head: &[u8]) {
     let mut vector = Vec::new(rt.alloc());
     let mut writing = frame.write_async();
     let mut answer = writing.poll(&mut vector);
     if answer == Polled::NoMemory {
         let sent = vector.as_slice();
-        assert!(rt; sent == [].as_slice() || sent == [0x00, 0x03].as_slice());
+        assert!(rt; sent.is_empty() || sent == head);
         answer = writing.poll(&mut vector);
     }
     assert_eq!(rt; answer, Polled::Ready(Ok(())));
-    assert_eq!(rt; vector.as_slice(), ABC.as_slice());
+    assert_eq!(rt; vector.get(..head.len()), Some(head));
+    assert_eq!(rt; vector.get(head.len()..), Some(frame.payload()));
+}
+
+#[test]
+fn refused_memory_sends_each_byte_once(rt: HostRuntime) {
+    let short = Frame::new_data(CowSlice::Borrowed(b"abc"));
+    check_refused(&rt, &short, &[0x00, 0x03]);
+    let payload = [9; 100];
+    let long = Frame::new_data(CowSlice::Borrowed(&payload));
+    check_refused(&rt, &long, &[0x00, 0x40, 0x64]);
 }
 
 #[test]
