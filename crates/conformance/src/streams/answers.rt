@@ -2,7 +2,7 @@
 use std::alloc::{AllocError, Global};
 use std::process::Abort;
 use std::test::Fail;
-use wtransport_proto::bytes::{AsyncRead, IoReadError as Fault, Polled, WriteStep};
+use wtransport_proto::bytes::{AsyncRead, IoReadError as Fault, Polled};
 use wtransport_proto::error::ErrorCode;
 use wtransport_proto::frame::{FrameOwned, FrameReading};
 use wtransport_proto::ids::{SessionId, StreamId};
@@ -39,20 +39,6 @@ pub(crate) fn padded(alloc: Global, front: &[u8], len: usize) -> Result<Vec<u8>,
 pub(crate) fn session_4() -> Result<SessionId, Fail> {
     let stream = StreamId::new(VarInt::from_u32(4));
     Ok(SessionId::try_from_session_stream(stream)?)
-}
-
-/// Four times one byte, and then a stop.
-static STOPS: [WriteStep; 5] = [
-    WriteStep::Bytes(1),
-    WriteStep::Bytes(1),
-    WriteStep::Bytes(1),
-    WriteStep::Bytes(1),
-    WriteStep::Stopped,
-];
-
-/// The answers of a sink that takes one byte a call, and stops behind so many, at most four.
-pub(crate) fn stops_behind(room: usize) -> &'static [WriteStep] {
-    STOPS.get(4usize.saturating_sub(room)..).unwrap_or(&[])
 }
 
 /// The answer is this one. What the row shows and the place in it are for the message.

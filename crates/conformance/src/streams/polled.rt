@@ -219,9 +219,9 @@ fn check_stop<R: Abort + AllocGlobal>(rt: &R, len: usize, end: End) {
 #[test]
 fn bytes_may_stop_at_each_place(rt: HostRuntime) {
     for len in 0..13usize {
-        check_stop(&rt, len, End::Fin);
-        check_stop(&rt, len, End::Reset);
-        check_stop(&rt, len, End::NotConnected);
+        for end in End::EACH {
+            check_stop(&rt, len, end);
+        }
     }
 }
 

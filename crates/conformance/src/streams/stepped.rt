@@ -1,6 +1,6 @@
 //! Upgrading streams, poll by poll.
-use crate::pieces::{End, Paced, Trickle};
-use crate::streams::answers::{session_4, stops_behind};
+use crate::pieces::{End, Paced, Trickle, stops_behind};
+use crate::streams::answers::session_4;
 use std::process::Abort;
 use std::test::Fail;
 use wtransport_proto::bytes::{AsyncRead, IoReadError as Fault, IoWriteError, Stepped, WriteStep};
@@ -270,9 +270,9 @@ fn check_header_stop<R: Abort>(rt: &R, len: usize, end: End) -> Result<(), Fail>
 #[test]
 fn a_header_may_stop_at_each_place(rt: HostRuntime) -> Result<(), Fail> {
     for len in 0..3usize {
-        check_header_stop(&rt, len, End::Fin)?;
-        check_header_stop(&rt, len, End::Reset)?;
-        check_header_stop(&rt, len, End::NotConnected)?;
+        for end in End::EACH {
+            check_header_stop(&rt, len, end)?;
+        }
     }
     Ok(())
 }

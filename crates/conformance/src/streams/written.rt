@@ -1,6 +1,5 @@
 //! Writing frames to streams, poll by poll.
-use crate::pieces::Paced;
-use crate::streams::answers::stops_behind;
+use crate::pieces::{Paced, stops_behind};
 use crate::streams::session::opened;
 use std::borrow::CowSlice;
 use std::process::Abort;
