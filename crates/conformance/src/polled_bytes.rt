@@ -5,8 +5,8 @@ use std::io::ErrorKind;
 use std::process::Abort;
 use std::test::Fail;
 use wtransport_proto::bytes::{
-    BytesReaderAsync, BytesWriterAsync, GetBuffer, GetVarint, IoReadError, IoWriteError, Polled,
-    PutBuffer, PutVarint, ReadStep, WriteStep,
+    AsyncRead, BytesReaderAsync, BytesWriterAsync, GetBuffer, GetVarint, IoReadError, IoWriteError,
+    Polled, PutBuffer, PutVarint, ReadStep, WriteStep,
 };
 use wtransport_proto::varint::VarInt;
 
@@ -336,4 +336,22 @@ fn stops_are_printed(rt: HostRuntime) -> Result<(), Fail> {
         assert_eq!(rt; shown.as_str(), expected.as_str());
     }
     Ok(())
+}
+
+#[test]
+fn a_slice_hands_out_what_it_has_whole(rt: HostRuntime) -> Result<(), Fail> {
+    let mut source = b"abcde".as_slice();
+    assert!(rt; source.poll_whole(rt.alloc(), 6).is_none());
+    assert_eq!(rt; source, b"abcde".as_slice());
+    let front = source.poll_whole(rt.alloc(), 3).ok_or("three bytes")?;
+    assert_eq!(rt; front.as_slice(), b"abc".as_slice());
+    assert_eq!(rt; source, b"de".as_slice());
+    Ok(())
+}
+
+#[test]
+fn a_source_need_not_hand_out_anything_whole(rt: HostRuntime) {
+    let mut source = Trickle::new(b"abc", End::Fin);
+    assert!(rt; source.poll_whole(rt.alloc(), 3).is_none());
+    assert_eq!(rt; source.rest(), b"abc".as_slice());
 }

@@ -9,11 +9,7 @@ use wtransport_proto::stream::session::StreamSession;
 
 /// Answers the request in front of the bytes of a stream that the peer opened, and makes the stream
 /// that of its session; `None` where more bytes are needed.
-fn serve(
-    alloc: Global,
-    bytes: &[u8],
-    answer: &mut Vec<u8>,
-) -> Result<Option<StreamSession>, Fail> {
+fn serve(alloc: Global, bytes: &[u8], answer: &mut Vec<u8>) -> Result<Option<StreamSession>, Fail> {
     let mut stream = StreamBiRemoteQuic::accept_bi().upgrade();
     let mut reader = BufferReader::new(bytes);
     let Some(frame) = stream.read_frame_from_buffer(&mut reader)? else {
