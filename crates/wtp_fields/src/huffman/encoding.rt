@@ -1,13 +1,13 @@
 //! From a text to code words.
-ghost use Rattle.std.specs.Prelude.{◌≡◌, ℕ, ◌<◌, ◌^◌, List, length, IfOk, OnOk, IsOk, SomeIff};
-ghost use Rattle.wtp_fields.specs.Huffman.{coded_len, IsBytes, IsHuffman};
+ghost use Rattle.std.specs.Prelude.{◌≡◌, ℕ, ◌*◌, ◌<◌, ◌≤◌, ◌^◌, List, length, IfOk, OnOk, IsOk, SomeIff};
+ghost use Rattle.wtp_fields.specs.Huffman.{coded, coded_len, IsBytes, IsHuffman};
 ghost use Rattle.wtp_fields.specs.HuffmanSteps.{AppendsHuffman, Keeps};
 
 use super::codes::code_of;
 use std::alloc::{AllocError, Global};
 
-/// So many bits are counted before they are added up as bytes.
-const MANY: u64 = 1 << 32;
+/// How many bytes of a text are counted at a time: a `u64` holds the bits of their words.
+const PART: usize = 1 << 32;
 
 /// The text in code words, and ones up to a whole byte (RFC 7541, section 5.2).
 ///
@@ -56,14 +56,32 @@ pub fn encoded_len(text: &[u8]) -> Option<usize>
 {
     let mut bytes = 0usize;
     let mut bits = 0u64;
+    let mut rest = text;
+    while !rest.is_empty() {
+        let (front, behind) = rest.split_at(rest.len().min(PART));
+        bits += word_bits(front);
+        bytes = bytes.checked_add((bits / 8) as usize)?;
+        bits %= 8;
+        rest = behind;
+    }
+    if bits > 0 {
+        bytes.checked_add(1)
+    } else {
+        Some(bytes)
+    }
+}
+
+/// How many bits the words of a text have.
+fn word_bits(text: &[u8]) -> u64
+    requires { length text.now ≤ 2 ^ 32 }
+    ensures value { result ≡ length (coded text.now) }
+    ensures small { result ≤ 30 * 2 ^ 32 }
+{
+    let mut bits = 0;
     for byte in text {
         bits += u64::from(code_of(*byte).bits);
-        if bits >= MANY {
-            bytes = bytes.checked_add((bits / 8) as usize)?;
-            bits %= 8;
-        }
     }
-    bytes.checked_add(((bits + 7) / 8) as usize)
+    bits
 }
 
 /// Gives out four bytes of the bits that wait where there are so many, and answers what still waits.

@@ -1,11 +1,14 @@
-use Rattle.std.proofs.Common.{◌≡◌, ◌+◌, ◌*◌, ◌<◌, ◌^◌, length, take}
+use Rattle.std.proofs.Common.{◌≡◌, ◌+◌, ◌*◌, ◌<◌, ◌^◌, length}
 use Rattle.wtp_fields.specs.Huffman.{coded}
 use Rattle.wtp_fields.proofs.huffman.encoding.encoded_len.Given as goal
 
-abbrev pub invariant-loop-byte : goal.invariant-loop-byte
-invariant-loop-byte l =
+abbrev pub invariant-loop-rest : goal.invariant-loop-rest
+invariant-loop-rest l =
     record {
-      so_far : 8 * l.bytes + l.bits ≡ length (coded (take l.byte-index l.text));
-      few : l.bits < 2 ^ 32;
+      so_far : 8 * l.bytes + l.bits + length (coded l.rest) ≡ length (coded l.text);
+      few : l.bits < 8;
       fits : l.bytes < 2 ^ 64;
     }
+
+abbrev pub decreases-loop-rest : goal.decreases-loop-rest
+decreases-loop-rest l = length l.rest
