@@ -1,33 +1,26 @@
 -- The steps of the decoder over the bits that wait.
-use Rattle.std.proofs.Common.{Bool, List, [], ap, append-nil, append_assoc, arith, drop, length, refl, suc, sym, zero, ℕ, ◌%◌, ◌*◌, ◌++◌, ◌+◌, ◌-◌, ◌/◌, ◌<◌, ◌^◌, ◌∙◌, ◌∷◌, ◌≡◌, ◌≤◌}
+use Rattle.std.proofs.Common.{Bool, List, [], ap, append-nil, append_assoc, arith, drop, length, refl, subst, suc, sym, zero, ℕ, ◌%◌, ◌*◌, ◌++◌, ◌+◌, ◌-◌, ◌/◌, ◌<◌, ◌^◌, ◌∙◌, ◌∷◌, ◌≡◌, ◌≤◌}
 use Rattle.std.proofs.Math.Nat.{suc-add, zero-add}
 use Rattle.std.proofs.lemmas.List.{length-append}
 use Rattle.wtp_fields.specs.Huffman.{IsBytes, IsHuffman, IsPadding, bits_of, code, coded, low_bits}
-use Rattle.wtp_fields.specs.HuffmanSteps.{Reads}
+use Rattle.wtp_fields.specs.HuffmanSteps.{Reads, waiting_bits, IsClear}
 use Rattle.wtp_fields.specs.HuffmanTables.{IsWord, front, row_at, symbol_in}
-use Rattle.wtp_fields.proofs.HuffmanBits.{bits_append, length_bits, low_bits_append, low_bits_cat, low_bits_length}
+use Rattle.wtp_fields.proofs.HuffmanBits.{bits_append, length_bits, low_bits_length}
+use Rattle.wtp_fields.proofs.HuffmanWindows.{moved_on, shifted_in}
 use Rattle.wtp_fields.proofs.HuffmanWords.{coded_end, coded_word, word_in_front}
 
 -- ---- bytes taken in
 
--- bits shifted in behind those that wait, where the shift may lose some above them
-pub shifted_in : (held b w n : ℕ) → held + b ≤ 64 → n < 2 ^ b → low_bits (held + b) (w * 2 ^ b % 18446744073709551616 + n) ≡ low_bits held w ++ low_bits b n
-shifted_in held b w n h small =
-    let q : ℕ = w * 2 ^ b / 18446744073709551616 in
-    let x : ℕ = w * 2 ^ b % 18446744073709551616 + n in
-    let whole : q * 2 ^ 64 + x ≡ w * 2 ^ b + n = omega arith in
-    sym (low_bits_cat q 64 x (held + b) h) ∙ ap (low_bits (held + b)) whole ∙ low_bits_append held b w n small
-
-pub byte_in : (held w byte : ℕ) (behind : List ℕ) → held < 30 → byte < 256
-    → low_bits (held + 8) (w * 256 % 18446744073709551616 + byte) ++ bits_of behind ≡ low_bits held w ++ bits_of (byte ∷ behind)
+pub byte_in : (held m w byte : ℕ) (behind : List ℕ) → held + 8 + m ≡ 64 → w < 2 ^ 64 → IsClear held w → byte < 256
+    → waiting_bits (held + 8) (w + byte * 2 ^ m % 18446744073709551616) ++ bits_of behind ≡ waiting_bits held w ++ bits_of (byte ∷ behind)
 unfolding bits_of
-byte_in held w byte behind h small =
-    rw (shifted_in held 8 w byte (omega arith) small) (append_assoc (low_bits held w) (low_bits 8 byte) (bits_of behind))
+byte_in held m w byte behind total small clear fits =
+    rw (shifted_in held 8 m w byte total small clear fits).2 (append_assoc (waiting_bits held w) (low_bits 8 byte) (bits_of behind))
 
-pub four_in : (held w n : ℕ) (four behind : List ℕ) → held < 30 → bits_of four ≡ low_bits 32 n → n < 2 ^ 32
-    → low_bits (held + 32) (w * 4294967296 % 18446744073709551616 + n) ++ bits_of behind ≡ low_bits held w ++ bits_of (four ++ behind)
-four_in held w n four behind h same small =
-    rw (shifted_in held 32 w n (omega arith) small, bits_append four behind, same) (append_assoc (low_bits held w) (low_bits 32 n) (bits_of behind))
+pub four_in : (held m w n : ℕ) (four behind : List ℕ) → held + 32 + m ≡ 64 → w < 2 ^ 64 → IsClear held w → bits_of four ≡ low_bits 32 n → n < 2 ^ 32
+    → waiting_bits (held + 32) (w + n * 2 ^ m % 18446744073709551616) ++ bits_of behind ≡ waiting_bits held w ++ bits_of (four ++ behind)
+four_in held m w n four behind total small clear same fits =
+    rw ((shifted_in held 32 m w n total small clear fits).2, bits_append four behind, same) (append_assoc (waiting_bits held w) (low_bits 32 n) (bits_of behind))
 
 drop_part : (b k w : ℕ) (r : List Bool) → drop b (low_bits (b + k) w ++ r) ≡ low_bits k w ++ r
 unfolding low_bits
@@ -95,6 +88,31 @@ reads_end text out bits n symbol d w enough t h =
     rw w.symbol_is one.2
 
 -- ---- the bits that are left
+
+-- a word is taken from the front of the bits that wait
+pub reads_on : (text out : List ℕ) (held w bits symbol : ℕ) (behind : List Bool) → Reads text out (waiting_bits held w ++ behind)
+    → IsWord (front 30 (waiting_bits held w ++ behind)) bits symbol → bits ≤ held → held ≤ 64 → IsClear held w → symbol < 256
+    → Reads text (out ++ symbol ∷ []) (waiting_bits (held - bits) (w * 2 ^ bits % 18446744073709551616) ++ behind)
+reads_on text out held w bits symbol behind d word enough most clear small =
+    let all : List Bool = waiting_bits held w ++ behind in
+    let v : ℕ = w / 2 ^ (64 - held) in
+    let long : bits ≤ length all = omega (arith, length-append (waiting_bits held w) behind, low_bits_length held v) in
+    let next = reads_more text out all bits symbol d word long small in
+    let place : drop bits all ≡ low_bits (held - bits) v ++ behind = drop_held bits held v behind enough in
+    let moved : low_bits (held - bits) v ≡ waiting_bits (held - bits) (w * 2 ^ bits % 18446744073709551616) = sym (moved_on bits held w enough most clear).0 in
+    let P : List Bool → Type 0 = λ b. Reads text (out ++ symbol ∷ []) b in
+    subst P (place ∙ ap (λ b. b ++ behind) moved) next
+
+-- the same, where nothing is behind them
+pub reads_last : (text out : List ℕ) (held w bits symbol : ℕ) → Reads text out (waiting_bits held w)
+    → IsWord (front 30 (waiting_bits held w)) bits symbol → bits ≤ held → held ≤ 64 → IsClear held w → symbol < 256
+    → Reads text (out ++ symbol ∷ []) (waiting_bits (held - bits) (w * 2 ^ bits % 18446744073709551616))
+reads_last text out held w bits symbol d word enough most clear small =
+    let P : List Bool → Type 0 = λ b. Reads text out b in
+    let Q : List Bool → Type 0 = λ b. IsWord (front 30 b) bits symbol in
+    let R : List Bool → Type 0 = λ b. Reads text (out ++ symbol ∷ []) b in
+    let none : waiting_bits held w ≡ waiting_bits held w ++ [] = sym (append-nil (waiting_bits held w)) in
+    subst R (append-nil (waiting_bits (held - bits) (w * 2 ^ bits % 18446744073709551616))) (reads_on text out held w bits symbol [] (subst P none d) (subst Q none word) enough most clear small)
 
 pub kept_length : (held w : ℕ) (rest : List ℕ) → length (low_bits held w ++ bits_of rest) ≡ 8 * length rest + held
 kept_length held w rest = omega (arith, length-append (low_bits held w) (bits_of rest), low_bits_length held w, length_bits rest)

@@ -1,5 +1,5 @@
 -- How far a Huffman text was decoded or encoded.
-use Rattle.std.specs.Prelude.{◌≡◌, ℕ, ◌^◌, ◌<◌, ◌≤◌, Bool, List, ◌++◌}
+use Rattle.std.specs.Prelude.{◌≡◌, ℕ, ◌-◌, ◌/◌, ◌%◌, ◌^◌, ◌<◌, ◌≤◌, Bool, List, ◌++◌}
 use Rattle.wtp_fields.specs.Huffman.{bits_of, low_bits, coded, IsBytes, IsCoded, IsHuffman}
 
 -- The text begins with the code words of out, and each text that is coded so begins with out: what is left of it is
@@ -8,6 +8,14 @@ pub record Reads (text out : List ℕ) (bits : List Bool) : Type 0 where
   pub bytes : IsBytes out
   pub so_far : bits_of text ≡ coded out ++ bits
   pub each : (t : List ℕ) → IsHuffman t text → (u : List ℕ) × (t ≡ out ++ u) × IsCoded u bits
+
+-- the bits that wait to be decoded: the highest of 64
+abbrev pub waiting_bits : ℕ → ℕ → List Bool
+waiting_bits held waiting = low_bits held (waiting / 2 ^ (64 - held))
+
+-- zeros stand behind them
+abbrev pub IsClear : ℕ → ℕ → Type 0
+IsClear held waiting = waiting % 2 ^ (64 - held) ≡ 0
 
 -- Bytes and a few bits behind them, before and after bytes were given out: together the same bits, and fewer than
 -- most still wait.

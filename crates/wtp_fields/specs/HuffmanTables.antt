@@ -2,6 +2,7 @@
 use Rattle.std.specs.Prelude.{◌≡◌, ℕ, zero, suc, ◌+◌, ◌-◌, ◌*◌, ◌/◌, ◌^◌, ◌<◌, ◌≤◌, Bool, cond, List, [], ◌∷◌, slice_index, slice_index_or}
 use Rattle.wtp_fields.specs.declared.huffman.rows.Row.{Row}
 use Rattle.wtp_fields.specs.declared.huffman.rows.TheConstants.{ROWS, SYMBOLS}
+use Rattle.wtp_fields.specs.declared.huffman.short.TheConstants.{SHORT_BITS, SHORT_BYTES}
 
 -- the number of the next n bits, filled with ones past the end
 unfoldable pub front : ℕ → List Bool → ℕ
@@ -17,6 +18,13 @@ row_at k = slice_index_or ROWS k no_row
 
 unfoldable pub symbol_at : ℕ → ℕ
 symbol_at i = slice_index SYMBOLS i
+
+-- the length and the byte of the word that eight bits begin with, if it has no more
+unfoldable pub short_bits_at : ℕ → ℕ
+short_bits_at i = slice_index SHORT_BITS i
+
+unfoldable pub short_byte_at : ℕ → ℕ
+short_byte_at i = slice_index SHORT_BYTES i
 
 -- how many of a window's 30 bits stand behind a word of row k
 abbrev pub room : ℕ → ℕ

@@ -11,6 +11,7 @@ mod codes;
 mod decoding;
 mod encoding;
 mod rows;
+mod short;
 #[cfg(test)]
 mod tests;
 

@@ -1,11 +1,13 @@
 //! From code words to a text.
-ghost use Rattle.std.specs.Prelude.{◌≡◌, ℕ, ◌+◌, ◌*◌, ◌<◌, ◌≤◌, ◌^◌, List, [], ◌++◌, length, IfOk, MatchResult, IsOk, IsTrue, ◌↔◌, Bool};
+ghost use Rattle.std.specs.Prelude.{◌≡◌, ℕ, ◌+◌, ◌*◌, ◌<◌, ◌^◌, List, ◌++◌, length, IfOk, MatchResult, IsOk, IsTrue, ◌↔◌};
 ghost use Rattle.wtp_fields.specs.Huffman.{bits_of, low_bits, IsHuffman};
+ghost use Rattle.wtp_fields.specs.HuffmanSteps.{waiting_bits, IsClear};
 ghost use Rattle.wtp_fields.specs.HuffmanTables.{front, row_at, InRow, IsWord};
 ghost use Rattle.wtp_fields.specs.declared.huffman.HuffmanError.TheVariants.{Invalid, Memory};
 
 use super::HuffmanError;
 use super::rows::{ROWS, row_number, symbol_number};
+use super::short::short_entry;
 use std::alloc::Global;
 
 /// The symbol that ends a string, which no text holds.
@@ -33,30 +35,39 @@ pub fn decode(alloc: Global, text: &[u8]) -> Result<Vec<u8>, HuffmanError>
     let mut rest = text;
     let mut waiting = 0;
     let mut held = 0;
-    loop {
+    'windows: loop {
         (rest, waiting, held) = refilled(rest, waiting, held);
-        let next = window(waiting, held);
-        let word = word_at(next);
+        if held < 30 {
+            break;
+        }
+        let word = word_at((waiting >> 34) as u32);
+        out.push(byte_of(word)?)?;
+        held -= word.bits;
+        waiting <<= word.bits;
+    }
+    'last: loop {
+        let window = last_window(waiting, held);
+        let word = word_at(window);
         if word.bits > held {
-            return if is_padding(next, held) {
+            return if is_padding(window, held) {
                 Ok(out)
             } else {
                 Err(HuffmanError::Invalid)
             };
         }
-        if word.symbol == END {
-            return Err(HuffmanError::Invalid);
-        }
-        out.push(word.symbol as u8)?;
+        out.push(byte_of(word)?)?;
         held -= word.bits;
+        waiting <<= word.bits;
     }
 }
 
-/// Takes bytes from the front of `rest` until 30 bits wait or none is left. The lowest `held` bits of `waiting`
-/// wait; what stands above them is of no account.
+/// Takes bytes from the front of `rest` until 30 bits wait or none is left. The highest `held` bits of `waiting`
+/// wait, and zeros stand behind them.
 fn refilled(mut rest: &[u8], mut waiting: u64, mut held: u32) -> (&[u8], u64, u32)
     requires few { held < 64 }
-    ensures same { low_bits result.2 result.1 ++ bits_of result.0.now ≡ low_bits held waiting ++ bits_of rest.now }
+    requires clear { IsClear held waiting }
+    ensures same { waiting_bits result.2 result.1 ++ bits_of result.0.now ≡ waiting_bits held waiting ++ bits_of rest.now }
+    ensures clear { IsClear result.2 result.1 }
     ensures few { result.2 < 64 }
     ensures enough { result.2 < 30 → length result.0.now ≡ 0 }
     ensures size { 8 * length result.0.now + result.2 ≡ 8 * length rest.now + held }
@@ -64,13 +75,13 @@ fn refilled(mut rest: &[u8], mut waiting: u64, mut held: u32) -> (&[u8], u64, u3
     while held < 30 {
         match rest.first_chunk::<4>() {
             Some(front) => {
-                waiting = (waiting << 32) + u64::from(number_of(front));
+                waiting += u64::from(number_of(front)) << (32 - held);
                 held += 32;
                 rest = rest.split_at(4).1;
             }
             None => match rest.split_first() {
                 Some((byte, behind)) => {
-                    waiting = (waiting << 8) + u64::from(*byte);
+                    waiting += u64::from(*byte) << (56 - held);
                     held += 8;
                     rest = behind;
                 }
@@ -88,18 +99,25 @@ fn number_of(four: &[u8; 4]) -> u32
     u32::from_be_bytes(*four)
 }
 
-/// The next 30 of the bits that wait, filled with ones where they are fewer.
-fn window(waiting: u64, held: u32) -> u32
-    requires { held < 64 }
-    ensures value { (behind : List Bool) → (held < 30 → behind ≡ []) → result ≡ front 30 (low_bits held waiting ++ behind) }
+/// The last bits that wait, filled with ones to 30.
+fn last_window(waiting: u64, held: u32) -> u32
+    requires few { held < 30 }
+    requires clear { IsClear held waiting }
+    ensures value { result ≡ front 30 (waiting_bits held waiting) }
     ensures small { result < 2 ^ 30 }
 {
-    if held >= 30 {
-        ((waiting >> (held - 30)) % 0x4000_0000) as u32
-    } else {
-        let number = (waiting % (1 << held)) as u32;
-        ((number + 1) << (30 - held)) - 1
+    (waiting >> 34) as u32 + ((1 << (30 - held)) - 1)
+}
+
+/// The byte of a word. The end of a string is none.
+fn byte_of(word: Found) -> Result<u8, HuffmanError>
+    requires { word.symbol < 257 }
+    ensures { MatchResult result (λ byte. (byte ≡ word.symbol) × (byte < 256)) (λ e. (e ≡ Invalid) × (word.symbol ≡ 256)) }
+{
+    if word.symbol == END {
+        return Err(HuffmanError::Invalid);
     }
+    Ok(word.symbol as u8)
 }
 
 /// Whether the bits that are left, fewer than 30, are padding.
@@ -118,8 +136,7 @@ fn word_at(window: u32) -> Found
     ensures { IsWord window result.bits result.symbol }
 {
     if window < 0x3f80_0000 {
-        let k = short_row(window);
-        word_in(window, k, 5 + k as u32)
+        short_word(window)
     } else {
         let k = any_row(window);
         word_in(window, k, row_number(k).bits)
@@ -140,16 +157,16 @@ fn word_in(window: u32, k: usize, bits: u32) -> Found
     }
 }
 
-/// The row of a window that begins with at most eight bits of a word. It counts the limits at or below it, so no
-/// branch depends on the text.
-fn short_row(window: u32) -> usize
+/// The word at the front of a window that begins with one of at most eight bits.
+fn short_word(window: u32) -> Found
     requires { window < 0x3f80_0000 }
-    ensures row { InRow window result }
-    ensures few { result < 4 }
+    ensures { IsWord window result.bits result.symbol }
 {
-    usize::from(window >= 0x1400_0000)
-        + usize::from(window >= 0x2e00_0000)
-        + usize::from(window >= 0x3e00_0000)
+    let (bits, byte) = short_entry((window >> 22) as usize);
+    Found {
+        bits: u32::from(bits),
+        symbol: u16::from(byte),
+    }
 }
 
 /// The row of a window: the first whose limit is above it.

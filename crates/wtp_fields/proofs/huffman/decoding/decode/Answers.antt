@@ -1,83 +1,110 @@
-use Rattle.std.proofs.Common.{◌≡◌, ◌<◌, ◌-◌, Bool, List, ◌++◌, length, drop, arith, sym, subst}
+use Rattle.std.proofs.Common.{◌≡◌, ◌≤◌, ◌<◌, ◌-◌, ◌/◌, ◌^◌, Bool, List, ◌++◌, length, rules, arith, ap, append-nil, sym, ◌∙◌, subst}
 use Rattle.wtp_fields.specs.Huffman.{bits_of, low_bits, IsPadding}
-use Rattle.wtp_fields.specs.HuffmanSteps.{Reads}
-use Rattle.wtp_fields.proofs.HuffmanWindows.{padding_from, padding_window}
-use Rattle.wtp_fields.proofs.HuffmanReading.{reads_none, reads_more, reads_all, reads_end, kept_length, no_bits, nothing_kept, drop_held}
+use Rattle.wtp_fields.specs.HuffmanSteps.{Reads, waiting_bits}
+use Rattle.wtp_fields.specs.HuffmanTables.{front}
+use Rattle.wtp_fields.proofs.HuffmanBits.{low_bits_length}
+use Rattle.wtp_fields.proofs.HuffmanWindows.{whole_window, moved_on, padding_from, padding_window}
+use Rattle.wtp_fields.proofs.HuffmanReading.{reads_none, reads_on, reads_last, reads_all, reads_end, kept_length, no_bits, nothing_kept}
 use Rattle.wtp_fields.proofs.huffman.decoding.decode.Goals as goal
 
-pub loop-held-init : goal.loop-held-init
+pub windows-init : goal.windows-init
 unfolding low_bits
-loop-held-init c = record { reads = rw c.in_ok-out.ensures.items (reads_none c.args.text.now); few = omega arith; start = omega arith }
+windows-init c = record { reads = rw c.in_ok-out.ensures.items (reads_none c.args.text.now); clear = (search rules); few = omega arith; start = omega arith }
+
+pub returns-in_err-byte_of-clause-only : goal.returns-in_err-byte_of-clause-only
+returns-in_err-byte_of-clause-only c = λ t h.
+    let bits : List Bool = waiting_bits c.refilled.result.2 c.refilled.result.1 ++ bits_of c.refilled.result.0.now in
+    let P : List Bool → Type 0 = λ b. Reads c.args.text.now c.windows.out.items b in
+    let reads : P bits = subst P (sym c.refilled.ensures.same) c.windows.invariant.reads in
+    let small : c.refilled.result.1 < 2 ^ 64 = search rules in
+    let v : c.refilled.result.1 / 17179869184 ≡ front 30 bits = (whole_window c.refilled.result.2 c.refilled.result.1 (bits_of c.refilled.result.0.now) (omega arith) (omega (arith, c.refilled.ensures.few)) small).0 in
+    let word = rw v at c.word_at-word.ensures in
+    let len = kept_length c.refilled.result.2 (c.refilled.result.1 / 2 ^ (64 - c.refilled.result.2)) c.refilled.result.0.now in
+    absurd (omega (arith, reads_end _ _ bits _ _ reads word (omega (arith, len, c.word_at-word.ensures.most)) t h, c.in_err-byte_of.ensures.1))
+
+pub windows-preserved : goal.windows-preserved
+windows-preserved c =
+    let bits : List Bool = waiting_bits c.refilled.result.2 c.refilled.result.1 ++ bits_of c.refilled.result.0.now in
+    let P : List Bool → Type 0 = λ b. Reads c.args.text.now c.windows.out.items b in
+    let reads : P bits = subst P (sym c.refilled.ensures.same) c.windows.invariant.reads in
+    let small : c.refilled.result.1 < 2 ^ 64 = search rules in
+    let v : c.refilled.result.1 / 17179869184 ≡ front 30 bits = (whole_window c.refilled.result.2 c.refilled.result.1 (bits_of c.refilled.result.0.now) (omega arith) (omega (arith, c.refilled.ensures.few)) small).0 in
+    let word = rw v at c.word_at-word.ensures in
+    let enough : c.word_at-word.result.bits ≤ c.refilled.result.2 = omega (arith, c.word_at-word.ensures.most) in
+    let byte : c.word_at-word.result.symbol < 256 = omega (arith, c.in_ok-byte_of.ensures.0, c.in_ok-byte_of.ensures.1) in
+    record {
+      reads = rw (c.in_ok-push.ensures.items, c.in_ok-byte_of.ensures.0) (reads_on _ _ c.refilled.result.2 c.refilled.result.1 _ _ (bits_of c.refilled.result.0.now) reads word enough (omega (arith, c.refilled.ensures.few)) c.refilled.ensures.clear byte);
+      clear = (moved_on c.word_at-word.result.bits c.refilled.result.2 c.refilled.result.1 enough (omega (arith, c.refilled.ensures.few)) c.refilled.ensures.clear).1;
+      few = omega (arith, c.refilled.ensures.few);
+      start = omega (arith, c.windows.invariant.start, c.refilled.ensures.size);
+    }
+
+pub last-init : goal.last-init
+last-init c =
+    let bits : List Bool = waiting_bits c.refilled.result.2 c.refilled.result.1 ++ bits_of c.refilled.result.0.now in
+    let P : List Bool → Type 0 = λ b. Reads c.args.text.now c.windows.out.items b in
+    let reads : P bits = subst P (sym c.refilled.ensures.same) c.windows.invariant.reads in
+    let none : length c.refilled.result.0.now ≡ 0 = c.refilled.ensures.enough c.if-held-lt30.true in
+    let alone : bits ≡ waiting_bits c.refilled.result.2 c.refilled.result.1 =
+    ap (λ b. waiting_bits c.refilled.result.2 c.refilled.result.1 ++ b) (no_bits c.refilled.result.0.now none) ∙ append-nil (waiting_bits c.refilled.result.2 c.refilled.result.1) in
+    record {
+      reads = subst P alone reads;
+      clear = c.refilled.ensures.clear;
+      few = c.if-held-lt30.true;
+      start = omega (arith, c.windows.invariant.start, c.refilled.ensures.size);
+    }
 
 pub returns-then-is_padding-clause-found : goal.returns-then-is_padding-clause-found
 returns-then-is_padding-clause-found c =
-    let bits : List Bool = low_bits c.refilled.result.2 c.refilled.result.1 ++ bits_of c.refilled.result.0.now in
-    let P : List Bool → Type 0 = λ b. Reads c.args.text.now c.loop-held.out.items b in
-    let reads : P bits = subst P (sym c.refilled.ensures.same) c.loop-held.invariant.reads in
-    let v = c.window-next.ensures.value (bits_of c.refilled.result.0.now) (λ h. no_bits c.refilled.result.0.now (c.refilled.ensures.enough h)) in
+    let bits : List Bool = waiting_bits c.last.held c.last.waiting in
+    let len : length bits ≡ c.last.held = low_bits_length c.last.held (c.last.waiting / 2 ^ (64 - c.last.held)) in
+    let word = rw c.last_window-window.ensures.value at c.word_at-word-in-last.ensures in
     let yes = c.is_padding.ensures.0 c.if-is_padding.true in
-    let len = kept_length c.refilled.result.2 c.refilled.result.1 c.refilled.result.0.now in
-    let none : length c.refilled.result.0.now ≡ 0 = c.refilled.ensures.enough (omega (arith, yes.0)) in
-    let pad : IsPadding bits = padding_from bits (omega (arith, yes.0)) (rw (← v) yes.1) in
-    (reads.bytes, bits, pad, reads.so_far)
+    let pad : IsPadding bits = padding_from bits (omega (arith, len, yes.0)) (sym c.last_window-window.ensures.value ∙ yes.1) in
+    (c.last.invariant.reads.bytes, bits, pad, c.last.invariant.reads.so_far)
 
 pub returns-then-is_padding-clause-only : goal.returns-then-is_padding-clause-only
 returns-then-is_padding-clause-only c = λ t h.
-    let bits : List Bool = low_bits c.refilled.result.2 c.refilled.result.1 ++ bits_of c.refilled.result.0.now in
-    let P : List Bool → Type 0 = λ b. Reads c.args.text.now c.loop-held.out.items b in
-    let reads : P bits = subst P (sym c.refilled.ensures.same) c.loop-held.invariant.reads in
-    let v = c.window-next.ensures.value (bits_of c.refilled.result.0.now) (λ k. no_bits c.refilled.result.0.now (c.refilled.ensures.enough k)) in
-    let w = rw v at c.word_at-word.ensures in
-    let len = kept_length c.refilled.result.2 c.refilled.result.1 c.refilled.result.0.now in
-    let none : length c.refilled.result.0.now ≡ 0 = c.refilled.ensures.enough (omega (arith, c.word_at-word.ensures.most)) in
-    sym (reads_all _ _ bits _ _ reads w (omega arith) t h).0
+    let bits : List Bool = waiting_bits c.last.held c.last.waiting in
+    let len : length bits ≡ c.last.held = low_bits_length c.last.held (c.last.waiting / 2 ^ (64 - c.last.held)) in
+    let word = rw c.last_window-window.ensures.value at c.word_at-word-in-last.ensures in
+    sym (reads_all _ _ bits _ _ c.last.invariant.reads word (omega (arith, len)) t h).0
 
 pub returns-else-is_padding-clause-only : goal.returns-else-is_padding-clause-only
 returns-else-is_padding-clause-only c = λ t h.
-    let bits : List Bool = low_bits c.refilled.result.2 c.refilled.result.1 ++ bits_of c.refilled.result.0.now in
-    let P : List Bool → Type 0 = λ b. Reads c.args.text.now c.loop-held.out.items b in
-    let reads : P bits = subst P (sym c.refilled.ensures.same) c.loop-held.invariant.reads in
-    let v = c.window-next.ensures.value (bits_of c.refilled.result.0.now) (λ k. no_bits c.refilled.result.0.now (c.refilled.ensures.enough k)) in
-    let w = rw v at c.word_at-word.ensures in
-    let len = kept_length c.refilled.result.2 c.refilled.result.1 c.refilled.result.0.now in
-    let none : length c.refilled.result.0.now ≡ 0 = c.refilled.ensures.enough (omega (arith, c.word_at-word.ensures.most)) in
-    let pad : IsPadding bits = (reads_all _ _ bits _ _ reads w (omega arith) t h).1 in
-    let yes = c.is_padding.ensures.1 (omega (arith, pad.0), rw v (padding_window bits pad)) in
+    let bits : List Bool = waiting_bits c.last.held c.last.waiting in
+    let len : length bits ≡ c.last.held = low_bits_length c.last.held (c.last.waiting / 2 ^ (64 - c.last.held)) in
+    let word = rw c.last_window-window.ensures.value at c.word_at-word-in-last.ensures in
+    let pad : IsPadding bits = (reads_all _ _ bits _ _ c.last.invariant.reads word (omega (arith, len)) t h).1 in
+    let yes = c.is_padding.ensures.1 (omega (arith, len, pad.0), c.last_window-window.ensures.value ∙ padding_window bits pad) in
     absurd cc
 
 pub returns-else-is_padding-clause-empty : goal.returns-else-is_padding-clause-empty
 returns-else-is_padding-clause-empty c = λ e.
-    let bits : List Bool = low_bits c.refilled.result.2 c.refilled.result.1 ++ bits_of c.refilled.result.0.now in
-    let v = c.window-next.ensures.value (bits_of c.refilled.result.0.now) (λ k. no_bits c.refilled.result.0.now (c.refilled.ensures.enough k)) in
-    let len = kept_length c.refilled.result.2 c.refilled.result.1 c.refilled.result.0.now in
-    let pad : IsPadding bits = nothing_kept bits (omega (arith, c.loop-held.invariant.start, c.refilled.ensures.size)) in
-    let yes = c.is_padding.ensures.1 (omega (arith, pad.0), rw v (padding_window bits pad)) in
+    let bits : List Bool = waiting_bits c.last.held c.last.waiting in
+    let len : length bits ≡ c.last.held = low_bits_length c.last.held (c.last.waiting / 2 ^ (64 - c.last.held)) in
+    let word = rw c.last_window-window.ensures.value at c.word_at-word-in-last.ensures in
+    let pad : IsPadding bits = nothing_kept bits (omega (arith, len, e, c.last.invariant.start)) in
+    let yes = c.is_padding.ensures.1 (omega (arith, len, pad.0), c.last_window-window.ensures.value ∙ padding_window bits pad) in
     absurd cc
 
-pub returns-then-word-eq-END-clause-only : goal.returns-then-word-eq-END-clause-only
-returns-then-word-eq-END-clause-only c = λ t h.
-    let bits : List Bool = low_bits c.refilled.result.2 c.refilled.result.1 ++ bits_of c.refilled.result.0.now in
-    let P : List Bool → Type 0 = λ b. Reads c.args.text.now c.loop-held.out.items b in
-    let reads : P bits = subst P (sym c.refilled.ensures.same) c.loop-held.invariant.reads in
-    let v = c.window-next.ensures.value (bits_of c.refilled.result.0.now) (λ k. no_bits c.refilled.result.0.now (c.refilled.ensures.enough k)) in
-    let w = rw v at c.word_at-word.ensures in
-    let len = kept_length c.refilled.result.2 c.refilled.result.1 c.refilled.result.0.now in
-    absurd (omega (arith, reads_end _ _ bits _ _ reads w (omega arith) t h))
+pub returns-in_err-byte_of-2-clause-only : goal.returns-in_err-byte_of-2-clause-only
+returns-in_err-byte_of-2-clause-only c = λ t h.
+    let bits : List Bool = waiting_bits c.last.held c.last.waiting in
+    let len : length bits ≡ c.last.held = low_bits_length c.last.held (c.last.waiting / 2 ^ (64 - c.last.held)) in
+    let word = rw c.last_window-window.ensures.value at c.word_at-word-in-last.ensures in
+    absurd (omega (arith, reads_end _ _ bits _ _ c.last.invariant.reads word (omega (arith, len)) t h, c.in_err-byte_of-2.ensures.1))
 
-pub loop-held-preserved : goal.loop-held-preserved
-loop-held-preserved c =
-    let bits : List Bool = low_bits c.refilled.result.2 c.refilled.result.1 ++ bits_of c.refilled.result.0.now in
-    let P : List Bool → Type 0 = λ b. Reads c.args.text.now c.loop-held.out.items b in
-    let reads : P bits = subst P (sym c.refilled.ensures.same) c.loop-held.invariant.reads in
-    let v = c.window-next.ensures.value (bits_of c.refilled.result.0.now) (λ k. no_bits c.refilled.result.0.now (c.refilled.ensures.enough k)) in
-    let w = rw v at c.word_at-word.ensures in
-    let len = kept_length c.refilled.result.2 c.refilled.result.1 c.refilled.result.0.now in
-    let small : c.word_at-word.result.symbol < 256 = omega (arith, c.word_at-word.ensures.known) in
-    let next = reads_more _ _ bits _ _ reads w (omega arith) small in
-    let place : drop c.word_at-word.result.bits bits ≡ low_bits (c.refilled.result.2 - c.word_at-word.result.bits) c.refilled.result.1 ++ bits_of c.refilled.result.0.now =
-    drop_held c.word_at-word.result.bits c.refilled.result.2 c.refilled.result.1 (bits_of c.refilled.result.0.now) (omega arith) in
+pub last-preserved : goal.last-preserved
+last-preserved c =
+    let bits : List Bool = waiting_bits c.last.held c.last.waiting in
+    let len : length bits ≡ c.last.held = low_bits_length c.last.held (c.last.waiting / 2 ^ (64 - c.last.held)) in
+    let word = rw c.last_window-window.ensures.value at c.word_at-word-in-last.ensures in
+    let enough : c.word_at-word-in-last.result.bits ≤ c.last.held = omega arith in
+    let byte : c.word_at-word-in-last.result.symbol < 256 = omega (arith, c.in_ok-byte_of-2.ensures.0, c.in_ok-byte_of-2.ensures.1) in
     record {
-      reads = rw c.in_ok-push.ensures.items (rw place at next);
-      few = omega (arith, c.refilled.ensures.few);
-      start = omega (arith, c.loop-held.invariant.start, c.refilled.ensures.size);
+      reads = rw (c.in_ok-push-2.ensures.items, c.in_ok-byte_of-2.ensures.0) (reads_last _ _ c.last.held c.last.waiting _ _ c.last.invariant.reads word enough (omega (arith, c.last.invariant.few)) c.last.invariant.clear byte);
+      clear = (moved_on c.word_at-word-in-last.result.bits c.last.held c.last.waiting enough (omega (arith, c.last.invariant.few)) c.last.invariant.clear).1;
+      few = omega (arith, c.last.invariant.few);
+      start = omega (arith, c.last.invariant.start);
     }

@@ -1,15 +1,28 @@
 use Rattle.std.proofs.Common.{◌+◌, ◌*◌, ◌<◌, ◌≤◌, ◌++◌, length}
-use Rattle.wtp_fields.specs.Huffman.{bits_of, low_bits}
-use Rattle.wtp_fields.specs.HuffmanSteps.{Reads}
+use Rattle.wtp_fields.specs.Huffman.{bits_of}
+use Rattle.wtp_fields.specs.HuffmanSteps.{Reads, waiting_bits, IsClear}
 use Rattle.wtp_fields.proofs.huffman.decoding.decode.Given as goal
 
-abbrev pub invariant-loop-held : goal.invariant-loop-held
-invariant-loop-held l =
+abbrev pub invariant-windows : goal.invariant-windows
+invariant-windows l =
     record {
-      reads : Reads l.text l.out.items (low_bits l.held l.waiting ++ bits_of l.rest);
+      reads : Reads l.text l.out.items (waiting_bits l.held l.waiting ++ bits_of l.rest);
+      clear : IsClear l.held l.waiting;
       few : l.held < 64;
       start : 8 * length l.rest + l.held ≤ 8 * length l.text;
     }
 
-abbrev pub decreases-loop-held : goal.decreases-loop-held
-decreases-loop-held l = 8 * length l.rest + l.held
+abbrev pub decreases-windows : goal.decreases-windows
+decreases-windows l = 8 * length l.rest + l.held
+
+abbrev pub invariant-last : goal.invariant-last
+invariant-last l =
+    record {
+      reads : Reads l.text l.out.items (waiting_bits l.held l.waiting);
+      clear : IsClear l.held l.waiting;
+      few : l.held < 30;
+      start : l.held ≤ 8 * length l.text;
+    }
+
+abbrev pub decreases-last : goal.decreases-last
+decreases-last l = l.held

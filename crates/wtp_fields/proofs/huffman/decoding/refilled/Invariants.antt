@@ -1,11 +1,13 @@
 use Rattle.std.proofs.Common.{◌≡◌, ◌+◌, ◌*◌, ◌<◌, ◌++◌, length}
-use Rattle.wtp_fields.specs.Huffman.{bits_of, low_bits}
+use Rattle.wtp_fields.specs.Huffman.{bits_of}
+use Rattle.wtp_fields.specs.HuffmanSteps.{waiting_bits, IsClear}
 use Rattle.wtp_fields.proofs.huffman.decoding.refilled.Given as goal
 
 abbrev pub invariant-loop-held : goal.invariant-loop-held
 invariant-loop-held l =
     record {
-      same : low_bits l.held l.waiting ++ bits_of l.rest ≡ low_bits l.fn.held l.fn.waiting ++ bits_of l.fn.rest;
+      same : waiting_bits l.held l.waiting ++ bits_of l.rest ≡ waiting_bits l.fn.held l.fn.waiting ++ bits_of l.fn.rest;
+      clear : IsClear l.held l.waiting;
       few : l.held < 64;
       size : 8 * length l.rest + l.held ≡ 8 * length l.fn.rest + l.fn.held;
     }
