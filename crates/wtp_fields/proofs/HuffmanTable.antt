@@ -204,12 +204,3 @@ word_facts x h =
     let s = there.1 in
     let f = row_facts there.0 s.below in
     record { least = omega (arith, f.least, s.bits); most = omega (arith, f.most, s.bits); fits = s.fits }
-
--- the short rows are those of 5 to 8 bits
-pub short_bits : (k : ℕ) → k < 4 → (row_at k).bits ≡ 5 + k
-unfolding row_at
-short_bits zero h = refl
-short_bits (suc zero) h = refl
-short_bits (suc (suc zero)) h = refl
-short_bits (suc (suc (suc zero))) h = refl
-short_bits (suc (suc (suc (suc k)))) h = absurd (omega arith)

@@ -138,21 +138,19 @@ fn word_at(window: u32) -> Found
     if window < 0x3f80_0000 {
         short_word(window)
     } else {
-        let k = any_row(window);
-        word_in(window, k, row_number(k).bits)
+        word_in(window, any_row(window))
     }
 }
 
-/// The word at the front of a window in row k, whose words have so many bits.
-fn word_in(window: u32, k: usize, bits: u32) -> Found
+/// The word at the front of a window in row k.
+fn word_in(window: u32, k: usize) -> Found
     requires row { InRow window k }
-    requires bits { bits ≡ (row_at k).bits }
     ensures { IsWord window result.bits result.symbol }
 {
     let row = row_number(k);
-    let rank = (window >> (30 - bits)) - row.first;
+    let rank = (window >> (30 - row.bits)) - row.first;
     Found {
-        bits,
+        bits: row.bits,
         symbol: symbol_number(row.skipped + rank as usize),
     }
 }

@@ -3,13 +3,13 @@ use Rattle.wtp_fields.proofs.HuffmanTable.{row_facts, found}
 use Rattle.wtp_fields.proofs.huffman.decoding.word_in.Goals as goal
 
 pub overflow_sub-rank : goal.overflow_sub-rank
-overflow_sub-rank c = rw c.requires.bits (row_facts _ c.requires.row.below).most
+overflow_sub-rank c = rw c.row_number-row.ensures (row_facts _ c.requires.row.below).most
 
 pub overflow_sub-rank-2 : goal.overflow_sub-rank-2
-overflow_sub-rank-2 c = rw (c.requires.bits, c.row_number-row.ensures) (found c.args.window _ c.requires.row).rank
+overflow_sub-rank-2 c = rw c.row_number-row.ensures (found c.args.window _ c.requires.row).rank
 
 pub symbol_number-requires : goal.symbol_number-requires
-symbol_number-requires c = rw (c.requires.bits, c.row_number-row.ensures) (found c.args.window _ c.requires.row).facts.place
+symbol_number-requires c = rw c.row_number-row.ensures (found c.args.window _ c.requires.row).facts.place
 
 pub overflow_add-row : goal.overflow_add-row
 overflow_add-row c = omega (arith, symbol_number-requires c)
@@ -21,9 +21,9 @@ returns c =
     record {
       row = c.args.k;
       in_row = c.requires.row;
-      bits_are = c.requires.bits;
-      symbol_is = c.symbol_number.ensures ∙ rw (c.requires.bits, c.row_number-row.ensures) refl;
-      least = rw c.requires.bits f.least;
-      most = rw c.requires.bits f.most;
-      known = rw (c.symbol_number.ensures, c.requires.bits, c.row_number-row.ensures) p.symbol;
+      bits_are = rw c.row_number-row.ensures refl;
+      symbol_is = c.symbol_number.ensures ∙ rw c.row_number-row.ensures refl;
+      least = rw c.row_number-row.ensures f.least;
+      most = rw c.row_number-row.ensures f.most;
+      known = rw (c.symbol_number.ensures, c.row_number-row.ensures) p.symbol;
     }
