@@ -4,6 +4,7 @@ pub mod HuffmanTable
 pub mod HuffmanWords
 pub mod HuffmanWindows
 pub mod HuffmanReading
+pub mod HuffmanPairs
 pub mod HuffmanWriting
 pub mod HuffmanLengths
 pub mod HuffmanLaws

@@ -17,6 +17,16 @@ waiting_bits held waiting = low_bits held (waiting / 2 ^ (64 - held))
 abbrev pub IsClear : ℕ → ℕ → Type 0
 IsClear held waiting = waiting % 2 ^ (64 - held) ≡ 0
 
+-- Of the bits that wait some were taken and stand for what was appended, whatever stands behind those that wait.
+pub record Takes (old : List ℕ) (held waiting : ℕ) (new : List ℕ) (left rest : ℕ) : Type 0 where
+  pub reads : (text : List ℕ) (behind : List Bool) → Reads text old (waiting_bits held waiting ++ behind) → Reads text new (waiting_bits left rest ++ behind)
+  pub clear : IsClear left rest
+  pub fewer : left < held
+
+-- out was read from a string that codes a text, and these bits of it wait
+abbrev pub IsCodedOn : List ℕ → ℕ → ℕ → Type 0
+IsCodedOn out held waiting = (s : List ℕ) × (t : List ℕ) × (behind : List Bool) × Reads s out (waiting_bits held waiting ++ behind) × IsHuffman t s
+
 -- Bytes and a few bits behind them, before and after bytes were given out: together the same bits, and fewer than
 -- most still wait.
 pub record Keeps (most : ℕ) (old : List ℕ) (count waiting : ℕ) (new : List ℕ) (left rest : ℕ) : Type 0 where

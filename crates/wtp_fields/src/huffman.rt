@@ -10,12 +10,14 @@ use std::alloc::{AllocError, AllocFailed};
 mod codes;
 mod decoding;
 mod encoding;
+mod pairs;
 mod rows;
 mod short;
 #[cfg(test)]
 mod tests;
 
 pub use decoding::decode;
+pub(crate) use decoding::decode_into;
 pub(crate) use encoding::append;
 pub use encoding::{encode, encoded_len};
 

@@ -1,17 +1,21 @@
 //! From code words to a text.
-ghost use Rattle.std.specs.Prelude.{◌≡◌, ℕ, ◌+◌, ◌*◌, ◌<◌, ◌^◌, List, ◌++◌, length, IfOk, MatchResult, IsOk, IsTrue, ◌↔◌};
+ghost use Rattle.std.specs.Prelude.{◌≡◌, ℕ, ◌+◌, ◌*◌, ◌<◌, ◌≤◌, ◌^◌, List, [], ◌∷◌, ◌++◌, length, take, IfOk, IfErr, OnOk, MatchResult, IsOk, IsTrue, ◌↔◌};
 ghost use Rattle.wtp_fields.specs.Huffman.{bits_of, low_bits, IsHuffman};
-ghost use Rattle.wtp_fields.specs.HuffmanSteps.{waiting_bits, IsClear};
+ghost use Rattle.wtp_fields.specs.HuffmanSteps.{waiting_bits, IsClear, IsCodedOn, Takes};
 ghost use Rattle.wtp_fields.specs.HuffmanTables.{front, row_at, InRow, IsWord};
 ghost use Rattle.wtp_fields.specs.declared.huffman.HuffmanError.TheVariants.{Invalid, Memory};
 
 use super::HuffmanError;
+use super::pairs::pair_entry;
 use super::rows::{ROWS, row_number, symbol_number};
 use super::short::short_entry;
-use std::alloc::Global;
+use std::alloc::{AllocError, Global};
 
 /// The symbol that ends a string, which no text holds.
 const END: u16 = 256;
+
+/// Bits of which the first eight are below this begin with a word of at most eight.
+const SHORT_END: u64 = 0xfe00_0000_0000_0000;
 
 /// A symbol, and how many bits its word has.
 #[derive(Clone, Copy)]
@@ -30,8 +34,27 @@ pub fn decode(alloc: Global, text: &[u8]) -> Result<Vec<u8>, HuffmanError>
     ensures only { (t : List ℕ) → IsHuffman t text.now → MatchResult result (λ v. v.items ≡ t) (λ e. e ≡ Memory) }
     ensures empty { length text.now ≡ 0 → IsOk result }
 {
-    let most = text.len().saturating_mul(8) / 5;
-    let mut out = Vec::with_capacity(alloc, most)?;
+    let mut out = Vec::with_capacity(alloc, most_bytes(text))?;
+    decode_into(&mut out, text)?;
+    Ok(out)
+}
+
+/// The most bytes that a coded text stands for: one for each five bits.
+fn most_bytes(text: &[u8]) -> usize
+    ensures { length text.now ≡ 0 → result ≡ 0 }
+{
+    text.len().saturating_mul(8) / 5
+}
+
+/// Puts the text that is coded so in the place of what stood in `out`. Where `out` has too little room, memory is
+/// taken at once.
+pub(crate) fn decode_into(out: &mut Vec<u8>, text: &[u8]) -> Result<(), HuffmanError>
+    ensures found { OnOk result (IsHuffman out.new.items text.now) }
+    ensures only { (t : List ℕ) → IsHuffman t text.now → MatchResult result (λ _. out.new.items ≡ t) (λ e. e ≡ Memory) }
+    ensures empty { length text.now ≡ 0 → IsOk result }
+{
+    out.clear();
+    out.reserve(most_bytes(text))?;
     let mut rest = text;
     let mut waiting = 0;
     let mut held = 0;
@@ -40,17 +63,18 @@ pub fn decode(alloc: Global, text: &[u8]) -> Result<Vec<u8>, HuffmanError>
         if held < 30 {
             break;
         }
-        let word = word_at((waiting >> 34) as u32);
-        out.push(byte_of(word)?)?;
-        held -= word.bits;
-        waiting <<= word.bits;
+        (waiting, held) = words_taken(out, waiting, held)?;
     }
     'last: loop {
+        if held >= 12 && waiting < SHORT_END {
+            (waiting, held) = short_taken(out, waiting, held)?;
+            continue;
+        }
         let window = last_window(waiting, held);
         let word = word_at(window);
         if word.bits > held {
             return if is_padding(window, held) {
-                Ok(out)
+                Ok(())
             } else {
                 Err(HuffmanError::Invalid)
             };
@@ -59,6 +83,68 @@ pub fn decode(alloc: Global, text: &[u8]) -> Result<Vec<u8>, HuffmanError>
         held -= word.bits;
         waiting <<= word.bits;
     }
+}
+
+/// Takes one word or a few from the front of the bits that wait, and answers what still waits.
+#[inline(always)]
+fn words_taken(out: &mut Vec<u8>, waiting: u64, held: u32) -> Result<(u64, u32), HuffmanError>
+    requires enough { 30 ≤ held }
+    requires few { held < 64 }
+    requires clear { IsClear held waiting }
+    ensures taken { IfOk result (λ r. Takes out.old.items held waiting out.new.items r.1 r.0) }
+    ensures fails { IsCodedOn out.old.items held waiting → IfErr result (λ e. e ≡ Memory) }
+{
+    if waiting >= SHORT_END {
+        return word_taken(out, waiting, held);
+    }
+    let (waiting, held) = short_taken(out, waiting, held)?;
+    if waiting >= SHORT_END {
+        return Ok((waiting, held));
+    }
+    Ok(short_taken(out, waiting, held)?)
+}
+
+/// Takes the word at the front of the bits that wait.
+fn word_taken(out: &mut Vec<u8>, waiting: u64, held: u32) -> Result<(u64, u32), HuffmanError>
+    requires enough { 30 ≤ held }
+    requires few { held < 64 }
+    requires clear { IsClear held waiting }
+    ensures taken { IfOk result (λ r. Takes out.old.items held waiting out.new.items r.1 r.0) }
+    ensures fails { IsCodedOn out.old.items held waiting → IfErr result (λ e. e ≡ Memory) }
+{
+    let word = word_at((waiting >> 34) as u32);
+    out.push(byte_of(word)?)?;
+    Ok((waiting << word.bits, held - word.bits))
+}
+
+/// Takes the one or two words of at most eight bits that lie within the first twelve of those that wait.
+#[inline(always)]
+fn short_taken(out: &mut Vec<u8>, waiting: u64, held: u32) -> Result<(u64, u32), AllocError>
+    requires enough { 12 ≤ held }
+    requires few { held < 64 }
+    requires short { waiting < 0xfe00_0000_0000_0000 }
+    requires clear { IsClear held waiting }
+    ensures taken { IfOk result (λ r. Takes out.old.items held waiting out.new.items r.1 r.0) }
+    ensures most { IfOk result (λ r. held ≤ r.1 + 12) }
+{
+    let front = (waiting >> 52) as usize;
+    let (_, first) = short_entry(front / 16);
+    let (bits, count, second) = pair_entry(front);
+    push_some(out, first, second, count as usize)?;
+    Ok((waiting << bits, held - u32::from(bits)))
+}
+
+/// Appends the first of two bytes, or both. The length is taken down by `saturating_sub`, since the compiler then needs
+/// no branch on the count.
+#[inline(always)]
+fn push_some(out: &mut Vec<u8>, first: u8, second: u8, count: usize) -> Result<(), AllocError>
+    requires few { count ≤ 2 }
+    ensures { OnOk result (out.new.items ≡ out.old.items ++ take count (first ∷ second ∷ [])) }
+{
+    out.push(first)?;
+    out.push(second)?;
+    out.truncate(out.len().saturating_sub(2 - count));
+    Ok(())
 }
 
 /// Takes bytes from the front of `rest` until 30 bits wait or none is left. The highest `held` bits of `waiting`

@@ -108,38 +108,47 @@ fn indexed(alloc: Global, bytes: &[u8]) -> Result<Line<'_>, DecodingError>
 
 /// The name of a static entry, and a value.
 #[tactic(auto, unfolding(crate::specs::FieldLine::name_reference_at))]
-fn name_reference(alloc: Global, bytes: &[u8]) -> Result<Line<'_>, DecodingError>
+fn name_reference<'a>(
+    alloc: Global,
+    scratch: &mut Vec<u8>,
+    bytes: &'a [u8],
+) -> Result<Line<'a>, DecodingError>
     ensures { GivesUnlessMemory seen result (name_reference_at bytes.now) }
 {
     let (index, rest) = integer::read::<4>(bytes)?;
     let (name, _) = entry(index)?;
-    let (value, rest) = string_literal::read::<7>(alloc, rest)?;
+    let (value, rest) = string_literal::read::<7>(alloc, scratch, rest)?;
     let name = String::from_str(alloc, name)?;
     Ok(Line { name, value, rest })
 }
 
 /// A name and a value.
 #[tactic(auto, unfolding(crate::specs::FieldLine::literal_name_at))]
-fn literal_name(alloc: Global, bytes: &[u8]) -> Result<Line<'_>, DecodingError>
+fn literal_name<'a>(
+    alloc: Global,
+    scratch: &mut Vec<u8>,
+    bytes: &'a [u8],
+) -> Result<Line<'a>, DecodingError>
     ensures { GivesUnlessMemory seen result (literal_name_at bytes.now) }
 {
-    let (name, rest) = string_literal::read::<3>(alloc, bytes)?;
-    let (value, rest) = string_literal::read::<7>(alloc, rest)?;
+    let (name, rest) = string_literal::read::<3>(alloc, scratch, bytes)?;
+    let (value, rest) = string_literal::read::<7>(alloc, scratch, rest)?;
     Ok(Line { name, value, rest })
 }
 
 /// The line at the front, of a representation. One that needs the dynamic table is refused before more is read.
-fn read_as(
+fn read_as<'a>(
     alloc: Global,
+    scratch: &mut Vec<u8>,
     representation: Representation,
-    bytes: &[u8],
-) -> Result<Line<'_>, DecodingError>
+    bytes: &'a [u8],
+) -> Result<Line<'a>, DecodingError>
     ensures { GivesUnlessMemory seen result (line_by representation bytes.now) }
 {
     match representation {
         Representation::Indexed(Table::Static) => indexed(alloc, bytes),
-        Representation::NameReference(Table::Static) => name_reference(alloc, bytes),
-        Representation::LiteralName => literal_name(alloc, bytes),
+        Representation::NameReference(Table::Static) => name_reference(alloc, scratch, bytes),
+        Representation::LiteralName => literal_name(alloc, scratch, bytes),
         Representation::Indexed(Table::Dynamic)
         | Representation::NameReference(Table::Dynamic)
         | Representation::IndexedPostBase
@@ -147,13 +156,17 @@ fn read_as(
     }
 }
 
-/// The line at the front.
-pub fn read(alloc: Global, bytes: &[u8]) -> Result<Line<'_>, DecodingError>
+/// The line at the front. Huffman text is decoded in `scratch`.
+pub fn read<'a>(
+    alloc: Global,
+    scratch: &mut Vec<u8>,
+    bytes: &'a [u8],
+) -> Result<Line<'a>, DecodingError>
     ensures { GivesUnlessMemory seen result (line_at bytes.now) }
 {
     match bytes {
         [] => Err(DecodingError::UnexpectedFin),
-        [first, ..] => read_as(alloc, representation_of(*first), bytes),
+        [first, ..] => read_as(alloc, scratch, representation_of(*first), bytes),
     }
 }
 

@@ -2,54 +2,77 @@
 
 ghost use Rattle.std.specs.Prelude.{◌≡◌, ℕ, ◌+◌, ◌-◌, ◌*◌, ◌^◌, ◌<◌, ◌≤◌, ◌++◌, length, string_bytes, OnOk, SomeIff};
 ghost use Rattle.wtp_fields.specs.Huffman.{coded_len};
-ghost use Rattle.wtp_fields.specs.Reading.{GivesUnlessMemory};
+ghost use Rattle.wtp_fields.specs.Reading.{Gives, GivesUnlessMemory};
 ghost use Rattle.wtp_fields.specs.StringLiteral.{flag_above, or_invalid, huffman_text, utf8_text, content, string_at, encoded_string};
 
 use super::{DecodingError, integer};
 use crate::huffman::{self, HuffmanError};
 use std::alloc::{AllocError, Global};
 
-/// The bytes as a text, copied once.
+/// The room that is taken for Huffman text at first; it grows for a longer one.
+const ROOM: usize = 256;
+
+/// The bytes as a text, where they are UTF-8.
+#[cold]
+#[inline(never)]
+fn tested(bytes: &[u8]) -> Result<&str, DecodingError>
+    ensures { Gives (λ t. t.now) result (utf8_text bytes.now) }
+{
+    match str::from_utf8(bytes) {
+        Ok(text) => Ok(text),
+        Err(_) => Err(DecodingError::InvalidString),
+    }
+}
+
+/// The same, by a faster test for ASCII first, which nearly every text is.
+fn text_of(bytes: &[u8]) -> Result<&str, DecodingError>
+    ensures { Gives (λ t. t.now) result (utf8_text bytes.now) }
+{
+    if bytes.is_ascii() {
+        Ok(unsafe { str::from_utf8_unchecked(bytes) })
+    } else {
+        tested(bytes)
+    }
+}
+
+/// The bytes as a text of its own, allocated once at its size.
 fn copied(alloc: Global, bytes: &[u8]) -> Result<String, DecodingError>
     ensures { GivesUnlessMemory (λ t. string_bytes t) result (utf8_text bytes.now) }
 {
-    match str::from_utf8(bytes) {
-        Ok(text) => Ok(String::from_str(alloc, text)?),
-        Err(_) => Err(DecodingError::InvalidString),
-    }
+    let text = text_of(bytes)?;
+    Ok(String::from_str(alloc, text)?)
 }
 
-/// The bytes as a text, without a copy.
-fn moved(bytes: Vec<u8>) -> Result<String, DecodingError>
-    ensures { GivesUnlessMemory (λ t. string_bytes t) result (utf8_text bytes.items) }
+/// Puts the bytes that a Huffman text stands for in the place of what stood in `scratch`.
+fn decoded(scratch: &mut Vec<u8>, bytes: &[u8]) -> Result<(), DecodingError>
+    ensures { GivesUnlessMemory (λ _. scratch.new.items) result (or_invalid (huffman_text bytes.now)) }
 {
-    match String::from_utf8(bytes) {
-        Ok(text) => Ok(text),
-        Err(_) => Err(DecodingError::InvalidString),
+    if scratch.capacity() == 0 {
+        scratch.reserve(ROOM)?;
     }
-}
-
-/// The bytes that a Huffman text stands for.
-fn decoded(alloc: Global, bytes: &[u8]) -> Result<Vec<u8>, DecodingError>
-    ensures { GivesUnlessMemory (λ v. v.items) result (or_invalid (huffman_text bytes.now)) }
-{
-    match huffman::decode(alloc, bytes) {
-        Ok(text) => Ok(text),
+    match huffman::decode_into(scratch, bytes) {
+        Ok(()) => Ok(()),
         Err(HuffmanError::Invalid) => Err(DecodingError::InvalidString),
         Err(HuffmanError::Memory) => Err(DecodingError::Memory),
     }
 }
 
-/// The text of a string's bytes.
+/// The text of a string's bytes. Huffman text is decoded in `scratch` and then copied, since its size is not known
+/// before.
 #[tactic(auto, unfolding(crate::specs::StringLiteral::content))]
-fn content(alloc: Global, is_huffman: bool, body: &[u8]) -> Result<String, DecodingError>
+fn content(
+    alloc: Global,
+    scratch: &mut Vec<u8>,
+    is_huffman: bool,
+    body: &[u8],
+) -> Result<String, DecodingError>
     ensures { GivesUnlessMemory (λ t. string_bytes t) result (content is_huffman body.now) }
 {
-    if is_huffman {
-        moved(decoded(alloc, body)?)
-    } else {
-        copied(alloc, body)
+    if !is_huffman {
+        return copied(alloc, body);
     }
+    decoded(scratch, body)?;
+    copied(alloc, scratch.as_slice())
 }
 
 /// The flag H, the bit above the prefix.
@@ -64,8 +87,13 @@ fn has_flag<const N: u32>(bytes: &[u8]) -> bool
 }
 
 /// The string at the front, its length in the low `N` bits of the first byte, and the bytes behind it.
+#[inline(always)]
 #[tactic(auto, unfolding(crate::specs::StringLiteral::string_at))]
-pub fn read<const N: u32>(alloc: Global, bytes: &[u8]) -> Result<(String, &[u8]), DecodingError>
+pub fn read<'a, const N: u32>(
+    alloc: Global,
+    scratch: &mut Vec<u8>,
+    bytes: &'a [u8],
+) -> Result<(String, &'a [u8]), DecodingError>
     requires some { 1 ≤ N }
     requires few { N ≤ 7 }
     ensures { GivesUnlessMemory (λ x. (string_bytes x.0, x.1.now)) result (string_at N bytes.now) }
@@ -75,7 +103,7 @@ pub fn read<const N: u32>(alloc: Global, bytes: &[u8]) -> Result<(String, &[u8])
         return Err(DecodingError::UnexpectedFin);
     }
     let (body, behind) = rest.split_at(size as usize);
-    let text = content(alloc, has_flag::<N>(bytes), body)?;
+    let text = content(alloc, scratch, has_flag::<N>(bytes), body)?;
     Ok((text, behind))
 }
 
@@ -125,8 +153,9 @@ mod tests {
 
     /// The text of a string, read once more where memory was refused.
     fn read_again(alloc: Global, bytes: &[u8]) -> Result<(String, &[u8]), DecodingError> {
-        match read::<5>(alloc, bytes) {
-            Err(DecodingError::Memory) => read::<5>(alloc, bytes),
+        let mut scratch = Vec::new(alloc);
+        match read::<5>(alloc, &mut scratch, bytes) {
+            Err(DecodingError::Memory) => read::<5>(alloc, &mut scratch, bytes),
             outcome => outcome,
         }
     }

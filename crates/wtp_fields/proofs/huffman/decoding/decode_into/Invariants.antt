@@ -1,7 +1,7 @@
 use Rattle.std.proofs.Common.{◌+◌, ◌*◌, ◌<◌, ◌≤◌, ◌++◌, length}
 use Rattle.wtp_fields.specs.Huffman.{bits_of}
 use Rattle.wtp_fields.specs.HuffmanSteps.{Reads, waiting_bits, IsClear}
-use Rattle.wtp_fields.proofs.huffman.decoding.decode.Given as goal
+use Rattle.wtp_fields.proofs.huffman.decoding.decode_into.Given as goal
 
 abbrev pub invariant-windows : goal.invariant-windows
 invariant-windows l =
