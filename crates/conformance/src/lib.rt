@@ -14,14 +14,6 @@ mod journey;
 #[cfg(test)]
 mod listings;
 #[cfg(test)]
-mod pieces;
-#[cfg(test)]
-mod polled_bytes;
-#[cfg(test)]
-mod polled_frames;
-#[cfg(test)]
-mod polled_headers;
-#[cfg(test)]
 mod programs;
 #[cfg(test)]
 mod readers;
@@ -31,8 +23,6 @@ mod requests;
 mod server;
 #[cfg(test)]
 mod stepped;
-#[cfg(test)]
-mod streams;
 #[cfg(test)]
 mod varints;
 #[cfg(test)]

@@ -58,6 +58,13 @@ StepMoves NotConnected buf a b = IsOver a b AtDisconnection
 abbrev pub StepTells : ReadStep → List ℕ → Option Source → Option Source → Type 0
 StepTells step buf old new = Telling old new (λ a b. AsksOnce a b × StepMoves step buf a b)
 
--- these bytes were taken from those ahead, in one call
-abbrev pub WholeMoves : List ℕ → Source → Source → Type 0
-WholeMoves bytes a b = AsksOnce a b × (a.ahead ≡ bytes ++ b.ahead) × (b.waits ≡ a.waits)
+-- ---- what it has at hand
+
+-- these bytes are the front of those ahead
+abbrev pub Shows : List ℕ → Option Source → Type 0
+Shows bytes None = Unit {0}
+Shows bytes (Some a) = (rest : List ℕ) × (a.ahead ≡ bytes ++ rest)
+
+-- so many bytes were taken from those ahead, in one call
+abbrev pub TakesAtHand : ℕ → Source → Source → Type 0
+TakesAtHand count a b = AsksOnce a b × (a.ahead ≡ take count a.ahead ++ b.ahead) × (count ≤ length a.ahead) × (b.waits ≡ a.waits)

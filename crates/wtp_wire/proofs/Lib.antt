@@ -6,6 +6,7 @@ pub mod WireLemmas
 pub mod ReadLemmas
 pub mod FrameHeadLemmas
 pub mod FrameReadingLemmas
+pub mod WholeLemmas
 pub mod FramePollLemmas
 pub mod FramePassLemmas
 pub mod HeaderLemmas

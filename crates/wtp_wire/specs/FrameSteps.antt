@@ -21,6 +21,7 @@ use Rattle.wtp_wire.specs.declared.frame.reading.Next.{Next}
 use Rattle.wtp_wire.specs.declared.frame.reading.Next.TheVariants as next
 use Rattle.wtp_wire.specs.Kind.{IsKnown}
 use Rattle.wtp_wire.specs.Content.{Content, WebTransportOf, content}
+use Rattle.wtp_wire.specs.Front.{Framed, front}
 use Rattle.wtp_wire.specs.FrameNeed.{frame_need}
 use Rattle.wtp_wire.specs.FrameHead.{said}
 use Rattle.wtp_wire.specs.Held.{Held, IsUnfinished}
@@ -39,6 +40,17 @@ halted_frame halt.NotReady taken = Pending
 halted_frame halt.Fin taken = Ready (Err (IO (stop taken AtEnd)))
 halted_frame halt.Reset taken = Ready (Err (IO (stop taken AtReset)))
 halted_frame halt.NotConnected taken = Ready (Err (IO (stop taken AtDisconnection)))
+
+-- ---- a frame that the source has at hand whole
+
+-- these bytes are the frame, and no more
+pub record IsFramed (f : Content) : Type 0 where
+  pub bytes : List ℕ
+  pub front : front bytes ≡ Framed f []
+
+-- it was taken
+pub record TakesFrame (f : Content) (a b : Source) : Type 0 where
+  pub front : front a.ahead ≡ Framed f b.ahead
 
 -- ---- the payload
 

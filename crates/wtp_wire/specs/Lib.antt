@@ -1,5 +1,6 @@
 pub mod Kind
 pub mod Content
+pub mod Body
 pub mod Front
 pub mod Reading
 pub mod Wire

@@ -5,10 +5,14 @@ ghost use Rattle.wtp_core.specs.Reader.{IsRest};
 ghost use Rattle.wtp_core.specs.Cursor.{left_of, whole_of};
 ghost use Rattle.wtp_core.specs.BufferWriter.{room_in, loan_of, IsUnwritten, Wrote};
 
+mod body;
 mod head;
 pub mod reading;
+mod short;
+mod whole;
 pub mod writing;
 
+use crate::frame::body::Body;
 pub use reading::{FrameReading, IoReadError};
 use std::borrow::CowSlice;
 use std::marker::Model;
@@ -102,26 +106,25 @@ impl FrameKind {
     }
 }
 
-/// A frame, whose payload is borrowed or owned.
+/// A frame, whose payload is borrowed or owned; a short one may be kept in the frame itself.
 #[derive(Drop)]
 pub struct Frame<'a> {
     kind: FrameKind,
-    payload: CowSlice<'a, u8>,
-    session_id: Option<SessionId>,
+    body: Body<'a>,
 }
 
 /// A frame that owns its payload.
 pub type FrameOwned = Frame<'static>;
 
 impl<'a> Model for Frame<'a> {
-    ghost use Rattle.std.specs.Cow.{cow_slice_items};
+    ghost use Rattle.wtp_wire.specs.Body.{payload_of, session_of};
     ghost use Rattle.wtp_wire.specs.Content.{Content, content, IsProper};
 
     ghost Value = { Content };
 
-    ghost view = { λ f. content f.kind (cow_slice_items f.payload) f.session_id };
+    ghost view = { λ f. content f.kind (payload_of f.body) (session_of f.body) };
 
-    ghost invariant = { λ f. IsProper f.kind (cow_slice_items f.payload) f.session_id };
+    ghost invariant = { λ f. IsProper f.kind (payload_of f.body) (session_of f.body) };
 }
 
 impl<'a> Frame<'a> {
@@ -142,8 +145,7 @@ impl<'a> Frame<'a> {
     {
         Frame {
             kind: FrameKind::Headers,
-            payload,
-            session_id: None,
+            body: Body::of(payload),
         }
     }
 
@@ -154,8 +156,7 @@ impl<'a> Frame<'a> {
     {
         Frame {
             kind: FrameKind::Settings,
-            payload,
-            session_id: None,
+            body: Body::of(payload),
         }
     }
 
@@ -165,8 +166,7 @@ impl<'a> Frame<'a> {
     {
         Frame {
             kind: FrameKind::WebTransport,
-            payload: CowSlice::Borrowed(&[]),
-            session_id: Some(session_id),
+            body: Body::Session(session_id),
         }
     }
 
@@ -178,8 +178,7 @@ impl<'a> Frame<'a> {
     {
         Frame {
             kind: FrameKind::Exercise(id),
-            payload,
-            session_id: None,
+            body: Body::of(payload),
         }
     }
 
@@ -190,8 +189,7 @@ impl<'a> Frame<'a> {
     {
         Frame {
             kind: FrameKind::Data,
-            payload,
-            session_id: None,
+            body: Body::of(payload),
         }
     }
 
@@ -210,7 +208,7 @@ impl<'a> Frame<'a> {
         ensures payload { result.now ≡ payload_in self.now }
         ensures fits { length result.now < 2 ^ 62 }
     {
-        self.payload.as_slice()
+        self.body.payload()
     }
 
     /// Its session, where its kind is WebTransport.
@@ -218,7 +216,7 @@ impl<'a> Frame<'a> {
     pub fn session_id(&self) -> Option<SessionId>
         ensures { result ≡ session_in self.now }
     {
-        self.session_id
+        self.body.session()
     }
 
     /// The session behind WebTransport's type number.
@@ -262,8 +260,7 @@ impl<'a> Frame<'a> {
         };
         Ok(Some(Frame {
             kind,
-            payload: CowSlice::Borrowed(payload),
-            session_id: None,
+            body: Body::Borrowed(payload),
         }))
     }
 
@@ -334,12 +331,12 @@ impl<'a> Frame<'a> {
         ensures target { W.target writer.new ≡ W.target writer.old }
     {
         writer.put_varint(self.kind.id())?;
-        match self.session_id {
+        match self.body.session() {
             Some(session_id) => writer.put_varint(session_id.into_varint()),
             None => {
-                let len = self.payload.len() as u64;
-                writer.put_varint(VarInt::from_u64_unchecked(len))?;
-                writer.put_bytes(self.payload.as_slice())
+                let payload = self.body.payload();
+                writer.put_varint(VarInt::from_u64_unchecked(payload.len() as u64))?;
+                writer.put_bytes(payload)
             }
         }
     }
@@ -366,10 +363,10 @@ impl<'a> Frame<'a> {
         ensures readable { length (payload_in self.now) ≤ 4096 → IsReadable self.now }
     {
         let head = self.kind.id().size();
-        match self.session_id {
+        match self.body.session() {
             Some(session_id) => head + session_id.into_varint().size(),
             None => {
-                let len = self.payload.len();
+                let len = self.body.payload().len();
                 head + VarInt::from_u64_unchecked(len as u64).size() + len
             }
         }

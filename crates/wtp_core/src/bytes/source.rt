@@ -1,8 +1,6 @@
 //! Polled sources of bytes, and slices as sources.
-ghost use Rattle.std.specs.Prelude.{◌≡◌, ℕ, Option, Some, None, ◌≤◌, length, take, vec_len, IfOk, IfSome};
-ghost use Rattle.wtp_core.specs.Source.{Source, StepKeepsLengths, StepTells, Telling, WholeMoves, all_ahead};
-
-use std::alloc::{AllocError, Global};
+ghost use Rattle.std.specs.Prelude.{◌≡◌, ℕ, Option, Some, None, ◌≤◌, ◌↔◌, length, false, IsTrue};
+ghost use Rattle.wtp_core.specs.Source.{Source, StepKeepsLengths, StepTells, Telling, Shows, TakesAtHand, all_ahead};
 
 /// One answer of a source.
 #[derive(Clone, Copy, Debug, PartialEq, Eq)]
@@ -30,15 +28,22 @@ pub trait AsyncRead {
         ensures lengths { StepKeepsLengths result (length buf.new) }
         ensures tells { StepTells result buf.new (tells self.old) (tells self.new) };
 
-    /// The next bytes, `size` of them, in a vector of their own, where the source has them all at
-    /// hand. `None`, and nothing is taken, where it hasn't or where no memory is to be had (own).
-    fn poll_whole(&mut self, alloc: Global, size: usize) -> Option<Vec<u8>>
-        ensures whole { IfSome result (λ v. (vec_len v ≡ size) × Telling (tells self.old) (tells self.new) (WholeMoves v.items)) }
-        ensures none { result ≡ None → self.new ≡ self.old }
+    /// Bytes that it has at hand and shows before it is asked for them: some of those ahead, from the
+    /// front on. A source need not show any, and then hands out all by `poll_read` (own).
+    fn at_hand(&self) -> &[u8]
+        ensures shows { Shows result.now (tells self.now) }
     {
-        let _ = alloc;
-        let _ = size;
-        None
+        &[]
+    }
+
+    /// Takes `count` of the bytes ahead, where it has so many at hand; says whether it did, and takes
+    /// none where not (own).
+    fn take_at_hand(&mut self, count: usize) -> bool
+        ensures taken { IsTrue result → Telling (tells self.old) (tells self.new) (TakesAtHand count) }
+        ensures none { result ≡ false → self.new ≡ self.old }
+    {
+        let _ = count;
+        false
     }
 }
 
@@ -48,10 +53,6 @@ impl AsyncRead for &[u8] {
     /// Gives as many of the bytes as the buffer takes, and then an end; it is always ready.
     #[inline(always)]
     fn poll_read(&mut self, buf: &mut [u8]) -> ReadStep {
-        // The two bytes in front of most frames are moved without a call.
-        if buf.len() == 2 {
-            return read_two(self, buf);
-        }
         let n = self.len().min(buf.len());
         let (front, rest) = self.split_at(n);
         buf[..n].copy_from_slice(front);
@@ -59,58 +60,25 @@ impl AsyncRead for &[u8] {
         ReadStep::Bytes(n)
     }
 
+    /// All of the bytes.
     #[inline(always)]
-    fn poll_whole(&mut self, alloc: Global, size: usize) -> Option<Vec<u8>> {
-        if self.len() < size {
-            return None;
-        }
-        match copied(alloc, self, size) {
-            Ok(copy) => {
-                *self = self.split_at(size).1;
-                Some(copy)
-            }
-            Err(_) => None,
-        }
+    fn at_hand(&self) -> &[u8]
+        ensures shows { Shows result.now (Some (all_ahead self.now.now)) }
+        ensures all { result.now ≡ self.now.now }
+    {
+        self
     }
-}
 
-// The first bytes in a vector of their own. An allocator gives no less than 24 bytes, and so many are
-// moved without a call.
-#[inline(always)]
-fn copied(alloc: Global, bytes: &[u8], size: usize) -> Result<Vec<u8>, AllocError>
-    requires { size ≤ length bytes.now }
-    ensures { IfOk result (λ v. v.items ≡ take size bytes.now) }
-{
-    if size <= 24 {
-        if let Some(front) = bytes.first_chunk::<24>() {
-            return match Vec::from_array(alloc, *front) {
-                Ok(mut copy) => {
-                    copy.truncate(size);
-                    Ok(copy)
-                }
-                Err(_) => Err(AllocError),
-            };
+    #[inline(always)]
+    fn take_at_hand(&mut self, count: usize) -> bool
+        ensures taken { IsTrue result → TakesAtHand count (all_ahead self.old.now) (all_ahead self.new.now) }
+        ensures none { result ≡ false → self.new ≡ self.old }
+        ensures room { IsTrue result ↔ (count ≤ length self.old.now) }
+    {
+        if count > self.len() {
+            return false;
         }
+        *self = self.split_at(count).1;
+        true
     }
-    Vec::from_slice(alloc, bytes.split_at(size).0)
-}
-
-// At most two bytes, into a buffer of two.
-#[inline(always)]
-fn read_two(bytes: &mut &[u8], buf: &mut [u8]) -> ReadStep
-    requires { length buf.old ≡ 2 }
-    ensures lengths { StepKeepsLengths result (length buf.new) }
-    ensures tells { StepTells result buf.new (Some (all_ahead bytes.old.now)) (Some (all_ahead bytes.new.now)) }
-{
-    let Some((first, behind)) = bytes.split_first() else {
-        return ReadStep::Bytes(0);
-    };
-    buf[0] = *first;
-    *bytes = behind;
-    let Some((second, behind)) = behind.split_first() else {
-        return ReadStep::Bytes(1);
-    };
-    buf[1] = *second;
-    *bytes = behind;
-    ReadStep::Bytes(2)
 }

@@ -9,10 +9,11 @@ ghost use Rattle.wtp_wire.specs.Held.{Held, new_held, IsUnfinished};
 ghost use Rattle.wtp_wire.specs.FramePolling.{FramePolled, FrameGiven};
 ghost use Rattle.wtp_wire.specs.FrameSteps.{IsReading, halted_frame, PayloadKeeps, PayloadTells, AdvanceKeeps, AdvanceTells, Grew, answer, CanAnswer, PassedOn, PassedPlain, Started, StartKeeps};
 
+use crate::frame::body::Body;
 use crate::frame::head::{FrameHead, Said, read_head};
+use crate::frame::whole::front_frame;
 use crate::frame::{Frame, FrameKind, FrameOwned, ParseError};
 use std::alloc::Global;
-use std::borrow::CowSlice;
 use std::marker::Model;
 use std::mem;
 use wtp_core::bytes;
@@ -64,8 +65,7 @@ impl<'a> Frame<'a> {
     {
         Frame {
             kind,
-            payload: CowSlice::Owned(payload),
-            session_id: None,
+            body: Body::Owned(payload),
         }
     }
 }
@@ -118,9 +118,29 @@ impl FrameReading {
     ///   4096 bytes. All that came is held.
     /// - `Again`: 4096 bytes of an unknown frame's payload were passed over, and some are still due.
     ///
-    /// It may be polled again after each of these, over the same source or another.
+    /// It may be polled again after each of these, over the same source or another. A frame that the
+    /// source has at hand whole is taken in one call, and a payload of at most 24 bytes then mostly
+    /// needs no memory.
     #[inline(always)]
     pub fn poll<S: AsyncRead>(&mut self, source: &mut S) -> Polled<Result<FrameOwned, IoReadError>>
+        ensures was_unfinished { IsUnfinished self.old }
+        ensures unfinished { IsUnfinished self.new }
+        ensures given { FrameGiven result self.old self.new }
+        ensures polled { Telling (S.tells source.old) (S.tells source.new) (FramePolled result self.old self.new) }
+        ensures asks { Telling (S.tells source.old) (S.tells source.new) (Asks 4112) }
+    {
+        if self.len == 0 && self.due == 0 {
+            if let Some((frame, size)) = front_frame(self.alloc, source.at_hand()) {
+                if source.take_at_hand(size) {
+                    return Polled::Ready(Ok(frame));
+                }
+            }
+        }
+        self.read_on(source)
+    }
+
+    /// Reads on as `poll` does, call by call.
+    fn read_on<S: AsyncRead>(&mut self, source: &mut S) -> Polled<Result<FrameOwned, IoReadError>>
         ensures was_unfinished { IsUnfinished self.old }
         ensures unfinished { IsUnfinished self.new }
         ensures given { FrameGiven result self.old self.new }
@@ -298,11 +318,6 @@ fn fill_payload<S: AsyncRead>(
         (S.tells source.old) (S.tells source.new) }
 {
     if payload.len() < size {
-        if let Some(whole) = source.poll_whole(*payload.allocator(), size) {
-            *payload = whole;
-            *filled = size;
-            return Ok(());
-        }
         if payload.reserve_exact(size).is_err() || payload.resize(size, 0).is_err() {
             return Err(PayloadHalt::NoMemory);
         }

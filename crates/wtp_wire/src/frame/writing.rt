@@ -20,16 +20,16 @@ impl<'a> Frame<'a> {
         ensures { result ≡ unsent (wire self.now) }
     {
         let mut head = [0; 16];
-        let second = match self.session_id {
+        let second = match self.body.session() {
             Some(session_id) => session_id.into_varint(),
-            None => VarInt::from_u64_unchecked(self.payload.len() as u64),
+            None => VarInt::from_u64_unchecked(self.body.payload().len() as u64),
         };
         let len = spell_both(self.kind.id(), second, &mut head);
         FrameWriting {
             head,
             len,
             head_sent: 0,
-            payload: self.payload.as_slice(),
+            payload: self.body.payload(),
             payload_sent: 0,
         }
     }

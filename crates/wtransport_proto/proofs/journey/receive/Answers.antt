@@ -24,6 +24,11 @@ returns-in-Ok-clause-back g c = λ m ordered texts.
     let next = g.K.ReadsFrames.first c.next_frame.new.stream in
     told_back s t role first next c.args.turns m (Ok c.in-Ok.headers) ordered texts (told_read s t role first next c.args.turns c.in_ok-frame.frame _ (sym c.kind.ensures.kind ∙ c.in-Headers.is) c.in-Ok.ensures.read c.in_ok-frame.ensures.read)
 
+pub returns-in-Headers-clause-read : goal.returns-in-Headers-clause-read
+returns-in-Headers-clause-read g c =
+    told_section (g.S.AsyncRead.tells c.args.source.now) (g.S.AsyncRead.tells c.next_frame.new.source) g.K.ReadsFrames.role (g.K.ReadsFrames.first c.args.stream.now) (g.K.ReadsFrames.first c.next_frame.new.stream)
+    c.args.turns c.in_ok-frame.frame c.in-Err.refused (sym c.kind.ensures.kind ∙ c.in-Headers.is) c.in-Err.ensures.read (λ z. c.in-Err.ensures.memory (ap Err z)) c.in_ok-frame.ensures.read
+
 pub returns-in-Headers-clause-back : goal.returns-in-Headers-clause-back
 returns-in-Headers-clause-back g c = λ m ordered texts.
     let s = g.S.AsyncRead.tells c.args.source.now in

@@ -1,6 +1,6 @@
-use Rattle.std.proofs.Common.{[], ◌∷◌, length, Err}
+use Rattle.std.proofs.Common.{[], ◌∷◌, length, Err, sym, ◌∙◌}
 use Rattle.std.proofs.lemmas.Result.{err_from_is_err_and}
-use Rattle.std.specs.Cow.{cow_slice_items}
+use Rattle.wtp_wire.specs.Body.{payload_of, session_of}
 use Rattle.wtp_core.specs.Varint.{shortest}
 use Rattle.wtp_wire.specs.Kind.{number_of}
 use Rattle.wtp_core.proofs.WriterLemmas.{put-none, put-more, put-last}
@@ -11,22 +11,22 @@ use Rattle.wtp_wire.proofs.frame.Frame.write.Goals as goal
 pub returns-in_err-put_varint-clause-parts : goal.returns-in_err-put_varint-clause-parts
 returns-in_err-put_varint-clause-parts g c =
     let p = err_from_is_err_and c.from_residual.result c.from_residual.ensures.1 in
-    let (rest, parts) = parts_of-first c.self.inside.kind _ c.self.inside.session_id c.self.invariant in
+    let (rest, parts) = parts_of-first c.self.inside.kind _ (session_of c.self.inside.body) c.self.invariant in
     rw (p.1, p.2, ← c.self.view_is, parts, ← c.id.ensures) (put-none _ _ rest _ _ _ _ _ c.in_err-put_varint.ensures.puts)
 
 -- src/frame.rt:313:17
 pub returns-in_err-put_varint-in-None-clause-parts : goal.returns-in_err-put_varint-in-None-clause-parts
 returns-in_err-put_varint-in-None-clause-parts g c =
     let p = err_from_is_err_and c.from_residual-in_err-put_varint-in-None.result c.from_residual-in_err-put_varint-in-None.ensures.1 in
-    let parts = parts_of-plain c.self.inside.kind _ c.self.inside.session_id c.in-None.is c.self.invariant in
+    let parts = parts_of-plain c.self.inside.kind _ (session_of c.self.inside.body) (sym c.session.ensures ∙ c.in-None.is) c.self.invariant in
     let first = rw c.id.ensures at c.in_ok-put_varint.ensures.puts in
-    let second = rw (c.from_u64_unchecked.ensures, c.len-len.ensures) at c.in_err-put_varint-in-None.ensures.puts in
-    rw (p.1, p.2, ← c.self.view_is, parts) (put-more g.W.BytesWriter.grows (shortest (number_of c.self.inside.kind)) ((shortest (length (cow_slice_items c.self.inside.payload))) ∷ (cow_slice_items c.self.inside.payload) ∷ []) (Err c.in_err-put_varint-in-None.field-0.0) tt (g.W.BytesWriter.written c.args.writer.now) (g.W.BytesWriter.written c.put_varint.new.self) (g.W.BytesWriter.written c.put_varint-in-None.new.self) (g.W.BytesWriter.room c.args.writer.now) (g.W.BytesWriter.room c.put_varint.new.self) (g.W.BytesWriter.room c.put_varint-in-None.new.self) first (put-none g.W.BytesWriter.grows (shortest (length (cow_slice_items c.self.inside.payload))) ((cow_slice_items c.self.inside.payload) ∷ []) c.in_err-put_varint-in-None.field-0.0 (g.W.BytesWriter.written c.put_varint.new.self) (g.W.BytesWriter.room c.put_varint.new.self) (g.W.BytesWriter.written c.put_varint-in-None.new.self) (g.W.BytesWriter.room c.put_varint-in-None.new.self) second))
+    let second = rw (c.from_u64_unchecked.ensures, c.payload-payload.ensures) at c.in_err-put_varint-in-None.ensures.puts in
+    rw (p.1, p.2, ← c.self.view_is, parts) (put-more g.W.BytesWriter.grows (shortest (number_of c.self.inside.kind)) ((shortest (length (payload_of c.self.inside.body))) ∷ (payload_of c.self.inside.body) ∷ []) (Err c.in_err-put_varint-in-None.field-0.0) tt (g.W.BytesWriter.written c.args.writer.now) (g.W.BytesWriter.written c.put_varint.new.self) (g.W.BytesWriter.written c.put_varint-in-None.new.self) (g.W.BytesWriter.room c.args.writer.now) (g.W.BytesWriter.room c.put_varint.new.self) (g.W.BytesWriter.room c.put_varint-in-None.new.self) first (put-none g.W.BytesWriter.grows (shortest (length (payload_of c.self.inside.body))) ((payload_of c.self.inside.body) ∷ []) c.in_err-put_varint-in-None.field-0.0 (g.W.BytesWriter.written c.put_varint.new.self) (g.W.BytesWriter.room c.put_varint.new.self) (g.W.BytesWriter.written c.put_varint-in-None.new.self) (g.W.BytesWriter.room c.put_varint-in-None.new.self) second))
 
 -- src/frame.rt:303:5
 pub returns-in-Some-clause-parts : goal.returns-in-Some-clause-parts
 returns-in-Some-clause-parts g c =
-    let parts = parts_of-session c.self.inside.kind _ c.self.inside.session_id c.in-Some.session_id c.in-Some.is c.self.invariant in
+    let parts = parts_of-session c.self.inside.kind _ (session_of c.self.inside.body) c.in-Some.session_id (sym c.session.ensures ∙ c.in-Some.is) c.self.invariant in
     let first = rw c.id.ensures at c.in_ok-put_varint.ensures.puts in
     let second = rw c.into_varint.ensures.value at c.put_varint-in-Some.ensures.puts in
     rw (← c.self.view_is, parts) (put-more g.W.BytesWriter.grows (shortest (number_of c.self.inside.kind)) (shortest c.in-Some.session_id ∷ []) c.put_varint-in-Some.result tt (g.W.BytesWriter.written c.args.writer.now) (g.W.BytesWriter.written c.put_varint.new.self) (g.W.BytesWriter.written c.put_varint-in-Some.new.self) (g.W.BytesWriter.room c.args.writer.now) (g.W.BytesWriter.room c.put_varint.new.self) (g.W.BytesWriter.room c.put_varint-in-Some.new.self) first (put-last g.W.BytesWriter.grows (shortest c.in-Some.session_id) c.put_varint-in-Some.result (g.W.BytesWriter.written c.put_varint.new.self) (g.W.BytesWriter.room c.put_varint.new.self) (g.W.BytesWriter.written c.put_varint-in-Some.new.self) (g.W.BytesWriter.room c.put_varint-in-Some.new.self) second))
@@ -34,8 +34,8 @@ returns-in-Some-clause-parts g c =
 -- src/frame.rt:303:5
 pub returns-in_ok-put_varint-in-None-clause-parts : goal.returns-in_ok-put_varint-in-None-clause-parts
 returns-in_ok-put_varint-in-None-clause-parts g c =
-    let parts = parts_of-plain c.self.inside.kind _ c.self.inside.session_id c.in-None.is c.self.invariant in
+    let parts = parts_of-plain c.self.inside.kind _ (session_of c.self.inside.body) (sym c.session.ensures ∙ c.in-None.is) c.self.invariant in
     let first = rw c.id.ensures at c.in_ok-put_varint.ensures.puts in
-    let second = rw (c.from_u64_unchecked.ensures, c.len-len.ensures) at c.in_ok-put_varint-in-None.ensures.puts in
-    let third = rw c.as_slice.ensures.value at c.put_bytes.ensures.puts in
-    rw (← c.self.view_is, parts) (put-more g.W.BytesWriter.grows (shortest (number_of c.self.inside.kind)) ((shortest (length (cow_slice_items c.self.inside.payload))) ∷ (cow_slice_items c.self.inside.payload) ∷ []) c.put_bytes.result tt (g.W.BytesWriter.written c.args.writer.now) (g.W.BytesWriter.written c.put_varint.new.self) (g.W.BytesWriter.written c.put_bytes.new.self) (g.W.BytesWriter.room c.args.writer.now) (g.W.BytesWriter.room c.put_varint.new.self) (g.W.BytesWriter.room c.put_bytes.new.self) first (put-more g.W.BytesWriter.grows (shortest (length (cow_slice_items c.self.inside.payload))) ((cow_slice_items c.self.inside.payload) ∷ []) c.put_bytes.result tt (g.W.BytesWriter.written c.put_varint.new.self) (g.W.BytesWriter.written c.put_varint-in-None.new.self) (g.W.BytesWriter.written c.put_bytes.new.self) (g.W.BytesWriter.room c.put_varint.new.self) (g.W.BytesWriter.room c.put_varint-in-None.new.self) (g.W.BytesWriter.room c.put_bytes.new.self) second (put-last g.W.BytesWriter.grows (cow_slice_items c.self.inside.payload) c.put_bytes.result (g.W.BytesWriter.written c.put_varint-in-None.new.self) (g.W.BytesWriter.room c.put_varint-in-None.new.self) (g.W.BytesWriter.written c.put_bytes.new.self) (g.W.BytesWriter.room c.put_bytes.new.self) third)))
+    let second = rw (c.from_u64_unchecked.ensures, c.payload-payload.ensures) at c.in_ok-put_varint-in-None.ensures.puts in
+    let third = rw c.payload-payload.ensures at c.put_bytes.ensures.puts in
+    rw (← c.self.view_is, parts) (put-more g.W.BytesWriter.grows (shortest (number_of c.self.inside.kind)) ((shortest (length (payload_of c.self.inside.body))) ∷ (payload_of c.self.inside.body) ∷ []) c.put_bytes.result tt (g.W.BytesWriter.written c.args.writer.now) (g.W.BytesWriter.written c.put_varint.new.self) (g.W.BytesWriter.written c.put_bytes.new.self) (g.W.BytesWriter.room c.args.writer.now) (g.W.BytesWriter.room c.put_varint.new.self) (g.W.BytesWriter.room c.put_bytes.new.self) first (put-more g.W.BytesWriter.grows (shortest (length (payload_of c.self.inside.body))) ((payload_of c.self.inside.body) ∷ []) c.put_bytes.result tt (g.W.BytesWriter.written c.put_varint.new.self) (g.W.BytesWriter.written c.put_varint-in-None.new.self) (g.W.BytesWriter.written c.put_bytes.new.self) (g.W.BytesWriter.room c.put_varint.new.self) (g.W.BytesWriter.room c.put_varint-in-None.new.self) (g.W.BytesWriter.room c.put_bytes.new.self) second (put-last g.W.BytesWriter.grows (payload_of c.self.inside.body) c.put_bytes.result (g.W.BytesWriter.written c.put_varint-in-None.new.self) (g.W.BytesWriter.room c.put_varint-in-None.new.self) (g.W.BytesWriter.written c.put_bytes.new.self) (g.W.BytesWriter.room c.put_bytes.new.self) third)))

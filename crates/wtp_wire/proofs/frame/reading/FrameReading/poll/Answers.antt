@@ -1,24 +1,31 @@
-use Rattle.std.proofs.Common.{◌≡◌, [], ◌++◌, take, ap, sym, ◌∙◌}
-use Rattle.wtp_wire.specs.Held.{Held}
-use Rattle.wtp_wire.proofs.FramePollLemmas.{due_unfinished}
-use Rattle.wtp_wire.proofs.FramePassLemmas.{passed_told, passed_asks, passed_given}
+use Rattle.std.proofs.Common.{◌≡◌, vec_len, refl, sym, ◌∙◌}
+use Rattle.wtp_wire.specs.Held.{new_held}
+use Rattle.wtp_wire.proofs.WholeLemmas.{new_again, is_framed, takes_frame, whole_given, whole_polled}
 use Rattle.wtp_wire.proofs.frame.reading.FrameReading.poll.Goals as goal
 
-pub returns-in-None-clause-unfinished : goal.returns-in-None-clause-unfinished
-returns-in-None-clause-unfinished g c = due_unfinished _ c.pass_on.new.due (ap (λ (h : Held). h.taken) c.self.view_is ∙ c.in-None.ensures.keeps.empty)
+pub returns-then-take_at_hand-clause-was_unfinished : goal.returns-then-take_at_hand-clause-was_unfinished
+returns-then-take_at_hand-clause-was_unfinished g c =
+    let new : c.args.self.now ≡ new_held = sym c.self.view_is ∙ new_again c.self.inside.head c.self.inside.payload.items c.self.inside.len (vec_len c.self.inside.payload) c.self.inside.filled c.self.inside.due
+    c.if-self-eq0.true c.if-self-eq0-2.true c.self.invariant.1 in
+    (whole_given c.args.self.now c.in-Some.frame new (is_framed c.in-Some.frame c.at_hand.result.now c.in-Some.size c.in-Some.ensures.front)).0
 
-pub returns-in-None-clause-given : goal.returns-in-None-clause-given
-returns-in-None-clause-given g c = passed_given c.pass_on.result c.args.self.now c.start.new.self _ c.pass_on.new.due (ap (λ (h : Held). h.taken) c.self.view_is ∙ c.in-None.ensures.keeps.empty) c.in-None.ensures.keeps
-    (rw (sym (ap (λ (h : Held). h.due) c.self.view_is)) c.pass_on.ensures.plain)
+pub returns-then-take_at_hand-clause-unfinished : goal.returns-then-take_at_hand-clause-unfinished
+returns-then-take_at_hand-clause-unfinished g c =
+    let new : c.args.self.now ≡ new_held = sym c.self.view_is ∙ new_again c.self.inside.head c.self.inside.payload.items c.self.inside.len (vec_len c.self.inside.payload) c.self.inside.filled c.self.inside.due
+    c.if-self-eq0.true c.if-self-eq0-2.true c.self.invariant.1 in
+    (whole_given c.args.self.now c.in-Some.frame new (is_framed c.in-Some.frame c.at_hand.result.now c.in-Some.size c.in-Some.ensures.front)).0
 
-pub returns-in-None-clause-polled : goal.returns-in-None-clause-polled
-returns-in-None-clause-polled g c =
-    let t = take c.self.inside.len c.self.inside.head ++ take c.self.inside.filled c.self.inside.payload.items in
-    let none : t ≡ [] = ap (λ (h : Held). h.taken) c.self.view_is ∙ c.in-None.ensures.keeps.empty in
-    passed_told (g.S.AsyncRead.tells c.args.source.now) (g.S.AsyncRead.tells c.start.new.source) (g.S.AsyncRead.tells c.pass_on.new.source)
-    c.pass_on.result c.args.self.now c.start.new.self t c.pass_on.new.due none c.in-None.ensures.started (rw (sym (ap (λ (h : Held). h.due) c.self.view_is)) c.pass_on.ensures.passed)
+pub returns-then-take_at_hand-clause-given : goal.returns-then-take_at_hand-clause-given
+returns-then-take_at_hand-clause-given g c =
+    let new : c.args.self.now ≡ new_held = sym c.self.view_is ∙ new_again c.self.inside.head c.self.inside.payload.items c.self.inside.len (vec_len c.self.inside.payload) c.self.inside.filled c.self.inside.due
+    c.if-self-eq0.true c.if-self-eq0-2.true c.self.invariant.1 in
+    (whole_given c.args.self.now c.in-Some.frame new (is_framed c.in-Some.frame c.at_hand.result.now c.in-Some.size c.in-Some.ensures.front)).1
 
-pub returns-in-None-clause-asks : goal.returns-in-None-clause-asks
-returns-in-None-clause-asks g c =
-    passed_asks (g.S.AsyncRead.tells c.args.source.now) (g.S.AsyncRead.tells c.start.new.source) (g.S.AsyncRead.tells c.pass_on.new.source)
-    c.pass_on.result c.args.self.now c.start.new.self c.pass_on.new.due c.in-None.ensures.started (rw (sym (ap (λ (h : Held). h.due) c.self.view_is)) c.pass_on.ensures.passed)
+pub returns-then-take_at_hand-clause-polled : goal.returns-then-take_at_hand-clause-polled
+returns-then-take_at_hand-clause-polled g c =
+    let s = g.S.AsyncRead.tells c.args.source.now in
+    let t = g.S.AsyncRead.tells c.take_at_hand.new.self in
+    let new : c.args.self.now ≡ new_held = sym c.self.view_is ∙ new_again c.self.inside.head c.self.inside.payload.items c.self.inside.len (vec_len c.self.inside.payload) c.self.inside.filled c.self.inside.due
+    c.if-self-eq0.true c.if-self-eq0-2.true c.self.invariant.1 in
+    whole_polled s t c.args.self.now c.in-Some.frame new
+    (takes_frame c.in-Some.frame c.at_hand.result.now c.in-Some.size s t c.in-Some.ensures.size c.in-Some.ensures.front c.at_hand.ensures.shows (c.if-take_at_hand.ensures.taken refl))

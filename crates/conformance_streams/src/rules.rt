@@ -1,7 +1,7 @@
 //! Reading frames by the rule of each state, poll by poll.
-use crate::streams::answers::{Answer, CUT, FIN, check_answer, check_polls};
-use crate::streams::session::opened;
-use crate::streams::uniremote::upgraded;
+use crate::answers::{Answer, CUT, FIN, check_answer, check_polls};
+use crate::session::opened;
+use crate::uniremote::upgraded;
 use std::test::Fail;
 use wtransport_proto::bytes::Polled;
 use wtransport_proto::error::ErrorCode;

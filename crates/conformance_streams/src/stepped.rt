@@ -1,6 +1,6 @@
 //! Upgrading streams, poll by poll.
-use crate::pieces::{End, Paced, Trickle, stops_behind};
-use crate::streams::answers::session_4;
+use crate::answers::session_4;
+use conformance_pieces::{End, Paced, Trickle, stops_behind};
 use std::process::Abort;
 use std::test::Fail;
 use wtransport_proto::bytes::{AsyncRead, IoReadError as Fault, IoWriteError, Stepped, WriteStep};

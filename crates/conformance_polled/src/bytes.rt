@@ -1,14 +1,14 @@
 //! Numbers and buffers, read and written poll by poll.
-use crate::pieces::{Answers, BYTE_BY_BYTE, End, Paced, Trickle, stops_behind};
+use conformance_pieces::{Answers, BYTE_BY_BYTE, End, Paced, Trickle, stops_behind};
 use std::io;
 use std::io::ErrorKind;
 use std::process::Abort;
 use std::test::Fail;
-use wtransport_proto::bytes::{
+use wtp_core::bytes::{
     AsyncRead, BytesReaderAsync, BytesWriterAsync, GetBuffer, GetVarint, IoReadError, IoWriteError,
     Polled, PutBuffer, PutVarint, ReadStep, WriteStep,
 };
-use wtransport_proto::varint::VarInt;
+use wtp_core::varint::VarInt;
 
 /// Numbers, and their shortest spellings.
 const ROWS: [(u64, &[u8]); 4] = [
@@ -336,22 +336,4 @@ fn stops_are_printed(rt: HostRuntime) -> Result<(), Fail> {
         assert_eq!(rt; shown.as_str(), expected.as_str());
     }
     Ok(())
-}
-
-#[test]
-fn a_slice_hands_out_what_it_has_whole(rt: HostRuntime) -> Result<(), Fail> {
-    let mut source = b"abcde".as_slice();
-    assert!(rt; source.poll_whole(rt.alloc(), 6).is_none());
-    assert_eq!(rt; source, b"abcde".as_slice());
-    let front = source.poll_whole(rt.alloc(), 3).ok_or("three bytes")?;
-    assert_eq!(rt; front.as_slice(), b"abc".as_slice());
-    assert_eq!(rt; source, b"de".as_slice());
-    Ok(())
-}
-
-#[test]
-fn a_source_need_not_hand_out_anything_whole(rt: HostRuntime) {
-    let mut source = Trickle::new(b"abc", End::Fin);
-    assert!(rt; source.poll_whole(rt.alloc(), 3).is_none());
-    assert_eq!(rt; source.rest(), b"abc".as_slice());
 }

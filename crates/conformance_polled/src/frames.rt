@@ -1,18 +1,18 @@
 //! Frames, read and written poll by poll.
-use crate::pieces::{Answers, BYTE_BY_BYTE, End, Paced, Trickle, stops_behind};
+use conformance_pieces::{Answers, BYTE_BY_BYTE, End, Paced, Trickle, stops_behind};
 use std::alloc::AllocError;
 use std::borrow::CowSlice;
 use std::process::Abort;
 use std::test::Fail;
-use wtransport_proto::bytes;
-use wtransport_proto::bytes::{AsyncRead, IoWriteError, Polled, ReadStep, WriteStep};
-use wtransport_proto::frame::{Frame, FrameReading, IoReadError, ParseError};
-use wtransport_proto::ids::{SessionId, StreamId};
-use wtransport_proto::varint::VarInt;
+use wtp_core::bytes;
+use wtp_core::bytes::{AsyncRead, IoWriteError, Polled, ReadStep, WriteStep};
+use wtp_core::ids::{SessionId, StreamId};
+use wtp_core::varint::VarInt;
+use wtp_wire::frame::{Frame, FrameReading, IoReadError, ParseError};
 
 /// What a poll of a reading is to answer.
 #[derive(Drop)]
-enum Seen<'a> {
+pub(crate) enum Seen<'a> {
     /// A frame of this type number with this payload.
     Frame(u64, &'a [u8]),
     /// The frame of this session.
@@ -61,7 +61,7 @@ fn check<R: Abort, S: AsyncRead>(
 }
 
 /// Polls, one for each answer.
-fn check_each<R: Abort, S: AsyncRead>(
+pub(crate) fn check_each<R: Abort, S: AsyncRead>(
     rt: &R,
     reading: &mut FrameReading,
     source: &mut S,

@@ -1,8 +1,8 @@
 //! Driving streams.
-use crate::pieces::{End, Trickle};
-use crate::streams::answers::{check_frame, padded};
-use crate::streams::session::opened;
-use crate::streams::uniremote::upgraded;
+use crate::answers::{check_frame, padded};
+use crate::session::opened;
+use crate::uniremote::upgraded;
+use conformance_pieces::{End, Trickle};
 use std::process::Abort;
 use std::test::Fail;
 use wtransport_proto::bytes::{AsyncRead, IoReadError as Fault};

@@ -1,14 +1,12 @@
 //! Headers of streams, read and written poll by poll.
-use crate::pieces::{Answers, BYTE_BY_BYTE, End, Paced, Trickle, stops_behind};
+use conformance_pieces::{Answers, BYTE_BY_BYTE, End, Paced, Trickle, stops_behind};
 use std::process::Abort;
 use std::test::Fail;
-use wtransport_proto::bytes;
-use wtransport_proto::bytes::{AsyncRead, IoWriteError, Polled, ReadStep};
-use wtransport_proto::ids::SessionId;
-use wtransport_proto::stream_header::{
-    HeaderReading, IoReadError, ParseError, StreamHeader, StreamKind,
-};
-use wtransport_proto::varint::VarInt;
+use wtp_core::bytes;
+use wtp_core::bytes::{AsyncRead, IoWriteError, Polled, ReadStep};
+use wtp_core::ids::SessionId;
+use wtp_core::varint::VarInt;
+use wtp_wire::stream_header::{HeaderReading, IoReadError, ParseError, StreamHeader, StreamKind};
 
 /// What a poll answers: a header as its type number and its session.
 type Answer = Polled<Result<(u64, Option<u64>), IoReadError>>;

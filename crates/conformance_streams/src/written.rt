@@ -1,6 +1,6 @@
 //! Writing frames to streams, poll by poll.
-use crate::pieces::{Paced, stops_behind};
-use crate::streams::session::opened;
+use crate::session::opened;
+use conformance_pieces::{Paced, stops_behind};
 use std::borrow::CowSlice;
 use std::process::Abort;
 use std::test::Fail;

@@ -1,24 +1,27 @@
-//! Sources and sinks of the tests' own, which cut what they give and take, make wait, and stop.
+//! Sources and sinks of the tests' own, which cut what they give and take, make wait, and stop. No product code
+//! stands here.
+#![tactic(auto)]
+
 ghost use Rattle.std.specs.Prelude.{◌≡◌, ℕ, Option, Some, ◌+◌, ◌^◌, ◌<◌, ◌≤◌, length, if◌then◌else◌};
 ghost use Rattle.wtp_core.specs.Source.{Source, Ending, AtEnd, AtReset, AtDisconnection};
 ghost use Rattle.wtp_core.specs.Sink.{Sink};
 
 use std::alloc::Global;
-use wtransport_proto::bytes::{AsyncRead, AsyncWrite, IoReadError, ReadStep, WriteStep};
+use wtp_core::bytes::{AsyncRead, AsyncWrite, IoReadError, ReadStep, WriteStep};
 
 /// How a source ends.
 #[derive(Clone, Copy, Debug, PartialEq, Eq)]
-pub(crate) enum End {
+pub enum End {
     Fin,
     Reset,
     NotConnected,
 }
 
 impl End {
-    pub(crate) const EACH: [End; 3] = [End::Fin, End::Reset, End::NotConnected];
+    pub const EACH: [End; 3] = [End::Fin, End::Reset, End::NotConnected];
 
     /// What a reading answers at this end, where it took so many bytes of what it reads.
-    pub(crate) fn fault(self, taken: usize) -> IoReadError {
+    pub fn fault(self, taken: usize) -> IoReadError {
         match self {
             End::Fin if taken == 0 => IoReadError::ImmediateFin,
             End::Fin => IoReadError::UnexpectedFin,
@@ -31,7 +34,7 @@ impl End {
 /// Gives one byte a call, and is not ready once before each byte and once before its end, where it
 /// stays. It tells all that it gives.
 #[derive(Drop)]
-pub(crate) struct Trickle<'a> {
+pub struct Trickle<'a> {
     rest: &'a [u8],
     end: End,
     is_ready: bool,
@@ -41,7 +44,7 @@ pub(crate) struct Trickle<'a> {
 
 impl<'a> Trickle<'a> {
     /// These bytes, and then this end.
-    pub(crate) fn new(bytes: &'a [u8], end: End) -> Self {
+    pub fn new(bytes: &'a [u8], end: End) -> Self {
         Trickle {
             rest: bytes,
             end,
@@ -51,14 +54,14 @@ impl<'a> Trickle<'a> {
     }
 
     /// The bytes that it has not given yet.
-    pub(crate) fn rest(&self) -> &'a [u8] {
+    pub fn rest(&self) -> &'a [u8] {
         self.rest
     }
 }
 
 impl AsyncRead for Trickle<'_> {
-    ghost use Rattle.conformance.specs.declared.pieces.End.{End};
-    ghost use Rattle.conformance.specs.declared.pieces.End.TheVariants.{Fin, Reset, NotConnected};
+    ghost use Rattle.conformance_pieces.specs.declared.End.{End};
+    ghost use Rattle.conformance_pieces.specs.declared.End.TheVariants.{Fin, Reset, NotConnected};
 
     ghost tells = { λ s. Some (record {
       ahead = s.rest.now;
@@ -94,7 +97,7 @@ impl AsyncRead for Trickle<'_> {
 /// Answers by a list, where `Bytes(n)` gives the next n bytes, in one call where the buffer takes
 /// them all, and `Bytes(0)` is an end; then it gives the rest, as a slice does. It tells nothing.
 #[derive(Drop)]
-pub(crate) struct Answers<'a> {
+pub struct Answers<'a> {
     rest: &'a [u8],
     steps: &'a [ReadStep],
     piece: usize,
@@ -102,7 +105,7 @@ pub(crate) struct Answers<'a> {
 
 impl<'a> Answers<'a> {
     /// These bytes, by these answers.
-    pub(crate) fn new(bytes: &'a [u8], steps: &'a [ReadStep]) -> Self {
+    pub fn new(bytes: &'a [u8], steps: &'a [ReadStep]) -> Self {
         Answers {
             rest: bytes,
             steps,
@@ -111,12 +114,12 @@ impl<'a> Answers<'a> {
     }
 
     /// The bytes that it has not given yet.
-    pub(crate) fn rest(&self) -> &'a [u8] {
+    pub fn rest(&self) -> &'a [u8] {
         self.rest
     }
 
     /// How many answers it has not begun to give.
-    pub(crate) fn left(&self) -> usize {
+    pub fn left(&self) -> usize {
         self.steps.len()
     }
 }
@@ -161,20 +164,17 @@ static ONE_A_CALL: [WriteStep; 10] = [
 ];
 
 /// Answers of a sink that takes so many bytes (8 at most), one a call, then stops, and is then lost.
-pub(crate) fn stops_behind(bytes: usize) -> &'static [WriteStep] {
+pub fn stops_behind(bytes: usize) -> &'static [WriteStep] {
     ONE_A_CALL.get(8usize.wrapping_sub(bytes)..).unwrap_or(&[])
 }
 
 /// Answers of a sink that is not ready before each byte and takes one a call, for 32 bytes.
-pub(crate) static BYTE_BY_BYTE: [[WriteStep; 2]; 32] = [[
-    WriteStep::NotReady,
-    WriteStep::Bytes(1),
-]; 32];
+pub static BYTE_BY_BYTE: [[WriteStep; 2]; 32] = [[WriteStep::NotReady, WriteStep::Bytes(1)]; 32];
 
 /// Answers by a list, where `Bytes(n)` takes at most n bytes, and at least one; then it takes all,
 /// as a vector does. It tells all that it takes.
 #[derive(Drop)]
-pub(crate) struct Paced<'a> {
+pub struct Paced<'a> {
     steps: &'a [WriteStep],
     taken: Vec<u8>,
     waits: usize,
@@ -187,7 +187,7 @@ pub(crate) struct Paced<'a> {
 
 impl<'a> Paced<'a> {
     /// A sink that gives these answers.
-    pub(crate) fn new(alloc: Global, steps: &'a [WriteStep]) -> Self {
+    pub fn new(alloc: Global, steps: &'a [WriteStep]) -> Self {
         Paced {
             steps,
             taken: Vec::new(alloc),
@@ -198,12 +198,12 @@ impl<'a> Paced<'a> {
     }
 
     /// The bytes that it took.
-    pub(crate) fn taken(&self) -> &[u8] {
+    pub fn taken(&self) -> &[u8] {
         self.taken.as_slice()
     }
 
     /// How many answers it has not given yet.
-    pub(crate) fn left(&self) -> usize {
+    pub fn left(&self) -> usize {
         self.steps.len()
     }
 }

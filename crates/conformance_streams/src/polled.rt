@@ -1,6 +1,6 @@
 //! Reading frames from streams, poll by poll.
-use crate::pieces::{Answers, End, Trickle};
-use crate::streams::answers::{Answer, Answered, CUT, FIN, check_answer, check_polls, padded};
+use crate::answers::{Answer, Answered, CUT, FIN, check_answer, check_polls, padded};
+use conformance_pieces::{Answers, End, Trickle};
 use std::process::Abort;
 use std::test::Fail;
 use wtransport_proto::bytes::{IoReadError as Fault, Polled, ReadStep};

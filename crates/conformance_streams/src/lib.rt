@@ -1,0 +1,25 @@
+//! Streams of each kind, whole and poll by poll, as tests over the public crates. No product code stands here.
+#![tactic(auto)]
+
+#[cfg(test)]
+mod answers;
+#[cfg(test)]
+mod bilocal;
+#[cfg(test)]
+mod biremote;
+#[cfg(test)]
+mod driven;
+#[cfg(test)]
+mod polled;
+#[cfg(test)]
+mod rules;
+#[cfg(test)]
+mod session;
+#[cfg(test)]
+mod stepped;
+#[cfg(test)]
+mod unilocal;
+#[cfg(test)]
+mod uniremote;
+#[cfg(test)]
+mod written;

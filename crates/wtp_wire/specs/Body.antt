@@ -1,0 +1,17 @@
+-- What stands behind a frame's type number, however it is kept.
+use Rattle.std.specs.Prelude.{ℕ, List, [], Option, Some, None}
+use Rattle.wtp_wire.specs.declared.frame.body.Body.{Body}
+use Rattle.wtp_wire.specs.declared.frame.body.Body.TheVariants as body
+
+-- the payload, which is empty where a session stands in its place
+abbrev pub payload_of : Body → List ℕ
+payload_of (body.Borrowed bytes) = bytes.now
+payload_of (body.Owned bytes) = bytes.items
+payload_of (body.Short short) = short
+payload_of (body.Session id) = []
+
+abbrev pub session_of : Body → Option ℕ
+session_of (body.Borrowed bytes) = None
+session_of (body.Owned bytes) = None
+session_of (body.Short short) = None
+session_of (body.Session id) = Some id

@@ -1,0 +1,82 @@
+//! What stands behind a frame's type number.
+ghost use Rattle.std.specs.Prelude.{◌≡◌, ◌+◌, ◌≤◌, None, length, take, drop, IsSome, IfSome};
+ghost use Rattle.wtp_wire.specs.Body.{payload_of, session_of};
+
+use crate::frame::short::Short;
+use std::alloc::Global;
+use std::borrow::CowSlice;
+use wtp_core::ids::SessionId;
+
+/// A payload, or a session in its place.
+#[derive(Drop)]
+pub(crate) enum Body<'a> {
+    /// A payload that is borrowed.
+    Borrowed(&'a [u8]),
+    /// A payload in a vector.
+    Owned(Vec<u8>),
+    /// A payload that is kept in the frame itself.
+    Short(Short),
+    /// The session of WebTransport's frame.
+    Session(SessionId),
+}
+
+impl<'a> Body<'a> {
+    ghost use Rattle.std.specs.Cow.{cow_slice_items};
+
+    /// The payload, kept as it is.
+    #[inline(always)]
+    pub(crate) fn of(payload: CowSlice<'a, u8>) -> Self
+        ensures payload { payload_of result ≡ cow_slice_items payload.entry }
+        ensures plain { session_of result ≡ None }
+    {
+        match payload {
+            CowSlice::Borrowed(bytes) => Body::Borrowed(bytes),
+            CowSlice::Owned(bytes) => Body::Owned(bytes),
+        }
+    }
+
+    /// The payload, which is empty where a session stands in its place.
+    #[inline(always)]
+    pub(crate) fn payload(&self) -> &[u8]
+        ensures { result.now ≡ payload_of self.now }
+    {
+        match self {
+            Body::Borrowed(bytes) => bytes,
+            Body::Owned(bytes) => bytes.as_slice(),
+            Body::Short(short) => short.as_slice(),
+            Body::Session(_) => &[],
+        }
+    }
+
+    /// The session, where there is one.
+    #[inline(always)]
+    pub(crate) fn session(&self) -> Option<SessionId>
+        ensures { result ≡ session_of self.now }
+    {
+        match self {
+            Body::Borrowed(_) | Body::Owned(_) | Body::Short(_) => None,
+            Body::Session(session_id) => Some(*session_id),
+        }
+    }
+}
+
+impl Body<'static> {
+    /// A copy of the `len` bytes at `start`. `None` where no memory is to be had, which a payload of
+    /// at most 24 bytes does not need, unless it stands near the end of the bytes.
+    #[inline(always)]
+    pub(crate) fn copied(alloc: Global, bytes: &[u8], start: usize, len: usize) -> Option<Self>
+        requires { start + len ≤ length bytes.now }
+        ensures copy { IfSome result (λ b. payload_of b ≡ take len (drop start bytes.now)) }
+        ensures plain { IfSome result (λ b. session_of b ≡ None) }
+        ensures short { len ≤ 24 → start + 24 ≤ length bytes.now → IsSome result }
+    {
+        let behind = &bytes[start..];
+        if let Some(short) = Short::front_of(behind, len) {
+            return Some(Body::Short(short));
+        }
+        match Vec::from_slice(alloc, behind.split_at(len).0) {
+            Ok(copy) => Some(Body::Owned(copy)),
+            Err(_) => None,
+        }
+    }
+}

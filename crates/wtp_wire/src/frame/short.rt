@@ -1,0 +1,45 @@
+//! Payloads that a frame keeps in itself.
+ghost use Rattle.std.specs.Prelude.{◌≡◌, ◌≤◌, ◌↔◌, List, ℕ, length, take, IsSome, IfSome};
+
+use std::marker::Model;
+
+/// A payload of at most 24 bytes.
+#[derive(Drop)]
+pub(crate) struct Short {
+    len: usize,
+    // The payload, and bytes behind it that are no part of it.
+    bytes: [u8; 24],
+}
+
+impl Model for Short {
+    ghost Value = { List ℕ };
+
+    ghost view = { λ s. take s.len s.bytes };
+
+    ghost invariant = { λ s. s.len ≤ 24 };
+}
+
+impl Short {
+    /// The first `len` bytes; `None` where these are more than 24, or where fewer than 24 are given.
+    ///
+    /// All 24 are copied, which takes no call that depends on a number.
+    #[inline(always)]
+    pub(crate) fn front_of(bytes: &[u8], len: usize) -> Option<Self>
+        ensures front { IfSome result (λ s. s ≡ take len bytes.now) }
+        ensures room { IsSome result ↔ ((len ≤ 24) × (24 ≤ length bytes.now)) }
+    {
+        if len > 24 {
+            return None;
+        }
+        let front = bytes.first_chunk::<24>()?;
+        Some(Short { len, bytes: *front })
+    }
+
+    /// The payload.
+    #[inline(always)]
+    pub(crate) fn as_slice(&self) -> &[u8]
+        ensures { result.now ≡ self.now }
+    {
+        &self.bytes[..self.len]
+    }
+}
