@@ -1,12 +1,12 @@
 -- Numbers and their bits.
-use Rattle.std.proofs.Common.{Bool, List, [], ap, append-nil, append_assoc, arith, cond, drop, false, get_or, length, refl, suc, sym, true, zero, ℕ, ◌%◌, ◌*◌, ◌++◌, ◌+◌, ◌-◌, ◌/◌, ◌<◌, ◌==◌, ◌^◌, ◌∙◌, ◌∷◌, ◌≡◌, ◌≤◌}
+use Rattle.std.proofs.Common.{Bool, List, [], ap, append_assoc, arith, cond, drop, false, get_or, length, refl, suc, sym, take, true, zero, ℕ, ◌%◌, ◌*◌, ◌++◌, ◌+◌, ◌-◌, ◌/◌, ◌<◌, ◌==◌, ◌^◌, ◌∙◌, ◌∷◌, ◌≡◌, ◌≤◌}
 use Rattle.std.proofs.Math.Nat.{suc-add, two-pow-succ, zero-add}
 use Rattle.std.proofs.Math.Numerals.{one-add}
-use Rattle.std.proofs.Math.Seq.{drop-nil}
+use Rattle.std.proofs.Math.Seq.{drop-nil, take-append-add, take-nil}
 use Rattle.std.proofs.lemmas.List.{length-append}
 use Rattle.std.proofs.lemmas.Nat.{be_bytes_4, mod_below, pow-add, pow_pos, shr_below, shr_high, shr_split}
 use Rattle.std.proofs.lemmas.Nat.Bits.{bit_at_cat_high, bit_at_cat_low}
-use Rattle.std.specs.Int.{from_be_bytes, to_be_bytes, w32}
+use Rattle.std.specs.Int.{from_be_bytes, to_be_bytes, w32, w64}
 use Rattle.wtp_fields.specs.Huffman.{AllOnes, bits_of, low_bits}
 use Rattle.wtp_fields.specs.HuffmanTables.{front}
 
@@ -117,11 +117,7 @@ unfolding bits_of
 bits_append [] ys = refl
 bits_append (x ∷ xs) ys = rw (bits_append xs ys) (sym (append_assoc (low_bits 8 x) (bits_of xs) (bits_of ys)))
 
-pub bits_push : (xs : List ℕ) (x : ℕ) → bits_of (xs ++ x ∷ []) ≡ bits_of xs ++ low_bits 8 x
-unfolding bits_of
-bits_push xs x = bits_append xs (x ∷ []) ∙ ap (λ z. bits_of xs ++ z) (append-nil (low_bits 8 x))
-
-pub be_bits : (n : ℕ) → n < 2 ^ 32 → bits_of (to_be_bytes w32 n) ≡ low_bits 32 n
+be_bits : (n : ℕ) → n < 2 ^ 32 → bits_of (to_be_bytes w32 n) ≡ low_bits 32 n
 unfolding bits_of low_bits
 be_bits n h =
     let a : ℕ = n / 16777216 % 256 in
@@ -133,6 +129,23 @@ be_bits n h =
     let whole : x * 2 ^ 8 + d ≡ n = omega arith in
     sym (ap (low_bits 32) (sym whole) ∙ low_bits_append 24 8 x d (omega arith)
     ∙ ap (λ z. z ++ low_bits 8 d) (low_bits_append 16 8 y c (omega arith) ∙ ap (λ z. z ++ low_bits 8 c) (low_bits_append 8 8 a b (omega arith))))
+
+pub be_bits_8 : (n : ℕ) → n < 2 ^ 64 → bits_of (to_be_bytes w64 n) ≡ low_bits 64 n
+be_bits_8 n h =
+    let high : ℕ = n / 4294967296 in
+    let low : ℕ = n % 4294967296 in
+    let whole : high * 2 ^ 32 + low ≡ n = omega arith in
+    let halves : to_be_bytes w64 n ≡ to_be_bytes w32 high ++ to_be_bytes w32 low = grind arith in
+    ap bits_of halves ∙ bits_append (to_be_bytes w32 high) (to_be_bytes w32 low)
+    ∙ rw (be_bits high (omega arith), be_bits low (omega arith)) (sym (low_bits_append 32 32 high low (omega arith)) ∙ ap (low_bits 64) whole)
+
+pub bits_take : (k : ℕ) (s : List ℕ) → bits_of (take k s) ≡ take (8 * k) (bits_of s)
+unfolding bits_of
+bits_take zero s = refl
+bits_take (suc k) [] = sym (take-nil (8 * suc k))
+bits_take (suc k) (b ∷ s) =
+    let e : length (low_bits 8 b) + 8 * k ≡ 8 * suc k = omega (arith, low_bits_length 8 b) in
+    ap (λ z. low_bits 8 b ++ z) (bits_take k s) ∙ sym (take-append-add (low_bits 8 b) (bits_of s) (8 * k)) ∙ ap (λ n. take n (low_bits 8 b ++ bits_of s)) e
 
 pub four_bits : (n : ℕ) (four : List ℕ) → length four ≡ 4 → ((i : ℕ) → get_or four i 0 < 256) → n ≡ from_be_bytes w32 four → n < 2 ^ 32 → bits_of four ≡ low_bits 32 n
 four_bits n four len bytes e small = ap bits_of (sym (be_bytes_4 four n len bytes e)) ∙ be_bits n small

@@ -1,5 +1,5 @@
 -- How far a Huffman text was decoded or encoded.
-use Rattle.std.specs.Prelude.{◌≡◌, ℕ, ◌-◌, ◌/◌, ◌%◌, ◌^◌, ◌<◌, ◌≤◌, Bool, List, ◌++◌}
+use Rattle.std.specs.Prelude.{◌≡◌, ℕ, ◌-◌, ◌/◌, ◌%◌, ◌^◌, ◌<◌, Bool, List, ◌++◌}
 use Rattle.wtp_fields.specs.Huffman.{bits_of, low_bits, coded, IsBytes, IsCoded, IsHuffman}
 
 -- The text begins with the code words of out, and each text that is coded so begins with out: what is left of it is
@@ -27,13 +27,20 @@ pub record Takes (old : List ℕ) (held waiting : ℕ) (new : List ℕ) (left re
 abbrev pub IsCodedOn : List ℕ → ℕ → ℕ → Type 0
 IsCodedOn out held waiting = (s : List ℕ) × (t : List ℕ) × (behind : List Bool) × Reads s out (waiting_bits held waiting ++ behind) × IsHuffman t s
 
--- Bytes and a few bits behind them, before and after bytes were given out: together the same bits, and fewer than
--- most still wait.
-pub record Keeps (most : ℕ) (old : List ℕ) (count waiting : ℕ) (new : List ℕ) (left rest : ℕ) : Type 0 where
+-- the lowest bits of a number that has no others
+abbrev pub IsNumberOf : List Bool → ℕ → ℕ → Type 0
+IsNumberOf bits count number = (low_bits count number ≡ bits) × (number < 2 ^ count)
+
+-- Bytes and bits behind them, before and after whole bytes were given out: together the same bits, and fewer than
+-- eight still wait. What stands above the bits that wait says nothing.
+pub record Keeps (old : List ℕ) (count waiting : ℕ) (new : List ℕ) (left rest : ℕ) : Type 0 where
   pub same : bits_of new ++ low_bits left rest ≡ bits_of old ++ low_bits count waiting
+  pub few : left < 8
+
+-- the same, where more bits came, and fewer than most wait
+pub record Adds (most : ℕ) (more : List Bool) (old : List ℕ) (count waiting : ℕ) (new : List ℕ) (left rest : ℕ) : Type 0 where
+  pub same : bits_of new ++ low_bits left rest ≡ bits_of old ++ (low_bits count waiting ++ more)
   pub few : left < most
-  pub fewer : left ≤ count
-  pub fits : rest < 2 ^ left
 
 -- new is old with the text in the Huffman code behind it
 pub record AppendsHuffman (text old new : List ℕ) : Type 0 where

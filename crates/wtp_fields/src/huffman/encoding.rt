@@ -1,7 +1,7 @@
 //! From a text to code words.
-ghost use Rattle.std.specs.Prelude.{◌≡◌, ℕ, ◌*◌, ◌<◌, ◌≤◌, ◌^◌, List, length, IfOk, OnOk, IsOk, SomeIff};
-ghost use Rattle.wtp_fields.specs.Huffman.{coded, coded_len, IsBytes, IsHuffman};
-ghost use Rattle.wtp_fields.specs.HuffmanSteps.{AppendsHuffman, Keeps};
+ghost use Rattle.std.specs.Prelude.{◌≡◌, ℕ, ◌*◌, ◌+◌, ◌%◌, ◌<◌, ◌≤◌, ◌^◌, ◌++◌, Bool, List, length, IfOk, OnOk, IsOk, MatchOption, SomeIff};
+ghost use Rattle.wtp_fields.specs.Huffman.{bits_of, low_bits, code, coded, coded_len, IsBytes, IsHuffman, IsPadding};
+ghost use Rattle.wtp_fields.specs.HuffmanSteps.{Adds, AppendsHuffman, IsNumberOf, Keeps};
 
 use super::codes::code_of;
 use std::alloc::{AllocError, Global};
@@ -9,17 +9,35 @@ use std::alloc::{AllocError, Global};
 /// How many bytes of a text are counted at a time: a `u64` holds the bits of their words.
 const PART: usize = 1 << 32;
 
+/// The most bits that join up to seven that wait: fewer than 64 together.
+const MOST: u32 = 56;
+
+/// So many bits: the lowest of a number. What stands above them says nothing.
+#[derive(Clone, Copy)]
+struct Bits {
+    count: u32,
+    number: u64,
+}
+
 /// The text in code words, and ones up to a whole byte (RFC 7541, section 5.2).
 ///
-/// Memory is taken at once, as much as the text has, and more only for a text that gets longer; an empty text takes
-/// none and never fails.
+/// Memory is taken at once, as much as the text has and eight bytes, and more only for a text that gets longer; an
+/// empty text takes none and never fails.
 pub fn encode(alloc: Global, text: &[u8]) -> Result<Vec<u8>, AllocError>
     ensures coded { IfOk result (λ s. IsHuffman text.now s.items) }
     ensures empty { length text.now ≡ 0 → IsOk result }
 {
-    let mut out = Vec::with_capacity(alloc, text.len())?;
+    let mut out = Vec::with_capacity(alloc, room_for(text))?;
     append(&mut out, text)?;
     Ok(out)
+}
+
+/// The room that a text is given: eight bytes more than it has, since eight are written at a time.
+fn room_for(text: &[u8]) -> usize
+    ensures none { length text.now ≡ 0 → result ≡ 0 }
+    ensures some { 0 < length text.now → result ≡ length text.now + 8 }
+{
+    if text.is_empty() { 0 } else { text.len() + 8 }
 }
 
 /// Appends the text in code words, and ones up to a whole byte.
@@ -28,18 +46,19 @@ pub(crate) fn append(out: &mut Vec<u8>, text: &[u8]) -> Result<(), AllocError>
     ensures empty { length text.now ≡ 0 → IsOk result }
 {
     are_bytes(out.as_slice());
-    let mut waiting = 0u64;
-    let mut count = 0u32;
-    for byte in text {
-        let code = code_of(*byte);
-        let joined = (waiting << code.bits) + u64::from(code.number);
-        (waiting, count) = give_four(out, joined, count + code.bits)?;
+    let mut waiting = Bits {
+        count: 0,
+        number: 0,
+    };
+    let mut rest = text;
+    while let Some((four, next, behind)) = eight_of(rest) {
+        waiting = eight_in(out, waiting, four, next)?;
+        rest = behind;
     }
-    let (waiting, count) = give_out(out, waiting, count)?;
-    if count > 0 {
-        let room = 8 - count;
-        out.push(((waiting << room) + ((1 << room) - 1)) as u8)?;
+    for byte in rest {
+        waiting = word_in(out, waiting, *byte)?;
     }
+    give_last(out, waiting)?;
     are_bytes(out.as_slice());
     Ok(())
 }
@@ -84,31 +103,158 @@ fn word_bits(text: &[u8]) -> u64
     bits
 }
 
-/// Gives out four bytes of the bits that wait where there are so many, and answers what still waits.
-fn give_four(out: &mut Vec<u8>, waiting: u64, count: u32) -> Result<(u64, u32), AllocError>
-    requires few { count < 64 }
-    requires fits { waiting < 2 ^ count }
-    ensures kept { IfOk result (λ r. Keeps 32 out.old.items count waiting out.new.items r.1 r.0) }
+/// The word of a byte.
+#[inline(always)]
+fn word(byte: u8) -> Bits
+    ensures bits { low_bits result.count result.number ≡ code byte }
+    ensures fits { result.number < 2 ^ result.count }
+    ensures some { 0 < result.count }
+    ensures most { result.count ≤ 30 }
 {
-    if count < 32 {
-        return Ok((waiting, count));
+    let code = code_of(byte);
+    Bits {
+        count: code.bits,
+        number: u64::from(code.number),
     }
-    let left = count - 32;
-    out.extend_from_slice(&((waiting >> left) as u32).to_be_bytes())?;
-    Ok((waiting % (1 << left), left))
 }
 
-/// Gives out whole bytes of the bits that wait, and answers what still waits.
-fn give_out(out: &mut Vec<u8>, mut waiting: u64, mut count: u32) -> Result<(u64, u32), AllocError>
-    requires few { count < 64 }
-    requires fits { waiting < 2 ^ count }
-    ensures kept { IfOk result (λ r. Keeps 8 out.old.items count waiting out.new.items r.1 r.0) }
-    ensures few { count < 8 → IsOk result }
+/// The words of four bytes, where they have at most 64 bits.
+#[inline(always)]
+fn words_of(four: &[u8; 4]) -> Bits
+    ensures words { result.count ≤ 64 → IsNumberOf (coded four.now) result.count result.number }
+    ensures some { 0 < result.count }
+    ensures most { result.count ≤ 120 }
 {
-    while count >= 8 {
-        count -= 8;
-        out.push((waiting >> count) as u8)?;
-        waiting %= 1 << count;
+    let [a, b, c, d] = *four;
+    joined(joined(word(a), word(b)), joined(word(c), word(d)))
+}
+
+/// Bits, and others behind them, where they are at most 64.
+#[inline(always)]
+fn joined(front: Bits, back: Bits) -> Bits
+    requires few { front.count < 64 }
+    requires fewer { back.count < 64 }
+    requires fits { back.number < 2 ^ back.count }
+    ensures count { result.count ≡ front.count + back.count }
+    ensures bits { result.count ≤ 64 → low_bits result.count result.number ≡ low_bits front.count front.number ++ low_bits back.count back.number }
+    ensures fits { result.count ≤ 64 → front.number < 2 ^ front.count → result.number < 2 ^ result.count }
+{
+    Bits {
+        count: front.count + back.count,
+        number: (front.number << back.count) + back.number,
     }
-    Ok((waiting, count))
+}
+
+/// The first four bytes, the next four, and what is behind them; `None` where there are fewer than eight.
+#[inline(always)]
+fn eight_of(text: &[u8]) -> Option<(&[u8; 4], &[u8; 4], &[u8])>
+    ensures { MatchOption result (length text.now < 8) (λ p. (text.now ≡ (p.0.now ++ p.1.now) ++ p.2.now) × (length p.2.now + 8 ≡ length text.now)) }
+{
+    let (four, behind) = text.split_first_chunk::<4>()?;
+    let (next, behind) = behind.split_first_chunk::<4>()?;
+    Some((four, next, behind))
+}
+
+/// Appends the words of eight bytes, and answers what still waits.
+#[inline(always)]
+fn eight_in(
+    out: &mut Vec<u8>,
+    waiting: Bits,
+    four: &[u8; 4],
+    next: &[u8; 4],
+) -> Result<Bits, AllocError>
+    requires few { waiting.count < 8 }
+    ensures added { IfOk result (λ r. Adds 8 (coded four.now ++ coded next.now) out.old.items waiting.count waiting.number out.new.items r.count r.number) }
+{
+    let front = words_of(four);
+    let back = words_of(next);
+    if front.count + back.count <= MOST {
+        return give_whole(out, joined(waiting, joined(front, back)));
+    }
+    let waiting = four_in(out, waiting, four, front)?;
+    four_in(out, waiting, next, back)
+}
+
+/// Appends the words of four bytes, and answers what still waits.
+#[inline(always)]
+fn four_in(
+    out: &mut Vec<u8>,
+    waiting: Bits,
+    four: &[u8; 4],
+    words: Bits,
+) -> Result<Bits, AllocError>
+    requires few { waiting.count < 8 }
+    requires some { 0 < words.count }
+    requires words { words.count ≤ 64 → IsNumberOf (coded four.now) words.count words.number }
+    ensures added { IfOk result (λ r. Adds 8 (coded four.now) out.old.items waiting.count waiting.number out.new.items r.count r.number) }
+{
+    if words.count <= MOST {
+        return give_whole(out, joined(waiting, words));
+    }
+    each_in(out, waiting, four)
+}
+
+/// The same, word by word.
+#[cold]
+#[inline(never)]
+fn each_in(out: &mut Vec<u8>, waiting: Bits, four: &[u8; 4]) -> Result<Bits, AllocError>
+    requires few { waiting.count < 8 }
+    ensures added { IfOk result (λ r. Adds 8 (coded four.now) out.old.items waiting.count waiting.number out.new.items r.count r.number) }
+{
+    let mut waiting = waiting;
+    for byte in four {
+        waiting = give_whole(out, joined(waiting, word(*byte)))?;
+    }
+    Ok(waiting)
+}
+
+/// Joins a byte's word to the bits that wait. Whole bytes are given out first where it finds no room.
+#[inline(always)]
+fn word_in(out: &mut Vec<u8>, waiting: Bits, byte: u8) -> Result<Bits, AllocError>
+    requires few { waiting.count < 64 }
+    ensures added { IfOk result (λ r. Adds 64 (code byte) out.old.items waiting.count waiting.number out.new.items r.count r.number) }
+{
+    let word = word(byte);
+    if waiting.count + word.count < 64 {
+        return Ok(joined(waiting, word));
+    }
+    let waiting = give_whole(out, waiting)?;
+    Ok(joined(waiting, word))
+}
+
+/// Gives out the whole bytes of the bits that wait, and answers what still waits. Eight bytes are written whatever
+/// their number is, and those that are not whole are cut off.
+#[inline(always)]
+fn give_whole(out: &mut Vec<u8>, waiting: Bits) -> Result<Bits, AllocError>
+    requires some { 0 < waiting.count }
+    requires most { waiting.count ≤ 64 }
+    ensures kept { IfOk result (λ r. Keeps out.old.items waiting.count waiting.number out.new.items r.count r.number) }
+    ensures left { IfOk result (λ r. r.count ≡ waiting.count % 8) }
+{
+    let front = waiting.number << (64 - waiting.count);
+    out.extend_from_slice(&front.to_be_bytes())?;
+    out.truncate(out.len().saturating_sub(8 - (waiting.count / 8) as usize));
+    Ok(Bits {
+        count: waiting.count % 8,
+        number: waiting.number,
+    })
+}
+
+/// Gives out all bits that wait, and ones up to a whole byte.
+#[inline(always)]
+fn give_last(out: &mut Vec<u8>, waiting: Bits) -> Result<(), AllocError>
+    requires few { waiting.count < 64 }
+    ensures last { OnOk result ((pad : List Bool) × IsPadding pad × (bits_of out.new.items ≡ bits_of out.old.items ++ (low_bits waiting.count waiting.number ++ pad))) }
+    ensures empty { waiting.count ≡ 0 → IsOk result }
+{
+    if waiting.count == 0 {
+        return Ok(());
+    }
+    let room = (64 - waiting.count) % 8;
+    let ones = Bits {
+        count: room,
+        number: (1 << room) - 1,
+    };
+    give_whole(out, joined(waiting, ones))?;
+    Ok(())
 }
