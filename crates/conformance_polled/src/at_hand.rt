@@ -3,7 +3,7 @@ use crate::frames::{Seen, check_each};
 use conformance_pieces::{End, Trickle};
 use std::process::Abort;
 use wtp_core::bytes::{AsyncRead, IoReadError, Polled, ReadStep};
-use wtp_wire::frame::{FrameKind, FrameReading, ParseError};
+use wtp_wire::frame::{FrameKind, FrameOwned, FrameReading, ParseError};
 
 /// A source that has at most so many bytes at hand, and gives the others when it is asked.
 #[derive(Drop)]
@@ -80,9 +80,14 @@ fn check_sizes<R: Abort + AllocGlobal>(rt: &R, len: usize, behind: usize) {
 }
 
 #[test]
+fn a_frame_has_56_bytes(rt: HostRuntime) {
+    assert_eq!(rt; size_of::<FrameOwned>(), 56);
+}
+
+#[test]
 fn payloads_of_all_sizes_are_read_from_a_slice(rt: HostRuntime) {
-    for len in [0, 1, 2, 23, 24, 44, 45, 46, 47, 48, 64, 128] {
-        for behind in [0, 1, 2, 43, 44, 45, 46, 47, 48, 100] {
+    for len in [0, 1, 2, 24, 25, 31, 32, 33, 34, 48, 64, 128] {
+        for behind in [0, 1, 2, 29, 30, 31, 32, 33, 100] {
             check_sizes(&rt, len, behind);
         }
     }

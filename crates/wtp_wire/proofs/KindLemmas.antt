@@ -4,7 +4,8 @@ use Rattle.std.proofs.lemmas.Bool.{ne_eqb, eqb-true}
 use Rattle.std.proofs.lemmas.Bool.Decides.{nat_tests}
 use Rattle.wtp_wire.specs.declared.frame.FrameKind.{FrameKind}
 use Rattle.wtp_wire.specs.declared.frame.FrameKind.TheVariants.{Data, Headers, Settings, WebTransport, Exercise}
-use Rattle.wtp_wire.specs.Kind.{IsKind, IsExercise, is_exercise, kind_of}
+use Rattle.wtp_wire.specs.Kind.{IsKind, IsExercise, IsKnown, is_exercise, kind_of, number_of}
+use Rattle.wtp_wire.specs.KindNumber.{kind_numbered, number_of_kind_numbered}
 
 pub exercise_test : (id : ℕ) → IsExercise id → is_exercise id ≡ true
 exercise_test id h =
@@ -65,3 +66,31 @@ kind_of-none id h = none_of (kind_of id) refl
     none_of : (o : Option FrameKind) → kind_of id ≡ o → kind_of id ≡ None
     none_of None e = e
     none_of (Some kind) e = absurd (h kind (is-kind_of kind id e))
+
+-- ---- a kind that is kept as its number
+
+pub kind_numbered-is : (kind : FrameKind) (id : ℕ) → IsKind kind id → kind_numbered id ≡ kind
+unfolding kind_numbered
+kind_numbered-is Data id h = rw h refl
+kind_numbered-is Headers id h = rw h refl
+kind_numbered-is Settings id h = rw h refl
+kind_numbered-is WebTransport id h = rw h refl
+kind_numbered-is (Exercise number) id h =
+    let e : number ≡ id = h.0 in
+    let (n, far) = h.1 in
+    rw (ne_eqb id 0 (λ z. omega arith), ne_eqb id 1 (λ z. omega arith), ne_eqb id 4 (λ z. omega arith), ne_eqb id 65 (λ z. omega arith), e) refl
+
+known_is : (kind : FrameKind) → IsKnown kind → IsKind kind (number_of kind)
+known_is Data h = refl
+known_is Headers h = refl
+known_is Settings h = refl
+known_is WebTransport h = refl
+known_is (Exercise number) h = (refl, test_exercise number h)
+
+pub kind_numbered-known : (kind : FrameKind) → IsKnown kind → kind_numbered (number_of kind) ≡ kind
+kind_numbered-known kind h = kind_numbered-is kind (number_of kind) (known_is kind h)
+
+pub kind_numbered-of : (kind : FrameKind) (id : ℕ) → kind_of id ≡ Some kind → kind_numbered id ≡ kind
+kind_numbered-of kind id e = kind_numbered-is kind id (is-kind_of kind id e)
+
+pub ruleset numbered = (number_of_kind_numbered, kind_numbered-known, kind_numbered-of)

@@ -61,16 +61,16 @@ payload_before bytes rest f size e sum =
 
 -- where the payload is short, and enough bytes follow it
 pub enough_behind : (bytes rest behind : List ℕ) (f g : Content) (size : ℕ) → front bytes ≡ Framed g behind → size + length behind ≡ length bytes
-    → front bytes ≡ Framed f rest → length (payload_in f) ≤ 24 → 24 ≤ length (payload_in f) + length rest
-    → (length (payload_in g) ≤ 24) × ((size - length (payload_in g)) + 24 ≤ length bytes)
+    → front bytes ≡ Framed f rest → length (payload_in f) ≤ 32 → 32 ≤ length (payload_in f) + length rest
+    → (length (payload_in g) ≤ 32) × ((size - length (payload_in g)) + 32 ≤ length bytes)
 enough_behind bytes rest behind f g size e sum e' small room =
     let same : Framed f rest ≡ Framed g behind = sym e' ∙ e in
     let frames : f ≡ g = cc in
     let ends : rest ≡ behind = cc in
     let p = payload_before bytes behind g size e sum in
     let fits = p.fits in
-    let small' : length (payload_in g) ≤ 24 = rw frames at small in
-    let room' : 24 ≤ length (payload_in g) + length behind = rw (frames, ends) at room in
+    let small' : length (payload_in g) ≤ 32 = rw frames at small in
+    let room' : 32 ≤ length (payload_in g) + length behind = rw (frames, ends) at room in
     (small', omega arith)
 
 -- ---- the same frame by its fields

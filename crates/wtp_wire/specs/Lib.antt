@@ -1,4 +1,5 @@
 pub mod Kind
+pub mod KindNumber
 pub mod Content
 pub mod Body
 pub mod Front

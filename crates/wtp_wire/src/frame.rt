@@ -7,12 +7,14 @@ ghost use Rattle.wtp_core.specs.BufferWriter.{room_in, loan_of, IsUnwritten, Wro
 
 mod body;
 mod head;
+mod kind;
 pub mod reading;
 mod short;
 mod whole;
 pub mod writing;
 
 use crate::frame::body::Body;
+use crate::frame::kind::KindNumber;
 pub use reading::{FrameReading, IoReadError};
 use std::borrow::CowSlice;
 use std::marker::Model;
@@ -109,7 +111,7 @@ impl FrameKind {
 /// A frame, whose payload is borrowed or owned; a short one may be kept in the frame itself.
 #[derive(Drop)]
 pub struct Frame<'a> {
-    kind: FrameKind,
+    kind: KindNumber,
     body: Body<'a>,
 }
 
@@ -144,7 +146,7 @@ impl<'a> Frame<'a> {
         ensures { result ≡ HeadersOf (cow_slice_items payload.entry) }
     {
         Frame {
-            kind: FrameKind::Headers,
+            kind: KindNumber::of(FrameKind::Headers),
             body: Body::of(payload),
         }
     }
@@ -155,7 +157,7 @@ impl<'a> Frame<'a> {
         ensures { result ≡ SettingsOf (cow_slice_items payload.entry) }
     {
         Frame {
-            kind: FrameKind::Settings,
+            kind: KindNumber::of(FrameKind::Settings),
             body: Body::of(payload),
         }
     }
@@ -165,7 +167,7 @@ impl<'a> Frame<'a> {
         ensures { result ≡ WebTransportOf session_id }
     {
         Frame {
-            kind: FrameKind::WebTransport,
+            kind: KindNumber::of(FrameKind::WebTransport),
             body: Body::Session(session_id),
         }
     }
@@ -177,7 +179,7 @@ impl<'a> Frame<'a> {
         ensures { result ≡ ExerciseOf id (cow_slice_items payload.entry) }
     {
         Frame {
-            kind: FrameKind::Exercise(id),
+            kind: KindNumber::of(FrameKind::Exercise(id)),
             body: Body::of(payload),
         }
     }
@@ -188,7 +190,7 @@ impl<'a> Frame<'a> {
         ensures { result ≡ DataOf (cow_slice_items payload.entry) }
     {
         Frame {
-            kind: FrameKind::Data,
+            kind: KindNumber::of(FrameKind::Data),
             body: Body::of(payload),
         }
     }
@@ -198,6 +200,15 @@ impl<'a> Frame<'a> {
     pub fn kind(&self) -> FrameKind
         ensures kind { result ≡ kind_in self.now }
         ensures known { IsKnown result }
+    {
+        self.kind.kind()
+    }
+
+    // Its kind, as it is kept.
+    #[inline(always)]
+    #[tactic(auto, using(crate::proofs::ContentLemmas::fields))]
+    fn kind_number(&self) -> KindNumber
+        ensures { result ≡ kind_in self.now }
     {
         self.kind
     }
@@ -240,7 +251,7 @@ impl<'a> Frame<'a> {
     #[inline(always)]
     #[tactic(auto, using(wtp_core::proofs::RestLemmas::rests), unfolding(crate::specs::Front::plain_front))]
     fn read_plain<R: BytesReader<'a>>(
-        kind: FrameKind,
+        kind: KindNumber,
         reader: &mut R,
     ) -> Result<Option<Self>, ParseError>
         requires known { IsKnown kind }
@@ -297,10 +308,10 @@ impl<'a> Frame<'a> {
         let Some(id) = reader.get_varint() else {
             return Ok(None);
         };
-        let Some(kind) = FrameKind::parse(id) else {
+        let Some(kind) = KindNumber::parse(id) else {
             return Self::read_unknown(reader);
         };
-        match kind {
+        match kind.kind() {
             FrameKind::WebTransport => Self::read_session(reader),
             _ => Self::read_plain(kind, reader),
         }

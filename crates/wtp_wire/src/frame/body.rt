@@ -62,13 +62,13 @@ impl<'a> Body<'a> {
 
 impl Body<'static> {
     /// A copy of the `len` bytes at `start`. `None` where no memory is to be had, which a payload of
-    /// at most 24 bytes does not need, unless it stands near the end of the bytes.
+    /// at most 32 bytes does not need, unless it stands near the end of the bytes.
     #[inline(always)]
     pub(crate) fn copied(alloc: Global, bytes: &[u8], start: usize, len: usize) -> Option<Self>
         requires { start + len ≤ length bytes.now }
         ensures copy { IfSome result (λ b. payload_of b ≡ take len (drop start bytes.now)) }
         ensures plain { IfSome result (λ b. session_of b ≡ None) }
-        ensures short { len ≤ 24 → start + 24 ≤ length bytes.now → IsSome result }
+        ensures short { len ≤ 32 → start + 32 ≤ length bytes.now → IsSome result }
     {
         let behind = &bytes[start..];
         if let Some(short) = Short::front_of(behind, len) {

@@ -11,6 +11,7 @@ ghost use Rattle.wtp_wire.specs.FrameSteps.{IsReading, halted_frame, PayloadKeep
 
 use crate::frame::body::Body;
 use crate::frame::head::{FrameHead, Said, read_head};
+use crate::frame::kind::KindNumber;
 use crate::frame::whole::front_frame;
 use crate::frame::{Frame, FrameKind, FrameOwned, ParseError};
 use std::alloc::Global;
@@ -64,7 +65,7 @@ impl<'a> Frame<'a> {
         ensures { result ≡ content kind payload.items None }
     {
         Frame {
-            kind,
+            kind: KindNumber::of(kind),
             body: Body::Owned(payload),
         }
     }
@@ -119,7 +120,7 @@ impl FrameReading {
     /// - `Again`: 4096 bytes of an unknown frame's payload were passed over, and some are still due.
     ///
     /// It may be polled again after each of these, over the same source or another. A frame that the
-    /// source has at hand whole is taken in one call, and a payload of at most 24 bytes then mostly
+    /// source has at hand whole is taken in one call, and a payload of at most 32 bytes then mostly
     /// needs no memory.
     #[inline(always)]
     pub fn poll<S: AsyncRead>(&mut self, source: &mut S) -> Polled<Result<FrameOwned, IoReadError>>

@@ -3,12 +3,12 @@ ghost use Rattle.std.specs.Prelude.{◌≡◌, ◌≤◌, ◌↔◌, List, ℕ, 
 
 use std::marker::Model;
 
-/// A payload of at most 24 bytes.
+/// A payload of at most 32 bytes.
 #[derive(Drop)]
 pub(crate) struct Short {
     len: usize,
     // The payload, and bytes behind it that are no part of it.
-    bytes: [u8; 24],
+    bytes: [u8; 32],
 }
 
 impl Model for Short {
@@ -16,22 +16,22 @@ impl Model for Short {
 
     ghost view = { λ s. take s.len s.bytes };
 
-    ghost invariant = { λ s. s.len ≤ 24 };
+    ghost invariant = { λ s. s.len ≤ 32 };
 }
 
 impl Short {
-    /// The first `len` bytes; `None` where these are more than 24, or where fewer than 24 are given.
+    /// The first `len` bytes; `None` where these are more than 32, or where fewer than 32 are given.
     ///
-    /// All 24 are copied, which takes no call that depends on a number.
+    /// All 32 are copied, which takes no call that depends on a number.
     #[inline(always)]
     pub(crate) fn front_of(bytes: &[u8], len: usize) -> Option<Self>
         ensures front { IfSome result (λ s. s ≡ take len bytes.now) }
-        ensures room { IsSome result ↔ ((len ≤ 24) × (24 ≤ length bytes.now)) }
+        ensures room { IsSome result ↔ ((len ≤ 32) × (32 ≤ length bytes.now)) }
     {
-        if len > 24 {
+        if len > 32 {
             return None;
         }
-        let front = bytes.first_chunk::<24>()?;
+        let front = bytes.first_chunk::<32>()?;
         Some(Short { len, bytes: *front })
     }
 

@@ -11,19 +11,19 @@ use wtp_core::bytes::BufferReader;
 /// The frame at the front of the bytes, with a payload of its own, and how many bytes it has.
 ///
 /// `None` where no whole frame stands there, and where no memory is to be had, which a payload of at
-/// most 24 bytes does not need where 24 bytes are there from its first on.
+/// most 32 bytes does not need where 32 bytes are there from its first on.
 #[inline(always)]
 pub(crate) fn front_frame(alloc: Global, bytes: &[u8]) -> Option<(FrameOwned, usize)>
     ensures size { IfSome result (λ x. x.1 ≤ length bytes.now) }
     ensures front { IfSome result (λ x. front bytes.now ≡ Framed x.0 (drop x.1 bytes.now)) }
-    ensures short { (f : Content) (rest : List ℕ) → front bytes.now ≡ Framed f rest → length (payload_in f) ≤ 24 → 24 ≤ length (payload_in f) + length rest → IsSome result }
+    ensures short { (f : Content) (rest : List ℕ) → front bytes.now ≡ Framed f rest → length (payload_in f) ≤ 32 → 32 ≤ length (payload_in f) + length rest → IsSome result }
 {
     let mut reader = BufferReader::new(bytes);
     let Ok(Some(frame)) = Frame::read(&mut reader) else {
         return None;
     };
     let size = reader.offset();
-    let kind = frame.kind();
+    let kind = frame.kind_number();
     let body = match frame.session_id() {
         Some(session_id) => Body::Session(session_id),
         None => {

@@ -31,7 +31,7 @@ invariant_of-result c =
       | in-Some w ↦ let s = sym c.session_id.ensures ∙ w.in-Some.is in rw w.body-is (sym (no_payload c.in-Ok-Some.frame w.in-Some.session_id s), sym s)
       | in-None+in_ok-body-in-None w ↦ rw w.body-is (w.in_ok-body-in-None.ensures.copy ∙ rw w.payload-len.ensures.payload p.is, w.in_ok-body-in-None.ensures.plain ∙ sym w.in-None.is ∙ c.session_id.ensures)
     ] in
-    same_proper c.in-Ok-Some.frame _ _ _ _ _ _ c.frame.invariant c.frame.view_is c.kind-kind.ensures.kind body.0 body.1
+    same_proper c.in-Ok-Some.frame _ _ _ _ _ _ c.frame.invariant c.frame.view_is c.kind_number-kind.ensures body.0 body.1
 
 pub returns-clause-front : goal.returns-clause-front
 returns-clause-front c =
@@ -42,7 +42,7 @@ returns-clause-front c =
       | in-Some w ↦ let s = sym c.session_id.ensures ∙ w.in-Some.is in rw w.body-is (sym (no_payload c.in-Ok-Some.frame w.in-Some.session_id s), sym s)
       | in-None+in_ok-body-in-None w ↦ rw w.body-is (w.in_ok-body-in-None.ensures.copy ∙ rw w.payload-len.ensures.payload p.is, w.in_ok-body-in-None.ensures.plain ∙ sym w.in-None.is ∙ c.session_id.ensures)
     ] in
-    rw (same_frame c.in-Ok-Some.frame _ _ _ c.kind-kind.ensures.kind body.0 body.1, behind_frame c.args.bytes.now (left_of c.read.new.reader) c.in-Ok-Some.frame c.offset-size.result is sum) is
+    rw (same_frame c.in-Ok-Some.frame _ _ _ c.kind_number-kind.ensures body.0 body.1, behind_frame c.args.bytes.now (left_of c.read.new.reader) c.in-Ok-Some.frame c.offset-size.result is sum) is
 
 pub returns-in_err-body-in-None-clause-short : goal.returns-in_err-body-in-None-clause-short
 returns-in_err-body-in-None-clause-short c = λ f rest e small room.
