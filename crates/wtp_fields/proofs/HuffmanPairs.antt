@@ -1,5 +1,5 @@
 -- The one or two short words at the front of twelve bits.
-use Rattle.std.proofs.Common.{Bool, List, [], ap, append-nil, append_assoc, arith, cond, drop, false, inl, inr, length, nat_le, nat_lt, refl, subst, suc, sym, take, true, zero, ℕ, ◌&&◌, ◌%◌, ◌*◌, ◌++◌, ◌+◌, ◌-◌, ◌/◌, ◌<◌, ◌==◌, ◌^◌, ◌∙◌, ◌∷◌, ◌≡◌, ◌≤◌, ◌⊎◌}
+use Rattle.std.proofs.Common.{Bool, List, [], ap, append-nil, append_assoc, arith, cond, drop, inl, inr, length, nat_le, nat_lt, refl, subst, suc, sym, take, true, zero, ℕ, ◌&&◌, ◌%◌, ◌*◌, ◌++◌, ◌+◌, ◌-◌, ◌/◌, ◌<◌, ◌==◌, ◌^◌, ◌∙◌, ◌∷◌, ◌≡◌, ◌≤◌, ◌⊎◌}
 use Rattle.std.proofs.Math.Nat.{div-div-eq-div-mul, mul-div_cancel, mul-le-mul_right, zero-add}
 use Rattle.std.proofs.lemmas.Bool.{and_parts, eqb-true, leb-true, ltb-true}
 use Rattle.std.proofs.lemmas.List.{drop-drop, length-append, length-drop}
@@ -7,8 +7,8 @@ use Rattle.std.proofs.lemmas.Nat.{div_below, le-div, mod_below, pow-add, pow_pos
 use Rattle.std.specs.Prelude.{slice_index}
 use Rattle.wtp_fields.specs.Huffman.{low_bits}
 use Rattle.wtp_fields.specs.HuffmanSteps.{Reads, Takes, waiting_bits, IsClear}
-use Rattle.wtp_fields.specs.HuffmanTables.{IsWord, front, pair_bits_at, pair_count_at, pair_second_at, room, row_at, short_bits_at, short_byte_at, symbol_at}
-use Rattle.wtp_fields.specs.declared.huffman.pairs.TheConstants.{PAIR_BITS, PAIR_COUNTS, PAIR_SECONDS}
+use Rattle.wtp_fields.specs.HuffmanTables.{IsWord, front, pair_bits_at, pair_count_at, pair_first_at, pair_second_at, room, row_at, short_bits_at, short_byte_at, symbol_at}
+use Rattle.wtp_fields.specs.declared.huffman.pairs.TheConstants.{PAIRS}
 use Rattle.wtp_fields.proofs.Chosen.{chosen}
 use Rattle.wtp_fields.proofs.HuffmanBits.{front_below, front_low_bits, front_split, low_bits_append, low_bits_length}
 use Rattle.wtp_fields.proofs.HuffmanReading.{drop_held, reads_more}
@@ -29,29 +29,28 @@ pair_ok i bits count second =
     let l = short_bits_at (i / 16) in
     nat_le bits 12 && cond (count == 1) (bits == l) ((count == 2) && second_ok (behind_word i l) bits l second)
 
-pairs_ok : ℕ → List ℕ → List ℕ → List ℕ → Bool
-pairs_ok i (b ∷ bs) (c ∷ cs) (s ∷ ss) = pair_ok i b c s && pairs_ok (suc i) bs cs ss
-pairs_ok i [] [] [] = true
-pairs_ok i bs cs ss = false
+entry_ok : ℕ → ℕ → Bool
+entry_ok i e = (e / 256 % 256 == short_byte_at (i / 16)) && pair_ok i (e % 256) (2 - e / 16777216) (e / 65536 % 256)
 
-all_pairs : pairs_ok 0 PAIR_BITS PAIR_COUNTS PAIR_SECONDS ≡ true
-unfolding short_bits_at short_byte_at second_ok pair_ok pairs_ok
+pairs_ok : ℕ → List ℕ → Bool
+pairs_ok i (e ∷ es) = entry_ok i e && pairs_ok (suc i) es
+pairs_ok i [] = true
+
+all_pairs : pairs_ok 0 PAIRS ≡ true
+unfolding short_bits_at short_byte_at second_ok pair_ok entry_ok pairs_ok
 all_pairs = refl
 
-pairs_length : length PAIR_BITS ≡ 4064
+pairs_length : length PAIRS ≡ 4064
 pairs_length = refl
 
-pairs_ok_at : (i k : ℕ) (bs cs ss : List ℕ) → pairs_ok i bs cs ss ≡ true → k < length bs
-    → pair_ok (k + i) (slice_index bs k) (slice_index cs k) (slice_index ss k) ≡ true
+pairs_ok_at : (i k : ℕ) (es : List ℕ) → pairs_ok i es ≡ true → k < length es → entry_ok (k + i) (slice_index es k) ≡ true
 unfolding pairs_ok
-pairs_ok_at i zero (b ∷ bs) (c ∷ cs) (s ∷ ss) h lt = rw (zero-add i) (and_parts (pair_ok i b c s) _ h).0
-pairs_ok_at i (suc k) (b ∷ bs) (c ∷ cs) (s ∷ ss) h lt =
-    let next = pairs_ok_at (suc i) k bs cs ss (and_parts (pair_ok i b c s) _ h).1 (omega arith) in
-    let e : k + suc i ≡ suc k + i = omega arith in
-    rw e at next
-pairs_ok_at i k [] cs ss h lt = absurd (omega arith)
-pairs_ok_at i k (b ∷ bs) [] ss h lt = absurd cc
-pairs_ok_at i k (b ∷ bs) (c ∷ cs) [] h lt = absurd cc
+pairs_ok_at i zero (e ∷ es) h lt = rw (zero-add i) (and_parts (entry_ok i e) _ h).0
+pairs_ok_at i (suc k) (e ∷ es) h lt =
+    let next = pairs_ok_at (suc i) k es (and_parts (entry_ok i e) _ h).1 (omega arith) in
+    let same : k + suc i ≡ suc k + i = omega arith in
+    rw same at next
+pairs_ok_at i k [] h lt = absurd (omega arith)
 
 -- ---- a word that lies within the first m bits of a window is that of each window with these bits
 
@@ -116,12 +115,18 @@ entry_facts i bits count second h =
       ];
     }
 
-pub entry_at : (i : ℕ) → i < 4064 → Entry i (pair_bits_at i) (pair_count_at i) (pair_second_at i)
-unfolding pair_bits_at pair_count_at pair_second_at
+entry_parts : (i e : ℕ) → entry_ok i e ≡ true → (e / 256 % 256 ≡ short_byte_at (i / 16)) × Entry i (e % 256) (2 - e / 16777216) (e / 65536 % 256)
+unfolding entry_ok
+entry_parts i e h =
+    let p = and_parts (e / 256 % 256 == short_byte_at (i / 16)) (pair_ok i (e % 256) (2 - e / 16777216) (e / 65536 % 256)) h in
+    (eqb-true (e / 256 % 256) (short_byte_at (i / 16)) p.0, entry_facts i (e % 256) (2 - e / 16777216) (e / 65536 % 256) p.1)
+
+pub entry_at : (i : ℕ) → i < 4064 → (pair_first_at i ≡ short_byte_at (i / 16)) × Entry i (pair_bits_at i) (pair_count_at i) (pair_second_at i)
+unfolding pair_bits_at pair_count_at pair_first_at pair_second_at
 entry_at i h =
     let place : i + 0 ≡ i = omega arith in
-    let ok = rw place at (pairs_ok_at 0 i PAIR_BITS PAIR_COUNTS PAIR_SECONDS all_pairs (rw pairs_length h)) in
-    entry_facts i (slice_index PAIR_BITS i) (slice_index PAIR_COUNTS i) (slice_index PAIR_SECONDS i) ok
+    let ok = rw place at (pairs_ok_at 0 i PAIRS all_pairs (rw pairs_length h)) in
+    entry_parts i (slice_index PAIRS i) ok
 
 -- ---- the words of bits that begin so
 
@@ -167,23 +172,44 @@ pub record Limits (i : ℕ) : Type 0 where
   pub least : 5 ≤ pair_bits_at i
   pub most : pair_bits_at i ≤ 12
   pub few : pair_count_at i ≤ 2
+  pub some : 1 ≤ pair_count_at i
+  pub each : 5 * pair_count_at i ≤ pair_bits_at i
+  pub first : pair_first_at i ≡ short_byte_at (i / 16)
+
+second_least : (i l bits second : ℕ) → Second i l bits second → 5 ≤ short_bits_at (behind_word i l)
+second_least i l bits second s =
+    let j : ℕ = behind_word i l in
+    let v : ℕ = j * 4194304 in
+    let place : v / 4194304 ≡ j = mul-div_cancel j (omega arith) in
+    let word = rw place at (short_found v (omega (arith, s.place))) in
+    word.least
 
 pub limits : (i : ℕ) → i < 4064 → Limits i
 limits i h =
-    let entry = entry_at i h in
+    let entry = (entry_at i h).1 in
     let v : ℕ = i * 4 * 65536 in
     let place : v / 4194304 ≡ i / 16 = omega arith in
     let word = rw place at (short_found v (omega arith)) in
     elim entry.words [
-      | inl one ↦ record { least = omega (arith, one.1, word.least); most = entry.most; few = omega (arith, one.0) }
-      | inr two ↦ record { least = omega (arith, two.1.both, word.least); most = entry.most; few = omega (arith, two.0) }
+      | inl one ↦
+          record { least = omega (arith, one.1, word.least); most = entry.most; few = omega (arith, one.0); some = omega (arith, one.0); each = omega (arith, one.0, one.1, word.least); first = (entry_at i h).0 }
+      | inr two ↦
+          let more = second_least i (short_bits_at (i / 16)) (pair_bits_at i) (pair_second_at i) two.1 in
+          record {
+            least = omega (arith, two.1.both, word.least);
+            most = entry.most;
+            few = omega (arith, two.0);
+            some = omega (arith, two.0);
+            each = omega (arith, two.0, two.1.both, word.least, more);
+            first = (entry_at i h).0;
+          }
     ]
 
 pub reads_pair : (text out : List ℕ) (bits : List Bool) (i : ℕ) → Reads text out bits → front 12 bits ≡ i → i < 4064 → 12 ≤ length bits
     → short_byte_at (i / 16) < 256 → pair_second_at i < 256
     → Reads text (out ++ take (pair_count_at i) (short_byte_at (i / 16) ∷ pair_second_at i ∷ [])) (drop (pair_bits_at i) bits)
 reads_pair text out bits i d e h long small small2 =
-    let entry = entry_at i h in
+    let entry = (entry_at i h).1 in
     let l : ℕ = short_bits_at (i / 16) in
     let x : ℕ = short_byte_at (i / 16) in
     let y : ℕ = pair_second_at i in

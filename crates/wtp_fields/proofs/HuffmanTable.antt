@@ -1,11 +1,11 @@
 -- The tables of the code, and the code by its definition, row by row.
-use Rattle.std.proofs.Common.{Bool, List, [], arith, cond, inl, inr, nat_le, nat_lt, refl, suc, true, zero, ℕ, ◌&&◌, ◌*◌, ◌+◌, ◌-◌, ◌/◌, ◌<◌, ◌==◌, ◌^◌, ◌∷◌, ◌≡◌, ◌≤◌}
+use Rattle.std.proofs.Common.{Bool, List, [], arith, cond, inl, inr, nat_le, nat_lt, refl, suc, true, ℕ, ◌&&◌, ◌*◌, ◌+◌, ◌-◌, ◌/◌, ◌<◌, ◌==◌, ◌^◌, ◌∷◌, ◌≡◌, ◌≤◌}
 use Rattle.std.proofs.lemmas.Bool.{and_parts, cases_order, eqb-true, leb-true, ltb-true}
 use Rattle.std.proofs.lemmas.Nat.{div_below, le-div, pow_pos}
 use Rattle.std.specs.Prelude.{slice_index_or}
 use Rattle.wtp_fields.specs.Huffman.{Word, word_of}
 use Rattle.wtp_fields.specs.HuffmanRows.{rows}
-use Rattle.wtp_fields.specs.HuffmanTables.{InRow, room, row_at, symbol_at, symbol_in}
+use Rattle.wtp_fields.specs.HuffmanTables.{InRow, IsWord, room, row_at, symbol_at, symbol_in}
 use Rattle.wtp_fields.specs.declared.huffman.codes.TheConstants.{CODES}
 use Rattle.wtp_fields.specs.declared.huffman.rows.Row.{Row}
 use Rattle.wtp_fields.specs.declared.huffman.rows.TheConstants.{ROWS}
@@ -204,3 +204,8 @@ word_facts x h =
     let s = there.1 in
     let f = row_facts there.0 s.below in
     record { least = omega (arith, f.least, s.bits); most = omega (arith, f.most, s.bits); fits = s.fits }
+
+-- the window of ones begins with the word that ends a string
+pub end_word : IsWord 1073741823 30 256
+unfolding row_at symbol_at
+end_word = record { row = 20; in_row = record { below = omega arith; low = omega arith; high = omega arith }; bits_are = refl; symbol_is = refl; least = omega arith; most = omega arith; known = omega arith }

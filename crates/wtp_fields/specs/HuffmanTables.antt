@@ -1,6 +1,6 @@
 -- The code's constant tables by number, and the windows that they are searched with.
-use Rattle.std.specs.Prelude.{◌≡◌, ℕ, zero, suc, ◌+◌, ◌-◌, ◌*◌, ◌/◌, ◌^◌, ◌<◌, ◌≤◌, Bool, cond, List, [], ◌∷◌, slice_index, slice_index_or}
-use Rattle.wtp_fields.specs.declared.huffman.pairs.TheConstants.{PAIR_BITS, PAIR_COUNTS, PAIR_SECONDS}
+use Rattle.std.specs.Prelude.{◌≡◌, ℕ, zero, suc, ◌+◌, ◌-◌, ◌*◌, ◌/◌, ◌%◌, ◌^◌, ◌<◌, ◌≤◌, Bool, cond, List, [], ◌∷◌, slice_index, slice_index_or}
+use Rattle.wtp_fields.specs.declared.huffman.pairs.TheConstants.{PAIRS}
 use Rattle.wtp_fields.specs.declared.huffman.rows.Row.{Row}
 use Rattle.wtp_fields.specs.declared.huffman.rows.TheConstants.{ROWS, SYMBOLS}
 use Rattle.wtp_fields.specs.declared.huffman.short.TheConstants.{SHORT_BITS, SHORT_BYTES}
@@ -27,16 +27,18 @@ short_bits_at i = slice_index SHORT_BITS i
 unfoldable pub short_byte_at : ℕ → ℕ
 short_byte_at i = slice_index SHORT_BYTES i
 
--- the one or two such words within twelve bits: how many bits they have together, how many they are, and the byte of
--- the second
-unfoldable pub pair_bits_at : ℕ → ℕ
-pair_bits_at i = slice_index PAIR_BITS i
-
-unfoldable pub pair_count_at : ℕ → ℕ
-pair_count_at i = slice_index PAIR_COUNTS i
+-- the one or two such words within twelve bits: their bytes, how many bits they have together, and how many they are
+unfoldable pub pair_first_at : ℕ → ℕ
+pair_first_at i = slice_index PAIRS i / 256 % 256
 
 unfoldable pub pair_second_at : ℕ → ℕ
-pair_second_at i = slice_index PAIR_SECONDS i
+pair_second_at i = slice_index PAIRS i / 65536 % 256
+
+unfoldable pub pair_bits_at : ℕ → ℕ
+pair_bits_at i = slice_index PAIRS i % 256
+
+unfoldable pub pair_count_at : ℕ → ℕ
+pair_count_at i = 2 - slice_index PAIRS i / 16777216
 
 -- how many of a window's 30 bits stand behind a word of row k
 abbrev pub room : ℕ → ℕ

@@ -1,5 +1,6 @@
 //! From code words to a text.
-ghost use Rattle.std.specs.Prelude.{◌≡◌, ℕ, ◌+◌, ◌*◌, ◌<◌, ◌≤◌, ◌^◌, List, [], ◌∷◌, ◌++◌, length, take, IfOk, IfErr, OnOk, MatchResult, IsOk, IsTrue, ◌↔◌};
+ghost use Rattle.std.specs.Prelude.{◌≡◌, ℕ, ◌+◌, ◌-◌, ◌*◌, ◌<◌, ◌≤◌, ◌^◌, List, [], ◌∷◌, ◌++◌, length, take, IfOk, IfErr, OnOk, MatchResult, IsOk, IsTrue, ◌↔◌};
+ghost use Rattle.std.specs.Vec.{vec_len, vec_capacity};
 ghost use Rattle.wtp_fields.specs.Huffman.{bits_of, low_bits, IsHuffman};
 ghost use Rattle.wtp_fields.specs.HuffmanSteps.{waiting_bits, IsClear, IsCodedOn, Takes};
 ghost use Rattle.wtp_fields.specs.HuffmanTables.{front, row_at, InRow, IsWord};
@@ -9,7 +10,8 @@ use super::HuffmanError;
 use super::pairs::pair_entry;
 use super::rows::{ROWS, row_number, symbol_number};
 use super::short::short_entry;
-use std::alloc::{AllocError, Global};
+use std::alloc::Global;
+use std::mem::replace;
 
 /// The symbol that ends a string, which no text holds.
 const END: u16 = 256;
@@ -34,27 +36,42 @@ pub fn decode(alloc: Global, text: &[u8]) -> Result<Vec<u8>, HuffmanError>
     ensures only { (t : List ℕ) → IsHuffman t text.now → MatchResult result (λ v. v.items ≡ t) (λ e. e ≡ Memory) }
     ensures empty { length text.now ≡ 0 → IsOk result }
 {
-    let mut out = Vec::with_capacity(alloc, most_bytes(text))?;
-    decode_into(&mut out, text)?;
-    Ok(out)
+    decoded_in(Vec::with_capacity(alloc, most_bytes(text))?, text)
 }
 
 /// The most bytes that a coded text stands for: one for each five bits.
 fn most_bytes(text: &[u8]) -> usize
-    ensures { length text.now ≡ 0 → result ≡ 0 }
+    ensures enough { 8 * length text.now < 5 * result + 5 }
+    ensures none { length text.now ≡ 0 → result ≡ 0 }
 {
-    text.len().saturating_mul(8) / 5
+    text.len() / 5 * 8 + text.len() % 5 * 8 / 5
 }
 
 /// Puts the text that is coded so in the place of what stood in `out`. Where `out` has too little room, memory is
-/// taken at once.
+/// taken at once, twice the code's length, which is more than enough and soon computed.
 pub(crate) fn decode_into(out: &mut Vec<u8>, text: &[u8]) -> Result<(), HuffmanError>
     ensures found { OnOk result (IsHuffman out.new.items text.now) }
     ensures only { (t : List ℕ) → IsHuffman t text.now → MatchResult result (λ _. out.new.items ≡ t) (λ e. e ≡ Memory) }
     ensures empty { length text.now ≡ 0 → IsOk result }
 {
     out.clear();
-    out.reserve(most_bytes(text))?;
+    out.reserve(text.len() * 2)?;
+    let none = Vec::new(*out.allocator());
+    *out = decoded_in(replace(out, none), text)?;
+    Ok(())
+}
+
+/// The text that is coded so, put into an empty vector that has room for a byte for each five bits. The vector comes
+/// and goes by value, so that the compiler keeps its length in a register.
+#[inline(always)]
+fn decoded_in(mut out: Vec<u8>, text: &[u8]) -> Result<Vec<u8>, HuffmanError>
+    requires none { out.items ≡ [] }
+    requires len { vec_len out ≡ 0 }
+    requires room { 8 * length text.now < 5 * vec_capacity out + 5 }
+    ensures found { IfOk result (λ t. IsHuffman t.items text.now) }
+    ensures only { (t : List ℕ) → IsHuffman t text.now → MatchResult result (λ v. v.items ≡ t) (λ e. e ≡ Memory) }
+    ensures empty { length text.now ≡ 0 → IsOk result }
+{
     let mut rest = text;
     let mut waiting = 0;
     let mut held = 0;
@@ -63,88 +80,98 @@ pub(crate) fn decode_into(out: &mut Vec<u8>, text: &[u8]) -> Result<(), HuffmanE
         if held < 30 {
             break;
         }
-        (waiting, held) = words_taken(out, waiting, held)?;
+        (waiting, held) = words_taken(&mut out, waiting, held)?;
     }
     'last: loop {
         if held >= 12 && waiting < SHORT_END {
-            (waiting, held) = short_taken(out, waiting, held)?;
+            (waiting, held) = short_taken(&mut out, waiting, held);
             continue;
         }
         let window = last_window(waiting, held);
+        if is_padding(window, held) {
+            return Ok(out);
+        }
         let word = word_at(window);
         if word.bits > held {
-            return if is_padding(window, held) {
-                Ok(())
-            } else {
-                Err(HuffmanError::Invalid)
-            };
+            return Err(HuffmanError::Invalid);
         }
-        out.push(byte_of(word)?)?;
+        out.push_reserved(byte_of(word)?);
         held -= word.bits;
         waiting <<= word.bits;
     }
 }
 
-/// Takes one word or a few from the front of the bits that wait, and answers what still waits.
+/// Takes one word or a few from the front of the bits that wait, and answers what still waits. There is room for a byte
+/// for each five of the bits.
 #[inline(always)]
 fn words_taken(out: &mut Vec<u8>, waiting: u64, held: u32) -> Result<(u64, u32), HuffmanError>
     requires enough { 30 ≤ held }
     requires few { held < 64 }
     requires clear { IsClear held waiting }
+    requires room { 5 * vec_len out.old + held < 5 * vec_capacity out.old + 5 }
     ensures taken { IfOk result (λ r. Takes out.old.items held waiting out.new.items r.1 r.0) }
-    ensures fails { IsCodedOn out.old.items held waiting → IfErr result (λ e. e ≡ Memory) }
+    ensures fails { IsCodedOn out.old.items held waiting → IsOk result }
+    ensures room { IfOk result (λ r. 5 * vec_len out.new + r.1 ≤ 5 * vec_len out.old + held) }
+    ensures same { vec_capacity out.new ≡ vec_capacity out.old }
 {
     if waiting >= SHORT_END {
         return word_taken(out, waiting, held);
     }
-    let (waiting, held) = short_taken(out, waiting, held)?;
+    let (waiting, held) = short_taken(out, waiting, held);
     if waiting >= SHORT_END {
         return Ok((waiting, held));
     }
-    Ok(short_taken(out, waiting, held)?)
+    Ok(short_taken(out, waiting, held))
 }
 
 /// Takes the word at the front of the bits that wait.
+#[inline(always)]
 fn word_taken(out: &mut Vec<u8>, waiting: u64, held: u32) -> Result<(u64, u32), HuffmanError>
     requires enough { 30 ≤ held }
     requires few { held < 64 }
     requires clear { IsClear held waiting }
+    requires room { vec_len out.old < vec_capacity out.old }
     ensures taken { IfOk result (λ r. Takes out.old.items held waiting out.new.items r.1 r.0) }
-    ensures fails { IsCodedOn out.old.items held waiting → IfErr result (λ e. e ≡ Memory) }
+    ensures fails { IsCodedOn out.old.items held waiting → IsOk result }
+    ensures room { IfOk result (λ r. 5 * vec_len out.new + r.1 ≤ 5 * vec_len out.old + held) }
+    ensures same { vec_capacity out.new ≡ vec_capacity out.old }
 {
     let word = word_at((waiting >> 34) as u32);
-    out.push(byte_of(word)?)?;
+    out.push_reserved(byte_of(word)?);
     Ok((waiting << word.bits, held - word.bits))
 }
 
 /// Takes the one or two words of at most eight bits that lie within the first twelve of those that wait.
 #[inline(always)]
-fn short_taken(out: &mut Vec<u8>, waiting: u64, held: u32) -> Result<(u64, u32), AllocError>
+fn short_taken(out: &mut Vec<u8>, waiting: u64, held: u32) -> (u64, u32)
     requires enough { 12 ≤ held }
     requires few { held < 64 }
     requires short { waiting < 0xfe00_0000_0000_0000 }
     requires clear { IsClear held waiting }
-    ensures taken { IfOk result (λ r. Takes out.old.items held waiting out.new.items r.1 r.0) }
-    ensures most { IfOk result (λ r. held ≤ r.1 + 12) }
+    requires room { vec_len out.old + 2 ≤ vec_capacity out.old }
+    ensures taken { Takes out.old.items held waiting out.new.items result.1 result.0 }
+    ensures most { held ≤ result.1 + 12 }
+    ensures room { 5 * vec_len out.new + result.1 ≤ 5 * vec_len out.old + held }
+    ensures same { vec_capacity out.new ≡ vec_capacity out.old }
 {
-    let front = (waiting >> 52) as usize;
-    let (_, first) = short_entry(front / 16);
-    let (bits, count, second) = pair_entry(front);
-    push_some(out, first, second, count as usize)?;
-    Ok((waiting << bits, held - u32::from(bits)))
+    let (bits, spare, first, second) = pair_entry((waiting >> 52) as usize);
+    push_some(out, first, second, spare as usize);
+    (waiting << bits, held - u32::from(bits))
 }
 
-/// Appends the first of two bytes, or both. The length is taken down by `saturating_sub`, since the compiler then needs
-/// no branch on the count.
+/// Appends two bytes without the last `spare`. The length is taken down by `saturating_sub`, since the compiler then
+/// needs no branch on the count.
 #[inline(always)]
-fn push_some(out: &mut Vec<u8>, first: u8, second: u8, count: usize) -> Result<(), AllocError>
-    requires few { count ≤ 2 }
-    ensures { OnOk result (out.new.items ≡ out.old.items ++ take count (first ∷ second ∷ [])) }
+fn push_some(out: &mut Vec<u8>, first: u8, second: u8, spare: usize)
+    requires few { spare ≤ 2 }
+    requires room { vec_len out.old + 2 ≤ vec_capacity out.old }
+    ensures items { out.new.items ≡ out.old.items ++ take (2 - spare) (first ∷ second ∷ []) }
+    ensures len { vec_len out.new + spare ≡ vec_len out.old + 2 }
+    ensures same { vec_capacity out.new ≡ vec_capacity out.old }
 {
-    out.push(first)?;
-    out.push(second)?;
-    out.truncate(out.len().saturating_sub(2 - count));
-    Ok(())
+    out.push_reserved(first);
+    out.push_reserved(second);
+    out.truncate(out.len().saturating_sub(spare));
 }
 
 /// Takes bytes from the front of `rest` until 30 bits wait or none is left. The highest `held` bits of `waiting`

@@ -25,6 +25,7 @@ fn tested(bytes: &[u8]) -> Result<&str, DecodingError>
 }
 
 /// The same, by a faster test for ASCII first, which nearly every text is.
+#[inline(always)]
 fn text_of(bytes: &[u8]) -> Result<&str, DecodingError>
     ensures { Gives (λ t. t.now) result (utf8_text bytes.now) }
 {
@@ -36,6 +37,7 @@ fn text_of(bytes: &[u8]) -> Result<&str, DecodingError>
 }
 
 /// The bytes as a text of its own, allocated once at its size.
+#[inline(always)]
 fn copied(alloc: Global, bytes: &[u8]) -> Result<String, DecodingError>
     ensures { GivesUnlessMemory (λ t. string_bytes t) result (utf8_text bytes.now) }
 {

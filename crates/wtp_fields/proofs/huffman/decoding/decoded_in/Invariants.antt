@@ -1,7 +1,8 @@
 use Rattle.std.proofs.Common.{◌+◌, ◌*◌, ◌<◌, ◌≤◌, ◌++◌, length}
+use Rattle.std.specs.Vec.{vec_len, vec_capacity}
 use Rattle.wtp_fields.specs.Huffman.{bits_of}
 use Rattle.wtp_fields.specs.HuffmanSteps.{Reads, waiting_bits, IsClear}
-use Rattle.wtp_fields.proofs.huffman.decoding.decode_into.Given as goal
+use Rattle.wtp_fields.proofs.huffman.decoding.decoded_in.Given as goal
 
 abbrev pub invariant-windows : goal.invariant-windows
 invariant-windows l =
@@ -10,6 +11,7 @@ invariant-windows l =
       clear : IsClear l.held l.waiting;
       few : l.held < 64;
       start : 8 * length l.rest + l.held ≤ 8 * length l.text;
+      room : 5 * vec_len l.out + (8 * length l.rest + l.held) < 5 * vec_capacity l.out + 5;
     }
 
 abbrev pub decreases-windows : goal.decreases-windows
@@ -22,6 +24,7 @@ invariant-last l =
       clear : IsClear l.held l.waiting;
       few : l.held < 30;
       start : l.held ≤ 8 * length l.text;
+      room : 5 * vec_len l.out + l.held < 5 * vec_capacity l.out + 5;
     }
 
 abbrev pub decreases-last : goal.decreases-last
