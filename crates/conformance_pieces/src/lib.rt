@@ -2,9 +2,11 @@
 //! stands here.
 #![tactic(auto)]
 
-ghost use Rattle.std.specs.Prelude.{◌≡◌, ℕ, Option, Some, ◌+◌, ◌^◌, ◌<◌, ◌≤◌, length, if◌then◌else◌};
-ghost use Rattle.wtp_core.specs.Source.{Source, Ending, AtEnd, AtReset, AtDisconnection};
+ghost use Rattle.std.specs.Prelude.{◌≡◌, ℕ, Option, Some, ◌+◌, ◌-◌, ◌^◌, ◌<◌, ◌≤◌, [], length, drop, false, if◌then◌else◌};
+ghost use Rattle.wtp_core.specs.Source.{Source};
 ghost use Rattle.wtp_core.specs.Sink.{Sink};
+ghost use Rattle.wtp_core.specs.Polled.{stop};
+ghost use Rattle.conformance_pieces.specs.Pieces.{ending_of, one_a_call};
 
 use std::alloc::Global;
 use wtp_core::bytes::{AsyncRead, AsyncWrite, IoReadError, ReadStep, WriteStep};
@@ -12,16 +14,22 @@ use wtp_core::bytes::{AsyncRead, AsyncWrite, IoReadError, ReadStep, WriteStep};
 /// How a source ends.
 #[derive(Clone, Copy, Debug, PartialEq, Eq)]
 pub enum End {
+    /// Its last byte was given.
     Fin,
+    /// It was reset.
     Reset,
+    /// The connection was lost.
     NotConnected,
 }
 
 impl End {
+    /// Each of them.
     pub const EACH: [End; 3] = [End::Fin, End::Reset, End::NotConnected];
 
     /// What a reading answers at this end, where it took so many bytes of what it reads.
-    pub fn fault(self, taken: usize) -> IoReadError {
+    pub fn fault(self, taken: usize) -> IoReadError
+        ensures { result ≡ stop taken (ending_of self) }
+    {
         match self {
             End::Fin if taken == 0 => IoReadError::ImmediateFin,
             End::Fin => IoReadError::UnexpectedFin,
@@ -44,7 +52,9 @@ pub struct Trickle<'a> {
 
 impl<'a> Trickle<'a> {
     /// These bytes, and then this end.
-    pub fn new(bytes: &'a [u8], end: End) -> Self {
+    pub fn new(bytes: &'a [u8], end: End) -> Self
+        ensures { (result.rest.now ≡ bytes.now) × (result.end ≡ end) × (result.given ≡ 0) × (result.is_ready ≡ false) }
+    {
         Trickle {
             rest: bytes,
             end,
@@ -54,18 +64,17 @@ impl<'a> Trickle<'a> {
     }
 
     /// The bytes that it has not given yet.
-    pub fn rest(&self) -> &'a [u8] {
+    pub fn rest(&self) -> &'a [u8]
+        ensures { result.now ≡ self.now.rest.now }
+    {
         self.rest
     }
 }
 
 impl AsyncRead for Trickle<'_> {
-    ghost use Rattle.conformance_pieces.specs.declared.End.{End};
-    ghost use Rattle.conformance_pieces.specs.declared.End.TheVariants.{Fin, Reset, NotConnected};
-
     ghost tells = { λ s. Some (record {
       ahead = s.rest.now;
-      ending = (let how : End → Ending = elim [ Fin ↦ AtEnd | Reset ↦ AtReset | NotConnected ↦ AtDisconnection ] in how s.end);
+      ending = ending_of s.end;
       asked = 0;
       waits = s.given + (if s.is_ready then 1 else 0);
     }) };
@@ -105,7 +114,9 @@ pub struct Answers<'a> {
 
 impl<'a> Answers<'a> {
     /// These bytes, by these answers.
-    pub fn new(bytes: &'a [u8], steps: &'a [ReadStep]) -> Self {
+    pub fn new(bytes: &'a [u8], steps: &'a [ReadStep]) -> Self
+        ensures { (result.rest.now ≡ bytes.now) × (result.steps.now ≡ steps.now) × (result.piece ≡ 0) }
+    {
         Answers {
             rest: bytes,
             steps,
@@ -114,12 +125,16 @@ impl<'a> Answers<'a> {
     }
 
     /// The bytes that it has not given yet.
-    pub fn rest(&self) -> &'a [u8] {
+    pub fn rest(&self) -> &'a [u8]
+        ensures { result.now ≡ self.now.rest.now }
+    {
         self.rest
     }
 
     /// How many answers it has not begun to give.
-    pub fn left(&self) -> usize {
+    pub fn left(&self) -> usize
+        ensures { result ≡ length self.now.steps.now }
+    {
         self.steps.len()
     }
 }
@@ -164,8 +179,14 @@ static ONE_A_CALL: [WriteStep; 10] = [
 ];
 
 /// Answers of a sink that takes so many bytes (8 at most), one a call, then stops, and is then lost.
-pub fn stops_behind(bytes: usize) -> &'static [WriteStep] {
-    ONE_A_CALL.get(8usize.wrapping_sub(bytes)..).unwrap_or(&[])
+pub fn stops_behind(bytes: usize) -> &'static [WriteStep]
+    ensures few { bytes ≤ 8 → result.now ≡ drop (8 - bytes) one_a_call }
+    ensures more { 8 < bytes → result.now ≡ [] }
+{
+    if bytes > 8 {
+        return &[];
+    }
+    &ONE_A_CALL[8 - bytes..]
 }
 
 /// Answers of a sink that is not ready before each byte and takes one a call, for 32 bytes.
@@ -187,7 +208,9 @@ pub struct Paced<'a> {
 
 impl<'a> Paced<'a> {
     /// A sink that gives these answers.
-    pub fn new(alloc: Global, steps: &'a [WriteStep]) -> Self {
+    pub fn new(alloc: Global, steps: &'a [WriteStep]) -> Self
+        ensures { (result.steps.now ≡ steps.now) × (result.taken.items ≡ []) × (result.waits ≡ 0) × (result.stops ≡ 0) × (result.losses ≡ 0) }
+    {
         Paced {
             steps,
             taken: Vec::new(alloc),
@@ -198,12 +221,16 @@ impl<'a> Paced<'a> {
     }
 
     /// The bytes that it took.
-    pub fn taken(&self) -> &[u8] {
+    pub fn taken(&self) -> &[u8]
+        ensures { result.now ≡ self.now.taken.items }
+    {
         self.taken.as_slice()
     }
 
     /// How many answers it has not given yet.
-    pub fn left(&self) -> usize {
+    pub fn left(&self) -> usize
+        ensures { result ≡ length self.now.steps.now }
+    {
         self.steps.len()
     }
 }
