@@ -3,7 +3,7 @@
 #![tactic(auto)]
 
 ghost use Rattle.std.specs.Prelude.{◌≡◌, ◌≢◌, ◌≤◌, ◌<◌, ℕ, pos, negsuc, List, length};
-ghost use Rattle.wtp_fields.specs.Huffman.{IsHuffman};
+ghost use Rattle.wtp_huffman.specs.Huffman.{IsHuffman};
 
 mod fields;
 mod frames;

@@ -1,13 +1,3 @@
-pub mod Tables
-pub mod HuffmanBits
-pub mod HuffmanTable
-pub mod HuffmanWords
-pub mod HuffmanWindows
-pub mod HuffmanReading
-pub mod HuffmanPairs
-pub mod HuffmanWriting
-pub mod HuffmanLengths
-pub mod HuffmanLaws
 pub mod Chosen
 pub mod IntegerReading
 pub mod IntegerWriting

@@ -7,7 +7,7 @@ use Rattle.std.proofs.lemmas.Str.{is_utf8-from_IsUtf8}
 use Rattle.std.proofs.lemmas.List.{length-append}
 use Rattle.std.proofs.lemmas.Nat.{shr_high, pow_pos}
 use Rattle.std.proofs.Math.Seq.{drop-append_seam, take-append_seam}
-use Rattle.wtp_fields.specs.Huffman.{IsBytes}
+use Rattle.wtp_huffman.specs.Huffman.{IsBytes}
 use Rattle.wtp_fields.specs.declared.qpack.field_line.Table.TheVariants.{Static}
 use Rattle.wtp_fields.specs.declared.qpack.field_line.Representation.{Representation}
 use Rattle.wtp_fields.specs.declared.qpack.field_line.Representation.TheVariants.{Indexed, NameReference, LiteralName}

@@ -3,13 +3,13 @@ use Rattle.std.proofs.Common.{◌≡◌, ◌≢◌, ℕ, zero, suc, ◌+◌, ◌
 use Rattle.std.proofs.lemmas.Bool.{cases_lt, lt-ltb, ltb-true, ne_eqb}
 use Rattle.std.proofs.lemmas.List.{length-append, append_cancel_left}
 use Rattle.std.proofs.Math.Seq.{take-append_seam, take-append-add}
-use Rattle.wtp_fields.specs.Huffman.{code, coded, bits_of, AllOnes, IsCoded, IsHuffman}
-use Rattle.wtp_fields.specs.HuffmanTables.{front}
+use Rattle.wtp_huffman.specs.Huffman.{code, coded, bits_of, AllOnes, IsCoded, IsHuffman}
+use Rattle.wtp_huffman.specs.HuffmanTables.{front}
 use Rattle.wtp_fields.specs.StringLiteral.{same_bits, all_ones, symbol_below, by_word, text_of_bits, huffman_text}
-use Rattle.wtp_fields.proofs.HuffmanBits.{front_below}
-use Rattle.wtp_fields.proofs.HuffmanWords.{only_word}
-use Rattle.wtp_fields.proofs.HuffmanLaws.{row_exists, ones_long}
-use Rattle.wtp_fields.proofs.Chosen.{chosen}
+use Rattle.wtp_huffman.proofs.HuffmanBits.{front_below}
+use Rattle.wtp_huffman.proofs.HuffmanWords.{only_word}
+use Rattle.wtp_huffman.proofs.HuffmanLaws.{row_exists, ones_long}
+use Rattle.wtp_huffman.proofs.Chosen.{chosen}
 
 from_same_bits : (xs ys : List Bool) → same_bits xs ys ≡ true → xs ≡ ys
 from_same_bits [] [] e = refl

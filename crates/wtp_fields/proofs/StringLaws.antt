@@ -8,12 +8,13 @@ use Rattle.std.proofs.lemmas.List.{length-append, take-append-drop}
 use Rattle.std.proofs.Math.Seq.{drop-append_seam, take-append_seam}
 use Rattle.wtp_fields.specs.declared.qpack.DecodingError.{DecodingError}
 use Rattle.wtp_fields.specs.declared.qpack.DecodingError.TheVariants.{UnexpectedFin, InvalidString}
-use Rattle.wtp_fields.specs.Huffman.{IsHuffman}
+use Rattle.wtp_huffman.specs.Huffman.{IsHuffman}
 use Rattle.wtp_fields.specs.Field.{IsText}
 use Rattle.wtp_fields.specs.Reading.{◌>>=◌}
 use Rattle.wtp_fields.specs.Integer.{IsInt, integer_at, shortest_int}
 use Rattle.wtp_fields.specs.StringLiteral.{flag_above, IsString, or_invalid, huffman_text, utf8_text, content, string_at, huffman_bytes, encoded_string}
-use Rattle.wtp_fields.proofs.Chosen.{chosen, bind_ok, bind_err, same_value, same_rest}
+use Rattle.wtp_huffman.proofs.Chosen.{chosen}
+use Rattle.wtp_fields.proofs.Chosen.{bind_ok, bind_err, same_value, same_rest}
 use Rattle.wtp_fields.proofs.IntegerLaws.{int_read, int_found, short_int}
 use Rattle.wtp_fields.proofs.StringBits.{huffman_found, huffman_only}
 use Rattle.wtp_fields.proofs.StringWriting.{text_bytes, huffman_is}

@@ -6,7 +6,8 @@ use Rattle.wtp_fields.specs.declared.qpack.DecodingError.TheVariants.{Unexpected
 use Rattle.wtp_fields.specs.Reading.{◌>>=◌}
 use Rattle.wtp_fields.specs.Integer.{groups_at, integer_at}
 use Rattle.wtp_fields.specs.StringLiteral.{utf8_text, content, flag_above, string_at}
-use Rattle.wtp_fields.proofs.Chosen.{chosen, bind_ok, same_rest}
+use Rattle.wtp_huffman.proofs.Chosen.{chosen}
+use Rattle.wtp_fields.proofs.Chosen.{bind_ok, same_rest}
 
 not_test : (bs : List ℕ) → (IsUtf8 bs → ⊥) → is_utf8 bs ≡ false
 not_test bs bad = by_cases (is_utf8 bs) refl

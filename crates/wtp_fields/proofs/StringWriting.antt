@@ -4,13 +4,13 @@ use Rattle.std.proofs.lemmas.Bool.{cases_lt, and_parts, lt-ltb, le-ltb}
 use Rattle.std.proofs.lemmas.List.{length-append, length-drop}
 use Rattle.std.proofs.Math.ListN.{drop_of_length-le}
 use lib.Utf8.{scalar, scalars, encode, encodes, scalar_cases}
-use Rattle.wtp_fields.specs.Huffman.{low_bits, bits_of, coded, coded_len, AllOnes, IsPadding, IsBytes, IsHuffman}
-use Rattle.wtp_fields.specs.HuffmanSteps.{AppendsHuffman}
-use Rattle.wtp_fields.specs.HuffmanTables.{front}
+use Rattle.wtp_huffman.specs.Huffman.{low_bits, bits_of, coded, coded_len, AllOnes, IsPadding, IsBytes, IsHuffman}
+use Rattle.wtp_huffman.specs.HuffmanSteps.{AppendsHuffman}
+use Rattle.wtp_huffman.specs.HuffmanTables.{front}
 use Rattle.wtp_fields.specs.Integer.{shortest_int}
 use Rattle.wtp_fields.specs.StringLiteral.{filled_bytes, huffman_bytes, encoded_string}
-use Rattle.wtp_fields.proofs.HuffmanBits.{front_below, low_bits_front, low_bits_length, ones_bits}
-use Rattle.wtp_fields.proofs.HuffmanLaws.{one_string}
+use Rattle.wtp_huffman.proofs.HuffmanBits.{front_below, low_bits_front, low_bits_length, ones_bits}
+use Rattle.wtp_huffman.proofs.HuffmanLaws.{one_string}
 
 -- ones behind bits do not change their number
 front_ones : (n : ℕ) (bs pad : List Bool) → AllOnes pad → front n (bs ++ pad) ≡ front n bs

@@ -1,7 +1,3 @@
-pub mod HuffmanRows
-pub mod Huffman
-pub mod HuffmanTables
-pub mod HuffmanSteps
 pub mod Reading
 pub mod Integer
 pub mod Field

@@ -4,8 +4,8 @@ use Rattle.std.specs.Bool.{MatchBool}
 use Rattle.std.specs.Str.{is_utf8}
 use Rattle.wtp_fields.specs.declared.qpack.DecodingError.{DecodingError}
 use Rattle.wtp_fields.specs.declared.qpack.DecodingError.TheVariants.{UnexpectedFin, InvalidString}
-use Rattle.wtp_fields.specs.Huffman.{code, coded, coded_len, bits_of, IsHuffman}
-use Rattle.wtp_fields.specs.HuffmanTables.{front}
+use Rattle.wtp_huffman.specs.Huffman.{code, coded, coded_len, bits_of, IsHuffman}
+use Rattle.wtp_huffman.specs.HuffmanTables.{front}
 use Rattle.wtp_fields.specs.Reading.{◌>>=◌}
 use Rattle.wtp_fields.specs.Integer.{IsInt, integer_at, shortest_int}
 

@@ -7,9 +7,6 @@ ghost use Rattle.wtp_wire.specs.Content.{payload_in, kind_in, HeadersOf};
 ghost use Rattle.wtp_fields.specs.Field.{IsMap, AreTexts, put, field_map, value_of, held, lent};
 ghost use Rattle.wtp_fields.specs.Headers.{payload, headers_at, GivesUnlessRefused, BeginsLine, begins_with_colon, group_lines};
 
-#[cfg(test)]
-mod tests;
-
 use crate::qpack::{Decoder, DecodingError, field_line, field_section};
 use std::alloc::{AllocError, Global};
 use std::borrow::CowSlice;

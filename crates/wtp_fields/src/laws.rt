@@ -1,6 +1,4 @@
 //! Laws of the definitions: the contract of each function is the law. Those over definitions alone do nothing.
-ghost use Rattle.std.specs.Prelude.{◌≡◌, ℕ, ◌<◌, ◌≤◌, List, ◌++◌, length, Bool};
-ghost use Rattle.wtp_fields.specs.Huffman.{code, AllOnes, IsBytes, IsHuffman};
 
 mod headers;
 mod qpack;
@@ -10,19 +8,4 @@ pub use qpack::{
     encoded_and_decoded, field_lines, field_maps, field_sections, prefixed_integers,
     string_literals,
 };
-
-/// The Huffman code is a complete prefix code: no code word begins another, none of ones is shorter than eight bits
-/// (so padding is no word), and a word stands at the front of any 30 bits.
-pub fn huffman_words()
-    ensures apart { (x y : ℕ) (more : List Bool) → x < 257 → y < 257 → code x ≡ code y ++ more → x ≡ y }
-    ensures ones { (x : ℕ) → x < 257 → AllOnes (code x) → 8 ≤ length (code x) }
-    ensures full { (bits : List Bool) → 30 ≤ length bits → (x : ℕ) × (x < 257) × (more : List Bool) × (bits ≡ code x ++ more) }
-{}
-
-/// A text and its Huffman text determine each other: a coded string says one text, and a text is said by one string
-/// of bytes.
-pub fn huffman_texts()
-    ensures one_text { (s t u : List ℕ) → IsHuffman t s → IsHuffman u s → t ≡ u }
-    ensures one_string { (s t u : List ℕ) → IsBytes s → IsBytes u → IsHuffman t s → IsHuffman t u → s ≡ u }
-    ensures each_text { (t : List ℕ) → IsBytes t → (s : List ℕ) × IsBytes s × IsHuffman t s }
-{}
+pub use wtp_huffman::laws::{huffman_texts, huffman_words};

@@ -6,8 +6,6 @@ ghost use Rattle.wtp_fields.specs.SessionRequest.{request_in};
 
 mod request;
 mod response;
-#[cfg(test)]
-mod tests;
 
 use crate::headers::Headers;
 pub use request::{InsertError, ReservedHeader, SessionRequest, UrlParseError};

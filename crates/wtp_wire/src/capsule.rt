@@ -2,8 +2,6 @@
 ghost use Rattle.std.specs.Prelude.{◌≡◌};
 
 pub mod capsules;
-#[cfg(test)]
-mod tests;
 
 use crate::frame::{Frame, FrameKind};
 use std::marker::Model;

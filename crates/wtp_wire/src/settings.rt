@@ -3,8 +3,6 @@ ghost use Rattle.std.specs.Prelude.{◌≡◌, ◌≢◌, ◌≤◌, ◌<◌, �
 ghost use Rattle.wtp_core.specs.Writer.{PutsParts};
 
 mod builder;
-#[cfg(test)]
-mod tests;
 
 use crate::frame::{Frame, FrameKind, FrameOwned, GenerateError};
 pub use builder::SettingsBuilder;

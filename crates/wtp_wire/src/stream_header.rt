@@ -7,8 +7,6 @@ ghost use Rattle.wtp_core.specs.Cursor.{left_of, whole_of};
 ghost use Rattle.wtp_core.specs.BufferWriter.{room_in, loan_of, IsUnwritten, Wrote};
 
 pub mod polled;
-#[cfg(test)]
-mod tests;
 
 pub use polled::{HeaderReading, HeaderWriting, IoReadError};
 use std::marker::Model;

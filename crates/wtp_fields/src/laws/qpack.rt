@@ -2,7 +2,7 @@
 ghost use Rattle.std.specs.Prelude.{◌≡◌, ◌↔◌, ◌⊎◌, ℕ, ◌+◌, ◌*◌, ◌^◌, ◌<◌, ◌≤◌, List, [], ◌++◌, length, Some, Ok, Err, MatchResult};
 ghost use Rattle.wtp_fields.specs.declared.qpack.DecodingError.{DecodingError};
 ghost use Rattle.wtp_fields.specs.declared.qpack.DecodingError.TheVariants.{UnexpectedFin, IntegerOverflow, InvalidString, Memory};
-ghost use Rattle.wtp_fields.specs.Huffman.{IsHuffman};
+ghost use Rattle.wtp_huffman.specs.Huffman.{IsHuffman};
 ghost use Rattle.wtp_fields.specs.Field.{Field, lent, held, IsText, AreTexts, IsMap, field_map, value_of, last_value};
 ghost use Rattle.wtp_fields.specs.Integer.{IsInt, IsOverflow, IsCut, integer_at, shortest_int};
 ghost use Rattle.wtp_fields.specs.StringLiteral.{IsString, huffman_text, string_at, encoded_string};

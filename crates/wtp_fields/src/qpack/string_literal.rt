@@ -1,13 +1,13 @@
 //! String literals (RFC 7541, section 5.2; RFC 9204, section 4.1.2).
 
 ghost use Rattle.std.specs.Prelude.{◌≡◌, ℕ, ◌+◌, ◌-◌, ◌*◌, ◌^◌, ◌<◌, ◌≤◌, ◌++◌, length, string_bytes, OnOk, SomeIff};
-ghost use Rattle.wtp_fields.specs.Huffman.{coded_len};
+ghost use Rattle.wtp_huffman.specs.Huffman.{coded_len};
 ghost use Rattle.wtp_fields.specs.Reading.{Gives, GivesUnlessMemory};
 ghost use Rattle.wtp_fields.specs.StringLiteral.{flag_above, or_invalid, huffman_text, utf8_text, content, string_at, encoded_string};
 
 use super::{DecodingError, integer};
-use crate::huffman::{self, HuffmanError};
 use std::alloc::{AllocError, Global};
+use wtp_huffman::huffman::{self, HuffmanError};
 
 /// The room that is taken for Huffman text at first; it grows for a longer one.
 const ROOM: usize = 256;

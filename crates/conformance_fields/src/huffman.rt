@@ -1,0 +1,280 @@
+//! The standard's examples and table, worked rows, and refused memory.
+use std::alloc::{AllocError, Global};
+use std::test::Fail;
+use wtp_fields::huffman::{HuffmanError, decode, encode, encoded_len};
+
+/// Encodes, and once more where memory was refused.
+fn encoded(alloc: Global, text: &[u8]) -> Result<Vec<u8>, AllocError> {
+    match encode(alloc, text) {
+        Ok(coded) => Ok(coded),
+        Err(AllocError) => encode(alloc, text),
+    }
+}
+
+/// Decodes, and once more where memory was refused.
+fn decoded(alloc: Global, coded: &[u8]) -> Result<Vec<u8>, HuffmanError> {
+    match decode(alloc, coded) {
+        Err(HuffmanError::Memory) => decode(alloc, coded),
+        outcome => outcome,
+    }
+}
+
+/// What a row shows, a text, and the string that it and no other is coded to.
+static TEXTS: [(&str, &[u8], &[u8]); 18] = [
+    // RFC 7541, Appendix C.
+    (
+        "C.4.1",
+        b"www.example.com",
+        b"\xf1\xe3\xc2\xe5\xf2\x3a\x6b\xa0\xab\x90\xf4\xff",
+    ),
+    ("C.4.2", b"no-cache", b"\xa8\xeb\x10\x64\x9c\xbf"),
+    (
+        "C.4.3 name",
+        b"custom-key",
+        b"\x25\xa8\x49\xe9\x5b\xa9\x7d\x7f",
+    ),
+    (
+        "C.4.3 value",
+        b"custom-value",
+        b"\x25\xa8\x49\xe9\x5b\xb8\xe8\xb4\xbf",
+    ),
+    ("C.6.1 status", b"302", b"\x64\x02"),
+    ("C.6.1 cache-control", b"private", b"\xae\xc3\x77\x1a\x4b"),
+    (
+        "C.6.1 date",
+        b"Mon, 21 Oct 2013 20:13:21 GMT",
+        b"\xd0\x7a\xbe\x94\x10\x54\xd4\x44\xa8\x20\x05\x95\x04\x0b\x81\x66\xe0\x82\xa6\x2d\x1b\xff",
+    ),
+    (
+        "C.6.1 location",
+        b"https://www.example.com",
+        b"\x9d\x29\xad\x17\x18\x63\xc7\x8f\x0b\x97\xc8\xe9\xae\x82\xae\x43\xd3",
+    ),
+    ("C.6.2 status", b"307", b"\x64\x0e\xff"),
+    (
+        "C.6.3 date",
+        b"Mon, 21 Oct 2013 20:13:22 GMT",
+        b"\xd0\x7a\xbe\x94\x10\x54\xd4\x44\xa8\x20\x05\x95\x04\x0b\x81\x66\xe0\x84\xa6\x2d\x1b\xff",
+    ),
+    ("C.6.3 content-encoding", b"gzip", b"\x9b\xd9\xab"),
+    (
+        "C.6.3 set-cookie",
+        b"foo=ASDJKHQKBZXOQWEOPIUAXQWEOIU; max-age=3600; version=1",
+        b"\x94\xe7\x82\x1d\xd7\xf2\xe6\xc7\xb3\x35\xdf\xdf\xcd\x5b\x39\x60\xd5\xaf\x27\x08\x7f\x36\x72\xc1\xab\x27\x0f\xb5\x29\x1f\x95\x87\x31\x60\x65\xc0\x03\xed\x4e\xe5\xb1\x06\x3d\x50\x07",
+    ),
+    ("empty is empty", b"", b""),
+    ("a word of five bits and three ones", b"a", b"\x1f"),
+    ("the first word, all zeros", b"0", b"\x07"),
+    ("a word of a whole byte, no padding", b"&", b"\xf8"),
+    ("the last word of eight bits", b"Z", b"\xfd"),
+    ("the longest word of a byte", b"\x16", b"\xff\xff\xff\xfb"),
+];
+
+#[test]
+fn texts_and_their_strings(rt: HostRuntime) -> Result<(), Fail> {
+    for (shows, text, coded) in TEXTS {
+        assert_eq!(rt; encoded(rt.alloc(), text)?.as_slice(), coded, "{shows}");
+        assert_eq!(rt; encoded_len(text), Some(coded.len()), "{shows}");
+        assert_eq!(rt; decoded(rt.alloc(), coded)?.as_slice(), text, "{shows}");
+    }
+    Ok(())
+}
+
+/// What a row shows, and a string that no text is coded to.
+static REFUSED: [(&str, &[u8]); 6] = [
+    ("a word and three zeros", b"\x00"),
+    ("eight ones", b"\xff"),
+    ("a word and eleven ones", b"\x1f\xff"),
+    ("a word of eight bits and eight ones", b"\xf8\xff"),
+    ("the word of the end of the string", b"\xff\xff\xff\xff"),
+    ("eight bits of a word of ten", b"\xfe"),
+];
+
+#[test]
+fn refused_strings(rt: HostRuntime) {
+    for (shows, coded) in REFUSED {
+        assert_eq!(rt;
+            decoded(rt.alloc(), coded).err(),
+            Some(HuffmanError::Invalid),
+            "{shows}"
+        );
+    }
+}
+
+/// The first allocations of this test are the room that each call takes first, and growth where the code is longer
+/// than the text: each is refused in turn.
+#[test]
+fn refused_memory(rt: HostRuntime) -> Result<(), Fail> {
+    let (text, coded) = (
+        b"\n\n\n\n",
+        b"\xff\xff\xff\xf3\xff\xff\xff\xcf\xff\xff\xff\x3f\xff\xff\xfc",
+    );
+    assert_eq!(rt; encoded(rt.alloc(), text)?.as_slice(), coded.as_slice());
+    assert_eq!(rt; decoded(rt.alloc(), coded)?.as_slice(), text.as_slice());
+    Ok(())
+}
+
+#[test]
+fn strings_of_one_byte(rt: HostRuntime) {
+    let (mut texts, mut refused) = (0u32, 0u32);
+    for byte in 0..=255u8 {
+        match decoded(rt.alloc(), &[byte]) {
+            Ok(text) => {
+                assert_eq!(rt; text.len(), 1, "{byte}");
+                texts = texts.wrapping_add(1);
+            }
+            Err(e) => {
+                assert_eq!(rt; e, HuffmanError::Invalid, "{byte}");
+                refused = refused.wrapping_add(1);
+            }
+        }
+    }
+    assert_eq!(rt; (texts, refused), (74, 182));
+}
+
+#[test]
+fn strings_of_two_bytes(rt: HostRuntime) -> Result<(), Fail> {
+    for first in 0..=255u8 {
+        for second in 0..=255u8 {
+            match decoded(rt.alloc(), &[first, second]) {
+                Ok(text) => {
+                    let again = encoded(rt.alloc(), text.as_slice())?;
+                    assert_eq!(rt; again.as_slice(), [first, second].as_slice());
+                }
+                Err(e) => assert_eq!(rt; e, HuffmanError::Invalid, "{first} {second}"),
+            }
+        }
+    }
+    Ok(())
+}
+
+/// A word at the front of 32 bits, with ones behind it, and how many bytes it begins in.
+fn padded(bits: u32, number: u32) -> ([u8; 4], usize) {
+    let behind = 32u32.saturating_sub(bits);
+    let ones = 1u32.wrapping_shl(behind).wrapping_sub(1);
+    let window = number.wrapping_shl(behind).wrapping_add(ones);
+    (window.to_be_bytes(), bits.div_ceil(8) as usize)
+}
+
+/// RFC 7541, Appendix B: a length, the first word that has it, and its symbols in the order of their words. The end of
+/// the string follows the last.
+static LENGTHS: [(u32, u32, &[u8]); 21] = [
+    (5, 0x0, b"012aceiost"),
+    (6, 0x14, b" %-./3456789=A_bdfghlmnpru"),
+    (7, 0x5c, b":BCDEFGHIJKLMNOPQRSTUVWYjkqvwxyz"),
+    (8, 0xf8, b"&*,;XZ"),
+    (10, 0x3f8, b"!\"()?"),
+    (11, 0x7fa, b"'+|"),
+    (12, 0xffa, b"#>"),
+    (13, 0x1ff8, &[0, 36, 64, 91, 93, 126]),
+    (14, 0x3ffc, &[94, 125]),
+    (15, 0x7ffc, &[60, 96, 123]),
+    (19, 0x7fff0, &[92, 195, 208]),
+    (20, 0xfffe6, &[128, 130, 131, 162, 184, 194, 224, 226]),
+    (
+        21,
+        0x1fffdc,
+        &[
+            153, 161, 167, 172, 176, 177, 179, 209, 216, 217, 227, 229, 230,
+        ],
+    ),
+    (
+        22,
+        0x3fffd2,
+        &[
+            129, 132, 133, 134, 136, 146, 154, 156, 160, 163, 164, 169, 170, 173, 178, 181, 185,
+            186, 187, 189, 190, 196, 198, 228, 232, 233,
+        ],
+    ),
+    (
+        23,
+        0x7fffd8,
+        &[
+            1, 135, 137, 138, 139, 140, 141, 143, 147, 149, 150, 151, 152, 155, 157, 158, 165, 166,
+            168, 174, 175, 180, 182, 183, 188, 191, 197, 231, 239,
+        ],
+    ),
+    (
+        24,
+        0xffffea,
+        &[9, 142, 144, 145, 148, 159, 171, 206, 215, 225, 236, 237],
+    ),
+    (25, 0x1ffffec, &[199, 207, 234, 235]),
+    (
+        26,
+        0x3ffffe0,
+        &[
+            192, 193, 200, 201, 202, 205, 210, 213, 218, 219, 238, 240, 242, 243, 255,
+        ],
+    ),
+    (
+        27,
+        0x7ffffde,
+        &[
+            203, 204, 211, 212, 214, 221, 222, 223, 241, 244, 245, 246, 247, 248, 250, 251, 252,
+            253, 254,
+        ],
+    ),
+    (
+        28,
+        0xfffffe2,
+        &[
+            2, 3, 4, 5, 6, 7, 8, 11, 12, 14, 15, 16, 17, 18, 19, 20, 21, 23, 24, 25, 26, 27, 28,
+            29, 30, 31, 127, 220, 249,
+        ],
+    ),
+    (30, 0x3ffffffc, &[10, 13, 22]),
+];
+
+#[test]
+fn words(rt: HostRuntime) -> Result<(), Fail> {
+    let mut symbols = 0u32;
+    for (bits, first, row) in LENGTHS {
+        let mut number = first;
+        for symbol in row {
+            let (window, len) = padded(bits, number);
+            let (coded, _) = window
+                .as_slice()
+                .split_at_checked(len)
+                .ok_or("at most 30 bits")?;
+            assert_eq!(rt;
+                encoded(rt.alloc(), &[*symbol])?.as_slice(),
+                coded,
+                "{symbol}"
+            );
+            assert_eq!(rt;
+                decoded(rt.alloc(), coded)?.as_slice(),
+                [*symbol].as_slice(),
+                "{symbol}"
+            );
+            number = number.wrapping_add(1);
+            symbols = symbols.wrapping_add(1);
+        }
+    }
+    assert_eq!(rt; symbols, 256);
+    let (end, _) = padded(30, 0x3fff_ffff);
+    assert_eq!(rt;
+        decoded(rt.alloc(), &end).err(),
+        Some(HuffmanError::Invalid)
+    );
+    Ok(())
+}
+
+/// An error's text, asked for once more where memory was refused.
+fn shown(alloc: Global, error: HuffmanError) -> Result<String, AllocError> {
+    match error.to_string(alloc) {
+        Ok(text) => Ok(text),
+        Err(AllocError) => error.to_string(alloc),
+    }
+}
+
+#[test]
+fn messages(rt: HostRuntime) -> Result<(), Fail> {
+    for (error, text) in [
+        (HuffmanError::Invalid, "invalid Huffman text"),
+        (HuffmanError::Memory, "no memory"),
+    ] {
+        assert_eq!(rt; shown(rt.alloc(), error)?.as_str(), text);
+    }
+    Ok(())
+}

@@ -1,0 +1,9 @@
+//! Capsules, settings and stream headers, as tests over the public crates. No product code stands here.
+#![tactic(auto)]
+
+#[cfg(test)]
+mod capsules;
+#[cfg(test)]
+mod settings;
+#[cfg(test)]
+mod stream_headers;

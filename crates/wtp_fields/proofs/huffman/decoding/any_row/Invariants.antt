@@ -1,6 +1,0 @@
-use Rattle.std.proofs.Common.{ℕ, ◌<◌, ◌≤◌}
-use Rattle.wtp_fields.specs.HuffmanTables.{row_at}
-use Rattle.wtp_fields.proofs.huffman.decoding.any_row.Given as goal
-
-abbrev pub invariant-loop-k : goal.invariant-loop-k
-invariant-loop-k l = (j : ℕ) → j < l.k → (row_at j).limit ≤ l.window

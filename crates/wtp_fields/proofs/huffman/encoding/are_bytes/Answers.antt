@@ -1,6 +1,0 @@
-use Rattle.std.proofs.Common.{arith}
-use Rattle.wtp_fields.proofs.HuffmanWriting.{IsBytes_from}
-use Rattle.wtp_fields.proofs.huffman.encoding.are_bytes.Goals as goal
-
-pub returns : goal.returns
-returns c = IsBytes_from _ (λ i. omega (arith, c.type_inv.bytes i))

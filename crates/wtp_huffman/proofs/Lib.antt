@@ -1,0 +1,11 @@
+pub mod Chosen
+pub mod Tables
+pub mod HuffmanBits
+pub mod HuffmanTable
+pub mod HuffmanWords
+pub mod HuffmanWindows
+pub mod HuffmanReading
+pub mod HuffmanPairs
+pub mod HuffmanWriting
+pub mod HuffmanLengths
+pub mod HuffmanLaws

@@ -1,0 +1,75 @@
+-- The Huffman code of header text (RFC 7541, section 5.2 and Appendix B).
+use Rattle.std.specs.Prelude.{◌≡◌, ℕ, zero, suc, ◌+◌, ◌-◌, ◌*◌, ◌/◌, ◌%◌, ◌^◌, ◌<◌, ◌==◌, Bool, true, if◌then◌else◌, List, [], ◌∷◌, ◌++◌, length}
+use Rattle.wtp_huffman.specs.HuffmanRows.{TableRow, rows}
+
+-- ---- the code (Appendix B)
+
+-- a code word: how many bits it has, and the number that they spell
+pub record Word : Type 0 where
+  pub bits : ℕ
+  pub number : ℕ
+
+-- how many symbols stand before x in a row; all of them where x is not there
+abbrev pub rank : ℕ → List ℕ → ℕ
+rank x [] = 0
+rank x (y ∷ ys) = if x == y then 0 else suc (rank x ys)
+
+-- The code is canonical: the first word is 0, and each next one is the word before plus one, with zeros behind it up
+-- to its own length. Here next is one past the last word of the rows before, which has that many bits.
+abbrev pub word_in : ℕ → ℕ → ℕ → List TableRow → Word
+word_in x bits next [] = record { bits = 0; number = 0 }
+word_in x bits next (row ∷ behind) =
+    let first = next * 2 ^ (row.bits - bits) in
+    if rank x row.symbols == length row.symbols
+    then word_in x row.bits (first + length row.symbols) behind
+    else record { bits = row.bits; number = first + rank x row.symbols }
+
+-- the word of a symbol
+unfoldable pub word_of : ℕ → Word
+word_of x = word_in x 0 0 rows
+
+-- the lowest k bits of a number, most significant first
+unfoldable pub low_bits : ℕ → ℕ → List Bool
+low_bits zero n = []
+low_bits (suc k) n = (n / 2 ^ k % 2 == 1) ∷ low_bits k n
+
+-- the code word of a symbol, as bits
+unfoldable pub code : ℕ → List Bool
+code x = low_bits (word_of x).bits (word_of x).number
+
+-- ---- texts (section 5.2)
+
+-- the code words of a text's bytes, joined
+unfoldable pub coded : List ℕ → List Bool
+coded [] = []
+coded (x ∷ xs) = code x ++ coded xs
+
+-- the bits of bytes, most significant first
+unfoldable pub bits_of : List ℕ → List Bool
+bits_of [] = []
+bits_of (b ∷ bs) = low_bits 8 b ++ bits_of bs
+
+abbrev pub AllOnes : List Bool → Type 0
+AllOnes [] = Unit {0}
+AllOnes (b ∷ bs) = (b ≡ true) × AllOnes bs
+
+-- Fewer than eight bits, all ones, as the word of the end of the string begins. Longer padding and padding of other
+-- bits are errors.
+abbrev pub IsPadding : List Bool → Type 0
+IsPadding pad = (length pad < 8) × AllOnes pad
+
+abbrev pub IsBytes : List ℕ → Type 0
+IsBytes [] = Unit {0}
+IsBytes (x ∷ xs) = (x < 256) × IsBytes xs
+
+-- these bits are the code words of the text, and padding
+abbrev pub IsCoded : List ℕ → List Bool → Type 0
+IsCoded t bits = IsBytes t × (pad : List Bool) × IsPadding pad × (bits ≡ coded t ++ pad)
+
+-- The bytes s are the text t in the Huffman code. The end of the string has a word, but no text holds it.
+abbrev pub IsHuffman : List ℕ → List ℕ → Type 0
+IsHuffman t s = IsCoded t (bits_of s)
+
+-- how many bytes the code words of a text fill, the last perhaps in part
+abbrev pub coded_len : List ℕ → ℕ
+coded_len t = (length (coded t) + 7) / 8

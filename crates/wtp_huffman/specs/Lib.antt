@@ -1,0 +1,4 @@
+pub mod HuffmanRows
+pub mod Huffman
+pub mod HuffmanTables
+pub mod HuffmanSteps

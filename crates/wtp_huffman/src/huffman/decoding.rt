@@ -1,0 +1,294 @@
+//! From code words to a text.
+ghost use Rattle.std.specs.Prelude.{◌≡◌, ℕ, ◌+◌, ◌-◌, ◌*◌, ◌<◌, ◌≤◌, ◌^◌, List, [], ◌∷◌, ◌++◌, length, take, IfOk, IfErr, OnOk, MatchResult, IsOk, IsTrue, ◌↔◌};
+ghost use Rattle.std.specs.Vec.{vec_len, vec_capacity};
+ghost use Rattle.wtp_huffman.specs.Huffman.{bits_of, low_bits, IsHuffman};
+ghost use Rattle.wtp_huffman.specs.HuffmanSteps.{waiting_bits, IsClear, IsCodedOn, Takes};
+ghost use Rattle.wtp_huffman.specs.HuffmanTables.{front, row_at, InRow, IsWord};
+ghost use Rattle.wtp_huffman.specs.declared.huffman.HuffmanError.TheVariants.{Invalid, Memory};
+
+use super::HuffmanError;
+use super::pairs::pair_entry;
+use super::rows::{ROWS, row_number, symbol_number};
+use super::short::short_entry;
+use std::alloc::Global;
+use std::mem::replace;
+
+/// The symbol that ends a string, which no text holds.
+const END: u16 = 256;
+
+/// Bits of which the first eight are below this begin with a word of at most eight.
+const SHORT_END: u64 = 0xfe00_0000_0000_0000;
+
+/// A symbol, and how many bits its word has.
+#[derive(Clone, Copy)]
+struct Found {
+    bits: u32,
+    symbol: u16,
+}
+
+/// The text that is coded so.
+///
+/// The bytes are code words and then fewer than eight ones (RFC 7541, section 5.2); any other bytes are
+/// [`HuffmanError::Invalid`]. Memory is taken at once, a byte for each five bits, since no word is shorter; an empty
+/// text takes none and never fails.
+pub fn decode(alloc: Global, text: &[u8]) -> Result<Vec<u8>, HuffmanError>
+    ensures found { IfOk result (λ t. IsHuffman t.items text.now) }
+    ensures only { (t : List ℕ) → IsHuffman t text.now → MatchResult result (λ v. v.items ≡ t) (λ e. e ≡ Memory) }
+    ensures empty { length text.now ≡ 0 → IsOk result }
+{
+    decoded_in(Vec::with_capacity(alloc, most_bytes(text))?, text)
+}
+
+/// The most bytes that a coded text stands for: one for each five bits.
+fn most_bytes(text: &[u8]) -> usize
+    ensures enough { 8 * length text.now < 5 * result + 5 }
+    ensures none { length text.now ≡ 0 → result ≡ 0 }
+{
+    text.len() / 5 * 8 + text.len() % 5 * 8 / 5
+}
+
+/// Puts the text that is coded so in the place of what stood in `out`. Where `out` has too little room, memory is
+/// taken at once, twice the code's length, which is more than enough and soon computed.
+pub fn decode_into(out: &mut Vec<u8>, text: &[u8]) -> Result<(), HuffmanError>
+    ensures found { OnOk result (IsHuffman out.new.items text.now) }
+    ensures only { (t : List ℕ) → IsHuffman t text.now → MatchResult result (λ _. out.new.items ≡ t) (λ e. e ≡ Memory) }
+    ensures empty { length text.now ≡ 0 → IsOk result }
+{
+    out.clear();
+    out.reserve(text.len() * 2)?;
+    let none = Vec::new(*out.allocator());
+    *out = decoded_in(replace(out, none), text)?;
+    Ok(())
+}
+
+/// The text that is coded so, put into an empty vector that has room for a byte for each five bits. The vector comes
+/// and goes by value, so that the compiler keeps its length in a register.
+#[inline(always)]
+fn decoded_in(mut out: Vec<u8>, text: &[u8]) -> Result<Vec<u8>, HuffmanError>
+    requires none { out.items ≡ [] }
+    requires len { vec_len out ≡ 0 }
+    requires room { 8 * length text.now < 5 * vec_capacity out + 5 }
+    ensures found { IfOk result (λ t. IsHuffman t.items text.now) }
+    ensures only { (t : List ℕ) → IsHuffman t text.now → MatchResult result (λ v. v.items ≡ t) (λ e. e ≡ Memory) }
+    ensures empty { length text.now ≡ 0 → IsOk result }
+{
+    let mut rest = text;
+    let mut waiting = 0;
+    let mut held = 0;
+    'windows: loop {
+        (rest, waiting, held) = refilled(rest, waiting, held);
+        if held < 30 {
+            break;
+        }
+        (waiting, held) = words_taken(&mut out, waiting, held)?;
+    }
+    'last: loop {
+        if held >= 12 && waiting < SHORT_END {
+            (waiting, held) = short_taken(&mut out, waiting, held);
+            continue;
+        }
+        let window = last_window(waiting, held);
+        if is_padding(window, held) {
+            return Ok(out);
+        }
+        let word = word_at(window);
+        if word.bits > held {
+            return Err(HuffmanError::Invalid);
+        }
+        out.push_reserved(byte_of(word)?);
+        held -= word.bits;
+        waiting <<= word.bits;
+    }
+}
+
+/// Takes one word or a few from the front of the bits that wait, and answers what still waits. There is room for a byte
+/// for each five of the bits.
+#[inline(always)]
+fn words_taken(out: &mut Vec<u8>, waiting: u64, held: u32) -> Result<(u64, u32), HuffmanError>
+    requires enough { 30 ≤ held }
+    requires few { held < 64 }
+    requires clear { IsClear held waiting }
+    requires room { 5 * vec_len out.old + held < 5 * vec_capacity out.old + 5 }
+    ensures taken { IfOk result (λ r. Takes out.old.items held waiting out.new.items r.1 r.0) }
+    ensures fails { IsCodedOn out.old.items held waiting → IsOk result }
+    ensures room { IfOk result (λ r. 5 * vec_len out.new + r.1 ≤ 5 * vec_len out.old + held) }
+    ensures same { vec_capacity out.new ≡ vec_capacity out.old }
+{
+    if waiting >= SHORT_END {
+        return word_taken(out, waiting, held);
+    }
+    let (waiting, held) = short_taken(out, waiting, held);
+    if waiting >= SHORT_END {
+        return Ok((waiting, held));
+    }
+    Ok(short_taken(out, waiting, held))
+}
+
+/// Takes the word at the front of the bits that wait.
+#[inline(always)]
+fn word_taken(out: &mut Vec<u8>, waiting: u64, held: u32) -> Result<(u64, u32), HuffmanError>
+    requires enough { 30 ≤ held }
+    requires few { held < 64 }
+    requires clear { IsClear held waiting }
+    requires room { vec_len out.old < vec_capacity out.old }
+    ensures taken { IfOk result (λ r. Takes out.old.items held waiting out.new.items r.1 r.0) }
+    ensures fails { IsCodedOn out.old.items held waiting → IsOk result }
+    ensures room { IfOk result (λ r. 5 * vec_len out.new + r.1 ≤ 5 * vec_len out.old + held) }
+    ensures same { vec_capacity out.new ≡ vec_capacity out.old }
+{
+    let word = word_at((waiting >> 34) as u32);
+    out.push_reserved(byte_of(word)?);
+    Ok((waiting << word.bits, held - word.bits))
+}
+
+/// Takes the one or two words of at most eight bits that lie within the first twelve of those that wait.
+#[inline(always)]
+fn short_taken(out: &mut Vec<u8>, waiting: u64, held: u32) -> (u64, u32)
+    requires enough { 12 ≤ held }
+    requires few { held < 64 }
+    requires short { waiting < 0xfe00_0000_0000_0000 }
+    requires clear { IsClear held waiting }
+    requires room { vec_len out.old + 2 ≤ vec_capacity out.old }
+    ensures taken { Takes out.old.items held waiting out.new.items result.1 result.0 }
+    ensures most { held ≤ result.1 + 12 }
+    ensures room { 5 * vec_len out.new + result.1 ≤ 5 * vec_len out.old + held }
+    ensures same { vec_capacity out.new ≡ vec_capacity out.old }
+{
+    let (bits, spare, first, second) = pair_entry((waiting >> 52) as usize);
+    push_some(out, first, second, spare as usize);
+    (waiting << bits, held - u32::from(bits))
+}
+
+/// Appends two bytes without the last `spare`. The length is taken down by `saturating_sub`, since the compiler then
+/// needs no branch on the count.
+#[inline(always)]
+fn push_some(out: &mut Vec<u8>, first: u8, second: u8, spare: usize)
+    requires few { spare ≤ 2 }
+    requires room { vec_len out.old + 2 ≤ vec_capacity out.old }
+    ensures items { out.new.items ≡ out.old.items ++ take (2 - spare) (first ∷ second ∷ []) }
+    ensures len { vec_len out.new + spare ≡ vec_len out.old + 2 }
+    ensures same { vec_capacity out.new ≡ vec_capacity out.old }
+{
+    out.push_reserved(first);
+    out.push_reserved(second);
+    out.truncate(out.len().saturating_sub(spare));
+}
+
+/// Takes bytes from the front of `rest` until 30 bits wait or none is left. The highest `held` bits of `waiting`
+/// wait, and zeros stand behind them.
+fn refilled(mut rest: &[u8], mut waiting: u64, mut held: u32) -> (&[u8], u64, u32)
+    requires few { held < 64 }
+    requires clear { IsClear held waiting }
+    ensures same { waiting_bits result.2 result.1 ++ bits_of result.0.now ≡ waiting_bits held waiting ++ bits_of rest.now }
+    ensures clear { IsClear result.2 result.1 }
+    ensures few { result.2 < 64 }
+    ensures enough { result.2 < 30 → length result.0.now ≡ 0 }
+    ensures size { 8 * length result.0.now + result.2 ≡ 8 * length rest.now + held }
+{
+    while held < 30 {
+        match rest.first_chunk::<4>() {
+            Some(front) => {
+                waiting += u64::from(number_of(front)) << (32 - held);
+                held += 32;
+                rest = rest.split_at(4).1;
+            }
+            None => match rest.split_first() {
+                Some((byte, behind)) => {
+                    waiting += u64::from(*byte) << (56 - held);
+                    held += 8;
+                    rest = behind;
+                }
+                None => return (rest, waiting, held),
+            },
+        }
+    }
+    (rest, waiting, held)
+}
+
+/// The number of four bytes.
+fn number_of(four: &[u8; 4]) -> u32
+    ensures { bits_of four.now ≡ low_bits 32 result }
+{
+    u32::from_be_bytes(*four)
+}
+
+/// The last bits that wait, filled with ones to 30.
+fn last_window(waiting: u64, held: u32) -> u32
+    requires few { held < 30 }
+    requires clear { IsClear held waiting }
+    ensures value { result ≡ front 30 (waiting_bits held waiting) }
+    ensures small { result < 2 ^ 30 }
+{
+    (waiting >> 34) as u32 + ((1 << (30 - held)) - 1)
+}
+
+/// The byte of a word. The end of a string is none.
+fn byte_of(word: Found) -> Result<u8, HuffmanError>
+    requires { word.symbol < 257 }
+    ensures { MatchResult result (λ byte. (byte ≡ word.symbol) × (byte < 256)) (λ e. (e ≡ Invalid) × (word.symbol ≡ 256)) }
+{
+    if word.symbol == END {
+        return Err(HuffmanError::Invalid);
+    }
+    Ok(word.symbol as u8)
+}
+
+/// Whether the bits that are left, fewer than 30, are padding.
+fn is_padding(window: u32, held: u32) -> bool
+    ensures { IsTrue result ↔ ((held < 8) × (window ≡ 0x3fff_ffff)) }
+{
+    if held > 7 {
+        return false;
+    }
+    window == 0x3fff_ffff
+}
+
+/// The word at the front of a window.
+fn word_at(window: u32) -> Found
+    requires { window < 2 ^ 30 }
+    ensures { IsWord window result.bits result.symbol }
+{
+    if window < 0x3f80_0000 {
+        short_word(window)
+    } else {
+        word_in(window, any_row(window))
+    }
+}
+
+/// The word at the front of a window in row k.
+fn word_in(window: u32, k: usize) -> Found
+    requires row { InRow window k }
+    ensures { IsWord window result.bits result.symbol }
+{
+    let row = row_number(k);
+    let rank = (window >> (30 - row.bits)) - row.first;
+    Found {
+        bits: row.bits,
+        symbol: symbol_number(row.skipped + rank as usize),
+    }
+}
+
+/// The word at the front of a window that begins with one of at most eight bits.
+fn short_word(window: u32) -> Found
+    requires { window < 0x3f80_0000 }
+    ensures { IsWord window result.bits result.symbol }
+{
+    let (bits, byte) = short_entry((window >> 22) as usize);
+    Found {
+        bits: u32::from(bits),
+        symbol: u16::from(byte),
+    }
+}
+
+/// The row of a window: the first whose limit is above it.
+fn any_row(window: u32) -> usize
+    requires { window < 2 ^ 30 }
+    ensures { InRow window result }
+{
+    for (k, row) in ROWS.iter().enumerate() {
+        if window < row.limit {
+            return k;
+        }
+    }
+    unreachable!()
+}

@@ -1,0 +1,260 @@
+//! From a text to code words.
+ghost use Rattle.std.specs.Prelude.{◌≡◌, ℕ, ◌*◌, ◌+◌, ◌%◌, ◌<◌, ◌≤◌, ◌^◌, ◌++◌, Bool, List, length, IfOk, OnOk, IsOk, MatchOption, SomeIff};
+ghost use Rattle.wtp_huffman.specs.Huffman.{bits_of, low_bits, code, coded, coded_len, IsBytes, IsHuffman, IsPadding};
+ghost use Rattle.wtp_huffman.specs.HuffmanSteps.{Adds, AppendsHuffman, IsNumberOf, Keeps};
+
+use super::codes::code_of;
+use std::alloc::{AllocError, Global};
+
+/// How many bytes of a text are counted at a time: a `u64` holds the bits of their words.
+const PART: usize = 1 << 32;
+
+/// The most bits that join up to seven that wait: fewer than 64 together.
+const MOST: u32 = 56;
+
+/// So many bits: the lowest of a number. What stands above them says nothing.
+#[derive(Clone, Copy)]
+struct Bits {
+    count: u32,
+    number: u64,
+}
+
+/// The text in code words, and ones up to a whole byte (RFC 7541, section 5.2).
+///
+/// Memory is taken at once, as much as the text has and eight bytes, and more only for a text that gets longer; an
+/// empty text takes none and never fails.
+pub fn encode(alloc: Global, text: &[u8]) -> Result<Vec<u8>, AllocError>
+    ensures coded { IfOk result (λ s. IsHuffman text.now s.items) }
+    ensures empty { length text.now ≡ 0 → IsOk result }
+{
+    let mut out = Vec::with_capacity(alloc, room_for(text))?;
+    append(&mut out, text)?;
+    Ok(out)
+}
+
+/// The room that a text is given: eight bytes more than it has, since eight are written at a time.
+fn room_for(text: &[u8]) -> usize
+    ensures none { length text.now ≡ 0 → result ≡ 0 }
+    ensures some { 0 < length text.now → result ≡ length text.now + 8 }
+{
+    if text.is_empty() { 0 } else { text.len() + 8 }
+}
+
+/// Appends the text in code words, and ones up to a whole byte.
+pub fn append(out: &mut Vec<u8>, text: &[u8]) -> Result<(), AllocError>
+    ensures coded { OnOk result (AppendsHuffman text.now out.old.items out.new.items) }
+    ensures empty { length text.now ≡ 0 → IsOk result }
+{
+    are_bytes(out.as_slice());
+    let mut waiting = Bits {
+        count: 0,
+        number: 0,
+    };
+    let mut rest = text;
+    while let Some((four, next, behind)) = eight_of(rest) {
+        waiting = eight_in(out, waiting, four, next)?;
+        rest = behind;
+    }
+    for byte in rest {
+        waiting = word_in(out, waiting, *byte)?;
+    }
+    give_last(out, waiting)?;
+    are_bytes(out.as_slice());
+    Ok(())
+}
+
+/// The fact that bytes are below 256.
+fn are_bytes(bytes: &[u8])
+    ensures { IsBytes bytes.now }
+{}
+
+/// How many bytes the coded text has; `None` exactly where `usize` does not hold them.
+pub fn encoded_len(text: &[u8]) -> Option<usize>
+    ensures value { SomeIff result (coded_len text.now < 2 ^ 64) (coded_len text.now) }
+    ensures length { (s : List ℕ) → IsHuffman text.now s → length s ≡ coded_len text.now }
+{
+    let mut bytes = 0usize;
+    let mut bits = 0u64;
+    let mut rest = text;
+    while !rest.is_empty() {
+        let (front, behind) = rest.split_at(rest.len().min(PART));
+        bits += word_bits(front);
+        bytes = bytes.checked_add((bits / 8) as usize)?;
+        bits %= 8;
+        rest = behind;
+    }
+    if bits > 0 {
+        bytes.checked_add(1)
+    } else {
+        Some(bytes)
+    }
+}
+
+/// How many bits the words of a text have.
+fn word_bits(text: &[u8]) -> u64
+    requires { length text.now ≤ 2 ^ 32 }
+    ensures value { result ≡ length (coded text.now) }
+    ensures small { result ≤ 30 * 2 ^ 32 }
+{
+    let mut bits = 0;
+    for byte in text {
+        bits += u64::from(code_of(*byte).bits);
+    }
+    bits
+}
+
+/// The word of a byte.
+#[inline(always)]
+fn word(byte: u8) -> Bits
+    ensures bits { low_bits result.count result.number ≡ code byte }
+    ensures fits { result.number < 2 ^ result.count }
+    ensures some { 0 < result.count }
+    ensures most { result.count ≤ 30 }
+{
+    let code = code_of(byte);
+    Bits {
+        count: code.bits,
+        number: u64::from(code.number),
+    }
+}
+
+/// The words of four bytes, where they have at most 64 bits.
+#[inline(always)]
+fn words_of(four: &[u8; 4]) -> Bits
+    ensures words { result.count ≤ 64 → IsNumberOf (coded four.now) result.count result.number }
+    ensures some { 0 < result.count }
+    ensures most { result.count ≤ 120 }
+{
+    let [a, b, c, d] = *four;
+    joined(joined(word(a), word(b)), joined(word(c), word(d)))
+}
+
+/// Bits, and others behind them, where they are at most 64.
+#[inline(always)]
+fn joined(front: Bits, back: Bits) -> Bits
+    requires few { front.count < 64 }
+    requires fewer { back.count < 64 }
+    requires fits { back.number < 2 ^ back.count }
+    ensures count { result.count ≡ front.count + back.count }
+    ensures bits { result.count ≤ 64 → low_bits result.count result.number ≡ low_bits front.count front.number ++ low_bits back.count back.number }
+    ensures fits { result.count ≤ 64 → front.number < 2 ^ front.count → result.number < 2 ^ result.count }
+{
+    Bits {
+        count: front.count + back.count,
+        number: (front.number << back.count) + back.number,
+    }
+}
+
+/// The first four bytes, the next four, and what is behind them; `None` where there are fewer than eight.
+#[inline(always)]
+fn eight_of(text: &[u8]) -> Option<(&[u8; 4], &[u8; 4], &[u8])>
+    ensures { MatchOption result (length text.now < 8) (λ p. (text.now ≡ (p.0.now ++ p.1.now) ++ p.2.now) × (length p.2.now + 8 ≡ length text.now)) }
+{
+    let (four, behind) = text.split_first_chunk::<4>()?;
+    let (next, behind) = behind.split_first_chunk::<4>()?;
+    Some((four, next, behind))
+}
+
+/// Appends the words of eight bytes, and answers what still waits.
+#[inline(always)]
+fn eight_in(
+    out: &mut Vec<u8>,
+    waiting: Bits,
+    four: &[u8; 4],
+    next: &[u8; 4],
+) -> Result<Bits, AllocError>
+    requires few { waiting.count < 8 }
+    ensures added { IfOk result (λ r. Adds 8 (coded four.now ++ coded next.now) out.old.items waiting.count waiting.number out.new.items r.count r.number) }
+{
+    let front = words_of(four);
+    let back = words_of(next);
+    if front.count + back.count <= MOST {
+        return give_whole(out, joined(waiting, joined(front, back)));
+    }
+    let waiting = four_in(out, waiting, four, front)?;
+    four_in(out, waiting, next, back)
+}
+
+/// Appends the words of four bytes, and answers what still waits.
+#[inline(always)]
+fn four_in(
+    out: &mut Vec<u8>,
+    waiting: Bits,
+    four: &[u8; 4],
+    words: Bits,
+) -> Result<Bits, AllocError>
+    requires few { waiting.count < 8 }
+    requires some { 0 < words.count }
+    requires words { words.count ≤ 64 → IsNumberOf (coded four.now) words.count words.number }
+    ensures added { IfOk result (λ r. Adds 8 (coded four.now) out.old.items waiting.count waiting.number out.new.items r.count r.number) }
+{
+    if words.count <= MOST {
+        return give_whole(out, joined(waiting, words));
+    }
+    each_in(out, waiting, four)
+}
+
+/// The same, word by word.
+#[cold]
+#[inline(never)]
+fn each_in(out: &mut Vec<u8>, waiting: Bits, four: &[u8; 4]) -> Result<Bits, AllocError>
+    requires few { waiting.count < 8 }
+    ensures added { IfOk result (λ r. Adds 8 (coded four.now) out.old.items waiting.count waiting.number out.new.items r.count r.number) }
+{
+    let mut waiting = waiting;
+    for byte in four {
+        waiting = give_whole(out, joined(waiting, word(*byte)))?;
+    }
+    Ok(waiting)
+}
+
+/// Joins a byte's word to the bits that wait. Whole bytes are given out first where it finds no room.
+#[inline(always)]
+fn word_in(out: &mut Vec<u8>, waiting: Bits, byte: u8) -> Result<Bits, AllocError>
+    requires few { waiting.count < 64 }
+    ensures added { IfOk result (λ r. Adds 64 (code byte) out.old.items waiting.count waiting.number out.new.items r.count r.number) }
+{
+    let word = word(byte);
+    if waiting.count + word.count < 64 {
+        return Ok(joined(waiting, word));
+    }
+    let waiting = give_whole(out, waiting)?;
+    Ok(joined(waiting, word))
+}
+
+/// Gives out the whole bytes of the bits that wait, and answers what still waits. Eight bytes are written whatever
+/// their number is, and those that are not whole are cut off.
+#[inline(always)]
+fn give_whole(out: &mut Vec<u8>, waiting: Bits) -> Result<Bits, AllocError>
+    requires some { 0 < waiting.count }
+    requires most { waiting.count ≤ 64 }
+    ensures kept { IfOk result (λ r. Keeps out.old.items waiting.count waiting.number out.new.items r.count r.number) }
+    ensures left { IfOk result (λ r. r.count ≡ waiting.count % 8) }
+{
+    let front = waiting.number << (64 - waiting.count);
+    out.extend_from_slice(&front.to_be_bytes())?;
+    out.truncate(out.len().saturating_sub(8 - (waiting.count / 8) as usize));
+    Ok(Bits {
+        count: waiting.count % 8,
+        number: waiting.number,
+    })
+}
+
+/// Gives out all bits that wait, and ones up to a whole byte.
+#[inline(always)]
+fn give_last(out: &mut Vec<u8>, waiting: Bits) -> Result<(), AllocError>
+    requires few { waiting.count < 64 }
+    ensures last { OnOk result ((pad : List Bool) × IsPadding pad × (bits_of out.new.items ≡ bits_of out.old.items ++ (low_bits waiting.count waiting.number ++ pad))) }
+    ensures empty { waiting.count ≡ 0 → IsOk result }
+{
+    if waiting.count == 0 {
+        return Ok(());
+    }
+    let room = (64 - waiting.count) % 8;
+    let ones = Bits {
+        count: room,
+        number: (1 << room) - 1,
+    };
+    give_whole(out, joined(waiting, ones))?;
+    Ok(())
+}
