@@ -183,9 +183,7 @@ fn is_value(index: usize, value: &str) -> bool
 /// The fact that a text is UTF-8 of fewer than 2^64 bytes.
 fn is_text(text: &str)
     ensures { IsText text.now }
-{
-    let _len = text.len();
-}
+{}
 
 /// Appends the line of a field.
 #[tactic(auto, unfolding(crate::specs::FieldLine::encoded_line))]
