@@ -8,7 +8,7 @@ use wtp_fields::headers::Headers;
 use wtp_wire::frame::{Frame, FrameKind, FrameOwned, GenerateError};
 
 /// The map of the pairs, made once more where memory was refused.
-fn made(alloc: Global, pairs: &[(&str, &str)]) -> Result<Headers, AllocError> {
+pub(crate) fn made(alloc: Global, pairs: &[(&str, &str)]) -> Result<Headers, AllocError> {
     match Headers::from_iter(alloc, pairs.iter().copied()) {
         Err(AllocError) => Headers::from_iter(alloc, pairs.iter().copied()),
         outcome => outcome,
@@ -16,7 +16,7 @@ fn made(alloc: Global, pairs: &[(&str, &str)]) -> Result<Headers, AllocError> {
 }
 
 /// The frame of a map, made once more where memory was refused.
-fn framed(alloc: Global, headers: &Headers) -> Result<FrameOwned, GenerateError> {
+pub(crate) fn framed(alloc: Global, headers: &Headers) -> Result<FrameOwned, GenerateError> {
     match headers.generate_frame(alloc) {
         Err(GenerateError::Memory) => headers.generate_frame(alloc),
         outcome => outcome,
@@ -34,7 +34,12 @@ fn read(rt: &impl Abort, alloc: Global, payload: &[u8]) -> Result<Headers, Refus
 }
 
 /// Asserts that a map has these fields and no other.
-fn assert_fields(rt: &impl Abort, headers: &Headers, expected: &[(&str, &str)], shows: &str) {
+pub(crate) fn assert_fields(
+    rt: &impl Abort,
+    headers: &Headers,
+    expected: &[(&str, &str)],
+    shows: &str,
+) {
     assert_eq!(rt; headers.as_ref().len(), expected.len(), "{shows}");
     for (name, value) in expected {
         assert_eq!(rt; headers.get(name), Some(*value), "{shows}");

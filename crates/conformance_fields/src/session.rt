@@ -1,4 +1,5 @@
 //! Requests for URLs and of header maps, responses, frames, errors, and refused memory.
+use crate::headers::{assert_fields, framed, made};
 use std::alloc::{AllocError, Global};
 use std::borrow::CowSlice;
 use std::fmt::Display;
@@ -23,58 +24,42 @@ macro_rules! again {
     };
 }
 
-/// The map of the pairs.
-fn made(alloc: Global, pairs: &[(&str, &str)]) -> Result<Headers, AllocError> {
-    again!(Headers::from_iter(alloc, pairs.iter().copied()), AllocError)
-}
-
-/// The frame of a map.
-fn framed(alloc: Global, headers: &Headers) -> Result<FrameOwned, GenerateError> {
-    again!(headers.generate_frame(alloc), GenerateError::Memory)
-}
-
 /// The request for a URL.
 fn requested(alloc: Global, url: &str) -> Result<SessionRequest, UrlParseError> {
     again!(SessionRequest::new(alloc, url), UrlParseError::Memory)
 }
 
-/// Asserts that a map has these fields and no other.
-fn assert_fields(rt: &impl Abort, headers: &Headers, expected: &[(&str, &str)], shows: &str) {
-    assert_eq!(rt; headers.as_ref().len(), expected.len(), "{shows}");
-    for (name, value) in expected {
-        assert_eq!(rt; headers.get(name), Some(*value), "{shows}");
-    }
-}
+/// What a row shows, a URL, and the authority and path of its request.
+static URLS: [(&str, &str, &str, &str); 4] = [
+    (
+        "a port, and a query",
+        "https://localhost:4433/foo/bar?p1=1&p2=2",
+        "localhost:4433",
+        "/foo/bar?p1=1&p2=2",
+    ),
+    (
+        "the default port, and a fragment",
+        "https://example.com:443/x#f",
+        "example.com",
+        "/x",
+    ),
+    (
+        "no path, and an empty query",
+        "https://example.com?",
+        "example.com",
+        "/?",
+    ),
+    (
+        "a user part, and an IPv6 address",
+        "https://user:password@[::1]:8443/",
+        "user:password@[::1]:8443",
+        "/",
+    ),
+];
 
 #[test]
 fn urls(rt: HostRuntime) -> Result<(), Fail> {
-    let rows = [
-        (
-            "a port, and a query",
-            "https://localhost:4433/foo/bar?p1=1&p2=2",
-            "localhost:4433",
-            "/foo/bar?p1=1&p2=2",
-        ),
-        (
-            "the default port, and a fragment",
-            "https://example.com:443/x#f",
-            "example.com",
-            "/x",
-        ),
-        (
-            "no path, and an empty query",
-            "https://example.com?",
-            "example.com",
-            "/?",
-        ),
-        (
-            "a user part, and an IPv6 address",
-            "https://user:password@[::1]:8443/",
-            "user:password@[::1]:8443",
-            "/",
-        ),
-    ];
-    for (shows, url, authority, path) in rows {
+    for (shows, url, authority, path) in URLS {
         let request = requested(rt.alloc(), url)?;
         assert_eq!(rt; request.authority(), authority, "{shows}");
         assert_eq!(rt; request.path(), path, "{shows}");
@@ -363,91 +348,95 @@ fn shown(alloc: Global, error: &impl Display) -> Result<String, AllocError> {
     again!(error.to_string(alloc), AllocError)
 }
 
+/// Errors of header maps, and their texts.
+static ERRORS_OF_MAPS: [(HeadersParseError, &str); 11] = [
+    (
+        HeadersParseError::MissingMethod,
+        "':method' field is missing",
+    ),
+    (
+        HeadersParseError::MethodNotConnect,
+        "':method' is not CONNECT",
+    ),
+    (
+        HeadersParseError::MissingScheme,
+        "':scheme' field is missing",
+    ),
+    (
+        HeadersParseError::SchemeNotHttps,
+        "':scheme' is not 'https'",
+    ),
+    (
+        HeadersParseError::MissingProtocol,
+        "':protocol' field is missing",
+    ),
+    (
+        HeadersParseError::ProtocolNotWebTransport,
+        "':protocol' is not 'webtransport'",
+    ),
+    (
+        HeadersParseError::MissingAuthority,
+        "':authority' field is missing",
+    ),
+    (HeadersParseError::MissingPath, "':path' field is missing"),
+    (
+        HeadersParseError::MissingStatusCode,
+        "':status' field is missing",
+    ),
+    (
+        HeadersParseError::InvalidStatusCode,
+        "invalid HTTP status code",
+    ),
+    (HeadersParseError::Memory, "no memory"),
+];
+
 #[test]
 fn printed_errors_of_maps(rt: HostRuntime) -> Result<(), Fail> {
-    let rows = [
-        (
-            HeadersParseError::MissingMethod,
-            "':method' field is missing",
-        ),
-        (
-            HeadersParseError::MethodNotConnect,
-            "':method' is not CONNECT",
-        ),
-        (
-            HeadersParseError::MissingScheme,
-            "':scheme' field is missing",
-        ),
-        (
-            HeadersParseError::SchemeNotHttps,
-            "':scheme' is not 'https'",
-        ),
-        (
-            HeadersParseError::MissingProtocol,
-            "':protocol' field is missing",
-        ),
-        (
-            HeadersParseError::ProtocolNotWebTransport,
-            "':protocol' is not 'webtransport'",
-        ),
-        (
-            HeadersParseError::MissingAuthority,
-            "':authority' field is missing",
-        ),
-        (HeadersParseError::MissingPath, "':path' field is missing"),
-        (
-            HeadersParseError::MissingStatusCode,
-            "':status' field is missing",
-        ),
-        (
-            HeadersParseError::InvalidStatusCode,
-            "invalid HTTP status code",
-        ),
-        (HeadersParseError::Memory, "no memory"),
-    ];
-    for (error, text) in rows {
-        assert_eq!(rt; shown(rt.alloc(), &error)?.as_str(), text);
+    for (error, text) in &ERRORS_OF_MAPS {
+        assert_eq!(rt; shown(rt.alloc(), error)?.as_str(), *text);
     }
     Ok(())
 }
 
+/// Errors of URLs, and their texts.
+static ERRORS_OF_URLS: [(UrlParseError, &str); 13] = [
+    (UrlParseError::EmptyHost, "host is missing in the URL"),
+    (
+        UrlParseError::IdnaError,
+        "invalid international domain name",
+    ),
+    (UrlParseError::InvalidPort, "invalid port number"),
+    (UrlParseError::InvalidIpv4Address, "invalid IPv4 address"),
+    (UrlParseError::InvalidIpv6Address, "invalid IPv6 address"),
+    (
+        UrlParseError::InvalidDomainCharacter,
+        "invalid domain character",
+    ),
+    (
+        UrlParseError::RelativeUrlWithoutBase,
+        "relative URL without a base",
+    ),
+    (
+        UrlParseError::RelativeUrlWithCannotBeABaseBase,
+        "relative URL with a cannot-be-a-base base",
+    ),
+    (
+        UrlParseError::SetHostOnCannotBeABaseUrl,
+        "a cannot-be-a-base URL doesn’t have a host to set",
+    ),
+    (
+        UrlParseError::Overflow,
+        "URLs more than 4 GB are not supported",
+    ),
+    (UrlParseError::Unknown, "unknown error during URL parsing"),
+    (UrlParseError::SchemeNotHttps, "URL scheme is not 'https'"),
+    (UrlParseError::Memory, "no memory"),
+];
+
 #[test]
 fn printed_errors_of_urls(rt: HostRuntime) -> Result<(), Fail> {
-    let rows = [
-        (UrlParseError::EmptyHost, "host is missing in the URL"),
-        (
-            UrlParseError::IdnaError,
-            "invalid international domain name",
-        ),
-        (UrlParseError::InvalidPort, "invalid port number"),
-        (UrlParseError::InvalidIpv4Address, "invalid IPv4 address"),
-        (UrlParseError::InvalidIpv6Address, "invalid IPv6 address"),
-        (
-            UrlParseError::InvalidDomainCharacter,
-            "invalid domain character",
-        ),
-        (
-            UrlParseError::RelativeUrlWithoutBase,
-            "relative URL without a base",
-        ),
-        (
-            UrlParseError::RelativeUrlWithCannotBeABaseBase,
-            "relative URL with a cannot-be-a-base base",
-        ),
-        (
-            UrlParseError::SetHostOnCannotBeABaseUrl,
-            "a cannot-be-a-base URL doesn’t have a host to set",
-        ),
-        (
-            UrlParseError::Overflow,
-            "URLs more than 4 GB are not supported",
-        ),
-        (UrlParseError::Unknown, "unknown error during URL parsing"),
-        (UrlParseError::SchemeNotHttps, "URL scheme is not 'https'"),
-        (UrlParseError::Memory, "no memory"),
-    ];
-    for (error, text) in rows {
-        assert_eq!(rt; shown(rt.alloc(), &error)?.as_str(), text);
+    for (error, text) in &ERRORS_OF_URLS {
+        assert_eq!(rt; shown(rt.alloc(), error)?.as_str(), *text);
     }
     let rows = [
         (
