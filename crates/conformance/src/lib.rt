@@ -12,17 +12,9 @@ mod ids;
 #[cfg(test)]
 mod journey;
 #[cfg(test)]
-mod listings;
-#[cfg(test)]
-mod programs;
-#[cfg(test)]
 mod readers;
 #[cfg(test)]
-mod requests;
-#[cfg(test)]
 mod server;
-#[cfg(test)]
-mod stepped;
 #[cfg(test)]
 mod varints;
 #[cfg(test)]

@@ -1,0 +1,11 @@
+//! Listings of recorded streams and the program over them, as tests over the public crates. No product code stands here.
+#![tactic(auto)]
+
+#[cfg(test)]
+mod listings;
+#[cfg(test)]
+mod programs;
+#[cfg(test)]
+mod requests;
+#[cfg(test)]
+mod stepped;
