@@ -20,8 +20,8 @@ use Rattle.wtransport_proto.specs.StreamPolling.{IsFault, EndsSo}
 use Rattle.wtransport_proto.proofs.HeldRunLemmas.{run_new}
 use Rattle.wt_frames.specs.declared.listing.Listing.{Listing}
 use Rattle.wt_frames.specs.CutSource.{told}
-use Rattle.wt_frames.specs.Lines.{line, last_line, text_of, status_of}
-use Rattle.wt_frames.specs.Listings.{IsListing, stepped}
+use Rattle.wt_frames.specs.Lines.{line, last_line, listed, text_of, status_of}
+use Rattle.wt_frames.specs.Listings.{Says, stepped}
 use Rattle.wt_frames.specs.Stepped.{ClosesStream}
 use Rattle.wt_frames.proofs.ListingLemmas.{IsBegun}
 
@@ -64,9 +64,9 @@ begun_whole items first h bytes left input none is_first fresh same =
     rw (none, is) (record { lines = refl; ending = refl })
 
 -- behind the last drive only the last line is left
-is_listed : (l : Listing) (text items : List ℕ) (fs : List Content) (x : IoReadError) (left whole : Run) → IsBegun text left whole → EndsSo left fs x → items ≡ text ++ flat_map line fs
-    → l.text.items ≡ items ++ last_line left.ending → l.status ≡ status_of left.ending → IsListing l whole
-is_listed l text items fs x left whole begun ends grown last status = record {
+says_whole : (l : Listing) (text items : List ℕ) (fs : List Content) (x : IoReadError) (left whole : Run) → IsBegun text left whole → EndsSo left fs x → items ≡ text ++ flat_map line fs
+    → l.text.items ≡ items ++ last_line left.ending → l.status ≡ status_of left.ending → Says l (listed whole)
+says_whole l text items fs x left whole begun ends grown last status = record {
   text = last ∙ ap (λ (y : List ℕ). y ++ last_line left.ending) grown
       ∙ append_assoc text (flat_map line fs) (last_line left.ending)
       ∙ ap (λ (gs : List Content). text ++ (flat_map line gs ++ last_line left.ending)) (sym ends.frames)
@@ -74,10 +74,10 @@ is_listed l text items fs x left whole begun ends grown last status = record {
   status = status ∙ ap status_of begun.ending;
 }
 
-pub listed : (E : Type 0) (r : Result Listing E) (text items : List ℕ) (fs : List Content) (x : IoReadError) (left whole : Run) → IsBegun text left whole → EndsSo left fs x → items ≡ text ++ flat_map line fs
-    → IfOk r (λ l. l.text.items ≡ items ++ last_line left.ending) → IfOk r (λ l. l.status ≡ status_of left.ending) → IfOk r (λ l. IsListing l whole)
-listed E (Ok l) text items fs x left whole begun ends grown last status = is_listed l text items fs x left whole begun ends grown last status
-listed E (Err e) text items fs x left whole begun ends grown last status = tt
+pub says_listed : (E : Type 0) (r : Result Listing E) (text items : List ℕ) (fs : List Content) (x : IoReadError) (left whole : Run) → IsBegun text left whole → EndsSo left fs x → items ≡ text ++ flat_map line fs
+    → IfOk r (λ l. l.text.items ≡ items ++ last_line left.ending) → IfOk r (λ l. l.status ≡ status_of left.ending) → IfOk r (λ l. Says l (listed whole))
+says_listed E (Ok l) text items fs x left whole begun ends grown last status = says_whole l text items fs x left whole begun ends grown last status
+says_listed E (Err e) text items fs x left whole begun ends grown last status = tt
 
 -- ---- what a drive did that has to be called again
 

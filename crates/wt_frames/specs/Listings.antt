@@ -3,7 +3,7 @@ use Rattle.std.specs.Prelude.{◌≡◌, true, List, ℕ}
 use Rattle.wt_frames.specs.declared.listing.Listing.{Listing}
 use Rattle.wt_frames.specs.declared.listing.ListKind.{ListKind}
 use Rattle.wt_frames.specs.declared.listing.ListKind.TheVariants.{BiRemote, BiLocal, Control}
-use Rattle.wt_frames.specs.Lines.{Listed, text_of, status_of}
+use Rattle.wt_frames.specs.Lines.{Listed}
 use Rattle.wtransport_proto.specs.Rule.{Role, RemoteBi, LocalBi, RemoteUni}
 use Rattle.wtransport_proto.specs.Run.{Run, run, MayGoOn, Ended}
 
@@ -20,11 +20,6 @@ recorded kind input = run (role_of kind) true input MayGoOn
 -- the run of a stream in both directions that the peer opened, from its start to its end
 abbrev pub stepped : List ℕ → Run
 stepped input = run RemoteBi true input Ended
-
--- the listing is that of the run
-pub record IsListing (l : Listing) (r : Run) : Type 0 where
-  pub text : l.text.items ≡ text_of r
-  pub status : l.status ≡ status_of r.ending
 
 -- the listing says this
 pub record Says (l : Listing) (x : Listed) : Type 0 where

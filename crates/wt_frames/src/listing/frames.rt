@@ -1,7 +1,8 @@
 //! The listing of frames that are read from a buffer.
 ghost use Rattle.std.specs.Prelude.{◌≡◌, ◌⊎◌, IfOk};
 ghost use Rattle.wtransport_proto.specs.Run.{run, MayGoOn};
-ghost use Rattle.wt_frames.specs.Listings.{IsListing, recorded};
+ghost use Rattle.wt_frames.specs.Lines.{listed};
+ghost use Rattle.wt_frames.specs.Listings.{Says, recorded};
 
 use crate::listing::recorded::{RecordedStream, control_stream};
 use crate::listing::{ListKind, Listing, end_line, fault_line, frame_line};
@@ -13,7 +14,7 @@ use wtransport_proto::stream::biremote::StreamBiRemoteQuic;
 /// Lists the frames in the recorded bytes of a stream. The last line says how many bytes stand
 /// behind the last frame, or which fault ends the stream.
 pub fn list_frames(alloc: Global, kind: ListKind, input: &[u8]) -> Result<Listing, AllocError>
-    ensures listing { IfOk result (λ l. IsListing l (recorded kind input.now)) }
+    ensures listing { IfOk result (λ l. Says l (listed (recorded kind input.now))) }
     ensures status { IfOk result (λ l. (l.status ≡ 0) ⊎ (l.status ≡ 2)) }
 {
     match kind {
@@ -30,7 +31,7 @@ fn list_stream<S: RecordedStream>(
     input: &[u8],
 ) -> Result<Listing, AllocError>
     requires { S.can_read stream }
-    ensures listing { IfOk result (λ l. IsListing l (run S.role (S.first stream) input.now MayGoOn)) }
+    ensures listing { IfOk result (λ l. Says l (listed (run S.role (S.first stream) input.now MayGoOn))) }
     ensures status { IfOk result (λ l. (l.status ≡ 0) ⊎ (l.status ≡ 2)) }
 {
     let mut reader = BufferReader::new(input);

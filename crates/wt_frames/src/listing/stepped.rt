@@ -3,8 +3,8 @@ ghost use Rattle.std.specs.Prelude.{◌≡◌, ◌⊎◌, ◌++◌, ◌<◌, IfO
 ghost use Rattle.std.specs.List.{flat_map};
 ghost use Rattle.wtransport_proto.specs.Run.{Ending};
 ghost use Rattle.wtransport_proto.specs.StreamPolling.{IsFault};
-ghost use Rattle.wt_frames.specs.Lines.{line, last_line, status_of};
-ghost use Rattle.wt_frames.specs.Listings.{IsListing, stepped};
+ghost use Rattle.wt_frames.specs.Lines.{line, last_line, listed, status_of};
+ghost use Rattle.wt_frames.specs.Listings.{Says, stepped};
 ghost use Rattle.wt_frames.specs.Stepped.{ClosesStream};
 
 use crate::listing::cut_source::CutSource;
@@ -26,7 +26,7 @@ const POLLS: u32 = 1024;
 /// The last line says that the stream ends behind a frame, or which fault ends it.
 pub fn list_stepped(alloc: Global, k: usize, input: &[u8]) -> Result<Listing, AllocError>
     requires { 0 < k }
-    ensures listing { IfOk result (λ l. IsListing l (stepped input.now)) }
+    ensures listing { IfOk result (λ l. Says l (listed (stepped input.now))) }
     ensures status { IfOk result (λ l. (l.status ≡ 0) ⊎ (l.status ≡ 2)) }
 {
     let mut stream = StreamBiRemoteQuic::accept_bi().upgrade();

@@ -1,6 +1,6 @@
 use Rattle.std.proofs.Common.{arith}
 use Rattle.wt_frames.proofs.RunEnds.{run_closed, fault_closes}
-use Rattle.wt_frames.proofs.SteppedLemmas.{begun_whole, begun_lines, lines_of_all, listed, goes_on, less_left}
+use Rattle.wt_frames.proofs.SteppedLemmas.{begun_whole, begun_lines, lines_of_all, says_listed, goes_on, less_left}
 use Rattle.wt_frames.proofs.listing.stepped.list_stepped.Goals as goal
 
 pub drives-init : goal.drives-init
@@ -27,5 +27,5 @@ closed-requires c = fault_closes _ _ _ c.in-Ended.ensures.did.0.fault c.drives.i
 pub returns-in-Ended-clause-listing : goal.returns-in-Ended-clause-listing
 returns-in-Ended-clause-listing c =
     let did = c.in-Ended.ensures.did in
-    listed _ _ _ _ _ _ _ _ c.drives.invariant.begun did.0 (lines_of_all _ _ _ _ _ c.drives.invariant.none c.as_slice.ensures.value c.in_ok-add_lines.ensures)
+    says_listed _ _ _ _ _ _ _ _ c.drives.invariant.begun did.0 (lines_of_all _ _ _ _ _ c.drives.invariant.none c.as_slice.ensures.value c.in_ok-add_lines.ensures)
     (c.closed.ensures.text _ did.0.fault) (c.closed.ensures.status _ did.0.fault)
