@@ -2,9 +2,8 @@
 //! stands here.
 #![tactic(auto)]
 
-ghost use Rattle.std.specs.Prelude.{◌≡◌, ℕ, Option, Some, ◌+◌, ◌-◌, ◌^◌, ◌<◌, ◌≤◌, [], length, drop, false, if◌then◌else◌};
+ghost use Rattle.std.specs.Prelude.{◌≡◌, Some, ◌+◌, ◌-◌, ◌^◌, ◌<◌, ◌≤◌, [], length, drop, false, if◌then◌else◌};
 ghost use Rattle.wtp_core.specs.Source.{Source};
-ghost use Rattle.wtp_core.specs.Sink.{Sink};
 ghost use Rattle.wtp_core.specs.Polled.{stop};
 ghost use Rattle.conformance_pieces.specs.Pieces.{ending_of, one_a_call};
 

@@ -4,7 +4,6 @@ ghost use Rattle.std.specs.Prelude.{◌≡◌, ℕ, ◌+◌, ◌-◌, ◌*◌, �
 ghost use Rattle.std.specs.Int.{byte_len};
 ghost use Rattle.std.specs.Ordering.{nat_cmp};
 ghost use Rattle.std.specs.Hash as hashed;
-ghost use Rattle.wtp_core.specs.Ids.{IsSession};
 ghost use Rattle.wtp_core.specs.Varint.{Spells, width_of, number_at, shortest};
 
 use crate::bytes::{BytesReader, EndOfBuffer, ParentReader};

@@ -1,5 +1,5 @@
 //! Variable-length integers of QUIC (RFC 9000, section 16).
-ghost use Rattle.std.specs.Prelude.{◌≡◌, ◌+◌, ◌^◌, ◌<◌, ◌≤◌, ℕ, length, drop, Some, None, MatchOption, IfSome};
+ghost use Rattle.std.specs.Prelude.{◌≡◌, ◌^◌, ◌<◌, ◌≤◌, ℕ, length, drop, Some, None, MatchOption, IfSome};
 ghost use Rattle.std.specs.Int.{byte_len};
 ghost use Rattle.std.specs.Result.{OkIff};
 ghost use Rattle.wtp_core.specs.Varint.{width_of, number_at, shortest};

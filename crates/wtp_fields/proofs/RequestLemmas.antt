@@ -1,5 +1,5 @@
 -- Requests: what a map without a fault has, and what keeps it so.
-use Rattle.std.proofs.Common.{◌≡◌, ℕ, Bool, true, false, cond, ◌||◌, List, [], ◌∷◌, ◌++◌, drop, codes, refl, sym, ◌∙◌, ap, append_assoc, append-nil, Option, Some, None, IsSome}
+use Rattle.std.proofs.Common.{◌≡◌, ℕ, Bool, true, false, cond, ◌||◌, List, [], ◌∷◌, drop, codes, refl, sym, ◌∙◌, ap, append_assoc, append-nil, Option, Some, None, IsSome}
 use Rattle.std.proofs.lemmas.Map.Text.{is_eq-slice_cmp}
 use Rattle.std.specs.Borrow.{Bor}
 use Rattle.std.specs.List.{list_any}
@@ -9,7 +9,7 @@ use Rattle.url.specs.Parts.{Parts, text_between}
 use Rattle.url.specs.declared.slicing.Position.TheVariants.{BeforeUsername, AfterPort}
 use Rattle.wtp_fields.specs.declared.session.HeadersParseError.{HeadersParseError}
 use Rattle.wtp_fields.specs.declared.session.HeadersParseError.TheVariants.{MissingMethod, MethodNotConnect, MissingScheme, SchemeNotHttps, MissingProtocol, ProtocolNotWebTransport, MissingAuthority, MissingPath}
-use Rattle.wtp_fields.specs.Field.{Field, put, field_map, value_of}
+use Rattle.wtp_fields.specs.Field.{Field, put, value_of}
 use Rattle.wtp_fields.specs.SessionRequest.{reserved_names, is_reserved, fault_unless, fault_without, first_fault, fault_of, authority_of, five_fields}
 use Rattle.wtp_fields.proofs.FieldMaps.{map_last, value_put}
 use Rattle.wtp_fields.proofs.HeaderLemmas.{eq_turned}

@@ -1,13 +1,11 @@
 -- Responses: the status of a map, and what keeps it.
-use Rattle.std.proofs.Common.{◌≡◌, ℕ, ◌+◌, ◌<◌, ◌≤◌, ◌==◌, Bool, true, false, cond, List, [], ◌∷◌, codes, decimal, drop, slice_index, get_or, refl, sym, ◌∙◌, ap, subst, arith, Option, Some, None, IsSome, is_some, IsSomeAnd, Result, Ok, Err, IsOk, is_err, ne_eqb}
+use Rattle.std.proofs.Common.{◌≡◌, ℕ, ◌<◌, true, false, cond, List, codes, decimal, slice_index, get_or, refl, sym, ◌∙◌, ap, subst, arith, Option, Some, None, IsSome, is_some, IsSomeAnd, Result, Ok, Err, IsOk, is_err, ne_eqb}
 use Rattle.std.proofs.lemmas.Fmt.{decimal_is_IsNumeral, first_decimal}
-use Rattle.std.specs.Borrow.{Bor}
-use Rattle.std.specs.Option.{option_copied}
 use Rattle.std.specs.Result.{OkIff}
 use Rattle.std.specs.Str.{bytes_eq}
 use Rattle.std.specs.Str.Parse.{without_leading_plus}
 use Rattle.wtp_core.specs.Ids.{IsStatus, IsStatusText, status_in}
-use Rattle.wtp_fields.specs.Field.{Field, put, value_of}
+use Rattle.wtp_fields.specs.Field.{Field, put}
 use Rattle.wtp_fields.specs.SessionResponse.{status_of, HasStatus}
 use Rattle.wtp_fields.proofs.FieldMaps.{value_put}
 

@@ -1,5 +1,5 @@
 //! Header maps, and the HEADERS frames that say them (RFC 9114, section 7.2.2).
-ghost use Rattle.std.specs.Prelude.{◌≡◌, ℕ, ◌≤◌, ◌^◌, ◌++◌, List, [], length, Bool, OnOk, OnErr, IfOk, IfErr, IsOk, Err, map};
+ghost use Rattle.std.specs.Prelude.{◌≡◌, ℕ, ◌≤◌, ◌^◌, ◌++◌, List, [], length, OnOk, OnErr, IfOk, Err, map};
 ghost use Rattle.std.specs.Borrow.{Bor};
 ghost use Rattle.std.specs.Option.{option_copied};
 ghost use Rattle.std.specs.Iterator.{IsFinite, Drains};

@@ -1,5 +1,5 @@
 //! Frames of HTTP/3 (RFC 9114, section 7), read and written whole or poll by poll.
-ghost use Rattle.std.specs.Prelude.{◌≡◌, ◌%◌, ◌≢◌, ◌<◌, ◌≤◌, ◌^◌, ◌+◌, ◌++◌, [], length, IsTrue, IsSome, IfSome, IsOk, OnOk, OnErr, Err, Some, None, ◌↔◌};
+ghost use Rattle.std.specs.Prelude.{◌≡◌, ◌%◌, ◌≢◌, ◌<◌, ◌≤◌, ◌^◌, ◌+◌, length, IsTrue, IfSome, IsOk, OnOk, OnErr, Err, Some, None, ◌↔◌};
 ghost use Rattle.wtp_core.specs.Writer.{LacksRoom, PutsParts};
 ghost use Rattle.wtp_core.specs.Reader.{IsRest};
 ghost use Rattle.wtp_core.specs.Cursor.{left_of, whole_of};

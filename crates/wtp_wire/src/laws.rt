@@ -1,7 +1,6 @@
 //! Laws of the definitions that contracts of this crate cite. Each function does nothing: its
 //! contract is the law.
 ghost use Rattle.std.specs.Prelude.{◌≡◌, ◌≢◌, ◌++◌, ◌⊎◌, ℕ, List, Some};
-ghost use Rattle.wtp_core.specs.Reader.{IsRest};
 ghost use Rattle.wtp_wire.specs.Kind.{IsKind, kind_of};
 ghost use Rattle.wtp_wire.specs.Front.{Front, Framed, Short, Begins, extended, front};
 ghost use Rattle.wtp_wire.specs.Content.{Content};

@@ -1,6 +1,6 @@
 //! Writing a buffer to a sink, as far as the sink goes (own): what the writing states of this crate
 //! and of the one above stand on.
-ghost use Rattle.std.specs.Prelude.{◌≡◌, ℕ, ◌<◌, ◌≤◌, length, take, drop, OnOk, OnErr};
+ghost use Rattle.std.specs.Prelude.{◌≡◌, ◌<◌, ◌≤◌, length, take, drop, OnOk, OnErr};
 ghost use Rattle.wtp_core.specs.Sink.{SinkKeepsLengths, SinkTells};
 ghost use Rattle.wtp_core.specs.Drain.{DrainTells, write_halted};
 

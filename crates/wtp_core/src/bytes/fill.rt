@@ -1,6 +1,6 @@
 //! Reading from a source into a buffer, as far as the source goes (own): what the reading states of
 //! this crate and of the one above stand on.
-ghost use Rattle.std.specs.Prelude.{◌≡◌, ℕ, ◌<◌, ◌≤◌, length, take, drop, IfOk};
+ghost use Rattle.std.specs.Prelude.{◌≡◌, ◌<◌, ◌≤◌, length, take, drop, IfOk};
 ghost use Rattle.wtp_core.specs.Source.{StepKeepsLengths, StepTells, Telling};
 ghost use Rattle.wtp_core.specs.Fill.{BeginMoves, FillKeepsLengths, FillTells, halted_poll};
 

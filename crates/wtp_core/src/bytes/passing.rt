@@ -1,5 +1,5 @@
 //! Passing over bytes of a source that nobody keeps (own).
-ghost use Rattle.std.specs.Prelude.{◌≡◌, ℕ, ◌+◌, ◌-◌, ◌<◌, ◌≤◌, OnOk, OnErr};
+ghost use Rattle.std.specs.Prelude.{◌≡◌, ◌+◌, ◌-◌, ◌<◌, ◌≤◌, OnOk, OnErr};
 ghost use Rattle.wtp_core.specs.Passing.{PassTells, CountFits, StepPasses};
 
 use crate::bytes::fill::Halt;

@@ -1,5 +1,5 @@
 //! Writing a number, or a buffer, poll by poll.
-ghost use Rattle.std.specs.Prelude.{◌≡◌, ℕ, ◌≤◌, List, ◌++◌, length, take, drop, Ok};
+ghost use Rattle.std.specs.Prelude.{◌≡◌, ◌≤◌, ◌++◌, length, take, drop, Ok};
 ghost use Rattle.wtp_core.specs.Source.{Telling};
 ghost use Rattle.wtp_core.specs.Varint.{shortest};
 ghost use Rattle.wtp_core.specs.Writing.{Writing, unsent, GoesOn, IsSent, WritePolled};

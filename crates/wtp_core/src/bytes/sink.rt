@@ -1,5 +1,5 @@
 //! Polled sinks of bytes, and vectors as sinks.
-ghost use Rattle.std.specs.Prelude.{◌≡◌, ℕ, Option, Some, None, ◌≤◌, length};
+ghost use Rattle.std.specs.Prelude.{Option, Some, None, length};
 ghost use Rattle.wtp_core.specs.Sink.{Sink, SinkKeepsLengths, SinkTells, all_taken, TakesWhole};
 
 /// One answer of a sink.

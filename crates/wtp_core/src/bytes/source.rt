@@ -1,5 +1,5 @@
 //! Polled sources of bytes, and slices as sources.
-ghost use Rattle.std.specs.Prelude.{◌≡◌, ℕ, Option, Some, None, ◌≤◌, ◌↔◌, length, false, IsTrue};
+ghost use Rattle.std.specs.Prelude.{◌≡◌, Option, Some, None, ◌≤◌, ◌↔◌, length, false, IsTrue};
 ghost use Rattle.wtp_core.specs.Source.{Source, StepKeepsLengths, StepTells, Telling, Shows, TakesAtHand, all_ahead};
 
 /// One answer of a source.

@@ -1,5 +1,5 @@
 //! The writer of bytes, and vectors as writers.
-ghost use Rattle.std.specs.Prelude.{◌≡◌, ℕ, List, Option, Some, None, Bool, true};
+ghost use Rattle.std.specs.Prelude.{◌≡◌, ℕ, List, Option, None, Bool, true};
 ghost use Rattle.std.specs.Borrow.{GName};
 ghost use Rattle.wtp_core.specs.Varint.{shortest};
 ghost use Rattle.wtp_core.specs.Writer.{Puts};

@@ -1,5 +1,5 @@
 //! Laws of prefixed integers, string literals, field lines and field sections.
-ghost use Rattle.std.specs.Prelude.{◌≡◌, ◌↔◌, ◌⊎◌, ℕ, ◌+◌, ◌*◌, ◌^◌, ◌<◌, ◌≤◌, List, [], ◌++◌, length, Some, Ok, Err, MatchResult};
+ghost use Rattle.std.specs.Prelude.{◌≡◌, ◌↔◌, ◌⊎◌, ℕ, ◌+◌, ◌^◌, ◌<◌, ◌≤◌, List, [], ◌++◌, length, Some, Ok, Err, MatchResult};
 ghost use Rattle.wtp_fields.specs.declared.qpack.DecodingError.{DecodingError};
 ghost use Rattle.wtp_fields.specs.declared.qpack.DecodingError.TheVariants.{UnexpectedFin, IntegerOverflow, InvalidString, Memory};
 ghost use Rattle.wtp_huffman.specs.Huffman.{IsHuffman};

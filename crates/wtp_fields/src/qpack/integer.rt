@@ -1,6 +1,6 @@
 //! Integers in a prefix of `N` bits (RFC 7541, section 5.1; RFC 9204, section 4.1.1).
 
-ghost use Rattle.std.specs.Prelude.{◌≡◌, ℕ, ◌+◌, ◌-◌, ◌*◌, ◌^◌, ◌<◌, ◌≤◌, ◌++◌, OnOk, SomeIff};
+ghost use Rattle.std.specs.Prelude.{◌≡◌, ◌+◌, ◌-◌, ◌*◌, ◌^◌, ◌<◌, ◌≤◌, ◌++◌, OnOk, SomeIff};
 ghost use Rattle.wtp_fields.specs.Integer.{integer_at, groups_at, shortest_int};
 ghost use Rattle.wtp_fields.specs.Reading.{Gives};
 

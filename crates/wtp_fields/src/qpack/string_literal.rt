@@ -1,6 +1,6 @@
 //! String literals (RFC 7541, section 5.2; RFC 9204, section 4.1.2).
 
-ghost use Rattle.std.specs.Prelude.{◌≡◌, ℕ, ◌+◌, ◌-◌, ◌*◌, ◌^◌, ◌<◌, ◌≤◌, ◌++◌, length, string_bytes, OnOk, SomeIff};
+ghost use Rattle.std.specs.Prelude.{◌≡◌, ◌+◌, ◌-◌, ◌*◌, ◌^◌, ◌<◌, ◌≤◌, ◌++◌, length, string_bytes, OnOk, SomeIff};
 ghost use Rattle.wtp_huffman.specs.Huffman.{coded_len};
 ghost use Rattle.wtp_fields.specs.Reading.{Gives, GivesUnlessMemory};
 ghost use Rattle.wtp_fields.specs.StringLiteral.{flag_above, or_invalid, huffman_text, utf8_text, content, string_at, encoded_string};

@@ -1,5 +1,5 @@
 //! The two numbers in front of a frame: its type, and its length or session.
-ghost use Rattle.std.specs.Prelude.{◌≡◌, ℕ, ◌+◌, ◌<◌, ◌≤◌, List, ◌++◌, length};
+ghost use Rattle.std.specs.Prelude.{◌≡◌, ◌+◌, ◌<◌, length};
 ghost use Rattle.wtp_wire.specs.FrameNeed.{frame_need, frame_need_most, frame_need_grows};
 ghost use Rattle.wtp_wire.specs.FrameHead.{said, said_second};
 

@@ -1,5 +1,5 @@
 //! Reading and writing a stream header, poll by poll.
-ghost use Rattle.std.specs.Prelude.{◌≡◌, ℕ, ◌+◌, ◌<◌, ◌≤◌, List, [], ◌++◌, length, take, Ok};
+ghost use Rattle.std.specs.Prelude.{◌≡◌, ℕ, ◌+◌, ◌<◌, ◌≤◌, List, [], length, take, Ok};
 ghost use Rattle.wtp_core.specs.Source.{Telling};
 ghost use Rattle.wtp_core.specs.Polled.{Asks};
 ghost use Rattle.wtp_core.specs.Writing.{Writing, unsent, GoesOn, IsSent, WritePolled};

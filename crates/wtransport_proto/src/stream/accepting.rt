@@ -16,7 +16,6 @@ pub struct UniAccepting {
 }
 
 impl UniAccepting {
-    ghost use Rattle.std.specs.Prelude.{◌≡◌};
     ghost use Rattle.wtp_core.specs.Source.{Telling};
     ghost use Rattle.wtp_core.specs.Polled.{Asks};
     ghost use Rattle.wtransport_proto.specs.UpgradeSteps.{AcceptPolled, AcceptGiven};

@@ -1,5 +1,5 @@
 //! Driving a stream: reading its frames poll by poll, as far as its source goes.
-ghost use Rattle.std.specs.Prelude.{◌≡◌, ℕ, ◌≤◌, Bool, IsTrue, ◌↔◌, ◌++◌, length, drop, false};
+ghost use Rattle.std.specs.Prelude.{◌≡◌, ◌≤◌, Bool, IsTrue, ◌↔◌, ◌++◌, length, drop, false};
 ghost use Rattle.wtp_core.specs.Source.{Telling};
 ghost use Rattle.wtp_core.specs.Polled.{Asks};
 ghost use Rattle.wtp_wire.specs.Held.{IsUnfinished};

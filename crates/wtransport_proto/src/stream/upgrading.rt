@@ -17,7 +17,6 @@ pub struct BiUpgrading {
 }
 
 impl BiUpgrading {
-    ghost use Rattle.std.specs.Prelude.{◌≡◌};
     ghost use Rattle.wtp_core.specs.Source.{Telling};
     ghost use Rattle.wtransport_proto.specs.UpgradeSteps.{BiStepped, StepSends, bi_writing};
 
@@ -56,7 +55,6 @@ pub struct UniUpgrading {
 }
 
 impl UniUpgrading {
-    ghost use Rattle.std.specs.Prelude.{◌≡◌};
     ghost use Rattle.wtp_core.specs.Source.{Telling};
     ghost use Rattle.wtransport_proto.specs.UpgradeSteps.{UniStepped, StepSends, uni_writing};
 

@@ -1,4 +1,3 @@
-use Rattle.wtp_fields.specs.SessionRequest.{authority_of, with_query}
 use Rattle.wtp_fields.proofs.RequestLemmas.{five_faultless}
 use Rattle.wtp_fields.proofs.session.request.SessionRequest.for_url.Goals as goal
 

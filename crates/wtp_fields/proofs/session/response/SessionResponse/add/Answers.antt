@@ -1,4 +1,4 @@
-use Rattle.std.proofs.Common.{◌∙◌, sym, subst, Ok, Err}
+use Rattle.std.proofs.Common.{◌∙◌, sym, subst}
 use Rattle.wtp_fields.specs.SessionResponse.{HasStatus}
 use Rattle.wtp_fields.proofs.ResponseLemmas.{status_kept, status_put, parsed_good}
 use Rattle.wtp_fields.proofs.session.response.SessionResponse.add.Goals as goal
