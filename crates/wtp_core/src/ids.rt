@@ -218,7 +218,6 @@ impl QStreamId {
         ensures value { result ≡ self }
         ensures below { self < 2 ^ 60 }
     {
-        let _ = &self.id;
         self.id.into_inner()
     }
 

@@ -124,6 +124,7 @@ impl Headers {
         ensures ordered { IsMap self.now }
         ensures texts { AreTexts self.now }
     {
+        // The contract of `len` says that each name stands in the map once, in order.
         let _len = self.fields.len();
         &self.fields
     }
