@@ -1,5 +1,5 @@
 -- Steps of writing an integer.
-use Rattle.std.proofs.Common.{◌≡◌, ℕ, zero, suc, ◌+◌, ◌-◌, ◌*◌, ◌/◌, ◌%◌, ◌^◌, ◌<◌, ◌≤◌, List, [], ◌∷◌, ◌++◌, sym, ◌∙◌, ap, arith, append_assoc}
+use Rattle.std.proofs.Common.{◌≡◌, ℕ, zero, suc, ◌+◌, ◌-◌, ◌*◌, ◌/◌, ◌%◌, ◌^◌, ◌<◌, ◌≤◌, List, [], ◌∷◌, ◌++◌, refl, sym, ◌∙◌, ap, arith, append_assoc}
 use Rattle.std.proofs.lemmas.Bool.{lt-ltb, le-ltb}
 use Rattle.std.proofs.lemmas.Nat.{pow-add}
 use Rattle.std.proofs.Math.Nat.{mul-le-mul_right}
@@ -54,8 +54,9 @@ writes_last whole out next left w few e = by_turns w.turns w.so_far
     by_turns zero so_far = e ∙ so_far
     by_turns (suc k) so_far = e ∙ rw (lt-ltb left 128 few) at so_far
 
-pub writes_short : (n flags ones v : ℕ) (old out : List ℕ) → ones + 1 ≡ 2 ^ n → v < ones → out ≡ old ++ (flags * (ones + 1) + v) ∷ [] → out ≡ old ++ shortest_int n flags v
+-- no group is needed
+pub only_int : (n flags ones v : ℕ) → ones + 1 ≡ 2 ^ n → v < ones → (flags * (ones + 1) + v) ∷ [] ≡ shortest_int n flags v
 unfolding shortest_int
-writes_short n flags ones v old out size below e =
+only_int n flags ones v size below =
     let all : ones + 1 - 1 ≡ ones = omega arith in
-    rw (← size, all, lt-ltb v ones below) e
+    rw (← size, all, lt-ltb v ones below) refl

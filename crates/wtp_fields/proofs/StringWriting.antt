@@ -1,8 +1,9 @@
 -- The Huffman text of a string, as a function.
-use Rattle.std.proofs.Common.{◌≡◌, ℕ, zero, suc, ◌+◌, ◌-◌, ◌*◌, ◌^◌, ◌<◌, ◌≤◌, inl, inr, Bool, true, false, cond, List, [], ◌∷◌, ◌++◌, length, drop, refl, sym, ◌∙◌, ap, arith, subst, append_assoc, IsUtf8}
+use Rattle.std.proofs.Common.{◌≡◌, ℕ, zero, suc, ◌+◌, ◌-◌, ◌*◌, ◌^◌, ◌<◌, ◌≤◌, inl, inr, Bool, true, false, cond, List, [], ◌∷◌, ◌++◌, length, take, drop, slice_set, refl, sym, ◌∙◌, ap, arith, subst, append_assoc, IsUtf8}
 use Rattle.std.proofs.lemmas.Bool.{cases_lt, and_parts, lt-ltb, le-ltb}
 use Rattle.std.proofs.lemmas.List.{length-append, length-drop}
 use Rattle.std.proofs.Math.ListN.{drop_of_length-le}
+use Rattle.std.proofs.Math.Seq.{set-append_seam, take-append_seam}
 use lib.Utf8.{scalar, scalars, encode, encodes, scalar_cases}
 use Rattle.wtp_huffman.specs.Huffman.{low_bits, bits_of, coded, coded_len, AllOnes, IsPadding, IsBytes, IsHuffman}
 use Rattle.wtp_huffman.specs.HuffmanSteps.{AppendsHuffman}
@@ -85,10 +86,32 @@ written_coded n flags size t old one two (less, e) first h =
     let body : h.string ≡ huffman_bytes t = huffman_same t h.string h.bytes h.is_coded in
     rw (encoded_coded n flags t less, h.appended, body, first, e) (append_assoc old (shortest_int n (flags * 2 + 1) (coded_len t)) (huffman_bytes t))
 
-pub written_raw : (n flags : ℕ) (t old one two : List ℕ) → (coded_len t < length t → ⊥)
-    → one ≡ old ++ shortest_int n (flags * 2) (length t) → two ≡ one ++ t → two ≡ old ++ encoded_string n flags t
-written_raw n flags t old one two more first second =
-    rw (encoded_raw n flags t (omega (arith, more)), second, first) (append_assoc old (shortest_int n (flags * 2) (length t)) t)
+-- the code of a text behind one byte, and how many bytes it has
+behind_byte : (t old one two : List ℕ) → one ≡ old ++ 0 ∷ [] → AppendsHuffman t one two → two ≡ old ++ 0 ∷ huffman_bytes t
+behind_byte t old one two first h =
+    let body : h.string ≡ huffman_bytes t = huffman_same t h.string h.bytes h.is_coded in
+    rw (h.appended, body, first) (append_assoc old (0 ∷ []) (huffman_bytes t))
+
+counted : (t old two : List ℕ) (start size : ℕ) → two ≡ old ++ 0 ∷ huffman_bytes t → start ≡ length old → size ≡ length two - start - 1 → size ≡ coded_len t
+counted t old two start size whole at e = omega (arith, e, at, ap length whole, length-append old (0 ∷ huffman_bytes t), huffman_bytes_length t)
+
+-- the byte was set to the length of the code, which is shorter
+pub written_behind : (n flags start size byte : ℕ) (t old one two : List ℕ) → start ≡ length old → size ≡ length two - start - 1 → size < length t
+    → one ≡ old ++ 0 ∷ [] → AppendsHuffman t one two → byte ∷ [] ≡ shortest_int n (flags * 2 + 1) size
+    → slice_set two start byte ≡ old ++ encoded_string n flags t
+written_behind n flags start size byte t old one two at e less first h is_size =
+    let whole : two ≡ old ++ 0 ∷ huffman_bytes t = behind_byte t old one two first h in
+    let all : size ≡ coded_len t = counted t old two start size whole at e in
+    let replaced : slice_set two start byte ≡ old ++ byte ∷ huffman_bytes t = rw (whole, at) (set-append_seam old 0 (huffman_bytes t) byte) in
+    let front : byte ∷ [] ≡ shortest_int n (flags * 2 + 1) (coded_len t) = rw all at is_size in
+    rw (encoded_coded n flags t (omega (arith, less, all)), ← front) replaced
+
+-- it was taken back, since the code is not shorter
+pub taken_back : (start size : ℕ) (t old one two : List ℕ) → start ≡ length old → size ≡ length two - start - 1 → length t ≤ size
+    → one ≡ old ++ 0 ∷ [] → AppendsHuffman t one two → (take start two ≡ old) × (length t ≤ coded_len t)
+taken_back start size t old one two at e more first h =
+    let whole : two ≡ old ++ 0 ∷ huffman_bytes t = behind_byte t old one two first h in
+    (rw (whole, at) (take-append_seam old (0 ∷ huffman_bytes t)), omega (arith, more, counted t old two start size whole at e))
 
 -- ---- the bytes of UTF-8
 

@@ -40,7 +40,7 @@ all_pairs : pairs_ok 0 PAIRS ≡ true
 unfolding short_bits_at short_byte_at second_ok pair_ok entry_ok pairs_ok
 all_pairs = refl
 
-pairs_length : length PAIRS ≡ 4064
+pub pairs_length : length PAIRS ≡ 4064
 pairs_length = refl
 
 pairs_ok_at : (i k : ℕ) (es : List ℕ) → pairs_ok i es ≡ true → k < length es → entry_ok (k + i) (slice_index es k) ≡ true

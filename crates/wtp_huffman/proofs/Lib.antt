@@ -1,5 +1,6 @@
 pub mod Chosen
 pub mod Tables
+pub mod HuffmanAscii
 pub mod HuffmanBits
 pub mod HuffmanTable
 pub mod HuffmanWords

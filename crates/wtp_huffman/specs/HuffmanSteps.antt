@@ -1,6 +1,12 @@
 -- How far a Huffman text was decoded or encoded.
 use Rattle.std.specs.Prelude.{◌≡◌, ℕ, ◌-◌, ◌/◌, ◌%◌, ◌^◌, ◌<◌, Bool, List, ◌++◌}
+use Rattle.std.specs.Bool.{MatchBool}
+use Rattle.std.specs.Str.{IsAscii, IsNotAscii}
 use Rattle.wtp_huffman.specs.Huffman.{bits_of, low_bits, coded, IsBytes, IsCoded, IsHuffman}
+
+-- whether a text is ASCII
+abbrev pub TellsAscii : Bool → List ℕ → Type 0
+TellsAscii is_ascii t = MatchBool is_ascii (IsAscii t) (IsNotAscii t)
 
 -- The text begins with the code words of out, and each text that is coded so begins with out: what is left of it is
 -- coded by these bits.

@@ -12,7 +12,7 @@ use std::alloc::{AllocError, Global};
 use std::collections::BTreeMap;
 
 /// The room that is taken for a section at first; it grows for a longer one.
-const ROOM: usize = 256;
+const ROOM: usize = 512;
 
 /// The empty prefix, and room for lines behind it.
 pub fn begun(alloc: Global) -> Result<Vec<u8>, AllocError>

@@ -1,6 +1,6 @@
 //! Integers in a prefix of `N` bits (RFC 7541, section 5.1; RFC 9204, section 4.1.1).
 
-ghost use Rattle.std.specs.Prelude.{◌≡◌, ◌+◌, ◌-◌, ◌*◌, ◌^◌, ◌<◌, ◌≤◌, ◌++◌, OnOk, SomeIff};
+ghost use Rattle.std.specs.Prelude.{◌≡◌, ◌+◌, ◌-◌, ◌*◌, ◌^◌, ◌<◌, ◌≤◌, [], ◌∷◌, ◌++◌, OnOk, SomeIff};
 ghost use Rattle.wtp_fields.specs.Integer.{integer_at, groups_at, shortest_int};
 ghost use Rattle.wtp_fields.specs.Reading.{Gives};
 
@@ -70,6 +70,18 @@ pub fn read<const N: u32>(bytes: &[u8]) -> Result<(u64, &[u8]), DecodingError>
     }
 }
 
+/// The byte of an integer that needs no group: the flags above its low `N` bits.
+#[tactic(auto, unfolding(crate::specs::Integer::shortest_int))]
+pub fn only_byte<const N: u32>(flags: u8, value: u64) -> u8
+    requires some { 1 ≤ N }
+    requires few { N ≤ 8 }
+    requires above { flags < 2 ^ (8 - N) }
+    requires below { value < 2 ^ N - 1 }
+    ensures { result ∷ [] ≡ shortest_int N flags value }
+{
+    (u64::from(flags) * (ones::<N>() + 1) + value) as u8
+}
+
 /// Appends an integer: the flags above the low `N` bits of the first byte, and no needless group.
 pub fn write<const N: u32>(out: &mut Vec<u8>, flags: u8, value: u64) -> Result<(), AllocError>
     requires some { 1 ≤ N }
@@ -78,12 +90,11 @@ pub fn write<const N: u32>(out: &mut Vec<u8>, flags: u8, value: u64) -> Result<(
     ensures { OnOk result (out.new.items ≡ out.old.items ++ shortest_int N flags value) }
 {
     let ones = ones::<N>();
-    let top = u64::from(flags) * (ones + 1);
     if value < ones {
-        out.push((top + value) as u8)?;
+        out.push(only_byte::<N>(flags, value))?;
         return Ok(());
     }
-    out.push((top + ones) as u8)?;
+    out.push((u64::from(flags) * (ones + 1) + ones) as u8)?;
     let mut left = value - ones;
     while left >= 128 {
         out.push((left % 128 + 128) as u8)?;

@@ -1,7 +1,9 @@
 //! String literals (RFC 7541, section 5.2; RFC 9204, section 4.1.2).
 
-ghost use Rattle.std.specs.Prelude.{◌≡◌, ◌+◌, ◌-◌, ◌*◌, ◌^◌, ◌<◌, ◌≤◌, ◌++◌, length, string_bytes, OnOk, SomeIff};
+ghost use Rattle.std.specs.Prelude.{◌≡◌, ◌+◌, ◌-◌, ◌*◌, ◌^◌, ◌<◌, ◌≤◌, ◌++◌, length, string_bytes, IfOk, OnOk, SomeIff};
 ghost use Rattle.wtp_huffman.specs.Huffman.{coded_len};
+ghost use Rattle.wtp_huffman.specs.HuffmanSteps.{TellsAscii};
+ghost use Rattle.wtp_fields.specs.Integer.{shortest_int};
 ghost use Rattle.wtp_fields.specs.Reading.{Gives, GivesUnlessMemory};
 ghost use Rattle.wtp_fields.specs.StringLiteral.{flag_above, or_invalid, huffman_text, utf8_text, content, string_at, encoded_string};
 
@@ -24,57 +26,50 @@ fn tested(bytes: &[u8]) -> Result<&str, DecodingError>
     }
 }
 
-/// The same, by a faster test for ASCII first, which nearly every text is.
+/// The same, told whether they are ASCII, as nearly every text is.
 #[inline(always)]
-fn text_of(bytes: &[u8]) -> Result<&str, DecodingError>
+fn text_by(bytes: &[u8], is_ascii: bool) -> Result<&str, DecodingError>
+    requires { TellsAscii is_ascii bytes.now }
     ensures { Gives (λ t. t.now) result (utf8_text bytes.now) }
 {
-    if bytes.is_ascii() {
+    if is_ascii {
         Ok(unsafe { str::from_utf8_unchecked(bytes) })
     } else {
         tested(bytes)
     }
 }
 
-/// The bytes as a text of its own, allocated once at its size.
-#[inline(always)]
-fn copied(alloc: Global, bytes: &[u8]) -> Result<String, DecodingError>
-    ensures { GivesUnlessMemory (λ t. string_bytes t) result (utf8_text bytes.now) }
-{
-    let text = text_of(bytes)?;
-    Ok(String::from_str(alloc, text)?)
-}
-
-/// Puts the bytes that a Huffman text stands for in the place of what stood in `scratch`.
-fn decoded(scratch: &mut Vec<u8>, bytes: &[u8]) -> Result<(), DecodingError>
-    ensures { GivesUnlessMemory (λ _. scratch.new.items) result (or_invalid (huffman_text bytes.now)) }
+/// Puts the bytes that a Huffman text stands for in the place of what stood in `scratch`, and answers whether they are
+/// ASCII.
+fn decoded(scratch: &mut Vec<u8>, bytes: &[u8]) -> Result<bool, DecodingError>
+    ensures bytes { GivesUnlessMemory (λ _. scratch.new.items) result (or_invalid (huffman_text bytes.now)) }
+    ensures ascii { IfOk result (λ is_ascii. TellsAscii is_ascii scratch.new.items) }
 {
     if scratch.capacity() == 0 {
         scratch.reserve(ROOM)?;
     }
     match huffman::decode_into(scratch, bytes) {
-        Ok(()) => Ok(()),
+        Ok(is_ascii) => Ok(is_ascii),
         Err(HuffmanError::Invalid) => Err(DecodingError::InvalidString),
         Err(HuffmanError::Memory) => Err(DecodingError::Memory),
     }
 }
 
-/// The text of a string's bytes. Huffman text is decoded in `scratch` and then copied, since its size is not known
-/// before.
+/// The text of a string's bytes. Huffman text is decoded in `scratch`.
+#[inline(always)]
 #[tactic(auto, unfolding(crate::specs::StringLiteral::content))]
-fn content(
-    alloc: Global,
-    scratch: &mut Vec<u8>,
+fn content<'a>(
+    scratch: &'a mut Vec<u8>,
     is_huffman: bool,
-    body: &[u8],
-) -> Result<String, DecodingError>
-    ensures { GivesUnlessMemory (λ t. string_bytes t) result (content is_huffman body.now) }
+    body: &'a [u8],
+) -> Result<&'a str, DecodingError>
+    ensures { GivesUnlessMemory (λ t. t.now) result (content is_huffman body.now) }
 {
     if !is_huffman {
-        return copied(alloc, body);
+        return text_by(body, body.is_ascii());
     }
-    decoded(scratch, body)?;
-    copied(alloc, scratch.as_slice())
+    let is_ascii = decoded(scratch, body)?;
+    text_by(scratch.as_slice(), is_ascii)
 }
 
 /// The flag H, the bit above the prefix.
@@ -88,7 +83,8 @@ fn has_flag<const N: u32>(bytes: &[u8]) -> bool
     u64::from(bytes[0]) / (1u64 << N) % 2 == 1
 }
 
-/// The string at the front, its length in the low `N` bits of the first byte, and the bytes behind it.
+/// The string at the front, its length in the low `N` bits of the first byte, and the bytes behind it. Its text is
+/// allocated once, at its size.
 #[inline(always)]
 #[tactic(auto, unfolding(crate::specs::StringLiteral::string_at))]
 pub fn read<'a, const N: u32>(
@@ -105,8 +101,8 @@ pub fn read<'a, const N: u32>(
         return Err(DecodingError::UnexpectedFin);
     }
     let (body, behind) = rest.split_at(size as usize);
-    let text = content(alloc, scratch, has_flag::<N>(bytes), body)?;
-    Ok((text, behind))
+    let text = content(scratch, has_flag::<N>(bytes), body)?;
+    Ok((String::from_str(alloc, text)?, behind))
 }
 
 /// How long the text is in the Huffman code, where that is strictly shorter.
@@ -125,17 +121,61 @@ pub fn write<const N: u32>(out: &mut Vec<u8>, flags: u8, text: &str) -> Result<(
     ensures { OnOk result (out.new.items ≡ out.old.items ++ encoded_string N flags text.now) }
 {
     let bytes = text.as_bytes();
-    match shorter_len(bytes) {
-        Some(size) => {
-            integer::write::<N>(out, flags * 2 + 1, size as u64)?;
-            huffman::append(out, bytes)?;
-        }
-        None => {
-            integer::write::<N>(out, flags * 2, bytes.len() as u64)?;
-            out.extend_from_slice(bytes)?;
-        }
+    if bytes.len() < 1 << N {
+        write_short::<N>(out, flags, bytes)
+    } else {
+        write_long::<N>(out, flags, bytes)
     }
+}
+
+/// The same for a text so short that the length of its code is in the first byte, where the code is shorter. So the
+/// code is made behind that byte, and counted then.
+fn write_short<const N: u32>(out: &mut Vec<u8>, flags: u8, text: &[u8]) -> Result<(), AllocError>
+    requires some { 1 ≤ N }
+    requires few { N ≤ 7 }
+    requires small { flags < 64 }
+    requires above { flags * 2 + 1 < 2 ^ (8 - N) }
+    requires short { length text.now < 2 ^ N }
+    ensures { OnOk result (out.new.items ≡ out.old.items ++ encoded_string N flags text.now) }
+{
+    let start = out.len();
+    out.push(0)?;
+    huffman::append(out, text)?;
+    let size = out.len() - start - 1;
+    if size < text.len() {
+        out[start] = integer::only_byte::<N>(flags * 2 + 1, size as u64);
+        return Ok(());
+    }
+    out.truncate(start);
+    write_plain::<N>(out, flags, text)
+}
+
+/// The same for any text, whose code is counted before it is made.
+fn write_long<const N: u32>(out: &mut Vec<u8>, flags: u8, text: &[u8]) -> Result<(), AllocError>
+    requires some { 1 ≤ N }
+    requires few { N ≤ 7 }
+    requires small { flags < 64 }
+    requires above { flags * 2 + 1 < 2 ^ (8 - N) }
+    ensures { OnOk result (out.new.items ≡ out.old.items ++ encoded_string N flags text.now) }
+{
+    let Some(size) = shorter_len(text) else {
+        return write_plain::<N>(out, flags, text);
+    };
+    integer::write::<N>(out, flags * 2 + 1, size as u64)?;
+    huffman::append(out, text)?;
     Ok(())
+}
+
+/// Appends a text as it is, behind its length.
+fn write_plain<const N: u32>(out: &mut Vec<u8>, flags: u8, text: &[u8]) -> Result<(), AllocError>
+    requires some { 1 ≤ N }
+    requires few { N ≤ 7 }
+    requires small { flags < 64 }
+    requires above { flags * 2 + 1 < 2 ^ (8 - N) }
+    ensures { OnOk result (out.new.items ≡ out.old.items ++ (shortest_int N (flags * 2) (length text.now) ++ text.now)) }
+{
+    integer::write::<N>(out, flags * 2, text.len() as u64)?;
+    out.extend_from_slice(text)
 }
 
 #[cfg(test)]

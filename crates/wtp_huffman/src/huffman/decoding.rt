@@ -1,8 +1,8 @@
 //! From code words to a text.
-ghost use Rattle.std.specs.Prelude.{◌≡◌, ℕ, ◌+◌, ◌-◌, ◌*◌, ◌<◌, ◌≤◌, ◌^◌, List, [], ◌∷◌, ◌++◌, length, take, IfOk, OnOk, MatchResult, IsOk, IsTrue, ◌↔◌};
+ghost use Rattle.std.specs.Prelude.{◌≡◌, ℕ, Bool, ◌+◌, ◌-◌, ◌*◌, ◌<◌, ◌≤◌, ◌^◌, List, [], ◌∷◌, ◌++◌, length, take, IfOk, OnOk, MatchResult, IsOk, IsTrue, ◌↔◌};
 ghost use Rattle.std.specs.Vec.{vec_len, vec_capacity};
 ghost use Rattle.wtp_huffman.specs.Huffman.{bits_of, low_bits, IsHuffman};
-ghost use Rattle.wtp_huffman.specs.HuffmanSteps.{waiting_bits, IsClear, IsCodedOn, Takes};
+ghost use Rattle.wtp_huffman.specs.HuffmanSteps.{waiting_bits, IsClear, IsCodedOn, Takes, TellsAscii};
 ghost use Rattle.wtp_huffman.specs.HuffmanTables.{front, InRow, IsWord};
 ghost use Rattle.wtp_huffman.specs.declared.huffman.HuffmanError.TheVariants.{Invalid, Memory};
 
@@ -36,7 +36,7 @@ pub fn decode(alloc: Global, text: &[u8]) -> Result<Vec<u8>, HuffmanError>
     ensures only { (t : List ℕ) → IsHuffman t text.now → MatchResult result (λ v. v.items ≡ t) (λ e. e ≡ Memory) }
     ensures empty { length text.now ≡ 0 → IsOk result }
 {
-    decoded_in(Vec::with_capacity(alloc, most_bytes(text))?, text)
+    Ok(decoded_in(Vec::with_capacity(alloc, most_bytes(text))?, text)?.0)
 }
 
 /// The most bytes that a coded text stands for: one for each five bits.
@@ -47,40 +47,45 @@ fn most_bytes(text: &[u8]) -> usize
     text.len() / 5 * 8 + text.len() % 5 * 8 / 5
 }
 
-/// Puts the text that is coded so in the place of what stood in `out`. Where `out` has too little room, memory is
+/// Puts the text that is coded so in the place of what stood in `out`, and answers whether it is ASCII. That is asked
+/// of few bytes, since all words of at most eight bits stand for ASCII. Where `out` has too little room, memory is
 /// taken at once, twice the code's length, which is more than enough and soon computed.
-pub fn decode_into(out: &mut Vec<u8>, text: &[u8]) -> Result<(), HuffmanError>
+pub fn decode_into(out: &mut Vec<u8>, text: &[u8]) -> Result<bool, HuffmanError>
     ensures found { OnOk result (IsHuffman out.new.items text.now) }
     ensures only { (t : List ℕ) → IsHuffman t text.now → MatchResult result (λ _. out.new.items ≡ t) (λ e. e ≡ Memory) }
+    ensures ascii { IfOk result (λ is_ascii. TellsAscii is_ascii out.new.items) }
     ensures empty { length text.now ≡ 0 → IsOk result }
 {
     out.clear();
     out.reserve(text.len() * 2)?;
     let none = Vec::new(*out.allocator());
-    *out = decoded_in(replace(out, none), text)?;
-    Ok(())
+    let (decoded, is_ascii) = decoded_in(replace(out, none), text)?;
+    *out = decoded;
+    Ok(is_ascii)
 }
 
-/// The text that is coded so, put into an empty vector that has room for a byte for each five bits. The vector comes
-/// and goes by value, so that the compiler keeps its length in a register.
+/// The text that is coded so, put into an empty vector that has room for a byte for each five bits, and whether it is
+/// ASCII. The vector comes and goes by value, so that the compiler keeps its length in a register.
 #[inline(always)]
-fn decoded_in(mut out: Vec<u8>, text: &[u8]) -> Result<Vec<u8>, HuffmanError>
+fn decoded_in(mut out: Vec<u8>, text: &[u8]) -> Result<(Vec<u8>, bool), HuffmanError>
     requires none { out.items ≡ [] }
     requires len { vec_len out ≡ 0 }
     requires room { 8 * length text.now < 5 * vec_capacity out + 5 }
-    ensures found { IfOk result (λ t. IsHuffman t.items text.now) }
-    ensures only { (t : List ℕ) → IsHuffman t text.now → MatchResult result (λ v. v.items ≡ t) (λ e. e ≡ Memory) }
+    ensures found { IfOk result (λ r. IsHuffman r.0.items text.now) }
+    ensures only { (t : List ℕ) → IsHuffman t text.now → MatchResult result (λ r. r.0.items ≡ t) (λ e. e ≡ Memory) }
+    ensures ascii { IfOk result (λ r. TellsAscii r.1 r.0.items) }
     ensures empty { length text.now ≡ 0 → IsOk result }
 {
     let mut rest = text;
     let mut waiting = 0;
     let mut held = 0;
+    let mut is_ascii = true;
     'windows: loop {
         (rest, waiting, held) = refilled(rest, waiting, held);
         if held < 30 {
             break;
         }
-        (waiting, held) = words_taken(&mut out, waiting, held)?;
+        (waiting, held, is_ascii) = words_taken(&mut out, waiting, held, is_ascii)?;
     }
     'last: loop {
         if held >= 12 && waiting < SHORT_END {
@@ -89,13 +94,13 @@ fn decoded_in(mut out: Vec<u8>, text: &[u8]) -> Result<Vec<u8>, HuffmanError>
         }
         let window = last_window(waiting, held);
         if is_padding(window, held) {
-            return Ok(out);
+            return Ok((out, is_ascii));
         }
         let word = word_at(window);
         if word.bits > held {
             return Err(HuffmanError::Invalid);
         }
-        out.push_reserved(byte_of(word)?);
+        is_ascii = push_any(&mut out, byte_of(word)?, is_ascii);
         held -= word.bits;
         waiting <<= word.bits;
     }
@@ -104,7 +109,12 @@ fn decoded_in(mut out: Vec<u8>, text: &[u8]) -> Result<Vec<u8>, HuffmanError>
 /// Takes one word or a few from the front of the bits that wait, and answers what still waits. There is room for a byte
 /// for each five of the bits.
 #[inline(always)]
-fn words_taken(out: &mut Vec<u8>, waiting: u64, held: u32) -> Result<(u64, u32), HuffmanError>
+fn words_taken(
+    out: &mut Vec<u8>,
+    waiting: u64,
+    held: u32,
+    is_ascii: bool,
+) -> Result<(u64, u32, bool), HuffmanError>
     requires enough { 30 ≤ held }
     requires few { held < 64 }
     requires clear { IsClear held waiting }
@@ -113,20 +123,27 @@ fn words_taken(out: &mut Vec<u8>, waiting: u64, held: u32) -> Result<(u64, u32),
     ensures fails { IsCodedOn out.old.items held waiting → IsOk result }
     ensures room { IfOk result (λ r. 5 * vec_len out.new + r.1 ≤ 5 * vec_len out.old + held) }
     ensures same { vec_capacity out.new ≡ vec_capacity out.old }
+    ensures ascii { IfOk result (λ r. TellsAscii is_ascii out.old.items → TellsAscii r.2 out.new.items) }
 {
     if waiting >= SHORT_END {
-        return word_taken(out, waiting, held);
+        return word_taken(out, waiting, held, is_ascii);
     }
     let (waiting, held) = short_taken(out, waiting, held);
     if waiting >= SHORT_END {
-        return Ok((waiting, held));
+        return Ok((waiting, held, is_ascii));
     }
-    Ok(short_taken(out, waiting, held))
+    let (waiting, held) = short_taken(out, waiting, held);
+    Ok((waiting, held, is_ascii))
 }
 
 /// Takes the word at the front of the bits that wait.
 #[inline(always)]
-fn word_taken(out: &mut Vec<u8>, waiting: u64, held: u32) -> Result<(u64, u32), HuffmanError>
+fn word_taken(
+    out: &mut Vec<u8>,
+    waiting: u64,
+    held: u32,
+    is_ascii: bool,
+) -> Result<(u64, u32, bool), HuffmanError>
     requires enough { 30 ≤ held }
     requires few { held < 64 }
     requires clear { IsClear held waiting }
@@ -135,13 +152,28 @@ fn word_taken(out: &mut Vec<u8>, waiting: u64, held: u32) -> Result<(u64, u32), 
     ensures fails { IsCodedOn out.old.items held waiting → IsOk result }
     ensures room { IfOk result (λ r. 5 * vec_len out.new + r.1 ≤ 5 * vec_len out.old + held) }
     ensures same { vec_capacity out.new ≡ vec_capacity out.old }
+    ensures ascii { IfOk result (λ r. TellsAscii is_ascii out.old.items → TellsAscii r.2 out.new.items) }
 {
     let word = word_at((waiting >> 34) as u32);
-    out.push_reserved(byte_of(word)?);
-    Ok((waiting << word.bits, held - word.bits))
+    let is_ascii = push_any(out, byte_of(word)?, is_ascii);
+    Ok((waiting << word.bits, held - word.bits, is_ascii))
 }
 
-/// Takes the one or two words of at most eight bits that lie within the first twelve of those that wait.
+/// Appends a byte, and answers whether the text is ASCII, as it was or was not without it.
+#[inline(always)]
+fn push_any(out: &mut Vec<u8>, byte: u8, is_ascii: bool) -> bool
+    requires room { vec_len out.old < vec_capacity out.old }
+    ensures items { out.new.items ≡ out.old.items ++ byte ∷ [] }
+    ensures len { vec_len out.new ≡ vec_len out.old + 1 }
+    ensures same { vec_capacity out.new ≡ vec_capacity out.old }
+    ensures ascii { TellsAscii is_ascii out.old.items → TellsAscii result out.new.items }
+{
+    out.push_reserved(byte);
+    is_ascii && byte < 128
+}
+
+/// Takes the one or two words of at most eight bits that lie within the first twelve of those that wait. They stand
+/// for ASCII.
 #[inline(always)]
 fn short_taken(out: &mut Vec<u8>, waiting: u64, held: u32) -> (u64, u32)
     requires enough { 12 ≤ held }
@@ -153,6 +185,7 @@ fn short_taken(out: &mut Vec<u8>, waiting: u64, held: u32) -> (u64, u32)
     ensures most { held ≤ result.1 + 12 }
     ensures room { 5 * vec_len out.new + result.1 ≤ 5 * vec_len out.old + held }
     ensures same { vec_capacity out.new ≡ vec_capacity out.old }
+    ensures ascii { (is_ascii : Bool) → TellsAscii is_ascii out.old.items → TellsAscii is_ascii out.new.items }
 {
     let (bits, spare, first, second) = pair_entry((waiting >> 52) as usize);
     push_some(out, first, second, spare as usize);

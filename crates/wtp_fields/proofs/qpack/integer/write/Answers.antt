@@ -1,16 +1,12 @@
 use Rattle.std.proofs.Common.{arith}
-use Rattle.wtp_fields.proofs.IntegerWriting.{first_fits, writes_first, writes_more, writes_last, writes_short}
+use Rattle.wtp_fields.proofs.IntegerWriting.{first_fits, writes_first, writes_more, writes_last}
 use Rattle.wtp_fields.proofs.qpack.integer.write.Goals as goal
 
-pub overflow_cast-top : goal.overflow_cast-top
-overflow_cast-top g c = record { fits = rw c.from.ensures (first_fits g.row.N c.args.flags c.ones-ones.result c.args.value c.requires.few c.requires.above c.ones-ones.ensures (omega arith)) }
-
-pub overflow_cast-top-2 : goal.overflow_cast-top-2
-overflow_cast-top-2 g c = record { fits = rw c.from.ensures (first_fits g.row.N c.args.flags c.ones-ones.result c.ones-ones.result c.requires.few c.requires.above c.ones-ones.ensures (omega arith)) }
+pub overflow_cast-from : goal.overflow_cast-from
+overflow_cast-from g c = record { fits = rw c.from.ensures (first_fits g.row.N c.args.flags c.ones-ones.result c.ones-ones.result c.requires.few c.requires.above c.ones-ones.ensures (omega arith)) }
 
 pub returns-then-value-ones : goal.returns-then-value-ones
-returns-then-value-ones g c =
-    writes_short g.row.N c.args.flags c.ones-ones.result c.args.value c.args.out.now.items _ c.ones-ones.ensures c.if-value-ones.true (rw (← c.from.ensures) c.in_ok-push.ensures.items)
+returns-then-value-ones g c = rw (← c.only_byte.ensures) c.in_ok-push.ensures.items
 
 pub loop-left-init : goal.loop-left-init
 loop-left-init g c =

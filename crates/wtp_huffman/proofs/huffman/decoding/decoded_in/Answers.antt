@@ -2,6 +2,7 @@ use Rattle.std.proofs.Common.{◌≡◌, ◌≤◌, ◌<◌, ◌-◌, ◌/◌, �
 use Rattle.wtp_huffman.specs.Huffman.{bits_of, low_bits, IsPadding}
 use Rattle.wtp_huffman.specs.HuffmanSteps.{Reads, waiting_bits}
 use Rattle.wtp_huffman.specs.HuffmanTables.{IsWord, front}
+use Rattle.wtp_huffman.proofs.HuffmanAscii.{none_ascii}
 use Rattle.wtp_huffman.proofs.HuffmanBits.{low_bits_length}
 use Rattle.wtp_huffman.proofs.HuffmanWindows.{moved_on, padding_from, padding_window}
 use Rattle.wtp_huffman.proofs.HuffmanPairs.{takes_last}
@@ -11,7 +12,7 @@ use Rattle.wtp_huffman.proofs.huffman.decoding.decoded_in.Goals as goal
 
 pub windows-init : goal.windows-init
 unfolding low_bits
-windows-init c = record { reads = rw c.requires.none (reads_none c.args.text.now); clear = (search rules); few = omega arith; start = omega arith; room = omega (arith, c.requires.room, c.requires.len) }
+windows-init c = record { reads = rw c.requires.none (reads_none c.args.text.now); clear = (search rules); few = omega arith; start = omega arith; ascii = rw c.requires.none none_ascii; room = omega (arith, c.requires.room, c.requires.len) }
 
 pub windows-preserved : goal.windows-preserved
 windows-preserved c =
@@ -24,6 +25,7 @@ windows-preserved c =
       clear = step.clear;
       few = omega (arith, step.fewer, c.refilled.ensures.few);
       start = omega (arith, step.fewer, c.windows.invariant.start, c.refilled.ensures.size);
+      ascii = c.in_ok-waiting.ensures.ascii c.windows.invariant.ascii;
       room = omega (arith, c.in_ok-waiting.ensures.room, c.words_taken.ensures.same, c.windows.invariant.room, c.refilled.ensures.size);
     }
 
@@ -48,6 +50,7 @@ last-init c =
       clear = c.refilled.ensures.clear;
       few = c.if-held-lt30.true;
       start = omega (arith, c.windows.invariant.start, c.refilled.ensures.size);
+      ascii = c.windows.invariant.ascii;
       room = omega (arith, c.windows.invariant.room, c.refilled.ensures.size);
     }
 
@@ -100,11 +103,12 @@ last-preserved c =
     let enough : c.word_at-word.result.bits ≤ c.last.held = omega arith in
     let byte : c.word_at-word.result.symbol < 256 = omega (arith, c.in_ok-byte_of.ensures.0, c.in_ok-byte_of.ensures.1) in
     record {
-      reads = rw (c.push_reserved.ensures.items, c.in_ok-byte_of.ensures.0) (reads_last _ _ c.last.held c.last.waiting _ _ c.last.invariant.reads word enough (omega (arith, c.last.invariant.few)) c.last.invariant.clear byte);
+      reads = rw (c.push_any-is_ascii.ensures.items, c.in_ok-byte_of.ensures.0) (reads_last _ _ c.last.held c.last.waiting _ _ c.last.invariant.reads word enough (omega (arith, c.last.invariant.few)) c.last.invariant.clear byte);
       clear = (moved_on c.word_at-word.result.bits c.last.held c.last.waiting enough (omega (arith, c.last.invariant.few)) c.last.invariant.clear).1;
       few = omega (arith, c.last.invariant.few);
       start = omega (arith, c.last.invariant.start);
-      room = omega (arith, c.last.invariant.room, c.push_reserved.ensures.len, c.push_reserved.ensures.capacity, c.word_at-word.ensures.least, enough);
+      ascii = c.push_any-is_ascii.ensures.ascii c.last.invariant.ascii;
+      room = omega (arith, c.last.invariant.room, c.push_any-is_ascii.ensures.len, c.push_any-is_ascii.ensures.same, c.word_at-word.ensures.least, enough);
     }
 
 pub last-preserved-then-waiting-lt-SHORT_END : goal.last-preserved-then-waiting-lt-SHORT_END
@@ -115,5 +119,6 @@ last-preserved-then-waiting-lt-SHORT_END c =
       clear = step.clear;
       few = omega (arith, step.fewer, c.last.invariant.few);
       start = omega (arith, step.fewer, c.last.invariant.start);
+      ascii = c.short_taken.ensures.ascii c.last.is_ascii c.last.invariant.ascii;
       room = omega (arith, c.last.invariant.room, c.short_taken.ensures.room, c.short_taken.ensures.same);
     }

@@ -1,7 +1,7 @@
 use Rattle.std.proofs.Common.{◌+◌, ◌*◌, ◌<◌, ◌≤◌, ◌++◌, length}
 use Rattle.std.specs.Vec.{vec_len, vec_capacity}
 use Rattle.wtp_huffman.specs.Huffman.{bits_of}
-use Rattle.wtp_huffman.specs.HuffmanSteps.{Reads, waiting_bits, IsClear}
+use Rattle.wtp_huffman.specs.HuffmanSteps.{Reads, waiting_bits, IsClear, TellsAscii}
 use Rattle.wtp_huffman.proofs.huffman.decoding.decoded_in.Given as goal
 
 abbrev pub invariant-windows : goal.invariant-windows
@@ -11,6 +11,7 @@ invariant-windows l =
       clear : IsClear l.held l.waiting;
       few : l.held < 64;
       start : 8 * length l.rest + l.held ≤ 8 * length l.text;
+      ascii : TellsAscii l.is_ascii l.out.items;
       room : 5 * vec_len l.out + (8 * length l.rest + l.held) < 5 * vec_capacity l.out + 5;
     }
 
@@ -24,6 +25,7 @@ invariant-last l =
       clear : IsClear l.held l.waiting;
       few : l.held < 30;
       start : l.held ≤ 8 * length l.text;
+      ascii : TellsAscii l.is_ascii l.out.items;
       room : 5 * vec_len l.out + l.held < 5 * vec_capacity l.out + 5;
     }
 

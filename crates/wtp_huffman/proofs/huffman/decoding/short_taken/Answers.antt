@@ -1,5 +1,6 @@
-use Rattle.std.proofs.Common.{rules, arith, ◌<◌, ◌/◌, refl}
+use Rattle.std.proofs.Common.{rules, arith, ℕ, ◌<◌, ◌-◌, ◌/◌, refl}
 use Rattle.wtp_huffman.specs.HuffmanTables.{pair_second_at, short_byte_at}
+use Rattle.wtp_huffman.proofs.HuffmanAscii.{pair_ascii, stays}
 use Rattle.wtp_huffman.proofs.HuffmanPairs.{limits, takes_pair}
 use Rattle.wtp_huffman.proofs.huffman.decoding.short_taken.Goals as goal
 
@@ -32,3 +33,9 @@ returns-clause-taken c =
 pub returns-clause-room : goal.returns-clause-room
 returns-clause-room c =
     omega (arith, (limits (c.args.waiting / 4503599627370496) (omega (arith, c.requires.short))).each, (limits (c.args.waiting / 4503599627370496) (omega (arith, c.requires.short))).most, (limits (c.args.waiting / 4503599627370496) (omega (arith, c.requires.short))).some, c.pair_entry-bits.ensures.bits, c.pair_entry-bits.ensures.count, c.from.ensures, c.push_some.ensures.len, c.requires.enough)
+
+pub returns-clause-ascii : goal.returns-clause-ascii
+returns-clause-ascii c = λ is_ascii told.
+    let i : ℕ = c.args.waiting / 4503599627370496 in
+    let more = pair_ascii (2 - c.pair_entry-bits.result.1) i (omega (arith, c.requires.short)) in
+    rw (c.push_some.ensures.items, c.pair_entry-bits.ensures.first, c.pair_entry-bits.ensures.second) (stays is_ascii c.args.out.now.items _ more told)

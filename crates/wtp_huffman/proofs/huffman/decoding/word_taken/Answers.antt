@@ -26,7 +26,7 @@ returns-clause-taken c =
           let bits : List Bool = waiting_bits c.args.held c.args.waiting ++ behind in
           let v : c.args.waiting / 17179869184 ≡ front 30 bits = (whole_window c.args.held c.args.waiting behind c.requires.enough (omega (arith, c.requires.few)) small).0 in
           let word = rw v at c.word_at-word.ensures in
-          rw (c.push_reserved.ensures.items, c.in_ok-byte_of.ensures.0) (reads_on _ _ c.args.held c.args.waiting _ _ behind d word enough (omega (arith, c.requires.few)) c.requires.clear byte);
+          rw (c.push_any-is_ascii.ensures.items, c.in_ok-byte_of.ensures.0) (reads_on _ _ c.args.held c.args.waiting _ _ behind d word enough (omega (arith, c.requires.few)) c.requires.clear byte);
       clear = (moved_on c.word_at-word.result.bits c.args.held c.args.waiting enough (omega (arith, c.requires.few)) c.requires.clear).1;
       fewer = omega (arith, c.word_at-word.ensures.least, c.requires.enough);
     }

@@ -1,5 +1,4 @@
 use Rattle.std.proofs.Common.{codes, sym, subst, refl}
-use Rattle.wtp_fields.specs.Field.{put}
 use Rattle.wtp_fields.specs.SessionResponse.{HasStatus}
 use Rattle.wtp_fields.proofs.ResponseLemmas.{status_put, status_written}
 use Rattle.wtp_fields.proofs.session.response.SessionResponse.with_status_code.Goals as goal
