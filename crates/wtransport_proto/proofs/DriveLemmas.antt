@@ -7,14 +7,16 @@ use Rattle.wtp_core.specs.Source.{Source, Telling}
 use Rattle.wtp_core.specs.Polled.{Asks}
 use Rattle.wtp_core.proofs.TellingLemmas.{telling_map, telling_same, telling_then, telling_both}
 use Rattle.wtp_wire.specs.Content.{Content}
-use Rattle.wtp_wire.specs.Held.{Held, Leaves}
+use Rattle.wtp_wire.specs.Held.{Held, IsUnfinished, Leaves}
 use Rattle.wtransport_proto.specs.declared.stream.polled.IoReadError.{IoReadError}
 use Rattle.wtransport_proto.specs.declared.stream.driving.Driven.TheVariants as driven
 use Rattle.wtransport_proto.specs.Rule.{Role}
 use Rattle.wtransport_proto.specs.Run.{Run}
 use Rattle.wtransport_proto.specs.HeldRun.{run_of, size_of}
 use Rattle.wtransport_proto.specs.StreamPolling.{EndsSo, Faults, TakesFrame, PassesUnknown, StreamPolled}
-use Rattle.wtransport_proto.specs.Driving.{ChangesFirst, after, RunsOn, DriveKeeps, DriveDid, Drove}
+use Rattle.wtransport_proto.specs.Place.{Place, place_of, StopsAt}
+use Rattle.wtransport_proto.specs.Driving.{ChangesFirst, after, RunsOn, KeepsPlace, DriveKeeps, DriveDid, Drove}
+use Rattle.wtransport_proto.proofs.PlaceLemmas.{same_refl, same_then, leaves_place, unknown_place, frame_place, fault_place}
 use Rattle.wtransport_proto.proofs.HeldRunLemmas.{leaves_run, leaves_size, unknown_run, unknown_size, frame_run, framed_size}
 
 -- ---- the stream
@@ -78,6 +80,7 @@ asks_last n polls a b c lt g k = asks_within (n + 1) polls a c (omega arith) (as
 pub drove_start : (role : Role) (first : Bool) (h : Held) (fs : List Content) (a : Source) → fs ≡ [] → Drove role first first h h fs 0 a a
 drove_start role first h fs a none = record {
   run = after_none fs (run_of role first h a) none;
+  place = same_refl (place_of role first h a);
   shorter = omega arith;
   asks = record { asked = omega arith; no_less = omega arith; ending = refl; waits = omega arith };
 }
@@ -85,19 +88,24 @@ drove_start role first h fs a none = record {
 drove_frame : (role : Role) (f0 f1 f2 : Bool) (old mid new : Held) (fs fs' : List Content) (f : Content) (n : ℕ) (a b c : Source) → fs' ≡ fs ++ f ∷ [] → Drove role f0 f1 old mid fs n a b → TakesFrame role f1 f2 mid new f b c → Asks 4112 b c → Drove role f0 f2 old new fs' (n + 1) a c
 drove_frame role f0 f1 f2 old mid new fs fs' f n a b c is g t k = record {
   run = g.run ∙ ap (after fs) (frame_run role f1 f2 mid new f b c t k.ending) ∙ after_more fs f (run_of role f2 new c) ∙ ap (λ (l : List Content). after l (run_of role f2 new c)) (sym is);
+  place = same_then (place_of role f0 old a) (place_of role f1 mid b) (place_of role f2 new c) g.place (frame_place role f1 f2 mid new f b c t);
   shorter = let one = g.shorter in let two = framed_size mid new f b c t.decided in omega arith;
   asks = asks_more n a b c g.asks k;
 }
 
-drove_unknown : (role : Role) (f0 f1 f2 : Bool) (old mid new : Held) (fs : List Content) (n : ℕ) (a b c : Source) → Drove role f0 f1 old mid fs n a b → PassesUnknown f1 f2 mid new b c → Asks 4112 b c → Drove role f0 f2 old new fs (n + 1) a c
-drove_unknown role f0 f1 f2 old mid new fs n a b c g t k = record {
+drove_unknown : (role : Role) (f0 f1 f2 : Bool) (old mid new : Held) (fs : List Content) (n : ℕ) (a b c : Source) → IsUnfinished mid → Drove role f0 f1 old mid fs n a b → PassesUnknown f1 f2 mid new b c → Asks 4112 b c → Drove role f0 f2 old new fs (n + 1) a c
+drove_unknown role f0 f1 f2 old mid new fs n a b c u g t k = record {
   run = g.run ∙ ap (after fs) (unknown_run role f1 f2 mid new b c t k.ending);
+  place = same_then (place_of role f0 old a) (place_of role f1 mid b) (place_of role f2 new c) g.place (unknown_place role f1 f2 mid new b c u t);
   shorter = let one = g.shorter in let two = unknown_size f1 f2 mid new b c t in omega arith;
   asks = asks_more n a b c g.asks k;
 }
 
 runs_after : (role : Role) (f0 f1 f2 : Bool) (old mid new : Held) (fs : List Content) (n : ℕ) (a b c : Source) → Drove role f0 f1 old mid fs n a b → Leaves mid new b c → f2 ≡ f1 → Asks 4112 b c → RunsOn role f0 f2 old new fs a c
 runs_after role f0 f1 f2 old mid new fs n a b c g v e k = g.run ∙ ap (after fs) (leaves_run role f1 mid new b c v k.ending ∙ ap (λ (x : Bool). run_of role x new c) (sym e))
+
+place_after : (role : Role) (f0 f1 f2 : Bool) (old mid new : Held) (fs : List Content) (n : ℕ) (a b c : Source) → IsUnfinished mid → Drove role f0 f1 old mid fs n a b → Leaves mid new b c → f2 ≡ f1 → KeepsPlace role f0 f2 old new a c
+place_after role f0 f1 f2 old mid new fs n a b c u g v e = same_then (place_of role f0 old a) (place_of role f1 mid b) (place_of role f2 new c) g.place (leaves_place role f1 f2 mid new b c u v e)
 
 keeps_after : (role : Role) (f0 f1 : Bool) (old mid new : Held) (fs : List Content) (n polls : ℕ) (a b c : Source) → n < polls → Drove role f0 f1 old mid fs n a b → size_of new c ≤ size_of mid b → Asks 4112 b c → DriveKeeps old new polls a c
 keeps_after role f0 f1 old mid new fs n polls a b c lt g s k = record {
@@ -118,50 +126,53 @@ pub told_full : (s t : Option Source) (role : Role) (f0 f1 : Bool) (r0 r1 : Held
     → Telling s t (DriveDid role driven.NoMemory f0 f1 r0 r1 fs polls)
 told_full s t role f0 f1 r0 r1 fs n polls l p =
     telling_map s t (Drove role f0 f1 r0 r1 fs n) (DriveDid role driven.NoMemory f0 f1 r0 r1 fs polls)
-    (λ a b g. (g.run, record { size = let one = g.shorter in omega arith; asks = asks_within n polls a b l g.asks })) p
+    (λ a b g. (g.run, record { size = let one = g.shorter in omega arith; asks = asks_within n polls a b l g.asks }, g.place)) p
 
 pub told_spent : (s t : Option Source) (role : Role) (f0 f1 : Bool) (r0 r1 : Held) (fs : List Content) (polls : ℕ)
     → Telling s t (Drove role f0 f1 r0 r1 fs polls)
     → Telling s t (DriveDid role driven.Spent f0 f1 r0 r1 fs polls)
 told_spent s t role f0 f1 r0 r1 fs polls p =
     telling_map s t (Drove role f0 f1 r0 r1 fs polls) (DriveDid role driven.Spent f0 f1 r0 r1 fs polls)
-    (λ a b g. (g.run, g.shorter, record { size = let one = g.shorter in omega arith; asks = g.asks })) p
+    (λ a b g. (g.run, g.shorter, record { size = let one = g.shorter in omega arith; asks = g.asks }, g.place)) p
 
-pub told_still : (s t u : Option Source) (role : Role) (f0 f1 f2 : Bool) (r0 r1 r2 : Held) (fs : List Content) (n polls : ℕ) → n < polls
+pub told_still : (s t u : Option Source) (role : Role) (f0 f1 f2 : Bool) (r0 r1 r2 : Held) (fs : List Content) (n polls : ℕ) → n < polls → IsUnfinished r1
     → Telling s t (Drove role f0 f1 r0 r1 fs n)
     → Telling t u (StreamPolled role NoMemory f1 f2 r1 r2) → Telling t u (Asks 4112)
     → Telling s u (DriveDid role driven.NoMemory f0 f2 r0 r2 fs polls)
-told_still s t u role f0 f1 f2 r0 r1 r2 fs n polls lt p q k =
+told_still s t u role f0 f1 f2 r0 r1 r2 fs n polls lt unfinished p q k =
     telling_then s t u (Drove role f0 f1 r0 r1 fs n) (λ b c. StreamPolled role NoMemory f1 f2 r1 r2 b c × Asks 4112 b c) (DriveDid role driven.NoMemory f0 f2 r0 r2 fs polls)
     (λ a b c g h. (
       runs_after role f0 f1 f2 r0 r1 r2 fs n a b c g h.0.leaves h.0.flag h.1,
       keeps_after role f0 f1 r0 r1 r2 fs n polls a b c lt g (leaves_size r1 r2 b c h.0.leaves) h.1,
+      place_after role f0 f1 f2 r0 r1 r2 fs n a b c unfinished g h.0.leaves h.0.flag,
     ))
     p (telling_both t u (StreamPolled role NoMemory f1 f2 r1 r2) (Asks 4112) q k)
 
-pub told_waiting : (s t u : Option Source) (role : Role) (f0 f1 f2 : Bool) (r0 r1 r2 : Held) (fs : List Content) (n polls : ℕ) → n < polls
+pub told_waiting : (s t u : Option Source) (role : Role) (f0 f1 f2 : Bool) (r0 r1 r2 : Held) (fs : List Content) (n polls : ℕ) → n < polls → IsUnfinished r1
     → Telling s t (Drove role f0 f1 r0 r1 fs n)
     → Telling t u (StreamPolled role Pending f1 f2 r1 r2) → Telling t u (Asks 4112)
     → Telling s u (DriveDid role driven.Waiting f0 f2 r0 r2 fs polls)
-told_waiting s t u role f0 f1 f2 r0 r1 r2 fs n polls lt p q k =
+told_waiting s t u role f0 f1 f2 r0 r1 r2 fs n polls lt unfinished p q k =
     telling_then s t u (Drove role f0 f1 r0 r1 fs n) (λ b c. StreamPolled role Pending f1 f2 r1 r2 b c × Asks 4112 b c) (DriveDid role driven.Waiting f0 f2 r0 r2 fs polls)
     (λ a b c g h. (
       runs_after role f0 f1 f2 r0 r1 r2 fs n a b c g h.0.0 h.0.1 h.1,
       let one = g.asks.waits in let two = h.0.2 in omega arith,
       keeps_after role f0 f1 r0 r1 r2 fs n polls a b c lt g (leaves_size r1 r2 b c h.0.0) h.1,
+      place_after role f0 f1 f2 r0 r1 r2 fs n a b c unfinished g h.0.0 h.0.1,
     ))
     p (telling_both t u (StreamPolled role Pending f1 f2 r1 r2) (Asks 4112) q k)
 
-pub told_ended : (s t u : Option Source) (role : Role) (f0 f1 f2 : Bool) (r0 r1 r2 : Held) (fs : List Content) (x : IoReadError) (n polls : ℕ) → n < polls
+pub told_ended : (s t u : Option Source) (role : Role) (f0 f1 f2 : Bool) (r0 r1 r2 : Held) (fs : List Content) (x : IoReadError) (n polls : ℕ) → n < polls → IsUnfinished r1
     → Telling s t (Drove role f0 f1 r0 r1 fs n)
     → Telling t u (StreamPolled role (Ready (Err x)) f1 f2 r1 r2) → Telling t u (Asks 4112)
     → Telling s u (DriveDid role (driven.Ended x) f0 f2 r0 r2 fs polls)
-told_ended s t u role f0 f1 f2 r0 r1 r2 fs x n polls lt p q k =
+told_ended s t u role f0 f1 f2 r0 r1 r2 fs x n polls lt unfinished p q k =
     telling_then s t u (Drove role f0 f1 r0 r1 fs n) (λ b c. Faults role f1 f2 r1 r2 x b c × Asks 4112 b c) (DriveDid role (driven.Ended x) f0 f2 r0 r2 fs polls)
     (λ a b c g h. (
       ended role f0 f1 f2 r0 r1 r2 fs x n a b c g h.0,
       h.0.dry,
       keeps_after role f0 f1 r0 r1 r2 fs n polls a b c lt g h.0.size h.1,
+      fault_place role f1 f2 (place_of role f0 r0 a) r1 r2 x b c unfinished g.place h.0,
     ))
     p (telling_both t u (Faults role f1 f2 r1 r2 x) (Asks 4112) q k)
 
@@ -174,13 +185,13 @@ told_frame s t u role f0 f1 f2 r0 r1 r2 fs fs' f n is p q k =
     (λ a b c g h. drove_frame role f0 f1 f2 r0 r1 r2 fs fs' f n a b c is g h.0 h.1)
     p (telling_both t u (TakesFrame role f1 f2 r1 r2 f) (Asks 4112) q k)
 
-pub told_unknown : (s t u : Option Source) (role : Role) (f0 f1 f2 : Bool) (r0 r1 r2 : Held) (fs : List Content) (n : ℕ)
+pub told_unknown : (s t u : Option Source) (role : Role) (f0 f1 f2 : Bool) (r0 r1 r2 : Held) (fs : List Content) (n : ℕ) → IsUnfinished r1
     → Telling s t (Drove role f0 f1 r0 r1 fs n)
     → Telling t u (StreamPolled role Again f1 f2 r1 r2) → Telling t u (Asks 4112)
     → Telling s u (Drove role f0 f2 r0 r2 fs (n + 1))
-told_unknown s t u role f0 f1 f2 r0 r1 r2 fs n p q k =
+told_unknown s t u role f0 f1 f2 r0 r1 r2 fs n unfinished p q k =
     telling_then s t u (Drove role f0 f1 r0 r1 fs n) (λ b c. PassesUnknown f1 f2 r1 r2 b c × Asks 4112 b c) (Drove role f0 f2 r0 r2 fs (n + 1))
-    (λ a b c g h. drove_unknown role f0 f1 f2 r0 r1 r2 fs n a b c g h.0 h.1)
+    (λ a b c g h. drove_unknown role f0 f1 f2 r0 r1 r2 fs n a b c unfinished g h.0 h.1)
     p (telling_both t u (PassesUnknown f1 f2 r1 r2) (Asks 4112) q k)
 
 pub told_start : (s : Option Source) (role : Role) (first : Bool) (h : Held) (fs : List Content) → fs ≡ [] → Telling s s (Drove role first first h h fs 0)

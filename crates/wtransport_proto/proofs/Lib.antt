@@ -2,6 +2,8 @@ pub mod RunLemmas
 pub mod ReadingLemmas
 pub mod RunLaws
 pub mod HeldRunLemmas
+pub mod RemainderLemmas
+pub mod PlaceLemmas
 pub mod StreamPollLemmas
 pub mod DriveLemmas
 pub mod AgreeLemmas

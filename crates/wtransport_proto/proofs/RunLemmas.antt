@@ -62,7 +62,7 @@ pub past_unknown-shorter : (bytes : List ℕ) → length (past_unknown bytes) �
 unfolding past_unknown
 past_unknown-shorter bytes = past_within-shorter (length bytes) bytes
 
-past_unknown-empty : past_unknown [] ≡ []
+pub past_unknown-empty : past_unknown [] ≡ []
 past_unknown-empty = past_unknown-short [] front-empty
 
 -- ---- runs

@@ -1,17 +1,31 @@
--- How the run of bytes that may go on and that of the same bytes with an end agree.
-use Rattle.std.specs.Prelude.{◌≡◌, ℕ, ◌≤◌, List, length}
-use Rattle.wtp_wire.specs.Front.{Short, front}
-use Rattle.wtransport_proto.specs.Run.{Run, Tail, Ending, Open, H3, ImmediateFin, Reset, NotConnected, stop}
+-- How a run ends by what its frames leave, and how the run of bytes that may go on agrees with that of the same bytes with an end.
+use Rattle.std.specs.Prelude.{◌≡◌, ℕ, Bool, List, Some}
+use Rattle.wtp_core.specs.declared.error.ErrorCode.{ErrorCode}
+use Rattle.wtp_core.specs.declared.error.ErrorCode.TheVariants.{Id, ExcessiveLoad}
+use Rattle.wtp_core.specs.Reader.{IsRest}
+use Rattle.wtp_wire.specs.Content.{kind_in}
+use Rattle.wtp_wire.specs.Front.{Front, Framed, Unknown, BadId, TooBig, Short, front}
+use Rattle.wtransport_proto.specs.Rule.{Role, rule}
+use Rattle.wtransport_proto.specs.Run.{Run, Tail, MayGoOn, Ending, H3, past_unknown, stop, run}
+use Rattle.wtransport_proto.specs.Place.{Remainder, remainder}
 
--- Too few bytes are left where the one is open, and then the other stops there; else both end with one code.
-abbrev pub EndsAlike : Tail → List ℕ → Ending → Ending → Type 0
-EndsAlike tail bytes (Open n) other = (n ≤ length bytes) × ((rest : List ℕ) × (front rest ≡ Short) × (length rest ≤ n) × (other ≡ stop rest rest tail))
-EndsAlike tail bytes (H3 code) other = other ≡ H3 code
-EndsAlike tail bytes ImmediateFin other = ⊥
-EndsAlike tail bytes Reset other = ⊥
-EndsAlike tail bytes NotConnected other = ⊥
+-- The ending, by the first frame among the bytes that are left that is not unknown: the code of a frame that the stream
+-- refuses, of an invalid session ID and of a payload that is too big; or the bytes are too few, and end as they end.
+abbrev pub EndsBy : Role → Tail → Remainder → Front → Ending → Type 0
+EndsBy role tail left (Framed f rest) ending = (code : ErrorCode) × (rule role left.first (kind_in f) ≡ Some code) × (ending ≡ H3 code)
+EndsBy role tail left (Unknown rest) ending = ⊥
+EndsBy role tail left (BadId rest) ending = ending ≡ H3 Id
+EndsBy role tail left (TooBig rest) ending = ending ≡ H3 ExcessiveLoad
+EndsBy role tail left Short ending = ending ≡ stop left.bytes (past_unknown left.bytes) tail
 
--- going_on is a run of these bytes where they may go on, and ended is one where they end
-pub record Agrees (tail : Tail) (bytes : List ℕ) (going_on ended : Run) : Type 0 where
+-- the same of what a run leaves
+abbrev pub EndsAfter : Role → Tail → Remainder → Ending → Type 0
+EndsAfter role tail left ending = EndsBy role tail left (front (past_unknown left.bytes)) ending
+
+-- Both runs give the same frames. Both end by what those frames leave of the bytes: with one code, or, where the bytes
+-- are too few, the one is open with just these left, and the other stops there.
+pub record Agrees (role : Role) (first : Bool) (tail : Tail) (bytes : List ℕ) (going_on ended : Run) : Type 0 where
   pub frames : ended.frames ≡ going_on.frames
-  pub ending : EndsAlike tail bytes going_on.ending ended.ending
+  pub left : IsRest (remainder role first bytes).bytes bytes
+  pub open_end : EndsAfter role MayGoOn (remainder role first bytes) going_on.ending
+  pub closed_end : EndsAfter role tail (remainder role first bytes) ended.ending

@@ -4,6 +4,7 @@ pub mod Streams
 pub mod Reading
 pub mod Upgrading
 pub mod HeldRun
+pub mod Place
 pub mod StreamPolling
 pub mod Driving
 pub mod StreamWriting

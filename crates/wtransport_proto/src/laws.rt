@@ -16,6 +16,8 @@ ghost use Rattle.wtransport_proto.specs.HeldRun.{run_held, stop_of, count_held};
 ghost use Rattle.wtransport_proto.specs.Rule.{Role, RemoteBi, RemoteUni, rule};
 ghost use Rattle.wtransport_proto.specs.Run.{Tail, MayGoOn, H3, past_unknown, run, ends, follows, stop, counted};
 
+pub mod place;
+
 /// The run goes by the case of the bytes, but for unknown frames.
 pub fn run_goes_by_front()
     ensures allowed { (role : Role) (first : Bool) (bytes rest : List ℕ) (tail : Tail) (f : Content) → front bytes ≡ Framed f rest → rule role first (kind_in f) ≡ None → run role first bytes tail ≡ follows f (run role false rest tail) }
@@ -54,10 +56,10 @@ pub fn run_held_by_bytes()
 {}
 
 /// Whole and polled reading agree: the run of bytes that may go on has the frames of the run of the
-/// same bytes with an end, and its error code. The one is left open exactly where the other stops
-/// since the bytes are too few.
+/// same bytes with an end. Both end by what those frames leave of the bytes: with the same code, or,
+/// where the bytes are too few, the one is open with just these bytes left, and the other stops there.
 pub fn buffered_and_polled_agree()
-    ensures { (role : Role) (first : Bool) (bytes : List ℕ) (tail : Tail) → tail ≢ MayGoOn → Agrees tail bytes (run role first bytes MayGoOn) (run role first bytes tail) }
+    ensures { (role : Role) (first : Bool) (bytes : List ℕ) (tail : Tail) → tail ≢ MayGoOn → Agrees role first tail bytes (run role first bytes MayGoOn) (run role first bytes tail) }
 {}
 
 /// A header map that is sent whole is read back as the same map: on each stream that goes in both

@@ -146,12 +146,19 @@ pub enum Driven {
     NoMemory,
 }
 
-/// Polls the stream at most `polls` times, and puts each frame behind those in `out` (own).
+/// Polls the stream at most `polls` times, and appends each frame to `out`. Not in the Rust crate.
 ///
-/// It ends at the first fault, where the source is not ready, and where no memory is to be had. In
-/// every case nothing is lost: what was there is the frames put out and what is held and ahead now.
-/// It may be called again after each answer, with the same stream, reading and list, over the same
-/// source or another. With no polls it touches nothing. Frames may be read, as `can_read` tells.
+/// - `Ended(fault)`: the first fault. As after the poll that found it, the source is positioned right
+///   after a refused frame, or after the bytes that decided, and nothing is held; where the source
+///   ended inside a frame, all that came of it is held.
+/// - `Waiting`: the source was not ready.
+/// - `Spent`: all polls were made, and each took something.
+/// - `NoMemory`: allocation failed, for a payload or for a place in `out`.
+///
+/// No answer loses a byte: what was there is the frames that were appended and what is held and ahead
+/// now. So it may be called again after each of them, with the same stream, reading and list, over
+/// the same source or another. With no polls it touches nothing. Frames may be read, as `can_read`
+/// reports.
 pub fn drive<K: ReadsFrames, S: AsyncRead>(
     stream: &mut K,
     reading: &mut FrameReading,

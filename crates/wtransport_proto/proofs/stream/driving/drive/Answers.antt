@@ -1,5 +1,5 @@
 use Rattle.std.proofs.Common.{◌≡◌, [], ◌∷◌, ◌++◌, length, drop, refl, sym, ap, ◌∙◌, arith, append-nil}
-use Rattle.wtransport_proto.proofs.DriveLemmas.{first_same, first_on, none_yet, pushed, pushed_appends, pushed_most, told_start, told_still, told_waiting, told_frame, told_unknown}
+use Rattle.wtransport_proto.proofs.DriveLemmas.{first_same, first_on, none_yet, pushed, pushed_appends, pushed_most, told_start, told_still, told_waiting, told_ended, told_frame, told_unknown}
 use Rattle.wtransport_proto.proofs.stream.driving.drive.Goals as goal
 use Rattle.wtransport_proto.proofs.stream.driving.drive.Goals.{in-Ready-Ok+in-Ok, in-Again}
 
@@ -19,14 +19,14 @@ returns-in-Pending-clause-did g c =
     rw c.reserve.ensures.items (told_waiting (g.S.AsyncRead.tells c.args.source.now) (g.S.AsyncRead.tells c.loop-turn.source) (g.S.AsyncRead.tells c.read_frame_async.new.source)
     g.K.ReadsFrames.role (g.K.ReadsFrames.first c.args.stream.now) (g.K.ReadsFrames.first c.loop-turn.stream) (g.K.ReadsFrames.first c.read_frame_async.new.self)
     c.args.reading.now c.loop-turn.reading c.read_frame_async.new.reading (drop (length c.args.out.now.items) c.loop-turn.out.items)
-    c.loop-turn._turn c.args.polls c.loop-turn-test.true c.loop-turn.invariant.tells c.in-Pending.ensures.polled c.read_frame_async.ensures.asks)
+    c.loop-turn._turn c.args.polls c.loop-turn-test.true c.read_frame_async.ensures.was_unfinished c.loop-turn.invariant.tells c.in-Pending.ensures.polled c.read_frame_async.ensures.asks)
 
 pub returns-in-NoMemory-clause-did : goal.returns-in-NoMemory-clause-did
 returns-in-NoMemory-clause-did g c =
     rw c.reserve.ensures.items (told_still (g.S.AsyncRead.tells c.args.source.now) (g.S.AsyncRead.tells c.loop-turn.source) (g.S.AsyncRead.tells c.read_frame_async.new.source)
     g.K.ReadsFrames.role (g.K.ReadsFrames.first c.args.stream.now) (g.K.ReadsFrames.first c.loop-turn.stream) (g.K.ReadsFrames.first c.read_frame_async.new.self)
     c.args.reading.now c.loop-turn.reading c.read_frame_async.new.reading (drop (length c.args.out.now.items) c.loop-turn.out.items)
-    c.loop-turn._turn c.args.polls c.loop-turn-test.true c.loop-turn.invariant.tells c.in-NoMemory.ensures.polled c.read_frame_async.ensures.asks)
+    c.loop-turn._turn c.args.polls c.loop-turn-test.true c.read_frame_async.ensures.was_unfinished c.loop-turn.invariant.tells c.in-NoMemory.ensures.polled c.read_frame_async.ensures.asks)
 
 pub loop-turn-preserved : goal.loop-turn-preserved
 loop-turn-preserved g c =
@@ -54,7 +54,14 @@ loop-turn-preserved g c =
         tells = rw (w.out-is, c.reserve.ensures.items) (told_unknown (g.S.AsyncRead.tells c.args.source.now) (g.S.AsyncRead.tells c.loop-turn.source) (g.S.AsyncRead.tells c.read_frame_async.new.source)
             g.K.ReadsFrames.role (g.K.ReadsFrames.first c.args.stream.now) (g.K.ReadsFrames.first c.loop-turn.stream) (g.K.ReadsFrames.first c.read_frame_async.new.self)
             c.args.reading.now c.loop-turn.reading c.read_frame_async.new.reading (drop (length c.args.out.now.items) c.loop-turn.out.items)
-            c.loop-turn._turn c.loop-turn.invariant.tells w.in-Again.ensures.polled c.read_frame_async.ensures.asks);
+            c.loop-turn._turn c.read_frame_async.ensures.was_unfinished c.loop-turn.invariant.tells w.in-Again.ensures.polled c.read_frame_async.ensures.asks);
         none = λ z. absurd (omega arith);
       }
     ]
+
+pub returns-in-Ready-Err-clause-did : goal.returns-in-Ready-Err-clause-did
+returns-in-Ready-Err-clause-did g c =
+    rw c.reserve.ensures.items (told_ended (g.S.AsyncRead.tells c.args.source.now) (g.S.AsyncRead.tells c.loop-turn.source) (g.S.AsyncRead.tells c.read_frame_async.new.source)
+    g.K.ReadsFrames.role (g.K.ReadsFrames.first c.args.stream.now) (g.K.ReadsFrames.first c.loop-turn.stream) (g.K.ReadsFrames.first c.read_frame_async.new.self)
+    c.args.reading.now c.loop-turn.reading c.read_frame_async.new.reading (drop (length c.args.out.now.items) c.loop-turn.out.items)
+    c.in-Ready-Err.fault c.loop-turn._turn c.args.polls c.loop-turn-test.true c.read_frame_async.ensures.was_unfinished c.loop-turn.invariant.tells (rw c.in-Ready-Err.field-0-is at c.in-Ready-Err.ensures.polled) c.read_frame_async.ensures.asks)

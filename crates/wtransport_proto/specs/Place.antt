@@ -1,0 +1,120 @@
+-- Where a run ends: what its frames leave, of bytes and of what a reading holds (RFC 9114, sections 7.1 and 9).
+--
+-- The run of bytes goes on with the bytes after each frame that the stream allows. It ends where no such frame
+-- begins, unknown frames passed over. The laws `remainder_by_front` and `place_by_front` say just that.
+use Rattle.std.specs.Prelude.{◌≡◌, ℕ, zero, suc, ◌+◌, ◌<◌, Bool, false, List, [], ◌++◌, length, Option, Some, None}
+use Rattle.wtp_core.specs.declared.error.ErrorCode.{ErrorCode}
+use Rattle.wtp_core.specs.Source.{Source}
+use Rattle.wtp_wire.specs.Content.{kind_in}
+use Rattle.wtp_wire.specs.Front.{Front, Framed, Unknown, BadId, TooBig, Short, front}
+use Rattle.wtp_wire.specs.Held.{Held, new_held, front_held, IsUnknownHead}
+use Rattle.wtransport_proto.specs.Rule.{Role, rule}
+use Rattle.wtransport_proto.specs.Run.{past_unknown}
+use Rattle.wtransport_proto.specs.Reading.{FirstAfter}
+
+-- onward where there is no fault, and else here
+abbrev pub if_allowed : {X : Type 0} → Option ErrorCode → X → X → X
+if_allowed None onward here = onward
+if_allowed (Some c) onward here = here
+
+-- ---- of bytes
+
+-- the bytes after the last frame of a run, and whether a frame there would be the first of its stream
+pub record Remainder : Type 0 where
+  pub first : Bool
+  pub bytes : List ℕ
+
+-- no frame is taken
+abbrev pub remainder_here : Bool → List ℕ → Remainder
+remainder_here first bytes = record { first = first; bytes = bytes }
+
+-- by the first frame that is not unknown
+abbrev pub next_remainder : (Bool → List ℕ → Remainder) → Role → Bool → List ℕ → Front → Remainder
+next_remainder more role first bytes (Framed f rest) = if_allowed (rule role first (kind_in f)) (more false rest) (remainder_here first bytes)
+next_remainder more role first bytes (Unknown rest) = remainder_here first bytes
+next_remainder more role first bytes (BadId rest) = remainder_here first bytes
+next_remainder more role first bytes (TooBig rest) = remainder_here first bytes
+next_remainder more role first bytes Short = remainder_here first bytes
+
+-- what at most n frames leave
+abbrev pub remainder_within : ℕ → Role → Bool → List ℕ → Remainder
+remainder_within zero role first bytes = remainder_here first bytes
+remainder_within (suc n) role first bytes = next_remainder (λ f rest. remainder_within n role f rest) role first bytes (front (past_unknown bytes))
+
+unfoldable pub remainder : Role → Bool → List ℕ → Remainder
+remainder role first bytes = remainder_within (length bytes) role first bytes
+
+-- ---- of what a reading holds and the bytes ahead
+
+-- What is held and ahead where a run ends, and whether a frame there would be the first of its stream. No frame
+-- that the stream allows begins there, and no whole unknown frame.
+pub record Place : Type 0 where
+  pub first : Bool
+  pub held : Held
+  pub ahead : List ℕ
+
+-- nothing is taken
+abbrev pub place_here : Bool → Held → List ℕ → Place
+place_here first h ahead = record { first = first; held = h; ahead = ahead }
+
+-- the place where nothing is held, after these bytes' unknown frames
+abbrev pub place_after : Remainder → Place
+place_after r = record { first = r.first; held = new_held; ahead = past_unknown r.bytes }
+
+abbrev pub place_by : Role → Bool → Held → List ℕ → Front → Place
+place_by role first h ahead (Framed f rest) = if_allowed (rule role first (kind_in f)) (place_after (remainder role false rest)) (place_here first h ahead)
+place_by role first h ahead (Unknown rest) = place_after (remainder role first rest)
+place_by role first h ahead (BadId rest) = place_here first h ahead
+place_by role first h ahead (TooBig rest) = place_here first h ahead
+place_by role first h ahead Short = place_here first h ahead
+
+-- the place where the run of what is held and ahead ends
+unfoldable pub place_held : Role → Bool → Held → List ℕ → Place
+place_held role first h ahead = place_by role first h ahead (front_held h ahead)
+
+-- the same over a source
+abbrev pub place_of : Role → Bool → Held → Source → Place
+place_of role first h s = place_held role first h s.ahead
+
+-- ---- nothing is lost
+
+-- these bytes begin with the head and some of the payload of an unknown frame, the rest of which is due, and left come after
+pub record BeginsUnknown (whole : List ℕ) (due : ℕ) (left : List ℕ) : Type 0 where
+  pub head : List ℕ
+  pub payload : List ℕ
+  pub parts : whole ≡ (head ++ payload) ++ left
+  pub is_head : IsUnknownHead (length payload + due) head
+
+-- so many bytes were due, some of them came, and so many are due now
+pub record ComesDue (due : ℕ) (ahead : List ℕ) (now : ℕ) (left : List ℕ) : Type 0 where
+  pub payload : List ℕ
+  pub parts : ahead ≡ payload ++ left
+  pub counts : due ≡ length payload + now
+
+-- What is held and ahead is what was, except that bytes of an unknown frame were passed, the rest of which is due.
+pub record Remains (old new : Held) (ahead left : List ℕ) : Type 0 where
+  pub same : front_held new left ≡ front_held old ahead
+  pub kept : new.due ≡ 0 → (old.due ≡ 0) × (new.taken ++ left ≡ old.taken ++ ahead)
+  pub begun : old.due ≡ 0 → 0 < new.due → (new.taken ≡ []) × BeginsUnknown (old.taken ++ ahead) new.due left
+  pub going : 0 < old.due → (new.taken ≡ old.taken) × ComesDue old.due ahead new.due left
+
+-- Two places are the same: nothing was lost between them.
+pub record SamePlace (old new : Place) : Type 0 where
+  pub first : new.first ≡ old.first
+  pub remains : Remains old.held new.held old.ahead new.ahead
+
+-- ---- after the fault
+
+-- What a fault leaves, by the case in front of its place: a refused frame or what decided is taken whole, and no byte
+-- after it; where the bytes are too few, nothing is ahead, and all that came is held.
+abbrev pub LeftAfter : Place → Front → Held → List ℕ → Type 0
+LeftAfter p (Framed f rest) new left = (new ≡ new_held) × (left ≡ rest)
+LeftAfter p (Unknown rest) new left = ⊥
+LeftAfter p (BadId rest) new left = (new ≡ new_held) × (left ≡ rest)
+LeftAfter p (TooBig rest) new left = (new ≡ new_held) × (left ≡ rest)
+LeftAfter p Short new left = (left ≡ []) × Remains p.held new p.ahead []
+
+-- A reading that found the fault of this place holds new, these bytes are ahead, and next says whether a frame would be the first
+pub record StopsAt (role : Role) (p : Place) (next : Bool) (new : Held) (ahead : List ℕ) : Type 0 where
+  pub flag : FirstAfter role p.first (front_held p.held p.ahead) next
+  pub left : LeftAfter p (front_held p.held p.ahead) new ahead
