@@ -1,6 +1,6 @@
 -- No spelling is shorter than the shortest one, and no other one is as short.
 use Rattle.std.proofs.Common.{◌≡◌, ℕ, ◌+◌, ◌-◌, ◌*◌, ◌^◌, ◌<◌, ◌≤◌, List, [], ◌∷◌, length, get_or, refl, sym, ap, ◌∙◌, arith, inl, inr, ◌⊎◌}
-use Rattle.std.specs.Int.{Width, w8, w16, w32, w64, byte_len, to_be_bytes}
+use Rattle.std.specs.Int.{Width, w8, w16, w32, w64, w128, byte_len, to_be_bytes}
 use Rattle.std.proofs.lemmas.Bool.{cases_lt, lt-ltb, le-ltb}
 use Rattle.std.proofs.lemmas.Nat.{be_bytes_2, be_bytes_4, be_bytes_8}
 use Rattle.wtp_core.specs.Varint.{Spells, width_of, value_of, shortest}
@@ -156,3 +156,10 @@ size-holds v h = elim (cases_lt v (2 ^ 6)) [
     ]
   ]
 ]
+
+pub size-least : (v : ℕ) (w : Width) → v < 2 ^ (8 * byte_len w - 2) → length (shortest v) ≤ byte_len w
+size-least v w8 h = omega (arith, (length-shortest v).0 h)
+size-least v w16 h = at_most_2 v h
+size-least v w32 h = at_most_4 v h
+size-least v w64 h = at_most_8 v
+size-least v w128 h = omega (arith, at_most_8 v)

@@ -35,6 +35,10 @@ module _ {P : Type 0} where
   abbrev pub left_in : BufferReaderChild P → List ℕ
   left_in c = drop c.offset c.buffer.now
 
+  -- its place plus how many bytes are left: however far it reads, it comes to the same end
+  abbrev pub end_in : BufferReaderChild P → ℕ
+  end_in c = offset_in c + length (left_in c)
+
   -- what the child's reading leaves alone, by all the bytes of a parent and those that it has left
   abbrev pub kept_in : (P → List ℕ) → (P → List ℕ) → BufferReaderChild P → Kept
   kept_in whole behind c = record {
@@ -42,4 +46,5 @@ module _ {P : Type 0} where
     parent_whole = whole c.parent.now;
     parent_left = behind c.parent.now;
     parent_name = c.parent.ghost_name;
+    child_end = end_in c;
   }

@@ -7,13 +7,15 @@ pub record IsRest (rest bytes : List ℕ) : Type 0 where
   pub parts : bytes ≡ taken ++ rest
 
 -- What reading leaves alone in a reader: all the bytes that it was made over; and of a child, all the bytes of its
--- parent, those that the parent has left, and the name of the loan of the parent.
+-- parent, those that the parent has left, the name of the loan of the parent, and its place plus how many bytes it
+-- has left.
 pub record Kept : Type 0 where
   pub whole : List ℕ
   pub parent_whole : List ℕ
   pub parent_left : List ℕ
   pub parent_name : ℕ
+  pub child_end : ℕ
 
 -- of a reader without a parent
 abbrev pub kept_alone : List ℕ → Kept
-kept_alone whole = record { whole = whole; parent_whole = []; parent_left = []; parent_name = 0 }
+kept_alone whole = record { whole = whole; parent_whole = []; parent_left = []; parent_name = 0; child_end = 0 }

@@ -1,7 +1,7 @@
 //! Laws of the definitions and types that contracts of this crate cite. A function here carries its
 //! law as its contract.
 ghost use Rattle.std.specs.Prelude.{◌≡◌, ℕ, ◌+◌, ◌-◌, ◌*◌, ◌/◌, ◌<◌, ◌≤◌, ◌^◌, ◌↔◌, List, ◌++◌, Some, length, drop, slice_index, fold, IsTrue, IsOk, OnOk, OnErr};
-ghost use Rattle.std.specs.Int.{byte_len};
+ghost use Rattle.std.specs.Int.{Width, byte_len};
 ghost use Rattle.std.specs.Ordering.{nat_cmp};
 ghost use Rattle.std.specs.Hash as hashed;
 ghost use Rattle.wtp_core.specs.Varint.{Spells, width_of, number_at, shortest};
@@ -30,10 +30,11 @@ pub fn shortest_is_spelling()
 {}
 
 /// The size of a spelling is that of its first byte, and holds the number: 1, 2, 4 or 8 bytes with
-/// two bits less.
+/// two bits less. It is the least of these sizes that holds the number.
 pub fn size_holds_the_number()
     ensures first { (v : ℕ) → v < 2 ^ 62 → byte_len (width_of (slice_index (shortest v) 0)) ≡ length (shortest v) }
     ensures holds { (v : ℕ) → v < 2 ^ 62 → v < 2 ^ (8 * length (shortest v) - 2) }
+    ensures least { (v : ℕ) (w : Width) → v < 2 ^ (8 * byte_len w - 2) → length (shortest v) ≤ byte_len w }
 {}
 
 /// Numbers compare as numbers.

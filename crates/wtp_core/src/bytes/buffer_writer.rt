@@ -4,7 +4,7 @@ ghost use Rattle.std.specs.Prelude.{◌≡◌, ◌≤◌, [], length, Some, fals
 use crate::bytes::writer::{BytesWriter, PutError};
 
 /// Writes into a slice, from its front on. It takes no memory.
-#[derive(Drop)]
+#[derive(Debug, Drop)]
 pub struct BufferWriter<'a> {
     buffer: &'a mut [u8],
     offset: usize,

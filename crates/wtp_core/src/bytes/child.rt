@@ -42,7 +42,7 @@ pub(crate) fn bytes_from<'a>(bytes: &'a [u8], place: usize) -> &'a [u8]
 /// A reader over the bytes that its parent has left, from place 0 on.
 ///
 /// What it read is taken from the parent by `commit`. To drop it moves nothing.
-#[derive(Drop)]
+#[derive(Debug, Drop)]
 pub struct BufferReaderChild<'a, 'b, P = BufferReader<'a>> {
     parent: &'b mut P,
     buffer: &'a [u8],
@@ -128,7 +128,7 @@ impl<'a, 'b, P: ParentReader<'a>> BufferReaderChild<'a, 'b, P> {
 }
 
 impl<'a, 'b, P: ParentReader<'a>> BytesReader<'a> for BufferReaderChild<'a, 'b, P> {
-    ghost use Rattle.wtp_core.specs.Cursor.{left_in, kept_in};
+    ghost use Rattle.wtp_core.specs.Cursor.{left_in, offset_in, kept_in};
 
     ghost left = { left_in };
 
@@ -137,6 +137,7 @@ impl<'a, 'b, P: ParentReader<'a>> BytesReader<'a> for BufferReaderChild<'a, 'b, 
     fn get_varint(&mut self) -> Option<VarInt>
         ensures found { MatchOption result (number_at (left_in self.old) ≡ None) (λ n. number_at (left_in self.old) ≡ Some (n, left_in self.new)) }
         ensures none { IfNone result (left_in self.new ≡ left_in self.old) }
+        ensures place { offset_in self.new + length (left_in self.new) ≡ offset_in self.old + length (left_in self.old) }
         ensures kept { kept_in P.whole P.behind self.new ≡ kept_in P.whole P.behind self.old }
         ensures same_reference { self.new.parent.ghost_name ≡ self.old.parent.ghost_name }
         ensures same_parent { self.new.parent.now ≡ self.old.parent.now }
@@ -152,6 +153,7 @@ impl<'a, 'b, P: ParentReader<'a>> BytesReader<'a> for BufferReaderChild<'a, 'b, 
         ensures found { MatchOption result (bytes_at len (left_in self.old) ≡ None) (λ b. bytes_at len (left_in self.old) ≡ Some (b.now, left_in self.new)) }
         ensures len { IfSome result (λ b. length b.now ≡ len) }
         ensures none { IfNone result (left_in self.new ≡ left_in self.old) }
+        ensures place { offset_in self.new + length (left_in self.new) ≡ offset_in self.old + length (left_in self.old) }
         ensures kept { kept_in P.whole P.behind self.new ≡ kept_in P.whole P.behind self.old }
         ensures same_reference { self.new.parent.ghost_name ≡ self.old.parent.ghost_name }
         ensures same_parent { self.new.parent.now ≡ self.old.parent.now }

@@ -8,7 +8,7 @@ use crate::bytes::polled::{IoWriteError, Polled};
 use crate::bytes::sink::{AsyncWrite, WriteStep};
 
 /// Why not all of a buffer was taken (own).
-#[derive(Clone, Copy)]
+#[derive(Clone, Copy, Debug)]
 pub enum WriteHalt {
     /// The sink was not ready.
     NotReady,

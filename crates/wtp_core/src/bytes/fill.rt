@@ -8,7 +8,7 @@ use crate::bytes::polled::{IoReadError, Polled};
 use crate::bytes::source::{AsyncRead, ReadStep};
 
 /// Why a buffer was not filled (own).
-#[derive(Clone, Copy)]
+#[derive(Clone, Copy, Debug)]
 pub enum Halt {
     /// The source was not ready.
     NotReady,

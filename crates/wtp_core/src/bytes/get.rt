@@ -44,7 +44,7 @@ impl Head for VarintHead {
 /// Reads one number (RFC 9000, section 16), poll by poll, and not a byte behind it.
 ///
 /// It holds the bytes that it took, and loses none of them where a poll does not answer the number.
-#[derive(Drop)]
+#[derive(Debug, Drop)]
 pub struct GetVarint {
     bytes: [u8; 8],
     len: usize,
@@ -96,7 +96,7 @@ impl GetVarint {
 ///
 /// The bytes that it took stand in the buffer's front, and none of them is lost where a poll does
 /// not answer that it is full.
-#[derive(Drop)]
+#[derive(Debug, Drop)]
 pub struct GetBuffer<'a> {
     buffer: &'a mut [u8],
     filled: usize,

@@ -16,7 +16,7 @@ pub enum Polled<T> {
 }
 
 /// The answer of one poll of a state that is given away by it.
-#[derive(Drop)]
+#[derive(Debug, Drop)]
 pub enum Stepped<P, T, E> {
     /// It is done.
     Done(T),

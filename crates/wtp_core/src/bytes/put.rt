@@ -15,7 +15,7 @@ use std::marker::Model;
 /// Writes the shortest spelling of a number (RFC 9000, section 16), poll by poll.
 ///
 /// It knows how many of its bytes were sent, and sends none of them twice.
-#[derive(Drop)]
+#[derive(Debug, Drop)]
 pub struct PutVarint {
     bytes: [u8; 8],
     len: usize,
@@ -82,7 +82,7 @@ pub fn spell(varint: VarInt, buffer: &mut [u8]) -> usize
 /// Writes a buffer, poll by poll.
 ///
 /// It knows how many of its bytes were sent, and sends none of them twice.
-#[derive(Drop)]
+#[derive(Debug, Drop)]
 pub struct PutBuffer<'a> {
     bytes: &'a [u8],
     sent: usize,

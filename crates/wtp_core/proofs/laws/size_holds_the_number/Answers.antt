@@ -1,5 +1,5 @@
-use Rattle.wtp_core.proofs.LeastLemmas.{size-first, size-holds}
+use Rattle.wtp_core.proofs.LeastLemmas.{size-first, size-holds, size-least}
 use Rattle.wtp_core.proofs.laws.size_holds_the_number.Goals as goal
 
 pub returns : goal.returns
-returns c = record { first = size-first; holds = size-holds }
+returns c = record { first = size-first; holds = size-holds; least = size-least }
