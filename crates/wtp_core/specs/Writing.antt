@@ -4,8 +4,7 @@ use Rattle.wtp_core.specs.declared.bytes.polled.Polled.{Polled}
 use Rattle.wtp_core.specs.declared.bytes.polled.Polled.TheVariants.{Ready, Pending, Again, NoMemory}
 use Rattle.wtp_core.specs.declared.bytes.polled.IoWriteError.{IoWriteError}
 use Rattle.wtp_core.specs.declared.bytes.polled.IoWriteError.TheVariants as fault
-use Rattle.wtp_core.specs.Sink.{Sink}
-use Rattle.wtp_core.specs.Drain.{Grows}
+use Rattle.wtp_core.specs.Sink.{Sink, Took}
 
 -- all the bytes that are to be written, and how many of them were sent
 pub record Writing : Type 0 where
@@ -30,15 +29,16 @@ IsSent Pending new = new.sent < length new.bytes
 IsSent Again new = ⊥
 IsSent NoMemory new = new.sent < length new.bytes
 
--- the sink's list grew by the bytes from those sent before up to those sent now, and no count fell
-abbrev pub Sends : Writing → Writing → Sink → Sink → Type 0
-Sends old new a b = Grows (drop old.sent (take new.sent old.bytes)) a b
+-- the bytes from those sent before up to those sent now
+abbrev pub between : Writing → Writing → List ℕ
+between old new = drop old.sent (take new.sent old.bytes)
 
--- what one poll did, and why it stopped: each reason only where the sink said so in this poll
+-- What one poll did to a sink that tells: its list grew by the bytes from those sent before up to those sent now. Where all
+-- is sent no count changed; where it waited, stopped or was lost, that count rose by exactly one, and the others stayed.
 abbrev pub WritePolled : {U : Type 0} → Polled (Result U IoWriteError) → Writing → Writing → Sink → Sink → Type 0
-WritePolled (Ready (Ok _)) old new a b = Sends old new a b
-WritePolled (Ready (Err fault.Stopped)) old new a b = Sends old new a b × (a.stops < b.stops)
-WritePolled (Ready (Err fault.NotConnected)) old new a b = Sends old new a b × (a.losses < b.losses)
-WritePolled Pending old new a b = Sends old new a b × (a.waits < b.waits)
+WritePolled (Ready (Ok _)) old new a b = Took a b (between old new) 0 0 0
+WritePolled (Ready (Err fault.Stopped)) old new a b = Took a b (between old new) 0 1 0
+WritePolled (Ready (Err fault.NotConnected)) old new a b = Took a b (between old new) 0 0 1
+WritePolled Pending old new a b = Took a b (between old new) 1 0 0
 WritePolled Again old new a b = ⊥
-WritePolled NoMemory old new a b = Sends old new a b
+WritePolled NoMemory old new a b = Took a b (between old new) 0 0 0

@@ -7,8 +7,8 @@ use Rattle.wtp_core.specs.declared.bytes.polled.Polled.TheVariants.{Ready}
 use Rattle.wtp_core.specs.declared.bytes.drain.WriteHalt.{WriteHalt}
 use Rattle.wtp_core.specs.declared.bytes.drain.WriteHalt.TheVariants as halt
 use Rattle.wtp_core.specs.Source.{Telling}
-use Rattle.wtp_core.specs.Sink.{Sink}
-use Rattle.wtp_core.specs.Drain.{Grows, WriteHaltIsTrue, write_halted}
+use Rattle.wtp_core.specs.Sink.{Sink, Took}
+use Rattle.wtp_core.specs.Drain.{Grows, HaltedBy, write_halted}
 use Rattle.wtp_core.specs.Writing.{Writing, WritePolled}
 use Rattle.wtp_core.proofs.TellingLemmas.{telling_then}
 use Rattle.wtp_core.proofs.DrainLemmas.{grows_then}
@@ -31,19 +31,21 @@ two_ranges h p i j k le behind = elim (cases_lt 0 j) [
 ]
 
 -- both parts moved on
-pub both_grow : (h p : List ℕ) (i j k : ℕ) (a b c : Sink) → i ≤ length h → (0 < j → i ≡ length h) → Grows (drop i (take (length h) h)) a b → Grows (drop j (take k p)) b c → Grows (drop (i + j) (take (length h + k) (h ++ p))) a c
-both_grow h p i j k a b c le behind g q = rw (← two_ranges h p i j k le behind) (grows_then _ _ a b c g q)
+pub both_grow : (h p : List ℕ) (i j k w s l : ℕ) (a b c : Sink) → i ≤ length h → (0 < j → i ≡ length h) → Grows (drop i (take (length h) h)) a b → Took b c (drop j (take k p)) w s l → Took a c (drop (i + j) (take (length h + k) (h ++ p))) w s l
+both_grow h p i j k w s l a b c le behind g q = rw (← two_ranges h p i j k le behind) (grows_then _ _ w s l a b c g q)
 
-halts : (x : WriteHalt) (old new : Writing) (a b c : Sink) → Grows (drop old.sent (take new.sent old.bytes)) a c → a.waits ≤ b.waits → a.stops ≤ b.stops → a.losses ≤ b.losses → WriteHaltIsTrue x b c → WritePolled (write_halted x) old new a c
-halts halt.NotReady old new a b c g w s l t = (g, omega arith)
-halts halt.Stopped old new a b c g w s l t = (g, omega arith)
-halts halt.NotConnected old new a b c g w s l t = (g, omega arith)
-halts halt.NoMemory old new a b c g w s l t = g
+-- the first part was sent whole, and the second halted
+halts : (x : WriteHalt) (h p : List ℕ) (i j k : ℕ) (a b c : Sink) → i ≤ length h → (0 < j → i ≡ length h) → Grows (drop i (take (length h) h)) a b → HaltedBy x (drop j (take k p)) b c
+    → WritePolled (write_halted x) (record { bytes = h ++ p; sent = i + j }) (record { bytes = h ++ p; sent = length h + k }) a c
+halts halt.NotReady h p i j k a b c le behind g t = both_grow h p i j k 1 0 0 a b c le behind g t
+halts halt.Stopped h p i j k a b c le behind g t = both_grow h p i j k 0 1 0 a b c le behind g t
+halts halt.NotConnected h p i j k a b c le behind g t = both_grow h p i j k 0 0 1 a b c le behind g t
+halts halt.NoMemory h p i j k a b c le behind g t = both_grow h p i j k 0 0 0 a b c le behind g t
 
 pub written : (s t u : Option Sink) (h p : List ℕ) (i j k : ℕ) (old new : Writing) → i ≤ length h → (0 < j → i ≡ length h) → old ≡ record { bytes = h ++ p; sent = i + j } → new ≡ record { bytes = h ++ p; sent = length h + k }
     → Telling s t (Grows (drop i (take (length h) h))) → Telling t u (Grows (drop j (take k p))) → Telling s u (WritePolled (Ready (Ok (tt {0}))) old new)
-written s t u h p i j k old new le behind o n g q = rw (o, n) (telling_then s t u _ _ (WritePolled (Ready (Ok (tt {0}))) (record { bytes = h ++ p; sent = i + j }) (record { bytes = h ++ p; sent = length h + k })) (λ a b c x y. both_grow h p i j k a b c le behind x y) g q)
+written s t u h p i j k old new le behind o n g q = rw (o, n) (telling_then s t u _ _ (WritePolled (Ready (Ok (tt {0}))) (record { bytes = h ++ p; sent = i + j }) (record { bytes = h ++ p; sent = length h + k })) (λ a b c x y. both_grow h p i j k 0 0 0 a b c le behind x y) g q)
 
 pub written_part : (s t u : Option Sink) (x : WriteHalt) (h p : List ℕ) (i j k : ℕ) (old new : Writing) → i ≤ length h → (0 < j → i ≡ length h) → old ≡ record { bytes = h ++ p; sent = i + j } → new ≡ record { bytes = h ++ p; sent = length h + k }
-    → Telling s t (Grows (drop i (take (length h) h))) → Telling t u (λ b c. Grows (drop j (take k p)) b c × WriteHaltIsTrue x b c) → Telling s u (WritePolled (write_halted x) old new)
-written_part s t u x h p i j k old new le behind o n g q = rw (o, n) (telling_then s t u _ _ (WritePolled (write_halted x) (record { bytes = h ++ p; sent = i + j }) (record { bytes = h ++ p; sent = length h + k })) (λ a b c y z. halts x (record { bytes = h ++ p; sent = i + j }) (record { bytes = h ++ p; sent = length h + k }) a b c (both_grow h p i j k a b c le behind y z.0) y.waits y.stops y.losses z.1) g q)
+    → Telling s t (Grows (drop i (take (length h) h))) → Telling t u (HaltedBy x (drop j (take k p))) → Telling s u (WritePolled (write_halted x) old new)
+written_part s t u x h p i j k old new le behind o n g q = rw (o, n) (telling_then s t u _ _ (WritePolled (write_halted x) (record { bytes = h ++ p; sent = i + j }) (record { bytes = h ++ p; sent = length h + k })) (λ a b c y z. halts x h p i j k a b c le behind y z) g q)

@@ -3,8 +3,7 @@ use Rattle.std.specs.Prelude.{◌≡◌, ◌≢◌, ℕ, ◌+◌, ◌<◌, ◌�
 use Rattle.wtp_core.specs.declared.bytes.polled.IoWriteError.TheVariants as fault
 use Rattle.wtp_core.specs.declared.error.Refused.TheVariants as refused
 use Rattle.wtp_core.specs.Source.{Source}
-use Rattle.wtp_core.specs.Sink.{Sink}
-use Rattle.wtp_core.specs.Drain.{Grows}
+use Rattle.wtp_core.specs.Sink.{Sink, Took}
 use Rattle.wtp_wire.specs.declared.frame.FrameKind.TheVariants.{Headers}
 use Rattle.wtp_wire.specs.Content.{Content, HeadersOf, kind_in}
 use Rattle.wtp_wire.specs.Front.{Front, Framed, Unknown, BadId, TooBig, Short, front}
@@ -29,22 +28,26 @@ use Rattle.wtransport_proto.specs.Reading.{FirstAfter}
 
 -- ---- sending
 
--- why sending was given up after at most so many turns: the sink said so
-abbrev pub GaveUp : SendError → ℕ → Sink → Sink → Type 0
-GaveUp send.Waiting turns a b = a.waits + turns ≤ b.waits
-GaveUp (send.IO fault.Stopped) turns a b = a.stops < b.stops
-GaveUp (send.IO fault.NotConnected) turns a b = a.losses < b.losses
-GaveUp send.Memory turns a b = Unit {0}
+-- the sink took all of these bytes, within so many turns: each turn but the last waited, and neither stopped nor was lost
+abbrev pub SentWhole : List ℕ → ℕ → Sink → Sink → Type 0
+SentWhole whole turns a b = (waits : ℕ) × (waits < turns) × Took a b whole waits 0 0
 
--- the sink took a front of these bytes, and not all
-pub record TookPart (whole : List ℕ) (a b : Sink) : Type 0 where
+-- the sink took the first of these bytes and not all, and its counts rose by these
+pub record TookPart (whole : List ℕ) (waits stops losses : ℕ) (a b : Sink) : Type 0 where
   pub sent : ℕ
   pub part : sent < length whole
-  pub grows : Grows (take sent whole) a b
+  pub took : Took a b (take sent whole) waits stops losses
+
+-- Why sending was given up, within so many turns: each turn waited; or each but the last did, and the last one stopped, was lost or found no memory.
+abbrev pub GaveUp : SendError → List ℕ → ℕ → Sink → Sink → Type 0
+GaveUp send.Waiting whole turns a b = TookPart whole turns 0 0 a b
+GaveUp (send.IO fault.Stopped) whole turns a b = (waits : ℕ) × (waits < turns) × TookPart whole waits 1 0 a b
+GaveUp (send.IO fault.NotConnected) whole turns a b = (waits : ℕ) × (waits < turns) × TookPart whole waits 0 1 a b
+GaveUp send.Memory whole turns a b = (waits : ℕ) × (waits < turns) × TookPart whole waits 0 0 a b
 
 abbrev pub SendDid : {U : Type 0} → List ℕ → ℕ → Result U SendError → Sink → Sink → Type 0
-SendDid whole turns (Ok _) a b = Grows whole a b
-SendDid whole turns (Err e) a b = TookPart whole a b × GaveUp e turns a b
+SendDid whole turns (Ok _) a b = SentWhole whole turns a b
+SendDid whole turns (Err e) a b = GaveUp e whole turns a b
 
 -- ---- receiving
 
@@ -127,10 +130,10 @@ ReadsBack role m turns result a b = (rest : List ℕ) → role ≢ RemoteUni →
 
 -- Reading began only where all was sent.
 abbrev pub Sent : List ℕ → ℕ → Result (List Field) JourneyError → Sink → Sink → Type 0
-Sent whole turns (Ok m) a b = Grows whole a b
+Sent whole turns (Ok m) a b = SentWhole whole turns a b
 Sent whole turns (Err (journey.Frame e)) a b = b ≡ a
-Sent whole turns (Err (journey.Send e)) a b = TookPart whole a b × GaveUp e turns a b
-Sent whole turns (Err (journey.Receive e)) a b = Grows whole a b
+Sent whole turns (Err (journey.Send e)) a b = GaveUp e whole turns a b
+Sent whole turns (Err (journey.Receive e)) a b = SentWhole whole turns a b
 
 abbrev pub Received : Role → Bool → Bool → ℕ → Result (List Field) JourneyError → Source → Source → Type 0
 Received role first next turns (Ok m) a b = MapDid role first next turns (Ok m) a b

@@ -8,10 +8,9 @@ use Rattle.wtp_core.specs.declared.bytes.polled.IoWriteError.TheVariants as writ
 use Rattle.wtp_core.specs.declared.error.ErrorCode.{ErrorCode}
 use Rattle.wtp_core.specs.declared.error.ErrorCode.TheVariants.{StreamCreation, Id, Frame}
 use Rattle.wtp_core.specs.Source.{Source}
-use Rattle.wtp_core.specs.Sink.{Sink}
-use Rattle.wtp_core.specs.Drain.{Grows}
+use Rattle.wtp_core.specs.Sink.{Sink, Took}
 use Rattle.wtp_core.specs.Getting.{Stops, Waits}
-use Rattle.wtp_core.specs.Writing.{Writing, GoesOn, Sends}
+use Rattle.wtp_core.specs.Writing.{Writing, GoesOn, between}
 use Rattle.wtp_wire.specs.HeaderFront.{Headed, Unknown, BadId, Short, header_front}
 use Rattle.wtp_wire.specs.HeaderPolling.{HeaderDecided, HeaderAnswered}
 use Rattle.wtransport_proto.specs.declared.stream.Stream.{Stream}
@@ -30,13 +29,15 @@ use Rattle.wtransport_proto.specs.Streams.{header_of, session_of}
 
 -- ---- upgrades that are written
 
--- what one poll did to a sink that tells, where each state that is handed back holds such a writing: the sink's list grew by the bytes from those sent before up to those sent now, and by all of them where it is done; no count fell
+-- What one poll did to a sink that tells, where each state that is handed back holds such a writing: the sink's list grew by the
+-- bytes from those sent before up to those sent now, and by all of them where it is done. Then no count changed; where it waited,
+-- stopped or was lost, that count rose by exactly one, and the others stayed.
 abbrev pub StepSends : {P T : Type 0} → (P → Writing) → Stepped P T IoWriteError → Writing → Sink → Sink → Type 0
-StepSends writing (Done t) old a b = Grows (drop old.sent old.bytes) a b
-StepSends writing (Pending p) old a b = Sends old (writing p) a b × (a.waits < b.waits)
-StepSends writing (NoMemory p) old a b = Sends old (writing p) a b
-StepSends writing (Failed p write.Stopped) old a b = Sends old (writing p) a b × (a.stops < b.stops)
-StepSends writing (Failed p write.NotConnected) old a b = Sends old (writing p) a b × (a.losses < b.losses)
+StepSends writing (Done t) old a b = Took a b (drop old.sent old.bytes) 0 0 0
+StepSends writing (Pending p) old a b = Took a b (between old (writing p)) 1 0 0
+StepSends writing (NoMemory p) old a b = Took a b (between old (writing p)) 0 0 0
+StepSends writing (Failed p write.Stopped) old a b = Took a b (between old (writing p)) 0 1 0
+StepSends writing (Failed p write.NotConnected) old a b = Took a b (between old (writing p)) 0 0 1
 
 -- new has sent no less than old, and not all
 pub record SentPart (old new : Writing) : Type 0 where

@@ -1,4 +1,4 @@
-use Rattle.std.proofs.Common.{length, ap, refl, ◌∙◌}
+use Rattle.std.proofs.Common.{length, ap, refl, ◌∙◌, arith}
 use Rattle.wtp_wire.specs.Wire.{wire}
 use Rattle.wtransport_proto.proofs.SendLemmas.{wire_some, told_none, told_more, told_fault, told_memory}
 use Rattle.wtransport_proto.proofs.journey.send.Goals as goal
@@ -24,12 +24,12 @@ pub returns-in-Ready-Err : goal.returns-in-Ready-Err
 returns-in-Ready-Err g c =
     let same = c.poll.ensures.on.same ∙ c.loop-turn.invariant.bytes in
     rw c.in-Ready-Err.fault-is (told_fault (g.W.AsyncWrite.tells c.args.sink.now) (g.W.AsyncWrite.tells c.loop-turn.sink) (g.W.AsyncWrite.tells c.poll.new.sink)
-    (wire c.args.frame.now) c.loop-turn._turn c.args.turns c.in-Ready-Err.fault c.loop-turn.writing c.poll.new.self c.loop-turn.invariant.bytes c.poll.ensures.on.forward
+    (wire c.args.frame.now) c.loop-turn._turn c.args.turns c.in-Ready-Err.fault c.loop-turn.writing c.poll.new.self (omega arith) c.loop-turn.invariant.bytes c.poll.ensures.on.forward
     (rw (ap length same) at (rw c.in-Ready-Err.field-0-is at c.in-Ready-Err.ensures.whole)) c.loop-turn.invariant.tells (rw c.in-Ready-Err.field-0-is at c.in-Ready-Err.ensures.polled))
 
 pub returns-in-NoMemory : goal.returns-in-NoMemory
 returns-in-NoMemory g c =
     let same = c.poll.ensures.on.same ∙ c.loop-turn.invariant.bytes in
     told_memory (g.W.AsyncWrite.tells c.args.sink.now) (g.W.AsyncWrite.tells c.loop-turn.sink) (g.W.AsyncWrite.tells c.poll.new.sink)
-    (wire c.args.frame.now) c.loop-turn._turn c.args.turns c.loop-turn.writing c.poll.new.self c.loop-turn.invariant.bytes c.poll.ensures.on.forward
+    (wire c.args.frame.now) c.loop-turn._turn c.args.turns c.loop-turn.writing c.poll.new.self (omega arith) c.loop-turn.invariant.bytes c.poll.ensures.on.forward
     (rw (ap length same) at c.in-NoMemory.ensures.whole) c.loop-turn.invariant.tells c.in-NoMemory.ensures.polled

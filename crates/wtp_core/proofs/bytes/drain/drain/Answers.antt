@@ -1,5 +1,5 @@
 use Rattle.std.proofs.Common.{take, drop, arith, length-drop}
-use Rattle.wtp_core.specs.Drain.{Grows, WriteHaltIsTrue}
+use Rattle.wtp_core.specs.Drain.{HaltedBy}
 use Rattle.wtp_core.specs.declared.bytes.drain.WriteHalt.TheVariants as halt
 use Rattle.wtp_core.proofs.TellingLemmas.{telling_then}
 use Rattle.wtp_core.proofs.DrainLemmas.{grows_more, grows_none}
@@ -16,20 +16,20 @@ loop-sent-preserved g c =
 
 pub returns-in-NotReady-clause-tells : goal.returns-in-NotReady-clause-tells
 returns-in-NotReady-clause-tells g c =
-    telling_then _ _ _ _ _ (λ x z. Grows (drop c.args.sent.now (take c.loop-sent.sent c.args.bytes.now)) x z × WriteHaltIsTrue halt.NotReady x z)
-    (λ x y z p q. (grows_none _ 1 0 0 x y z p q, let one = p.waits in let two = q.waits_is in omega arith)) c.loop-sent.invariant.tells c.in-NotReady.ensures.tells
+    telling_then _ _ _ _ _ (HaltedBy halt.NotReady (drop c.args.sent.now (take c.loop-sent.sent c.args.bytes.now)))
+    (λ x y z p q. grows_none _ 1 0 0 x y z p q) c.loop-sent.invariant.tells c.in-NotReady.ensures.tells
 
 pub returns-in-Stopped-clause-tells : goal.returns-in-Stopped-clause-tells
 returns-in-Stopped-clause-tells g c =
-    telling_then _ _ _ _ _ (λ x z. Grows (drop c.args.sent.now (take c.loop-sent.sent c.args.bytes.now)) x z × WriteHaltIsTrue halt.Stopped x z)
-    (λ x y z p q. (grows_none _ 0 1 0 x y z p q, let one = p.stops in let two = q.stops_is in omega arith)) c.loop-sent.invariant.tells c.in-Stopped.ensures.tells
+    telling_then _ _ _ _ _ (HaltedBy halt.Stopped (drop c.args.sent.now (take c.loop-sent.sent c.args.bytes.now)))
+    (λ x y z p q. grows_none _ 0 1 0 x y z p q) c.loop-sent.invariant.tells c.in-Stopped.ensures.tells
 
 pub returns-in-NotConnected-clause-tells : goal.returns-in-NotConnected-clause-tells
 returns-in-NotConnected-clause-tells g c =
-    telling_then _ _ _ _ _ (λ x z. Grows (drop c.args.sent.now (take c.loop-sent.sent c.args.bytes.now)) x z × WriteHaltIsTrue halt.NotConnected x z)
-    (λ x y z p q. (grows_none _ 0 0 1 x y z p q, let one = p.losses in let two = q.losses_is in omega arith)) c.loop-sent.invariant.tells c.in-NotConnected.ensures.tells
+    telling_then _ _ _ _ _ (HaltedBy halt.NotConnected (drop c.args.sent.now (take c.loop-sent.sent c.args.bytes.now)))
+    (λ x y z p q. grows_none _ 0 0 1 x y z p q) c.loop-sent.invariant.tells c.in-NotConnected.ensures.tells
 
 pub returns-in-NoMemory-clause-tells : goal.returns-in-NoMemory-clause-tells
 returns-in-NoMemory-clause-tells g c =
-    telling_then _ _ _ _ _ (λ x z. Grows (drop c.args.sent.now (take c.loop-sent.sent c.args.bytes.now)) x z × WriteHaltIsTrue halt.NoMemory x z)
-    (λ x y z p q. (grows_none _ 0 0 0 x y z p q, tt)) c.loop-sent.invariant.tells c.in-NoMemory.ensures.tells
+    telling_then _ _ _ _ _ (HaltedBy halt.NoMemory (drop c.args.sent.now (take c.loop-sent.sent c.args.bytes.now)))
+    (λ x y z p q. grows_none _ 0 0 0 x y z p q) c.loop-sent.invariant.tells c.in-NoMemory.ensures.tells
