@@ -3,8 +3,8 @@ use Rattle.std.proofs.Common.{◌≡◌, ℕ, ◌+◌, ◌<◌, ◌≤◌, List,
 use Rattle.std.proofs.lemmas.List.{take-take, take-append-le, take-append-drop}
 use Rattle.wtp_core.specs.Source.{Source, AsksOnce}
 use Rattle.wtp_core.specs.Fill.{Gains, HaltIsTrue}
-use Rattle.wtp_core.specs.declared.bytes.fill.Halt.{Halt}
-use Rattle.wtp_core.specs.declared.bytes.fill.Halt.TheVariants as halt
+use Rattle.wtp_core.specs.declared.polling.fill.Halt.{Halt}
+use Rattle.wtp_core.specs.declared.polling.fill.Halt.TheVariants as halt
 
 pub front_kept : (m n : ℕ) (xs ys zs : List ℕ) → m ≤ n → take n xs ≡ take n ys → take m ys ≡ take m zs → take m xs ≡ take m zs
 front_kept m n xs ys zs le e f = sym (take-take m n xs le) ∙ ap (λ l. take m l) e ∙ take-take m n ys le ∙ f

@@ -1,8 +1,8 @@
 -- What one poll of a number, or of a buffer, answers.
 use Rattle.std.proofs.Common.{◌≡◌, ℕ, ◌<◌, List, [], ◌++◌, length, take, drop, Option, Some, Ok, refl, sym, ap, ◌∙◌, append-nil}
 use Rattle.wtp_core.specs.declared.bytes.polled.Polled.TheVariants.{Ready}
-use Rattle.wtp_core.specs.declared.bytes.fill.Halt.{Halt}
-use Rattle.wtp_core.specs.declared.bytes.fill.Halt.TheVariants as halt
+use Rattle.wtp_core.specs.declared.polling.fill.Halt.{Halt}
+use Rattle.wtp_core.specs.declared.polling.fill.Halt.TheVariants as halt
 use Rattle.wtp_core.specs.Varint.{number_at}
 use Rattle.wtp_core.specs.VarintNeed.{varint_need, IsCut}
 use Rattle.wtp_core.specs.Source.{Source, Telling}

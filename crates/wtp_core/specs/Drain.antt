@@ -1,7 +1,7 @@
 -- What writing a buffer does to a sink.
 use Rattle.std.specs.Prelude.{ℕ, List, Option, Result, Ok, Err}
-use Rattle.wtp_core.specs.declared.bytes.drain.WriteHalt.{WriteHalt}
-use Rattle.wtp_core.specs.declared.bytes.drain.WriteHalt.TheVariants as halt
+use Rattle.wtp_core.specs.declared.polling.drain.WriteHalt.{WriteHalt}
+use Rattle.wtp_core.specs.declared.polling.drain.WriteHalt.TheVariants as halt
 use Rattle.wtp_core.specs.declared.bytes.polled.Polled.{Polled}
 use Rattle.wtp_core.specs.declared.bytes.polled.Polled.TheVariants.{Ready, Pending, NoMemory}
 use Rattle.wtp_core.specs.declared.bytes.polled.IoWriteError.{IoWriteError}

@@ -1,7 +1,7 @@
 -- What filling a buffer does to a source.
 use Rattle.std.specs.Prelude.{◌≡◌, ℕ, ◌+◌, ◌<◌, ◌≤◌, List, [], ◌++◌, length, take, Option, Result, Ok, Err}
-use Rattle.wtp_core.specs.declared.bytes.fill.Halt.{Halt}
-use Rattle.wtp_core.specs.declared.bytes.fill.Halt.TheVariants as halt
+use Rattle.wtp_core.specs.declared.polling.fill.Halt.{Halt}
+use Rattle.wtp_core.specs.declared.polling.fill.Halt.TheVariants as halt
 use Rattle.wtp_core.specs.declared.bytes.polled.Polled.{Polled}
 use Rattle.wtp_core.specs.declared.bytes.polled.Polled.TheVariants.{Ready, Pending}
 use Rattle.wtp_core.specs.declared.bytes.polled.IoReadError.{IoReadError}

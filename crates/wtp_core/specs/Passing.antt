@@ -1,6 +1,6 @@
 -- Passing over bytes that nobody keeps.
 use Rattle.std.specs.Prelude.{◌≡◌, ℕ, ◌+◌, ◌<◌, ◌≤◌, [], length, drop, Option, Result, Ok, Err}
-use Rattle.wtp_core.specs.declared.bytes.fill.Halt.{Halt}
+use Rattle.wtp_core.specs.declared.polling.fill.Halt.{Halt}
 use Rattle.wtp_core.specs.declared.bytes.source.ReadStep.{ReadStep}
 use Rattle.wtp_core.specs.declared.bytes.source.ReadStep.TheVariants.{Bytes, NotReady, Reset, NotConnected}
 use Rattle.wtp_core.specs.Source.{Source, AtEnd, AtReset, AtDisconnection, AsksOnce, Telling}

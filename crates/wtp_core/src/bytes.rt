@@ -3,11 +3,7 @@
 pub mod buffer_reader;
 pub mod buffer_writer;
 pub mod child;
-pub mod drain;
-pub mod fill;
 pub mod get;
-pub mod head;
-pub mod passing;
 pub mod polled;
 pub mod put;
 pub mod reader;

@@ -7,4 +7,5 @@ pub mod error;
 pub mod ids;
 pub mod laws;
 pub mod numbers;
+pub mod polling;
 pub mod varint;

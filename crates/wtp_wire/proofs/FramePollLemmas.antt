@@ -3,8 +3,8 @@ use Rattle.std.proofs.Common.{◌≡◌, ℕ, ◌+◌, ◌<◌, ◌≤◌, List,
 use Rattle.std.proofs.lemmas.Bool.{cases_lt, lt-ltb, ne_eqb}
 use Rattle.std.proofs.Math.Seq.{take-append_seam}
 use Rattle.wtp_core.specs.declared.bytes.polled.Polled.TheVariants.{Ready, NoMemory}
-use Rattle.wtp_core.specs.declared.bytes.fill.Halt.{Halt}
-use Rattle.wtp_core.specs.declared.bytes.fill.Halt.TheVariants as halt
+use Rattle.wtp_core.specs.declared.polling.fill.Halt.{Halt}
+use Rattle.wtp_core.specs.declared.polling.fill.Halt.TheVariants as halt
 use Rattle.wtp_core.specs.Source.{Source, Telling}
 use Rattle.wtp_core.specs.Polled.{Asks}
 use Rattle.wtp_core.specs.Fill.{Gains, HaltIsTrue}

@@ -4,8 +4,8 @@ use Rattle.std.proofs.lemmas.Bool.{cases_lt}
 use Rattle.std.proofs.lemmas.List.{drop-append-le}
 use Rattle.std.proofs.Math.Seq.{drop-append-add, take-append-add, take-append_seam, drop-append_seam}
 use Rattle.wtp_core.specs.declared.bytes.polled.Polled.TheVariants.{Ready}
-use Rattle.wtp_core.specs.declared.bytes.drain.WriteHalt.{WriteHalt}
-use Rattle.wtp_core.specs.declared.bytes.drain.WriteHalt.TheVariants as halt
+use Rattle.wtp_core.specs.declared.polling.drain.WriteHalt.{WriteHalt}
+use Rattle.wtp_core.specs.declared.polling.drain.WriteHalt.TheVariants as halt
 use Rattle.wtp_core.specs.Source.{Telling}
 use Rattle.wtp_core.specs.Sink.{Sink, Took}
 use Rattle.wtp_core.specs.Drain.{Grows, HaltedBy, write_halted}

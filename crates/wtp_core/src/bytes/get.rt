@@ -6,10 +6,10 @@ ghost use Rattle.wtp_core.specs.Varint.{number_at};
 ghost use Rattle.wtp_core.specs.VarintNeed.{varint_need, IsCut, varint_need_most, varint_need_grows};
 ghost use Rattle.wtp_core.specs.Getting.{VarintPolled, VarintGiven, BufferPolled, BufferGiven};
 
-use crate::bytes::fill::{fill, halted};
-use crate::bytes::head::{Head, fill_head};
 use crate::bytes::polled::{IoReadError, Polled};
 use crate::bytes::source::AsyncRead;
+use crate::polling::fill::{fill, halted};
+use crate::polling::head::{Head, fill_head};
 use crate::varint::{VarInt, first_varint};
 use std::marker::Model;
 

@@ -5,10 +5,10 @@ ghost use Rattle.wtp_core.specs.Varint.{shortest};
 ghost use Rattle.wtp_core.specs.Writing.{Writing, unsent, GoesOn, IsSent, WritePolled};
 
 use crate::bytes::buffer_writer::BufferWriter;
-use crate::bytes::drain::{drain, write_halted};
 use crate::bytes::polled::{IoWriteError, Polled};
 use crate::bytes::sink::AsyncWrite;
 use crate::bytes::writer::BytesWriter;
+use crate::polling::drain::{drain, write_halted};
 use crate::varint::VarInt;
 use std::marker::Model;
 

@@ -20,6 +20,11 @@ pub enum WriteStep {
 /// A sink of bytes that is asked again and again, and never waits.
 ///
 /// What it promises is its contract: an `impl` outside of checked code has to keep it.
+///
+/// A sink may have a model, `tells`: the bytes that it took, and how often it was not ready, stopped,
+/// and not connected. Each of these answers adds exactly one to its count, and changes no other. So a
+/// sink with a model that keeps a count in an integer adds with `checked_add`, and where that fails it
+/// does not give that answer: it takes a byte, or returns `NoMemory`.
 pub trait AsyncWrite {
     // What the sink tells of itself, where it tells anything: the bytes taken, and how often it was
     // not ready, stopped and not connected. A sink that tells goes on telling.

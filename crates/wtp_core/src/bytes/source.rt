@@ -18,6 +18,11 @@ pub enum ReadStep {
 /// A source of bytes that is asked again and again, and never waits.
 ///
 /// What it promises is its contract: an `impl` outside of checked code has to keep it.
+///
+/// A source may have a model, `tells`: the bytes ahead, how they end, how often it was asked, and how
+/// often it was not ready. Each `NotReady` adds exactly one to that last count. So a source with a
+/// model that keeps the count in an integer adds with `checked_add`, and where that fails it does not
+/// wait: it gives the next bytes, or how it ends.
 pub trait AsyncRead {
     // What the source tells of itself, where it tells anything: the bytes ahead, how they end, how
     // often it was asked and how often it was not ready. A source that tells goes on telling.

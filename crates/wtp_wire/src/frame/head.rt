@@ -5,8 +5,8 @@ ghost use Rattle.wtp_wire.specs.FrameHead.{said, said_second};
 
 use crate::frame::FrameKind;
 use wtp_core::bytes::get::varint_need;
-use wtp_core::bytes::head::Head;
 use wtp_core::ids::SessionId;
+use wtp_core::polling::head::Head;
 use wtp_core::varint::{VarInt, first_varint};
 
 /// What the two numbers say of the bytes behind them.

@@ -18,11 +18,11 @@ use std::alloc::Global;
 use std::marker::Model;
 use std::mem;
 use wtp_core::bytes;
-use wtp_core::bytes::fill::{Halt, begin, fill};
-use wtp_core::bytes::head::fill_head;
-use wtp_core::bytes::passing::pass;
 use wtp_core::bytes::{AsyncRead, Polled};
 use wtp_core::ids::SessionId;
+use wtp_core::polling::fill::{Halt, begin, fill};
+use wtp_core::polling::head::fill_head;
+use wtp_core::polling::passing::pass;
 
 /// Why no frame was read from a source.
 #[derive(Debug, Drop, PartialEq, Eq, thiserror::Error)]

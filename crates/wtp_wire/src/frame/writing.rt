@@ -6,10 +6,10 @@ ghost use Rattle.wtp_core.specs.Writing.{Writing, unsent, GoesOn, IsSent, WriteP
 
 use crate::frame::{Frame, FrameKind};
 use std::marker::Model;
-use wtp_core::bytes::drain::{drain, write_halted};
 use wtp_core::bytes::put::spell;
 use wtp_core::bytes::{AsyncWrite, IoWriteError, Polled};
 use wtp_core::ids::SessionId;
+use wtp_core::polling::drain::{drain, write_halted};
 use wtp_core::varint::VarInt;
 
 impl<'a> Frame<'a> {

@@ -10,11 +10,11 @@ ghost use Rattle.wtp_wire.specs.HeaderPolling.{HeaderPolled, HeaderGiven, IsWhol
 use crate::stream_header::{ParseError, StreamHeader, StreamKind};
 use std::marker::Model;
 use wtp_core::bytes;
-use wtp_core::bytes::drain::{drain, write_halted};
-use wtp_core::bytes::fill::Halt;
 use wtp_core::bytes::get::varint_need;
-use wtp_core::bytes::head::{Head, fill_head};
 use wtp_core::bytes::{AsyncRead, AsyncWrite, BufferWriter, IoWriteError, Polled};
+use wtp_core::polling::drain::{drain, write_halted};
+use wtp_core::polling::fill::Halt;
+use wtp_core::polling::head::{Head, fill_head};
 use wtp_core::varint::first_varint;
 
 /// Why no header was read from a source.

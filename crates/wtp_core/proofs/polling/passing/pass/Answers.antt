@@ -2,7 +2,7 @@ use Rattle.std.proofs.Common.{◌-◌, ◌<◌, ◌≤◌, arith}
 use Rattle.wtp_core.specs.Passing.{Passed}
 use Rattle.wtp_core.proofs.TellingLemmas.{telling_then}
 use Rattle.wtp_core.proofs.PassLemmas.{passed_then, passed_some}
-use Rattle.wtp_core.proofs.bytes.passing.pass.Goals as goal
+use Rattle.wtp_core.proofs.polling.passing.pass.Goals as goal
 
 pub loop-due-preserved : goal.loop-due-preserved
 loop-due-preserved g c =

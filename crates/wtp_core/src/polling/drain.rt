@@ -1,5 +1,4 @@
-//! Writing a buffer to a sink, as far as the sink goes (own): what the writing states of this crate
-//! and of the one above stand on.
+//! Writing a buffer to a sink, as far as the sink goes.
 ghost use Rattle.std.specs.Prelude.{◌≡◌, ◌<◌, ◌≤◌, length, take, drop, OnOk, OnErr};
 ghost use Rattle.wtp_core.specs.Sink.{SinkKeepsLengths, SinkTells};
 ghost use Rattle.wtp_core.specs.Drain.{DrainTells, write_halted};
@@ -7,7 +6,7 @@ ghost use Rattle.wtp_core.specs.Drain.{DrainTells, write_halted};
 use crate::bytes::polled::{IoWriteError, Polled};
 use crate::bytes::sink::{AsyncWrite, WriteStep};
 
-/// Why not all of a buffer was taken (own).
+/// Why not all of a buffer was taken.
 #[derive(Clone, Copy, Debug)]
 pub enum WriteHalt {
     /// The sink was not ready.
@@ -16,11 +15,18 @@ pub enum WriteHalt {
     Stopped,
     /// The sink is not connected.
     NotConnected,
-    /// The sink found no memory.
+    /// The sink is out of memory.
     NoMemory,
 }
 
-/// Writes `bytes` from the place `sent` on, until all is taken; moves the place (own).
+/// Writes `bytes` from the place `sent` on, until all is taken, and moves `sent` past what was taken.
+///
+/// On an error the sink took the bytes up to `sent`, which is less than the length of `bytes`, and a
+/// later call continues from there. The sink is not asked again after a refusal:
+///
+/// - `NotReady`, `Stopped`, `NotConnected`: the sink returned that step. Its count of that step rose
+///   by one, and its other counts did not change.
+/// - `NoMemory`: allocation failed in the sink. None of its counts changed.
 pub fn drain<W: AsyncWrite>(sink: &mut W, bytes: &[u8], sent: &mut usize) -> Result<(), WriteHalt>
     requires { sent.old ≤ length bytes.now }
     ensures forward { sent.old ≤ sent.new }
@@ -49,7 +55,8 @@ fn write_at<W: AsyncWrite>(sink: &mut W, bytes: &[u8], at: usize) -> WriteStep
     sink.poll_write(&bytes[at..])
 }
 
-/// What a writing answers that halted (own).
+/// The answer of a poll whose writing halted: `NotReady` is `Pending`, and the others are the errors of
+/// the same names, or `NoMemory`.
 pub fn write_halted(halt: WriteHalt) -> Polled<Result<(), IoWriteError>>
     ensures { result ≡ write_halted halt }
 {

@@ -2,7 +2,7 @@ use Rattle.std.proofs.Common.{◌≡◌, ◌<◌, ◌≤◌, length, take, drop,
 use Rattle.wtp_core.specs.Fill.{Gains, HaltIsTrue}
 use Rattle.wtp_core.proofs.TellingLemmas.{telling_then}
 use Rattle.wtp_core.proofs.FillLemmas.{Grown, grown, front_kept, gains_then, halt_then}
-use Rattle.wtp_core.proofs.bytes.head.fill_head.Goals as goal
+use Rattle.wtp_core.proofs.polling.head.fill_head.Goals as goal
 
 pub loop-len-preserved : goal.loop-len-preserved
 loop-len-preserved g c =

@@ -1,7 +1,7 @@
 use Rattle.std.proofs.Common.{◌≡◌, ◌≤◌, ◌+◌, ◌-◌}
 use Rattle.wtp_core.specs.Source.{Telling}
 use Rattle.wtp_core.specs.Passing.{Passed}
-use Rattle.wtp_core.proofs.bytes.passing.pass.Given as goal
+use Rattle.wtp_core.proofs.polling.passing.pass.Given as goal
 
 abbrev pub invariant-loop-due : goal.invariant-loop-due
 invariant-loop-due g l = record {

@@ -1,5 +1,4 @@
-//! Reading from a source into a buffer, as far as the source goes (own): what the reading states of
-//! this crate and of the one above stand on.
+//! Reading from a source into a buffer, as far as the source goes.
 ghost use Rattle.std.specs.Prelude.{◌≡◌, ◌<◌, ◌≤◌, length, take, drop, IfOk};
 ghost use Rattle.wtp_core.specs.Source.{StepKeepsLengths, StepTells, Telling};
 ghost use Rattle.wtp_core.specs.Fill.{BeginMoves, FillKeepsLengths, FillTells, halted_poll};
@@ -7,7 +6,7 @@ ghost use Rattle.wtp_core.specs.Fill.{BeginMoves, FillKeepsLengths, FillTells, h
 use crate::bytes::polled::{IoReadError, Polled};
 use crate::bytes::source::{AsyncRead, ReadStep};
 
-/// Why a buffer was not filled (own).
+/// Why a buffer was not filled.
 #[derive(Clone, Copy, Debug)]
 pub enum Halt {
     /// The source was not ready.
@@ -20,7 +19,13 @@ pub enum Halt {
     NotConnected,
 }
 
-/// Reads into `buf` from the place `at` on, until it is full; moves the place (own).
+/// Reads into `buf` from the place `at` on, until it is full, and moves `at` past what came.
+///
+/// The bytes before the old place do not change. On an error all bytes that came are in `buf[..at]`,
+/// `at` is less than the length of `buf`, and a later call continues from there:
+///
+/// - `NotReady`: the source was not ready. Its count of waits rose.
+/// - `Fin`, `Reset`, `NotConnected`: the source ended in this way, and has no bytes ahead.
 #[inline(always)]
 pub fn fill<S: AsyncRead>(source: &mut S, buf: &mut [u8], at: &mut usize) -> Result<(), Halt>
     requires { at.old ≤ length buf.old }
@@ -52,7 +57,10 @@ fn read_at<S: AsyncRead>(source: &mut S, buf: &mut [u8], at: usize) -> ReadStep
     source.poll_read(&mut buf[at..])
 }
 
-/// One call, into the front of a buffer that holds nothing: how many bytes came (own).
+/// Calls the source once, into an empty buffer, and returns how many bytes came, at least one. They
+/// are at the front of `buf`.
+///
+/// On an error no byte was taken from the source; the errors are those of `fill`.
 #[inline(always)]
 pub fn begin<S: AsyncRead>(source: &mut S, buf: &mut [u8]) -> Result<usize, Halt>
     requires { 0 < length buf.old }
@@ -68,7 +76,9 @@ pub fn begin<S: AsyncRead>(source: &mut S, buf: &mut [u8]) -> Result<usize, Halt
     }
 }
 
-/// What a reading answers that halted with so many bytes taken (own).
+/// The answer of a poll whose reading halted after `taken` bytes: `NotReady` is `Pending`, `Fin` is
+/// `ImmediateFin` where no byte was taken and `UnexpectedFin` otherwise, and the others are the
+/// errors of the same names.
 pub fn halted<T>(halt: Halt, taken: usize) -> Polled<Result<T, IoReadError>>
     ensures { result ≡ halted_poll halt taken }
 {

@@ -1,7 +1,7 @@
 use Rattle.std.proofs.Common.{◌≤◌, length, take, drop, ◌-◌}
 use Rattle.wtp_core.specs.Source.{Telling}
 use Rattle.wtp_core.specs.Drain.{Grows}
-use Rattle.wtp_core.proofs.bytes.drain.drain.Given as goal
+use Rattle.wtp_core.proofs.polling.drain.drain.Given as goal
 
 abbrev pub invariant-loop-sent : goal.invariant-loop-sent
 invariant-loop-sent g l = record {

@@ -1,9 +1,9 @@
 use Rattle.std.proofs.Common.{take, drop, arith, length-drop}
 use Rattle.wtp_core.specs.Drain.{HaltedBy}
-use Rattle.wtp_core.specs.declared.bytes.drain.WriteHalt.TheVariants as halt
+use Rattle.wtp_core.specs.declared.polling.drain.WriteHalt.TheVariants as halt
 use Rattle.wtp_core.proofs.TellingLemmas.{telling_then}
 use Rattle.wtp_core.proofs.DrainLemmas.{grows_more, grows_none}
-use Rattle.wtp_core.proofs.bytes.drain.drain.Goals as goal
+use Rattle.wtp_core.proofs.polling.drain.drain.Goals as goal
 
 pub loop-sent-preserved : goal.loop-sent-preserved
 loop-sent-preserved g c =

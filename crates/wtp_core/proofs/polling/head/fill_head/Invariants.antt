@@ -1,7 +1,7 @@
 use Rattle.std.proofs.Common.{◌≡◌, ◌≤◌, take, ◌-◌}
 use Rattle.wtp_core.specs.Source.{Telling}
 use Rattle.wtp_core.specs.Fill.{Gains}
-use Rattle.wtp_core.proofs.bytes.head.fill_head.Given as goal
+use Rattle.wtp_core.proofs.polling.head.fill_head.Given as goal
 
 abbrev pub invariant-loop-len : goal.invariant-loop-len
 invariant-loop-len g l = record {

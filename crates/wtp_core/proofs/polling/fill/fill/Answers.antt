@@ -1,7 +1,7 @@
 use Rattle.std.proofs.Common.{arith, length-drop}
 use Rattle.wtp_core.proofs.TellingLemmas.{telling_then}
 use Rattle.wtp_core.proofs.FillLemmas.{front_kept, gains_bytes}
-use Rattle.wtp_core.proofs.bytes.fill.fill.Goals as goal
+use Rattle.wtp_core.proofs.polling.fill.fill.Goals as goal
 
 pub loop-at-preserved : goal.loop-at-preserved
 loop-at-preserved g c =

@@ -1,11 +1,11 @@
-//! Reading the front of a thing, whose size its own bytes tell (own).
+//! Reading a head: the first bytes of an item, which determine how long the head is.
 ghost use Rattle.std.specs.Prelude.{◌≡◌, ℕ, ◌<◌, ◌≤◌, List, ◌++◌, length, take, OnOk, OnErr};
 ghost use Rattle.wtp_core.specs.Fill.{FillTells};
 
-use crate::bytes::fill::{Halt, fill};
 use crate::bytes::source::AsyncRead;
+use crate::polling::fill::{Halt, fill};
 
-/// How many bytes stand in front of a thing, as far as those held tell (own).
+/// How long a head is, as far as the bytes that are held determine it.
 pub trait Head {
     // How many bytes there have to be, at least, where these are held.
     ghost need: { List ℕ → ℕ };
@@ -13,7 +13,7 @@ pub trait Head {
     // No more are ever needed.
     ghost most: { ℕ };
 
-    /// How many bytes there have to be, at least.
+    /// The least number of bytes of a head that begins with these.
     fn need(held: &[u8]) -> usize
         requires { length held.now ≤ need held.now }
         ensures { result ≡ need held.now };
@@ -24,7 +24,12 @@ pub trait Head {
     ghost need_grows: { (h t : List ℕ) → need h ≤ need (h ++ t) };
 }
 
-/// Reads on until all that is needed is held, and not a byte more (own).
+/// Reads into `buf` from the place `len` on, until the head is complete, and takes no byte after it. A
+/// head that is complete already is left as it is, and the source is not called.
+///
+/// On an error fewer bytes are held than the head needs. All that came are in `buf[..len]`, the bytes
+/// before the old place are unchanged, and a later call continues from there. The errors are those of
+/// `fill`.
 #[inline(always)]
 pub fn fill_head<H: Head, S: AsyncRead>(
     source: &mut S,

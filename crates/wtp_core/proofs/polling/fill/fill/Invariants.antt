@@ -1,7 +1,7 @@
 use Rattle.std.proofs.Common.{◌≡◌, ◌≤◌, length, take, ◌-◌}
 use Rattle.wtp_core.specs.Source.{Telling}
 use Rattle.wtp_core.specs.Fill.{Gains}
-use Rattle.wtp_core.proofs.bytes.fill.fill.Given as goal
+use Rattle.wtp_core.proofs.polling.fill.fill.Given as goal
 
 abbrev pub invariant-loop-at : goal.invariant-loop-at
 invariant-loop-at g l = record {
