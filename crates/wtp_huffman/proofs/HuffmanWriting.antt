@@ -6,7 +6,7 @@ use Rattle.std.proofs.lemmas.List.{drop_all, drop_more, take_more, take-append-d
 use Rattle.std.proofs.lemmas.Nat.{mod_below, mod-pow-add, pow-add, pow_pos, shl_whole, shr_split}
 use Rattle.std.specs.Int.{to_be_bytes, w64}
 use Rattle.wtp_huffman.specs.Huffman.{AllOnes, IsBytes, IsPadding, bits_of, code, coded, low_bits, word_of}
-use Rattle.wtp_huffman.specs.HuffmanSteps.{Adds, AppendsHuffman, Keeps}
+use Rattle.wtp_huffman.specs.HuffmanSteps.{Adds, AppendsHuffman, BeginsWith, Keeps}
 use Rattle.wtp_huffman.specs.HuffmanTables.{front}
 use Rattle.wtp_huffman.proofs.HuffmanBits.{be_bits_8, bits_append, bits_take, drop_low_bits, front_low_bits, low_bits_append, low_bits_cat, low_bits_length, low_bits_mod, ones_bits}
 use Rattle.wtp_huffman.proofs.HuffmanReading.{coded_append, coded_one}
@@ -189,3 +189,18 @@ appended text (b ∷ old) (x ∷ out) pad bytes are all p e =
     let rest : bits_of out ≡ bits_of old ++ (coded text ++ pad) = sym (drop_low_bits 8 x (bits_of out)) ∙ ap (drop 8) whole ∙ drop_low_bits 8 b (bits_of old ++ (coded text ++ pad)) in
     let later = appended text old out pad bytes are.1 all.1 p rest in
     record { string = later.string; bytes = later.bytes; is_coded = later.is_coded; appended = ap (λ z. z ∷ out) same ∙ ap (λ z. b ∷ z) later.appended }
+
+-- ---- what was there is still in front
+
+pub begins_same : (old new : List ℕ) → new ≡ old → BeginsWith old new
+begins_same old new e = record { more = []; is = e ∙ sym (append-nil old) }
+
+pub begins_on : (old out new : List ℕ) → BeginsWith old out → BeginsWith out new → BeginsWith old new
+begins_on old out new first second =
+    record { more = first.more ++ second.more; is = second.is ∙ ap (λ z. z ++ second.more) first.is ∙ append_assoc old first.more second.more }
+
+-- bytes are appended, and cut off again down to no fewer than there were
+pub begins_cut : (old bytes : List ℕ) (n : ℕ) → length old ≤ n → BeginsWith old (take n (old ++ bytes))
+begins_cut old bytes n h =
+    let all : n ≡ length old + (n - length old) = omega arith in
+    record { more = take (n - length old) bytes; is = ap (λ j. take j (old ++ bytes)) all ∙ take-append-add old bytes (n - length old) }

@@ -54,3 +54,8 @@ pub record AppendsHuffman (text old new : List ℕ) : Type 0 where
   pub bytes : IsBytes string
   pub is_coded : IsHuffman text string
   pub appended : new ≡ old ++ string
+
+-- these bytes, and others after them
+pub record BeginsWith (old new : List ℕ) : Type 0 where
+  pub more : List ℕ
+  pub is : new ≡ old ++ more

@@ -1,5 +1,5 @@
 //! From code words to a text.
-ghost use Rattle.std.specs.Prelude.{◌≡◌, ℕ, Bool, ◌+◌, ◌-◌, ◌*◌, ◌<◌, ◌≤◌, ◌^◌, List, [], ◌∷◌, ◌++◌, length, take, IfOk, OnOk, MatchResult, IsOk, IsTrue, ◌↔◌};
+ghost use Rattle.std.specs.Prelude.{◌≡◌, ℕ, Bool, ◌+◌, ◌-◌, ◌*◌, ◌<◌, ◌≤◌, ◌^◌, List, [], ◌∷◌, ◌++◌, length, take, IfOk, OnOk, OnErr, MatchResult, IsOk, IsTrue, ◌↔◌};
 ghost use Rattle.std.specs.Vec.{vec_len, vec_capacity};
 ghost use Rattle.wtp_huffman.specs.Huffman.{bits_of, low_bits, IsHuffman};
 ghost use Rattle.wtp_huffman.specs.HuffmanSteps.{waiting_bits, IsClear, IsCodedOn, Takes, TellsAscii};
@@ -28,9 +28,11 @@ struct Found {
 
 /// The text that is coded so.
 ///
-/// The bytes are code words and then fewer than eight ones (RFC 7541, section 5.2); any other bytes are
-/// [`HuffmanError::Invalid`]. Memory is taken at once, a byte for each five bits, since no word is shorter; an empty
-/// text takes none and never fails.
+/// The bytes are code words and then fewer than eight ones (RFC 7541, section 5.2). Memory is taken at once, a byte
+/// for each five bits, since no word is shorter.
+///
+/// Returns [`HuffmanError::Invalid`] for any other bytes, and [`HuffmanError::Memory`] if allocation fails. An empty
+/// text allocates nothing and never fails.
 pub fn decode(alloc: Global, text: &[u8]) -> Result<Vec<u8>, HuffmanError>
     ensures found { IfOk result (λ t. IsHuffman t.items text.now) }
     ensures only { (t : List ℕ) → IsHuffman t text.now → MatchResult result (λ v. v.items ≡ t) (λ e. e ≡ Memory) }
@@ -47,13 +49,17 @@ fn most_bytes(text: &[u8]) -> usize
     text.len() / 5 * 8 + text.len() % 5 * 8 / 5
 }
 
-/// Puts the text that is coded so in the place of what stood in `out`, and answers whether it is ASCII. That is asked
-/// of few bytes, since all words of at most eight bits stand for ASCII. Where `out` has too little room, memory is
-/// taken at once, twice the code's length, which is more than enough and soon computed.
+/// Replaces what `out` holds by the text that is coded so, and returns whether the text is ASCII. Few bytes are tested
+/// for that, since all words of at most eight bits stand for ASCII. If `out` has too little room, memory is taken at
+/// once, twice the code's length, which is more than enough and soon computed.
+///
+/// Returns [`HuffmanError::Invalid`] if the bytes are not code words and then fewer than eight ones (RFC 7541, section
+/// 5.2), and [`HuffmanError::Memory`] if allocation fails. `out` is then empty. An empty text never fails.
 pub fn decode_into(out: &mut Vec<u8>, text: &[u8]) -> Result<bool, HuffmanError>
     ensures found { OnOk result (IsHuffman out.new.items text.now) }
     ensures only { (t : List ℕ) → IsHuffman t text.now → MatchResult result (λ _. out.new.items ≡ t) (λ e. e ≡ Memory) }
     ensures ascii { IfOk result (λ is_ascii. TellsAscii is_ascii out.new.items) }
+    ensures err { OnErr result (out.new.items ≡ []) }
     ensures empty { length text.now ≡ 0 → IsOk result }
 {
     out.clear();

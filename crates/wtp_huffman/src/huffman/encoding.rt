@@ -1,7 +1,7 @@
 //! From a text to code words.
 ghost use Rattle.std.specs.Prelude.{◌≡◌, ℕ, ◌*◌, ◌+◌, ◌%◌, ◌<◌, ◌≤◌, ◌^◌, ◌++◌, Bool, List, length, IfOk, OnOk, IsOk, MatchOption, SomeIff};
 ghost use Rattle.wtp_huffman.specs.Huffman.{bits_of, low_bits, code, coded, coded_len, IsBytes, IsHuffman, IsPadding};
-ghost use Rattle.wtp_huffman.specs.HuffmanSteps.{Adds, AppendsHuffman, IsNumberOf, Keeps};
+ghost use Rattle.wtp_huffman.specs.HuffmanSteps.{Adds, AppendsHuffman, BeginsWith, IsNumberOf, Keeps};
 
 use super::codes::code_of;
 use std::alloc::{AllocError, Global};
@@ -21,8 +21,9 @@ struct Bits {
 
 /// The text in code words, and ones up to a whole byte (RFC 7541, section 5.2).
 ///
-/// Memory is taken at once, as much as the text has and eight bytes, and more only for a text that gets longer; an
-/// empty text takes none and never fails.
+/// Memory is taken at once, as much as the text has and eight bytes, and more only for a text that gets longer.
+///
+/// Returns [`AllocError`] if allocation fails. An empty text allocates nothing and never fails.
 pub fn encode(alloc: Global, text: &[u8]) -> Result<Vec<u8>, AllocError>
     ensures coded { IfOk result (λ s. IsHuffman text.now s.items) }
     ensures empty { length text.now ≡ 0 → IsOk result }
@@ -40,9 +41,13 @@ fn room_for(text: &[u8]) -> usize
     if text.is_empty() { 0 } else { text.len() + 8 }
 }
 
-/// Appends the text in code words, and ones up to a whole byte.
+/// Appends the text in code words, and ones up to a whole byte (RFC 7541, section 5.2).
+///
+/// Returns [`AllocError`] if `out` has too little room and allocation fails. `out` then still begins with the bytes
+/// that it held before, and may hold the code of part of the text after them. An empty text never fails.
 pub fn append(out: &mut Vec<u8>, text: &[u8]) -> Result<(), AllocError>
     ensures coded { OnOk result (AppendsHuffman text.now out.old.items out.new.items) }
+    ensures front { BeginsWith out.old.items out.new.items }
     ensures empty { length text.now ≡ 0 → IsOk result }
 {
     are_bytes(out.as_slice());
@@ -165,6 +170,7 @@ fn eight_in(
 ) -> Result<Bits, AllocError>
     requires few { waiting.count < 8 }
     ensures added { IfOk result (λ r. Adds 8 (coded four.now ++ coded next.now) out.old.items waiting.count waiting.number out.new.items r.count r.number) }
+    ensures front { BeginsWith out.old.items out.new.items }
 {
     let front = words_of(four);
     let back = words_of(next);
@@ -187,6 +193,7 @@ fn four_in(
     requires some { 0 < words.count }
     requires words { words.count ≤ 64 → IsNumberOf (coded four.now) words.count words.number }
     ensures added { IfOk result (λ r. Adds 8 (coded four.now) out.old.items waiting.count waiting.number out.new.items r.count r.number) }
+    ensures front { BeginsWith out.old.items out.new.items }
 {
     if words.count <= MOST {
         return give_whole(out, joined(waiting, words));
@@ -200,6 +207,7 @@ fn four_in(
 fn each_in(out: &mut Vec<u8>, waiting: Bits, four: &[u8; 4]) -> Result<Bits, AllocError>
     requires few { waiting.count < 8 }
     ensures added { IfOk result (λ r. Adds 8 (coded four.now) out.old.items waiting.count waiting.number out.new.items r.count r.number) }
+    ensures front { BeginsWith out.old.items out.new.items }
 {
     let mut waiting = waiting;
     for byte in four {
@@ -213,6 +221,7 @@ fn each_in(out: &mut Vec<u8>, waiting: Bits, four: &[u8; 4]) -> Result<Bits, All
 fn word_in(out: &mut Vec<u8>, waiting: Bits, byte: u8) -> Result<Bits, AllocError>
     requires few { waiting.count < 64 }
     ensures added { IfOk result (λ r. Adds 64 (code byte) out.old.items waiting.count waiting.number out.new.items r.count r.number) }
+    ensures front { BeginsWith out.old.items out.new.items }
 {
     let word = word(byte);
     if waiting.count + word.count < 64 {
@@ -230,6 +239,7 @@ fn give_whole(out: &mut Vec<u8>, waiting: Bits) -> Result<Bits, AllocError>
     requires most { waiting.count ≤ 64 }
     ensures kept { IfOk result (λ r. Keeps out.old.items waiting.count waiting.number out.new.items r.count r.number) }
     ensures left { IfOk result (λ r. r.count ≡ waiting.count % 8) }
+    ensures front { BeginsWith out.old.items out.new.items }
 {
     let front = waiting.number << (64 - waiting.count);
     out.extend_from_slice(&front.to_be_bytes())?;
@@ -246,6 +256,7 @@ fn give_last(out: &mut Vec<u8>, waiting: Bits) -> Result<(), AllocError>
     requires few { waiting.count < 64 }
     ensures last { OnOk result ((pad : List Bool) × IsPadding pad × (bits_of out.new.items ≡ bits_of out.old.items ++ (low_bits waiting.count waiting.number ++ pad))) }
     ensures empty { waiting.count ≡ 0 → IsOk result }
+    ensures front { BeginsWith out.old.items out.new.items }
 {
     if waiting.count == 0 {
         return Ok(());

@@ -1,11 +1,11 @@
 use Rattle.std.proofs.Common.{arith, refl}
 use Rattle.wtp_huffman.specs.Huffman.{low_bits, IsBytes}
-use Rattle.wtp_huffman.proofs.HuffmanWriting.{IsBytes_from, appended, coded_eight, coded_next, coded_none, ended, goes_on}
+use Rattle.wtp_huffman.proofs.HuffmanWriting.{IsBytes_from, appended, begins_on, begins_same, coded_eight, coded_next, coded_none, ended, goes_on}
 use Rattle.wtp_huffman.proofs.huffman.encoding.append.Goals as goal
 
 pub loop-four-init : goal.loop-four-init
 unfolding low_bits
-loop-four-init c = record { same = refl; few = omega arith; size = omega arith; none = λ e. refl }
+loop-four-init c = record { same = refl; few = omega arith; size = omega arith; none = λ e. refl; front = begins_same _ _ refl }
 
 pub loop-four-preserved : goal.loop-four-preserved
 loop-four-preserved c =
@@ -13,6 +13,7 @@ loop-four-preserved c =
     let added = c.in_ok-waiting.ensures.added in
     record {
       same = goes_on _ _ _ _ _ _ _ _ _ _ _ c.loop-four.invariant.same (coded_eight c.loop-four.rest.now c.in-Some.four.now c.in-Some.next.now c.in-Some.behind.now parts.0) added;
+      front = begins_on _ _ _ c.loop-four.invariant.front c.eight_in.ensures.front;
       few = added.few;
       size = omega (arith, parts.1, c.loop-four.invariant.size);
       none = λ e. absurd (omega (arith, e, parts.1, c.loop-four.invariant.size));
@@ -23,6 +24,7 @@ loop-byte-preserved c =
     let added = c.in_ok-waiting-2.ensures.added in
     record {
       same = goes_on _ _ _ _ _ _ _ _ _ _ _ c.loop-byte.invariant.same (coded_next c.loop-byte.byte-index c.loop-four.rest.now c.loop-byte-test.true) added;
+      front = begins_on _ _ _ c.loop-byte.invariant.front c.word_in.ensures.front;
       few = added.few;
       size = c.loop-byte.invariant.size;
       none = λ e. absurd (omega (arith, e, c.loop-byte-test.true, c.loop-byte.invariant.size));

@@ -1,5 +1,6 @@
 use Rattle.std.proofs.Common.{◌≡◌, ◌++◌, ◌<◌, ◌≤◌, length, drop}
 use Rattle.wtp_huffman.specs.Huffman.{bits_of, low_bits, coded}
+use Rattle.wtp_huffman.specs.HuffmanSteps.{BeginsWith}
 use Rattle.wtp_huffman.proofs.huffman.encoding.append.Given as goal
 
 abbrev pub invariant-loop-four : goal.invariant-loop-four
@@ -9,6 +10,7 @@ invariant-loop-four l =
       few : l.waiting.count < 8;
       size : length l.rest ≤ length l.text;
       none : length l.text ≡ 0 → l.waiting.count ≡ 0;
+      front : BeginsWith l.fn.out.items l.out.items;
     }
 
 abbrev pub decreases-loop-four : goal.decreases-loop-four
@@ -21,4 +23,5 @@ invariant-loop-byte l =
       few : l.waiting.count < 64;
       size : length l.byte-items ≤ length l.text;
       none : length l.text ≡ 0 → l.waiting.count ≡ 0;
+      front : BeginsWith l.fn.out.items l.out.items;
     }
