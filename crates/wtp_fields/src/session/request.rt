@@ -1,5 +1,5 @@
 //! The request for a session.
-ghost use Rattle.std.specs.Prelude.{◌≡◌, ◌≢◌, ◌⊎◌, ◌↔◌, MatchResult, None, Some, Ok, Err, OnOk, OnErr, IfOk, IsTrue, IsErrOf, codes, string_bytes};
+ghost use Rattle.std.specs.Prelude.{◌≡◌, ◌≢◌, ◌⊎◌, ◌↔◌, MatchResult, None, Some, Ok, Err, OnOk, OnErr, IfOk, IfErr, IsTrue, IsErrOf, codes, string_bytes, length, ◌≤◌};
 ghost use Rattle.std.specs.Option.{option_copied};
 ghost use Rattle.url.specs.Parser.{parse_url};
 ghost use Rattle.wtp_fields.specs.Field.{put, value_of};
@@ -43,7 +43,7 @@ pub enum UrlParseError {
     /// A host for a URL that has none. It does not come here, since no host is set.
     #[error("a cannot-be-a-base URL doesn’t have a host to set")]
     SetHostOnCannotBeABaseUrl,
-    /// The URL has 4 GB or more.
+    /// The URL would be 4 GB or longer. It is returned only for a text of at least 16 MiB.
     #[error("URLs more than 4 GB are not supported")]
     Overflow,
     /// Another fault of the URL.
@@ -87,6 +87,10 @@ impl From<ParseError> for UrlParseError {
         }
     }
 }
+
+/// The length in bytes, 16 MiB, from which a text may have a URL of 4 GB or more, which `url` refuses. It would take 256
+/// bytes in the URL for each byte of a shorter text.
+const LONG_TEXT: usize = 1 << 24;
 
 /// The name is that of a field that a request sets by itself.
 #[derive(Debug, Drop, PartialEq, Eq, Error)]
@@ -144,23 +148,34 @@ impl SessionRequest {
         ":path",
     ];
 
-    /// The request for the session at a URL, whose scheme is `https`.
+    /// Returns the request for the session at a URL, whose scheme is `https` (RFC 9220, section 3; RFC 9114, section
+    /// 4.3.1).
     ///
-    /// `:authority` has the URL's user part, host, and port where it is not the default, and `:path`
-    /// its path and query. A fault of the URL is answered by the error of its name. `Overflow` may
-    /// come of a URL of 4 GB or more.
+    /// `:authority` is the URL's user part, host, and port if it is not the default, and `:path` its path and query.
+    ///
+    /// Returns the error of the same name for a fault of the URL, [`UrlParseError::SchemeNotHttps`] for a URL of another
+    /// scheme, and [`UrlParseError::Memory`] if allocation fails. [`UrlParseError::Overflow`] is returned only for a text
+    /// of 16 MiB (2^24 bytes) or more whose URL would be 4 GB or longer.
     pub fn new(alloc: Global, url: &str) -> Result<Self, UrlParseError>
-        ensures { MatchResult result (λ request. request_at (parse_url None url.now) ≡ Ok request)
+        ensures request { MatchResult result (λ request. request_at (parse_url None url.now) ≡ Ok request)
             (λ e. (request_at (parse_url None url.now) ≡ Err e) ⊎ ((e ≡ answered.Memory) ⊎ (e ≡ answered.Overflow))) }
+        ensures overflow { result ≡ Err answered.Overflow → LONG_TEXT ≤ length url.now }
     {
-        let url = Url::parse(alloc, url)?;
-        Self::for_url(alloc, &url)
+        let parsed = match Url::parse(alloc, url) {
+            Ok(parsed) => parsed,
+            Err(ParseError::Overflow) if url.len() < LONG_TEXT => {
+                return Err(UrlParseError::Memory);
+            }
+            Err(fault) => return Err(UrlParseError::from(fault)),
+        };
+        Self::for_url(alloc, &parsed)
     }
 
     /// The request for the session at a URL.
     #[tactic(auto, unfolding(crate::specs::SessionRequest::request_for))]
     fn for_url(alloc: Global, url: &Url) -> Result<Self, UrlParseError>
-        ensures { MatchResult result (λ request. request_for url.now ≡ Ok request) (λ e. e ≢ answered.Memory → request_for url.now ≡ Err e) }
+        ensures request { MatchResult result (λ request. request_for url.now ≡ Ok request) (λ e. e ≢ answered.Memory → request_for url.now ≡ Err e) }
+        ensures no_overflow { IfErr result (λ e. e ≢ answered.Overflow) }
     {
         if url.scheme() != "https" {
             return Err(UrlParseError::SchemeNotHttps);
@@ -234,8 +249,11 @@ impl TryFrom<Headers> for SessionRequest {
 
     ghost try_from_gives = { λ headers result. MatchResult result (λ request. (fault_of headers ≡ None) × (request ≡ headers)) (λ fault. fault_of headers ≡ Some fault) };
 
-    /// The request of a header map that has no fault, or the first fault in the order of
-    /// [`HeadersParseError`].
+    /// Returns the request of a header map that has the fields of one (RFC 9114, section 4.3.1; RFC 9220, section 3). It
+    /// keeps all other fields.
+    ///
+    /// Returns the first fault in the order of [`HeadersParseError`], and never `Memory`: nothing is allocated. The map
+    /// is dropped on an error.
     fn try_from(headers: Headers) -> Result<Self, HeadersParseError> {
         check(&headers)?;
         Ok(SessionRequest { headers })
