@@ -140,6 +140,10 @@ string_found n t bytes rest few e =
 
 -- ---- faults
 
+pub string_size_fault : (n : ℕ) (bytes : List ℕ) (e : DecodingError) → integer_at n bytes ≡ Err e → string_at n bytes ≡ Err e
+unfolding string_at
+string_size_fault n bytes e fault = rw fault refl
+
 pub string_short : (n count : ℕ) (size behind : List ℕ) → IsInt n count size → length behind < count → string_at n (size ++ behind) ≡ Err UnexpectedFin
 unfolding string_at
 string_short n count size behind is short = rw (int_read n count size behind is, lt-ltb (length behind) count short) refl

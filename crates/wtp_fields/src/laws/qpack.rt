@@ -30,13 +30,15 @@ pub fn prefixed_integers()
     ensures shortest { (n flags v : ℕ) (s : List ℕ) → IsInt n v s → length (shortest_int n flags v) ≤ length s }
 {}
 
-/// Reading a string and the relation of RFC 9204, section 4.1.2, are one; a length that more bytes should stand behind
-/// is cut, and whole bytes that are no text are invalid. What is written spells its text.
+/// Reading a string and the relation of RFC 9204, section 4.1.2, are one. The fault of a string's length is its own; a
+/// length of more bytes than follow is cut, and whole bytes that are no text are invalid. What is written
+/// spells its text.
 pub fn string_literals()
     ensures huffman { (t s : List ℕ) → (huffman_text s ≡ Some t) ↔ IsHuffman t s }
     ensures read { (n : ℕ) (t s rest : List ℕ) → IsString n t s → string_at n (s ++ rest) ≡ Ok (t, rest) }
     ensures found { (n : ℕ) (t bytes rest : List ℕ) → n ≤ 8 → string_at n bytes ≡ Ok (t, rest)
         → (s : List ℕ) × IsString n t s × (bytes ≡ s ++ rest) }
+    ensures length_fault { (n : ℕ) (bytes : List ℕ) (e : DecodingError) → integer_at n bytes ≡ Err e → string_at n bytes ≡ Err e }
     ensures cut { (n count : ℕ) (size behind : List ℕ) → IsInt n count size → length behind < count
         → string_at n (size ++ behind) ≡ Err UnexpectedFin }
     ensures invalid { (n : ℕ) (size body rest : List ℕ) → IsInt n (length body) size

@@ -1,5 +1,5 @@
 use Rattle.wtp_fields.proofs.StringBits.{huffman_found, huffman_only}
-use Rattle.wtp_fields.proofs.StringLaws.{string_read, string_found, string_short, string_invalid, string_written}
+use Rattle.wtp_fields.proofs.StringLaws.{string_read, string_found, string_size_fault, string_short, string_invalid, string_written}
 use Rattle.wtp_fields.proofs.laws.qpack.string_literals.Goals as goal
 
 pub returns-clause-huffman : goal.returns-clause-huffman
@@ -10,6 +10,9 @@ returns-clause-read c = string_read
 
 pub returns-clause-found : goal.returns-clause-found
 returns-clause-found c = string_found
+
+pub returns-clause-length_fault : goal.returns-clause-length_fault
+returns-clause-length_fault c = string_size_fault
 
 pub returns-clause-cut : goal.returns-clause-cut
 returns-clause-cut c = string_short
