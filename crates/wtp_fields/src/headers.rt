@@ -66,8 +66,12 @@ impl Headers {
         }
     }
 
-    /// A HEADERS frame of the map, whose payload the map determines: pseudo-header fields, whose
-    /// names begin with a colon, stand first, and each group is in the order of the names' bytes.
+    /// Returns a HEADERS frame of the map (RFC 9114, section 7.2.2), whose payload the map determines: pseudo-header
+    /// fields, whose names begin with a colon, come first (RFC 9114, section 4.3), and each group is in the order of the
+    /// names' bytes.
+    ///
+    /// Returns [`GenerateError::Memory`] if allocation fails, and [`GenerateError::PayloadTooLong`] if the payload has
+    /// 2^62 bytes or more. The map is unchanged.
     pub fn generate_frame(&self, alloc: Global) -> Result<FrameOwned, GenerateError>
         ensures frame { IfOk result (λ frame. frame ≡ HeadersOf (payload self.now)) }
         ensures too_long { result ≡ Err GenerateError.PayloadTooLong → 2 ^ 62 ≤ length (payload self.now) }
@@ -102,7 +106,9 @@ impl Headers {
         Ok(())
     }
 
-    /// The map of the pairs of a name and a value. The last value of a name wins.
+    /// Returns the map of the pairs of a name and a value. The last value of a name wins.
+    ///
+    /// Returns [`AllocError`] if allocation fails. The pairs are dropped in either case.
     pub fn from_iter<'a, I: Iterator<Item = (&'a str, &'a str)> + Drop>(
         alloc: Global,
         pairs: I,

@@ -63,6 +63,7 @@ impl<T: Drop> From<AllocFailed<T>> for DecodingError {
 }
 
 /// Reads field sections.
+#[derive(Clone, Copy, Debug, Default)]
 pub struct Decoder;
 
 impl Decoder {
@@ -85,13 +86,17 @@ impl Decoder {
 }
 
 /// Writes field sections.
+#[derive(Clone, Copy, Debug, Default)]
 pub struct Encoder;
 
 impl Encoder {
-    /// The section of the pairs of a name and a value, in their order, by the static table alone.
+    /// Returns the section of the pairs of a name and a value, in their order, by the static table alone (RFC 9204,
+    /// section 4.5).
     ///
-    /// A line refers to the first static entry of its name: to the whole of it where the value is the
-    /// same, else to the name. A text is in the Huffman code where that is strictly shorter.
+    /// A line refers to the first static entry of its name: to the whole of it if the value is the same, else to the
+    /// name. A text is in the Huffman code if that is strictly shorter.
+    ///
+    /// Returns [`AllocError`] if allocation fails. The pairs are dropped in either case.
     pub fn encode<'a, I: Iterator<Item = (&'a str, &'a str)> + Drop>(
         alloc: Global,
         pairs: I,

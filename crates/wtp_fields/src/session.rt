@@ -64,11 +64,13 @@ impl From<AllocError> for HeadersParseError {
     }
 }
 
-/// The request that a frame says.
+/// Returns the request in a HEADERS frame (RFC 9114, sections 4.1.2 and 4.3.1; RFC 9220, section 3). Not in the Rust
+/// crate.
 ///
-/// A frame of another kind than HEADERS is [`ErrorCode::FrameUnexpected`], a payload that is no field
-/// section [`ErrorCode::Decompression`], and a header map that is no request [`ErrorCode::Message`].
-/// Memory is refused only where a field line begins behind good ones.
+/// Returns [`Refused::Code`] with [`ErrorCode::FrameUnexpected`] for a frame of another kind, with
+/// [`ErrorCode::Decompression`] for a payload that is no field section, and with [`ErrorCode::Message`] for a header map
+/// that is no request. Returns [`Refused::Memory`] if allocation fails, which happens only at a field line after good
+/// ones: the frame can be read again.
 pub fn request_of_frame(alloc: Global, frame: &Frame<'_>) -> Result<SessionRequest, Refused>
     ensures read { GivesUnlessRefused result (request_in frame.now) }
     ensures memory { result ≡ Err Refused.Memory → (kind_in frame.now ≡ FrameKind.Headers) × BeginsLine (payload_in frame.now) }

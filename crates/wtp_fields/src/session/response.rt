@@ -34,7 +34,7 @@ impl From<AllocError> for AddError {
 }
 
 /// The response to the request for a session: its status code, and what else the server says.
-#[derive(Drop)]
+#[derive(Debug, Drop)]
 pub struct SessionResponse {
     headers: Headers,
 }
@@ -53,7 +53,9 @@ impl Model for SessionResponse {
 }
 
 impl SessionResponse {
-    /// The response with this status code.
+    /// Returns the response with this status code, and no other field (RFC 9114, section 4.3.2).
+    ///
+    /// Returns [`AllocError`] if allocation fails.
     pub fn with_status_code(alloc: Global, status_code: StatusCode) -> Result<Self, AllocError>
         ensures { IfOk result (λ response. response ≡ status_alone status_code) }
     {
@@ -64,28 +66,36 @@ impl SessionResponse {
         Ok(SessionResponse { headers })
     }
 
-    /// The response 200 (OK): the session is accepted.
+    /// Returns the response 200 (OK): the session is accepted (RFC 9110, section 15.3.1).
+    ///
+    /// Returns [`AllocError`] if allocation fails.
     pub fn ok(alloc: Global) -> Result<Self, AllocError>
         ensures { IfOk result (λ response. response ≡ status_alone 200) }
     {
         Self::with_status_code(alloc, StatusCode::OK)
     }
 
-    /// The response 403 (Forbidden).
+    /// Returns the response 403 (Forbidden; RFC 9110, section 15.5.4).
+    ///
+    /// Returns [`AllocError`] if allocation fails.
     pub fn forbidden(alloc: Global) -> Result<Self, AllocError>
         ensures { IfOk result (λ response. response ≡ status_alone 403) }
     {
         Self::with_status_code(alloc, StatusCode::FORBIDDEN)
     }
 
-    /// The response 404 (Not Found).
+    /// Returns the response 404 (Not Found; RFC 9110, section 15.5.5).
+    ///
+    /// Returns [`AllocError`] if allocation fails.
     pub fn not_found(alloc: Global) -> Result<Self, AllocError>
         ensures { IfOk result (λ response. response ≡ status_alone 404) }
     {
         Self::with_status_code(alloc, StatusCode::NOT_FOUND)
     }
 
-    /// The response 429 (Too Many Requests).
+    /// Returns the response 429 (Too Many Requests; RFC 6585, section 4).
+    ///
+    /// Returns [`AllocError`] if allocation fails.
     pub fn too_many_requests(alloc: Global) -> Result<Self, AllocError>
         ensures { IfOk result (λ response. response ≡ status_alone 429) }
     {
@@ -130,10 +140,10 @@ impl TryFrom<Headers> for SessionResponse {
 
     ghost try_from_gives = { λ headers result. ByStatus (status_of headers) result };
 
-    /// The response with the status code of a header map, and no other field.
+    /// Returns the response with the status code of a header map, and no other field (RFC 9114, section 4.3.2).
     ///
-    /// `MissingStatusCode` where there is no `:status`, and `InvalidStatusCode` where it is no status
-    /// code, both before memory is asked for.
+    /// Returns `MissingStatusCode` if there is no `:status`, and `InvalidStatusCode` if it is no status code from 100 to
+    /// 599, both before anything is allocated, and `Memory` if allocation fails. The map is dropped in every case.
     fn try_from(headers: Headers) -> Result<Self, HeadersParseError> {
         let Some(text) = headers.get(":status") else {
             return Err(HeadersParseError::MissingStatusCode);
