@@ -1,6 +1,6 @@
 -- The words of the program, its faults and statuses, and what it writes.
 use Rattle.std.specs.Prelude.{◌≡◌, ◌⊎◌, ℕ, ◌≤◌, List, [], ◌∷◌, length, Option, IfSome, codes}
-use Rattle.std.specs.Io.KnownBytes.{Appends}
+use Rattle.std.specs.Io.KnownBytes.{Appends, IsAtEnd}
 use Rattle.std.specs.Str.Parse.{IsNumeral, digits_value}
 use Rattle.wt_frames.specs.declared.listing.ListKind.{ListKind}
 use Rattle.wt_frames.specs.declared.listing.ListKind.TheVariants.{BiRemote, BiLocal, Control}
@@ -62,3 +62,7 @@ Lists command input output written status = IfSome input (λ bytes. (status ≡ 
 -- what a run of the program without a fault did
 abbrev pub ListsWords : List (List ℕ) → Option (List ℕ) → Option (List ℕ) → Option (List ℕ) → ℕ → Type 0
 ListsWords words input output written status = (command : Command) × Names words command × Lists command input output written status
+
+-- the arguments name a command, and all of the input was read and is short enough to be listed
+abbrev pub ReadsWhole : List (List ℕ) → Option (List ℕ) → Option (List ℕ) → Type 0
+ReadsWhole words input left = (command : Command) × Names words command × IfSome input (λ bytes. length bytes ≤ 1048576) × IsAtEnd left

@@ -26,7 +26,7 @@ pub enum ListKind {
 }
 
 /// A listing, and the status with which the program ends: 0, or 2 where a fault ends the stream.
-#[derive(Drop)]
+#[derive(Debug, Drop)]
 pub struct Listing {
     /// Its lines, each with its line feed.
     pub text: Vec<u8>,

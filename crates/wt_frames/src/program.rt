@@ -1,8 +1,8 @@
 //! The program: its words, its input and output, and its statuses.
 ghost use Rattle.std.specs.Prelude.{◌≡◌, ◌≢◌, ◌≤◌, ◌<◌, ◌⊎◌, map, length, Err, IfOk, IfErr, IfSome, OnOk, vec_len, string_bytes};
-ghost use Rattle.std.specs.Io.KnownBytes.{Appends};
+ghost use Rattle.std.specs.Io.KnownBytes.{Appends, IsAtEnd};
 ghost use Rattle.wt_frames.specs.Listings.{Says};
-ghost use Rattle.wt_frames.specs.Program.{fault_status, CanList, listing_of, NamesNone, ListsWords};
+ghost use Rattle.wt_frames.specs.Program.{fault_status, CanList, listing_of, NamesNone, ListsWords, ReadsWhole};
 
 mod words;
 
@@ -62,9 +62,11 @@ impl Fault {
 ///   zeros among them, and from 1 to 1048576.
 /// - `request`: the fields of the request, by [`list_request`].
 ///
-/// The status is that of the listing; 1 for other words; 3 for input above 1048576 bytes, a read
-/// fault and a write fault; 4 where memory is wanting. With 1, 3 and 4 `errors` gets one line, whose
-/// own fault is ignored; before the listing is whole nothing is written to `output`.
+/// The status is that of the listing; 1 for other arguments, before anything is read or written; 3 for
+/// more than 1048576 bytes of input, a failed read and a failed write; 4 if allocation fails. With 1, 3
+/// and 4 one line is written to `errors`, and a fault of that line is ignored. Nothing is written to
+/// `output` before the whole listing is made: with 1 and 4 `output` is unchanged, and with 3 too unless
+/// the listing could not be written, of which it may then hold a part.
 pub fn run_program<R: Read, W: Write, E: Write>(
     alloc: Global,
     words: &[String],
@@ -79,6 +81,8 @@ pub fn run_program<R: Read, W: Write, E: Write>(
     ensures lists { (result ≡ 0) ⊎ (result ≡ 2) → ListsWords (map (λ w. string_bytes w) words.now) (R.remaining input.old) (W.contents output.old) (W.contents output.new) result }
     // Status 1 and 4 come with nothing written.
     ensures quiet { (result ≡ 1) ⊎ (result ≡ 4) → output.new ≡ output.old }
+    // With status 3 nothing was written, unless the whole input was read and its listing was being written.
+    ensures refused { result ≡ 3 → (output.new ≡ output.old) ⊎ ReadsWhole (map (λ w. string_bytes w) words.now) (R.remaining input.old) (R.remaining input.new) }
     ensures statuses { result ≤ 4 }
 {
     match try_run(alloc, words, input, output) {
@@ -102,6 +106,7 @@ fn try_run<R: Read, W: Write>(
     ensures lists { IfOk result (ListsWords (map (λ w. string_bytes w) words.now) (R.remaining input.old) (W.contents output.old) (W.contents output.new)) }
     ensures status { IfOk result (λ s. (s ≡ 0) ⊎ (s ≡ 2)) }
     ensures quiet { IfErr result (λ e. e ≢ Fault.WriteFault → output.new ≡ output.old) }
+    ensures unwritten { result ≡ Err Fault.WriteFault → ReadsWhole (map (λ w. string_bytes w) words.now) (R.remaining input.old) (R.remaining input.new) }
 {
     let command = named_command(words).ok_or(Fault::Usage)?;
     let bytes = read_input(alloc, input)?;
@@ -127,6 +132,7 @@ fn list(alloc: Global, command: Command, input: &[u8]) -> Result<Listing, AllocE
 fn read_input<R: Read>(alloc: Global, input: &mut R) -> Result<Vec<u8>, Fault>
     ensures whole { IfOk result (λ bytes. IfSome (R.remaining input.old) (λ xs. bytes.items ≡ xs)) }
     ensures short { IfOk result (λ bytes. vec_len bytes ≤ 1048576) }
+    ensures ended { IfOk result (λ _. IsAtEnd (R.remaining input.new)) }
     ensures too_long { result ≡ Err Fault.InputTooLong → IfSome (R.remaining input.old) (λ xs. 1048576 < length xs) }
     ensures faults { IfErr result (λ e. (e ≢ Fault.Usage) × (e ≢ Fault.WriteFault)) }
 {

@@ -11,8 +11,10 @@ use wtransport_proto::bytes::BufferReader;
 use wtransport_proto::stream::bilocal::StreamBiLocalQuic;
 use wtransport_proto::stream::biremote::StreamBiRemoteQuic;
 
-/// Lists the frames in the recorded bytes of a stream. The last line says how many bytes stand
-/// behind the last frame, or which fault ends the stream.
+/// Returns the listing of the frames in the recorded bytes of a stream. The last line says how many
+/// bytes come after the last frame, or which fault ends the stream.
+///
+/// Returns [`AllocError`] if allocation fails.
 pub fn list_frames(alloc: Global, kind: ListKind, input: &[u8]) -> Result<Listing, AllocError>
     ensures listing { IfOk result (λ l. Says l (listed (recorded kind input.now))) }
     ensures status { IfOk result (λ l. (l.status ≡ 0) ⊎ (l.status ≡ 2)) }

@@ -15,9 +15,11 @@ use wtransport_proto::frame::Frame;
 use wtransport_proto::session::request_of_frame;
 use wtransport_proto::stream::biremote::StreamBiRemoteQuic;
 
-/// Lists the fields of the request for a session, which the first frame of a stream that the peer
-/// opened says, by the bytes of their names. The last line says how many bytes stand behind that
-/// frame; where there is no frame, how many bytes there are; or which fault there is.
+/// Returns the listing of the fields of the request for a session that is the first frame of a stream
+/// that the peer opened, in the order of their names' bytes. The last line says how many bytes come
+/// after that frame, how many bytes there are if there is no frame, or which fault there is.
+///
+/// Returns [`AllocError`] if allocation fails.
 pub fn list_request(alloc: Global, input: &[u8]) -> Result<Listing, AllocError>
     ensures listing { IfOk result (λ l. Says l (request_listing input.now)) }
     ensures status { IfOk result (λ l. (l.status ≡ 0) ⊎ (l.status ≡ 2)) }

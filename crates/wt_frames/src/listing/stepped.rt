@@ -18,12 +18,14 @@ use wtransport_proto::stream::{Driven, IoReadError, drive};
 /// How often a stream is polled by one drive.
 const POLLS: u32 = 1024;
 
-/// Lists the frames of a stream in both directions that the peer opened, recorded from its start to
-/// its end. They are read poll by poll from a source that gives at most `k` bytes a call, and is not
-/// ready once before each of these calls and once before its end. The listing is the same for each
-/// `k`, which is at least 1; the program tests it.
+/// Returns the listing of the frames of a stream in both directions that the peer opened, recorded from
+/// its start to its end. They are read poll by poll from a source that gives at most `k` bytes a call,
+/// and is not ready once before each of these calls and once before its end. The listing is the same
+/// for each `k`, which is at least 1; the program tests it.
 ///
-/// The last line says that the stream ends behind a frame, or which fault ends it.
+/// The last line says that the stream ends after a frame, or which fault ends it.
+///
+/// Returns [`AllocError`] if allocation fails.
 pub fn list_stepped(alloc: Global, k: usize, input: &[u8]) -> Result<Listing, AllocError>
     requires { 0 < k }
     ensures listing { IfOk result (λ l. Says l (listed (stepped input.now))) }
