@@ -1,10 +1,12 @@
 //! Payloads of header maps, faults of sections, and refused memory.
 use std::alloc::{AllocError, Global};
 use std::borrow::CowSlice;
+use std::collections::BTreeMap;
 use std::process::Abort;
 use std::test::Fail;
 use wtp_core::error::{ErrorCode, Refused};
 use wtp_fields::headers::Headers;
+use wtp_fields::qpack::{Decoder, DecodingError, Encoder};
 use wtp_wire::frame::{Frame, FrameKind, FrameOwned, GenerateError};
 
 /// The map of the pairs, made once more where memory was refused.
@@ -47,8 +49,8 @@ pub(crate) fn assert_fields(
 }
 
 #[test]
-fn payloads(rt: HostRuntime) -> Result<(), Fail> {
-    let rows: [(&str, &[(&str, &str)], &[u8]); 3] = [
+fn payloads_past_refused_memory(rt: HostRuntime) -> Result<(), Fail> {
+    let rows: [(&str, &[(&str, &str)], &[u8]); 4] = [
         ("no field", &[], b"\x00\x00"),
         (
             "names with a colon first, each group by bytes",
@@ -59,6 +61,11 @@ fn payloads(rt: HostRuntime) -> Result<(), Fail> {
             "a status is a name of the static table",
             &[(":status", "200")],
             b"\x00\x00\x5f\x09\x82\x10\x01",
+        ),
+        (
+            "one field, whose texts are shorter in the Huffman code",
+            &[("key1", "value1")],
+            b"\x00\x00\x2b\xea\x5f\x41\x85\xee\x3a\x2d\x28\x7f",
         ),
     ];
     for (shows, pairs, payload) in rows {
@@ -73,9 +80,13 @@ fn payloads(rt: HostRuntime) -> Result<(), Fail> {
 }
 
 #[test]
-fn refused_sections(rt: HostRuntime) {
-    let rows: [(&str, &[u8]); 5] = [
+fn refused_sections_past_refused_memory(rt: HostRuntime) {
+    let rows: [(&str, &[u8]); 6] = [
         ("a cut prefix", b"\x00"),
+        (
+            "a prefix whose second integer goes on",
+            b"\x00\xff\xff\xff\xff\xff\xff\xff\xff",
+        ),
         ("a line of the dynamic table", b"\x00\x00\x80"),
         ("an index behind the static table", b"\x00\x00\xff\x24"),
         ("a name that is not UTF-8", b"\x00\x00\x21\x80"),
@@ -110,7 +121,7 @@ fn insert(
 }
 
 #[test]
-fn inserts(rt: HostRuntime) -> Result<(), Fail> {
+fn inserts_past_refused_memory(rt: HostRuntime) -> Result<(), Fail> {
     let pairs = [("key1", "value1"), ("key2", "value2")];
     let mut headers = made(rt.alloc(), &[("key1", "value0"), pairs[0], pairs[1]])?;
     assert_fields(&rt, &headers, &pairs, "the last value of a name");
@@ -131,5 +142,66 @@ fn inserts(rt: HostRuntime) -> Result<(), Fail> {
     for ((name, value), expected) in back.as_ref().iter().zip(pairs) {
         assert_eq!(rt; (name.as_str(), value.as_str()), expected);
     }
+    Ok(())
+}
+
+/// The fields of a section, decoded once more where memory was refused.
+fn decoded(alloc: Global, section: &[u8]) -> Result<BTreeMap<String, String>, DecodingError> {
+    match Decoder::decode(alloc, section) {
+        Err(DecodingError::Memory) => Decoder::decode(alloc, section),
+        outcome => outcome,
+    }
+}
+
+/// The section of the pairs, encoded once more where memory was refused.
+fn encoded(alloc: Global, pairs: &[(&str, &str)]) -> Result<Vec<u8>, AllocError> {
+    match Encoder::encode(alloc, pairs.iter().copied()) {
+        Err(AllocError) => Encoder::encode(alloc, pairs.iter().copied()),
+        outcome => outcome,
+    }
+}
+
+/// What a row shows, pairs, and the fields that come back, in the order of their names.
+static SENT: [(&str, &[(&str, &str)], &[(&str, &str)]); 3] = [
+    (
+        "the last value of a name",
+        &[("key1", "a"), ("key1", "b")],
+        &[("key1", "b")],
+    ),
+    (
+        "a status that is not a number",
+        &[
+            ("key1", "value1"),
+            ("key2", "value2"),
+            (":status", "not_found"),
+        ],
+        &[
+            (":status", "not_found"),
+            ("key1", "value1"),
+            ("key2", "value2"),
+        ],
+    ),
+    ("one field", &[("key1", "value1")], &[("key1", "value1")]),
+];
+
+#[test]
+fn encoded_fields_come_back_past_refused_memory(rt: HostRuntime) -> Result<(), Fail> {
+    for (shows, pairs, fields) in SENT {
+        let section = encoded(rt.alloc(), pairs)?;
+        let back = decoded(rt.alloc(), section.as_slice())?;
+        assert_eq!(rt; back.len(), fields.len(), "{shows}");
+        for ((name, value), known) in back.iter().zip(fields) {
+            assert_eq!(rt; (name.as_str(), value.as_str()), *known, "{shows}");
+        }
+    }
+    Ok(())
+}
+
+#[test]
+fn decoders_and_encoders_are_copied(rt: HostRuntime) -> Result<(), Fail> {
+    let (decoder, encoder) = (Decoder, Encoder);
+    let copies = (decoder, encoder);
+    let shown = format!(in rt.alloc(); "{decoder:?} {encoder:?} {copies:?}")?;
+    assert!(rt; shown.as_str() == "Decoder Encoder (Decoder, Encoder)");
     Ok(())
 }

@@ -71,7 +71,7 @@ static TEXTS: [(&str, &[u8], &[u8]); 18] = [
 ];
 
 #[test]
-fn texts_and_their_strings(rt: HostRuntime) -> Result<(), Fail> {
+fn texts_and_their_strings_past_refused_memory(rt: HostRuntime) -> Result<(), Fail> {
     for (shows, text, coded) in TEXTS {
         assert_eq!(rt; encoded(rt.alloc(), text)?.as_slice(), coded, "{shows}");
         assert_eq!(rt; encoded_len(text), Some(coded.len()), "{shows}");
@@ -91,7 +91,7 @@ static REFUSED: [(&str, &[u8]); 6] = [
 ];
 
 #[test]
-fn refused_strings(rt: HostRuntime) {
+fn refused_strings_past_refused_memory(rt: HostRuntime) {
     for (shows, coded) in REFUSED {
         assert_eq!(rt;
             decoded(rt.alloc(), coded).err(),
@@ -115,7 +115,7 @@ fn refused_memory(rt: HostRuntime) -> Result<(), Fail> {
 }
 
 #[test]
-fn strings_of_one_byte(rt: HostRuntime) {
+fn strings_of_one_byte_past_refused_memory(rt: HostRuntime) {
     let (mut texts, mut refused) = (0u32, 0u32);
     for byte in 0..=255u8 {
         match decoded(rt.alloc(), &[byte]) {
@@ -133,7 +133,7 @@ fn strings_of_one_byte(rt: HostRuntime) {
 }
 
 #[test]
-fn strings_of_two_bytes(rt: HostRuntime) -> Result<(), Fail> {
+fn strings_of_two_bytes_past_refused_memory(rt: HostRuntime) -> Result<(), Fail> {
     for first in 0..=255u8 {
         for second in 0..=255u8 {
             match decoded(rt.alloc(), &[first, second]) {
@@ -227,7 +227,7 @@ static LENGTHS: [(u32, u32, &[u8]); 21] = [
 ];
 
 #[test]
-fn words(rt: HostRuntime) -> Result<(), Fail> {
+fn words_past_refused_memory(rt: HostRuntime) -> Result<(), Fail> {
     let mut symbols = 0u32;
     for (bits, first, row) in LENGTHS {
         let mut number = first;
@@ -269,7 +269,7 @@ fn shown(alloc: Global, error: HuffmanError) -> Result<String, AllocError> {
 }
 
 #[test]
-fn messages(rt: HostRuntime) -> Result<(), Fail> {
+fn messages_past_refused_memory(rt: HostRuntime) -> Result<(), Fail> {
     for (error, text) in [
         (HuffmanError::Invalid, "invalid Huffman text"),
         (HuffmanError::Memory, "no memory"),

@@ -58,7 +58,7 @@ static URLS: [(&str, &str, &str, &str); 4] = [
 ];
 
 #[test]
-fn urls(rt: HostRuntime) -> Result<(), Fail> {
+fn urls_past_refused_memory(rt: HostRuntime) -> Result<(), Fail> {
     for (shows, url, authority, path) in URLS {
         let request = requested(rt.alloc(), url)?;
         assert_eq!(rt; request.authority(), authority, "{shows}");
@@ -76,7 +76,7 @@ fn urls(rt: HostRuntime) -> Result<(), Fail> {
 }
 
 #[test]
-fn refused_urls(rt: HostRuntime) {
+fn refused_urls_past_refused_memory(rt: HostRuntime) {
     let rows = [
         ("http://localhost:4433", UrlParseError::SchemeNotHttps),
         ("wss://localhost", UrlParseError::SchemeNotHttps),
@@ -111,7 +111,7 @@ fn insert(
 }
 
 #[test]
-fn fields_of_a_request(rt: HostRuntime) -> Result<(), Fail> {
+fn fields_of_a_request_past_refused_memory(rt: HostRuntime) -> Result<(), Fail> {
     let mut request = requested(rt.alloc(), "https://example.com/")?;
     assert_eq!(rt; request.origin(), None);
     assert_eq!(rt; request.user_agent(), None);
@@ -143,7 +143,7 @@ fn fault(alloc: Global, pairs: &[(&str, &str)]) -> Result<Option<HeadersParseErr
 }
 
 #[test]
-fn faults_of_requests(rt: HostRuntime) -> Result<(), Fail> {
+fn faults_of_requests_past_refused_memory(rt: HostRuntime) -> Result<(), Fail> {
     let good = [
         (":method", "CONNECT"),
         (":scheme", "https"),
@@ -182,7 +182,7 @@ fn faults_of_requests(rt: HostRuntime) -> Result<(), Fail> {
 }
 
 #[test]
-fn sent_request(rt: HostRuntime) -> Result<(), Fail> {
+fn sent_request_past_refused_memory(rt: HostRuntime) -> Result<(), Fail> {
     let request = requested(rt.alloc(), "https://example.com/")?;
     let frame = framed(rt.alloc(), request.headers())?;
     assert_eq!(rt; frame.kind(), FrameKind::Headers);
@@ -199,7 +199,7 @@ fn sent_request(rt: HostRuntime) -> Result<(), Fail> {
 }
 
 #[test]
-fn refused_frames(rt: HostRuntime) {
+fn refused_frames_past_refused_memory(rt: HostRuntime) {
     let rows = [
         (
             "a frame of another kind",
@@ -234,7 +234,7 @@ fn refused_frames(rt: HostRuntime) {
 }
 
 #[test]
-fn responses(rt: HostRuntime) -> Result<(), Fail> {
+fn responses_past_refused_memory(rt: HostRuntime) -> Result<(), Fail> {
     let alloc = rt.alloc();
     let rows = [
         (
@@ -292,7 +292,7 @@ fn add(
 }
 
 #[test]
-fn fields_of_a_response(rt: HostRuntime) -> Result<(), Fail> {
+fn fields_of_a_response_past_refused_memory(rt: HostRuntime) -> Result<(), Fail> {
     let mut response = again!(SessionResponse::ok(rt.alloc()), AllocError)?;
     for text in ["abc", "", "+", "99", "600", "65736", "2 00"] {
         assert_eq!(rt;
@@ -320,7 +320,7 @@ fn answered(alloc: Global, pairs: &[(&str, &str)]) -> Result<SessionResponse, He
 }
 
 #[test]
-fn responses_of_maps(rt: HostRuntime) -> Result<(), Fail> {
+fn responses_of_maps_past_refused_memory(rt: HostRuntime) -> Result<(), Fail> {
     for (text, digits) in [("0200", "200"), ("+403", "403"), ("599", "599")] {
         let response = again!(
             answered(rt.alloc(), &[(":status", text), ("x", "y")]),
@@ -391,7 +391,7 @@ static ERRORS_OF_MAPS: [(HeadersParseError, &str); 11] = [
 ];
 
 #[test]
-fn printed_errors_of_maps(rt: HostRuntime) -> Result<(), Fail> {
+fn printed_errors_of_maps_past_refused_memory(rt: HostRuntime) -> Result<(), Fail> {
     for (error, text) in &ERRORS_OF_MAPS {
         assert_eq!(rt; shown(rt.alloc(), error)?.as_str(), *text);
     }
@@ -434,7 +434,7 @@ static ERRORS_OF_URLS: [(UrlParseError, &str); 13] = [
 ];
 
 #[test]
-fn printed_errors_of_urls(rt: HostRuntime) -> Result<(), Fail> {
+fn printed_errors_of_urls_past_refused_memory(rt: HostRuntime) -> Result<(), Fail> {
     for (error, text) in &ERRORS_OF_URLS {
         assert_eq!(rt; shown(rt.alloc(), error)?.as_str(), *text);
     }
