@@ -33,7 +33,7 @@ fn parts(payload: &[u8]) -> Option<(CapsuleKind, usize)>
 }
 
 #[test]
-fn sessions_are_closed(rt: HostRuntime) {
+fn sessions_are_closed_past_refused_memory(rt: HostRuntime) {
     for (payload, code, reason, word) in [
         (
             &[0x68, 0x43, 0x05, 0x00, 0x00, 0x00, 0x07, 0x78, 0xff, 0xff][..],
@@ -66,7 +66,7 @@ fn sessions_are_closed(rt: HostRuntime) {
 }
 
 #[test]
-fn bad_closes_are_refused(rt: HostRuntime) {
+fn bad_closes_are_refused_past_refused_memory(rt: HostRuntime) {
     for (payload, word) in [
         (&[0x68, 0x43, 0x03, 0x00, 0x00, 0x00][..], "three bytes"),
         (
@@ -100,7 +100,7 @@ fn other_payloads_are_no_capsules(rt: HostRuntime) {
 }
 
 #[test]
-fn reasons_have_a_limit(rt: HostRuntime) -> Result<(), Fail> {
+fn reasons_have_a_limit_past_refused_memory(rt: HostRuntime) -> Result<(), Fail> {
     let mut payload = [0x61; 1033];
     payload[..8].copy_from_slice(&[0x68, 0x43, 0x44, 0x04, 0x00, 0x00, 0x00, 0x00]);
     let kind = CapsuleKind::CloseWebTransportSession;

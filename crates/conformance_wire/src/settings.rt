@@ -4,7 +4,7 @@ ghost use Rattle.std.specs.Prelude.{◌<◌, ◌^◌, length};
 use std::alloc::{AllocError, Global};
 use std::borrow::CowSlice;
 use std::test::Fail;
-use wtp_core::bytes::BufferWriter;
+use wtp_core::bytes::{BufferWriter, PutError};
 use wtp_core::error::{ErrorCode, Refused};
 use wtp_core::varint::VarInt;
 use wtp_wire::frame::{Frame, FrameOwned, GenerateError};
@@ -56,6 +56,17 @@ fn framed(alloc: Global, settings: &Settings) -> Result<FrameOwned, GenerateErro
     }
 }
 
+/// Puts the whole frame into the empty vector; from the start again where memory was refused.
+fn written(frame: &Frame<'_>, out: &mut Vec<u8>) -> Result<(), PutError> {
+    match frame.write(out) {
+        Err(PutError::Memory) => {
+            out.clear();
+            frame.write(out)
+        }
+        answer => answer,
+    }
+}
+
 /// The payload of `steps`, by rising number.
 const STEPS: [u8; 20] = [
     0x01, 0x02, 0x07, 0x01, 0x33, 0x01, 0xab, 0x60, 0x37, 0x42, 0x01, 0xc0, 0x00, 0x00, 0x00, 0xc6,
@@ -63,7 +74,7 @@ const STEPS: [u8; 20] = [
 ];
 
 #[test]
-fn faults_are_found_in_order(rt: HostRuntime) {
+fn faults_are_found_in_order_past_refused_memory(rt: HostRuntime) {
     for (payload, code, word) in [
         (&[0x33, 0x01, 0x33, 0x00][..], ErrorCode::Settings, "again"),
         (&[0x33, 0x01, 0x33][..], ErrorCode::Frame, "again, but cut"),
@@ -98,7 +109,7 @@ fn faults_are_found_in_order(rt: HostRuntime) {
 }
 
 #[test]
-fn unknown_settings_are_ignored(rt: HostRuntime) -> Result<(), Fail> {
+fn unknown_settings_are_ignored_past_refused_memory(rt: HostRuntime) -> Result<(), Fail> {
     let read = answer(rt.alloc(), &[0x0a, 0x01, 0x0a, 0x02])?;
     let none = framed(rt.alloc(), &read)?;
     assert_eq!(rt; none.payload(), [].as_slice(), "no setting");
@@ -115,7 +126,7 @@ fn unknown_settings_are_ignored(rt: HostRuntime) -> Result<(), Fail> {
 }
 
 #[test]
-fn settings_are_written_by_rising_number(rt: HostRuntime) -> Result<(), Fail> {
+fn settings_are_written_by_rising_number_past_refused_memory(rt: HostRuntime) -> Result<(), Fail> {
     let settings = built(rt.alloc())?;
     let frame = framed(rt.alloc(), &settings)?;
     let mut room = [0x00; 22];
@@ -123,6 +134,9 @@ fn settings_are_written_by_rising_number(rt: HostRuntime) -> Result<(), Fail> {
     frame.write_to_buffer(&mut writer)?;
     assert_eq!(rt; &room[..2], [0x04, 0x14].as_slice(), "type and length");
     assert_eq!(rt; &room[2..], STEPS.as_slice(), "payload");
+    let mut whole = Vec::new(rt.alloc());
+    written(&frame, &mut whole)?;
+    assert!(rt; whole.as_slice() == room.as_slice(), "into a vector");
     let mut place = [0x55; 24];
     let lent = settings.generate_frame_ref(&mut place)?;
     assert_eq!(rt; lent.payload(), STEPS.as_slice(), "in a buffer");
@@ -140,7 +154,7 @@ fn settings_are_written_by_rising_number(rt: HostRuntime) -> Result<(), Fail> {
 }
 
 #[test]
-fn a_step_sets_one_setting(rt: HostRuntime) -> Result<(), Fail> {
+fn a_step_sets_one_setting_past_refused_memory(rt: HostRuntime) -> Result<(), Fail> {
     let connect = match Settings::builder(rt.alloc()).enable_connect_protocol() {
         Ok(builder) => builder.build(),
         Err(_) => Settings::builder(rt.alloc())
@@ -162,6 +176,12 @@ fn a_step_sets_one_setting(rt: HostRuntime) -> Result<(), Fail> {
     for settings in [&connect, &copy] {
         let frame = framed(rt.alloc(), settings)?;
         assert_eq!(rt; frame.payload(), [0x08, 0x01].as_slice());
+        let mut whole = Vec::new(rt.alloc());
+        written(&frame, &mut whole)?;
+        assert!(rt;
+            whole.as_slice() == [0x04, 0x02, 0x08, 0x01].as_slice(),
+            "its frame"
+        );
         assert_eq!(rt;
             settings.get(SettingId::EnableConnectProtocol),
             Some(VarInt::from_u32(1))
@@ -171,7 +191,7 @@ fn a_step_sets_one_setting(rt: HostRuntime) -> Result<(), Fail> {
 }
 
 #[test]
-fn a_buffer_may_be_too_short(rt: HostRuntime) -> Result<(), Fail> {
+fn a_buffer_may_be_too_short_past_refused_memory(rt: HostRuntime) -> Result<(), Fail> {
     let settings = datagrams(rt.alloc())?;
     let number = settings_number();
     assert_eq!(rt;
@@ -218,7 +238,7 @@ fn text_of(alloc: Global, fault: GenerateError) -> Result<String, AllocError> {
 }
 
 #[test]
-fn faults_have_their_texts(rt: HostRuntime) -> Result<(), Fail> {
+fn faults_have_their_texts_past_refused_memory(rt: HostRuntime) -> Result<(), Fail> {
     assert_eq!(rt;
         text_of(rt.alloc(), GenerateError::PayloadTooLong)?.as_str(),
         "payload too long"

@@ -197,7 +197,7 @@ fn text_of(alloc: Global, fault: ParseError) -> Result<String, AllocError> {
 }
 
 #[test]
-fn faults_have_their_texts(rt: HostRuntime) -> Result<(), Fail> {
+fn faults_have_their_texts_past_refused_memory(rt: HostRuntime) -> Result<(), Fail> {
     let unknown = text_of(rt.alloc(), ParseError::UnknownStream)?;
     assert_eq!(rt;
         unknown.as_str(),
