@@ -19,6 +19,11 @@ pub use Rattle.wtp_core.specs.BufferWriter
 pub use Rattle.wtp_core.specs.Ids
 pub use Rattle.wtp_core.specs.Source
 pub use Rattle.wtp_core.specs.Polled
+pub use Rattle.wtp_core.specs.VarintNeed
+pub use Rattle.wtp_core.specs.Getting
+pub use Rattle.wtp_core.specs.GetBuffer
+pub use Rattle.wtp_core.specs.Fill
+pub use Rattle.wtp_core.specs.Passing
 pub use Rattle.wtp_core.specs.Sink
 pub use Rattle.wtp_core.specs.Drain
 pub use Rattle.wtp_core.specs.Writing
@@ -26,15 +31,33 @@ pub use Rattle.wtp_core.specs.ErrorCodes
 pub use Rattle.wtp_wire.specs.Kind
 pub use Rattle.wtp_wire.specs.Content
 pub use Rattle.wtp_wire.specs.Front
+pub use Rattle.wtp_wire.specs.Reading as FrameReading
 pub use Rattle.wtp_wire.specs.Held
+pub use Rattle.wtp_wire.specs.FrameNeed
+pub use Rattle.wtp_wire.specs.FrameSteps
 pub use Rattle.wtp_wire.specs.FramePolling
 pub use Rattle.wtp_wire.specs.Wire
 pub use Rattle.wtp_wire.specs.Datagram
 pub use Rattle.wtp_wire.specs.StreamKind
 pub use Rattle.wtp_wire.specs.Header
 pub use Rattle.wtp_wire.specs.HeaderFront
+pub use Rattle.wtp_wire.specs.HeaderReading
 pub use Rattle.wtp_wire.specs.HeaderWire
+pub use Rattle.wtp_wire.specs.HeaderNeed
 pub use Rattle.wtp_wire.specs.HeaderPolling
+pub use Rattle.wtp_wire.specs.SettingId
+pub use Rattle.wtp_wire.specs.Settings
+pub use Rattle.wtp_wire.specs.Capsule
+pub use Rattle.wtp_wire.specs.CloseSession
+pub use Rattle.wtp_huffman.specs.HuffmanRows
+pub use Rattle.wtp_huffman.specs.Huffman
+pub use Rattle.wtp_fields.specs.Reading as FieldReading
+pub use Rattle.wtp_fields.specs.Integer
+pub use Rattle.wtp_fields.specs.StringLiteral
+pub use Rattle.wtp_fields.specs.StaticTable
+pub use Rattle.wtp_fields.specs.FieldLine
 pub use Rattle.wtp_fields.specs.Field
+pub use Rattle.wtp_fields.specs.FieldSection
 pub use Rattle.wtp_fields.specs.SessionRequest
+pub use Rattle.wtp_fields.specs.SessionResponse
 pub use Rattle.wtp_fields.specs.Headers

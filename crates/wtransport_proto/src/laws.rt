@@ -1,5 +1,5 @@
 //! Laws of the definitions that contracts of this crate cite. Each function does nothing: its
-//! contract is the law.
+//! contract is the law. The laws of the crates below are in [`base`], [`wire`] and [`fields`].
 ghost use Rattle.std.specs.Prelude.{◌≡◌, ◌≢◌, ◌<◌, ◌≤◌, ◌++◌, ℕ, List, Bool, false, Some, None, Ok, length, drop};
 ghost use Rattle.wtp_core.specs.declared.error.ErrorCode.{ErrorCode};
 ghost use Rattle.wtp_core.specs.declared.error.ErrorCode.TheVariants.{Id, ExcessiveLoad};
@@ -15,6 +15,10 @@ ghost use Rattle.wtransport_proto.specs.Agreeing.{Agrees};
 ghost use Rattle.wtransport_proto.specs.HeldRun.{run_held, stop_of, count_held};
 ghost use Rattle.wtransport_proto.specs.Rule.{Role, RemoteBi, RemoteUni, rule};
 ghost use Rattle.wtransport_proto.specs.Run.{Tail, MayGoOn, H3, past_unknown, run, ends, follows, stop, counted};
+
+pub use wtp_core::laws as base;
+pub use wtp_fields::laws as fields;
+pub use wtp_wire::laws as wire;
 
 pub mod place;
 

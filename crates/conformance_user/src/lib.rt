@@ -1,0 +1,46 @@
+//! A crate of a user's, which names `wtransport_proto` alone: its contracts cite the definitions
+//! that the library passes on, and its proofs use the library's laws. No product code is here.
+#![tactic(auto)]
+
+ghost use Rattle.std.specs.Prelude.{◌≡◌, ◌↔◌, Some, Ok, List, ℕ, IsTrue, IfSome, IfOk, []};
+ghost use Rattle.wtransport_proto.specs.FieldSection.{map_at};
+ghost use Rattle.wtransport_proto.specs.Front.{Begins, Framed, front};
+ghost use Rattle.wtransport_proto.specs.Settings.{value_of};
+
+use std::alloc::Global;
+use wtransport_proto::frame::Frame;
+use wtransport_proto::laws::wire::one_front;
+use wtransport_proto::qpack::{Decoder, DecodingError};
+use wtransport_proto::settings::{SettingId, Settings};
+use wtransport_proto::varint::VarInt;
+
+/// Whether the peer takes datagrams.
+pub fn takes_datagrams(settings: &Settings) -> bool
+    ensures { IsTrue result ↔ (value_of settings.now SettingId.H3Datagram ≡ Some 1) }
+{
+    settings.get(SettingId::H3Datagram) == Some(VarInt::from_u32(1))
+}
+
+/// The frame that the bytes begin with, by the wire grammar.
+pub fn first_frame<'a>(bytes: &'a [u8]) -> Option<Frame<'a>>
+    ensures { IfSome result (λ frame. (rest : List ℕ) × (front bytes.now ≡ Framed frame rest) × Begins bytes.now (Framed frame rest)) }
+{
+    one_front();
+    let mut rest = bytes;
+    match Frame::read(&mut rest) {
+        Ok(Some(frame)) => Some(frame),
+        _ => None,
+    }
+}
+
+/// Whether a field section has no field.
+///
+/// # Errors
+///
+/// The section's first fault, or `Memory` where memory was refused.
+pub fn is_empty(alloc: Global, section: &[u8]) -> Result<bool, DecodingError>
+    ensures { IfOk result (λ empty. IsTrue empty ↔ (map_at section.now ≡ Ok [])) }
+{
+    let fields = Decoder::decode(alloc, section)?;
+    Ok(fields.is_empty())
+}
