@@ -1,8 +1,8 @@
 -- The run of what a reading holds and of the bytes ahead of it.
 --
 -- It is the run of the bytes held and those ahead behind them; where payload bytes of an unknown frame are
--- due in place of bytes held, it is the run of the bytes behind those. The laws `held_run_is_run` and
--- `held_run_passes_due` say just that.
+-- due in place of bytes held, it is the run of the bytes behind those. The law `run_held_by_bytes` says
+-- just that.
 use Rattle.std.specs.Prelude.{ℕ, ◌+◌, ◌==◌, Bool, false, List, ◌++◌, length, if◌then◌else◌}
 use Rattle.wtp_core.specs.declared.error.ErrorCode.TheVariants.{Id, ExcessiveLoad, Frame}
 use Rattle.wtp_core.specs.Source.{Source, AtEnd, AtReset, AtDisconnection}
