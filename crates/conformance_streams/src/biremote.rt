@@ -43,6 +43,18 @@ fn an_unknown_frame_and_a_fault_do_not_count(rt: HostRuntime) -> Result<(), Fail
 }
 
 #[test]
+fn the_largest_length_is_too_big(rt: HostRuntime) {
+    let bytes = b"\x00\xff\xff\xff\xff\xff\xff\xff\xff".as_slice();
+    let mut stream = StreamBiRemoteQuic::accept_bi().upgrade();
+    let mut rest = bytes;
+    assert!(rt; stream.read_frame(&mut rest).err() == Some(ErrorCode::ExcessiveLoad));
+    assert!(rt; rest.is_empty());
+    let mut reader = BufferReader::new(bytes);
+    assert!(rt; stream.read_frame_from_buffer(&mut reader).err() == Some(ErrorCode::ExcessiveLoad));
+    assert!(rt; reader.offset() == 0);
+}
+
+#[test]
 fn exercise_is_read_and_a_late_session_refused(rt: HostRuntime) -> Result<(), Fail> {
     let mut reader = BufferReader::new(b"\x21\x07Payload\x40\x41\x00");
     let mut stream = StreamBiRemoteQuic::accept_bi().upgrade();

@@ -16,6 +16,8 @@ mod rules;
 #[cfg(test)]
 mod session;
 #[cfg(test)]
+mod states;
+#[cfg(test)]
 mod stepped;
 #[cfg(test)]
 mod unilocal;

@@ -20,7 +20,7 @@ const BAD_SESSION: Answer<'static> = Answer::Fault(IoReadError::H3(ErrorCode::Id
 const TOO_BIG: Answer<'static> = Answer::Fault(IoReadError::H3(ErrorCode::ExcessiveLoad));
 
 /// A stream that the peer opened: a session may come first, and not behind a frame that was read.
-const OPENED_THERE: [Row; 9] = [
+const OPENED_THERE: [Row; 10] = [
     (b"\x00\x01a", &[Answer::Frame(0x00, b"a"), FIN], "data"),
     (b"\x01\x01a", &[Answer::Frame(0x01, b"a"), FIN], "headers"),
     (b"\x04\x00", &[UNEXPECTED, FIN], "settings"),
@@ -44,6 +44,11 @@ const OPENED_THERE: [Row; 9] = [
         b"\x00\x50\x01\x40\x41\x04",
         &[TOO_BIG, Answer::Frame(0x41, b""), FIN],
         "a session behind a length that is too big",
+    ),
+    (
+        b"\x00\xff\xff\xff\xff\xff\xff\xff\xff",
+        &[TOO_BIG, FIN],
+        "the largest length",
     ),
     (
         b"\x00\x00\x40\x41\x04",
