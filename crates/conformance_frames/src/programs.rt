@@ -1,6 +1,7 @@
 //! The program, over readers and writers of the tests' own.
 use std::alloc::{AllocError, Global};
 use std::io::{self, Read, Write};
+use std::process::Abort;
 use std::test::Fail;
 use wt_frames::run_program;
 
@@ -272,27 +273,96 @@ fn long_input_is_refused(rt: HostRuntime) -> Result<(), Fail> {
     Ok(())
 }
 
-#[test]
-fn refused_memory_has_its_status(rt: HostRuntime) {
-    let alloc = rt.alloc();
+/// The words, each as a text.
+fn texts(alloc: Global, words: &[&str]) -> Result<Vec<String>, AllocError> {
+    let mut texts = Vec::new(alloc);
+    for word in words {
+        texts.push(String::from_str(alloc, word)?)?;
+    }
+    Ok(texts)
+}
+
+/// One run of the program, with room for all that it writes.
+fn run_once(alloc: Global, words: &[String], bytes: &[u8]) -> Ran {
     let mut input = Input {
-        bytes: &INPUT,
+        bytes,
         step: 100,
         fails: false,
     };
-    let mut output = Output::new(alloc, 100);
+    let mut output = Output::new(alloc, 200);
     let mut errors = Output::new(alloc, 100);
-    let status = run_program(alloc, &[], &mut input, &mut output, &mut errors);
-    if status == 4 {
-        assert_eq!(rt;
-            errors.bytes.as_slice(),
-            b"wt_frames: no memory\n".as_slice()
-        );
-        assert!(rt; output.bytes.is_empty());
-    } else if status == 0 {
-        assert_eq!(rt; output.bytes.as_slice(), LISTING.as_bytes());
-    } else {
-        // The refused allocation was one of the test's own output.
-        assert_eq!(rt; status, 3);
+    let status = run_program(alloc, words, &mut input, &mut output, &mut errors);
+    Ran {
+        status,
+        output: output.bytes,
+        errors: errors.bytes,
     }
+}
+
+/// Where memory is refused, the program answers status 4 and lists nothing, or the test's own output
+/// took none, which is a fault of writing; another run lists all.
+fn check_refused<R: Abort + AllocGlobal>(
+    rt: &R,
+    words: &[&str],
+    bytes: &[u8],
+    text: &str,
+) -> Result<(), AllocError> {
+    let words = match texts(rt.alloc(), words) {
+        Ok(words) => words,
+        Err(_) => texts(rt.alloc(), words)?,
+    };
+    let mut ran = run_once(rt.alloc(), words.as_slice(), bytes);
+    if ran.status == 4 {
+        assert!(rt;
+            ran.errors.as_slice() == b"wt_frames: no memory\n".as_slice(),
+            "{text}"
+        );
+        assert!(rt; ran.output.is_empty(), "{text}");
+    }
+    if ran.status >= 3 {
+        ran = run_once(rt.alloc(), words.as_slice(), bytes);
+    }
+    assert!(rt; ran.status == 0, "{text}");
+    assert!(rt; ran.output.as_slice() == text.as_bytes(), "{text}");
+    Ok(())
+}
+
+#[test]
+fn refused_memory_has_its_status(rt: HostRuntime) -> Result<(), Fail> {
+    check_refused(&rt, &[], &INPUT, LISTING)?;
+    Ok(())
+}
+
+#[test]
+fn refused_memory_has_its_status_on_a_stream_opened_here(rt: HostRuntime) -> Result<(), Fail> {
+    check_refused(
+        &rt,
+        &["buffer", "bi-local"],
+        b"\x00\x01a",
+        "DATA 1\nEND 0\n",
+    )?;
+    Ok(())
+}
+
+#[test]
+fn refused_memory_has_its_status_on_a_control_stream(rt: HostRuntime) -> Result<(), Fail> {
+    check_refused(
+        &rt,
+        &["buffer", "control"],
+        b"\x04\x00",
+        "SETTINGS 0\nEND 0\n",
+    )?;
+    Ok(())
+}
+
+#[test]
+fn refused_memory_has_its_status_poll_by_poll(rt: HostRuntime) -> Result<(), Fail> {
+    check_refused(&rt, &["stepped", "1"], &INPUT, LISTING)?;
+    Ok(())
+}
+
+#[test]
+fn refused_memory_has_its_status_on_a_request(rt: HostRuntime) -> Result<(), Fail> {
+    check_refused(&rt, &["request"], &REQUEST, FIELDS)?;
+    Ok(())
 }
