@@ -38,6 +38,14 @@ fn a_long_payload_is_read_back(rt: HostRuntime) -> Result<(), Fail> {
 }
 
 #[test]
+fn one_byte_too_little_room_leaves_the_buffer(rt: HostRuntime) {
+    let datagram = Datagram::new(QStreamId::MAX, b"This is a testing payload");
+    let mut buffer = [7; 32];
+    assert!(rt; datagram.write(&mut buffer) == Err(EndOfBuffer));
+    assert!(rt; buffer.as_slice() == [7; 32].as_slice());
+}
+
+#[test]
 fn faults_are_answered(rt: HostRuntime) {
     let rows: [(&[u8], &str); 3] = [
         (&[], "nothing"),

@@ -188,6 +188,8 @@ fn frames_are_written(rt: HostRuntime) -> Result<(), Fail> {
     check_written(&rt, &settings, &[0x04, 0x02, 0x33, 1])?;
     let session = SessionId::try_from_session_stream(StreamId::new(VarInt::from_u32(4)))?;
     check_written(&rt, &Frame::new_webtransport(session), &[0x40, 0x41, 0x04])?;
+    let session = SessionId::try_from_session_stream(StreamId::new(VarInt::from_u32(0)))?;
+    check_written(&rt, &Frame::new_webtransport(session), &[0x40, 0x41, 0x00])?;
     let id = VarInt::from_u32(0x21);
     let exercise = Frame::new_exercise(id, CowSlice::Borrowed(b"Payload"));
     check_written(&rt, &exercise, b"\x21\x07Payload")?;
@@ -196,6 +198,14 @@ fn frames_are_written(rt: HostRuntime) -> Result<(), Fail> {
         &Frame::new_data(CowSlice::Borrowed(&[])),
         &[0x00, 0x00],
     )?;
+    Ok(())
+}
+
+#[test]
+fn a_longer_encoding_is_written_in_the_shortest(rt: HostRuntime) -> Result<(), Fail> {
+    let mut bytes = b"\xc0\0\0\0\0\0\0\0\xc0\0\0\0\0\0\0\x01a".as_slice();
+    let frame = Frame::read(&mut bytes)?.ok_or("a frame")?;
+    check_written(&rt, &frame, &[0x00, 0x01, 0x61])?;
     Ok(())
 }
 

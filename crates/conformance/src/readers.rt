@@ -60,6 +60,21 @@ fn a_committed_child_moves_its_parent(rt: HostRuntime) -> Result<(), Fail> {
 }
 
 #[test]
+fn a_child_that_read_all_is_dropped(rt: HostRuntime) -> Result<(), Fail> {
+    let mut reader = BufferReader::new(&[1, 2]);
+    reader.skip(1)?;
+    {
+        let mut child = reader.child();
+        assert!(rt; child.get_bytes(1) == Some([2].as_slice()));
+        assert!(rt; child.capacity() == 0);
+    }
+    assert!(rt; reader.offset() == 1);
+    assert!(rt; reader.capacity() == 1);
+    assert!(rt; reader.buffer_remaining() == [2].as_slice());
+    Ok(())
+}
+
+#[test]
 fn a_dropped_child_moves_nothing(rt: HostRuntime) -> Result<(), Fail> {
     let mut reader = BufferReader::new(&[1, 2, 3]);
     reader.skip(1)?;
