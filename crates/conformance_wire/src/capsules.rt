@@ -66,7 +66,7 @@ fn sessions_are_closed_past_refused_memory(rt: HostRuntime) {
 }
 
 #[test]
-fn bad_closes_are_refused_past_refused_memory(rt: HostRuntime) {
+fn bad_closes_are_refused(rt: HostRuntime) {
     for (payload, word) in [
         (&[0x68, 0x43, 0x03, 0x00, 0x00, 0x00][..], "three bytes"),
         (
