@@ -2,15 +2,23 @@
 //! that the library passes on, and its proofs use the library's laws. No product code is here.
 #![tactic(auto)]
 
-ghost use Rattle.std.specs.Prelude.{◌≡◌, ◌↔◌, Some, Ok, List, ℕ, IsTrue, IfSome, IfOk, []};
+ghost use Rattle.std.specs.Prelude.{◌≡◌, ◌≢◌, ◌↔◌, Some, None, Ok, List, ℕ, IsTrue, IfSome, IfOk, []};
+ghost use Rattle.wtransport_proto.specs.Capsule.{capsule_in};
+ghost use Rattle.wtransport_proto.specs.CloseSession.{AnswersClose};
+ghost use Rattle.wtransport_proto.specs.Content.{kind_in, payload_in};
 ghost use Rattle.wtransport_proto.specs.FieldSection.{map_at};
 ghost use Rattle.wtransport_proto.specs.Front.{Begins, Framed, front};
+ghost use Rattle.wtransport_proto.specs.SessionResponse.{status_of};
 ghost use Rattle.wtransport_proto.specs.Settings.{value_of};
 
 use std::alloc::Global;
-use wtransport_proto::frame::Frame;
+use wtransport_proto::capsule::capsules::CloseWebTransportSession;
+use wtransport_proto::capsule::{Capsule, CapsuleKind};
+use wtransport_proto::frame::{Frame, FrameKind};
+use wtransport_proto::ids::StatusCode;
 use wtransport_proto::laws::wire::one_front;
 use wtransport_proto::qpack::{Decoder, DecodingError};
+use wtransport_proto::session::SessionResponse;
 use wtransport_proto::settings::{SettingId, Settings};
 use wtransport_proto::varint::VarInt;
 
@@ -43,4 +51,25 @@ pub fn is_empty(alloc: Global, section: &[u8]) -> Result<bool, DecodingError>
 {
     let fields = Decoder::decode(alloc, section)?;
     Ok(fields.is_empty())
+}
+
+/// Whether a DATA frame begins with a capsule that closes its session with the code 0.
+pub fn closes_cleanly(alloc: Global, frame: &Frame<'_>) -> bool
+    requires { kind_in frame.now ≡ FrameKind.Data }
+    ensures { IsTrue result → (kind : CapsuleKind) × (payload reason : List ℕ) × (capsule_in (payload_in frame.now) ≡ Some (kind, payload)) × AnswersClose payload (Ok (0, reason)) }
+{
+    let Some(capsule) = Capsule::with_frame(frame) else {
+        return false;
+    };
+    match CloseWebTransportSession::with_capsule(alloc, &capsule) {
+        Ok(close) => close.error_code() == VarInt::MIN,
+        Err(_) => false,
+    }
+}
+
+/// The status of a response, which has one.
+pub fn status(response: &SessionResponse) -> StatusCode
+    ensures { status_of response.now ≢ None }
+{
+    response.code()
 }
