@@ -24,3 +24,4 @@ pub mod CloseLemmas
 pub mod CapsuleLemmas
 pub mod WritingLemmas
 pub mod HeaderPollLemmas
+pub mod DatagramLemmas

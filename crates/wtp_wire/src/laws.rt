@@ -8,6 +8,7 @@ ghost use Rattle.wtp_wire.specs.Wire.{wire, IsReadable};
 ghost use Rattle.wtp_wire.specs.declared.frame.FrameKind.{FrameKind};
 
 pub mod capsule;
+pub mod datagram;
 pub mod polled;
 pub mod settings;
 pub mod stream_header;
