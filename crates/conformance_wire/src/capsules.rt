@@ -7,7 +7,7 @@ use std::test::Fail;
 use wtp_core::error::{ErrorCode, Refused};
 use wtp_core::varint::VarInt;
 use wtp_wire::capsule::capsules::CloseWebTransportSession;
-use wtp_wire::capsule::{Capsule, CapsuleKind};
+use wtp_wire::capsule::{Capsule, CapsuleKind, capsule_types};
 use wtp_wire::frame::Frame;
 
 /// What closing by this payload of a DATA frame answers, or `None` for no capsule; a second time
@@ -63,6 +63,12 @@ fn sessions_are_closed_past_refused_memory(rt: HostRuntime) {
             _ => assert!(rt; false, "{word}"),
         }
     }
+}
+
+#[test]
+fn the_close_capsule_has_its_number(rt: HostRuntime) {
+    let number = capsule_types::CAPSULE_TYPE_CLOSE_WEBTRANSPORT_SESSION;
+    assert_eq!(rt; number, VarInt::from_u32(0x2843));
 }
 
 #[test]

@@ -23,9 +23,10 @@ impl CapsuleKind {
     fn parse(id: VarInt) -> Option<Self>
         ensures { result ≡ capsule_kind_of id }
     {
-        match id.into_inner() {
-            0x2843 => Some(CapsuleKind::CloseWebTransportSession),
-            _ => None,
+        if id == capsule_types::CAPSULE_TYPE_CLOSE_WEBTRANSPORT_SESSION {
+            Some(CapsuleKind::CloseWebTransportSession)
+        } else {
+            None
         }
     }
 }
