@@ -227,8 +227,16 @@ impl Settings {
         Ok(Frame::new_settings(CowSlice::Borrowed(&buffer[..len])))
     }
 
-    /// Writes the payload to the front of the buffer, and answers how many bytes it has.
-    fn write_to(&self, buffer: &mut [u8]) -> Result<usize, EndOfBuffer>
+    /// Writes the payload of a SETTINGS frame to the front of the buffer, by rising number, and
+    /// returns how many bytes it has: what `generate_frame_ref` does to its buffer. It takes no
+    /// memory. Not in the Rust crate.
+    ///
+    /// `EndOfBuffer` exactly where the buffer is too short. Whatever it returns, the buffer then
+    /// begins with those of the payload's numbers that fit whole, and its other bytes stay as they
+    /// were.
+    ///
+    /// Source: RFC 9114, section 7.2.4.
+    pub fn write_to(&self, buffer: &mut [u8]) -> Result<usize, EndOfBuffer>
         ensures room { IsOk result ↔ (length (settings_wire self.now) ≤ length buffer.old) }
         ensures size { IfOk result (λ n. n ≡ length (settings_wire self.now)) }
         ensures bytes { buffer.new ≡ overwritten (settings_parts self.now) buffer.old }
