@@ -4,6 +4,8 @@
 #[cfg(test)]
 mod capsules;
 #[cfg(test)]
+mod printed;
+#[cfg(test)]
 mod settings;
 #[cfg(test)]
 mod stream_headers;

@@ -9,7 +9,7 @@ use wtp_core::error::ErrorCode;
 use wtp_core::ids::QStreamId;
 
 /// A datagram of a session: the session's quarter stream ID, and the payload.
-#[derive(Drop)]
+#[derive(Debug, Drop)]
 pub struct Datagram<'a> {
     qstream_id: QStreamId,
     payload: &'a [u8],

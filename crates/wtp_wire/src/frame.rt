@@ -17,6 +17,7 @@ use crate::frame::body::Body;
 use crate::frame::kind::KindNumber;
 pub use reading::{FrameReading, IoReadError};
 use std::borrow::CowSlice;
+use std::fmt;
 use std::marker::Model;
 pub use writing::FrameWriting;
 pub use wtp_core::bytes::IoWriteError;
@@ -127,6 +128,17 @@ impl<'a> Model for Frame<'a> {
     ghost view = { λ f. content f.kind (payload_of f.body) (session_of f.body) };
 
     ghost invariant = { λ f. IsProper f.kind (payload_of f.body) (session_of f.body) };
+}
+
+// The fields of the Rust crate's frame, however this one keeps them.
+impl fmt::Debug for Frame<'_> {
+    fn fmt<W: fmt::Write>(&self, f: &mut fmt::Formatter<W>) -> fmt::Result {
+        f.debug_struct("Frame")
+            .field("kind", &self.kind())
+            .field("payload", &self.payload())
+            .field("session_id", &self.session_id())
+            .finish()
+    }
 }
 
 impl<'a> Frame<'a> {

@@ -86,7 +86,7 @@ impl StreamKind {
 }
 
 /// The header of a unidirectional stream: its kind, and the session where it is WebTransport's.
-#[derive(Clone, Copy)]
+#[derive(Clone, Copy, Debug)]
 pub struct StreamHeader {
     kind: StreamKind,
     session_id: Option<SessionId>,

@@ -16,7 +16,7 @@ use crate::frame::whole::front_frame;
 use crate::frame::{Frame, FrameKind, FrameOwned, ParseError};
 use std::alloc::Global;
 use std::marker::Model;
-use std::mem;
+use std::{fmt, mem};
 use wtp_core::bytes;
 use wtp_core::bytes::{AsyncRead, Polled};
 use wtp_core::ids::SessionId;
@@ -84,6 +84,17 @@ pub struct FrameReading {
     payload: Vec<u8>,
     filled: usize,
     due: u64,
+}
+
+// How many bytes it holds, and how many are still to be passed over.
+impl fmt::Debug for FrameReading {
+    fn fmt<W: fmt::Write>(&self, f: &mut fmt::Formatter<W>) -> fmt::Result {
+        f.debug_struct("FrameReading")
+            .field("head_bytes", &self.len)
+            .field("payload_bytes", &self.filled)
+            .field("due_bytes", &self.due)
+            .finish_non_exhaustive()
+    }
 }
 
 impl Model for FrameReading {

@@ -5,6 +5,7 @@ ghost use Rattle.wtp_core.specs.Varint.{shortest};
 ghost use Rattle.wtp_core.specs.Writing.{Writing, unsent, GoesOn, IsSent, WritePolled};
 
 use crate::frame::{Frame, FrameKind};
+use std::fmt;
 use std::marker::Model;
 use wtp_core::bytes::put::spell;
 use wtp_core::bytes::{AsyncWrite, IoWriteError, Polled};
@@ -79,6 +80,16 @@ pub struct FrameWriting<'a> {
     head_sent: usize,
     payload: &'a [u8],
     payload_sent: usize,
+}
+
+// How many bytes were sent of the two numbers and of the payload.
+impl fmt::Debug for FrameWriting<'_> {
+    fn fmt<W: fmt::Write>(&self, f: &mut fmt::Formatter<W>) -> fmt::Result {
+        f.debug_struct("FrameWriting")
+            .field("head_sent", &self.head_sent)
+            .field("payload_sent", &self.payload_sent)
+            .finish_non_exhaustive()
+    }
 }
 
 impl<'a> Model for FrameWriting<'a> {

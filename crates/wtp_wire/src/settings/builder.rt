@@ -7,7 +7,7 @@ use std::marker::Model;
 use wtp_core::varint::VarInt;
 
 /// Settings that are set one after the other.
-#[derive(Drop)]
+#[derive(Debug, Drop)]
 pub struct SettingsBuilder {
     settings: Settings,
 }

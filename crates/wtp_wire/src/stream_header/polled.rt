@@ -8,6 +8,7 @@ ghost use Rattle.wtp_wire.specs.HeaderNeed.{header_need, header_need_most, heade
 ghost use Rattle.wtp_wire.specs.HeaderPolling.{HeaderPolled, HeaderGiven, IsWhole, halted_header};
 
 use crate::stream_header::{ParseError, StreamHeader, StreamKind};
+use std::fmt;
 use std::marker::Model;
 use wtp_core::bytes;
 use wtp_core::bytes::get::varint_need;
@@ -111,6 +112,15 @@ pub struct HeaderReading {
     len: usize,
 }
 
+// How many bytes it holds.
+impl fmt::Debug for HeaderReading {
+    fn fmt<W: fmt::Write>(&self, f: &mut fmt::Formatter<W>) -> fmt::Result {
+        f.debug_struct("HeaderReading")
+            .field("bytes", &self.len)
+            .finish_non_exhaustive()
+    }
+}
+
 impl Model for HeaderReading {
     ghost Value = { List ℕ };
 
@@ -196,6 +206,15 @@ pub struct HeaderWriting {
     bytes: [u8; 16],
     len: usize,
     sent: usize,
+}
+
+// How many bytes were sent.
+impl fmt::Debug for HeaderWriting {
+    fn fmt<W: fmt::Write>(&self, f: &mut fmt::Formatter<W>) -> fmt::Result {
+        f.debug_struct("HeaderWriting")
+            .field("sent", &self.sent)
+            .finish_non_exhaustive()
+    }
 }
 
 impl Model for HeaderWriting {
