@@ -1,5 +1,5 @@
 -- Reading a frame of a stream, poll by poll.
-use Rattle.std.specs.Prelude.{◌≡◌, ◌⊎◌, ◌<◌, ◌≤◌, Bool, false, List, [], ◌++◌, length, Some, None, Result, Ok, Err}
+use Rattle.std.specs.Prelude.{◌≡◌, ◌≢◌, ◌⊎◌, ◌<◌, ◌≤◌, Bool, false, List, [], ◌++◌, length, Some, None, Result, Ok, Err}
 use Rattle.wtp_core.specs.declared.error.ErrorCode.{ErrorCode}
 use Rattle.wtp_core.specs.declared.error.ErrorCode.TheVariants.{Id, ExcessiveLoad, Frame}
 use Rattle.wtp_core.specs.declared.bytes.polled.Polled.{Polled}
@@ -108,7 +108,7 @@ PassGiven old new = Answered old new Unknown ⊎ (Keeps old new × (0 < new.due)
 abbrev pub StreamGiven : Role → Polled (Result Content IoReadError) → Bool → Bool → Held → Held → Type 0
 StreamGiven role (Ready (Ok f)) first next old new = Answered old new (Framed f) × (rule role first (kind_in f) ≡ None) × (next ≡ false)
 StreamGiven role (Ready (Err (stream.H3 c))) first next old new = CodeGiven role first next old new c
-StreamGiven role (Ready (Err (stream.IO e))) first next old new = Keeps old new × (next ≡ first)
+StreamGiven role (Ready (Err (stream.IO e))) first next old new = Keeps old new × (next ≡ first) × (e ≢ io.UnexpectedFin)
 StreamGiven role Pending first next old new = Keeps old new × (next ≡ first)
 StreamGiven role Again first next old new = PassGiven old new × (next ≡ first)
 StreamGiven role NoMemory first next old new = Keeps old new × (new.due ≡ 0) × HoldsHead new.taken × (next ≡ first)

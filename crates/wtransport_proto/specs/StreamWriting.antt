@@ -1,10 +1,11 @@
 -- Writing a frame to a stream, poll by poll.
-use Rattle.std.specs.Prelude.{◌≡◌, ◌≢◌, false, Result, Ok, Err}
+use Rattle.std.specs.Prelude.{◌≡◌, ◌≢◌, ℕ, List, false, Result, Ok, Err}
 use Rattle.wtp_core.specs.declared.bytes.polled.Polled.{Polled}
 use Rattle.wtp_core.specs.declared.bytes.polled.Polled.TheVariants.{Ready, Pending, Again, NoMemory}
 use Rattle.wtp_core.specs.declared.bytes.polled.IoWriteError.{IoWriteError}
 use Rattle.wtp_core.specs.Writing.{Writing}
 use Rattle.wtp_wire.specs.declared.frame.FrameKind.TheVariants.{WebTransport}
+use Rattle.wtp_wire.specs.Kind.{IsKnown}
 use Rattle.wtp_wire.specs.Content.{Content, kind_in}
 use Rattle.wtp_wire.specs.Wire.{wire}
 use Rattle.wtransport_proto.specs.declared.stream.Stream.{Stream}
@@ -12,11 +13,16 @@ use Rattle.wtransport_proto.specs.declared.stream.types.BiLocal.{BiLocal}
 use Rattle.wtransport_proto.specs.declared.stream.types.H3.{H3}
 use Rattle.wtransport_proto.specs.Streams.{can_upgrade}
 
--- it writes a frame of another kind than WebTransport
-pub record WritesPlain (w : Writing) : Type 0 where
+-- s is a frame that can be, of another kind than WebTransport; the number of an exercise frame is one of those that are reserved
+pub record IsPlain (s : List ℕ) : Type 0 where
   pub frame : Content
+  pub known : IsKnown (kind_in frame)
   pub plain : kind_in frame ≢ WebTransport
-  pub bytes : w.bytes ≡ wire frame
+  pub bytes : s ≡ wire frame
+
+-- It writes such a frame. That there is one is a fact with one proof, so that a struct may keep it for a loop of polls.
+abbrev pub WritesPlain : Writing → Type 0
+WritesPlain w = ∥ IsPlain w.bytes ∥₁
 
 -- a stream to which a frame was written whole cannot be upgraded any more; no other answer changes it
 abbrev pub Begun : {U : Type 0} → Polled (Result U IoWriteError) → Stream BiLocal (H3 (Unit {0})) → Stream BiLocal (H3 (Unit {0})) → Type 0

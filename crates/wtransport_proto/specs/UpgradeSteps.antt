@@ -1,5 +1,5 @@
 -- Upgrading a stream, poll by poll.
-use Rattle.std.specs.Prelude.{◌≡◌, ◌⊎◌, ℕ, ◌<◌, List, [], ◌++◌, length, drop}
+use Rattle.std.specs.Prelude.{◌≡◌, ◌≢◌, ◌⊎◌, ℕ, ◌<◌, List, [], ◌++◌, length, drop}
 use Rattle.wtp_core.specs.declared.bytes.polled.Stepped.{Stepped}
 use Rattle.wtp_core.specs.declared.bytes.polled.Stepped.TheVariants.{Done, Pending, NoMemory, Failed}
 use Rattle.wtp_core.specs.declared.bytes.polled.IoReadError.TheVariants as read
@@ -89,7 +89,7 @@ AcceptPolled (Done s) old a b = header_front (old ++ a.ahead) ≡ Headed (header
 AcceptPolled (Pending p) old a b = Waits old p.reading a b
 AcceptPolled (NoMemory p) old a b = ⊥
 AcceptPolled (Failed p (stream.H3 c)) old a b = HeaderFault c old p.reading a b
-AcceptPolled (Failed p (stream.IO e)) old a b = (header_front (old ++ a.ahead) ≡ Short) × Stops old p.reading e a b
+AcceptPolled (Failed p (stream.IO e)) old a b = (e ≢ read.UnexpectedFin) × (header_front (old ++ a.ahead) ≡ Short) × Stops old p.reading e a b
 
 abbrev pub Grew : List ℕ → List ℕ → Type 0
 Grew old new = (given : List ℕ) × (new ≡ old ++ given)
@@ -106,4 +106,4 @@ AcceptGiven (Done s) old = (given : List ℕ) × (header_front (old.reading ++ g
 AcceptGiven (Pending p) old = (p.stream ≡ old.stream) × Grew old.reading p.reading
 AcceptGiven (NoMemory p) old = ⊥
 AcceptGiven (Failed p (stream.H3 c)) old = (p.stream ≡ old.stream) × HeaderFaultGiven c old.reading p.reading
-AcceptGiven (Failed p (stream.IO e)) old = (p.stream ≡ old.stream) × Grew old.reading p.reading
+AcceptGiven (Failed p (stream.IO e)) old = (e ≢ read.UnexpectedFin) × (p.stream ≡ old.stream) × Grew old.reading p.reading

@@ -166,7 +166,8 @@ impl StreamBiLocalH3 {
     /// WebTransport, which is for `upgrade_async`.
     ///
     /// A stream to which a frame was written whole cannot be upgraded any more; after every other
-    /// answer it is as it was.
+    /// answer it is as it was. The condition still holds after each poll, so that the next one may
+    /// follow.
     pub fn write_frame_async<W: AsyncWrite>(
         &mut self,
         writing: &mut FrameWriting<'_>,
@@ -177,6 +178,7 @@ impl StreamBiLocalH3 {
         ensures whole { IsSent result writing.new }
         ensures polled { Telling (W.tells sink.old) (W.tells sink.new) (WritePolled result writing.old writing.new) }
         ensures finished { writing.old.sent ≡ length writing.old.bytes → (sink.new ≡ sink.old) × (result ≡ Polled.Ready (Ok tt)) }
+        ensures plain { WritesPlain writing.new }
         ensures begun { Begun result self.old self.new }
     {
         let answer = writing.poll(sink);

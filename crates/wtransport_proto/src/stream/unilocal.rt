@@ -1,20 +1,19 @@
 //! Streams in one direction that this end opened.
-ghost use Rattle.std.specs.Prelude.{◌≡◌, ◌≢◌, ◌≤◌, ◌↔◌, length, Err, IfOk, IfErr, IsOk, OnOk, OnErr, Ok};
+ghost use Rattle.std.specs.Prelude.{◌≡◌, ◌≤◌, ◌↔◌, length, Err, IfOk, IfErr, IsOk, OnOk, OnErr, Ok};
 ghost use Rattle.wtp_core.specs.Source.{Telling};
 ghost use Rattle.wtp_core.specs.Writer.{PutsParts, LacksRoom};
 ghost use Rattle.wtp_core.specs.BufferWriter.{room_in, loan_of, IsUnwritten, Wrote};
 ghost use Rattle.wtp_core.specs.Writing.{GoesOn, IsSent, WritePolled, unsent};
-ghost use Rattle.wtp_wire.specs.Header.{header_kind};
 ghost use Rattle.wtp_wire.specs.HeaderWire.{header_parts, header_wire};
 ghost use Rattle.wtp_wire.specs.Wire.{parts_of, wire};
-ghost use Rattle.wtransport_proto.specs.Streams.{header_of};
+ghost use Rattle.wtransport_proto.specs.Streams.{CanWrite, header_of};
 ghost use Rattle.wtransport_proto.specs.Upgrading.{write_answer};
 
 use crate::stream::types::{H3, Quic, UniLocal, WT};
 use crate::stream::{IoWriteError, Stream, UniUpgrading};
 use wtp_core::bytes::{AsyncWrite, BufferWriter, BytesWriter, EndOfBuffer, Polled, PutError};
 use wtp_wire::frame::{Frame, FrameWriting};
-use wtp_wire::stream_header::{StreamHeader, StreamKind};
+use wtp_wire::stream_header::StreamHeader;
 
 /// A stream of QUIC.
 pub type StreamUniLocalQuic = Stream<UniLocal, Quic>;
@@ -92,11 +91,12 @@ impl StreamUniLocalH3 {
         frame: Frame<'_>,
         writer: &mut W,
     ) -> Result<(), PutError>
-        requires { header_kind (header_of self.old) ≢ StreamKind.WebTransport }
+        requires { CanWrite self.old }
         ensures parts { PutsParts W.grows (parts_of frame.entry) result (W.written writer.old) (W.room writer.old) (W.written writer.new) (W.room writer.new) }
         ensures full { result ≡ Err PutError.EndOfBuffer → LacksRoom (W.room writer.old) (length (wire frame.entry)) }
         ensures target { W.target writer.new ≡ W.target writer.old }
         ensures same { self.new ≡ self.old }
+        ensures writable { CanWrite self.new }
     {
         frame.write(writer)
     }
@@ -107,12 +107,13 @@ impl StreamUniLocalH3 {
         frame: Frame<'_>,
         writer: &mut BufferWriter<'_>,
     ) -> Result<(), EndOfBuffer>
-        requires { header_kind (header_of self.old) ≢ StreamKind.WebTransport }
+        requires { CanWrite self.old }
         ensures room { IsOk result ↔ (length (wire frame.entry) ≤ length (room_in writer.old)) }
         ensures ok { OnOk result (Wrote (wire frame.entry) writer.old writer.new) }
         ensures err { OnErr result (IsUnwritten writer.old writer.new) }
         ensures loan { loan_of writer.new ≡ loan_of writer.old }
         ensures same { self.new ≡ self.old }
+        ensures writable { CanWrite self.new }
     {
         frame.write_to_buffer(writer)
     }
@@ -124,12 +125,13 @@ impl StreamUniLocalH3 {
         writing: &mut FrameWriting<'_>,
         sink: &mut W,
     ) -> Polled<Result<(), IoWriteError>>
-        requires { header_kind (header_of self.old) ≢ StreamKind.WebTransport }
+        requires { CanWrite self.old }
         ensures on { GoesOn writing.old writing.new }
         ensures whole { IsSent result writing.new }
         ensures polled { Telling (W.tells sink.old) (W.tells sink.new) (WritePolled result writing.old writing.new) }
         ensures finished { writing.old.sent ≡ length writing.old.bytes → (sink.new ≡ sink.old) × (result ≡ Polled.Ready (Ok tt)) }
         ensures same { self.new ≡ self.old }
+        ensures writable { CanWrite self.new }
     {
         writing.poll(sink)
     }

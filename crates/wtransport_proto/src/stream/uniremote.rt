@@ -113,6 +113,7 @@ impl StreamUniRemoteH3 {
         ensures rest { IsRest (R.left reader.new) (R.left reader.old) }
         ensures kept { R.kept reader.new ≡ R.kept reader.old }
         ensures same { self.new ≡ self.old }
+        ensures readable { CanRead self.new }
     {
         reading::read_frame::<Self, R>(&mut true, reader)
     }
@@ -129,6 +130,7 @@ impl StreamUniRemoteH3 {
         ensures place { StandsAfter RemoteUni false (left_of reader.old) result false (left_of reader.new) }
         ensures whole { whole_of reader.new ≡ whole_of reader.old }
         ensures same { self.new ≡ self.old }
+        ensures readable { CanRead self.new }
     {
         reading::read_frame_from_buffer::<Self>(&mut true, reader)
     }
@@ -156,6 +158,7 @@ impl StreamUniRemoteH3 {
         ensures polled { Telling (S.tells source.old) (S.tells source.new) (StreamPolled RemoteUni result false false reading.old reading.new) }
         ensures asks { Telling (S.tells source.old) (S.tells source.new) (Asks 4112) }
         ensures same { self.new ≡ self.old }
+        ensures readable { CanRead self.new }
     {
         polled::poll_frame::<Self, S>(&mut true, reading, source)
     }
