@@ -53,7 +53,8 @@ pub mod qpack_error_codes {
     pub const QPACK_DECOMPRESSION_FAILED: VarInt = VarInt { value: 0x0200 };
 }
 
-/// The numbers of WebTransport's error codes.
+/// The numbers of WebTransport's error codes (draft-ietf-webtrans-http3-07, "HTTP/3 Error Code
+/// Registration").
 pub mod wt_error_codes {
     use crate::varint::VarInt;
 

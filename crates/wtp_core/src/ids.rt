@@ -361,6 +361,8 @@ impl FromStr for StatusCode {
     ghost from_str_gives = { λ text r. OkIff r (IsStatusText text) (status_in text) };
 
     /// The code that the text writes: an optional plus and at least one decimal digit.
+    ///
+    /// `InvalidStatusCode` where the text is no such number, or one that is not from 100 to 599.
     fn from_str(s: &str) -> Result<Self, InvalidStatusCode> {
         match s.parse::<u16>() {
             Ok(value) => StatusCode::try_from_u32(u32::from(value)),

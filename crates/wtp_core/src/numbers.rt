@@ -3,7 +3,8 @@
 //! The modules of the wire format pass them on under their own names. They stand here since a
 //! constant `VarInt` is written out, which needs its private field.
 
-/// Type numbers of frames (RFC 9114, section 11.2.1; 0x41 is WebTransport's).
+/// Type numbers of frames (RFC 9114, section 11.2.1; 0x41: draft-ietf-webtrans-http3-02, section
+/// 4.2).
 pub mod frame_kind_ids {
     use crate::varint::VarInt;
 
@@ -20,7 +21,8 @@ pub mod frame_kind_ids {
     pub const WEBTRANSPORT_STREAM: VarInt = VarInt { value: 0x41 };
 }
 
-/// Type numbers of unidirectional streams (RFC 9114, section 6.2; RFC 9204, section 4.2; 0x54 is WebTransport's).
+/// Type numbers of unidirectional streams (RFC 9114, section 6.2; RFC 9204, section 4.2; 0x54:
+/// draft-ietf-webtrans-http3-02, section 4.1).
 pub mod stream_type_ids {
     use crate::varint::VarInt;
 
@@ -56,10 +58,10 @@ pub mod setting_ids {
     /// Datagrams are taken.
     pub const SETTINGS_H3_DATAGRAM: VarInt = VarInt { value: 0x33 };
 
-    /// WebTransport is taken.
+    /// WebTransport is taken (draft-ietf-webtrans-http3-02, section 3.1).
     pub const SETTINGS_ENABLE_WEBTRANSPORT: VarInt = VarInt { value: 0x2b60_3742 };
 
-    /// How many WebTransport sessions may be open at once.
+    /// How many WebTransport sessions may be open at once (draft-ietf-webtrans-http3-07).
     pub const SETTINGS_WEBTRANSPORT_MAX_SESSIONS: VarInt = VarInt { value: 0xc671_706a };
 }
 
@@ -67,6 +69,6 @@ pub mod setting_ids {
 pub mod capsule_types {
     use crate::varint::VarInt;
 
-    /// A WebTransport session is closed.
+    /// A WebTransport session is closed (draft-ietf-webtrans-http3-02, section 5).
     pub const CAPSULE_TYPE_CLOSE_WEBTRANSPORT_SESSION: VarInt = VarInt { value: 0x2843 };
 }

@@ -12,7 +12,7 @@ use wtp_core::varint::VarInt;
 /// What kind of capsule it is.
 #[derive(Clone, Copy, Debug, PartialEq, Eq)]
 pub enum CapsuleKind {
-    /// It closes its WebTransport session.
+    /// It closes its WebTransport session: type 0x2843 (draft-ietf-webtrans-http3-02, section 5).
     CloseWebTransportSession,
 }
 

@@ -71,7 +71,8 @@ impl<'a> Datagram<'a> {
         Ok(writer.offset())
     }
 
-    /// How many bytes `write` writes; their number is known to fit `usize`.
+    /// How many bytes `write` writes: the quarter stream ID in its shortest encoding, and the
+    /// payload. The caller knows that they are fewer than 2^64.
     #[tactic(auto, unfolding(crate::specs::Datagram::datagram_wire))]
     pub fn write_size(&self) -> usize
         requires { length (shortest self.now.0) + length self.now.1 < 2 ^ 64 }

@@ -34,7 +34,7 @@ pub enum ParseError {
     /// A whole frame of a type that is not known: it is to be ignored (RFC 9114, section 9).
     #[error("cannot parse HTTP3 frame as ID is unknown")]
     UnknownFrame,
-    /// A WebTransport frame whose number is no session's.
+    /// A WebTransport frame with an invalid session ID (draft-ietf-webtrans-http3-02, section 4.2).
     #[error("cannot parse HTTP3 frame as session ID is invalid")]
     InvalidSessionId,
     /// A frame whose length is above 4096.
@@ -62,7 +62,8 @@ pub enum FrameKind {
     Headers,
     /// SETTINGS (RFC 9114, section 7.2.4).
     Settings,
-    /// The frame that makes its stream one of a WebTransport session.
+    /// The frame that makes its stream one of a WebTransport session: type 0x41
+    /// (draft-ietf-webtrans-http3-02, section 4.2).
     WebTransport,
     /// A type that is reserved to exercise the rule on unknown types (RFC 9114, section 7.2.8).
     Exercise(VarInt),
@@ -152,7 +153,8 @@ impl<'a> Frame<'a> {
     // The longest payload that is read, in bytes.
     const MAX_PARSE_PAYLOAD_ALLOWED: u64 = 4096;
 
-    /// A HEADERS frame with this payload, an encoded field section.
+    /// A HEADERS frame with this payload, an encoded field section (RFC 9114, section 7.2.2). The payload has
+    /// fewer than 2^62 bytes.
     pub fn new_headers(payload: CowSlice<'a, u8>) -> Self
         requires { length (cow_slice_items payload) < 2 ^ 62 }
         ensures { result ≡ HeadersOf (cow_slice_items payload.entry) }
@@ -163,7 +165,8 @@ impl<'a> Frame<'a> {
         }
     }
 
-    /// A SETTINGS frame with this payload.
+    /// A SETTINGS frame with this payload (RFC 9114, section 7.2.4). The payload has
+    /// fewer than 2^62 bytes.
     pub fn new_settings(payload: CowSlice<'a, u8>) -> Self
         requires { length (cow_slice_items payload) < 2 ^ 62 }
         ensures { result ≡ SettingsOf (cow_slice_items payload.entry) }
@@ -174,7 +177,8 @@ impl<'a> Frame<'a> {
         }
     }
 
-    /// The frame that makes its stream one of this session.
+    /// The frame that makes its stream one of this session (draft-ietf-webtrans-http3-02, section
+    /// 4.2).
     pub fn new_webtransport(session_id: SessionId) -> Self
         ensures { result ≡ WebTransportOf session_id }
     {
@@ -184,7 +188,8 @@ impl<'a> Frame<'a> {
         }
     }
 
-    /// A frame of a type that is reserved for exercise (see `FrameKind::is_id_exercise`).
+    /// A frame of a type that is reserved for exercise (see `FrameKind::is_id_exercise`; RFC 9114,
+    /// section 7.2.8). The payload has fewer than 2^62 bytes.
     pub fn new_exercise(id: VarInt, payload: CowSlice<'a, u8>) -> Self
         requires reserved { IsTrue (is_exercise id) }
         requires fits { length (cow_slice_items payload) < 2 ^ 62 }
@@ -196,7 +201,8 @@ impl<'a> Frame<'a> {
         }
     }
 
-    /// A DATA frame with this payload.
+    /// A DATA frame with this payload (RFC 9114, section 7.2.1). The payload has
+    /// fewer than 2^62 bytes.
     pub fn new_data(payload: CowSlice<'a, u8>) -> Self
         requires { length (cow_slice_items payload) < 2 ^ 62 }
         ensures { result ≡ DataOf (cow_slice_items payload.entry) }

@@ -28,9 +28,10 @@ pub enum SettingId {
     EnableConnectProtocol,
     /// Datagrams are taken (RFC 9297, section 2.1.1).
     H3Datagram,
-    /// WebTransport is taken.
+    /// WebTransport is taken: 0x2b603742 (draft-ietf-webtrans-http3-02, section 3.1).
     EnableWebTransport,
-    /// How many WebTransport sessions may be open at once.
+    /// How many WebTransport sessions may be open at once: 0xc671706a
+    /// (draft-ietf-webtrans-http3-07, "HTTP/3 SETTINGS Parameter Registration").
     WebTransportMaxSessions,
     /// One that is reserved to exercise the rule on unknown ones (RFC 9114, section 7.2.4.1).
     Exercise(VarInt),
@@ -194,7 +195,10 @@ impl Settings {
         Ok(self.values.insert(number, value)?)
     }
 
-    /// A SETTINGS frame of these settings, by rising number.
+    /// A SETTINGS frame of these settings, by rising number, with a payload of its own.
+    ///
+    /// `Memory` where allocation failed, which cannot be where nothing is set. `PayloadTooLong`
+    /// where the payload would have 2^62 bytes or more. The settings stay as they are.
     #[tactic(auto, using(crate::proofs::SettingsLemmas::no_settings))]
     pub fn generate_frame(&self, alloc: Global) -> Result<FrameOwned, GenerateError>
         ensures ok { IfOk result (λ f. f ≡ SettingsOf (settings_wire self.now)) }
@@ -262,7 +266,10 @@ impl Settings {
         Ok(())
     }
 
-    /// The same settings.
+    /// The same settings, in memory of this allocator.
+    ///
+    /// `AllocError` where allocation failed, which cannot be where nothing is set. These settings
+    /// stay as they are.
     pub fn clone(&self, alloc: Global) -> Result<Self, AllocError>
         ensures ok { IfOk result (λ s. s ≡ self.now) }
         ensures err { OnErr result (self.now ≢ []) }

@@ -38,7 +38,7 @@ pub enum StreamKind {
     QPackEncoder,
     /// QPACK's decoder stream (RFC 9204, section 4.2).
     QPackDecoder,
-    /// A stream of a WebTransport session.
+    /// A stream of a WebTransport session: type 0x54 (draft-ietf-webtrans-http3-02, section 4.1).
     WebTransport,
     /// A type that is reserved to exercise the rule on unknown types (RFC 9114, section 6.2.3).
     Exercise(VarInt),
@@ -124,7 +124,7 @@ impl StreamHeader {
         }
     }
 
-    /// The header of a stream of this session.
+    /// The header of a stream of this session (draft-ietf-webtrans-http3-02, section 4.1).
     pub fn new_webtransport(session_id: SessionId) -> Self
         ensures { result ≡ WebTransportHeader session_id }
     {

@@ -42,7 +42,10 @@ impl SettingsBuilder {
         Ok(self)
     }
 
-    /// Sets QPACK's largest dynamic table, in bytes.
+    /// Sets QPACK's largest dynamic table, in bytes (RFC 9204, section 5).
+    ///
+    /// `AllocError` where allocation failed; then the builder is given up. That cannot be where the
+    /// setting was set before.
     pub fn qpack_max_table_capacity(self, value: VarInt) -> Result<Self, AllocError>
         ensures ok { IfOk result (λ b. b ≡ with_setting self 0x01 value) }
         ensures err { OnErr result (value_at self 0x01 ≡ None) }
@@ -50,7 +53,10 @@ impl SettingsBuilder {
         self.set(setting_ids::SETTINGS_QPACK_MAX_TABLE_CAPACITY, value)
     }
 
-    /// Sets how many streams QPACK may block.
+    /// Sets how many streams QPACK may block (RFC 9204, section 5).
+    ///
+    /// `AllocError` where allocation failed; then the builder is given up. That cannot be where the
+    /// setting was set before.
     pub fn qpack_blocked_streams(self, value: VarInt) -> Result<Self, AllocError>
         ensures ok { IfOk result (λ b. b ≡ with_setting self 0x07 value) }
         ensures err { OnErr result (value_at self 0x07 ≡ None) }
@@ -58,7 +64,10 @@ impl SettingsBuilder {
         self.set(setting_ids::SETTINGS_QPACK_BLOCKED_STREAMS, value)
     }
 
-    /// Sets that extended CONNECT is taken.
+    /// Sets that extended CONNECT is taken (RFC 9220, section 3).
+    ///
+    /// `AllocError` where allocation failed; then the builder is given up. That cannot be where the
+    /// setting was set before.
     pub fn enable_connect_protocol(self) -> Result<Self, AllocError>
         ensures ok { IfOk result (λ b. b ≡ with_setting self 0x08 1) }
         ensures err { OnErr result (value_at self 0x08 ≡ None) }
@@ -69,7 +78,10 @@ impl SettingsBuilder {
         )
     }
 
-    /// Sets that WebTransport is taken.
+    /// Sets that WebTransport is taken (draft-ietf-webtrans-http3-02, section 3.1).
+    ///
+    /// `AllocError` where allocation failed; then the builder is given up. That cannot be where the
+    /// setting was set before.
     pub fn enable_webtransport(self) -> Result<Self, AllocError>
         ensures ok { IfOk result (λ b. b ≡ with_setting self 0x2b60_3742 1) }
         ensures err { OnErr result (value_at self 0x2b60_3742 ≡ None) }
@@ -80,7 +92,10 @@ impl SettingsBuilder {
         )
     }
 
-    /// Sets that datagrams are taken.
+    /// Sets that datagrams are taken (RFC 9297, section 2.1.1).
+    ///
+    /// `AllocError` where allocation failed; then the builder is given up. That cannot be where the
+    /// setting was set before.
     pub fn enable_h3_datagrams(self) -> Result<Self, AllocError>
         ensures ok { IfOk result (λ b. b ≡ with_setting self 0x33 1) }
         ensures err { OnErr result (value_at self 0x33 ≡ None) }
@@ -88,7 +103,10 @@ impl SettingsBuilder {
         self.set(setting_ids::SETTINGS_H3_DATAGRAM, VarInt::from_u32(1))
     }
 
-    /// Sets how many WebTransport sessions may be open at once.
+    /// Sets how many WebTransport sessions may be open at once (draft-ietf-webtrans-http3-07).
+    ///
+    /// `AllocError` where allocation failed; then the builder is given up. That cannot be where the
+    /// setting was set before.
     pub fn webtransport_max_sessions(self, value: VarInt) -> Result<Self, AllocError>
         ensures ok { IfOk result (λ b. b ≡ with_setting self 0xc671_706a value) }
         ensures err { OnErr result (value_at self 0xc671_706a ≡ None) }
