@@ -9,7 +9,7 @@ use wtp_wire::stream_header;
 use wtp_wire::stream_header::{HeaderReading, ParseError};
 
 /// Makes a stream one of HTTP/3 by the header that is read from it, poll by poll (own).
-#[derive(Drop)]
+#[derive(Debug, Drop)]
 pub struct UniAccepting {
     pub(crate) stream: StreamUniRemoteQuic,
     pub(crate) reading: HeaderReading,

@@ -121,10 +121,12 @@ impl StreamBiLocalH3 {
         polled::poll_frame::<Self, S>(&mut true, reading, source)
     }
 
-    /// Writes a frame as `Frame::write` does. Its kind is not WebTransport, which is for `upgrade`.
+    /// Writes a frame as `Frame::write` does, and takes it. Its kind is not WebTransport, which is
+    /// for `upgrade`.
     ///
-    /// A stream to which a frame was written cannot be upgraded any more; after an error it is as
-    /// it was.
+    /// A stream to which a frame was written cannot be upgraded any more. On an error the stream is
+    /// as it was, the frame is given up, and the writer holds those of its parts that came before
+    /// the refused one.
     pub fn write_frame<W: BytesWriter>(
         &mut self,
         frame: Frame<'_>,
@@ -143,7 +145,10 @@ impl StreamBiLocalH3 {
     }
 
     /// Writes a frame whole as `Frame::write_to_buffer` does, with the condition of `write_frame`
-    /// and what that does to the stream.
+    /// and what that does to the stream, and takes it.
+    ///
+    /// `EndOfBuffer` where the room is too small; then nothing is written, the stream is as it was,
+    /// and the frame is given up.
     pub fn write_frame_to_buffer(
         &mut self,
         frame: Frame<'_>,

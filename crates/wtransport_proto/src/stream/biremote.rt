@@ -81,8 +81,12 @@ impl StreamBiRemoteH3 {
         reading::read_frame::<Self, R>(&mut self.stage.first_frame_done, reader)
     }
 
-    /// Reads the next frame as `read_frame` does, and moves past it; where it answers `None` or an
+    /// Reads the next frame as `read_frame` does, and moves past it; where it returns `None` or an
     /// error the reader stays where it is.
+    ///
+    /// After an error the next frame counts as the first one as after `read_frame`: a refused frame
+    /// was the first, although the reader is still before it, so a WebTransport frame may not come
+    /// any more; an invalid session ID or a length above 4096 leaves that as it was.
     #[inline(always)]
     pub fn read_frame_from_buffer<'a>(
         &mut self,
@@ -121,7 +125,10 @@ impl StreamBiRemoteH3 {
         polled::poll_frame::<Self, S>(&mut self.stage.first_frame_done, reading, source)
     }
 
-    /// Writes a frame as `Frame::write` does.
+    /// Writes a frame as `Frame::write` does, and takes it.
+    ///
+    /// On an error the frame is given up, and the writer holds those of its parts that came before
+    /// the refused one.
     pub fn write_frame<W: BytesWriter>(
         &self,
         frame: Frame<'_>,
@@ -134,7 +141,10 @@ impl StreamBiRemoteH3 {
         frame.write(writer)
     }
 
-    /// Writes a frame whole as `Frame::write_to_buffer` does.
+    /// Writes a frame whole as `Frame::write_to_buffer` does, and takes it.
+    ///
+    /// `EndOfBuffer` where the room is too small; then nothing is written, and the frame is given
+    /// up.
     pub fn write_frame_to_buffer(
         &self,
         frame: Frame<'_>,

@@ -87,7 +87,10 @@ impl StreamSession {
         polled::poll_frame::<Self, S>(&mut true, reading, source)
     }
 
-    /// Writes a frame as `Frame::write` does.
+    /// Writes a frame as `Frame::write` does, and takes it.
+    ///
+    /// On an error the frame is given up, and the writer holds those of its parts that came before
+    /// the refused one.
     pub fn write_frame<W: BytesWriter>(
         &self,
         frame: Frame<'_>,
@@ -100,7 +103,10 @@ impl StreamSession {
         frame.write(writer)
     }
 
-    /// Writes a frame whole as `Frame::write_to_buffer` does.
+    /// Writes a frame whole as `Frame::write_to_buffer` does, and takes it.
+    ///
+    /// `EndOfBuffer` where the room is too small; then nothing is written, and the frame is given
+    /// up.
     pub fn write_frame_to_buffer(
         &self,
         frame: Frame<'_>,

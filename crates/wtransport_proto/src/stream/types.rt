@@ -30,7 +30,7 @@ impl Default for BiRemote {
 }
 
 /// A stream in both directions that this end opened.
-#[derive(Drop)]
+#[derive(Debug, Drop)]
 pub struct BiLocal(Bi, Local);
 
 impl Default for BiLocal {
@@ -40,7 +40,7 @@ impl Default for BiLocal {
 }
 
 /// A stream in one direction that the peer opened.
-#[derive(Drop)]
+#[derive(Debug, Drop)]
 pub struct UniRemote(Uni, Remote);
 
 impl Default for UniRemote {
@@ -50,7 +50,7 @@ impl Default for UniRemote {
 }
 
 /// A stream in one direction that this end opened.
-#[derive(Drop)]
+#[derive(Debug, Drop)]
 pub struct UniLocal(Uni, Local);
 
 impl Default for UniLocal {
@@ -60,19 +60,19 @@ impl Default for UniLocal {
 }
 
 /// A stream of QUIC, of which nothing was read or written yet.
-#[derive(Drop)]
+#[derive(Debug, Drop)]
 pub struct Quic;
 
 /// A stream of HTTP/3. `H` is `StreamHeader` where the stream goes in one direction, which begins
 /// with a header (RFC 9114, section 6.2), and `()` where it goes in both.
-#[derive(Drop)]
+#[derive(Debug, Drop)]
 pub struct H3<H = ()> {
     pub(crate) header: H,
     pub(crate) first_frame_done: bool,
 }
 
 /// A stream of a WebTransport session.
-#[derive(Drop)]
+#[derive(Debug, Drop)]
 pub struct WT {
     pub(crate) session_id: SessionId,
 }

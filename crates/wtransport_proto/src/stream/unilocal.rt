@@ -84,8 +84,11 @@ impl StreamUniLocalQuic {
 }
 
 impl StreamUniLocalH3 {
-    /// Writes a frame as `Frame::write` does. The stream's kind is not WebTransport, as `kind`
-    /// tells: that is for `upgrade`. The stream stays as it is.
+    /// Writes a frame as `Frame::write` does, and takes it. The stream's kind is not WebTransport,
+    /// as `kind` tells: that is for `upgrade`. The stream stays as it is, and may be written again.
+    ///
+    /// On an error the frame is given up, and the writer holds those of its parts that came before
+    /// the refused one.
     pub fn write_frame<W: BytesWriter>(
         &mut self,
         frame: Frame<'_>,
@@ -101,7 +104,11 @@ impl StreamUniLocalH3 {
         frame.write(writer)
     }
 
-    /// Writes a frame whole as `Frame::write_to_buffer` does, with the condition of `write_frame`.
+    /// Writes a frame whole as `Frame::write_to_buffer` does, with the condition of `write_frame`,
+    /// and takes it.
+    ///
+    /// `EndOfBuffer` where the room is too small; then nothing is written, and the frame is given
+    /// up.
     pub fn write_frame_to_buffer(
         &mut self,
         frame: Frame<'_>,
@@ -119,7 +126,7 @@ impl StreamUniLocalH3 {
     }
 
     /// Writes a frame, poll by poll, as `FrameWriting` does, with the condition of
-    /// `write_frame`. The stream stays as it is.
+    /// `write_frame`. The stream stays as it is, so that the next poll may follow.
     pub fn write_frame_async<W: AsyncWrite>(
         &mut self,
         writing: &mut FrameWriting<'_>,

@@ -32,7 +32,7 @@ pub type StreamUniRemoteH3 = Stream<UniRemote, H3<StreamHeader>>;
 pub type StreamUniRemoteWT = Stream<UniRemote, WT>;
 
 /// A stream that was upgraded, or not yet.
-#[derive(Drop)]
+#[derive(Debug, Drop)]
 pub enum MaybeUpgradeH3 {
     /// The bytes are too few for a header.
     Quic(StreamUniRemoteQuic),
@@ -98,7 +98,7 @@ impl StreamUniRemoteH3 {
     }
 
     /// Reads the next frame, and takes no memory. Unknown frames are passed over whole. Frames may
-    /// be read, as `can_read` tells; the stream stays as it is.
+    /// be read, as `can_read` tells; the stream stays as it is, so that the next call may follow.
     ///
     /// `None` where the bytes are too few; whole frames and numbers may have been read then.
     /// `FrameUnexpected` behind a frame that may not come here, `Id` behind a WebTransport frame

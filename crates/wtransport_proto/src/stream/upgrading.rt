@@ -9,7 +9,7 @@ use wtp_wire::frame::FrameWriting;
 use wtp_wire::stream_header::{HeaderWriting, StreamHeader};
 
 /// Makes a stream one of a session by a WebTransport frame, poll by poll (own).
-#[derive(Drop)]
+#[derive(Debug, Drop)]
 pub struct BiUpgrading {
     pub(crate) stream: StreamBiLocalH3,
     pub(crate) session_id: SessionId,
@@ -47,7 +47,7 @@ impl BiUpgrading {
 }
 
 /// Makes a stream one of HTTP/3 by its header, poll by poll (own).
-#[derive(Drop)]
+#[derive(Debug, Drop)]
 pub struct UniUpgrading {
     pub(crate) stream: StreamUniLocalQuic,
     pub(crate) header: StreamHeader,
