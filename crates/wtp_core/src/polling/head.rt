@@ -25,7 +25,7 @@ pub trait Head {
 }
 
 /// Reads into `buf` from the place `len` on, until the head is complete, and takes no byte after it. A
-/// head that is complete already is left as it is, and the source is not called.
+/// head that is complete already is left as it is.
 ///
 /// On an error fewer bytes are held than the head needs. All that came are in `buf[..len]`, the bytes
 /// before the old place are unchanged, and a later call continues from there. The errors are those of
