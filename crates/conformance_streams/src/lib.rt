@@ -10,7 +10,11 @@ mod biremote;
 #[cfg(test)]
 mod driven;
 #[cfg(test)]
+mod looped;
+#[cfg(test)]
 mod polled;
+#[cfg(test)]
+mod printed;
 #[cfg(test)]
 mod rules;
 #[cfg(test)]
