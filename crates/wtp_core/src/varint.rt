@@ -108,7 +108,7 @@ impl VarInt {
 }
 
 /// The number spelled at the front of the bytes, and how many bytes its spelling has; `None` where
-/// too few bytes are there (own).
+/// too few bytes are there. Not in the Rust crate.
 #[tactic(auto, unfolding(crate::specs::Varint::number_at, crate::specs::Varint::value_of))]
 #[inline(always)]
 pub fn first_varint(bytes: &[u8]) -> Option<(VarInt, usize)>

@@ -18,7 +18,7 @@ use wtp_core::error::Refused;
 use wtp_fields::headers::Headers;
 use wtp_wire::frame::{Frame, FrameKind, FrameOwned, FrameReading, GenerateError};
 
-/// Why a frame was not sent whole (own).
+/// Why a frame was not sent whole. Not in the Rust crate.
 #[derive(Debug, Drop, PartialEq, Eq, thiserror::Error)]
 pub enum SendError {
     /// The sink was not ready in any turn.
@@ -32,7 +32,7 @@ pub enum SendError {
     Memory,
 }
 
-/// Why no header map was read (own).
+/// Why no header map was read. Not in the Rust crate.
 #[derive(Debug, Drop, PartialEq, Eq, thiserror::Error)]
 pub enum ReceiveError {
     /// No frame came in any turn: the source was not ready, or gave a part of an unknown frame.
@@ -52,7 +52,7 @@ pub enum ReceiveError {
     Memory,
 }
 
-/// Where a header map's way ended (own).
+/// Where a header map's way ended. Not in the Rust crate.
 #[derive(Debug, Drop, PartialEq, Eq, thiserror::Error)]
 pub enum JourneyError {
     /// No frame was made of the map.
@@ -66,7 +66,7 @@ pub enum JourneyError {
     Receive(ReceiveError),
 }
 
-/// Sends a frame whole, in at most so many polls (own).
+/// Sends a frame whole, in at most so many polls. Not in the Rust crate.
 ///
 /// With an error a part of it was sent, and the rest cannot be sent any more. `Waiting` comes where
 /// the sink was not ready in each turn.
@@ -111,7 +111,8 @@ fn next_frame<K: ReadsFrames, S: AsyncRead>(
     Err(ReceiveError::Waiting)
 }
 
-/// Reads the map of the next frame, in at most so many polls (own). Unknown frames are passed over.
+/// Reads the map of the next frame, in at most so many polls. Not in the Rust crate.
+/// Unknown frames are passed over.
 ///
 /// The source then stands right behind the frame. What came of a frame that is not all there after
 /// the last turn is lost. Frames may be read, as `can_read` tells.
@@ -141,7 +142,8 @@ pub fn receive<K: ReadsFrames, S: AsyncRead>(
     }
 }
 
-/// Sends a header map whole, and then reads one from a stream; each in at most so many polls (own).
+/// Sends a header map whole, and then reads one from a stream; each in at most so many polls.
+/// Not in the Rust crate.
 ///
 /// Where the map's frame stands in front of the source, with a payload of at most 4096 bytes, and
 /// the stream allows HEADERS frames, the map that is read is the one that was sent, and what stood

@@ -7,7 +7,7 @@ use crate::bytes::buffer_reader::BufferReader;
 use crate::bytes::reader::BytesReader;
 use crate::varint::{VarInt, first_varint};
 
-/// A reader that a child may move (own): `BufferReader`.
+/// A reader that a child may move: `BufferReader`. Not in the Rust crate.
 ///
 /// A function that goes through a child is written for any `P: ParentReader<'a>`: there its proof
 /// knows what `commit` or a dropped child leaves of the parent, and so does its caller, who may hand

@@ -13,7 +13,8 @@ use crate::polling::head::{Head, fill_head};
 use crate::varint::{VarInt, first_varint};
 use std::marker::Model;
 
-/// How many bytes the number at the front has, at least, where these are held (own).
+/// How many bytes the number at the front has, at least, where these are held.
+/// Not in the Rust crate.
 #[inline(always)]
 pub fn varint_need(held: &[u8]) -> usize
     ensures { result ≡ varint_need held.now }
@@ -59,7 +60,7 @@ impl Model for GetVarint {
 }
 
 impl GetVarint {
-    /// A reading that has taken nothing (own).
+    /// A reading that has taken nothing. Not in the Rust crate.
     pub fn new() -> Self
         ensures { result ≡ [] }
     {
@@ -106,7 +107,7 @@ pub struct GetBuffer<'a> {
 impl<'a> GetBuffer<'a> {
     ghost use Rattle.wtp_core.specs.GetBuffer.{buffer_of, taken_of, room_of, loan_in};
 
-    /// A reading that has taken nothing (own).
+    /// A reading that has taken nothing. Not in the Rust crate.
     pub fn new(buffer: &'a mut [u8]) -> Self
         ensures taken { taken_of result ≡ [] }
         ensures buffer { buffer_of result ≡ buffer.old }

@@ -31,7 +31,7 @@ impl Model for PutVarint {
 }
 
 impl PutVarint {
-    /// A writing that has sent nothing (own).
+    /// A writing that has sent nothing. Not in the Rust crate.
     pub fn new(varint: VarInt) -> Self
         ensures { result ≡ unsent (shortest varint) }
     {
@@ -65,7 +65,8 @@ impl PutVarint {
     }
 }
 
-/// Writes the shortest spelling to the front of the buffer, and answers how many bytes it has (own).
+/// Writes the shortest spelling to the front of the buffer, and answers how many bytes it has.
+/// Not in the Rust crate.
 pub fn spell(varint: VarInt, buffer: &mut [u8]) -> usize
     requires { 8 ≤ length buffer.old }
     ensures bytes { buffer.new ≡ shortest varint ++ drop result buffer.old }
@@ -97,7 +98,7 @@ impl<'a> Model for PutBuffer<'a> {
 }
 
 impl<'a> PutBuffer<'a> {
-    /// A writing that has sent nothing (own).
+    /// A writing that has sent nothing. Not in the Rust crate.
     pub fn new(bytes: &'a [u8]) -> Self
         ensures { result ≡ unsent bytes.now }
     {

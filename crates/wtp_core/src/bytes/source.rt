@@ -34,7 +34,8 @@ pub trait AsyncRead {
         ensures tells { StepTells result buf.new (tells self.old) (tells self.new) };
 
     /// Bytes that it has at hand and shows before it is asked for them: some of those ahead, from the
-    /// front on. A source need not show any, and then hands out all by `poll_read` (own).
+    /// front on. A source need not show any, and then hands out all by `poll_read`.
+    /// Not in the Rust crate.
     fn at_hand(&self) -> &[u8]
         ensures shows { Shows result.now (tells self.now) }
     {
@@ -42,7 +43,7 @@ pub trait AsyncRead {
     }
 
     /// Takes `count` of the bytes ahead, where it has so many at hand; says whether it did, and takes
-    /// none where not (own).
+    /// none where not. Not in the Rust crate.
     fn take_at_hand(&mut self, count: usize) -> bool
         ensures taken { IsTrue result → Telling (tells self.old) (tells self.new) (TakesAtHand count) }
         ensures none { result ≡ false → self.new ≡ self.old }

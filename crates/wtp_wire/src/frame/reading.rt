@@ -106,7 +106,7 @@ impl Model for FrameReading {
 }
 
 impl FrameReading {
-    /// A reading that has taken nothing (own).
+    /// A reading that has taken nothing. Not in the Rust crate.
     pub fn new(alloc: Global) -> Self
         ensures { result ≡ new_held }
     {

@@ -40,7 +40,8 @@ impl FrameWriting<'static> {
     ghost use Rattle.wtp_wire.specs.Content.{WebTransportOf};
     ghost use Rattle.wtp_wire.specs.Wire.{wire};
 
-    /// A writing of the frame that makes its stream one of this session, which has sent nothing (own).
+    /// A writing of the frame that makes its stream one of this session, which has sent nothing.
+    /// Not in the Rust crate.
     pub fn of_session(session_id: SessionId) -> Self
         ensures { result ≡ unsent (wire (WebTransportOf session_id)) }
     {

@@ -130,7 +130,7 @@ impl Model for HeaderReading {
 }
 
 impl HeaderReading {
-    /// A reading that has taken nothing (own).
+    /// A reading that has taken nothing. Not in the Rust crate.
     pub fn new() -> Self
         ensures { result ≡ [] }
     {

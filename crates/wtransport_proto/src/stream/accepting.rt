@@ -8,7 +8,8 @@ use wtp_core::error::ErrorCode;
 use wtp_wire::stream_header;
 use wtp_wire::stream_header::{HeaderReading, ParseError};
 
-/// Makes a stream one of HTTP/3 by the header that is read from it, poll by poll (own).
+/// Makes a stream one of HTTP/3 by the header that is read from it, poll by poll.
+/// Not in the Rust crate.
 #[derive(Debug, Drop)]
 pub struct UniAccepting {
     pub(crate) stream: StreamUniRemoteQuic,

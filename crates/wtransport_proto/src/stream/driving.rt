@@ -17,7 +17,7 @@ use crate::stream::uniremote::StreamUniRemoteH3;
 use wtp_core::bytes::{AsyncRead, Polled};
 use wtp_wire::frame::{FrameOwned, FrameReading};
 
-/// A stream from which frames are read (own).
+/// A stream from which frames are read. Not in the Rust crate.
 pub trait ReadsFrames {
     // Which reading state it is.
     ghost role: { Role };
@@ -133,7 +133,7 @@ impl ReadsFrames for StreamSession {
     }
 }
 
-/// How a drive ended (own).
+/// How a drive ended. Not in the Rust crate.
 #[derive(Debug, Drop, PartialEq, Eq)]
 pub enum Driven {
     /// The stream gives no more frames.

@@ -8,7 +8,7 @@ use wtp_core::ids::SessionId;
 use wtp_wire::frame::FrameWriting;
 use wtp_wire::stream_header::{HeaderWriting, StreamHeader};
 
-/// Makes a stream one of a session by a WebTransport frame, poll by poll (own).
+/// Makes a stream one of a session by a WebTransport frame, poll by poll. Not in the Rust crate.
 #[derive(Debug, Drop)]
 pub struct BiUpgrading {
     pub(crate) stream: StreamBiLocalH3,
@@ -46,7 +46,7 @@ impl BiUpgrading {
     }
 }
 
-/// Makes a stream one of HTTP/3 by its header, poll by poll (own).
+/// Makes a stream one of HTTP/3 by its header, poll by poll. Not in the Rust crate.
 #[derive(Debug, Drop)]
 pub struct UniUpgrading {
     pub(crate) stream: StreamUniLocalQuic,
