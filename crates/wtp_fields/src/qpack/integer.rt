@@ -125,7 +125,7 @@ mod tests {
     }
 
     #[test]
-    fn integers(rt: HostRuntime) -> Result<(), Fail> {
+    fn integers_past_refused_memory(rt: HostRuntime) -> Result<(), Fail> {
         let rows: [(&str, u64, &[u8]); 3] = [
             ("RFC 7541, C.1.1: below the prefix", 10, b"\x0a"),
             ("all ones and an empty group", 31, b"\x1f\x00"),

@@ -203,7 +203,7 @@ mod tests {
     }
 
     #[test]
-    fn strings(rt: HostRuntime) -> Result<(), Fail> {
+    fn strings_past_refused_memory(rt: HostRuntime) -> Result<(), Fail> {
         // Lengths within the prefix, at its edge, and of one and two groups behind it.
         for len in [0usize, 1, 30, 31, 32, 158, 159, 1023] {
             for letters in [[b'a'; 1023], [b'Z'; 1023]] {

@@ -37,7 +37,7 @@ pub fn assert_fields(
 }
 
 #[test]
-fn encoded_fields(rt: HostRuntime) -> Result<(), Fail> {
+fn encoded_fields_past_refused_memory(rt: HostRuntime) -> Result<(), Fail> {
     let rows: [(&str, &[(&str, &str)], &[u8]); 13] = [
         ("no field", &[], b"\x00\x00"),
         ("a whole entry", &[(":method", "CONNECT")], b"\x00\x00\xcf"),
@@ -98,7 +98,7 @@ fn encoded_fields(rt: HostRuntime) -> Result<(), Fail> {
 }
 
 #[test]
-fn decoded_sections(rt: HostRuntime) -> Result<(), Fail> {
+fn decoded_sections_past_refused_memory(rt: HostRuntime) -> Result<(), Fail> {
     let rows: [(&str, &[u8], &[(&str, &str)]); 13] = [
         ("no line", b"\x00\x00", &[]),
         (
@@ -175,7 +175,7 @@ fn decoded_sections(rt: HostRuntime) -> Result<(), Fail> {
 }
 
 #[test]
-fn refused_sections(rt: HostRuntime) {
+fn refused_sections_past_refused_memory(rt: HostRuntime) {
     let unexpected = DecodingError::UnexpectedFin;
     let overflow = DecodingError::IntegerOverflow;
     let invalid = DecodingError::InvalidString;
@@ -275,7 +275,7 @@ fn is_of_form(first: u8) -> bool {
 }
 
 #[test]
-fn first_bytes(rt: HostRuntime) {
+fn first_bytes_past_refused_memory(rt: HostRuntime) {
     for first in 0..=255u8 {
         assert!(rt; is_of_form(first), "{first}");
         let is_dynamic = matches!(first / 16, 0 | 1 | 4 | 6 | 8..=11);
@@ -289,7 +289,7 @@ fn first_bytes(rt: HostRuntime) {
 }
 
 #[test]
-fn last_value_comes_back(rt: HostRuntime) -> Result<(), Fail> {
+fn last_value_comes_back_past_refused_memory(rt: HostRuntime) -> Result<(), Fail> {
     let pairs = [
         ("key1", "a"),
         ("key1", "b"),
@@ -319,7 +319,7 @@ fn shown(alloc: Global, error: DecodingError) -> Result<String, AllocError> {
 }
 
 #[test]
-fn printed_errors(rt: HostRuntime) -> Result<(), Fail> {
+fn printed_errors_past_refused_memory(rt: HostRuntime) -> Result<(), Fail> {
     for (error, text) in [
         (
             DecodingError::UnexpectedFin,

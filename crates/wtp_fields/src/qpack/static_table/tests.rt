@@ -116,7 +116,7 @@ static APPENDIX_A: [(&str, &str); 99] = [
 ];
 
 #[test]
-fn whole_table(rt: HostRuntime) -> Result<(), Fail> {
+fn whole_table_past_refused_memory(rt: HostRuntime) -> Result<(), Fail> {
     let mut names = 0u8;
     for (index, (name, value)) in APPENDIX_A.iter().enumerate() {
         assert_eq!(rt; entry(index as u64), Some((*name, *value)), "{index}");
