@@ -1,7 +1,7 @@
 //! What sources have at hand before they are asked, and frames that are read from there.
 use crate::frames::{Seen, check_each};
-use conformance_pieces::{End, Trickle};
 use std::process::Abort;
+use test_io::{End, Trickle};
 use wtp_core::bytes::{AsyncRead, IoReadError, Polled, ReadStep};
 use wtp_wire::frame::{FrameKind, FrameOwned, FrameReading, ParseError};
 

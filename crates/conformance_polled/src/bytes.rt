@@ -1,9 +1,9 @@
 //! Numbers and buffers, read and written poll by poll.
-use conformance_pieces::{Answers, BYTE_BY_BYTE, End, Paced, Trickle, stops_behind};
 use std::io;
 use std::io::ErrorKind;
 use std::process::Abort;
 use std::test::Fail;
+use test_io::{Answers, BYTE_BY_BYTE, End, Paced, Trickle, stops_behind};
 use wtp_core::bytes::{
     AsyncRead, BytesReaderAsync, BytesWriterAsync, GetBuffer, GetVarint, IoReadError, IoWriteError,
     Polled, PutBuffer, PutVarint, ReadStep, WriteStep,

@@ -1,9 +1,9 @@
 //! Frames, read and written poll by poll.
-use conformance_pieces::{Answers, BYTE_BY_BYTE, End, Paced, Trickle, stops_behind};
 use std::alloc::AllocError;
 use std::borrow::CowSlice;
 use std::process::Abort;
 use std::test::Fail;
+use test_io::{Answers, BYTE_BY_BYTE, End, Paced, Trickle, stops_behind};
 use wtp_core::bytes;
 use wtp_core::bytes::{AsyncRead, IoWriteError, Polled, ReadStep, WriteStep};
 use wtp_core::ids::{SessionId, StreamId};

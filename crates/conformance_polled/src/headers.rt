@@ -1,7 +1,7 @@
 //! Headers of streams, read and written poll by poll.
-use conformance_pieces::{Answers, BYTE_BY_BYTE, End, Paced, Trickle, stops_behind};
 use std::process::Abort;
 use std::test::Fail;
+use test_io::{Answers, BYTE_BY_BYTE, End, Paced, Trickle, stops_behind};
 use wtp_core::bytes;
 use wtp_core::bytes::{AsyncRead, IoWriteError, Polled, ReadStep};
 use wtp_core::ids::SessionId;

@@ -2,9 +2,9 @@
 use crate::answers::{check_frame, padded};
 use crate::session::opened;
 use crate::uniremote::upgraded;
-use conformance_pieces::{End, Trickle};
 use std::process::Abort;
 use std::test::Fail;
+use test_io::{End, Trickle};
 use wtransport_proto::bytes::{AsyncRead, IoReadError as Fault};
 use wtransport_proto::error::ErrorCode;
 use wtransport_proto::frame::{Frame, FrameOwned, FrameReading};

@@ -3,9 +3,9 @@ ghost use Rattle.wtransport_proto.specs.StreamWriting.{WritesPlain};
 ghost use Rattle.wtransport_proto.specs.Streams.{CanRead, CanWrite};
 
 use crate::uniremote::upgraded;
-use conformance_pieces::{End, Paced, Trickle};
 use std::borrow::CowSlice;
 use std::test::Fail;
+use test_io::{End, Paced, Trickle};
 use wtransport_proto::bytes::{
     AsyncRead, AsyncWrite, BufferWriter, IoWriteError, Polled, WriteStep,
 };

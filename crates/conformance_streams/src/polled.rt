@@ -1,8 +1,8 @@
 //! Reading frames from streams, poll by poll.
 use crate::answers::{Answer, Answered, CUT, FIN, check_answer, check_polls, padded};
-use conformance_pieces::{Answers, End, Trickle};
 use std::process::Abort;
 use std::test::Fail;
+use test_io::{Answers, End, Trickle};
 use wtransport_proto::bytes::{IoReadError as Fault, Polled, ReadStep};
 use wtransport_proto::error::ErrorCode;
 use wtransport_proto::frame::{Frame, FrameReading};

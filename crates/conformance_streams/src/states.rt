@@ -3,11 +3,11 @@
 use crate::answers::Answered;
 use crate::session::opened;
 use crate::uniremote::upgraded;
-use conformance_pieces::{End, Trickle};
 use std::alloc::{AllocError, Global};
 use std::borrow::CowSlice;
 use std::process::Abort;
 use std::test::Fail;
+use test_io::{End, Trickle};
 use wtransport_proto::bytes::{BufferWriter, IoReadError as Fault, Polled, PutError};
 use wtransport_proto::error::ErrorCode;
 use wtransport_proto::frame::{Frame, FrameReading};

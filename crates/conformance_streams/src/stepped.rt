@@ -1,8 +1,8 @@
 //! Upgrading streams, poll by poll.
 use crate::answers::session_4;
-use conformance_pieces::{End, Paced, Trickle, stops_behind};
 use std::process::Abort;
 use std::test::Fail;
+use test_io::{End, Paced, Trickle, stops_behind};
 use wtransport_proto::bytes::{AsyncRead, IoReadError as Fault, IoWriteError, Stepped, WriteStep};
 use wtransport_proto::error::ErrorCode;
 use wtransport_proto::stream::bilocal::{StreamBiLocalQuic, StreamBiLocalWT};

@@ -1,9 +1,9 @@
 //! Writing frames to streams, poll by poll.
 use crate::session::opened;
-use conformance_pieces::{Paced, stops_behind};
 use std::borrow::CowSlice;
 use std::process::Abort;
 use std::test::Fail;
+use test_io::{Paced, stops_behind};
 use wtransport_proto::bytes::{IoWriteError, Polled, Stepped, WriteStep};
 use wtransport_proto::frame::Frame;
 use wtransport_proto::stream::bilocal::StreamBiLocalQuic;

@@ -1,6 +1,0 @@
-pub mod CutSource
-pub mod Lines
-pub mod Listings
-pub mod Requests
-pub mod Program
-pub mod Stepped

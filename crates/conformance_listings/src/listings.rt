@@ -1,0 +1,204 @@
+//! Listings of recorded streams.
+use std::alloc::{AllocError, Global};
+use std::process::Abort;
+use std::test::Fail;
+use wt_listings::{ListKind, list_frames};
+
+/// Input, listing, status, and what the row shows.
+type Row = (&'static [u8], &'static str, u8, &'static str);
+
+const BI_REMOTE: [Row; 17] = [
+    (
+        b"\x40\x41\x04\x00\x01a",
+        "WEBTRANSPORT 4\nDATA 1\nEND 0\n",
+        0,
+        "a session, then data",
+    ),
+    (b"", "END 0\n", 0, "nothing"),
+    (b"\x00\x05a", "END 3\n", 0, "a cut frame"),
+    (
+        b"\x21\x07Payload\x40\x41\x00",
+        "EXERCISE 33 7\nFAULT FrameError 262\n",
+        2,
+        "a late session",
+    ),
+    (
+        b"\x00\x50\x01",
+        "FAULT ExcessiveLoad 263\n",
+        2,
+        "length 4097",
+    ),
+    (b"\x40\x41\x01", "FAULT IdError 264\n", 2, "no session"),
+    (
+        b"\x04\x02\x33\x01",
+        "FAULT FrameUnexpectedError 261\n",
+        2,
+        "settings",
+    ),
+    (
+        b"\x01\x02ab\x00\x00",
+        "HEADERS 2\nDATA 0\nEND 0\n",
+        0,
+        "headers, then data",
+    ),
+    (b"\x0a", "END 1\n", 0, "an unknown type alone"),
+    (
+        b"\x0a\x00\x00\x01a",
+        "DATA 1\nEND 0\n",
+        0,
+        "unknown and empty",
+    ),
+    (b"\x0a\x40\x41\x00", "END 4\n", 0, "unknown, of length 65"),
+    (
+        b"\x0a\x01x\x40\x41\x00",
+        "WEBTRANSPORT 0\nEND 0\n",
+        0,
+        "unknown, then a session",
+    ),
+    (
+        b"\x02\x00\x06\x01x\x00\x01a",
+        "DATA 1\nEND 0\n",
+        0,
+        "two unknown ones",
+    ),
+    (b"\x0a\x05a", "END 3\n", 0, "a cut unknown one"),
+    (
+        b"\x0a\xff\xff\xff\xff\xff\xff\xff\xff",
+        "END 9\n",
+        0,
+        "the largest unknown one",
+    ),
+    (
+        b"\x00\x01a\x0a\x00",
+        "DATA 1\nEND 2\n",
+        0,
+        "an unknown one behind a frame",
+    ),
+    (
+        b"\x00\x01a\x0a\x05b",
+        "DATA 1\nEND 3\n",
+        0,
+        "a cut unknown one behind a frame",
+    ),
+];
+
+const BI_LOCAL: [Row; 8] = [
+    (
+        b"\x40\x41\x04\x00\x01a",
+        "FAULT FrameUnexpectedError 261\n",
+        2,
+        "a session",
+    ),
+    (b"", "END 0\n", 0, "nothing"),
+    (b"\x00\x05a", "END 3\n", 0, "a cut frame"),
+    (
+        b"\x01\x02ab\x21\x00\x00\x00\x04\x00",
+        "HEADERS 2\nEXERCISE 33 0\nDATA 0\nFAULT FrameUnexpectedError 261\n",
+        2,
+        "late settings",
+    ),
+    (b"\x40\x41\x01", "FAULT IdError 264\n", 2, "no session"),
+    (
+        b"\x00\x50\x01",
+        "FAULT ExcessiveLoad 263\n",
+        2,
+        "length 4097",
+    ),
+    (
+        b"\x0a\x01x\x00\x00\x0a",
+        "DATA 0\nEND 1\n",
+        0,
+        "unknown, data, and an unknown type alone",
+    ),
+    (b"\x40", "END 1\n", 0, "a cut type"),
+];
+
+const CONTROL: [Row; 8] = [
+    (
+        b"\x04\x00\x07\x01\x00\x04\x00",
+        "SETTINGS 0\nSETTINGS 0\nEND 0\n",
+        0,
+        "an unknown frame between settings",
+    ),
+    (b"\x00\x00", "FAULT FrameUnexpectedError 261\n", 2, "data"),
+    (
+        b"\x01\x00",
+        "FAULT FrameUnexpectedError 261\n",
+        2,
+        "headers",
+    ),
+    (
+        b"\x21\x01x\x40\x41\x04",
+        "EXERCISE 33 1\nFAULT FrameUnexpectedError 261\n",
+        2,
+        "exercise, then a session",
+    ),
+    (b"\x40\x41\x01", "FAULT IdError 264\n", 2, "no session"),
+    (
+        b"\x04\x50\x01",
+        "FAULT ExcessiveLoad 263\n",
+        2,
+        "length 4097",
+    ),
+    (b"\x04\x02\x33", "END 3\n", 0, "cut settings"),
+    (b"", "END 0\n", 0, "nothing"),
+];
+
+/// Compares the listing of each row.
+fn check(rt: &impl Abort, alloc: Global, kind: ListKind, rows: &[Row]) -> Result<(), AllocError> {
+    for (input, text, status, word) in rows {
+        let listing = list_frames(alloc, kind, input)?;
+        assert_eq!(rt; listing.text.as_slice(), text.as_bytes(), "{word}");
+        assert_eq!(rt; listing.status, *status, "{word}");
+    }
+    Ok(())
+}
+
+#[test]
+fn remote_bidirectional_streams_are_listed(rt: HostRuntime) -> Result<(), Fail> {
+    check(&rt, rt.alloc(), ListKind::BiRemote, &BI_REMOTE)?;
+    Ok(())
+}
+
+#[test]
+fn local_bidirectional_streams_are_listed(rt: HostRuntime) -> Result<(), Fail> {
+    check(&rt, rt.alloc(), ListKind::BiLocal, &BI_LOCAL)?;
+    Ok(())
+}
+
+#[test]
+fn control_streams_are_listed(rt: HostRuntime) -> Result<(), Fail> {
+    check(&rt, rt.alloc(), ListKind::Control, &CONTROL)?;
+    Ok(())
+}
+
+#[test]
+fn the_longest_payloads_are_listed(rt: HostRuntime) -> Result<(), Fail> {
+    let alloc = rt.alloc();
+    let mut input = vec![in alloc; 0x00, 0x50, 0x00]?;
+    input.extend_from_slice(&[7; 4096])?;
+    let listing = list_frames(alloc, ListKind::BiRemote, input.as_slice())?;
+    assert_eq!(rt; listing.text.as_slice(), b"DATA 4096\nEND 0\n".as_slice());
+    let mut input = vec![in alloc; 0x0a, 0x50, 0x01]?;
+    input.extend_from_slice(&[0; 4097])?;
+    input.extend_from_slice(&[0x00, 0x00])?;
+    let listing = list_frames(alloc, ListKind::BiRemote, input.as_slice())?;
+    assert_eq!(rt; listing.text.as_slice(), b"DATA 0\nEND 0\n".as_slice());
+    assert_eq!(rt; listing.status, 0);
+    Ok(())
+}
+
+#[test]
+fn refused_memory_gives_no_listing(rt: HostRuntime) -> Result<(), Fail> {
+    let alloc = rt.alloc();
+    let input = b"\x40\x41\x04\x21\x01a\x00\x01a\x04\x00";
+    let listing = match list_frames(alloc, ListKind::BiRemote, input) {
+        Ok(listing) => listing,
+        // Nothing is left behind, and the next call is whole.
+        Err(_) => list_frames(alloc, ListKind::BiRemote, input)?,
+    };
+    let text = "WEBTRANSPORT 4\nEXERCISE 33 1\nDATA 1\nFAULT FrameUnexpectedError 261\n";
+    assert_eq!(rt; listing.text.as_slice(), text.as_bytes());
+    assert_eq!(rt; listing.status, 2);
+    Ok(())
+}

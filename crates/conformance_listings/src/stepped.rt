@@ -1,0 +1,181 @@
+//! Listings of recorded streams that come a few bytes at a time and then end.
+use std::alloc::{AllocError, Global};
+use std::process::Abort;
+use std::test::Fail;
+use wt_listings::list_stepped;
+
+/// Input, listing, status, and what the row shows.
+type Row = (&'static [u8], &'static str, u8, &'static str);
+
+const CUT: &str = "FAULT FrameError 262\n";
+
+const ROWS: [Row; 20] = [
+    (
+        b"\x40\x41\x04\x00\x01a",
+        "WEBTRANSPORT 4\nDATA 1\nEND 0\n",
+        0,
+        "a session, then data",
+    ),
+    (b"", "END 0\n", 0, "nothing"),
+    (b"\x00", CUT, 2, "a type alone"),
+    (b"\x00\x05a", CUT, 2, "a cut frame"),
+    (
+        b"\x21\x07Payload\x40\x41\x00",
+        "EXERCISE 33 7\nFAULT FrameError 262\n",
+        2,
+        "a late session",
+    ),
+    (
+        b"\x04\x02\x33\x01\x40\x41\x00",
+        "FAULT FrameUnexpectedError 261\n",
+        2,
+        "settings",
+    ),
+    (
+        b"\x04\x00\x07\x01\x00\x04\x00",
+        "FAULT FrameUnexpectedError 261\n",
+        2,
+        "empty settings",
+    ),
+    (
+        b"\x00\x50\x01",
+        "FAULT ExcessiveLoad 263\n",
+        2,
+        "length 4097",
+    ),
+    (b"\x40\x41\x01", "FAULT IdError 264\n", 2, "no session"),
+    (
+        b"\x40\x41\x00",
+        "WEBTRANSPORT 0\nEND 0\n",
+        0,
+        "a session alone",
+    ),
+    (
+        b"\x01\x02ab\x00\x00",
+        "HEADERS 2\nDATA 0\nEND 0\n",
+        0,
+        "headers, then data",
+    ),
+    (b"\x0a", CUT, 2, "an unknown type alone"),
+    (
+        b"\x0a\x00\x00\x01a",
+        "DATA 1\nEND 0\n",
+        0,
+        "unknown and empty",
+    ),
+    (b"\x0a\x40\x41\x00", CUT, 2, "unknown, of length 65"),
+    (
+        b"\x0a\x01x\x40\x41\x00",
+        "WEBTRANSPORT 0\nEND 0\n",
+        0,
+        "unknown, then a session",
+    ),
+    (
+        b"\x02\x00\x06\x01x\x00\x01a",
+        "DATA 1\nEND 0\n",
+        0,
+        "two unknown ones",
+    ),
+    (b"\x0a\x05a", CUT, 2, "a cut unknown one"),
+    (b"\x0a\x0a\x00\x00", CUT, 2, "another cut unknown one"),
+    (
+        b"\x0a\xff\xff\xff\xff\xff\xff\xff\xff",
+        CUT,
+        2,
+        "the largest unknown one",
+    ),
+    (
+        b"\x00\x01a\x0a\x01x",
+        "DATA 1\nEND 0\n",
+        0,
+        "an unknown one behind a frame",
+    ),
+];
+
+/// The listing of the input is the same for each number of bytes a call.
+fn check(
+    rt: &impl Abort,
+    alloc: Global,
+    input: &[u8],
+    text: &str,
+    status: u8,
+    word: &str,
+) -> Result<(), AllocError> {
+    for k in 1..14 {
+        let listing = list_stepped(alloc, k, input)?;
+        assert_eq!(rt; listing.text.as_slice(), text.as_bytes(), "{word}, {k}");
+        assert_eq!(rt; listing.status, status, "{word}, {k}");
+    }
+    Ok(())
+}
+
+#[test]
+fn streams_are_listed_step_by_step(rt: HostRuntime) -> Result<(), Fail> {
+    for (input, text, status, word) in ROWS {
+        check(&rt, rt.alloc(), input, text, status, word)?;
+    }
+    Ok(())
+}
+
+/// So many bytes of an exercise frame and a late session, the listing and the status.
+const STOPS: [(usize, &str, u8); 13] = [
+    (0, "END 0\n", 0),
+    (1, CUT, 2),
+    (2, CUT, 2),
+    (3, CUT, 2),
+    (4, CUT, 2),
+    (5, CUT, 2),
+    (6, CUT, 2),
+    (7, CUT, 2),
+    (8, CUT, 2),
+    (9, "EXERCISE 33 7\nEND 0\n", 0),
+    (10, "EXERCISE 33 7\nFAULT FrameError 262\n", 2),
+    (11, "EXERCISE 33 7\nFAULT FrameError 262\n", 2),
+    (12, "EXERCISE 33 7\nFAULT FrameError 262\n", 2),
+];
+
+#[test]
+fn streams_that_end_at_each_place_are_listed(rt: HostRuntime) -> Result<(), Fail> {
+    let bytes = b"\x21\x07Payload\x40\x41\x00";
+    for (size, text, status) in STOPS {
+        let (input, _) = bytes.split_at_checked(size).ok_or("so many bytes")?;
+        check(&rt, rt.alloc(), input, text, status, "an end")?;
+    }
+    Ok(())
+}
+
+/// A head, so many zeros, what follows them, the listing and the status.
+const LONG: [(&[u8], usize, &[u8], &str, u8); 5] = [
+    (b"\x00\x50\x00", 4096, b"", "DATA 4096\nEND 0\n", 0),
+    (b"\x0a\x50\x00", 4096, b"\x00\x00", "DATA 0\nEND 0\n", 0),
+    (b"\x0a\x50\x01", 4097, b"\x00\x00", "DATA 0\nEND 0\n", 0),
+    (b"\x0a\x60\x00", 8192, b"\x00\x00", "DATA 0\nEND 0\n", 0),
+    (b"\x0a\x50\x01", 4096, b"", CUT, 2),
+];
+
+#[test]
+fn the_longest_payloads_are_listed_step_by_step(rt: HostRuntime) -> Result<(), Fail> {
+    let alloc = rt.alloc();
+    for (head, zeros, rest, text, status) in LONG {
+        let mut input = Vec::from_slice(alloc, head)?;
+        input.extend_from_slice(vec![in alloc; 0; zeros]?.as_slice())?;
+        input.extend_from_slice(rest)?;
+        check(&rt, alloc, input.as_slice(), text, status, "zeros")?;
+    }
+    Ok(())
+}
+
+#[test]
+fn refused_memory_gives_no_stepped_listing(rt: HostRuntime) -> Result<(), Fail> {
+    let alloc = rt.alloc();
+    let input = b"\x40\x41\x04\x21\x01a\x00\x01a\x04\x00";
+    let listing = match list_stepped(alloc, 2, input) {
+        Ok(listing) => listing,
+        // Nothing is left behind, and the next call is whole.
+        Err(_) => list_stepped(alloc, 2, input)?,
+    };
+    let text = "WEBTRANSPORT 4\nEXERCISE 33 1\nDATA 1\nFAULT FrameUnexpectedError 261\n";
+    assert_eq!(rt; listing.text.as_slice(), text.as_bytes());
+    assert_eq!(rt; listing.status, 2);
+    Ok(())
+}

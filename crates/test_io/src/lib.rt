@@ -1,0 +1,269 @@
+//! Sources and sinks of the tests' own, which cut what they give and take, make wait, and stop. No product code
+//! stands here.
+#![tactic(auto)]
+
+ghost use Rattle.std.specs.Prelude.{◌≡◌, Some, ◌+◌, ◌-◌, ◌^◌, ◌<◌, ◌≤◌, [], length, drop, false, if◌then◌else◌};
+ghost use Rattle.wtp_core.specs.Source.{Source};
+ghost use Rattle.wtp_core.specs.Polled.{stop};
+ghost use Rattle.test_io.specs.Pieces.{ending_of, one_a_call};
+
+use std::alloc::Global;
+use wtp_core::bytes::{AsyncRead, AsyncWrite, IoReadError, ReadStep, WriteStep};
+
+/// How a source ends.
+#[derive(Clone, Copy, Debug, PartialEq, Eq)]
+pub enum End {
+    /// Its last byte was given.
+    Fin,
+    /// It was reset.
+    Reset,
+    /// The connection was lost.
+    NotConnected,
+}
+
+impl End {
+    /// Each of them.
+    pub const EACH: [End; 3] = [End::Fin, End::Reset, End::NotConnected];
+
+    /// What a reading answers at this end, where it took so many bytes of what it reads.
+    pub fn fault(self, taken: usize) -> IoReadError
+        ensures { result ≡ stop taken (ending_of self) }
+    {
+        match self {
+            End::Fin if taken == 0 => IoReadError::ImmediateFin,
+            End::Fin => IoReadError::UnexpectedFin,
+            End::Reset => IoReadError::Reset,
+            End::NotConnected => IoReadError::NotConnected,
+        }
+    }
+}
+
+/// Gives one byte a call, and is not ready once before each byte and once before its end, where it
+/// stays. It tells all that it gives.
+#[derive(Drop)]
+pub struct Trickle<'a> {
+    rest: &'a [u8],
+    end: End,
+    is_ready: bool,
+    given: usize,
+    ghost fits: { given + length rest.now < 2 ^ 64 },
+}
+
+impl<'a> Trickle<'a> {
+    /// These bytes, and then this end.
+    pub fn new(bytes: &'a [u8], end: End) -> Self
+        ensures { (result.rest.now ≡ bytes.now) × (result.end ≡ end) × (result.given ≡ 0) × (result.is_ready ≡ false) }
+    {
+        Trickle {
+            rest: bytes,
+            end,
+            is_ready: false,
+            given: 0,
+        }
+    }
+
+    /// The bytes that it has not given yet.
+    pub fn rest(&self) -> &'a [u8]
+        ensures { result.now ≡ self.now.rest.now }
+    {
+        self.rest
+    }
+}
+
+impl AsyncRead for Trickle<'_> {
+    ghost tells = { λ s. Some (record {
+      ahead = s.rest.now;
+      ending = ending_of s.end;
+      asked = 0;
+      waits = s.given + (if s.is_ready then 1 else 0);
+    }) };
+
+    fn poll_read(&mut self, buf: &mut [u8]) -> ReadStep {
+        if buf.is_empty() {
+            return ReadStep::Bytes(0);
+        }
+        if !self.is_ready {
+            self.is_ready = true;
+            return ReadStep::NotReady;
+        }
+        if self.rest.is_empty() {
+            return match self.end {
+                End::Fin => ReadStep::Bytes(0),
+                End::Reset => ReadStep::Reset,
+                End::NotConnected => ReadStep::NotConnected,
+            };
+        }
+        let (byte, rest) = self.rest.split_at(1);
+        buf[..1].copy_from_slice(byte);
+        self.rest = rest;
+        self.given += 1;
+        self.is_ready = false;
+        ReadStep::Bytes(1)
+    }
+}
+
+/// Answers by a list, where `Bytes(n)` gives the next n bytes, in one call where the buffer takes
+/// them all, and `Bytes(0)` is an end; then it gives the rest, as a slice does. It tells nothing.
+#[derive(Drop)]
+pub struct Answers<'a> {
+    rest: &'a [u8],
+    steps: &'a [ReadStep],
+    piece: usize,
+}
+
+impl<'a> Answers<'a> {
+    /// These bytes, by these answers.
+    pub fn new(bytes: &'a [u8], steps: &'a [ReadStep]) -> Self
+        ensures { (result.rest.now ≡ bytes.now) × (result.steps.now ≡ steps.now) × (result.piece ≡ 0) }
+    {
+        Answers {
+            rest: bytes,
+            steps,
+            piece: 0,
+        }
+    }
+
+    /// The bytes that it has not given yet.
+    pub fn rest(&self) -> &'a [u8]
+        ensures { result.now ≡ self.now.rest.now }
+    {
+        self.rest
+    }
+
+    /// How many answers it has not begun to give.
+    pub fn left(&self) -> usize
+        ensures { result ≡ length self.now.steps.now }
+    {
+        self.steps.len()
+    }
+}
+
+impl AsyncRead for Answers<'_> {
+    fn poll_read(&mut self, buf: &mut [u8]) -> ReadStep {
+        if buf.is_empty() {
+            return ReadStep::Bytes(0);
+        }
+        if self.piece == 0 {
+            match self.steps.split_first() {
+                Some((step, steps)) => {
+                    self.steps = steps;
+                    match *step {
+                        ReadStep::Bytes(n) => self.piece = n,
+                        other => return other,
+                    }
+                }
+                None => self.piece = self.rest.len(),
+            }
+        }
+        let n = self.piece.min(self.rest.len()).min(buf.len());
+        let (front, rest) = self.rest.split_at(n);
+        buf[..n].copy_from_slice(front);
+        self.rest = rest;
+        self.piece -= n;
+        ReadStep::Bytes(n)
+    }
+}
+
+static ONE_A_CALL: [WriteStep; 10] = [
+    WriteStep::Bytes(1),
+    WriteStep::Bytes(1),
+    WriteStep::Bytes(1),
+    WriteStep::Bytes(1),
+    WriteStep::Bytes(1),
+    WriteStep::Bytes(1),
+    WriteStep::Bytes(1),
+    WriteStep::Bytes(1),
+    WriteStep::Stopped,
+    WriteStep::NotConnected,
+];
+
+/// Answers of a sink that takes so many bytes (8 at most), one a call, then stops, and is then lost.
+pub fn stops_behind(bytes: usize) -> &'static [WriteStep]
+    ensures few { bytes ≤ 8 → result.now ≡ drop (8 - bytes) one_a_call }
+    ensures more { 8 < bytes → result.now ≡ [] }
+{
+    if bytes > 8 {
+        return &[];
+    }
+    &ONE_A_CALL[8 - bytes..]
+}
+
+/// Answers of a sink that is not ready before each byte and takes one a call, for 32 bytes.
+pub static BYTE_BY_BYTE: [[WriteStep; 2]; 32] = [[WriteStep::NotReady, WriteStep::Bytes(1)]; 32];
+
+/// Answers by a list, where `Bytes(n)` takes at most n bytes, and at least one; then it takes all,
+/// as a vector does. It tells all that it takes.
+#[derive(Drop)]
+pub struct Paced<'a> {
+    steps: &'a [WriteStep],
+    taken: Vec<u8>,
+    waits: usize,
+    stops: usize,
+    losses: usize,
+    ghost waits_fit: { waits + length steps.now < 2 ^ 64 },
+    ghost stops_fit: { stops + length steps.now < 2 ^ 64 },
+    ghost losses_fit: { losses + length steps.now < 2 ^ 64 },
+}
+
+impl<'a> Paced<'a> {
+    /// A sink that gives these answers.
+    pub fn new(alloc: Global, steps: &'a [WriteStep]) -> Self
+        ensures { (result.steps.now ≡ steps.now) × (result.taken.items ≡ []) × (result.waits ≡ 0) × (result.stops ≡ 0) × (result.losses ≡ 0) }
+    {
+        Paced {
+            steps,
+            taken: Vec::new(alloc),
+            waits: 0,
+            stops: 0,
+            losses: 0,
+        }
+    }
+
+    /// The bytes that it took.
+    pub fn taken(&self) -> &[u8]
+        ensures { result.now ≡ self.now.taken.items }
+    {
+        self.taken.as_slice()
+    }
+
+    /// How many answers it has not given yet.
+    pub fn left(&self) -> usize
+        ensures { result ≡ length self.now.steps.now }
+    {
+        self.steps.len()
+    }
+}
+
+impl AsyncWrite for Paced<'_> {
+    ghost tells = { λ s. Some (record { taken = s.taken.items; waits = s.waits; stops = s.stops; losses = s.losses }) };
+
+    fn poll_write(&mut self, buf: &[u8]) -> WriteStep {
+        if buf.is_empty() {
+            return WriteStep::Bytes(0);
+        }
+        let mut n = buf.len();
+        if let Some((step, rest)) = self.steps.split_first() {
+            self.steps = rest;
+            match *step {
+                WriteStep::Bytes(most) => n = n.min(most.max(1)),
+                WriteStep::NotReady => {
+                    self.waits += 1;
+                    return WriteStep::NotReady;
+                }
+                WriteStep::Stopped => {
+                    self.stops += 1;
+                    return WriteStep::Stopped;
+                }
+                WriteStep::NotConnected => {
+                    self.losses += 1;
+                    return WriteStep::NotConnected;
+                }
+                WriteStep::NoMemory => return WriteStep::NoMemory,
+            }
+        }
+        match self.taken.extend_from_slice(&buf[..n]) {
+            Ok(()) => WriteStep::Bytes(n),
+            Err(_) => WriteStep::NoMemory,
+        }
+    }
+}

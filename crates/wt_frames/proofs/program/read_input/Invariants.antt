@@ -1,6 +1,0 @@
-use Rattle.std.proofs.Common.{◌≤◌, length}
-use Rattle.std.specs.Io.KnownBytes.{Consumes}
-use Rattle.wt_frames.proofs.program.read_input.Given as goal
-
-abbrev pub invariant-turns : goal.invariant-turns
-invariant-turns g l = Consumes (g.R.Read.remaining l.fn.input) (g.R.Read.remaining l.input) l.bytes.items × (length l.bytes.items ≤ 1048576)

@@ -1,7 +1,0 @@
-use Rattle.std.proofs.Common.{Err, ap, sym, ◌∙◌}
-use Rattle.wt_frames.specs.declared.program.Fault.{Fault}
-use Rattle.wt_frames.proofs.ProgramLemmas.{usage-status}
-use Rattle.wt_frames.proofs.program.run_program.Goals as goal
-
-pub returns-in-Err-clause-no_usage : goal.returns-in-Err-clause-no_usage
-returns-in-Err-clause-no_usage g c = λ status. c.in-Err.ensures.no_usage (ap (λ (f : Fault). Err f) (usage-status c.in-Err.fault (sym c.status.ensures ∙ status)))

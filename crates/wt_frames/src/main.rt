@@ -1,0 +1,32 @@
+//! The program `wt_frames`: lists the frames of a recorded stream that is read from standard input.
+#![tactic(auto)]
+
+use std::env::{self, Env};
+use std::io::{self, Write};
+use std::process::ExitCode;
+use wt_listings::program::Fault;
+pub use wt_listings::{ListKind, Listing, list_frames, list_request, list_stepped, run_program};
+
+fn main(rt: HostRuntime) -> ExitCode {
+    let status = match words(&rt) {
+        Ok(words) => run_program(
+            rt.alloc(),
+            words.as_slice(),
+            &mut rt.stdin(),
+            &mut rt.stdout(),
+            &mut rt.stderr(),
+        ),
+        Err(_) => {
+            let fault = Fault::Usage;
+            let _ = writeln!(rt.stderr(), "{fault}");
+            fault.status()
+        }
+    };
+    ExitCode::from(status)
+}
+
+/// The words behind the program's name.
+fn words<R: Env + AllocGlobal>(rt: &R) -> io::Result<Vec<String>> {
+    let words = env::args(rt)?.skip(1).collect(rt.alloc())?;
+    Ok(words)
+}

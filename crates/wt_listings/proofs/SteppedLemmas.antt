@@ -1,0 +1,93 @@
+-- Listings of frames that are read poll by poll.
+use Rattle.std.specs.List.{flat_map}
+use Rattle.std.specs.Prelude.{codes, Result, Ok, Err, IfOk}
+use Rattle.std.proofs.Common.{◌≡◌, ◌⊎◌, ℕ, ◌+◌, ◌^◌, ◌<◌, ◌≤◌, Bool, true, List, [], ◌++◌, length, drop, inl, inr, refl, sym, ap, ◌∙◌, arith, append_assoc}
+use Rattle.std.proofs.lemmas.Fmt.{decimal_digit}
+use Rattle.std.proofs.lemmas.Grind.{flat_map-append}
+use Rattle.wtransport_proto.specs.declared.bytes.polled.IoReadError as bytes
+use Rattle.wtransport_proto.specs.declared.bytes.polled.IoReadError.TheVariants as io
+use Rattle.wtransport_proto.specs.declared.stream.polled.IoReadError.{IoReadError}
+use Rattle.wtransport_proto.specs.declared.stream.polled.IoReadError.TheVariants as stream
+use Rattle.wtransport_proto.specs.declared.stream.driving.Driven.{Driven}
+use Rattle.wtransport_proto.specs.declared.stream.driving.Driven.TheVariants as driven
+use Rattle.wtransport_proto.specs.Content.{Content}
+use Rattle.wtransport_proto.specs.Driving.{DriveDid, RunsOn, after}
+use Rattle.wtransport_proto.specs.Held.{Held, new_held}
+use Rattle.wtransport_proto.specs.HeldRun.{run_of, size_of}
+use Rattle.wtransport_proto.specs.Rule.{Role, RemoteBi}
+use Rattle.wtransport_proto.specs.Run.{Run, Ending, Open, ImmediateFin, Ended, run}
+use Rattle.wtransport_proto.specs.StreamPolling.{IsFault, EndsSo}
+use Rattle.wtransport_proto.proofs.HeldRunLemmas.{run_new}
+use Rattle.wt_listings.specs.declared.listing.Listing.{Listing}
+use Rattle.wt_listings.specs.CutSource.{told}
+use Rattle.wt_listings.specs.Lines.{line, last_line, listed, text_of, status_of}
+use Rattle.wt_listings.specs.Listings.{Says, stepped}
+use Rattle.wt_listings.specs.Stepped.{ClosesStream}
+use Rattle.wt_listings.proofs.ListingLemmas.{IsBegun}
+
+-- ---- the last line
+
+pub end_behind_frame : (line : List ℕ) → line ≡ last_line (Open 0) → line ≡ last_line ImmediateFin
+end_behind_frame line is = is ∙ ap (λ (l : List ℕ). codes "END " ++ l ++ codes "\n") (decimal_digit 0 (omega arith))
+
+pub is_end : (x : IoReadError) (fault : bytes.IoReadError) (e : Ending) → x ≡ stream.IO fault → ClosesStream x → IsFault x e → e ≡ ImmediateFin
+is_end (stream.H3 code) fault e is closes h = absurd (cc)
+is_end (stream.IO io.ImmediateFin) fault e is closes h = h
+is_end (stream.IO io.UnexpectedFin) fault e is closes h = absurd closes
+is_end (stream.IO io.Reset) fault e is closes h = absurd closes
+is_end (stream.IO io.NotConnected) fault e is closes h = absurd closes
+
+pub lined : (text items line : List ℕ) (e known : Ending) → items ≡ text ++ line → line ≡ last_line known → e ≡ known → items ≡ text ++ last_line e
+lined text items line e known grown is same = grown ∙ ap (λ (l : List ℕ). text ++ l) (is ∙ sym (ap last_line same))
+
+-- ---- the lines of the frames of one drive
+
+lines_after : (text : List ℕ) (fs : List Content) (r : Run) → (text ++ flat_map line fs) ++ text_of r ≡ text ++ text_of (after fs r)
+lines_after text fs r =
+    append_assoc text (flat_map line fs) (text_of r)
+    ∙ ap (λ (x : List ℕ). text ++ x) (sym (append_assoc (flat_map line fs) (flat_map line r.frames) (last_line r.ending)) ∙ ap (λ (x : List ℕ). x ++ last_line r.ending) (sym (flat_map-append line fs r.frames)))
+
+pub begun_lines : (text items : List ℕ) (fs : List Content) (r left whole : Run) → IsBegun text left whole → left ≡ after fs r → items ≡ text ++ flat_map line fs → IsBegun items r whole
+begun_lines text items fs r left whole begun is grown = record {
+  lines = rw grown (lines_after text fs r ∙ ap (λ (x : Run). text ++ text_of x) (sym is) ∙ begun.lines);
+  ending = ap (λ (x : Run). x.ending) (sym is) ∙ begun.ending;
+}
+
+-- the list was empty before the drive
+pub lines_of_all : (text items : List ℕ) (old new shown : List Content) → old ≡ [] → shown ≡ new → items ≡ text ++ flat_map line shown → items ≡ text ++ flat_map line (drop (length old) new)
+lines_of_all text items old new shown none same grown = rw (none, ← same) grown
+
+-- before the first drive the whole run is left
+pub begun_whole : (items : List ℕ) (first : Bool) (h : Held) (bytes : List ℕ) (left : ℕ) (input : List ℕ) → items ≡ [] → first ≡ true → h ≡ new_held → bytes ≡ input → IsBegun items (run_of RemoteBi first h (told bytes left)) (stepped input)
+begun_whole items first h bytes left input none is_first fresh same =
+    let is : run_of RemoteBi first h (told bytes left) ≡ run RemoteBi true input Ended = run_new RemoteBi first h (told bytes left) fresh ∙ rw (is_first, same) refl in
+    rw (none, is) (record { lines = refl; ending = refl })
+
+-- behind the last drive only the last line is left
+says_whole : (l : Listing) (text items : List ℕ) (fs : List Content) (x : IoReadError) (left whole : Run) → IsBegun text left whole → EndsSo left fs x → items ≡ text ++ flat_map line fs
+    → l.text.items ≡ items ++ last_line left.ending → l.status ≡ status_of left.ending → Says l (listed whole)
+says_whole l text items fs x left whole begun ends grown last status = record {
+  text = last ∙ ap (λ (y : List ℕ). y ++ last_line left.ending) grown
+      ∙ append_assoc text (flat_map line fs) (last_line left.ending)
+      ∙ ap (λ (gs : List Content). text ++ (flat_map line gs ++ last_line left.ending)) (sym ends.frames)
+      ∙ begun.lines;
+  status = status ∙ ap status_of begun.ending;
+}
+
+pub says_listed : (E : Type 0) (r : Result Listing E) (text items : List ℕ) (fs : List Content) (x : IoReadError) (left whole : Run) → IsBegun text left whole → EndsSo left fs x → items ≡ text ++ flat_map line fs
+    → IfOk r (λ l. l.text.items ≡ items ++ last_line left.ending) → IfOk r (λ l. l.status ≡ status_of left.ending) → IfOk r (λ l. Says l (listed whole))
+says_listed E (Ok l) text items fs x left whole begun ends grown last status = says_whole l text items fs x left whole begun ends grown last status
+says_listed E (Err e) text items fs x left whole begun ends grown last status = tt
+
+-- ---- what a drive did that has to be called again
+
+pub goes_on : (d : Driven) (role : Role) (first next : Bool) (old new : Held) (fs : List Content) (polls : ℕ) (xs ys : List ℕ) (m n : ℕ) → (d ≡ driven.Waiting) ⊎ (d ≡ driven.Spent)
+    → DriveDid role d first next old new fs polls (told xs m) (told ys n) → RunsOn role first next old new fs (told xs m) (told ys n)
+goes_on d role first next old new fs polls xs ys m n (inl e) did = let h = rw e at did in h.0
+goes_on d role first next old new fs polls xs ys m n (inr e) did = let h = rw e at did in h.0
+
+-- it waited, or took bytes
+pub less_left : (d : Driven) (role : Role) (first next : Bool) (old new : Held) (fs : List Content) (polls : ℕ) (xs ys : List ℕ) (m n : ℕ) → (d ≡ driven.Waiting) ⊎ (d ≡ driven.Spent) → 0 < polls → m < 2 ^ 64
+    → DriveDid role d first next old new fs polls (told xs m) (told ys n) → (n ≤ m) × (n + size_of new (told ys n) < m + size_of old (told xs m))
+less_left d role first next old new fs polls xs ys m n (inl e) some fits did = let h = rw e at did in let waited = h.1 in let size = h.2.size in (omega arith, omega arith)
+less_left d role first next old new fs polls xs ys m n (inr e) some fits did = let h = rw e at did in let taken = h.1 in let waits = h.2.asks.waits in (omega arith, omega arith)

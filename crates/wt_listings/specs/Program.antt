@@ -1,0 +1,68 @@
+-- The words of the program, its faults and statuses, and what it writes.
+use Rattle.std.specs.Prelude.{◌≡◌, ◌⊎◌, ℕ, ◌≤◌, List, [], ◌∷◌, length, Option, IfSome, codes}
+use Rattle.std.specs.Io.KnownBytes.{Appends, IsAtEnd}
+use Rattle.std.specs.Str.Parse.{IsNumeral, digits_value}
+use Rattle.wt_listings.specs.declared.listing.ListKind.{ListKind}
+use Rattle.wt_listings.specs.declared.listing.ListKind.TheVariants.{BiRemote, BiLocal, Control}
+use Rattle.wt_listings.specs.declared.program.words.Command.{Command}
+use Rattle.wt_listings.specs.declared.program.words.Command.TheVariants.{Buffer, Stepped, Request}
+use Rattle.wt_listings.specs.declared.program.Fault.{Fault}
+use Rattle.wt_listings.specs.declared.program.Fault.TheVariants.{Usage, InputTooLong, ReadFault, WriteFault, NoMemory}
+use Rattle.wt_listings.specs.Lines.{Listed, listed}
+use Rattle.wt_listings.specs.Listings.{recorded, stepped}
+use Rattle.wt_listings.specs.Requests.{request_listing}
+
+-- the status of a fault
+abbrev pub fault_status : Fault → ℕ
+fault_status Usage = 1
+fault_status InputTooLong = 3
+fault_status ReadFault = 3
+fault_status WriteFault = 3
+fault_status NoMemory = 4
+
+-- the name of a listing
+abbrev pub name_of : ListKind → List ℕ
+name_of BiRemote = codes "bi-remote"
+name_of BiLocal = codes "bi-local"
+name_of Control = codes "control"
+
+-- the word writes this number of bytes, from 1 to 1048576, in decimal digits and nothing else
+pub record WritesSize (word : List ℕ) (k : ℕ) : Type 0 where
+  pub digits : IsNumeral 10 word
+  pub value : k ≡ digits_value 10 word
+  pub some : 1 ≤ k
+  pub few : k ≤ 1048576
+
+-- the words name this command; none, and "buffer" alone, name the listing of BiRemote
+abbrev pub Names : List (List ℕ) → Command → Type 0
+Names words (Buffer kind) = (words ≡ codes "buffer" ∷ name_of kind ∷ []) ⊎ ((kind ≡ BiRemote) × ((words ≡ []) ⊎ (words ≡ codes "buffer" ∷ [])))
+Names words (Stepped k) = (word : List ℕ) × (words ≡ codes "stepped" ∷ word ∷ []) × WritesSize word k
+Names words Request = words ≡ codes "request" ∷ []
+
+-- no command has these words
+abbrev pub NamesNone : List (List ℕ) → Type 0
+NamesNone words = (command : Command) → Names words command → ⊥
+
+-- a stream gives at least one byte a call
+abbrev pub CanList : Command → Type 0
+CanList (Buffer kind) = Unit {0}
+CanList (Stepped k) = 1 ≤ k
+CanList Request = Unit {0}
+
+-- what the command lists of this input
+abbrev pub listing_of : Command → List ℕ → Listed
+listing_of (Buffer kind) input = listed (recorded kind input)
+listing_of (Stepped k) input = listed (stepped input)
+listing_of Request input = request_listing input
+
+-- the listing of this input was written, and its status answered, as far as input and output tell their bytes
+abbrev pub Lists : Command → Option (List ℕ) → Option (List ℕ) → Option (List ℕ) → ℕ → Type 0
+Lists command input output written status = IfSome input (λ bytes. (status ≡ (listing_of command bytes).status) × (length bytes ≤ 1048576) × Appends output written (listing_of command bytes).text)
+
+-- what a run of the program without a fault did
+abbrev pub ListsWords : List (List ℕ) → Option (List ℕ) → Option (List ℕ) → Option (List ℕ) → ℕ → Type 0
+ListsWords words input output written status = (command : Command) × Names words command × Lists command input output written status
+
+-- the arguments name a command, and all of the input was read and is short enough to be listed
+abbrev pub ReadsWhole : List (List ℕ) → Option (List ℕ) → Option (List ℕ) → Type 0
+ReadsWhole words input left = (command : Command) × Names words command × IfSome input (λ bytes. length bytes ≤ 1048576) × IsAtEnd left

@@ -1,0 +1,65 @@
+//! Recorded bytes as a source that gives few at a time and has to be waited for.
+ghost use Rattle.std.specs.Prelude.{◌≡◌, ◌+◌, ◌^◌, ◌<◌, ◌≤◌, length, Some, false, if◌then◌else◌};
+ghost use Rattle.wtransport_proto.specs.Source.{StepKeepsLengths, StepTells};
+ghost use Rattle.wt_listings.specs.CutSource.{told, Cuts};
+
+use wtransport_proto::bytes::{AsyncRead, ReadStep};
+
+/// A stream that was recorded whole: its bytes, at most so many a call, and then an end.
+///
+/// It is not ready once before each call that moves bytes, and once before its first end, and never
+/// else. So it waits at most once more than it has bytes.
+#[derive(Drop)]
+pub(crate) struct CutSource<'a> {
+    rest: &'a [u8],
+    most: usize,
+    is_ready: bool,
+    waits_left: usize,
+    ghost moves: { 0 < most },
+    ghost few_waits: { length rest.now + (if is_ready then 0 else 1) ≤ waits_left },
+}
+
+impl<'a> CutSource<'a> {
+    /// The source of these bytes, at most `most` a call, which is at least 1.
+    pub(crate) fn new(bytes: &'a [u8], most: usize) -> Self
+        requires { 0 < most }
+        ensures bytes { result.rest.now ≡ bytes.now }
+        ensures most { result.most ≡ most }
+        ensures waits { result.waits_left ≡ length bytes.now + 1 }
+        ensures fits { result.waits_left < 2 ^ 64 }
+        ensures not_ready { result.is_ready ≡ false }
+    {
+        CutSource {
+            rest: bytes,
+            most,
+            is_ready: false,
+            waits_left: bytes.len() + 1,
+        }
+    }
+}
+
+impl AsyncRead for CutSource<'_> {
+    ghost tells = { λ s. Some (told s.rest.now s.waits_left) };
+
+    fn poll_read(&mut self, buf: &mut [u8]) -> ReadStep
+        ensures lengths { StepKeepsLengths result (length buf.new) }
+        ensures tells { StepTells result buf.new (Some (told self.old.rest.now self.old.waits_left)) (Some (told self.new.rest.now self.new.waits_left)) }
+        ensures cuts { Cuts result (length buf.new) self.old.most self.old.is_ready self.new.is_ready }
+        ensures most { self.new.most ≡ self.old.most }
+    {
+        if buf.is_empty() {
+            return ReadStep::Bytes(0);
+        }
+        if !self.is_ready {
+            self.is_ready = true;
+            self.waits_left -= 1;
+            return ReadStep::NotReady;
+        }
+        let count = self.most.min(self.rest.len()).min(buf.len());
+        let (front, rest) = self.rest.split_at(count);
+        buf[..count].copy_from_slice(front);
+        self.rest = rest;
+        self.is_ready = count == 0;
+        ReadStep::Bytes(count)
+    }
+}

@@ -1,0 +1,59 @@
+//! The listing of frames that are read from a buffer.
+ghost use Rattle.std.specs.Prelude.{◌≡◌, ◌⊎◌, IfOk};
+ghost use Rattle.wtransport_proto.specs.Run.{run, MayGoOn};
+ghost use Rattle.wt_listings.specs.Lines.{listed};
+ghost use Rattle.wt_listings.specs.Listings.{Says, recorded};
+
+use crate::listing::recorded::{RecordedStream, control_stream};
+use crate::listing::{ListKind, Listing, end_line, fault_line, frame_line};
+use std::alloc::{AllocError, Global};
+use wtransport_proto::bytes::BufferReader;
+use wtransport_proto::stream::bilocal::StreamBiLocalQuic;
+use wtransport_proto::stream::biremote::StreamBiRemoteQuic;
+
+/// Returns the listing of the frames in the recorded bytes of a stream. The last line says how many
+/// bytes come after the last frame, or which fault ends the stream.
+///
+/// Returns [`AllocError`] if allocation fails.
+pub fn list_frames(alloc: Global, kind: ListKind, input: &[u8]) -> Result<Listing, AllocError>
+    ensures listing { IfOk result (λ l. Says l (listed (recorded kind input.now))) }
+    ensures status { IfOk result (λ l. (l.status ≡ 0) ⊎ (l.status ≡ 2)) }
+{
+    match kind {
+        ListKind::BiRemote => list_stream(alloc, StreamBiRemoteQuic::accept_bi().upgrade(), input),
+        ListKind::BiLocal => list_stream(alloc, StreamBiLocalQuic::open_bi().upgrade(), input),
+        ListKind::Control => list_stream(alloc, control_stream(), input),
+    }
+}
+
+/// The listing of a stream of which these bytes were recorded.
+fn list_stream<S: RecordedStream>(
+    alloc: Global,
+    mut stream: S,
+    input: &[u8],
+) -> Result<Listing, AllocError>
+    requires { S.can_read stream }
+    ensures listing { IfOk result (λ l. Says l (listed (run S.role (S.first stream) input.now MayGoOn))) }
+    ensures status { IfOk result (λ l. (l.status ≡ 0) ⊎ (l.status ≡ 2)) }
+{
+    let mut reader = BufferReader::new(input);
+    let mut text = Vec::new(alloc);
+    'frames: loop {
+        match stream.next_frame(&mut reader) {
+            Ok(Some(frame)) => {
+                let line = frame_line(alloc, &frame)?;
+                text.extend_from_slice(line.as_bytes())?;
+            }
+            Ok(None) => {
+                let line = end_line(alloc, reader.capacity())?;
+                text.extend_from_slice(line.as_bytes())?;
+                return Ok(Listing { text, status: 0 });
+            }
+            Err(code) => {
+                let line = fault_line(alloc, code)?;
+                text.extend_from_slice(line.as_bytes())?;
+                return Ok(Listing { text, status: 2 });
+            }
+        }
+    }
+}

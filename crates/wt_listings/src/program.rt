@@ -1,0 +1,163 @@
+//! The program: its words, its input and output, and its statuses.
+ghost use Rattle.std.specs.Prelude.{◌≡◌, ◌≢◌, ◌≤◌, ◌<◌, ◌⊎◌, map, length, Err, IfOk, IfErr, IfSome, OnOk, vec_len, string_bytes};
+ghost use Rattle.std.specs.Io.KnownBytes.{Appends, IsAtEnd};
+ghost use Rattle.wt_listings.specs.Listings.{Says};
+ghost use Rattle.wt_listings.specs.Program.{fault_status, CanList, listing_of, NamesNone, ListsWords, ReadsWhole};
+
+mod words;
+
+use crate::listing::Listing;
+use crate::listing::frames::list_frames;
+use crate::listing::request::list_request;
+use crate::listing::stepped::list_stepped;
+use std::alloc::{AllocError, Global};
+use std::io::{Read, Write};
+pub use words::Command;
+use words::named_command;
+
+/// How many bytes of input are listed at most.
+const MAX_INPUT: usize = 1_048_576;
+
+/// How often input is read at most.
+const MAX_TURNS: u32 = 2_097_152;
+
+/// Why there is no listing.
+#[derive(Clone, Copy, Debug, PartialEq, Eq, thiserror::Error)]
+pub enum Fault {
+    /// The words are not those of a listing.
+    #[error("wt_frames: usage")]
+    Usage,
+    /// More than 1048576 bytes of input.
+    #[error("wt_frames: input too long")]
+    InputTooLong,
+    /// Input could not be read, or did not end.
+    #[error("wt_frames: read fault")]
+    ReadFault,
+    /// The listing could not be written.
+    #[error("wt_frames: write fault")]
+    WriteFault,
+    /// No memory.
+    #[error("wt_frames: no memory")]
+    NoMemory,
+}
+
+impl Fault {
+    /// The status with which the program ends.
+    pub fn status(self) -> u8
+        ensures { result ≡ fault_status self }
+    {
+        match self {
+            Fault::Usage => 1,
+            Fault::InputTooLong | Fault::ReadFault | Fault::WriteFault => 3,
+            Fault::NoMemory => 4,
+        }
+    }
+}
+
+/// Lists the input as the words say, and answers the status with which the program ends.
+///
+/// - `buffer bi-remote`, `buffer bi-local`, `buffer control`: the frames, by [`list_frames`];
+///   `buffer` or no word for the first.
+/// - `stepped k`: the frames, by [`list_stepped`]; `k` is written in decimal digits alone, leading
+///   zeros among them, and from 1 to 1048576.
+/// - `request`: the fields of the request, by [`list_request`].
+///
+/// The status is that of the listing; 1 for other arguments, before anything is read or written; 3 for
+/// more than 1048576 bytes of input, a failed read and a failed write; 4 if allocation fails. With 1, 3
+/// and 4 one line is written to `errors`, and a fault of that line is ignored. Nothing is written to
+/// `output` before the whole listing is made: with 1 and 4 `output` is unchanged, and with 3 too unless
+/// the listing could not be written, of which it may then hold a part.
+pub fn run_program<R: Read, W: Write, E: Write>(
+    alloc: Global,
+    words: &[String],
+    input: &mut R,
+    output: &mut W,
+    errors: &mut E,
+) -> u8
+    // Other words are answered before anything is read or written.
+    ensures usage { NamesNone (map (λ w. string_bytes w) words.now) → (result ≡ 1) × (input.new ≡ input.old) × (output.new ≡ output.old) }
+    ensures no_usage { result ≡ 1 → NamesNone (map (λ w. string_bytes w) words.now) }
+    // Status 0 and 2 come with the whole listing of the whole input.
+    ensures lists { (result ≡ 0) ⊎ (result ≡ 2) → ListsWords (map (λ w. string_bytes w) words.now) (R.remaining input.old) (W.contents output.old) (W.contents output.new) result }
+    // Status 1 and 4 come with nothing written.
+    ensures quiet { (result ≡ 1) ⊎ (result ≡ 4) → output.new ≡ output.old }
+    // With status 3 nothing was written, unless the whole input was read and its listing was being written.
+    ensures refused { result ≡ 3 → (output.new ≡ output.old) ⊎ ReadsWhole (map (λ w. string_bytes w) words.now) (R.remaining input.old) (R.remaining input.new) }
+    ensures statuses { result ≤ 4 }
+{
+    match try_run(alloc, words, input, output) {
+        Ok(status) => status,
+        Err(fault) => {
+            let _ = writeln!(errors, "{fault}");
+            fault.status()
+        }
+    }
+}
+
+/// The same, with the fault in place of its line.
+fn try_run<R: Read, W: Write>(
+    alloc: Global,
+    words: &[String],
+    input: &mut R,
+    output: &mut W,
+) -> Result<u8, Fault>
+    ensures usage { NamesNone (map (λ w. string_bytes w) words.now) → (result ≡ Err Fault.Usage) × (input.new ≡ input.old) }
+    ensures no_usage { result ≡ Err Fault.Usage → NamesNone (map (λ w. string_bytes w) words.now) }
+    ensures lists { IfOk result (ListsWords (map (λ w. string_bytes w) words.now) (R.remaining input.old) (W.contents output.old) (W.contents output.new)) }
+    ensures status { IfOk result (λ s. (s ≡ 0) ⊎ (s ≡ 2)) }
+    ensures quiet { IfErr result (λ e. e ≢ Fault.WriteFault → output.new ≡ output.old) }
+    ensures unwritten { result ≡ Err Fault.WriteFault → ReadsWhole (map (λ w. string_bytes w) words.now) (R.remaining input.old) (R.remaining input.new) }
+{
+    let command = named_command(words).ok_or(Fault::Usage)?;
+    let bytes = read_input(alloc, input)?;
+    let listing = list(alloc, command, bytes.as_slice()).map_err(|_| Fault::NoMemory)?;
+    write_output(output, listing.text.as_slice())?;
+    Ok(listing.status)
+}
+
+/// The listing of a command.
+fn list(alloc: Global, command: Command, input: &[u8]) -> Result<Listing, AllocError>
+    requires { CanList command }
+    ensures listing { IfOk result (λ l. Says l (listing_of command input.now)) }
+    ensures status { IfOk result (λ l. (l.status ≡ 0) ⊎ (l.status ≡ 2)) }
+{
+    match command {
+        Command::Buffer(kind) => list_frames(alloc, kind, input),
+        Command::Stepped(size) => list_stepped(alloc, size, input),
+        Command::Request => list_request(alloc, input),
+    }
+}
+
+/// All of the input.
+fn read_input<R: Read>(alloc: Global, input: &mut R) -> Result<Vec<u8>, Fault>
+    ensures whole { IfOk result (λ bytes. IfSome (R.remaining input.old) (λ xs. bytes.items ≡ xs)) }
+    ensures short { IfOk result (λ bytes. vec_len bytes ≤ 1048576) }
+    ensures ended { IfOk result (λ _. IsAtEnd (R.remaining input.new)) }
+    ensures too_long { result ≡ Err Fault.InputTooLong → IfSome (R.remaining input.old) (λ xs. 1048576 < length xs) }
+    ensures faults { IfErr result (λ e. (e ≢ Fault.Usage) × (e ≢ Fault.WriteFault)) }
+{
+    let mut bytes = Vec::new(alloc);
+    let mut chunk = [0; 4096];
+    'turns: for _turn in 0..MAX_TURNS {
+        let count = input.read(&mut chunk).map_err(|_| Fault::ReadFault)?;
+        if count == 0 {
+            return Ok(bytes);
+        }
+        bytes
+            .extend_from_slice(&chunk[..count])
+            .map_err(|_| Fault::NoMemory)?;
+        if bytes.len() > MAX_INPUT {
+            return Err(Fault::InputTooLong);
+        }
+    }
+    Err(Fault::ReadFault)
+}
+
+/// Writes the whole listing.
+fn write_output<W: Write>(output: &mut W, text: &[u8]) -> Result<(), Fault>
+    ensures whole { OnOk result (Appends (W.contents output.old) (W.contents output.new) text.now) }
+    ensures fault { IfErr result (λ e. e ≡ Fault.WriteFault) }
+{
+    output.write_all(text).map_err(|_| Fault::WriteFault)?;
+    output.flush().map_err(|_| Fault::WriteFault)
+}

@@ -1,0 +1,85 @@
+//! The words of the program, and what they name.
+ghost use Rattle.std.specs.Prelude.{◌≡◌, ◌≢◌, ℕ, [], ◌∷◌, map, IfSome, IfNone, string_bytes};
+ghost use Rattle.wt_listings.specs.Program.{name_of, Names, NamesNone, WritesSize};
+ghost use Rattle.wt_listings.specs.declared.listing.ListKind.{ListKind};
+
+use crate::listing::ListKind;
+
+/// How many bytes come a call at most.
+const MAX_SIZE: usize = 1_048_576;
+
+/// What the program lists.
+#[derive(Clone, Copy, Debug, PartialEq, Eq)]
+pub enum Command {
+    /// The frames of a recorded stream.
+    Buffer(ListKind),
+    /// The frames of a stream that gives at most so many bytes a call: from 1 to 1048576.
+    Stepped(usize),
+    /// The request for a session.
+    Request,
+}
+
+/// What the words name, where they name something.
+pub(crate) fn named_command(words: &[String]) -> Option<Command>
+    ensures named { IfSome result (Names (map (λ w. string_bytes w) words.now)) }
+    ensures none { IfNone result (NamesNone (map (λ w. string_bytes w) words.now)) }
+{
+    match words {
+        [] => Some(Command::Buffer(ListKind::BiRemote)),
+        [name] => plain_command(name.as_str()),
+        [name, detail] => detailed_command(name.as_str(), detail.as_str()),
+        _ => None,
+    }
+}
+
+/// What a single word names.
+fn plain_command(name: &str) -> Option<Command>
+    ensures named { IfSome result (Names (name.now ∷ [])) }
+    ensures none { IfNone result (NamesNone (name.now ∷ [])) }
+{
+    match name {
+        "buffer" => Some(Command::Buffer(ListKind::BiRemote)),
+        "request" => Some(Command::Request),
+        _ => None,
+    }
+}
+
+/// What two words name.
+fn detailed_command(name: &str, detail: &str) -> Option<Command>
+    ensures named { IfSome result (Names (name.now ∷ detail.now ∷ [])) }
+    ensures none { IfNone result (NamesNone (name.now ∷ detail.now ∷ [])) }
+{
+    match name {
+        "buffer" => named_kind(detail).map(Command::Buffer),
+        "stepped" => written_size(detail).map(Command::Stepped),
+        _ => None,
+    }
+}
+
+/// The stream of this name.
+fn named_kind(name: &str) -> Option<ListKind>
+    ensures named { IfSome result (λ kind. name.now ≡ name_of kind) }
+    ensures none { IfNone result ((kind : ListKind) → name.now ≢ name_of kind) }
+{
+    match name {
+        "bi-remote" => Some(ListKind::BiRemote),
+        "bi-local" => Some(ListKind::BiLocal),
+        "control" => Some(ListKind::Control),
+        _ => None,
+    }
+}
+
+/// The number of bytes that the digits write.
+fn written_size(digits: &str) -> Option<usize>
+    ensures named { IfSome result (WritesSize digits.now) }
+    ensures none { IfNone result ((k : ℕ) → ¬ WritesSize digits.now k) }
+{
+    // A plus is no digit, though `parse` takes one.
+    if digits.starts_with('+') {
+        return None;
+    }
+    match digits.parse::<usize>() {
+        Ok(size) if (1..=MAX_SIZE).contains(&size) => Some(size),
+        _ => None,
+    }
+}
