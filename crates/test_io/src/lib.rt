@@ -1,5 +1,5 @@
-//! Sources and sinks of the tests' own, which cut what they give and take, make wait, and stop. No product code
-//! stands here.
+//! What the tests share: sources and sinks that cut what they give and take, make wait, and stop; and `same`, the check
+//! of one row. No product code stands here.
 #![tactic(auto)]
 
 ghost use Rattle.std.specs.Prelude.{◌≡◌, Some, ◌+◌, ◌-◌, ◌^◌, ◌<◌, ◌≤◌, [], length, drop, false, if◌then◌else◌};
@@ -8,7 +8,21 @@ ghost use Rattle.wtp_core.specs.Polled.{stop};
 ghost use Rattle.test_io.specs.Pieces.{ending_of, one_a_call};
 
 use std::alloc::Global;
+use std::fmt::{Debug, Display};
+use std::process::Abort;
 use wtp_core::bytes::{AsyncRead, AsyncWrite, IoReadError, ReadStep, WriteStep};
+
+/// Asserts that what came is what was wanted. On a failure it says what the row shows, what came and what was wanted.
+///
+/// A call is cheap to prove; an `assert_eq!` in its place is proved at each place anew.
+pub fn same<R: Abort, T: PartialEq + Debug + Drop, S: Display + Drop>(
+    rt: &R,
+    came: T,
+    wanted: T,
+    shows: S,
+) {
+    assert!(rt; came == wanted, "{shows}: {came:?}, and not {wanted:?}");
+}
 
 /// How a source ends.
 #[derive(Clone, Copy, Debug, PartialEq, Eq)]
