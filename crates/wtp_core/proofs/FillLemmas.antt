@@ -18,7 +18,7 @@ gains_more held xs ys a b c g asks moved waits some = record {
   waits = let before = g.waits in omega arith;
 }
 
--- the same buffer after a call that moved n bytes behind the first at
+-- the same buffer after a call that moved n bytes to after the first `at` bytes
 pub gains_bytes : (held buf new : List ℕ) (at n : ℕ) (a b c : Source) → Gains held (take at buf) a b 0 → take at new ≡ take at buf → n ≤ length (drop at new) → 0 < n → AsksOnce b c → b.ahead ≡ take n (drop at new) ++ c.ahead → c.waits ≡ b.waits → Gains held (take (at + n) new) a c 0
 gains_bytes held buf new at n a b c g same fits some asks moved waits =
     let shape : take (at + n) new ≡ take at buf ++ take n (drop at new) = take-add at n new ∙ ap (λ l. l ++ take n (drop at new)) same in
@@ -43,7 +43,7 @@ gains_then x y y' z z' a b c extra p q same shown = record {
   waits = let one = p.waits in let two = q.waits in omega arith;
 }
 
--- what begins with the bytes that were held has them, and more
+-- bytes that start with the old bytes are the old bytes and more
 pub begins : (n : ℕ) (old new : List ℕ) → take n new ≡ old → (more : List ℕ) × (new ≡ old ++ more)
 begins n old new e = (drop n new, sym (take-append-drop n new) ∙ ap (λ l. l ++ drop n new) e)
 

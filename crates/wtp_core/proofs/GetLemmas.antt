@@ -1,4 +1,4 @@
--- What one poll of a number, or of a buffer, answers.
+-- The result of one poll of a number, or of a buffer.
 use Rattle.std.proofs.Common.{◌≡◌, ℕ, ◌<◌, List, [], ◌++◌, length, take, drop, Option, Some, Ok, refl, sym, ap, ◌∙◌, append-nil}
 use Rattle.wtp_core.specs.declared.bytes.polled.Polled.TheVariants.{Ready}
 use Rattle.wtp_core.specs.declared.polling.fill.Halt.{Halt}
@@ -32,7 +32,7 @@ halted_varint_given halt.Fin n m old new e = begins m old new e
 halted_varint_given halt.Reset n m old new e = begins m old new e
 halted_varint_given halt.NotConnected n m old new e = begins m old new e
 
--- a whole number is read, with nothing behind it
+-- a whole number is read, with nothing after it
 read_whole : (v k : ℕ) (h : List ℕ) → varint_need h ≡ length h → number_at h ≡ Some (v, drop k h) → number_at h ≡ Some (v, [])
 read_whole v k h w e = let (u, is) = number_at-whole h w in is ∙ ap (λ (x : ℕ). Some (x, [])) (same_number (u, []) (v, drop k h) (sym is ∙ e))
   where

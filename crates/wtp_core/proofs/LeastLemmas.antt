@@ -1,4 +1,4 @@
--- No spelling is shorter than the shortest one, and no other one is as short.
+-- No encoding is shorter than the shortest one, and no other one is as short.
 use Rattle.std.proofs.Common.{◌≡◌, ℕ, ◌+◌, ◌-◌, ◌*◌, ◌^◌, ◌<◌, ◌≤◌, List, [], ◌∷◌, length, get_or, refl, sym, ap, ◌∙◌, arith, inl, inr, ◌⊎◌}
 use Rattle.std.specs.Int.{Width, w8, w16, w32, w64, w128, byte_len, to_be_bytes}
 use Rattle.std.proofs.lemmas.Bool.{cases_lt, lt-ltb, le-ltb}
@@ -6,7 +6,7 @@ use Rattle.std.proofs.lemmas.Nat.{be_bytes_2, be_bytes_4, be_bytes_8}
 use Rattle.wtp_core.specs.Varint.{Spells, width_of, value_of, shortest}
 use Rattle.wtp_core.proofs.ShortLemmas.{shortest-spells}
 
--- how long the shortest spelling is, by the value
+-- the size of the shortest encoding, by the value
 pub length-shortest : (v : ℕ) → (v < 2 ^ 6 → length (shortest v) ≡ 1) × (2 ^ 6 ≤ v → v < 2 ^ 14 → length (shortest v) ≡ 2) × (2 ^ 14 ≤ v → v < 2 ^ 30 → length (shortest v) ≡ 4) × (2 ^ 30 ≤ v → length (shortest v) ≡ 8)
 unfolding shortest
 length-shortest v = (
@@ -16,7 +16,7 @@ length-shortest v = (
   λ l. let l6 : 2 ^ 6 ≤ v = omega arith in let l14 : 2 ^ 14 ≤ v = omega arith in rw (le-ltb v (2 ^ 6) l6, le-ltb v (2 ^ 14) l14, le-ltb v (2 ^ 30) l) refl,
 )
 
--- the width that the first byte says
+-- the width that the first byte determines
 width-cases : (b : ℕ) → ((width_of b ≡ w8) × (b < 64)) ⊎ (((width_of b ≡ w16) × (64 ≤ b) × (b < 128)) ⊎ (((width_of b ≡ w32) × (128 ≤ b) × (b < 192)) ⊎ ((width_of b ≡ w64) × (192 ≤ b))))
 width-cases b = elim (cases_lt b 64) [
   | inl h ↦ inl (rw (lt-ltb b 64 h) refl, h)
@@ -29,7 +29,7 @@ width-cases b = elim (cases_lt b 64) [
   ]
 ]
 
--- a spelling by its width
+-- an encoding by its width
 record As (w : Width) (v : ℕ) (s : List ℕ) : Type 0 where
   size : length s ≡ byte_len w
   value : v ≡ value_of w s
@@ -53,7 +53,7 @@ below64 : (v : ℕ) (s : List ℕ) (h : As w64 v s) → v < 2 ^ 62
 unfolding value_of
 below64 v s h = let e = h.value in omega arith
 
--- the shortest spelling has at most n bytes, by the value
+-- the shortest encoding has at most n bytes, by the value
 at_most_2 : (v : ℕ) → v < 2 ^ 14 → length (shortest v) ≤ 2
 at_most_2 v h = elim (cases_lt v (2 ^ 6)) [
   | inl l ↦ omega (arith, (length-shortest v).0 l)
@@ -72,7 +72,7 @@ at_most_8 v = elim (cases_lt v (2 ^ 30)) [
   | inr l ↦ omega (arith, (length-shortest v).3 l)
 ]
 
--- no spelling is shorter
+-- no encoding is shorter
 pub shortest-least : (v : ℕ) (s : List ℕ) (h : Spells v s) → length (shortest v) ≤ length s
 shortest-least v s h = elim (width-cases (get_or s 0 0)) [
   | inl (e, b) ↦ let a = as_width w8 v s h e in omega (arith, a.size, (length-shortest v).0 (below8 v s a))
@@ -81,7 +81,7 @@ shortest-least v s h = elim (width-cases (get_or s 0 0)) [
   | inr (inr (inr (e, l))) ↦ let a = as_width w64 v s h e in omega (arith, a.size, at_most_8 v)
 ]
 
--- ---- a spelling of each width is that of its value
+-- ---- an encoding of each width is that of its value
 
 same16 : (s : List ℕ) → length s ≡ 2 → ((i : ℕ) → get_or s i 0 < 256) → 64 ≤ get_or s 0 0 → get_or s 0 0 < 128 → to_be_bytes w16 (2 ^ 14 + value_of w16 s) ≡ s
 unfolding value_of
@@ -113,14 +113,14 @@ shortest8 : (v : ℕ) → v < 2 ^ 6 → shortest v ≡ v ∷ []
 unfolding shortest
 shortest8 v h = rw (lt-ltb v (2 ^ 6) h) refl
 
--- one byte is the number that it spells
+-- one byte is the number that it encodes
 one_byte : (v : ℕ) (s : List ℕ) (h : As w8 v s) → get_or s 0 0 < 64 → s ≡ v ∷ []
 unfolding value_of
 one_byte v [] h b = absurd (omega (arith, h.size))
 one_byte v (x ∷ []) h b = let e = h.value in let same : x ≡ v = omega arith in rw same refl
 one_byte v (x ∷ y ∷ s) h b = absurd (omega (arith, h.size))
 
--- no other spelling is as short
+-- no other encoding is as short
 pub shortest-only : (v : ℕ) (s : List ℕ) (h : Spells v s) → ((i : ℕ) → get_or s i 0 < 256) → length s ≡ length (shortest v) → s ≡ shortest v
 shortest-only v s h bytes same = elim (width-cases (get_or s 0 0)) [
   | inl (e, b) ↦ let a = as_width w8 v s h e in one_byte v s a b ∙ sym (shortest8 v (below8 v s a))
@@ -140,7 +140,7 @@ shortest-only v s h bytes same = elim (width-cases (get_or s 0 0)) [
       sym (same64 s a.size bytes l) ∙ ap (λ (n : ℕ). to_be_bytes w64 (3 * 2 ^ 62 + n)) (sym a.value) ∙ sym (shortest64 v above)
 ]
 
--- ---- the size of the shortest spelling
+-- ---- the size of the shortest encoding
 
 pub size-first : (v : ℕ) → v < 2 ^ 62 → byte_len (width_of (get_or (shortest v) 0 0)) ≡ length (shortest v)
 size-first v h = let s = shortest-spells v h in sym s.size

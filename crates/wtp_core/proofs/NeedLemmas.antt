@@ -1,4 +1,4 @@
--- Reading a number of which so many bytes are there.
+-- Reading a number from its bytes.
 use Rattle.std.proofs.Common.{◌≡◌, ℕ, ◌≤◌, List, [], ◌∷◌, length, take, drop, Some, None, slice_index, refl, ap, ◌∙◌, arith, length-drop}
 use Rattle.std.proofs.lemmas.Bool.{lt-ltb, le-ltb}
 use Rattle.wtp_core.specs.Varint.{number_at, width_of, value_of}
@@ -19,7 +19,7 @@ drop_all n bytes l = empty (drop n bytes) (omega (arith, length-drop n bytes))
     empty [] z = refl
     empty (b ∷ s) z = absurd (omega arith)
 
--- as many bytes as the number has, and none behind them
+-- as many bytes as the encoding has, and none after them
 pub number_at-whole : (bytes : List ℕ) → varint_need bytes ≡ length bytes → (v : ℕ) × (number_at bytes ≡ Some (v, []))
 number_at-whole bytes e =
     let (v, is) = number_at-full bytes (omega arith) in

@@ -1,10 +1,10 @@
--- What reading leaves is a rest of what was there.
+-- The bytes that reading leaves are a suffix of the bytes before it.
 use Rattle.std.proofs.Common.{◌≡◌, ℕ, List, [], ◌++◌, Some, sym, ap, ◌∙◌, append_assoc}
 use Rattle.wtp_core.specs.Varint.{number_at, bytes_at}
 use Rattle.wtp_core.specs.Reader.{IsRest}
 use Rattle.wtp_core.proofs.SpellingLemmas.{number_at-spells, bytes_at-parts}
 
--- all of the bytes are a rest of them
+-- all of the bytes are a suffix of them
 pub rest-same : (new old : List ℕ) → new ≡ old → IsRest new old
 rest-same new old e = record { taken = []; parts = sym e }
 

@@ -1,4 +1,4 @@
--- The shortest spelling is a spelling.
+-- The shortest encoding is an encoding.
 use Rattle.std.proofs.Common.{◌≡◌, ℕ, ◌+◌, ◌*◌, ◌^◌, ◌<◌, ◌≤◌, List, [], ◌∷◌, length, get_or, refl, arith, inl, inr}
 use Rattle.std.specs.Int.{Width, w8, w16, w32, w64, byte_len, to_be_bytes}
 use Rattle.std.proofs.lemmas.Bool.{cases_lt, lt-ltb, le-ltb}
@@ -17,7 +17,7 @@ width32 b l h = rw (le-ltb b 64 (omega arith), le-ltb b 128 l, lt-ltb b 192 h) r
 width64 : (b : ℕ) → 192 ≤ b → width_of b ≡ w64
 width64 b l = rw (le-ltb b 64 (omega arith), le-ltb b 128 (omega arith), le-ltb b 192 l) refl
 
--- bytes whose first one has this width, of its length, are a spelling
+-- bytes whose first one has this width, and whose length is that width, are an encoding
 spelled : (w : Width) (v : ℕ) (s : List ℕ) → width_of (get_or s 0 0) ≡ w → length s ≡ byte_len w → v ≡ value_of w s → Spells v s
 spelled w v s first size value = record { size = rw first size; value = rw first value }
 

@@ -1,4 +1,4 @@
--- What is read at the front is a spelling, and a spelling at the front is read.
+-- What is read at the start is an encoding, and an encoding at the start is read.
 use Rattle.std.proofs.Common.{◌≡◌, ℕ, ◌<◌, ◌≤◌, Bool, true, false, cond, ltb, List, ◌++◌, length, get_or, take, drop, Some, None, refl, sym, ap, subst, append_assoc, arith, lit<}
 use Rattle.std.specs.Int.{Width, w8, w16, w32, w64, w128, byte_len}
 use Rattle.std.proofs.lemmas.Bool.{le-ltb, ltb-false}
@@ -14,7 +14,7 @@ byte_len_pos w32 = lit< tt
 byte_len_pos w64 = lit< tt
 byte_len_pos w128 = lit< tt
 
--- a test that leads to something
+-- a test that has a result
 chosen : {A : Type 0} (b : Bool) (x y : A) → cond b None (Some x) ≡ Some y → (b ≡ false) × (x ≡ y)
 chosen true x y e = absurd cc
 chosen false x y e = (refl, cc)
@@ -28,7 +28,7 @@ number_at-spelling v s rest h =
     let enough : byte_len (width_of (get_or s 0 0)) ≤ length (s ++ rest) = omega (arith, length-append s rest, h.size) in
     rw (first, le-ltb (length (s ++ rest)) (byte_len (width_of (get_or s 0 0))) enough, ← h.size, take-append_seam s rest, drop-append_seam s rest, ← h.value) refl
 
--- a front of w bytes is a spelling
+-- the first w bytes are an encoding
 spells_front : (bytes : List ℕ) → byte_len (width_of (get_or bytes 0 0)) ≤ length bytes → Spells (value_of (width_of (get_or bytes 0 0)) (take (byte_len (width_of (get_or bytes 0 0))) bytes)) (take (byte_len (width_of (get_or bytes 0 0))) bytes)
 spells_front bytes enough =
     let pos : 0 < byte_len (width_of (get_or bytes 0 0)) = byte_len_pos (width_of (get_or bytes 0 0)) in

@@ -44,7 +44,7 @@ pub put-last : (grows : Bool) (p : List ℕ) (r : Result (Unit {0}) PutError) (o
 put-last grows p (Ok v) old room new left (taken, behind, fits) = rw (append-nil p) (taken, behind, fits)
 put-last grows p (Err e) old room new left h = put-none grows p [] e old room new left h
 
--- room was lacking for a part, and so for all of them
+-- there was too little room for a part, and so for all of them
 pub LacksRoom-parts : (grows : Bool) (parts : List (List ℕ)) (old : List ℕ) (room : Option (List ℕ)) (new : List ℕ) (left : Option (List ℕ)) → PutsParts grows parts (Err EndOfBuffer) old room new left → LacksRoom room (length (joined parts))
 LacksRoom-parts grows parts old None new left (whole, part, rest, are, others, end, why) = rw end at why
 LacksRoom-parts grows parts old (Some place) new left (whole, part, rest, are, others, end, why) =

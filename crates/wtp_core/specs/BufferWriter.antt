@@ -1,26 +1,26 @@
--- What a writer into a slice wrote, and the room that it has left.
+-- What a writer into a slice wrote, and the room it has left.
 use Rattle.std.specs.Prelude.{◌≡◌, ℕ, List, ◌++◌, length, take, drop}
 use Rattle.std.specs.Borrow.{GName}
 use Rattle.wtp_core.specs.declared.bytes.buffer_writer.BufferWriter.{BufferWriter}
 
--- the bytes in front of the place
+-- the bytes before the position
 abbrev pub written_in : BufferWriter → List ℕ
 written_in w = take w.offset w.buffer.now
 
--- the bytes that stand behind the place
+-- the bytes after the position
 abbrev pub room_in : BufferWriter → List ℕ
 room_in w = drop w.offset w.buffer.now
 
--- the name of the loan of the slice
+-- the name of the borrow of the slice
 abbrev pub loan_of : BufferWriter → GName
 loan_of w = w.buffer.ghost_name
 
--- old and new write into the same slice at the same place, and nothing was written
+-- old and new write into the same slice at the same position, and nothing was written
 pub record IsUnwritten (old new : BufferWriter) : Type 0 where
   pub written : written_in new ≡ written_in old
   pub room : room_in new ≡ room_in old
 
--- new is old behind these bytes; what stands behind them is as before
+-- new is old with these bytes appended; the bytes after them are unchanged
 pub record Wrote (bytes : List ℕ) (old new : BufferWriter) : Type 0 where
   pub written : written_in new ≡ written_in old ++ bytes
   pub room : room_in new ≡ drop (length bytes) (room_in old)

@@ -1,4 +1,4 @@
--- The place of a reader in its bytes, and that of a child in what its parent has left.
+-- The position of a reader in its bytes, and of a child in the bytes that its parent has left.
 use Rattle.std.specs.Prelude.{◌≡◌, ◌+◌, ◌-◌, ℕ, List, drop, length}
 use Rattle.wtp_core.specs.Reader.{Kept}
 use Rattle.wtp_core.specs.declared.bytes.buffer_reader.BufferReader.{BufferReader}
@@ -8,15 +8,15 @@ use Rattle.wtp_core.specs.declared.bytes.child.BufferReaderChild.{BufferReaderCh
 abbrev pub whole_of : BufferReader → List ℕ
 whole_of r = r.buffer.now
 
--- the bytes that are left behind the place
+-- the bytes left, after the position
 abbrev pub left_of : BufferReader → List ℕ
 left_of r = r.rest.now
 
--- the place: how many bytes stand in front of it
+-- the position: the number of bytes before it
 abbrev pub offset_of : BufferReader → ℕ
 offset_of r = length r.buffer.now - length r.rest.now
 
--- new stands n bytes further than old, over the same bytes
+-- new is n bytes further than old, over the same bytes
 pub record MovesBy (n : ℕ) (old new : BufferReader) : Type 0 where
   pub whole : whole_of new ≡ whole_of old
   pub left : left_of new ≡ drop n (left_of old)
@@ -31,15 +31,15 @@ module _ {P : Type 0} where
   abbrev pub offset_in : BufferReaderChild P → ℕ
   offset_in c = c.offset
 
-  -- those behind the child's place
+  -- those after the child's position
   abbrev pub left_in : BufferReaderChild P → List ℕ
   left_in c = drop c.offset c.buffer.now
 
-  -- its place plus how many bytes are left: however far it reads, it comes to the same end
+  -- its position plus the number of bytes left: however far it reads, it comes to the same end
   abbrev pub end_in : BufferReaderChild P → ℕ
   end_in c = offset_in c + length (left_in c)
 
-  -- what the child's reading leaves alone, by all the bytes of a parent and those that it has left
+  -- what the child's reading leaves unchanged, given all the bytes of a parent and those that it has left
   abbrev pub kept_in : (P → List ℕ) → (P → List ℕ) → BufferReaderChild P → Kept
   kept_in whole behind c = record {
     whole = c.buffer.now;

@@ -13,7 +13,8 @@ use Rattle.wtp_core.specs.Sink.{Sink, Took}
 abbrev pub Grows : List ℕ → Sink → Sink → Type 0
 Grows sent a b = Took a b sent 0 0 0
 
--- the sink's list grew by these bytes, and then it gave this answer once: the count of that answer rose by one, and no other count changed
+-- the sink's list grew by these bytes, and then it returned this result once: the count of that result rose by one, and
+-- no other count changed
 abbrev pub HaltedBy : WriteHalt → List ℕ → Sink → Sink → Type 0
 HaltedBy halt.NotReady sent a b = Took a b sent 1 0 0
 HaltedBy halt.Stopped sent a b = Took a b sent 0 1 0
@@ -27,7 +28,7 @@ DrainMoves (Err h) sent a b = HaltedBy h sent a b
 abbrev pub DrainTells : {U : Type 0} → Result U WriteHalt → List ℕ → Option Sink → Option Sink → Type 0
 DrainTells r sent old now = Telling old now (λ a b. DrainMoves r sent a b)
 
--- what a writing answers that halted
+-- the result of a poll whose writing stopped
 abbrev pub write_halted : WriteHalt → Polled (Result (Unit {0}) IoWriteError)
 write_halted halt.NotReady = Pending
 write_halted halt.Stopped = Ready (Err fault.Stopped)

@@ -8,12 +8,12 @@ use Rattle.wtp_core.specs.declared.bytes.polled.IoReadError.{IoReadError}
 use Rattle.wtp_core.specs.Source.{Source, AtEnd, AtReset, AtDisconnection, Telling}
 use Rattle.wtp_core.specs.Polled.{stop}
 
--- the place is at the end of the buffer, or in front of it
+-- the position is at the end of the buffer, or before it
 abbrev pub FillKeepsLengths : {U : Type 0} → Result U Halt → ℕ → ℕ → Type 0
 FillKeepsLengths (Ok _) at room = at ≡ room
 FillKeepsLengths (Err _) at room = at < room
 
--- Bytes went from the source's front behind those held, and each call but the last `extra` ones gave at least one of them.
+-- The bytes held grew by the source's first bytes, and each call but the last `extra` ones gave at least one of them.
 pub record Gains (held new : List ℕ) (a b : Source) (extra : ℕ) : Type 0 where
   pub kept : held ++ a.ahead ≡ new ++ b.ahead
   pub ending : b.ending ≡ a.ending
@@ -21,7 +21,7 @@ pub record Gains (held new : List ℕ) (a b : Source) (extra : ℕ) : Type 0 whe
   pub no_less : a.asked ≤ b.asked
   pub waits : a.waits ≤ b.waits
 
--- why no more came
+-- why no more bytes came
 abbrev pub HaltIsTrue : Halt → Source → Source → Type 0
 HaltIsTrue halt.NotReady a b = a.waits < b.waits
 HaltIsTrue halt.Fin a b = (b.ahead ≡ []) × (a.ending ≡ AtEnd)
@@ -40,7 +40,7 @@ abbrev pub BeginMoves : Result ℕ Halt → List ℕ → Source → Source → T
 BeginMoves (Ok n) buf a b = Gains [] (take n buf) a b 0
 BeginMoves (Err h) buf a b = Gains [] [] a b 1 × HaltIsTrue h a b
 
--- what a reading answers that halted with so many bytes taken
+-- the result of a poll whose reading stopped after this many bytes were taken
 abbrev pub halted_poll : {T : Type 0} → Halt → ℕ → Polled (Result T IoReadError)
 halted_poll halt.NotReady taken = Pending
 halted_poll halt.Fin taken = Ready (Err (stop taken AtEnd))

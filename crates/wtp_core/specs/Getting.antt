@@ -9,7 +9,7 @@ use Rattle.wtp_core.specs.Polled.{stop}
 
 -- In all of these, old and new are the bytes that the state holds before and after one poll.
 
--- the source stopped behind all that is ahead, and all of it is held
+-- the source stopped after all bytes ahead, and all of them are held
 pub record Stops (old new : List ℕ) (fault : IoReadError) (a b : Source) : Type 0 where
   pub none_ahead : b.ahead ≡ []
   pub held : new ≡ old ++ a.ahead
@@ -29,7 +29,7 @@ VarintPolled Pending old new a b = Waits old new a b
 VarintPolled Again old new a b = ⊥
 VarintPolled NoMemory old new a b = ⊥
 
--- More bytes were given behind those held, and none was lost. This holds of each source, also of one that tells nothing.
+-- More bytes were given after those held, and none was lost. This holds of every source, also of one without a model.
 abbrev pub VarintGiven : Polled (Result ℕ IoReadError) → List ℕ → List ℕ → Type 0
 VarintGiven (Ready (Ok v)) old new = (new ≡ []) × ((given : List ℕ) × (number_at (old ++ given) ≡ Some (v, [])))
 VarintGiven (Ready (Err e)) old new = (given : List ℕ) × (new ≡ old ++ given)
@@ -46,7 +46,7 @@ BufferPolled Pending old new a b = Waits old new a b
 BufferPolled Again old new a b = ⊥
 BufferPolled NoMemory old new a b = ⊥
 
--- It is finished exactly where so many bytes are held. This holds of each source, also of one that tells nothing.
+-- It is finished exactly if this many bytes are held. This holds of every source, also of one without a model.
 abbrev pub BufferGiven : {U : Type 0} → Polled (Result U IoReadError) → ℕ → List ℕ → List ℕ → Type 0
 BufferGiven (Ready (Ok _)) room old new = (length new ≡ room) × ((given : List ℕ) × (new ≡ old ++ given))
 BufferGiven (Ready (Err e)) room old new = (length new < room) × ((given : List ℕ) × (new ≡ old ++ given))

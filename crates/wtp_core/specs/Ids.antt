@@ -1,8 +1,8 @@
--- Numbers of streams (RFC 9000, section 2.1), of WebTransport sessions, and status codes (RFC 9110, section 15).
+-- IDs of streams (RFC 9000, section 2.1) and of WebTransport sessions, and status codes (RFC 9110, section 15).
 use Rattle.std.specs.Prelude.{◌≡◌, ℕ, ◌%◌, ◌/◌, ◌≤◌, List}
 use Rattle.std.specs.Str.Parse.{IsNumeral, digits_value, without_leading_plus}
 
--- the stream goes both ways: the second lowest bit is 0
+-- the stream is bidirectional: the second lowest bit is 0
 abbrev pub IsBidirectional : ℕ → Type 0
 IsBidirectional id = id / 2 % 2 ≡ 0
 
@@ -18,7 +18,7 @@ IsSession id = id % 4 ≡ 0
 abbrev pub IsStatus : ℕ → Type 0
 IsStatus code = (100 ≤ code) × (code ≤ 599)
 
--- the number that a text of decimal digits writes, behind an optional plus
+-- the number that a text of decimal digits denotes, after an optional plus
 abbrev pub status_in : List ℕ → ℕ
 status_in text = digits_value 10 (without_leading_plus text)
 

@@ -1,4 +1,4 @@
--- Passing over bytes that nobody keeps.
+-- Skipping bytes.
 use Rattle.std.specs.Prelude.{◌≡◌, ℕ, ◌+◌, ◌<◌, ◌≤◌, [], length, drop, Option, Result, Ok, Err}
 use Rattle.wtp_core.specs.declared.polling.fill.Halt.{Halt}
 use Rattle.wtp_core.specs.declared.bytes.source.ReadStep.{ReadStep}
@@ -6,7 +6,7 @@ use Rattle.wtp_core.specs.declared.bytes.source.ReadStep.TheVariants.{Bytes, Not
 use Rattle.wtp_core.specs.Source.{Source, AtEnd, AtReset, AtDisconnection, AsksOnce, Telling}
 use Rattle.wtp_core.specs.Fill.{HaltIsTrue}
 
--- so many bytes were passed, in at most as many calls and `extra` more
+-- this many bytes were skipped, in at most as many calls and `extra` more
 pub record Passed (gone : ℕ) (a b : Source) (extra : ℕ) : Type 0 where
   pub there : gone ≤ length a.ahead
   pub rest : b.ahead ≡ drop gone a.ahead

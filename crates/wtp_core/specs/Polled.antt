@@ -1,4 +1,4 @@
--- The answers of polls, and how reading and writing stop.
+-- The results of polls, and how reading and writing stop.
 use Rattle.std.specs.Prelude.{◌≡◌, ℕ, ◌+◌, ◌≤◌, ◌==◌, if◌then◌else◌}
 use Rattle.std.specs.declared.io.ErrorKind.{ErrorKind}
 use Rattle.std.specs.declared.io.ErrorKind.TheVariants.{ConnectionReset}
@@ -8,13 +8,13 @@ use Rattle.wtp_core.specs.declared.bytes.polled.IoWriteError.{IoWriteError}
 use Rattle.wtp_core.specs.declared.bytes.polled.IoWriteError.TheVariants as write
 use Rattle.wtp_core.specs.Source.{Source, Ending, AtEnd, AtReset, AtDisconnection}
 
--- the fault of a reading at this ending, where so many bytes were taken of what is read
+-- the error of a reading at this ending, if this many bytes were taken of what is read
 abbrev pub stop : ℕ → Ending → IoReadError
 stop taken AtEnd = if taken == 0 then read.ImmediateFin else read.UnexpectedFin
 stop taken AtReset = read.Reset
 stop taken AtDisconnection = read.NotConnected
 
--- the fault that stands for an error of the system
+-- the error that an error of the system is converted to
 abbrev pub read_fault : ErrorKind → IoReadError
 read_fault ConnectionReset = read.Reset
 read_fault _ = read.NotConnected
@@ -23,7 +23,7 @@ abbrev pub write_fault : ErrorKind → IoWriteError
 write_fault ConnectionReset = write.Stopped
 write_fault _ = write.NotConnected
 
--- at most so many calls were counted; the ending stays, and no count falls
+-- at most this many calls were counted; the ending stays, and no count falls
 pub record Asks (calls : ℕ) (a b : Source) : Type 0 where
   pub asked : b.asked ≤ a.asked + calls
   pub no_less : a.asked ≤ b.asked

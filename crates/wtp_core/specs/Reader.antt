@@ -1,4 +1,4 @@
--- What readers of bytes have left, and what reading leaves alone.
+-- The bytes that readers have left, and what reading leaves unchanged.
 use Rattle.std.specs.Prelude.{◌≡◌, ℕ, List, [], ◌++◌}
 
 -- rest is an end of the bytes
@@ -6,9 +6,9 @@ pub record IsRest (rest bytes : List ℕ) : Type 0 where
   pub taken : List ℕ
   pub parts : bytes ≡ taken ++ rest
 
--- What reading leaves alone in a reader: all the bytes that it was made over; and of a child, all the bytes of its
--- parent, those that the parent has left, the name of the loan of the parent, and its place plus how many bytes it
--- has left.
+-- What reading leaves unchanged in a reader: all the bytes that it was created over; and of a child, all the bytes of
+-- its parent, those that the parent has left, the name of the borrow of the parent, and its position plus the number of
+-- bytes it has left.
 pub record Kept : Type 0 where
   pub whole : List ℕ
   pub parent_whole : List ℕ

@@ -1,21 +1,22 @@
--- What a polled sink tells of itself, and what one call does to it.
+-- The model of a polled sink, and what one call does to it.
 use Rattle.std.specs.Prelude.{◌≡◌, ℕ, ◌+◌, ◌<◌, ◌≤◌, List, [], ◌++◌, take, Option}
 use Rattle.wtp_core.specs.declared.bytes.sink.WriteStep.{WriteStep}
 use Rattle.wtp_core.specs.declared.bytes.sink.WriteStep.TheVariants.{Bytes, NotReady, Stopped, NotConnected, NoMemory}
 use Rattle.wtp_core.specs.Source.{Telling}
 
--- what a sink that tells gives: the bytes taken, and how often it was not ready, stopped and not connected so far
+-- the model of a sink: the bytes taken, and how often it was not ready, stopped and not connected so far
 pub record Sink : Type 0 where
   pub taken : List ℕ
   pub waits : ℕ
   pub stops : ℕ
   pub losses : ℕ
 
--- a vector: these bytes, and none of these answers
+-- a vector: these bytes, and none of these results
 abbrev pub all_taken : List ℕ → Sink
 all_taken bytes = record { taken = bytes; waits = 0; stops = 0; losses = 0 }
 
--- Each sink, telling or not, keeps these lengths: a front of at least one byte is taken, and none of an empty buffer, which gets no other answer.
+-- Every sink, with a model or without, keeps these lengths: at least one byte is taken from the start of a buffer that
+-- is not empty; of an empty buffer no byte is taken, and there is no other result.
 abbrev pub SinkKeepsLengths : WriteStep → ℕ → Type 0
 SinkKeepsLengths (Bytes n) room = (n ≤ room) × (0 < room → 0 < n)
 SinkKeepsLengths NotReady room = 0 < room
@@ -40,7 +41,7 @@ SinkMoves NoMemory buf a b = Took a b [] 0 0 0
 abbrev pub SinkTells : WriteStep → List ℕ → Option Sink → Option Sink → Type 0
 SinkTells step buf old new = Telling old new (λ a b. SinkMoves step buf a b)
 
--- the whole buffer was taken, or no memory was to be had
+-- the whole buffer was taken, or allocation failed
 abbrev pub TakesWhole : WriteStep → ℕ → Type 0
 TakesWhole (Bytes n) room = n ≡ room
 TakesWhole NotReady room = ⊥

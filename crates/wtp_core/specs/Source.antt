@@ -1,4 +1,4 @@
--- What a polled source tells of itself, and what one call does to it.
+-- The model of a polled source, and what one call does to it.
 use Rattle.std.specs.Prelude.{◌≡◌, ℕ, ◌+◌, ◌<◌, ◌≤◌, List, [], ◌++◌, length, take, Option, Some, None}
 use Rattle.wtp_core.specs.declared.bytes.source.ReadStep.{ReadStep}
 use Rattle.wtp_core.specs.declared.bytes.source.ReadStep.TheVariants.{Bytes, NotReady, Reset, NotConnected}
@@ -9,7 +9,8 @@ pub data Ending : Type 0 where
   AtReset : Ending
   AtDisconnection : Ending
 
--- what a source that tells gives: the bytes ahead, how they end, a count that a call raises by at most one, and how often it was not ready so far
+-- the model of a source: the bytes ahead, how they end, a count that a call raises by at most one, and how often it was
+-- not ready so far
 pub record Source : Type 0 where
   pub ahead : List ℕ
   pub ending : Ending
@@ -20,7 +21,7 @@ pub record Source : Type 0 where
 abbrev pub all_ahead : List ℕ → Source
 all_ahead bytes = record { ahead = bytes; ending = AtEnd; asked = 0; waits = 0 }
 
--- P of what is told before and after, where anything is told before; then something has to be told after, too
+-- P of the models before and after, if there is a model before; then there has to be one after, too
 abbrev pub Telling : {X : Type 0} → Option X → Option X → (X → X → Type 0) → Type 0
 Telling None new P = Unit {0}
 Telling (Some a) None P = ⊥
@@ -28,7 +29,8 @@ Telling (Some a) (Some b) P = P a b
 
 -- ---- one call
 
--- Each source, telling or not, keeps these lengths: no more bytes than there is room; an empty buffer gets no byte and no other answer.
+-- Every source, with a model or without, keeps these lengths: no more bytes than there is room; an empty buffer gets no
+-- byte, and there is no other result.
 abbrev pub StepKeepsLengths : ReadStep → ℕ → Type 0
 StepKeepsLengths (Bytes n) room = n ≤ room
 StepKeepsLengths NotReady room = 0 < room
@@ -48,7 +50,7 @@ pub record IsOver (a b : Source) (ending : Ending) : Type 0 where
   pub how : a.ending ≡ ending
   pub waits : b.waits ≡ a.waits
 
--- what the answer says of the bytes: they went from those ahead into the front of the buffer, or none did
+-- what the result says of the bytes: they went from those ahead to the start of the buffer, or none did
 abbrev pub StepMoves : ReadStep → List ℕ → Source → Source → Type 0
 StepMoves (Bytes n) buf a b = (a.ahead ≡ take n buf ++ b.ahead) × (b.waits ≡ a.waits) × (n ≡ 0 → 0 < length buf → IsOver a b AtEnd)
 StepMoves NotReady buf a b = (b.ahead ≡ a.ahead) × (b.waits ≡ a.waits + 1)
@@ -58,13 +60,13 @@ StepMoves NotConnected buf a b = IsOver a b AtDisconnection
 abbrev pub StepTells : ReadStep → List ℕ → Option Source → Option Source → Type 0
 StepTells step buf old new = Telling old new (λ a b. AsksOnce a b × StepMoves step buf a b)
 
--- ---- what it has at hand
+-- ---- the buffered bytes
 
--- these bytes are the front of those ahead
+-- the bytes ahead start with these bytes
 abbrev pub Shows : List ℕ → Option Source → Type 0
 Shows bytes None = Unit {0}
 Shows bytes (Some a) = (rest : List ℕ) × (a.ahead ≡ bytes ++ rest)
 
--- so many bytes were taken from those ahead, in one call
+-- this many bytes were taken from those ahead, in one call
 abbrev pub TakesAtHand : ℕ → Source → Source → Type 0
 TakesAtHand count a b = AsksOnce a b × (a.ahead ≡ take count a.ahead ++ b.ahead) × (count ≤ length a.ahead) × (b.waits ≡ a.waits)

@@ -1,18 +1,18 @@
--- How many bytes a number has, as far as the bytes held tell (RFC 9000, section 16).
+-- The size of a number's encoding, as far as the bytes held determine it (RFC 9000, section 16).
 use Rattle.std.proofs.Common.{◌≡◌, ℕ, ◌<◌, ◌≤◌, List, [], ◌∷◌, ◌++◌, length, slice_index, refl, arith, inl, inr}
 use Rattle.std.proofs.lemmas.Bool.{cases_lt, lt-ltb, le-ltb}
 use Rattle.std.specs.Int.{byte_len}
 use Rattle.wtp_core.specs.Varint.{width_of}
 
--- how many bytes a number has, at least, that begins with these
+-- the least size of an encoding that starts with these bytes
 abbrev pub varint_need : List ℕ → ℕ
 varint_need bytes = byte_len (width_of (slice_index bytes 0))
 
--- the bytes are a proper front of a number's spelling
+-- the bytes are a proper prefix of a number's encoding
 abbrev pub IsCut : List ℕ → Type 0
 IsCut bytes = length bytes < varint_need bytes
 
--- ---- what readers on from these bytes rely on
+-- ---- what readers that continue from these bytes rely on
 
 pub byte_len_range : (b : ℕ) → (0 < byte_len (width_of b)) × (byte_len (width_of b) ≤ 8)
 byte_len_range b = elim (cases_lt b 64) [

@@ -6,7 +6,7 @@ use Rattle.wtp_core.specs.declared.bytes.polled.IoWriteError.{IoWriteError}
 use Rattle.wtp_core.specs.declared.bytes.polled.IoWriteError.TheVariants as fault
 use Rattle.wtp_core.specs.Sink.{Sink, Took}
 
--- all the bytes that are to be written, and how many of them were sent
+-- all the bytes to be written, and the number of bytes sent
 pub record Writing : Type 0 where
   pub bytes : List ℕ
   pub sent : ℕ
@@ -21,7 +21,7 @@ pub record GoesOn (old new : Writing) : Type 0 where
   pub forward : old.sent ≤ new.sent
   pub within : new.sent ≤ length new.bytes
 
--- The answer is that it is done exactly where all is sent. This holds of each sink, also of one that tells nothing.
+-- The result is that it is done exactly if all is sent. This holds of every sink, also of one without a model.
 abbrev pub IsSent : {U : Type 0} → Polled (Result U IoWriteError) → Writing → Type 0
 IsSent (Ready (Ok _)) new = new.sent ≡ length new.bytes
 IsSent (Ready (Err e)) new = new.sent < length new.bytes
@@ -33,8 +33,9 @@ IsSent NoMemory new = new.sent < length new.bytes
 abbrev pub between : Writing → Writing → List ℕ
 between old new = drop old.sent (take new.sent old.bytes)
 
--- What one poll did to a sink that tells: its list grew by the bytes from those sent before up to those sent now. Where all
--- is sent no count changed; where it waited, stopped or was lost, that count rose by exactly one, and the others stayed.
+-- What one poll did to a sink with a model: its list grew by the bytes from those sent before up to those sent now. If
+-- all is sent, no count changed; if it waited, stopped or was lost, that count rose by exactly one, and the others
+-- stayed.
 abbrev pub WritePolled : {U : Type 0} → Polled (Result U IoWriteError) → Writing → Writing → Sink → Sink → Type 0
 WritePolled (Ready (Ok _)) old new a b = Took a b (between old new) 0 0 0
 WritePolled (Ready (Err fault.Stopped)) old new a b = Took a b (between old new) 0 1 0

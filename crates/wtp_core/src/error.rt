@@ -4,7 +4,7 @@ ghost use Rattle.std.specs.Prelude.{◌≡◌};
 use crate::varint::VarInt;
 use std::fmt;
 
-/// The numbers of HTTP/3's error codes.
+/// HTTP/3 error codes.
 pub mod h3_error_codes {
     use crate::varint::VarInt;
 
@@ -17,13 +17,13 @@ pub mod h3_error_codes {
     /// The peer created a stream that is not accepted.
     pub const H3_STREAM_CREATION_ERROR: VarInt = VarInt { value: 0x0103 };
 
-    /// A stream that the connection needs was closed.
+    /// A stream that the connection requires was closed.
     pub const H3_CLOSED_CRITICAL_STREAM: VarInt = VarInt { value: 0x0104 };
 
-    /// A frame came that is not permitted in this state or on this stream.
+    /// A frame was received that is not permitted in this state or on this stream.
     pub const H3_FRAME_UNEXPECTED: VarInt = VarInt { value: 0x0105 };
 
-    /// A frame violates its layout or has a wrong size.
+    /// A frame violates its layout or has an invalid size.
     pub const H3_FRAME_ERROR: VarInt = VarInt { value: 0x0106 };
 
     /// The peer may be generating excessive load.
@@ -35,7 +35,7 @@ pub mod h3_error_codes {
     /// The payload of a SETTINGS frame has an error.
     pub const H3_SETTINGS_ERROR: VarInt = VarInt { value: 0x0109 };
 
-    /// No SETTINGS frame came at the start of the control stream.
+    /// No SETTINGS frame was received at the start of the control stream.
     pub const H3_MISSING_SETTINGS: VarInt = VarInt { value: 0x010a };
 
     /// The server rejected the request without processing it.
@@ -45,7 +45,7 @@ pub mod h3_error_codes {
     pub const H3_MESSAGE_ERROR: VarInt = VarInt { value: 0x010e };
 }
 
-/// The number of QPACK's error code.
+/// The QPACK error code.
 pub mod qpack_error_codes {
     use crate::varint::VarInt;
 
@@ -53,19 +53,18 @@ pub mod qpack_error_codes {
     pub const QPACK_DECOMPRESSION_FAILED: VarInt = VarInt { value: 0x0200 };
 }
 
-/// The numbers of WebTransport's error codes (draft-ietf-webtrans-http3-07, "HTTP/3 Error Code
-/// Registration").
+/// WebTransport error codes (draft-ietf-webtrans-http3-07, "HTTP/3 Error Code Registration").
 pub mod wt_error_codes {
     use crate::varint::VarInt;
 
-    /// A WebTransport stream was rejected since its session was not known in time.
+    /// A WebTransport stream was rejected because its session was not known in time.
     pub const WEBTRANSPORT_BUFFERED_STREAM_REJECTED: VarInt = VarInt { value: 0x3994bd84 };
 
-    /// A WebTransport stream was closed since its session is gone.
+    /// A WebTransport stream was closed because its session is gone.
     pub const WEBTRANSPORT_SESSION_GONE: VarInt = VarInt { value: 0x170d7b68 };
 }
 
-/// An error code, with which a stream or a connection is closed.
+/// An error code for closing a stream or a connection.
 #[derive(Clone, Copy, PartialEq, Eq)]
 pub enum ErrorCode {
     /// A datagram is malformed, or its session does not exist (RFC 9297, section 5.2).
@@ -74,11 +73,11 @@ pub enum ErrorCode {
     NoError,
     /// The peer created a stream that is not accepted.
     StreamCreation,
-    /// A stream that the connection needs was closed.
+    /// A stream that the connection requires was closed.
     ClosedCriticalStream,
-    /// A frame came that is not permitted in this state or on this stream.
+    /// A frame was received that is not permitted in this state or on this stream.
     FrameUnexpected,
-    /// A frame violates its layout or has a wrong size.
+    /// A frame violates its layout or has an invalid size.
     Frame,
     /// The peer may be generating excessive load.
     ExcessiveLoad,
@@ -86,7 +85,7 @@ pub enum ErrorCode {
     Id,
     /// The payload of a SETTINGS frame has an error.
     Settings,
-    /// No SETTINGS frame came at the start of the control stream.
+    /// No SETTINGS frame was received at the start of the control stream.
     MissingSettings,
     /// The server rejected the request without processing it.
     RequestRejected,
@@ -94,16 +93,16 @@ pub enum ErrorCode {
     Message,
     /// A field section cannot be decoded (RFC 9204, section 6).
     Decompression,
-    /// A WebTransport stream was rejected since its session was not known in time.
+    /// A WebTransport stream was rejected because its session was not known in time.
     BufferedStreamRejected,
-    /// A WebTransport stream was closed since its session is gone.
+    /// A WebTransport stream was closed because its session is gone.
     SessionGone,
 }
 
 impl ErrorCode {
     ghost use Rattle.wtp_core.specs.ErrorCodes.{number_of, name_of};
 
-    /// Its number on the wire.
+    /// Returns the number on the wire.
     pub fn to_code(self) -> VarInt
         ensures { result ≡ number_of self }
     {
@@ -127,7 +126,7 @@ impl ErrorCode {
         }
     }
 
-    /// Its printed name.
+    /// Returns the printed name.
     fn name(self) -> &'static str
         ensures { result.now ≡ name_of self }
     {
@@ -177,13 +176,13 @@ impl fmt::Debug for ErrorCode {
 
 impl std::error::Error for ErrorCode {}
 
-/// Why a call refused: for an error code, or since memory was not to be had.
+/// The reason a call fails: an error code, or a failed allocation.
 #[derive(Debug, Drop, PartialEq, Eq, thiserror::Error)]
 pub enum Refused {
-    /// The peer's bytes are at fault.
+    /// The peer's bytes are invalid.
     #[error("{0}")]
     Code(ErrorCode),
-    /// No memory.
+    /// Memory allocation failed.
     #[error("no memory")]
     Memory,
 }

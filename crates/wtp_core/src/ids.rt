@@ -1,5 +1,5 @@
-//! Numbers of streams (RFC 9000, section 2.1), of WebTransport sessions and their quarters
-//! (RFC 9297, section 2.1), and HTTP status codes (RFC 9110, section 15).
+//! IDs of streams (RFC 9000, section 2.1) and of WebTransport sessions, quarter stream IDs (RFC
+//! 9297, section 2.1), and HTTP status codes (RFC 9110, section 15).
 ghost use Rattle.std.specs.Prelude.{◌≡◌, ◌*◌, ◌/◌, ◌%◌, ◌^◌, ◌<◌, ◌≤◌, ◌==◌, ◌↔◌, IsTrue, if◌then◌else◌};
 ghost use Rattle.std.specs.Result.{OkIff};
 ghost use Rattle.wtp_core.specs.Ids.{IsBidirectional, IsClientInitiated, IsSession, IsStatus, IsStatusText, status_in};
@@ -9,7 +9,7 @@ use std::fmt;
 use std::marker::Model;
 use std::str::FromStr;
 
-/// The number of a QUIC stream.
+/// The ID of a QUIC stream.
 #[derive(Clone, Copy, PartialEq, Eq, PartialOrd, Ord, Hash)]
 pub struct StreamId {
     id: VarInt,
@@ -26,38 +26,38 @@ impl Model for StreamId {
 }
 
 impl StreamId {
-    /// The largest number of a stream.
+    /// The largest stream ID.
     pub const MAX: StreamId = StreamId { id: VarInt::MAX };
 
-    /// The stream of this number.
+    /// Creates the ID of this number.
     pub fn new(varint: VarInt) -> Self
         ensures { result ≡ varint }
     {
         StreamId { id: varint }
     }
 
-    /// Whether both ends may send: the second lowest bit is 0.
+    /// Returns whether both ends may send: the second lowest bit is 0.
     pub fn is_bidirectional(self) -> bool
         ensures { IsTrue result ↔ IsBidirectional self }
     {
         self.id.into_inner() / 2 % 2 == 0
     }
 
-    /// Whether the client opened it: the lowest bit is 0.
+    /// Returns whether the client opened the stream: the lowest bit is 0.
     pub fn is_client_initiated(self) -> bool
         ensures { IsTrue result ↔ IsClientInitiated self }
     {
         self.id.into_inner() % 2 == 0
     }
 
-    /// Whether it was opened by this end, which is the server or the client.
+    /// Returns whether this end opened the stream. `is_server` says which end this is.
     pub fn is_local(self, is_server: bool) -> bool
         ensures { IsTrue result ↔ (self % 2 ≡ (if is_server then 1 else 0)) }
     {
         self.id.into_inner() % 2 == u64::from(is_server)
     }
 
-    /// The number.
+    /// Returns the number.
     pub fn into_u64(self) -> u64
         ensures value { result ≡ self }
         ensures below { self < 2 ^ 62 }
@@ -65,7 +65,7 @@ impl StreamId {
         self.id.into_inner()
     }
 
-    /// The number.
+    /// Returns the number.
     pub fn into_varint(self) -> VarInt
         ensures { result ≡ self }
     {
@@ -73,13 +73,13 @@ impl StreamId {
     }
 }
 
-/// The number is no session's.
+/// The number is an invalid session ID.
 #[derive(Debug, Drop, PartialEq, Eq, thiserror::Error)]
 #[error("invalid session ID")]
 pub struct InvalidSessionId;
 
-/// The number of a WebTransport session: that of a stream in both directions that the client
-/// opened, so its two lowest bits are 0.
+/// The ID of a WebTransport session: the ID of a client-initiated bidirectional stream, so its two
+/// lowest bits are 0.
 #[derive(Clone, Copy, PartialEq, Eq, PartialOrd, Ord, Hash)]
 pub struct SessionId {
     stream: StreamId,
@@ -99,7 +99,7 @@ impl Model for SessionId {
 }
 
 impl SessionId {
-    /// The number.
+    /// Returns the number.
     pub fn into_u64(self) -> u64
         ensures value { result ≡ self }
         ensures below { self < 2 ^ 62 }
@@ -108,7 +108,7 @@ impl SessionId {
         self.stream.into_u64()
     }
 
-    /// The number.
+    /// Returns the number.
     pub fn into_varint(self) -> VarInt
         ensures value { result ≡ self }
         ensures session { IsSession self }
@@ -116,7 +116,7 @@ impl SessionId {
         self.stream.into_varint()
     }
 
-    /// The session's stream.
+    /// Returns the ID of the session's stream.
     pub fn session_stream(self) -> StreamId
         ensures value { result ≡ self }
         ensures session { IsSession self }
@@ -124,7 +124,7 @@ impl SessionId {
         self.stream
     }
 
-    /// The session of this stream, or an error where one of its two lowest bits is 1.
+    /// Returns the session of this stream, or an error if one of its two lowest bits is 1.
     pub fn try_from_session_stream(stream_id: StreamId) -> Result<Self, InvalidSessionId>
         ensures { OkIff result (IsSession stream_id) stream_id }
     {
@@ -135,14 +135,14 @@ impl SessionId {
         }
     }
 
-    /// The session of this number, or an error where one of its two lowest bits is 1.
+    /// Returns the session of this number, or an error if one of its two lowest bits is 1.
     pub fn try_from_varint(varint: VarInt) -> Result<Self, InvalidSessionId>
         ensures { OkIff result (IsSession varint) varint }
     {
         SessionId::try_from_session_stream(StreamId::new(varint))
     }
 
-    /// The session of this stream, whose two lowest bits are known to be 0.
+    /// Returns the session of this stream. The caller guarantees that its two lowest bits are 0.
     pub fn from_session_stream_unchecked(stream_id: StreamId) -> Self
         requires { IsSession stream_id }
         ensures { result ≡ stream_id }
@@ -151,12 +151,12 @@ impl SessionId {
     }
 }
 
-/// The number is no quarter of a session's: it is 2^60 or more.
+/// The number is an invalid quarter stream ID: it is 2^60 or more.
 #[derive(Debug, Drop, PartialEq, Eq, thiserror::Error)]
 #[error("invalid QStream ID")]
 pub struct InvalidQStreamId;
 
-/// A quarter stream ID: the number of a session divided by 4, as datagrams name it.
+/// A quarter stream ID: a session ID divided by 4, as datagrams carry it.
 #[derive(Clone, Copy, PartialEq, Eq, PartialOrd, Ord, Hash)]
 pub struct QStreamId {
     id: VarInt,
@@ -182,7 +182,7 @@ impl QStreamId {
         },
     };
 
-    /// The quarter of a session's number.
+    /// Returns the quarter stream ID of a session.
     pub fn from_session_id(session_id: SessionId) -> Self
         ensures { result ≡ session_id / 4 }
     {
@@ -193,14 +193,14 @@ impl QStreamId {
         }
     }
 
-    /// The stream of its session.
+    /// Returns the ID of the session's stream.
     pub fn into_stream_id(self) -> StreamId
         ensures { result ≡ 4 * self }
     {
         self.into_session_id().session_stream()
     }
 
-    /// Its session.
+    /// Returns the ID of the session.
     pub fn into_session_id(self) -> SessionId
         ensures { result ≡ 4 * self }
     {
@@ -213,7 +213,7 @@ impl QStreamId {
         }
     }
 
-    /// The number.
+    /// Returns the number.
     pub fn into_u64(self) -> u64
         ensures value { result ≡ self }
         ensures below { self < 2 ^ 60 }
@@ -221,7 +221,7 @@ impl QStreamId {
         self.id.into_inner()
     }
 
-    /// The number.
+    /// Returns the number.
     pub fn into_varint(self) -> VarInt
         ensures value { result ≡ self }
         ensures below { self < 2 ^ 60 }
@@ -229,7 +229,7 @@ impl QStreamId {
         self.id
     }
 
-    /// The quarter stream ID of this number, or an error where it is 2^60 or more.
+    /// Returns the quarter stream ID of this number, or an error if it is 2^60 or more.
     pub fn try_from_varint(varint: VarInt) -> Result<Self, InvalidQStreamId>
         ensures { OkIff result (varint < 2 ^ 60) varint }
     {
@@ -241,7 +241,7 @@ impl QStreamId {
     }
 }
 
-/// The number or the text is no HTTP status code from 100 to 599.
+/// The number or the text is not an HTTP status code from 100 to 599.
 #[derive(Debug, Drop, PartialEq, Eq, thiserror::Error)]
 #[error("invalid HTTP status code")]
 pub struct InvalidStatusCode;
@@ -284,7 +284,7 @@ impl StatusCode {
     /// 429 (Too Many Requests).
     pub const TOO_MANY_REQUESTS: StatusCode = StatusCode { code: 429 };
 
-    /// The code of this number, or an error where it is not from 100 to 599.
+    /// Returns the code of this number, or an error if it is not from 100 to 599.
     pub fn try_from_u32(value: u32) -> Result<Self, InvalidStatusCode>
         ensures { OkIff result (IsStatus value) value }
     {
@@ -295,7 +295,7 @@ impl StatusCode {
         }
     }
 
-    /// The number.
+    /// Returns the number.
     pub fn into_inner(self) -> u16
         ensures value { result ≡ self }
         ensures range { IsStatus self }
@@ -303,7 +303,7 @@ impl StatusCode {
         self.code
     }
 
-    /// Whether it says that the request succeeded: 200 to 299.
+    /// Returns whether the code means success: 200 to 299.
     pub fn is_successful(self) -> bool
         ensures { IsTrue result ↔ ((200 ≤ self) × (self ≤ 299)) }
     {
@@ -360,9 +360,10 @@ impl FromStr for StatusCode {
 
     ghost from_str_gives = { λ text r. OkIff r (IsStatusText text) (status_in text) };
 
-    /// The code that the text writes: an optional plus and at least one decimal digit.
+    /// Parses a status code: an optional plus and at least one decimal digit.
     ///
-    /// `InvalidStatusCode` where the text is no such number, or one that is not from 100 to 599.
+    /// Returns `InvalidStatusCode` if the text is not such a number, or if the number is not from
+    /// 100 to 599.
     fn from_str(s: &str) -> Result<Self, InvalidStatusCode> {
         match s.parse::<u16>() {
             Ok(value) => StatusCode::try_from_u32(u32::from(value)),

@@ -1,5 +1,5 @@
 //! The base of WebTransport over HTTP/3: variable-length integers, readers and writers of bytes,
-//! numbers of streams and sessions, and error codes.
+//! stream and session IDs, and error codes.
 #![tactic(auto)]
 
 pub mod bytes;

@@ -13,7 +13,7 @@ use std::marker::Model;
 #[error("varint value is out of bounds")]
 pub struct VarIntBoundsExceeded;
 
-/// A number from 0 to 2^62 - 1, as QUIC and HTTP/3 spell it in 1, 2, 4 or 8 bytes.
+/// An integer from 0 to 2^62 - 1, which QUIC and HTTP/3 encode in 1, 2, 4 or 8 bytes.
 #[derive(Clone, Copy, PartialEq, Eq, PartialOrd, Ord, Hash)]
 pub struct VarInt {
     pub(crate) value: u64,
@@ -30,18 +30,18 @@ impl Model for VarInt {
 }
 
 impl VarInt {
-    /// The largest number, 2^62 - 1.
+    /// The largest value, 2^62 - 1.
     pub const MAX: VarInt = VarInt {
         value: 0x3fff_ffff_ffff_ffff,
     };
 
-    /// The smallest number, 0.
+    /// The smallest value, 0.
     pub const MIN: VarInt = VarInt { value: 0 };
 
-    /// How many bytes a spelling has at most.
+    /// The largest size of an encoding, in bytes.
     pub const MAX_SIZE: usize = 8;
 
-    /// The number `value`.
+    /// Creates the integer `value`.
     pub fn from_u32(value: u32) -> Self
         ensures { result ≡ value }
     {
@@ -50,7 +50,7 @@ impl VarInt {
         }
     }
 
-    /// The number `value`, or an error where it is 2^62 or more.
+    /// Creates the integer `value`. Returns an error if it is 2^62 or more.
     pub fn try_from_u64(value: u64) -> Result<Self, VarIntBoundsExceeded>
         ensures { OkIff result (value < 2 ^ 62) value }
     {
@@ -61,7 +61,7 @@ impl VarInt {
         }
     }
 
-    /// The number `value`, which is known to be in range.
+    /// Creates the integer `value`. The caller guarantees that it is less than 2^62.
     pub fn from_u64_unchecked(value: u64) -> Self
         requires { value < 2 ^ 62 }
         ensures { result ≡ value }
@@ -69,7 +69,7 @@ impl VarInt {
         VarInt { value }
     }
 
-    /// The number.
+    /// Returns the value.
     pub fn into_inner(self) -> u64
         ensures value { result ≡ self }
         ensures below { self < 2 ^ 62 }
@@ -77,7 +77,7 @@ impl VarInt {
         self.value
     }
 
-    /// How many bytes its shortest spelling has: 1, 2, 4 or 8.
+    /// Returns the size of the shortest encoding in bytes: 1, 2, 4 or 8.
     #[tactic(auto, unfolding(crate::specs::Varint::shortest))]
     pub fn size(self) -> usize
         ensures size { result ≡ length (shortest self) }
@@ -94,7 +94,7 @@ impl VarInt {
         }
     }
 
-    /// How many bytes the spelling has that begins with the byte `first`.
+    /// Returns the size, in bytes, of an encoding whose first byte is `first`.
     pub fn parse_size(first: u8) -> usize
         ensures { result ≡ byte_len (width_of first) }
     {
@@ -107,8 +107,8 @@ impl VarInt {
     }
 }
 
-/// The number spelled at the front of the bytes, and how many bytes its spelling has; `None` where
-/// too few bytes are there. Not in the Rust crate.
+/// Decodes the integer at the start of `bytes`. Returns its value and the size of its encoding, or
+/// `None` if there are too few bytes. Not in the Rust crate.
 #[tactic(auto, unfolding(crate::specs::Varint::number_at, crate::specs::Varint::value_of))]
 #[inline(always)]
 pub fn first_varint(bytes: &[u8]) -> Option<(VarInt, usize)>

@@ -1,4 +1,4 @@
-//! A place in a slice of bytes, from which they are read.
+//! A reader over a slice of bytes.
 ghost use Rattle.std.specs.Prelude.{◌≡◌, ◌+◌, ◌-◌, ◌≤◌, ◌↔◌, ◌++◌, take, drop, length, OnOk, OnErr, IsOk};
 
 use crate::bytes::EndOfBuffer;
@@ -7,12 +7,12 @@ use crate::bytes::reader::BytesReader;
 use crate::varint::{VarInt, first_varint};
 use std::fmt;
 
-/// A place in a slice of bytes, from which they are read.
+/// A reader over a slice of bytes: the slice and a position in it.
 #[derive(Drop)]
 pub struct BufferReader<'a> {
     buffer: &'a [u8],
     rest: &'a [u8],
-    // What is left stands at the end of the slice.
+    // The bytes left are the end of the slice.
     ghost within: { length rest.now ≤ length buffer.now },
     ghost tail: { drop (length buffer.now - length rest.now) buffer.now ≡ rest.now },
 }
@@ -20,7 +20,7 @@ pub struct BufferReader<'a> {
 impl<'a> BufferReader<'a> {
     ghost use Rattle.wtp_core.specs.Cursor.{left_of, offset_of, whole_of, MovesBy};
 
-    /// A reader of the whole slice, at its front.
+    /// Creates a reader of the whole slice, positioned at its start.
     pub fn new(buffer: &'a [u8]) -> Self
         ensures whole { whole_of result ≡ buffer.now }
         ensures left { left_of result ≡ buffer.now }
@@ -31,14 +31,14 @@ impl<'a> BufferReader<'a> {
         }
     }
 
-    /// How many bytes are left.
+    /// Returns the number of bytes left.
     pub fn capacity(&self) -> usize
         ensures { result ≡ length (left_of self.now) }
     {
         self.rest.len()
     }
 
-    /// The place: how many bytes stand in front of it.
+    /// Returns the position: the number of bytes before it.
     pub fn offset(&self) -> usize
         ensures place { result ≡ offset_of self.now }
         ensures sum { result + length (left_of self.now) ≡ length (whole_of self.now) }
@@ -47,14 +47,14 @@ impl<'a> BufferReader<'a> {
         self.buffer.len() - self.rest.len()
     }
 
-    /// The whole slice.
+    /// Returns the whole slice.
     pub fn buffer(&self) -> &'a [u8]
         ensures { result.now ≡ whole_of self.now }
     {
         self.buffer
     }
 
-    /// The bytes that are left. The reader stays where it is.
+    /// Returns the bytes left. The reader does not move.
     pub fn buffer_remaining(&mut self) -> &'a [u8]
         ensures bytes { result.now ≡ left_of self.old }
         ensures unmoved { self.new ≡ self.old }
@@ -62,7 +62,8 @@ impl<'a> BufferReader<'a> {
         self.rest
     }
 
-    /// Moves the place by `len` bytes; an error where fewer are left, and then nothing moves.
+    /// Moves the position by `len` bytes. Returns an error if fewer are left; then the reader does
+    /// not move.
     pub fn skip(&mut self, len: usize) -> Result<(), EndOfBuffer>
         ensures ok { OnOk result (MovesBy len self.old self.new) }
         ensures err { OnErr result (self.new ≡ self.old) }
@@ -75,7 +76,7 @@ impl<'a> BufferReader<'a> {
         Ok(())
     }
 
-    /// Moves to the place of a reader that was made over what is left here.
+    /// Moves to the position of `ahead`, a reader that was created over the bytes left here.
     pub fn move_to(&mut self, ahead: &BufferReader<'a>)
         requires { whole_of ahead.now ≡ left_of self.old }
         ensures left { left_of self.new ≡ left_of ahead.now }
@@ -84,10 +85,10 @@ impl<'a> BufferReader<'a> {
         self.rest = ahead.rest;
     }
 
-    /// A reader over the bytes that are left, whose place is taken over by its `commit` alone.
+    /// Creates a reader over the bytes left. Only its `commit` moves this reader.
     ///
-    /// A caller whose proof is to know this reader's place afterwards is written for any
-    /// `P: ParentReader`.
+    /// A caller whose proof needs this reader's position afterwards is generic over `P:
+    /// ParentReader`.
     pub fn child(&mut self) -> BufferReaderChild<'a, '_>
         ensures same_reference { result.parent.ghost_name ≡ self.entry.ghost_name }
         ensures same_parent { result.parent.now ≡ self.old }

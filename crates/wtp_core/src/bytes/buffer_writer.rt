@@ -1,9 +1,9 @@
-//! A place in a slice of bytes, at which they are written.
+//! A writer into a slice of bytes.
 ghost use Rattle.std.specs.Prelude.{◌≡◌, ◌≤◌, [], length, Some, false};
 
 use crate::bytes::writer::{BytesWriter, PutError};
 
-/// Writes into a slice, from its front on. It takes no memory.
+/// Writes into a slice, from its start. It does not allocate.
 #[derive(Debug, Drop)]
 pub struct BufferWriter<'a> {
     buffer: &'a mut [u8],
@@ -14,7 +14,7 @@ pub struct BufferWriter<'a> {
 impl<'a> BufferWriter<'a> {
     ghost use Rattle.wtp_core.specs.BufferWriter.{written_in, room_in, loan_of};
 
-    /// A writer into the whole slice, at its front.
+    /// Creates a writer into the whole slice, positioned at its start.
     pub fn new(buffer: &'a mut [u8]) -> Self
         ensures loan { loan_of result ≡ buffer.entry.ghost_name }
         ensures written { written_in result ≡ [] }
@@ -23,21 +23,21 @@ impl<'a> BufferWriter<'a> {
         BufferWriter { buffer, offset: 0 }
     }
 
-    /// How much room is left, in bytes.
+    /// Returns the room left, in bytes.
     pub fn capacity(&self) -> usize
         ensures { result ≡ length (room_in self.now) }
     {
         self.buffer.len() - self.offset
     }
 
-    /// How many bytes were written.
+    /// Returns the number of bytes written.
     pub fn offset(&self) -> usize
         ensures { result ≡ length (written_in self.now) }
     {
         self.offset
     }
 
-    /// The bytes that were written.
+    /// Returns the bytes written.
     pub fn buffer_written(&self) -> &[u8]
         ensures { result.now ≡ written_in self.now }
     {

@@ -1,4 +1,4 @@
-//! A reader over what another reader has left.
+//! A reader over the bytes that another reader has left.
 ghost use Rattle.std.specs.Prelude.{◌≡◌, ◌+◌, ◌≤◌, ◌↔◌, ℕ, List, drop, length, MatchOption, IfNone, IfSome, Some, None, OnOk, OnErr, IsOk};
 ghost use Rattle.wtp_core.specs.Varint.{number_at, bytes_at};
 
@@ -9,22 +9,22 @@ use crate::varint::{VarInt, first_varint};
 
 /// A reader that a child may move: `BufferReader`. Not in the Rust crate.
 ///
-/// A function that goes through a child is written for any `P: ParentReader<'a>`: there its proof
-/// knows what `commit` or a dropped child leaves of the parent, and so does its caller, who may hand
-/// it a `BufferReader`.
+/// A function that uses a child is generic over `P: ParentReader<'a>`: then its proof knows what
+/// `commit` or a dropped child leaves of the parent. So does its caller, who may pass a
+/// `BufferReader`.
 pub trait ParentReader<'a> {
     // All of the bytes.
     ghost whole: { Self → List ℕ };
 
-    // The bytes behind the place.
+    // The bytes after the position.
     ghost behind: { Self → List ℕ };
 
-    /// Moves past `len` bytes, or to the end where fewer are left.
+    /// Moves past `len` bytes, or to the end if fewer are left.
     fn advance(&mut self, len: usize)
         ensures left { behind self.new ≡ drop len (behind self.old) }
         ensures whole { whole self.new ≡ whole self.old };
 
-    /// A reader over the bytes that are left, whose place is taken over by its `commit` alone.
+    /// Creates a reader over the bytes left. Only its `commit` moves this reader.
     fn child(&mut self) -> BufferReaderChild<'a, '_, Self>
         ensures same_reference { result.parent.ghost_name ≡ self.entry.ghost_name }
         ensures same_parent { result.parent.now ≡ self.old }
@@ -32,16 +32,16 @@ pub trait ParentReader<'a> {
         ensures start { result.offset ≡ 0 };
 }
 
-/// The bytes from a place on: none where the place is past the end.
+/// Returns the bytes from `place` on: none if `place` is past the end.
 pub(crate) fn bytes_from<'a>(bytes: &'a [u8], place: usize) -> &'a [u8]
     ensures { result.now ≡ drop place bytes.now }
 {
     bytes.get(place..).unwrap_or(&[])
 }
 
-/// A reader over the bytes that its parent has left, from place 0 on.
+/// A reader over the bytes that its parent has left, starting at position 0.
 ///
-/// What it read is taken from the parent by `commit`. To drop it moves nothing.
+/// `commit` moves the parent past what was read. Dropping the child leaves the parent unchanged.
 #[derive(Debug, Drop)]
 pub struct BufferReaderChild<'a, 'b, P = BufferReader<'a>> {
     parent: &'b mut P,
@@ -50,7 +50,7 @@ pub struct BufferReaderChild<'a, 'b, P = BufferReader<'a>> {
 }
 
 impl<'a, 'b, P> BufferReaderChild<'a, 'b, P> {
-    /// A child at the place of its parent, which has `buffer` left.
+    /// Creates a child at the position of its parent, which has `buffer` left.
     pub(crate) fn over(parent: &'b mut P, buffer: &'a [u8]) -> Self
         ensures same_reference { result.parent.ghost_name ≡ parent.entry.ghost_name }
         ensures same_parent { result.parent.now ≡ parent.old }
@@ -68,28 +68,28 @@ impl<'a, 'b, P> BufferReaderChild<'a, 'b, P> {
 impl<'a, 'b, P: ParentReader<'a>> BufferReaderChild<'a, 'b, P> {
     ghost use Rattle.wtp_core.specs.Cursor.{left_in, offset_in, whole_in};
 
-    /// How many bytes are left.
+    /// Returns the number of bytes left.
     pub fn capacity(&self) -> usize
         ensures { result ≡ length (left_in self.now) }
     {
         self.buffer.len().saturating_sub(self.offset)
     }
 
-    /// The place: how many bytes were read here.
+    /// Returns the position: the number of bytes read by this child.
     pub fn offset(&self) -> usize
         ensures { result ≡ offset_in self.now }
     {
         self.offset
     }
 
-    /// The bytes that the parent has left.
+    /// Returns the bytes that the parent has left.
     pub fn buffer(&self) -> &'a [u8]
         ensures { result.now ≡ whole_in self.now }
     {
         self.buffer
     }
 
-    /// The bytes that are left. The child stays where it is.
+    /// Returns the bytes left. The child does not move.
     pub fn buffer_remaining(&mut self) -> &'a [u8]
         ensures bytes { result.now ≡ left_in self.old }
         ensures unmoved { self.new ≡ self.old }
@@ -97,7 +97,8 @@ impl<'a, 'b, P: ParentReader<'a>> BufferReaderChild<'a, 'b, P> {
         bytes_from(self.buffer, self.offset)
     }
 
-    /// Moves the place by `len` bytes; an error where fewer are left, and then nothing moves.
+    /// Moves the position by `len` bytes. Returns an error if fewer are left; then the child does
+    /// not move.
     pub fn skip(&mut self, len: usize) -> Result<(), EndOfBuffer>
         ensures ok { OnOk result (offset_in self.new ≡ offset_in self.old + len) }
         ensures err { OnErr result (offset_in self.new ≡ offset_in self.old) }
@@ -113,7 +114,7 @@ impl<'a, 'b, P: ParentReader<'a>> BufferReaderChild<'a, 'b, P> {
         Ok(())
     }
 
-    /// Moves the parent past what was read here.
+    /// Moves the parent past the bytes that this child read.
     pub fn commit(self)
         ensures left { P.behind self.exit.0.now ≡ drop (offset_in self.entry) (P.behind self.entry.parent.now) }
         ensures whole { P.whole self.exit.0.now ≡ P.whole self.entry.parent.now }

@@ -13,8 +13,8 @@ use crate::polling::head::{Head, fill_head};
 use crate::varint::{VarInt, first_varint};
 use std::marker::Model;
 
-/// How many bytes the number at the front has, at least, where these are held.
-/// Not in the Rust crate.
+/// Returns the least size of a number whose encoding starts with the bytes `held`. Not in the Rust
+/// crate.
 #[inline(always)]
 pub fn varint_need(held: &[u8]) -> usize
     ensures { result ≡ varint_need held.now }
@@ -25,7 +25,7 @@ pub fn varint_need(held: &[u8]) -> usize
     }
 }
 
-/// The front of a number is all of it.
+/// The head of a number is all of it.
 struct VarintHead;
 
 impl Head for VarintHead {
@@ -42,9 +42,9 @@ impl Head for VarintHead {
     ghost need_grows = { varint_need_grows };
 }
 
-/// Reads one number (RFC 9000, section 16), poll by poll, and not a byte behind it.
+/// Reads one number (RFC 9000, section 16), poll by poll, and no byte after it.
 ///
-/// It holds the bytes that it took, and loses none of them where a poll does not answer the number.
+/// It holds the bytes that it took, and loses none of them if a poll does not return the number.
 #[derive(Debug, Drop)]
 pub struct GetVarint {
     bytes: [u8; 8],
@@ -60,7 +60,7 @@ impl Model for GetVarint {
 }
 
 impl GetVarint {
-    /// A reading that has taken nothing. Not in the Rust crate.
+    /// Creates a state that has read nothing. Not in the Rust crate.
     pub fn new() -> Self
         ensures { result ≡ [] }
     {
@@ -70,10 +70,10 @@ impl GetVarint {
         }
     }
 
-    /// Reads on as far as the source goes, in at most 8 calls, and takes no memory.
+    /// Reads as far as the source goes, in at most 8 calls, and does not allocate.
     ///
-    /// It answers the number, and is then as new; `Pending` where the source was not ready; or why
-    /// the source gave no more. After both of these it may be polled again.
+    /// Returns the number, and is then as new; `Pending` if the source was not ready; or why the
+    /// source gave no more. After `Pending` or an error it may be polled again.
     pub fn poll<S: AsyncRead>(&mut self, source: &mut S) -> Polled<Result<VarInt, IoReadError>>
         ensures was_cut { number_at self.old ≡ None }
         ensures cut { number_at self.new ≡ None }
@@ -93,10 +93,10 @@ impl GetVarint {
     }
 }
 
-/// Fills a buffer, poll by poll, and takes not a byte behind it.
+/// Fills a buffer, poll by poll, and takes no byte after it.
 ///
-/// The bytes that it took stand in the buffer's front, and none of them is lost where a poll does
-/// not answer that it is full.
+/// The bytes that it took are at the start of the buffer. None of them is lost if a poll does not
+/// return that the buffer is full.
 #[derive(Debug, Drop)]
 pub struct GetBuffer<'a> {
     buffer: &'a mut [u8],
@@ -107,7 +107,7 @@ pub struct GetBuffer<'a> {
 impl<'a> GetBuffer<'a> {
     ghost use Rattle.wtp_core.specs.GetBuffer.{buffer_of, taken_of, room_of, loan_in};
 
-    /// A reading that has taken nothing. Not in the Rust crate.
+    /// Creates a state that has read nothing. Not in the Rust crate.
     pub fn new(buffer: &'a mut [u8]) -> Self
         ensures taken { taken_of result ≡ [] }
         ensures buffer { buffer_of result ≡ buffer.old }
@@ -116,12 +116,12 @@ impl<'a> GetBuffer<'a> {
         GetBuffer { buffer, filled: 0 }
     }
 
-    /// Reads on as far as the source goes, in at most as many calls as the buffer has bytes, and
-    /// takes no memory.
+    /// Reads as far as the source goes, in at most as many calls as the buffer has bytes, and does
+    /// not allocate.
     ///
-    /// It answers `Ready(Ok(()))` once the buffer is full, and then stays finished and calls its
-    /// source no more; an empty buffer is full from the start. Otherwise it answers `Pending` where
-    /// the source was not ready, or why the source gave no more, and may be polled again.
+    /// Returns `Ready(Ok(()))` once the buffer is full, and then stays finished and does not call
+    /// its source again; an empty buffer is full from the start. Otherwise returns `Pending` if the
+    /// source was not ready, or why the source gave no more, and may be polled again.
     pub fn poll<S: AsyncRead>(&mut self, source: &mut S) -> Polled<Result<(), IoReadError>>
         ensures lent { loan_in self.new ≡ loan_in self.old }
         ensures room { room_of self.new ≡ room_of self.old }
@@ -141,11 +141,11 @@ impl<'a> GetBuffer<'a> {
     }
 }
 
-/// Makes the reading states of any source. These calls touch nothing.
+/// Creates the reading states of any source. These calls do not change the source.
 pub trait BytesReaderAsync: AsyncRead {
     ghost use Rattle.wtp_core.specs.GetBuffer.{buffer_of, taken_of, loan_in};
 
-    /// A state that reads one number.
+    /// Returns a state that reads one number.
     fn get_varint(&mut self) -> GetVarint
         ensures fresh { result ≡ [] }
         ensures same { self.new ≡ self.old }
@@ -153,7 +153,7 @@ pub trait BytesReaderAsync: AsyncRead {
         GetVarint::new()
     }
 
-    /// A state that fills the buffer.
+    /// Returns a state that fills the buffer.
     fn get_buffer<'a>(&mut self, buffer: &'a mut [u8]) -> GetBuffer<'a>
         ensures taken { taken_of result ≡ [] }
         ensures buffer { buffer_of result ≡ buffer.old }

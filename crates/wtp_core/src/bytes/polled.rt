@@ -1,40 +1,40 @@
-//! Answers of states that are polled, and why reading or writing stops.
+//! Results of polls, and why reading or writing stops.
 use std::io;
 use std::io::ErrorKind;
 
-/// The answer of one poll of a state that is kept.
+/// The result of polling a state by reference.
 #[derive(Debug, Drop, PartialEq, Eq)]
 pub enum Polled<T> {
-    /// It is done.
+    /// The work is done.
     Ready(T),
-    /// The source or the sink was not ready: to be polled again once it is.
+    /// The source or the sink was not ready. Poll again once it is.
     Pending,
-    /// A bounded part of the work was done: to be polled again at once.
+    /// A bounded part of the work was done. Poll again at once.
     Again,
-    /// No memory was to be had: to be polled again, or given up.
+    /// Memory allocation failed. Poll again, or give up.
     NoMemory,
 }
 
-/// The answer of one poll of a state that is given away by it.
+/// The result of polling a state by value.
 #[derive(Debug, Drop)]
 pub enum Stepped<P, T, E> {
-    /// It is done.
+    /// The work is done.
     Done(T),
-    /// The source or the sink was not ready; the state is handed back.
+    /// The source or the sink was not ready. The state is returned.
     Pending(P),
-    /// No memory was to be had; the state is handed back.
+    /// Memory allocation failed. The state is returned.
     NoMemory(P),
-    /// It stopped with an error; the state is handed back.
+    /// The work stopped with an error. The state is returned.
     Failed(P, E),
 }
 
 /// Why a source gave no more bytes.
 #[derive(Debug, Drop, PartialEq, Eq, thiserror::Error)]
 pub enum IoReadError {
-    /// The source ended, and no byte was taken before.
+    /// The source ended before any byte was taken.
     #[error("read operation failed because EOF reached on first byte")]
     ImmediateFin,
-    /// The source ended behind bytes that were taken.
+    /// The source ended after bytes were taken.
     #[error("read operation failed because EOF reached after first byte")]
     UnexpectedFin,
     /// The source was reset.
@@ -48,7 +48,7 @@ pub enum IoReadError {
 /// Why a sink took no more bytes.
 #[derive(Debug, Drop, PartialEq, Eq, thiserror::Error)]
 pub enum IoWriteError {
-    /// The other end takes no more.
+    /// The peer accepts no more bytes.
     #[error("write operation failed because operation has been stopped")]
     Stopped,
     /// The sink is not connected.
@@ -63,7 +63,7 @@ impl From<io::Error> for IoReadError {
 
     ghost from_gives = { λ error fault. fault ≡ read_fault (error_kind error) };
 
-    /// `ConnectionReset` is `Reset`, and every other kind `NotConnected`.
+    /// Converts `ConnectionReset` to `Reset`, and every other kind to `NotConnected`.
     fn from(error: io::Error) -> Self {
         match error.kind() {
             ErrorKind::ConnectionReset => IoReadError::Reset,
@@ -79,7 +79,7 @@ impl From<io::Error> for IoWriteError {
 
     ghost from_gives = { λ error fault. fault ≡ write_fault (error_kind error) };
 
-    /// `ConnectionReset` is `Stopped`, and every other kind `NotConnected`.
+    /// Converts `ConnectionReset` to `Stopped`, and every other kind to `NotConnected`.
     fn from(error: io::Error) -> Self {
         match error.kind() {
             ErrorKind::ConnectionReset => IoWriteError::Stopped,

@@ -12,9 +12,9 @@ use crate::polling::drain::{drain, write_halted};
 use crate::varint::VarInt;
 use std::marker::Model;
 
-/// Writes the shortest spelling of a number (RFC 9000, section 16), poll by poll.
+/// Writes the shortest encoding of a number (RFC 9000, section 16), poll by poll.
 ///
-/// It knows how many of its bytes were sent, and sends none of them twice.
+/// It counts the bytes sent, and sends none of them twice.
 #[derive(Debug, Drop)]
 pub struct PutVarint {
     bytes: [u8; 8],
@@ -31,7 +31,7 @@ impl Model for PutVarint {
 }
 
 impl PutVarint {
-    /// A writing that has sent nothing. Not in the Rust crate.
+    /// Creates a state that has sent nothing. Not in the Rust crate.
     pub fn new(varint: VarInt) -> Self
         ensures { result ≡ unsent (shortest varint) }
     {
@@ -44,11 +44,11 @@ impl PutVarint {
         }
     }
 
-    /// Writes on as far as the sink goes.
+    /// Writes as far as the sink goes.
     ///
-    /// It answers `Ready(Ok(()))` once all is sent, and then stays finished and calls its sink no
-    /// more; otherwise what the sink said: not ready (`Pending`), no memory, stopped or not
-    /// connected. After each of these it may be polled again.
+    /// Returns `Ready(Ok(()))` once all is sent, and then stays finished and does not call its sink
+    /// again. Otherwise returns what the sink reported: not ready (`Pending`), out of memory,
+    /// stopped or not connected. After each of these it may be polled again.
     pub fn poll<W: AsyncWrite>(&mut self, sink: &mut W) -> Polled<Result<(), IoWriteError>>
         ensures on { GoesOn self.old self.new }
         ensures whole { IsSent result self.new }
@@ -65,8 +65,8 @@ impl PutVarint {
     }
 }
 
-/// Writes the shortest spelling to the front of the buffer, and answers how many bytes it has.
-/// Not in the Rust crate.
+/// Writes the shortest encoding to the start of the buffer, and returns its size in bytes. Not in
+/// the Rust crate.
 pub fn spell(varint: VarInt, buffer: &mut [u8]) -> usize
     requires { 8 ≤ length buffer.old }
     ensures bytes { buffer.new ≡ shortest varint ++ drop result buffer.old }
@@ -82,7 +82,7 @@ pub fn spell(varint: VarInt, buffer: &mut [u8]) -> usize
 
 /// Writes a buffer, poll by poll.
 ///
-/// It knows how many of its bytes were sent, and sends none of them twice.
+/// It counts the bytes sent, and sends none of them twice.
 #[derive(Debug, Drop)]
 pub struct PutBuffer<'a> {
     bytes: &'a [u8],
@@ -98,17 +98,17 @@ impl<'a> Model for PutBuffer<'a> {
 }
 
 impl<'a> PutBuffer<'a> {
-    /// A writing that has sent nothing. Not in the Rust crate.
+    /// Creates a state that has sent nothing. Not in the Rust crate.
     pub fn new(bytes: &'a [u8]) -> Self
         ensures { result ≡ unsent bytes.now }
     {
         PutBuffer { bytes, sent: 0 }
     }
 
-    /// Writes on as far as the sink goes.
+    /// Writes as far as the sink goes.
     ///
-    /// It answers `Ready(Ok(()))` once all is sent, and then stays finished and calls its sink no
-    /// more; an empty buffer is sent from the start. Otherwise it answers what the sink said, as
+    /// Returns `Ready(Ok(()))` once all is sent, and then stays finished and does not call its sink
+    /// again; an empty buffer is sent from the start. Otherwise returns what the sink reported, as
     /// `PutVarint` does, and may be polled again.
     pub fn poll<W: AsyncWrite>(&mut self, sink: &mut W) -> Polled<Result<(), IoWriteError>>
         ensures on { GoesOn self.old self.new }
@@ -126,9 +126,9 @@ impl<'a> PutBuffer<'a> {
     }
 }
 
-/// Makes the writing states of any sink. These calls touch nothing.
+/// Creates the writing states of any sink. These calls do not change the sink.
 pub trait BytesWriterAsync: AsyncWrite {
-    /// A state that writes the number in its shortest spelling.
+    /// Returns a state that writes the number in its shortest encoding.
     fn put_varint(&mut self, varint: VarInt) -> PutVarint
         ensures fresh { result ≡ unsent (shortest varint) }
         ensures same { self.new ≡ self.old }
@@ -136,7 +136,7 @@ pub trait BytesWriterAsync: AsyncWrite {
         PutVarint::new(varint)
     }
 
-    /// A state that writes the buffer.
+    /// Returns a state that writes the buffer.
     fn put_buffer<'a>(&mut self, buffer: &'a [u8]) -> PutBuffer<'a>
         ensures fresh { result ≡ unsent buffer.now }
         ensures same { self.new ≡ self.old }

@@ -2,36 +2,36 @@
 ghost use Rattle.std.specs.Prelude.{Option, Some, None, length};
 ghost use Rattle.wtp_core.specs.Sink.{Sink, SinkKeepsLengths, SinkTells, all_taken, TakesWhole};
 
-/// One answer of a sink.
+/// The result of one call of a sink.
 #[derive(Clone, Copy, Debug, PartialEq, Eq)]
 pub enum WriteStep {
-    /// So many bytes of the buffer's front were taken; 0 only where the buffer is empty.
+    /// The number of bytes taken from the start of the buffer; 0 only if the buffer is empty.
     Bytes(usize),
-    /// It takes no byte yet.
+    /// The sink accepts no byte yet.
     NotReady,
-    /// The other end takes no more.
+    /// The peer accepts no more bytes.
     Stopped,
-    /// The sink is not connected, and takes no more.
+    /// The sink is not connected, and accepts no more bytes.
     NotConnected,
-    /// No memory was to be had.
+    /// Memory allocation failed.
     NoMemory,
 }
 
-/// A sink of bytes that is asked again and again, and never waits.
+/// A sink of bytes that is polled and never blocks.
 ///
-/// What it promises is its contract: an `impl` outside of checked code has to keep it.
+/// Its promises are its contract: an `impl` outside of checked code has to keep them.
 ///
-/// A sink may have a model, `tells`: the bytes that it took, and how often it was not ready, stopped,
-/// and not connected. Each of these answers adds exactly one to its count, and changes no other. So a
-/// sink with a model that keeps a count in an integer adds with `checked_add`, and where that fails it
-/// does not give that answer: it takes a byte, or returns `NoMemory`.
+/// A sink may have a model, `tells`: the bytes that it took, and how often it was not ready,
+/// stopped, and not connected. Each of these results adds exactly one to its count, and changes no
+/// other. So a sink with a model that keeps a count in an integer adds with `checked_add`, and if
+/// that fails it does not return that result: it takes a byte, or returns `NoMemory`.
 pub trait AsyncWrite {
-    // What the sink tells of itself, where it tells anything: the bytes taken, and how often it was
-    // not ready, stopped and not connected. A sink that tells goes on telling.
+    // The model of the sink, if it has one: the bytes taken, and how often it was not ready,
+    // stopped and not connected. A sink with a model keeps having one.
     ghost tells: { Self → Option Sink } = { λ _. None };
 
-    /// Takes a front of the buffer, of at least one byte, or says why none. An empty buffer gets
-    /// `Bytes(0)`.
+    /// Takes at least one byte from the start of the buffer, or reports why it takes none. Returns
+    /// `Bytes(0)` if the buffer is empty.
     fn poll_write(&mut self, buf: &[u8]) -> WriteStep
         ensures lengths { SinkKeepsLengths result (length buf.now) }
         ensures tells { SinkTells result buf.now (tells self.old) (tells self.new) };
@@ -40,7 +40,7 @@ pub trait AsyncWrite {
 impl AsyncWrite for Vec<u8> {
     ghost tells = { λ s. Some (all_taken s.items) };
 
-    /// Takes the whole buffer, or answers `NoMemory`.
+    /// Takes the whole buffer, or returns `NoMemory`.
     fn poll_write(&mut self, buf: &[u8]) -> WriteStep
         ensures lengths { SinkKeepsLengths result (length buf.now) }
         ensures tells { SinkTells result buf.now (Some (all_taken self.old.items)) (Some (all_taken self.new.items)) }

@@ -2,39 +2,41 @@
 ghost use Rattle.std.specs.Prelude.{◌≡◌, Option, Some, None, ◌≤◌, ◌↔◌, length, false, IsTrue};
 ghost use Rattle.wtp_core.specs.Source.{Source, StepKeepsLengths, StepTells, Telling, Shows, TakesAtHand, all_ahead};
 
-/// One answer of a source.
+/// The result of one call of a source.
 #[derive(Clone, Copy, Debug, PartialEq, Eq)]
 pub enum ReadStep {
-    /// So many bytes were moved into the buffer's front; 0 at an end, and where the buffer is empty.
+    /// The number of bytes moved to the start of the buffer; 0 at the end, and if the buffer is
+    /// empty.
     Bytes(usize),
-    /// No byte is there yet.
+    /// No byte is available yet.
     NotReady,
-    /// The source was reset, and gives no more.
+    /// The source was reset, and gives no more bytes.
     Reset,
-    /// The source is not connected any more, and gives no more.
+    /// The source is no longer connected, and gives no more bytes.
     NotConnected,
 }
 
-/// A source of bytes that is asked again and again, and never waits.
+/// A source of bytes that is polled and never blocks.
 ///
-/// What it promises is its contract: an `impl` outside of checked code has to keep it.
+/// Its promises are its contract: an `impl` outside of checked code has to keep them.
 ///
-/// A source may have a model, `tells`: the bytes ahead, how they end, how often it was asked, and how
-/// often it was not ready. Each `NotReady` adds exactly one to that last count. So a source with a
-/// model that keeps the count in an integer adds with `checked_add`, and where that fails it does not
-/// wait: it gives the next bytes, or how it ends.
+/// A source may have a model, `tells`: the bytes ahead, how they end, how often it was called, and
+/// how often it was not ready. Each `NotReady` adds exactly one to that last count. So a source
+/// with a model that keeps the count in an integer adds with `checked_add`, and if that fails it
+/// does not return `NotReady`: it gives the next bytes, or how it ends.
 pub trait AsyncRead {
-    // What the source tells of itself, where it tells anything: the bytes ahead, how they end, how
-    // often it was asked and how often it was not ready. A source that tells goes on telling.
+    // The model of the source, if it has one: the bytes ahead, how they end, how often it was
+    // called and how often it was not ready. A source with a model keeps having one.
     ghost tells: { Self → Option Source } = { λ _. None };
 
-    /// Moves bytes into the front of the buffer, or says why none. An empty buffer gets `Bytes(0)`.
+    /// Moves bytes to the start of the buffer, or reports why there are none. Returns `Bytes(0)` if
+    /// the buffer is empty.
     fn poll_read(&mut self, buf: &mut [u8]) -> ReadStep
         ensures lengths { StepKeepsLengths result (length buf.new) }
         ensures tells { StepTells result buf.new (tells self.old) (tells self.new) };
 
-    /// Bytes that it has at hand and shows before it is asked for them: some of those ahead, from the
-    /// front on. A source need not show any, and then hands out all by `poll_read`.
+    /// Returns bytes that are buffered and can be read before they are taken: some of those ahead,
+    /// starting with the first. A source need not show any; then it gives all bytes by `poll_read`.
     /// Not in the Rust crate.
     fn at_hand(&self) -> &[u8]
         ensures shows { Shows result.now (tells self.now) }
@@ -42,8 +44,8 @@ pub trait AsyncRead {
         &[]
     }
 
-    /// Takes `count` of the bytes ahead, where it has so many at hand; says whether it did, and takes
-    /// none where not. Not in the Rust crate.
+    /// Takes `count` of the bytes ahead if so many are buffered, and returns whether it did. If
+    /// not, it takes none. Not in the Rust crate.
     fn take_at_hand(&mut self, count: usize) -> bool
         ensures taken { IsTrue result → Telling (tells self.old) (tells self.new) (TakesAtHand count) }
         ensures none { result ≡ false → self.new ≡ self.old }
@@ -56,7 +58,7 @@ pub trait AsyncRead {
 impl AsyncRead for &[u8] {
     ghost tells = { λ s. Some (all_ahead s.now) };
 
-    /// Gives as many of the bytes as the buffer takes, and then an end; it is always ready.
+    /// Gives as many of the bytes as fit into the buffer, and then the end. It is always ready.
     #[inline(always)]
     fn poll_read(&mut self, buf: &mut [u8]) -> ReadStep {
         let n = self.len().min(buf.len());
@@ -66,7 +68,7 @@ impl AsyncRead for &[u8] {
         ReadStep::Bytes(n)
     }
 
-    /// All of the bytes.
+    /// Returns all of the bytes.
     #[inline(always)]
     fn at_hand(&self) -> &[u8]
         ensures shows { Shows result.now (Some (all_ahead self.now.now)) }

@@ -1,4 +1,4 @@
-//! The writer of bytes, and vectors as writers.
+//! The trait of writers of bytes, and vectors as writers.
 ghost use Rattle.std.specs.Prelude.{◌≡◌, ℕ, List, Option, None, Bool, true};
 ghost use Rattle.std.specs.Borrow.{GName};
 ghost use Rattle.wtp_core.specs.Varint.{shortest};
@@ -6,40 +6,42 @@ ghost use Rattle.wtp_core.specs.Writer.{Puts};
 
 use crate::varint::VarInt;
 
-/// Why bytes were not written.
+/// The reason bytes were not written.
 #[derive(Debug, Drop, PartialEq, Eq, thiserror::Error)]
 pub enum PutError {
-    /// The room is too small.
+    /// There is too little room.
     #[error("end of buffer has been reached")]
     EndOfBuffer,
-    /// No memory.
+    /// Memory allocation failed.
     #[error("no memory")]
     Memory,
 }
 
 /// Writes numbers and bytes at the end of a list of bytes.
 pub trait BytesWriter {
-    // Whether it takes memory, and so may find none.
+    // Whether it allocates, so that an allocation may fail.
     ghost grows: { Bool };
 
-    // The bytes that were written.
+    // The bytes written.
     ghost written: { Self → List ℕ };
 
-    // The bytes that stand in the room that is left, or none where the room has no limit.
+    // The bytes that occupy the room left, or `None` if the room has no limit.
     ghost room: { Self → Option (List ℕ) };
 
-    // The name of the loan that the bytes go into, where there is one: who lent a slice finds them
-    // there afterwards.
+    // The name of the borrow of the slice that the bytes are written into, if there is one: whoever
+    // lent a slice finds the bytes in it afterwards.
     ghost target: { Self → Option GName };
 
-    /// Writes all of the bytes, or changes nothing: `EndOfBuffer` exactly where the room is too
-    /// small, `Memory` only where no more memory was to be had.
+    /// Writes all of the bytes, or changes nothing.
+    ///
+    /// Returns `EndOfBuffer` exactly if the room is too small, and `Memory` only if memory
+    /// allocation failed.
     fn put_bytes(&mut self, bytes: &[u8]) -> Result<(), PutError>
         ensures puts { Puts grows bytes.now result (written self.old) (room self.old) (written self.new) (room self.new) }
         ensures target { target self.new ≡ target self.old };
 
-    /// Writes the shortest spelling of a number (RFC 9000, section 16), or changes nothing, with
-    /// the errors of `put_bytes`.
+    /// Writes the shortest encoding of a number (RFC 9000, section 16), or changes nothing. The
+    /// errors are those of `put_bytes`.
     #[tactic(auto, unfolding(crate::specs::Varint::shortest))]
     fn put_varint(&mut self, varint: VarInt) -> Result<(), PutError>
         ensures puts { Puts grows (shortest varint) result (written self.old) (room self.old) (written self.new) (room self.new) }

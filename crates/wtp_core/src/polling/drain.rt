@@ -6,26 +6,27 @@ ghost use Rattle.wtp_core.specs.Drain.{DrainTells, write_halted};
 use crate::bytes::polled::{IoWriteError, Polled};
 use crate::bytes::sink::{AsyncWrite, WriteStep};
 
-/// Why not all of a buffer was taken.
+/// The reason not all of a buffer was taken.
 #[derive(Clone, Copy, Debug)]
 pub enum WriteHalt {
     /// The sink was not ready.
     NotReady,
-    /// The other end takes no more.
+    /// The peer accepts no more bytes.
     Stopped,
     /// The sink is not connected.
     NotConnected,
-    /// The sink is out of memory.
+    /// Memory allocation failed in the sink.
     NoMemory,
 }
 
-/// Writes `bytes` from the place `sent` on, until all is taken, and moves `sent` past what was taken.
+/// Writes `bytes` from the position `sent` on, until all is taken, and moves `sent` past what was
+/// taken.
 ///
-/// On an error the sink took the bytes up to `sent`, which is less than the length of `bytes`, and a
-/// later call continues from there. The sink is not asked again after a refusal:
+/// On an error the sink took the bytes up to `sent`, which is less than the length of `bytes`, and
+/// a later call continues from there. The sink is not called again after an error:
 ///
-/// - `NotReady`, `Stopped`, `NotConnected`: the sink returned that step. Its count of that step rose
-///   by one, and its other counts did not change.
+/// - `NotReady`, `Stopped`, `NotConnected`: the sink returned that step. Its count of that step
+///   rose by one, and its other counts did not change.
 /// - `NoMemory`: allocation failed in the sink. None of its counts changed.
 pub fn drain<W: AsyncWrite>(sink: &mut W, bytes: &[u8], sent: &mut usize) -> Result<(), WriteHalt>
     requires { sent.old ≤ length bytes.now }
@@ -46,7 +47,7 @@ pub fn drain<W: AsyncWrite>(sink: &mut W, bytes: &[u8], sent: &mut usize) -> Res
     Ok(())
 }
 
-// One call, of `bytes[at..]`.
+// One call, with `bytes[at..]`.
 fn write_at<W: AsyncWrite>(sink: &mut W, bytes: &[u8], at: usize) -> WriteStep
     requires { at ≤ length bytes.now }
     ensures lengths { SinkKeepsLengths result (length (drop at bytes.now)) }
@@ -55,8 +56,8 @@ fn write_at<W: AsyncWrite>(sink: &mut W, bytes: &[u8], at: usize) -> WriteStep
     sink.poll_write(&bytes[at..])
 }
 
-/// The answer of a poll whose writing halted: `NotReady` is `Pending`, and the others are the errors of
-/// the same names, or `NoMemory`.
+/// Returns the result of a poll whose writing stopped: `NotReady` is `Pending`, and the others are
+/// the errors of the same names, or `NoMemory`.
 pub fn write_halted(halt: WriteHalt) -> Polled<Result<(), IoWriteError>>
     ensures { result ≡ write_halted halt }
 {

@@ -6,7 +6,7 @@ ghost use Rattle.wtp_core.specs.Fill.{BeginMoves, FillKeepsLengths, FillTells, h
 use crate::bytes::polled::{IoReadError, Polled};
 use crate::bytes::source::{AsyncRead, ReadStep};
 
-/// Why a buffer was not filled.
+/// The reason a buffer was not filled.
 #[derive(Clone, Copy, Debug)]
 pub enum Halt {
     /// The source was not ready.
@@ -19,10 +19,11 @@ pub enum Halt {
     NotConnected,
 }
 
-/// Reads into `buf` from the place `at` on, until it is full, and moves `at` past what came.
+/// Reads into `buf` from the position `at` on, until it is full, and moves `at` past the bytes
+/// received.
 ///
-/// The bytes before the old place do not change. On an error all bytes that came are in `buf[..at]`,
-/// `at` is less than the length of `buf`, and a later call continues from there:
+/// The bytes before the old position do not change. On an error all received bytes are in
+/// `buf[..at]`, `at` is less than the length of `buf`, and a later call continues from there:
 ///
 /// - `NotReady`: the source was not ready. Its count of waits rose.
 /// - `Fin`, `Reset`, `NotConnected`: the source ended in this way, and has no bytes ahead.
@@ -57,10 +58,10 @@ fn read_at<S: AsyncRead>(source: &mut S, buf: &mut [u8], at: usize) -> ReadStep
     source.poll_read(&mut buf[at..])
 }
 
-/// Calls the source once, into an empty buffer, and returns how many bytes came, at least one. They
-/// are at the front of `buf`.
+/// Calls the source once, into an empty buffer, and returns the number of bytes received, at least
+/// one. They are at the start of `buf`.
 ///
-/// On an error no byte was taken from the source; the errors are those of `fill`.
+/// On an error no byte was taken from the source. The errors are those of `fill`.
 #[inline(always)]
 pub fn begin<S: AsyncRead>(source: &mut S, buf: &mut [u8]) -> Result<usize, Halt>
     requires { 0 < length buf.old }
@@ -76,9 +77,9 @@ pub fn begin<S: AsyncRead>(source: &mut S, buf: &mut [u8]) -> Result<usize, Halt
     }
 }
 
-/// The answer of a poll whose reading halted after `taken` bytes: `NotReady` is `Pending`, `Fin` is
-/// `ImmediateFin` where no byte was taken and `UnexpectedFin` otherwise, and the others are the
-/// errors of the same names.
+/// Returns the result of a poll whose reading stopped after `taken` bytes: `NotReady` is `Pending`,
+/// `Fin` is `ImmediateFin` if no byte was taken and `UnexpectedFin` otherwise, and the others are
+/// the errors of the same names.
 pub fn halted<T>(halt: Halt, taken: usize) -> Polled<Result<T, IoReadError>>
     ensures { result ≡ halted_poll halt taken }
 {

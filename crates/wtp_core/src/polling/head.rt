@@ -1,35 +1,35 @@
-//! Reading a head: the first bytes of an item, which determine how long the head is.
+//! Reading a head: the first bytes of an item, which determine the length of the head.
 ghost use Rattle.std.specs.Prelude.{◌≡◌, ℕ, ◌<◌, ◌≤◌, List, ◌++◌, length, take, OnOk, OnErr};
 ghost use Rattle.wtp_core.specs.Fill.{FillTells};
 
 use crate::bytes::source::AsyncRead;
 use crate::polling::fill::{Halt, fill};
 
-/// How long a head is, as far as the bytes that are held determine it.
+/// The length of a head, as far as the bytes held determine it.
 pub trait Head {
-    // How many bytes there have to be, at least, where these are held.
+    // The least length of a head that starts with these bytes.
     ghost need: { List ℕ → ℕ };
 
-    // No more are ever needed.
+    // The largest value of `need`.
     ghost most: { ℕ };
 
-    /// The least number of bytes of a head that begins with these.
+    /// Returns the least length of a head that starts with the bytes `held`.
     fn need(held: &[u8]) -> usize
         requires { length held.now ≤ need held.now }
         ensures { result ≡ need held.now };
 
     ghost need_most: { (h : List ℕ) → need h ≤ most };
 
-    // No fewer, once more are held.
+    // It does not fall when more bytes are held.
     ghost need_grows: { (h t : List ℕ) → need h ≤ need (h ++ t) };
 }
 
-/// Reads into `buf` from the place `len` on, until the head is complete, and takes no byte after it. A
-/// head that is complete already is left as it is.
+/// Reads into `buf` from the position `len` on, until the head is complete, and takes no byte after
+/// it. A head that is already complete is left unchanged.
 ///
-/// On an error fewer bytes are held than the head needs. All that came are in `buf[..len]`, the bytes
-/// before the old place are unchanged, and a later call continues from there. The errors are those of
-/// `fill`.
+/// On an error fewer bytes are held than the head needs. All received bytes are in `buf[..len]`,
+/// the bytes before the old position are unchanged, and a later call continues from there. The
+/// errors are those of `fill`.
 #[inline(always)]
 pub fn fill_head<H: Head, S: AsyncRead>(
     source: &mut S,
@@ -43,7 +43,7 @@ pub fn fill_head<H: Head, S: AsyncRead>(
     ensures forward { len.old ≤ len.new }
     ensures front { take len.old buf.new ≡ take len.old buf.old }
     ensures room { len.new ≤ length buf.new }
-    // What is whole is left as it is.
+    // A complete head is left unchanged.
     ensures stays { H.need (take len.old buf.old) ≡ len.old → (len.new ≡ len.old) × (buf.new ≡ buf.old) }
     ensures tells { FillTells result (take len.old buf.old) (take len.new buf.new) (S.tells source.old) (S.tells source.new) }
 {

@@ -1,15 +1,16 @@
-//! Passing over bytes of a source that nobody keeps.
+//! Skipping bytes of a source.
 ghost use Rattle.std.specs.Prelude.{◌≡◌, ◌+◌, ◌-◌, ◌<◌, ◌≤◌, OnOk, OnErr};
 ghost use Rattle.wtp_core.specs.Passing.{PassTells, CountFits, StepPasses};
 
 use crate::bytes::source::{AsyncRead, ReadStep};
 use crate::polling::fill::Halt;
 
-/// Passes over the bytes that are due, at most 4096 of them, and lowers `due` by as many. It returns
-/// `Ok` once none is due, or once 4096 were passed.
+/// Skips the `due` bytes that are still to be skipped, at most 4096 of them, and lowers `due` by as
+/// many. Returns `Ok` once none is left to skip, or once 4096 were skipped.
 ///
-/// On an error some bytes are still due: `due` fell by as many as were taken from the source, which
-/// are fewer than 4096, and a later call continues from there. The errors are those of `fill`.
+/// On an error some bytes are still to be skipped: `due` fell by as many as were taken from the
+/// source, which are fewer than 4096, and a later call continues from there. The errors are those
+/// of `fill`.
 pub fn pass<S: AsyncRead>(source: &mut S, due: &mut u64) -> Result<(), Halt>
     ensures fewer { due.new ≤ due.old }
     ensures most { due.old ≤ due.new + 4096 }

@@ -3,7 +3,6 @@ use Rattle.std.proofs.lemmas.List.{drop-drop}
 use Rattle.std.proofs.lemmas.Slice.{take-put_mid, drop-put_mid}
 use Rattle.wtp_core.proofs.bytes.buffer_writer.BufferWriterBytesWriter.put_bytes.Goals as goal
 
--- src/bytes/buffer_writer.rt:57:5
 pub returns-clause-puts : goal.returns-clause-puts
 returns-clause-puts c =
     let a : ℕ = c.args.self.now.offset in

@@ -4,7 +4,7 @@ use Rattle.wtp_core.proofs.NeedLemmas.{number_at-cut, number_at-whole}
 use Rattle.wtp_core.proofs.GetLemmas.{halted_varint_told, halted_varint_given, whole_varint_told, whole_varint_given}
 use Rattle.wtp_core.proofs.bytes.get.GetVarint.poll.Goals as goal
 
--- what was held before stands in front of what is held now
+-- the bytes held now start with those held before
 held_front : (m n : ℕ) (buf new : List ℕ) → m ≤ n → take m new ≡ take m buf → take m (take n new) ≡ take m buf
 held_front m n buf new l e = take-take m n new l ∙ e
 
