@@ -1,4 +1,4 @@
--- The computed capsule is the capsule at the front.
+-- The computed capsule is the capsule at the start.
 use Rattle.std.proofs.Common.{◌≡◌, ℕ, List, ◌++◌, length, Option, Some, None, refl, sym, ap, subst, ◌∙◌, append_assoc, inl, inr}
 use Rattle.std.proofs.lemmas.Bool.{cases_eq, ne_eqb}
 use Rattle.wtp_core.specs.Varint.{number_at, bytes_at, Spells}
@@ -26,7 +26,7 @@ capsule_in-begins bytes kind payload h =
     let typed : number_at bytes ≡ Some (capsule_number_of kind, behind) = ap number_at all ∙ number_at-spelling (capsule_number_of kind) h.spelled.first behind h.spelled.type_number in
     capsule_in-kind bytes behind (capsule_number_of kind) kind typed (capsule_kind_of-number kind) ∙ payload_behind-some kind behind (payload ++ h.rest) payload h.rest (length payload) (number_at-spelling (length payload) h.spelled.second (payload ++ h.rest) h.spelled.number) (bytes_at-append payload h.rest)
 
--- ---- and back
+-- ---- and the converse
 
 capsule_in-no_number : (bytes : List ℕ) → number_at bytes ≡ None → capsule_in bytes ≡ None
 unfolding capsule_in

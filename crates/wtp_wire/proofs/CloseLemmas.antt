@@ -16,7 +16,7 @@ close_in-some : (payload : List ℕ) → is_no_close payload ≡ false → close
 unfolding close_in
 close_in-some payload h = rw h refl
 
--- the text behind the code is no UTF-8
+-- the text after the code is not UTF-8
 pub close_in-bad_text : (payload text : List ℕ) → text ≡ drop 4 payload → (IsUtf8 text → ⊥) → close_in payload ≡ None
 close_in-bad_text payload text is bad =
     let no : is_utf8 (drop 4 payload) ≡ false = false_from_ne_true (is_utf8 (drop 4 payload)) (λ t. bad (rw is (IsUtf8-from_is_utf8 (drop 4 payload) t))) in
@@ -64,11 +64,11 @@ is-close_in code reason payload e = elim (cases_Bool (is_no_close payload)) [
       }
 ]
 
--- a text for which room was lacking
+-- a text that does not fit into its room
 pub some_text : (text : List ℕ) (n : ℕ) → n < length text → text ≢ []
 some_text text n h e = omega (arith, ap length e)
 
--- what was read in steps: the head, the text behind it, and a copy of the text
+-- what was read in steps: the head, the text after it, and a copy of the text
 pub close_in-read : (all payload head text : List ℕ) (code : ℕ) (reason : List ℕ) → payload ≡ all → head ≡ take 4 payload → text ≡ drop 4 payload → length text + 4 ≡ length payload → length text ≤ 1024 → IsUtf8 text → code ≡ from_be_bytes w32 head → reason ≡ text → close_in all ≡ Some (code, reason)
 close_in-read all payload head text code reason is front behind size short utf8 number copy =
     ap close_in (sym is) ∙ close_in-text payload text behind size short utf8 ∙ ap (λ (n : ℕ). Some (n, text)) (ap (λ (x : List ℕ). from_be_bytes w32 x) (sym front) ∙ sym number) ∙ ap (λ (x : List ℕ). Some (code, x)) (sym copy)

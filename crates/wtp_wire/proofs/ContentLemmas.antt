@@ -1,4 +1,4 @@
--- What a frame's fields say of its kind, payload and session.
+-- The kind, payload and session that a frame's fields give.
 use Rattle.std.proofs.Common.{◌≡◌, ℕ, List, [], ◌∷◌, length, Option, Some, None, refl, sym}
 use Rattle.wtp_core.specs.Varint.{shortest}
 use Rattle.wtp_wire.specs.Kind.{number_of}
@@ -53,7 +53,7 @@ parts_of-session kind payload (Some i) id e h =
     let same : i ≡ id = cc in
     rw (k, same) refl
 
--- all parts behind the type number
+-- all parts after the type
 pub parts_of-first : (kind : FrameKind) (payload : List ℕ) (session : Option ℕ) (h : IsProper kind payload session) → (rest : List (List ℕ)) × (parts_of (content kind payload session) ≡ shortest (number_of kind) ∷ rest)
 parts_of-first kind payload None h = (shortest (length payload) ∷ payload ∷ [], parts_of-plain kind payload None refl h)
 parts_of-first kind payload (Some id) h = (shortest id ∷ [], parts_of-session kind payload (Some id) id refl h)

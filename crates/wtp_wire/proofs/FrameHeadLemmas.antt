@@ -1,4 +1,4 @@
--- What the two numbers in front of a frame say, and what stands behind them.
+-- What the first two numbers of a frame say, and what follows them.
 use Rattle.std.proofs.Common.{◌≡◌, ◌≢◌, ℕ, ◌+◌, ◌%◌, ◌==◌, ◌<◌, ◌≤◌, nat_lt, List, [], ◌++◌, length, drop, Option, Some, None, refl, sym, ap, subst, ◌∙◌, arith, inl, inr, true, false, length-append, length-drop, append_assoc, append-nil}
 use Rattle.std.proofs.lemmas.Bool.{cases_lt, ltb-false, cases_Bool}
 use Rattle.wtp_core.specs.Varint.{Spells, number_at}
@@ -18,7 +18,7 @@ use Rattle.wtp_wire.specs.Held.{Held, IsUnknownHead, IsPayloadHead, Skips}
 use Rattle.wtp_wire.proofs.KindLemmas.{is-kind_of, kind_of-is, exercise_test}
 use Rattle.wtp_wire.proofs.FrontLemmas.{front-typed}
 
--- the two numbers of a whole head
+-- the two numbers of a complete head
 pub record Parts (h : List ℕ) : Type 0 where
   pub id : ℕ
   pub n : ℕ
@@ -48,7 +48,7 @@ said_more h xs w =
     said_of (h ++ xs) (p.behind ++ xs) xs p.id p.n (number_at-more p.id h p.behind xs p.first) (number_at-more p.n p.behind [] xs p.second)
     ∙ sym (said_of h p.behind [] p.id p.n p.first p.second)
 
--- ---- the front
+-- ---- the first frame
 
 front_none : (bytes : List ℕ) → number_at bytes ≡ None → front bytes ≡ Short
 unfolding front
@@ -72,7 +72,7 @@ typed_said (Some Settings) r rest n e = elim (cases_Bool (nat_lt 4096 n)) [ inl 
 typed_said (Some WebTransport) r rest n e = elim (cases_Bool (n % 4 == 0)) [ inl t ↦ rw (e, t) refl | inr t ↦ rw (e, t) refl ]
 typed_said (Some (Exercise number)) r rest n e = elim (cases_Bool (nat_lt 4096 n)) [ inl t ↦ rw (e, t) refl | inr t ↦ rw (e, t) refl ]
 
--- behind a whole head
+-- after a complete head
 pub front_said : (h xs : List ℕ) → frame_need h ≡ length h → front (h ++ xs) ≡ front_behind (said h) xs
 front_said h xs w =
     let p = parts_of h w in
@@ -90,7 +90,7 @@ front_part h f = elim (cases_lt (length h) (varint_need h)) [
       front-typed h r one.0 one.1 ∙ typed_none (kind_of one.0) r (number_at-cut r cut)
 ]
 
--- ---- what is said
+-- ---- what the numbers say
 
 second_whole : (k : Option FrameKind) (n : ℕ) → said_second k n ≡ said-is.Unfinished → ⊥
 second_whole None n e = cc
@@ -188,7 +188,7 @@ said_skip h m w e =
       };
     }
 
--- what was passed, and any bytes as many as are due
+-- what was skipped, and any bytes as many as are still to be skipped
 pub passed_unknown : (old new : Held) (a b : Source) (s : Skips old new a b) (z : List ℕ) → length z ≡ new.due → (old.due ≡ 0 → IsUnknown ((s.head ++ s.payload) ++ z)) × (0 < old.due → length ((s.head ++ s.payload) ++ z) ≡ old.due)
 passed_unknown old new a b s z e = (
   λ d. let h = s.begun d in let size : length s.payload + new.due ≡ length (s.payload ++ z) = omega (arith, length-append s.payload z) in

@@ -1,4 +1,4 @@
--- What one poll of a reading of a frame answers that passes over bytes of an unknown frame.
+-- The result of one poll of a reading of a frame that skips bytes of an unknown frame.
 use Rattle.std.proofs.Common.{◌≡◌, ℕ, ◌+◌, ◌-◌, ◌<◌, ◌≤◌, List, [], ◌++◌, length, take, drop, refl, sym, ap, subst, ◌∙◌, arith, append_assoc, append-nil, length-append, length-take, length-drop, inl, inr, Option, None, Result, Ok, Err}
 use Rattle.std.proofs.lemmas.Bool.{cases_lt, lt-ltb, le-ltb, ne_eqb}
 use Rattle.std.proofs.lemmas.List.{drop-drop, take-append-drop}
@@ -52,7 +52,7 @@ skip_told s t m h items old room filled d z w p = telling_map s t _ (Begins (hol
       asks = record { asked = let one = g.asked in let two = w.whole in omega (arith, frame_need_most h, ap length shape); no_less = g.no_less; ending = g.ending; waits = g.waits };
     }) p
 
--- as many of the bytes due are passed
+-- n of the bytes still to be skipped are skipped
 skip_step : (m d n : ℕ) (xs : List ℕ) → m ≡ n + d → n ≤ length xs → skip_front m xs ≡ skip_front d (drop n xs)
 unfolding bytes_at
 skip_step m d n xs is l = elim (cases_lt (length xs) m) [
@@ -64,7 +64,7 @@ skip_none : (d : ℕ) (xs : List ℕ) → d ≡ 0 → skip_front d xs ≡ Unknow
 unfolding bytes_at
 skip_none d xs z = rw (z, le-ltb (length xs) 0 (omega arith)) refl
 
--- what a begun poll has in front
+-- what a begun poll starts with
 begun_front : (old mid : Held) (a b : Source) → Begins old mid a b → front_held old a.ahead ≡ skip_front mid.due b.ahead
 begun_front old mid a b g = elim (cases_lt 0 old.due) [
   | inl l ↦ let w = g.going l in front_due old.taken old.due a.ahead l ∙ rw (w.1, w.2) refl
@@ -155,9 +155,9 @@ pub passed_asks : (s t u : Option Source) (r : Polled (Result Content IoReadErro
     → Telling s t (Begins old mid) → Telling t u (PassedOn r mid.due d) → Telling s u (Asks 4112)
 passed_asks s t u r old mid d p q = telling_then s t u (Begins old mid) (PassedOn r mid.due d) (Asks 4112) (λ a b c g k. (passed_polled r old mid [] d a b c refl g k).1) p q
 
--- ---- what holds of each source
+-- ---- what holds of every source
 
--- a list of so many bytes
+-- a list of this many bytes
 zeros : ℕ → List ℕ
 zeros n = replicate n 0
 
@@ -165,7 +165,7 @@ length-zeros : (n : ℕ) → length (zeros n) ≡ n
 unfolding zeros
 length-zeros n = length-replicate n 0
 
--- as many bytes as are due
+-- as many bytes as are still to be skipped
 skip_all : (n : ℕ) (xs : List ℕ) → length xs ≡ n → skip_front n xs ≡ Unknown []
 unfolding bytes_at
 skip_all n xs e = rw (le-ltb (length xs) n (omega arith)) (ap (λ (l : List ℕ). Unknown l) (drop_all n xs (omega arith)))
@@ -207,7 +207,7 @@ passed_given Pending old mid t d e g p = keeps_due old mid t d p.0 p.1 g
 passed_given Again old mid t d e g p = (keeps_due old mid t d p.0 p.1 g, p.0)
 passed_given NoMemory old mid t d e g p = absurd p
 
--- bytes were due before
+-- bytes were still to be skipped before
 pub due_plain : (t : List ℕ) (d : ℕ) → 0 < d → t ≡ [] → BeginsPlain (hold t d) (hold t d)
 due_plain t d l e = record { empty = e; begun = λ z. absurd (omega arith); going = λ _. refl }
 

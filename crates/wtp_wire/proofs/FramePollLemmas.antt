@@ -1,4 +1,4 @@
--- What one poll of a reading of a frame answers, once it has gone as far as the source goes.
+-- The result of one poll of a reading of a frame, once it has gone as far as the source goes.
 use Rattle.std.proofs.Common.{◌≡◌, ℕ, ◌+◌, ◌<◌, ◌≤◌, List, [], ◌∷◌, ◌++◌, length, take, refl, sym, ap, subst, ◌∙◌, arith, append_assoc, append-nil, length-append, length-take, inl, inr, Vec, Global, vec_len, Option, Some, None}
 use Rattle.std.proofs.lemmas.Bool.{cases_lt, lt-ltb, ne_eqb}
 use Rattle.std.proofs.Math.Seq.{take-append_seam}
@@ -43,7 +43,7 @@ reading_new room filled empty none =
     let some = frame_need_some [] in
     record { within = omega arith; part = omega arith; nothing = λ l. empty; whole = λ l. absurd (omega arith) }
 
--- between polls no whole thing is held
+-- between polls no complete frame or fault is held
 pub reading_short : (h items : List ℕ) (room filled : ℕ) → IsReading h room filled → front (h ++ take filled items) ≡ Short
 unfolding bytes_at
 reading_short h items room filled r = elim (cases_lt (length h) (frame_need h)) [
@@ -83,7 +83,7 @@ due_unfinished t d e = record { short = new_cut t d e; alone = λ _. e }
 pub reading_unfinished : (h items : List ℕ) (room filled d : ℕ) → d ≡ 0 → IsReading h room filled → IsUnfinished (hold (h ++ take filled items) d)
 reading_unfinished h items room filled d z r = record { short = reading_cut h items room filled d z r; alone = λ l. absurd (omega arith) }
 
--- where bytes are due, none is held
+-- if bytes are still to be skipped, none is held
 pub none_taken : (head items : List ℕ) (len room filled due : ℕ) → 0 < due → IsReading (take len head) room filled → (0 < due → len ≡ 0) → take len head ++ take filled items ≡ []
 none_taken head items len room filled due l r e =
     let none : len ≡ 0 = e l in
@@ -100,12 +100,12 @@ held_unfinished head items len room filled due r e = elim (cases_lt 0 due) [
   | inr l ↦ reading_unfinished (take len head) items room filled due (omega arith) r
 ]
 
--- ---- answers
+-- ---- results
 
 front_payload : (h p xs : List ℕ) (k : FrameKind) → frame_need h ≡ length h → said h ≡ said-is.Payload k (length p) → front ((h ++ p) ++ xs) ≡ Framed (content k p None) xs
 front_payload h p xs k is says = ap front (append_assoc h p xs) ∙ front_said h (p ++ xs) is ∙ rw (says, bytes_at-append p xs) refl
 
--- the same where no payload is wanted
+-- the same without a payload
 front_bare : (h p xs : List ℕ) → frame_need h ≡ length h → length p ≡ 0 → front ((h ++ p) ++ xs) ≡ front_behind (said h) xs
 front_bare h [] xs is none = rw (append-nil h) (front_said h xs is)
 front_bare h (b ∷ p) xs is none = absurd (omega arith)
@@ -113,7 +113,7 @@ front_bare h (b ∷ p) xs is none = absurd (omega arith)
 decided : (old p : List ℕ) (h : List ℕ) (d d' : ℕ) (a c : Source) (case : List ℕ → Front) → d ≡ 0 → d' ≡ 0 → Gains old (h ++ p) a c 0 → front ((h ++ p) ++ c.ahead) ≡ case c.ahead → Decided (hold old d) (hold [] d') a c case
 decided old p h d d' a c case e e' g f = record { front = front_none old d a.ahead e ∙ ap front g.kept ∙ f; empty = ap (λ (n : ℕ). hold [] n) e' }
 
--- the case of an answer
+-- the case of a result
 abbrev case_of : Decision → List ℕ → List ℕ → Front
 case_of (decision.Payload k) p = Framed (content k p None)
 case_of (decision.Session id) p = Framed (WebTransportOf id)
@@ -190,7 +190,7 @@ decided_told s t q v h old filled d d' e e' w p = telling_map s t _ (λ a c. Fra
 pub decided_given : (q : Decision) (v : Vec ℕ Global) (h old : List ℕ) (filled d d' : ℕ) → d ≡ 0 → d' ≡ 0 → HasDecided (next.Answer q) h (vec_len v) filled → Grew old (h ++ take filled v.items) → FrameGiven (Ready (answer q v.items)) (hold old d) (hold [] d')
 decided_given q v h old filled d d' e e' w g = decided_given_whole q v.items h old d d' e e' (has_all q v h filled w) (rw (all_taken q v h filled w) at g)
 
--- ---- halts
+-- ---- stops
 
 keeps_all : (old new : List ℕ) (d : ℕ) → d ≡ 0 → Grew old new → Keeps (hold old d) (hold new d)
 keeps_all old new d z g = record { kept = λ _. (z, g); begun = λ _ l. absurd (omega arith); going = λ l. absurd (omega arith) }

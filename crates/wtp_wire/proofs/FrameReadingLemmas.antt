@@ -38,7 +38,7 @@ gains_behind h h' p a b e c g =
       waits = g.waits;
     }
 
--- nothing of a payload is held, or the bytes in front of it stay
+-- nothing of a payload is held, or the bytes before it stay
 pub which : (hd hd' items : List ℕ) (len room filled : ℕ) → IsReading hd room filled → length hd ≡ len → (frame_need hd ≡ len → hd' ≡ hd) → (take filled items ≡ []) ⊎ (hd' ≡ hd)
 which hd hd' items len room filled r is stays = elim (cases_lt (length hd) (frame_need hd)) [
   | inl l ↦ let empty = r.nothing l in let part = r.part in let none : filled ≡ 0 = omega arith in inl (rw none refl)
@@ -52,7 +52,7 @@ pub halted_on : (U V : Type 0) (x : PayloadHalt) (hd hd' p p' : List ℕ) (a b c
 halted_on U V (payload-halt.Source h) hd hd' p p' a b c w g q = (read_on hd hd' p p' a b c 1 w g q.0, halt_then h a b c g.ending g.waits q.1)
 halted_on U V payload-halt.NoMemory hd hd' p p' a b c w g q = read_on hd hd' p p' a b c 0 w g q
 
--- what was held stays in front of what is held
+-- what is held still starts with what was held
 pub grew_on : (hd hd' p p' : List ℕ) → ((p ≡ []) ⊎ (hd' ≡ hd)) → Grew hd hd' → Grew p p' → Grew (hd ++ p) (hd' ++ p')
 grew_on hd hd' p p' w (more, is) (rest, behind) = elim w [
   | inl none ↦ (more ++ p', rw (none, append-nil hd) (ap (λ l. l ++ p') is ∙ append_assoc hd more p'))

@@ -1,4 +1,4 @@
--- The computed front is the front of the grammar.
+-- The computed first frame is the first frame of the grammar.
 use Rattle.std.proofs.Common.{◌≡◌, ◌≢◌, ℕ, ◌+◌, ◌-◌, ◌%◌, ◌≤◌, ◌<◌, List, [], ◌++◌, length, drop, Option, Some, None, refl, sym, ap, subst, ◌∙◌, append_assoc, arith, inl, inr, ◌⊎◌}
 use Rattle.std.proofs.lemmas.Bool.{cases_eq, cases_lt, eq-eqb, ne_eqb, lt-ltb, le-ltb}
 use Rattle.std.proofs.lemmas.List.{length-append}
@@ -12,7 +12,7 @@ use Rattle.wtp_wire.specs.Content.{Content, DataOf, HeadersOf, SettingsOf, WebTr
 use Rattle.wtp_wire.specs.Front.{Front, Framed, Unknown, BadId, TooBig, Short, Spelled, IsPlain, IsFrame, Begins, session_front, plain_front, unknown_front, kind_front, typed_front, front, extended}
 use Rattle.wtp_wire.proofs.KindLemmas.{kind_of-is, is-kind_of, kind_of-none}
 
--- ---- what begins with a case is computed as that case
+-- ---- what starts with a case is computed as that case
 
 pub front-typed : (bytes rest : List ℕ) (id : ℕ) → number_at bytes ≡ Some (id, rest) → front bytes ≡ typed_front (kind_of id) rest
 unfolding front
@@ -21,7 +21,7 @@ front-typed bytes rest id e = rw e refl
 front-spelled : (bytes s rest : List ℕ) (id : ℕ) → Spells id s → bytes ≡ s ++ rest → front bytes ≡ typed_front (kind_of id) rest
 front-spelled bytes s rest id h parts = front-typed bytes rest id (rw parts (number_at-spelling id s rest h))
 
--- a spelling of a type number, and of a number behind it
+-- an encoding of a type, and of a number after it
 front-head : (bytes head rest : List ℕ) (id n : ℕ) (h : Spelled id n head) → bytes ≡ head ++ rest → (front bytes ≡ typed_front (kind_of id) (h.second ++ rest)) × (number_at (h.second ++ rest) ≡ Some (n, rest))
 front-head bytes head rest id n h parts = (
   front-spelled bytes h.first (h.second ++ rest) id h.type_number (parts ∙ ap (λ (x : List ℕ). x ++ rest) h.parts ∙ append_assoc h.first h.second rest),
@@ -80,9 +80,9 @@ front-begins bytes (Framed (HeadersOf payload) rest) (s, h, parts) = front-plain
 front-begins bytes (Framed (SettingsOf payload) rest) (s, h, parts) = front-plain Settings bytes payload s rest h (λ e. cc) parts
 front-begins bytes (Framed (ExerciseOf number payload) rest) (s, h, parts) = front-plain (Exercise number) bytes payload s rest h (λ e. cc) parts
 
--- ---- what is computed is what the bytes begin with
+-- ---- what is computed is what the bytes start with
 
--- the bytes begin as the case says, or it is Short
+-- the bytes start with the case, or it is Short
 abbrev Holds : List ℕ → Front → Type 0
 Holds bytes c = (c ≡ Short) ⊎ Begins bytes c
 
@@ -208,7 +208,7 @@ front_holds bytes = elim (found (number_at bytes)) [
 
 -- ---- what follows
 
--- Short exactly where the bytes begin with no case
+-- Short exactly if the bytes start with no case
 pub front-short : (bytes : List ℕ) → front bytes ≡ Short → (c : Front) → Begins bytes c → ⊥
 front-short bytes short c h = subst (λ (x : Front). Begins bytes x) (sym (front-begins bytes c h) ∙ short) h
 
@@ -226,7 +226,7 @@ front-more bytes more whole = elim (front_holds bytes) [
   | inr h ↦ front-begins (bytes ++ more) (extended (front bytes) more) (begins-more bytes more (front bytes) h)
 ]
 
--- the bytes behind a frame are an end of all
+-- the bytes after a frame are a suffix of all
 pub front-framed_rest : (bytes rest : List ℕ) (f : Content) → front bytes ≡ Framed f rest → (s : List ℕ) × (bytes ≡ s ++ rest)
 front-framed_rest bytes rest f e = elim (front_holds bytes) [
   | inl short ↦ absurd (cc)
@@ -239,7 +239,7 @@ end_is_drop bytes s rest parts =
     let size : length bytes - length rest ≡ length s = omega arith in
     (omega arith, rw (size, parts) (drop-append_seam s rest))
 
--- ---- what is behind is shorter
+-- ---- what follows is shorter
 
 shorter : (bytes s rest : List ℕ) → bytes ≡ s ++ rest → 0 < length s → length rest < length bytes
 shorter bytes s rest parts h = omega (arith, ap length parts ∙ length-append s rest)

@@ -1,4 +1,4 @@
--- The computed front of a stream's bytes is the front of the grammar.
+-- The computed header of a stream is the header of the grammar.
 use Rattle.std.proofs.Common.{◌≡◌, ◌≢◌, ℕ, ◌^◌, ◌<◌, ◌%◌, List, [], ◌++◌, Option, Some, None, refl, sym, ap, subst, ◌∙◌, append_assoc, append-nil, lit<, inl, inr, ◌⊎◌}
 use Rattle.std.proofs.lemmas.Bool.{cases_eq, eq-eqb, ne_eqb}
 use Rattle.wtp_core.specs.Varint.{Spells, number_at, shortest}
@@ -15,7 +15,7 @@ use Rattle.wtp_wire.proofs.KindLemmas.{test_exercise}
 use Rattle.wtp_wire.proofs.FrontLemmas.{found}
 use Rattle.wtp_wire.proofs.StreamKindLemmas.{stream_kind_of-is, is-stream_kind_of, stream_kind_of-none}
 
--- ---- what begins with a case is computed as that case
+-- ---- what starts with a case is computed as that case
 
 header_front-typed : (bytes rest : List ℕ) (id : ℕ) → number_at bytes ≡ Some (id, rest) → header_front bytes ≡ typed_header_front (stream_kind_of id) rest
 unfolding header_front
@@ -32,11 +32,11 @@ session_header_front-bad : (bytes rest : List ℕ) (id : ℕ) → number_at byte
 unfolding session_header_front
 session_header_front-bad bytes rest id e h = rw (e, ne_eqb (id % 4) 0 h) refl
 
--- a type number of this kind
+-- a type of this kind
 header_front-kind : (kind : StreamKind) (bytes s rest : List ℕ) (id : ℕ) → IsStreamKind kind id → Spells id s → bytes ≡ s ++ rest → header_front bytes ≡ kind_header_front kind rest
 header_front-kind kind bytes s rest id is_kind h parts = header_front-spelled bytes s rest id h parts ∙ ap (λ (k : Option StreamKind). typed_header_front k rest) (stream_kind_of-is kind id is_kind)
 
--- WebTransport's type number, and a number behind it
+-- the WebTransport type, and a number after it
 header_front-session : (bytes s rest : List ℕ) (id : ℕ) (h : Spelled 84 id s) → bytes ≡ s ++ rest → (header_front bytes ≡ session_header_front (h.second ++ rest)) × (number_at (h.second ++ rest) ≡ Some (id, rest))
 header_front-session bytes s rest id h parts = (
   header_front-kind WebTransport bytes h.first (h.second ++ rest) 84 refl h.type_number (parts ∙ ap (λ (x : List ℕ). x ++ rest) h.parts ∙ append_assoc h.first h.second rest),
@@ -57,9 +57,9 @@ header_front-begins bytes (Headed (WebTransportHeader id) rest) (s, (spelled, ev
     to_session ∙ session_header_front-id (spelled.second ++ rest) rest id number even
 header_front-begins bytes (Headed (ExerciseHeader number) rest) (s, (spelled, reserved), parts) = header_front-kind (Exercise number) bytes s rest number (refl, reserved) spelled parts
 
--- ---- what is computed is what the bytes begin with
+-- ---- what is computed is what the bytes start with
 
--- the bytes begin as the case says, or it is Short
+-- the bytes start with the case, or it is Short
 abbrev Holds : List ℕ → HeaderFront → Type 0
 Holds bytes c = (c ≡ Short) ⊎ StreamBegins bytes c
 
@@ -111,7 +111,7 @@ header_front_holds bytes = elim (found (number_at bytes)) [
 
 -- ---- what follows
 
--- Short exactly where the bytes begin with no case
+-- Short exactly if the bytes start with no case
 pub header_front-short : (bytes : List ℕ) → header_front bytes ≡ Short → (c : HeaderFront) → StreamBegins bytes c → ⊥
 header_front-short bytes short c h = subst (λ (x : HeaderFront). StreamBegins bytes x) (sym (header_front-begins bytes c h) ∙ short) h
 

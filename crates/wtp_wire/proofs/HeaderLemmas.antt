@@ -1,4 +1,4 @@
--- What a stream header's fields say of its kind and session, and its parts by them.
+-- The kind and session that a stream header's fields give, and its parts by them.
 use Rattle.std.proofs.Common.{◌≡◌, ℕ, [], ◌∷◌, List, Option, Some, None, refl}
 use Rattle.wtp_core.specs.Varint.{shortest}
 use Rattle.wtp_wire.specs.declared.stream_header.StreamKind.{StreamKind}
@@ -29,7 +29,7 @@ header_session-header (Exercise number) (Some id) h = let k = h.opens.0 refl in 
 
 pub ruleset header_fields = (header_kind-header, header_session-header)
 
--- a header without a session is its type number
+-- a header without a session is its type
 pub header_parts-plain : (kind : StreamKind) (session : Option ℕ) → session ≡ None → (h : IsProperHeader kind session) → header_parts (header kind session) ≡ shortest (stream_number_of kind) ∷ []
 header_parts-plain kind (Some id) e h = absurd (cc)
 header_parts-plain Control None e h = refl
@@ -45,7 +45,7 @@ header_parts-session kind (Some i) id e h =
     let same : i ≡ id = cc in
     rw (k, same) refl
 
--- all parts behind the type number
+-- all parts after the type
 pub header_parts-first : (kind : StreamKind) (session : Option ℕ) (h : IsProperHeader kind session) → (rest : List (List ℕ)) × (header_parts (header kind session) ≡ shortest (stream_number_of kind) ∷ rest)
 header_parts-first kind None h = ([], header_parts-plain kind None refl h)
 header_parts-first kind (Some id) h = (shortest id ∷ [], header_parts-session kind (Some id) id refl h)

@@ -1,4 +1,4 @@
--- What one poll of a reading of a stream header answers.
+-- The result of one poll of a reading of a stream header.
 use Rattle.std.proofs.Common.{◌≡◌, ◌≢◌, ℕ, ◌+◌, ◌%◌, ◌==◌, ◌<◌, List, [], ◌∷◌, length, take, drop, Option, Some, None, Result, Ok, Err, refl, sym, ap, ◌∙◌, arith, inl, inr, length-drop}
 use Rattle.std.proofs.lemmas.Bool.{cases_lt, cases_Bool}
 use Rattle.wtp_core.specs.declared.bytes.polled.Polled.TheVariants.{Ready}
@@ -85,7 +85,7 @@ typed_whole (Some QPackDecoder) r w = no_bytes r (omega arith)
 typed_whole (Some WebTransport) r w = session_whole r w
 typed_whole (Some (Exercise number)) r w = no_bytes r (omega arith)
 
--- as many bytes as are needed are a case, and none stand behind it
+-- as many bytes as are needed are a case, and none follow it
 pub header_whole : (h : List ℕ) → header_need h ≡ length h → LeavesNothing (header_front h)
 header_whole h w = elim (cases_lt (length h) (varint_need h)) [
   | inl l ↦ absurd (omega (arith, need_none h (number_at-cut h l)))
@@ -111,7 +111,7 @@ pub whole_fault : (e : ParseError) (h rest : List ℕ) → header_need h ≡ len
 whole_fault parse.UnknownStream h rest w e = whole_unknown h rest w e
 whole_fault parse.InvalidSessionId h rest w e = whole_bad h rest w e
 
--- ---- answers
+-- ---- results
 
 not_short : (h : List ℕ) (c : HeaderFront) → header_front h ≡ c → c ≢ Short → header_front h ≢ Short
 not_short h c e n s = n (sym e ∙ s)

@@ -1,4 +1,4 @@
--- The settings that are kept of the pairs of a payload.
+-- The settings that are stored of the pairs of a payload.
 use Rattle.std.proofs.Common.{◌≡◌, ◌≢◌, ℕ, List, [], ◌∷◌, ◌++◌, true, false, Option, Some, None, Result, Ok, Err, refl, sym, ap, ◌∙◌, inl, inr, ◌⊎◌, ◌↔◌}
 use Rattle.std.proofs.lemmas.Bool.{cases_Bool, cases_eq, both_ways}
 use Rattle.std.specs.Ordering.{nat_cmp}
@@ -14,7 +14,7 @@ use Rattle.wtp_wire.proofs.ValueLemmas.{contains_cases, contains_head, contains_
 
 -- ---- one pair
 
--- the pair is not kept, as its identifier may not stand there
+-- the pair is not stored, because its identifier is not permitted there
 pub record Refuses (m : List (ℕ × ℕ)) (p : ℕ × ℕ) : Type 0 where
   pub is : kept_with m p ≡ Err Settings
   pub cause : IsReserved p.0 ⊎ (IsSetting p.0 × ((value : ℕ) × (value_at m p.0 ≡ Some value)))
@@ -25,7 +25,7 @@ pub record Ignores (m : List (ℕ × ℕ)) (p : ℕ × ℕ) : Type 0 where
   pub free : IsReserved p.0 → ⊥
   pub unknown : IsSetting p.0 → ⊥
 
--- it is kept
+-- it is stored
 pub record Keeps (m : List (ℕ × ℕ)) (p : ℕ × ℕ) : Type 0 where
   pub is : kept_with m p ≡ Ok (with_setting m p.0 p.1)
   pub free : IsReserved p.0 → ⊥
@@ -167,7 +167,7 @@ keeps_kept m n ps p k h = record {
       | inr ne ↦ sym (value_at-kept m p.0 p.1 id ne) ∙ none
     ]
 
--- what keeping all pairs gives
+-- the result of storing all pairs
 pub kept-all : (ps m n : List (ℕ × ℕ)) → kept m ps ≡ Ok n → KeepsAll m ps n
 kept-all [] m n e = keeps_none m n (ok_is m n (Ok m) refl e)
 kept-all (p ∷ ps) m n e = elim (kept_with-cases m p) [
@@ -178,7 +178,7 @@ kept-all (p ∷ ps) m n e = elim (kept_with-cases m p) [
   ]
 ]
 
--- pairs without a fault are kept
+-- pairs without a fault are stored
 pub kept-faultless : (ps m : List (ℕ × ℕ)) → AreFaultless ps → AreNew m ps → (n : List (ℕ × ℕ)) × (kept m ps ≡ Ok n)
 kept-faultless [] m h new = (m, refl)
 kept-faultless (p ∷ ps) m (free, once, rest) new = elim (kept_with-cases m p) [
@@ -199,9 +199,9 @@ kept-faultless (p ∷ ps) m (free, once, rest) new = elim (kept_with-cases m p) 
 no_value : (id value : ℕ) → value_at [] id ≡ Some value → ⊥
 no_value id value e = cc
 
--- ---- from none on
+-- ---- starting with none
 
--- the settings that are kept are those among the pairs
+-- the settings that are stored are those among the pairs
 pub kept-are_kept : (ps m : List (ℕ × ℕ)) → kept [] ps ≡ Ok m → AreKept m ps
 kept-are_kept ps m e =
     let h = kept-all ps [] m e in

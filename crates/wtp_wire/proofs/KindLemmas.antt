@@ -67,7 +67,7 @@ kind_of-none id h = none_of (kind_of id) refl
     none_of None e = e
     none_of (Some kind) e = absurd (h kind (is-kind_of kind id e))
 
--- ---- a kind that is kept as its number
+-- ---- a kind that is stored as its type
 
 pub kind_numbered-is : (kind : FrameKind) (id : ℕ) → IsKind kind id → kind_numbered id ≡ kind
 unfolding kind_numbered

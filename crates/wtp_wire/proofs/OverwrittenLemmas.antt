@@ -1,4 +1,4 @@
--- Parts that are written over a place, as far as they fit.
+-- Parts that are written over the room, as far as they fit.
 use Rattle.std.proofs.Common.{◌≡◌, ℕ, ◌+◌, ◌<◌, ◌≤◌, ◌≢◌, true, false, List, [], ◌∷◌, ◌++◌, length, take, drop, Option, Some, Result, Ok, Err, is_err, refl, sym, ap, ◌∙◌, append_assoc, append-nil, arith, length-append, length-drop}
 use Rattle.std.proofs.lemmas.Bool.{lt-ltb, le-ltb}
 use Rattle.std.proofs.lemmas.List.{drop-drop, take-append-drop}
@@ -9,7 +9,7 @@ use Rattle.wtp_core.specs.Writer.{joined, PutsParts}
 use Rattle.wtp_core.proofs.WriterLemmas.{LacksRoom-parts}
 use Rattle.wtp_wire.specs.Settings.{settings_parts, overwritten}
 
--- behind parts that fit
+-- after parts that fit
 overwritten-append : (whole rest : List (List ℕ)) (place : List ℕ) → length (joined whole) ≤ length place → overwritten (whole ++ rest) place ≡ joined whole ++ overwritten rest (drop (length (joined whole)) place)
 overwritten-append [] rest place fits = refl
 overwritten-append (part ∷ whole) rest place fits =
@@ -27,7 +27,7 @@ overwritten-cut part behind place lacks = rw (lt-ltb (length place) (length part
 some_is : (x y : List ℕ) → Some x ≡ Some y → x ≡ y
 some_is x y e = cc
 
--- a slice of which the front and the rest are known
+-- a slice whose start and rest are known
 slice_is : (offset : ℕ) (slice last front rest : List ℕ) → last ≡ slice → take offset slice ≡ front → Some (drop offset slice) ≡ Some rest → last ≡ front ++ rest
 slice_is offset slice last front rest same before behind = same ∙ sym (take-append-drop offset slice) ∙ ap (λ (x : List ℕ). x ++ drop offset slice) before ∙ ap (λ (x : List ℕ). front ++ x) (some_is (drop offset slice) rest behind)
 
@@ -35,7 +35,7 @@ slice_is offset slice last front rest same before behind = same ∙ sym (take-ap
 pub slice-whole : (parts : List (List ℕ)) (u : Unit {0}) (offset : ℕ) (slice place last : List ℕ) → last ≡ slice → PutsParts false parts (Ok u) [] (Some place) (take offset slice) (Some (drop offset slice)) → last ≡ overwritten parts place
 slice-whole parts u offset slice place last same (front, behind, fits) = slice_is offset slice last (joined parts) (drop (length (joined parts)) place) same front behind ∙ sym (overwritten-fits parts place fits)
 
--- those in front of the first that did not fit
+-- those before the first that did not fit
 pub slice-cut : (parts : List (List ℕ)) (e : PutError) (offset : ℕ) (slice place last : List ℕ) → last ≡ slice → length last ≡ length place → PutsParts false parts (Err e) [] (Some place) (take offset slice) (Some (drop offset slice)) → last ≡ overwritten parts place
 slice-cut parts EndOfBuffer offset slice place last same size (whole, part, rest, are, front, behind, lacks) =
     let is : last ≡ joined whole ++ drop (length (joined whole)) place = slice_is offset slice last (joined whole) (drop (length (joined whole)) place) same front behind in
@@ -49,11 +49,11 @@ pub parts-above : (parts : List (List ℕ)) (e : PutError) (old : List ℕ) (pla
 parts-above parts EndOfBuffer old place new left h = LacksRoom-parts false parts old (Some place) new left h
 parts-above parts Memory old place new left (whole, part, rest, are, front, behind, why) = let no = why.1 in absurd cc
 
--- the front of the place, where they all fit
+-- the start of the room, if they all fit
 pub take-overwritten : (parts : List (List ℕ)) (place : List ℕ) → length (joined parts) ≤ length place → take (length (joined parts)) (overwritten parts place) ≡ joined parts
 take-overwritten parts place fits = rw (overwritten-fits parts place fits, take-append_seam (joined parts) (drop (length (joined parts)) place)) refl
 
--- a growing writer refuses only what there is
+-- a growing writer refuses only if there is something to write
 pub parts-some : (m : List (ℕ × ℕ)) (r : Result (Unit {0}) PutError) (old new : List ℕ) (room left : Option (List ℕ)) → is_err r ≡ true → PutsParts true (settings_parts m) r old room new left → m ≢ []
 parts-some m (Ok u) old new room left e h none = cc
 parts-some m (Err e) old new room left is (whole, part, rest, are, front, behind, why) none = nothing whole part rest (sym (ap settings_parts none) ∙ are)

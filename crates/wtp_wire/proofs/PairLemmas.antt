@@ -31,7 +31,7 @@ pub pair_at-spelled : (n v : ℕ) (s more : List ℕ) → Spelled n v s → pair
 pair_at-spelled n v s more h =
     pair_at-some (s ++ more) (h.second ++ more) more n v (rw (h.parts, append_assoc h.first h.second more) (number_at-spelling n h.first (h.second ++ more) h.type_number)) (number_at-spelling v h.second more h.number)
 
--- the bytes begin with the spelling of a pair
+-- the bytes start with the encoding of a pair
 pub record BeginsWithPair (bytes : List ℕ) (n v : ℕ) (more : List ℕ) : Type 0 where
   pub s : List ℕ
   pub spelled : Spelled n v s
@@ -76,7 +76,7 @@ pair_at-more bytes more rest n v e =
 
 -- ---- all pairs
 
--- m and the pairs that the bytes spell
+-- m and the pairs that the bytes encode
 abbrev pub read_from : List (ℕ × ℕ) → List ℕ → Result (List (ℕ × ℕ)) ErrorCode
 read_from m bytes = settings_from (length bytes) m bytes
 
@@ -128,7 +128,7 @@ or_fault-ok (Err code) f m e = absurd cc
 ok_is : (x y : List (ℕ × ℕ)) (r : Result (List (ℕ × ℕ)) ErrorCode) → r ≡ Ok x → r ≡ Ok y → x ≡ y
 ok_is x y r d e = cc
 
--- what stands behind a front without a fault
+-- what follows a prefix without a fault
 read_behind : (n : ℕ) (j m : List (ℕ × ℕ)) (front rest : List ℕ) → length front ≤ n → read_from j front ≡ Ok m → read_from j (front ++ rest) ≡ read_from m rest
 read_behind n j m [] rest h e = ap (λ (x : List (ℕ × ℕ)). read_from x rest) (ok_is j m (read_from j []) (read_from-nil j) e)
 read_behind zero j m (b ∷ bs) rest h e = absurd (omega arith)
@@ -143,9 +143,9 @@ read_behind (suc n) j m (b ∷ bs) rest h e = elim (found (pair_at (b ∷ bs))) 
     not_ok : Err Frame ≡ Ok m → ⊥
     not_ok x = cc
 
--- ---- a payload of which a front is read
+-- ---- a payload of which a prefix is read
 
--- the settings of the bytes in front of the rest
+-- the settings of the bytes before the rest
 pub record ReadSoFar (payload rest : List ℕ) (m : List (ℕ × ℕ)) : Type 0 where
   pub front : List ℕ
   pub parts : payload ≡ front ++ rest
@@ -189,13 +189,13 @@ with_setting-some : (m : List (ℕ × ℕ)) (n v : ℕ) → with_setting m n v �
 with_setting-some [] n v e = cc
 with_setting-some (p ∷ m) n v e = chosen-some (nat_cmp n p.0) (n, v) (p.0, v) p (p ∷ m) m (with_setting m n v) e
 
--- memory was wanted for a setting
+-- allocation failed for a setting
 pub so_far-memory : (payload rest more : List ℕ) (m : List (ℕ × ℕ)) (n v : ℕ) (h : ReadSoFar payload rest m) → pair_at rest ≡ Some ((n, v), more) → kept_with m (n, v) ≡ Ok (with_setting m n v) → StartsWithSettings payload
 so_far-memory payload rest more m n v h e kept =
     let s = so_far-pair payload rest more m (with_setting m n v) n v h e kept in
     record { front = s.front; rest = more; m = with_setting m n v; parts = s.parts; read = s.read; some = with_setting-some m n v }
 
--- a pair was not kept
+-- a pair was not stored
 pub so_far-refused : (payload rest more : List ℕ) (m k : List (ℕ × ℕ)) (n v : ℕ) (e : Refused) (h : ReadSoFar payload rest m) → pair_at rest ≡ Some ((n, v), more) → Keeps m (n, v) (Err e) k → AnswersSettings payload (Err e)
 so_far-refused payload rest more m k n v (Code code) h e fault = so_far-fault payload rest more m n v code h e fault
 so_far-refused payload rest more m k n v Memory h e kept = so_far-memory payload rest more m n v h e kept

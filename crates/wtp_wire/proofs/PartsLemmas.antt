@@ -4,7 +4,7 @@ use Rattle.wtp_core.specs.declared.bytes.writer.PutError.{PutError}
 use Rattle.wtp_core.specs.Writer.{Puts, PutsParts}
 use Rattle.wtp_core.proofs.WriterLemmas.{put-none, put-more}
 
--- the writer stands behind some of the parts: what writing the rest does is what writing all does
+-- the writer wrote some of the parts: what writing the rest does is what writing all does
 pub record PutsBehind (grows : Bool) (all rest : List (List ℕ)) (old : List ℕ) (room : Option (List ℕ)) (new : List ℕ) (left : Option (List ℕ)) : Type 0 where
   pub whole : (r : Result (Unit {0}) PutError) (last : List ℕ) (behind : Option (List ℕ)) → PutsParts grows rest r new left last behind → PutsParts grows all r old room last behind
 

@@ -23,7 +23,7 @@ use Rattle.wtp_wire.proofs.KeptLemmas.{Refuses, kept, kept_with-cases, kept-all,
 
 -- ---- what the grammar says is computed
 
--- pairs in front are kept one after the other
+-- the pairs at the start are stored one after the other
 read_from-pairs : (ps m : List (ℕ × ℕ)) (s rest : List ℕ) → ArePairs ps s → read_from m (s ++ rest) ≡ or_fault (kept m ps) (λ k. read_from k rest)
 read_from-pairs [] m s rest h = ap (λ (x : List ℕ). read_from m (x ++ rest)) h
 read_from-pairs (p ∷ ps) m s rest (first, more, spelled, pairs, parts) =
@@ -48,14 +48,14 @@ cut-none rest (some, none) = elim (found (pair_at rest)) [
   | inr ((p, more), e) ↦ let h = pair_at-begins rest more p.0 p.1 e in absurd (none p.0 p.1 h.s more h.spelled h.parts)
 ]
 
--- a pair that must not stand behind the settings m
+-- a pair that is not permitted after the settings m
 refused-fault : (m : List (ℕ × ℕ)) (p : ℕ × ℕ) (rest more : List ℕ) → pair_at rest ≡ Some (p, more) → Refuses m p → read_from m rest ≡ Err Settings
 refused-fault m p rest more e r = read_from-pair m rest more p.0 p.1 e ∙ ap (λ (x : Result (List (ℕ × ℕ)) ErrorCode). or_fault x (λ k. read_from k more)) r.is
 
 none_some : (v : ℕ) (o : Option ℕ) → o ≡ Some v → o ≡ None → ⊥
 none_some v o d e = cc
 
--- a reserved or repeated identifier behind the pairs ps, whose settings are m
+-- a reserved or repeated identifier after the pairs ps, whose settings are m
 refused_behind : (ps m : List (ℕ × ℕ)) (id value : ℕ) → kept [] ps ≡ Ok m → IsReserved id ⊎ (IsSetting id × Contains (keys_of ps) id) → Refuses m (id, value)
 refused_behind ps m id value e cause = elim (kept_with-cases m (id, value)) [
   | inl r ↦ r
@@ -85,7 +85,7 @@ pairs-push : (ps : List (ℕ × ℕ)) (id value : ℕ) (front s : List ℕ) → 
 pairs-push [] id value front s h spelled = (s, [], spelled, refl, ap (λ (x : List ℕ). x ++ s) h ∙ sym (append-nil s))
 pairs-push (p ∷ ps) id value front s (first, more, one, pairs, parts) spelled = (first, more ++ s, one, pairs-push ps id value more s pairs spelled, ap (λ (x : List ℕ). x ++ s) parts ∙ append_assoc first more s)
 
--- the payload says settings, or has a fault
+-- the payload contains settings, or has a fault
 abbrev Judged : List ℕ → Type 0
 Judged s = ((m : List (ℕ × ℕ)) × IsPayload m s) ⊎ ((code : ErrorCode) × IsFault code s)
 
@@ -98,7 +98,7 @@ refused_cause ps m p e r = elim r.cause [
 one_more : (ps m k : List (ℕ × ℕ)) (p : ℕ × ℕ) → kept [] ps ≡ Ok m → kept_with m p ≡ Ok k → kept [] (ps ++ p ∷ []) ≡ Ok k
 one_more ps m k p e step = kept-append ps (p ∷ []) [] ∙ ap (λ (r : Result (List (ℕ × ℕ)) ErrorCode). or_fault r (λ j. kept j (p ∷ []))) e ∙ ap (λ (r : Result (List (ℕ × ℕ)) ErrorCode). or_fault r (λ j. kept j [])) step
 
--- the pair behind the pairs ps is refused, or judged goes on behind it
+-- the pair after the pairs ps is refused, or the rest after it is judged
 pair_judged : (ps m : List (ℕ × ℕ)) (p : ℕ × ℕ) (front rest more : List ℕ) → ArePairs ps front → kept [] ps ≡ Ok m → pair_at rest ≡ Some (p, more) → ((k : List (ℕ × ℕ)) (s : List ℕ) → ArePairs (ps ++ p ∷ []) (front ++ s) → kept [] (ps ++ p ∷ []) ≡ Ok k → Judged ((front ++ s) ++ more)) → Judged (front ++ rest)
 pair_judged ps m p front rest more pairs e at next =
     let h = pair_at-begins rest more p.0 p.1 at in

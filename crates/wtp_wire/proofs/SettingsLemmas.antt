@@ -63,7 +63,7 @@ with_setting-last (x ∷ xs) ys k v h =
     let below : x.0 < k = nat_cmp-less x.0 k (all_middle (λ (i : ℕ). nat_cmp x.0 i ≡ Less) xs ys k v (sorted_head nat_cmp x.0 (keys_of (xs ++ (k, v) ∷ ys)) h)) in
     ap (λ (o : Ordering). match_ordering o ((k, v) ∷ x ∷ xs) ((x.0, v) ∷ xs) (x ∷ with_setting xs k v)) (greater-nat_cmp k x.0 below) ∙ ap (λ (l : List (ℕ × ℕ)). x ∷ l) (with_setting-last xs ys k v (sorted_tail nat_cmp x.0 (keys_of (xs ++ (k, v) ∷ ys)) h))
 
--- one more of the settings m, in their order
+-- one more of the settings m, in order
 pub copied-more : (m xs ys next : List (ℕ × ℕ)) (k v : ℕ) (h : IsSettings m) → xs ++ (k, v) ∷ ys ≡ m → next ≡ with_setting xs k v → next ++ ys ≡ m
 copied-more m xs ys next k v h e step =
     let rising : IsStrictlySortedBy nat_cmp (keys_of (xs ++ (k, v) ∷ ys)) = rw e h.rising in

@@ -1,4 +1,4 @@
--- The first bytes of a head, two of which are asked for at once.
+-- The first bytes of a head, two of which are read at once.
 use Rattle.std.proofs.Common.{◌≡◌, ℕ, ◌<◌, ◌≤◌, List, [], ◌∷◌, length, take, drop, slice_set, get_or, Option, refl, ap, ◌∙◌, arith}
 use Rattle.std.proofs.lemmas.Bool.{lt-ltb}
 use Rattle.std.proofs.lemmas.List.{take-append-le}
@@ -34,7 +34,7 @@ two_least h = omega (arith, frame_need_is h, (varint_need_range h).0, (varint_ne
 pub gains_new : (len n : ℕ) (head buf new : List ℕ) (a b : Source) → len ≡ 0 → take n new ≡ take n buf → Gains [] (take n buf) a b 0 → Gains (take len head) (take n new) a b 0
 gains_new len n head buf new a b z e g = rw (z, e) g
 
--- a head that was begun, or goes on as it was
+-- a head that was begun, or continues as it was
 pub record Begun (len len' : ℕ) (head head' : List ℕ) (s t : Option Source) : Type 0 where
   pub within : len' ≤ frame_need (take len' head')
   pub forward : len ≤ len'

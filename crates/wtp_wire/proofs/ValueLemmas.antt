@@ -1,4 +1,4 @@
--- The values of settings as a list of numbers and values by rising number.
+-- The values of settings as a list of numbers and values in ascending order of the numbers.
 use Rattle.std.proofs.Common.{◌≡◌, ◌≢◌, ℕ, ◌<◌, List, [], ◌∷◌, Option, Some, None, refl, sym, ap, ◌∙◌, arith, inl, inr, ◌⊎◌}
 use Rattle.std.proofs.lemmas.Bool.{cases_order, cases_eq}
 use Rattle.std.specs.declared.cmp.Ordering.TheVariants.{Less}
@@ -96,7 +96,7 @@ value_at-kept (p ∷ m) id value other ne = elim (cases_order id p.0) [
   ]
 ]
 
--- ---- rising numbers
+-- ---- ascending numbers
 
 above_more : (low high : ℕ) (ks : List ℕ) → low < high → AllByRecursion (λ (k : ℕ). nat_cmp high k ≡ Less) ks → AllByRecursion (λ (k : ℕ). nat_cmp low k ≡ Less) ks
 above_more low high [] h all = tt

@@ -1,4 +1,4 @@
--- A frame that stands whole at the front of bytes, and one that a source has at hand.
+-- A complete frame at the start of the bytes, and one that a source has buffered.
 use Rattle.std.proofs.Common.{◌≡◌, ℕ, ◌+◌, ◌-◌, ◌≤◌, List, [], ◌++◌, length, take, drop, refl, sym, ap, subst, ◌∙◌, arith, append_assoc, append-nil, length-append, inl, inr, Option, Some, None}
 use Rattle.std.proofs.lemmas.List.{append_cancel_left, drop-append-le, take-append-drop, take_at, drop_at}
 use Rattle.wtp_core.specs.declared.bytes.polled.Polled.TheVariants.{Ready}
@@ -17,7 +17,7 @@ use Rattle.wtp_wire.proofs.ContentLemmas.{kind_in-content, payload_in-content, s
 use Rattle.wtp_wire.proofs.FrontLemmas.{front_holds, front-begins, front-more}
 use Rattle.wtp_wire.proofs.FramePollLemmas.{hold, front_none, due_unfinished}
 
--- ---- where the payload stands
+-- ---- the position of the payload
 
 plain_payload : (kind : FrameKind) (payload s : List ℕ) → IsPlain kind payload s → (head : List ℕ) × (s ≡ head ++ payload)
 plain_payload kind payload s h = (h.head, h.parts)
@@ -29,7 +29,7 @@ frame_payload (SettingsOf payload) s h = plain_payload Settings payload s h
 frame_payload (WebTransportOf id) s h = (s, sym (append-nil s))
 frame_payload (ExerciseOf number payload) s h = plain_payload (Exercise number) payload s h
 
--- the frame's bytes in front of the rest
+-- the frame's bytes before the rest
 stands : (bytes rest : List ℕ) (f : Content) → front bytes ≡ Framed f rest → (s : List ℕ) × IsFrame f s × (bytes ≡ s ++ rest)
 stands bytes rest f e = elim (front_holds bytes) [
   | inl short ↦ absurd (cc)
@@ -59,7 +59,7 @@ payload_before bytes rest f size e sum =
       is = rw (whole, drop_at head (p ++ rest) (size - length p) (omega arith)) (take_at p rest (length p) refl);
     }
 
--- where the payload is short, and enough bytes follow it
+-- if the payload is short, and enough bytes follow it
 pub enough_behind : (bytes rest behind : List ℕ) (f g : Content) (size : ℕ) → front bytes ≡ Framed g behind → size + length behind ≡ length bytes
     → front bytes ≡ Framed f rest → length (payload_in f) ≤ 32 → 32 ≤ length (payload_in f) + length rest
     → (length (payload_in g) ≤ 32) × ((size - length (payload_in g)) + 32 ≤ length bytes)
@@ -117,7 +117,7 @@ takes_frame f shown size (Some a) (Some b) small e (rest, is) (once, parts, enou
     let same : drop size a.ahead ≡ drop size shown ++ rest = ap (λ (l : List ℕ). drop size l) is ∙ drop-append-le size shown rest small in
     record { front = ap front is ∙ more_behind f shown rest (drop size shown) e ∙ ap (λ (l : List ℕ). Framed f l) (sym (left ∙ same)) }
 
--- ---- the answer of a poll
+-- ---- the result of a poll
 
 none_held : (head items : List ℕ) (len room filled : ℕ) → len ≡ 0 → IsReading (take len head) room filled → take len head ++ take filled items ≡ []
 none_held head items len room filled none r =

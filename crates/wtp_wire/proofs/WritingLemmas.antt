@@ -1,4 +1,4 @@
--- The two numbers of a frame and its payload are written one behind the other.
+-- The first two numbers of a frame and its payload are written one after the other.
 use Rattle.std.proofs.Common.{◌≡◌, ℕ, ◌+◌, ◌<◌, ◌≤◌, List, [], ◌++◌, length, take, drop, refl, sym, ap, ◌∙◌, arith, inl, inr, append-nil, Option, Ok}
 use Rattle.std.proofs.lemmas.Bool.{cases_lt}
 use Rattle.std.proofs.lemmas.List.{drop-append-le}
@@ -34,7 +34,7 @@ two_ranges h p i j k le behind = elim (cases_lt 0 j) [
 pub both_grow : (h p : List ℕ) (i j k w s l : ℕ) (a b c : Sink) → i ≤ length h → (0 < j → i ≡ length h) → Grows (drop i (take (length h) h)) a b → Took b c (drop j (take k p)) w s l → Took a c (drop (i + j) (take (length h + k) (h ++ p))) w s l
 both_grow h p i j k w s l a b c le behind g q = rw (← two_ranges h p i j k le behind) (grows_then _ _ w s l a b c g q)
 
--- the first part was sent whole, and the second halted
+-- the first part was sent completely, and the second stopped
 halts : (x : WriteHalt) (h p : List ℕ) (i j k : ℕ) (a b c : Sink) → i ≤ length h → (0 < j → i ≡ length h) → Grows (drop i (take (length h) h)) a b → HaltedBy x (drop j (take k p)) b c
     → WritePolled (write_halted x) (record { bytes = h ++ p; sent = i + j }) (record { bytes = h ++ p; sent = length h + k }) a c
 halts halt.NotReady h p i j k a b c le behind g t = both_grow h p i j k 1 0 0 a b c le behind g t

@@ -1,9 +1,9 @@
--- What stands behind a frame's type number, however it is kept.
+-- The part of a frame after its type, however it is stored.
 use Rattle.std.specs.Prelude.{ℕ, List, [], Option, Some, None}
 use Rattle.wtp_wire.specs.declared.frame.body.Body.{Body}
 use Rattle.wtp_wire.specs.declared.frame.body.Body.TheVariants as body
 
--- the payload, which is empty where a session stands in its place
+-- the payload, which is empty if there is a session in its place
 abbrev pub payload_of : Body → List ℕ
 payload_of (body.Borrowed bytes) = bytes.now
 payload_of (body.Owned bytes) = bytes.items

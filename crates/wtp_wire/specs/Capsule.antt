@@ -6,11 +6,12 @@ use Rattle.wtp_wire.specs.declared.capsule.CapsuleKind.{CapsuleKind}
 use Rattle.wtp_wire.specs.declared.capsule.CapsuleKind.TheVariants.{CloseWebTransportSession}
 use Rattle.wtp_wire.specs.Front.{Spelled}
 
--- the type number of a capsule
+-- the type of a capsule
 abbrev pub capsule_number_of : CapsuleKind → ℕ
 capsule_number_of CloseWebTransportSession = 0x2843
 
--- the bytes begin with a whole capsule: a spelling of its type, one of its length, and a payload of that length; what follows is not looked at
+-- the bytes start with a complete capsule: an encoding of its type, one of its length, and a payload of that length;
+-- what follows is not read
 pub record BeginsWithCapsule (bytes : List ℕ) (kind : CapsuleKind) (payload : List ℕ) : Type 0 where
   pub head : List ℕ
   pub rest : List ℕ
@@ -19,14 +20,14 @@ pub record BeginsWithCapsule (bytes : List ℕ) (kind : CapsuleKind) (payload : 
 
 -- ---- the same, computed
 
--- the kind of a type number, where it has one
+-- the kind of a type, if it has one
 abbrev pub capsule_kind_of : ℕ → Option CapsuleKind
 capsule_kind_of id = if id == 0x2843 then Some CloseWebTransportSession else None
 
--- behind the type number of a capsule
+-- after the type of a capsule
 unfoldable pub payload_behind : CapsuleKind → List ℕ → Option (CapsuleKind × List ℕ)
 payload_behind kind bytes = option_and_then (λ len. option_map (λ payload. (kind, payload.0)) (bytes_at len.0 len.1)) (number_at bytes)
 
--- the kind and the payload of the capsule at the front
+-- the kind and the payload of the capsule at the start
 unfoldable pub capsule_in : List ℕ → Option (CapsuleKind × List ℕ)
 capsule_in bytes = option_and_then (λ id. option_and_then (λ kind. payload_behind kind id.1) (capsule_kind_of id.0)) (number_at bytes)

@@ -24,7 +24,7 @@ is_no_close payload = nat_lt (length payload) 4 || (nat_lt 1028 (length payload)
 unfoldable pub close_in : List ℕ → Option (ℕ × List ℕ)
 close_in payload = if is_no_close payload then None else Some (from_be_bytes w32 (take 4 payload), drop 4 payload)
 
--- what reading the payload answers; memory is taken, and so may be wanted, only for a reason that is not empty
+-- the result of reading the payload; only a reason that is not empty is allocated, so only then may allocation fail
 abbrev pub AnswersClose : List ℕ → Result (ℕ × List ℕ) Refused → Type 0
 AnswersClose payload (Ok close) = close_in payload ≡ Some close
 AnswersClose payload (Err (Code code)) = (close_in payload ≡ None) × (code ≡ Datagram)

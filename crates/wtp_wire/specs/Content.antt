@@ -1,10 +1,10 @@
--- What a frame says, however its payload is kept.
+-- The content of a frame, however its payload is stored.
 use Rattle.std.specs.Prelude.{◌≡◌, ℕ, ◌<◌, ◌^◌, List, [], length, Option, Some, None, IsSome, ◌↔◌}
 use Rattle.wtp_wire.specs.declared.frame.FrameKind.{FrameKind}
 use Rattle.wtp_wire.specs.declared.frame.FrameKind.TheVariants.{Data, Headers, Settings, WebTransport, Exercise}
 use Rattle.wtp_wire.specs.Kind.{IsKnown}
 
--- a frame: its payload, behind an exercise frame's type number; or the session that WebTransport's names
+-- a frame: its payload, after the type of an exercise frame; or the session of a WebTransport frame
 pub data Content : Type 0 where
   DataOf : List ℕ → Content
   HeadersOf : List ℕ → Content
@@ -39,7 +39,7 @@ abbrev pub session_content : Option ℕ → Content
 session_content (Some id) = WebTransportOf id
 session_content None = WebTransportOf 0
 
--- what the fields say
+-- the content given by the fields
 abbrev pub content : FrameKind → List ℕ → Option ℕ → Content
 content Data payload session = DataOf payload
 content Headers payload session = HeadersOf payload
@@ -47,7 +47,7 @@ content Settings payload session = SettingsOf payload
 content WebTransport payload session = session_content session
 content (Exercise number) payload session = ExerciseOf number payload
 
--- the fields fit each other: a session stands with WebTransport's kind alone, and then the payload is empty
+-- the fields are consistent: there is a session with the WebTransport kind only, and then the payload is empty
 pub record IsProper (kind : FrameKind) (payload : List ℕ) (session : Option ℕ) : Type 0 where
   pub known : IsKnown kind
   pub opens : IsSome session ↔ (kind ≡ WebTransport)

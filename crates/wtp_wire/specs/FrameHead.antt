@@ -1,4 +1,4 @@
--- What the two numbers in front of a frame say of the bytes behind them.
+-- What the first two numbers of a frame say about the bytes after them.
 use Rattle.std.specs.Prelude.{ℕ, ◌%◌, List, Option, Some, None, nat_lt, ◌==◌, if◌then◌else◌}
 use Rattle.wtp_core.specs.Varint.{number_at, bytes_at}
 use Rattle.wtp_wire.specs.declared.frame.FrameKind.{FrameKind}
@@ -10,7 +10,7 @@ use Rattle.wtp_wire.specs.Content.{WebTransportOf, content}
 use Rattle.wtp_wire.specs.Front.{Front, Framed, BadId, TooBig, Short, or_short}
 use Rattle.wtp_wire.specs.Held.{skip_front}
 
--- what the second number says behind a kind's type number, or that of none
+-- what the second number says after the type of this kind, or after an unknown type
 abbrev pub said_second : Option FrameKind → ℕ → Said
 said_second None n = said-is.Skip n
 said_second (Some WebTransport) n = if n % 4 == 0 then said-is.Session n else said-is.BadSession
@@ -23,7 +23,7 @@ abbrev pub and_then : {A B : Type 0} → Option A → (A → Option B) → Optio
 and_then None next = None
 and_then (Some x) next = next x
 
--- what the two numbers at the front say, and the bytes behind them
+-- what the first two numbers say, and the bytes after them
 unfoldable pub head_at : List ℕ → Option (Said × List ℕ)
 head_at bytes = and_then (number_at bytes) (λ id. and_then (number_at id.1) (λ n. Some (said_second (kind_of id.0) n.0, n.1)))
 
@@ -34,7 +34,7 @@ said_in (Some x) = x.0
 unfoldable pub said : List ℕ → Said
 said bytes = said_in (head_at bytes)
 
--- the front of all the bytes, by what the two numbers say and by the bytes behind them
+-- the first frame of all the bytes, given what the first two numbers say and the bytes after them
 abbrev pub front_behind : Said → List ℕ → Front
 front_behind said-is.Unfinished rest = Short
 front_behind (said-is.Payload k n) rest = or_short (bytes_at n rest) (λ p. Framed (content k p.0 None) p.1)

@@ -1,14 +1,14 @@
--- How many bytes the two numbers in front of a frame have, as far as the bytes held tell.
+-- The size of the first two numbers of a frame, as far as the bytes held determine it.
 use Rattle.std.proofs.Common.{◌≡◌, ℕ, ◌+◌, ◌<◌, ◌≤◌, List, [], ◌∷◌, ◌++◌, length, drop, refl, ap, arith, inl, inr, length-drop}
 use Rattle.std.proofs.lemmas.Bool.{cases_lt}
 use Rattle.std.proofs.lemmas.List.{drop-append-le}
 use Rattle.wtp_core.specs.VarintNeed.{varint_need, varint_need_range, varint_need_grows, varint_need_more}
 
--- how many bytes the two numbers have, at least, that begin with these
+-- the least size of the two numbers if they start with these bytes
 unfoldable pub frame_need : List ℕ → ℕ
 frame_need bytes = varint_need bytes + varint_need (drop (varint_need bytes) bytes)
 
--- ---- what readers on from these bytes rely on
+-- ---- what readers that continue from these bytes rely on
 
 pub frame_need_is : (h : List ℕ) → frame_need h ≡ varint_need h + varint_need (drop (varint_need h) h)
 unfolding frame_need

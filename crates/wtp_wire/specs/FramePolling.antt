@@ -14,26 +14,26 @@ use Rattle.wtp_wire.specs.Held.{Held, new_held, front_held, IsUnknownHead, IsPay
 
 -- In all of these, old and new are what the reading holds before and after one poll.
 
--- this case stands in front, all is taken up to its end, and nothing is held
+-- the input starts with this case, all is taken up to its end, and nothing is held
 pub record Decided (old new : Held) (a b : Source) (case : List ℕ → Front) : Type 0 where
   pub front : front_held old a.ahead ≡ case b.ahead
   pub empty : new ≡ new_held
 
--- the source stopped behind all that is ahead, which is too little
+-- the source stopped after all bytes ahead, and they are too few
 pub record Stopped (old new : Held) (a b : Source) (fault : IoReadError) : Type 0 where
   pub leaves : Leaves old new a b
   pub short : front_held old a.ahead ≡ Short
   pub none_ahead : b.ahead ≡ []
   pub why : fault ≡ IO (stop (old.due + length (old.taken ++ a.ahead)) a.ending)
 
--- as many bytes of an unknown frame were passed as one poll may, and some are still due
+-- as many bytes of an unknown frame were skipped as one poll may, and some are still to be skipped
 pub record PassesMost (old new : Held) (a b : Source) : Type 0 where
   pub same : front_held new b.ahead ≡ front_held old a.ahead
   pub due : 0 < new.due
   pub skips : Skips old new a b
   pub most : length skips.payload ≡ 4096
 
--- a kind's type number and a length above 0 stand in front of a payload that may be read; none of its bytes was held
+-- the type of a kind and a length above 0 precede a payload that may be read; none of its bytes was held
 pub record WantsPayload (whole : List ℕ) (held : ℕ) : Type 0 where
   pub kind : FrameKind
   pub size : ℕ
@@ -44,7 +44,7 @@ pub record WantsPayload (whole : List ℕ) (held : ℕ) : Type 0 where
   pub parts : whole ≡ head ++ rest
   pub none_held : held ≤ length head
 
--- what one poll did to a source that tells
+-- what one poll did to a source with a model
 abbrev pub FramePolled : Polled (Result Content IoReadError) → Held → Held → Source → Source → Type 0
 FramePolled (Ready (Ok f)) old new a b = Decided old new a b (Framed f)
 FramePolled (Ready (Err (Parse UnknownFrame))) old new a b = Decided old new a b Unknown × Skips old new a b
@@ -55,15 +55,16 @@ FramePolled Pending old new a b = Leaves old new a b × (a.waits < b.waits)
 FramePolled Again old new a b = PassesMost old new a b
 FramePolled NoMemory old new a b = Leaves old new a b × (old.due ≡ 0) × (new.due ≡ 0) × WantsPayload (old.taken ++ a.ahead) (length old.taken)
 
--- ---- of each source, also of one that tells nothing
+-- ---- of every source, also of one without a model
 
--- More bytes were given behind those held, and none was lost; or they are the head of an unknown frame; or fewer bytes of one are due.
+-- More bytes were given after those held, and none was lost; or they are the head of an unknown frame; or fewer bytes
+-- of one are still to be skipped.
 pub record Keeps (old new : Held) : Type 0 where
   pub kept : new.due ≡ 0 → (old.due ≡ 0) × ((given : List ℕ) × (new.taken ≡ old.taken ++ given))
   pub begun : old.due ≡ 0 → 0 < new.due → (given : List ℕ) × (passed : ℕ) × IsUnknownHead (passed + new.due) (old.taken ++ given)
   pub going : 0 < old.due → (0 < new.due) × (new.due ≤ old.due)
 
--- bytes were given with which those held are this case, and nothing is held
+-- bytes were given that, after those held, make this case, and nothing is held
 pub record Answered (old new : Held) (case : List ℕ → Front) : Type 0 where
   pub given : List ℕ
   pub front : front_held old given ≡ case []

@@ -1,4 +1,4 @@
--- The parts of one poll of a reading of a frame, for the private functions that it is made of.
+-- The parts of one poll of a reading of a frame, for the private functions that it consists of.
 use Rattle.std.specs.Prelude.{◌≡◌, ◌≢◌, ℕ, ◌+◌, ◌-◌, ◌<◌, ◌≤◌, List, [], ◌++◌, length, drop, Option, Some, None, Result, Ok, Err}
 use Rattle.wtp_core.specs.declared.bytes.polled.Polled.{Polled}
 use Rattle.wtp_core.specs.declared.bytes.polled.Polled.TheVariants.{Ready, Pending, Again, NoMemory}
@@ -27,21 +27,21 @@ use Rattle.wtp_wire.specs.FrameHead.{said}
 use Rattle.wtp_wire.specs.Held.{Held, IsUnfinished}
 use Rattle.wtp_wire.specs.FramePolling.{FramePolled, FrameGiven}
 
--- what is held of a frame: h are the bytes of its two numbers, and room is 0 or the size of its payload
+-- what is held of a frame: h are the bytes of its first two numbers, and room is 0 or the size of its payload
 pub record IsReading (h : List ℕ) (room filled : ℕ) : Type 0 where
   pub within : length h ≤ frame_need h
   pub part : filled ≤ room
   pub nothing : length h < frame_need h → room ≡ 0
   pub whole : frame_need h ≤ length h → (k : FrameKind) × (m : ℕ) × (said h ≡ said-is.Payload k m) × (filled < m) × (0 < room → room ≡ m)
 
--- what a reading answers that halted with so many bytes taken
+-- the result of a poll whose reading stopped after this many bytes were taken
 abbrev pub halted_frame : {T : Type 0} → Halt → ℕ → Polled (Result T IoReadError)
 halted_frame halt.NotReady taken = Pending
 halted_frame halt.Fin taken = Ready (Err (IO (stop taken AtEnd)))
 halted_frame halt.Reset taken = Ready (Err (IO (stop taken AtReset)))
 halted_frame halt.NotConnected taken = Ready (Err (IO (stop taken AtDisconnection)))
 
--- ---- a frame that the source has at hand whole
+-- ---- a complete frame that the source has buffered
 
 -- these bytes are the frame, and no more
 pub record IsFramed (f : Content) : Type 0 where
@@ -69,7 +69,7 @@ PayloadTells r held new old now = Telling old now (λ a b. PayloadMoves r held n
 
 -- ---- the two numbers and the payload
 
--- the two numbers say so, and with them size bytes of payload are wanted
+-- the first two numbers say so, and with them a payload of size bytes
 abbrev pub SaysSo : Next → List ℕ → ℕ → Type 0
 SaysSo (next.Answer (decision.Payload k)) h size = said h ≡ said-is.Payload k size
 SaysSo (next.Answer (decision.Session id)) h size = (said h ≡ said-is.Session id) × (size ≡ 0)
@@ -99,7 +99,7 @@ AdvanceKeeps (Err payload-halt.NoMemory) h h' room filled filled' = IsReading h'
 abbrev pub AdvanceTells : Result Next PayloadHalt → List ℕ → List ℕ → Option Source → Option Source → Type 0
 AdvanceTells r held new old now = Telling old now (λ a b. PayloadMoves r held new a b)
 
--- new has the bytes of old in front
+-- new starts with the bytes of old
 abbrev pub Grew : List ℕ → List ℕ → Type 0
 Grew old new = (given : List ℕ) × (new ≡ old ++ given)
 
@@ -116,7 +116,7 @@ answer (decision.Session id) payload = Ok (WebTransportOf id)
 answer decision.BadSession payload = Err (Parse parse.InvalidSessionId)
 answer decision.TooLong payload = Err (Parse parse.PayloadTooBig)
 
--- ---- passing over what is due of an unknown frame
+-- ---- skipping the bytes of an unknown frame that are still to be skipped
 
 pub record Skipped (due due' : ℕ) (a b : Source) : Type 0 where
   pub fewer : due' ≤ due
@@ -135,7 +135,7 @@ PassedOn Pending due due' a b = Skipped due due' a b × (0 < due') × (due < due
 PassedOn Again due due' a b = Skipped due due' a b × (0 < due') × (due ≡ due' + 4096)
 PassedOn NoMemory due due' a b = ⊥
 
--- of each source
+-- of every source
 abbrev pub PassedPlain : Polled (Result Content IoReadError) → ℕ → ℕ → Type 0
 PassedPlain (Ready (Ok f)) due due' = ⊥
 PassedPlain (Ready (Err (Parse parse.UnknownFrame))) due due' = due' ≡ 0
@@ -146,9 +146,9 @@ PassedPlain Pending due due' = (0 < due') × (due' ≤ due)
 PassedPlain Again due due' = (0 < due') × (due' ≤ due)
 PassedPlain NoMemory due due' = ⊥
 
--- ---- a poll up to what is due
+-- ---- a poll up to the bytes still to be skipped
 
--- the head of an unknown frame is taken, or bytes of one were due before
+-- the head of an unknown frame is taken, or bytes of one were still to be skipped before
 pub record Begins (old new : Held) (a b : Source) : Type 0 where
   pub head : List ℕ
   pub parts : old.taken ++ a.ahead ≡ head ++ b.ahead
@@ -156,7 +156,7 @@ pub record Begins (old new : Held) (a b : Source) : Type 0 where
   pub going : 0 < old.due → (head ≡ []) × (old.due ≡ new.due) × (b.ahead ≡ a.ahead)
   pub asks : Asks 16 a b
 
--- of each source
+-- of every source
 pub record BeginsPlain (old new : Held) : Type 0 where
   pub empty : new.taken ≡ []
   pub begun : old.due ≡ 0 → (head : List ℕ) × Grew old.taken head × (said head ≡ said-is.Skip new.due) × (frame_need head ≡ length head)

@@ -1,10 +1,10 @@
--- What the header of a unidirectional stream says (RFC 9114, section 6.2).
+-- The content of the header of a unidirectional stream (RFC 9114, section 6.2).
 use Rattle.std.specs.Prelude.{◌≡◌, ℕ, Option, Some, None, IsSome, ◌↔◌}
 use Rattle.wtp_wire.specs.declared.stream_header.StreamKind.{StreamKind}
 use Rattle.wtp_wire.specs.declared.stream_header.StreamKind.TheVariants.{Control, QPackEncoder, QPackDecoder, WebTransport, Exercise}
 use Rattle.wtp_wire.specs.StreamKind.{IsKnownStream}
 
--- a header: its kind; the session that WebTransport's names; the type number of an exercise stream
+-- a header: its kind; the session of a WebTransport header; the type of an exercise stream
 pub data Header : Type 0 where
   ControlHeader : Header
   EncoderHeader : Header
@@ -32,7 +32,7 @@ abbrev pub session_header : Option ℕ → Header
 session_header (Some id) = WebTransportHeader id
 session_header None = WebTransportHeader 0
 
--- what the fields say
+-- the header given by the fields
 abbrev pub header : StreamKind → Option ℕ → Header
 header Control session = ControlHeader
 header QPackEncoder session = EncoderHeader
@@ -40,7 +40,7 @@ header QPackDecoder session = DecoderHeader
 header WebTransport session = session_header session
 header (Exercise number) session = ExerciseHeader number
 
--- the fields fit each other: a session stands with WebTransport's kind alone
+-- the fields are consistent: there is a session with the WebTransport kind only
 pub record IsProperHeader (kind : StreamKind) (session : Option ℕ) : Type 0 where
   pub known : IsKnownStream kind
   pub opens : IsSome session ↔ (kind ≡ WebTransport)

@@ -1,4 +1,4 @@
--- The header at the front of a unidirectional stream's bytes (RFC 9114, section 6.2).
+-- The header at the start of a unidirectional stream (RFC 9114, section 6.2).
 use Rattle.std.specs.Prelude.{◌≡◌, ◌≢◌, ℕ, ◌%◌, List, ◌++◌, Option, Some, None, ◌==◌, if◌then◌else◌}
 use Rattle.wtp_core.specs.Varint.{Spells, number_at}
 use Rattle.wtp_wire.specs.declared.stream_header.StreamKind.{StreamKind}
@@ -8,7 +8,7 @@ use Rattle.wtp_wire.specs.Front.{Spelled}
 use Rattle.wtp_wire.specs.StreamKind.{IsStreamKind, stream_kind_of}
 use Rattle.wtp_wire.specs.Header.{Header, ControlHeader, EncoderHeader, DecoderHeader, WebTransportHeader, ExerciseHeader}
 
--- What stands at the front, and the bytes behind it. Where it is Short, more bytes have to come.
+-- What the bytes start with, and the bytes after it. Short means that more bytes have to come.
 pub data HeaderFront : Type 0 where
   Headed : Header → List ℕ → HeaderFront
   Unknown : List ℕ → HeaderFront
@@ -17,7 +17,7 @@ pub data HeaderFront : Type 0 where
 
 -- ---- the wire grammar
 
--- s is this header: a type number, and behind WebTransport's a session's number
+-- s is this header: a type, followed by a session ID after the WebTransport type
 abbrev pub IsHeader : Header → List ℕ → Type 0
 IsHeader ControlHeader s = Spells 0x00 s
 IsHeader EncoderHeader s = Spells 0x02 s
@@ -25,22 +25,22 @@ IsHeader DecoderHeader s = Spells 0x03 s
 IsHeader (WebTransportHeader id) s = Spelled 0x54 id s × (id % 4 ≡ 0)
 IsHeader (ExerciseHeader number) s = Spells number s × IsExercise number
 
--- s is a type number that is no kind (RFC 9114, section 6.2: the stream is to be ignored or refused)
+-- s is an unknown type (RFC 9114, section 6.2: the stream has to be ignored or refused)
 abbrev pub IsUnknownHeader : List ℕ → Type 0
 IsUnknownHeader s = (id : ℕ) × ((kind : StreamKind) → IsStreamKind kind id → ⊥) × Spells id s
 
--- s is WebTransport's type number and a number that is no session's
+-- s is the WebTransport type and an invalid session ID
 abbrev pub IsBadHeader : List ℕ → Type 0
 IsBadHeader s = (id : ℕ) × Spelled 0x54 id s × (id % 4 ≢ 0)
 
--- the stream's bytes begin as this case says
+-- the stream's bytes start with this case
 abbrev pub StreamBegins : List ℕ → HeaderFront → Type 0
 StreamBegins bytes (Headed h rest) = (s : List ℕ) × IsHeader h s × (bytes ≡ s ++ rest)
 StreamBegins bytes (Unknown rest) = (s : List ℕ) × IsUnknownHeader s × (bytes ≡ s ++ rest)
 StreamBegins bytes (BadId rest) = (s : List ℕ) × IsBadHeader s × (bytes ≡ s ++ rest)
 StreamBegins bytes Short = ⊥
 
--- the case, where more bytes follow
+-- the case, if more bytes follow
 abbrev pub header_extended : HeaderFront → List ℕ → HeaderFront
 header_extended (Headed h rest) more = Headed h (rest ++ more)
 header_extended (Unknown rest) more = Unknown (rest ++ more)
@@ -53,11 +53,11 @@ abbrev pub or_short : {A : Type 0} → Option A → (A → HeaderFront) → Head
 or_short None next = Short
 or_short (Some x) next = next x
 
--- behind the type number of WebTransport
+-- after the WebTransport type
 unfoldable pub session_header_front : List ℕ → HeaderFront
 session_header_front bytes = or_short (number_at bytes) (λ id. if id.0 % 4 == 0 then Headed (WebTransportHeader id.0) id.1 else BadId id.1)
 
--- behind the type number of a kind
+-- after the type of a kind
 abbrev pub kind_header_front : StreamKind → List ℕ → HeaderFront
 kind_header_front Control bytes = Headed ControlHeader bytes
 kind_header_front QPackEncoder bytes = Headed EncoderHeader bytes
@@ -69,6 +69,6 @@ abbrev pub typed_header_front : Option StreamKind → List ℕ → HeaderFront
 typed_header_front None bytes = Unknown bytes
 typed_header_front (Some kind) bytes = kind_header_front kind bytes
 
--- the case of the bytes
+-- the header of the bytes, or the case in its place
 unfoldable pub header_front : List ℕ → HeaderFront
 header_front bytes = or_short (number_at bytes) (λ id. typed_header_front (stream_kind_of id.0) id.1)

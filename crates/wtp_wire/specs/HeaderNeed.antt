@@ -1,4 +1,4 @@
--- How many bytes a stream header has, as far as the bytes held tell.
+-- The size of a stream header, as far as the bytes held determine it.
 use Rattle.std.proofs.Common.{◌≡◌, ℕ, ◌+◌, ◌≤◌, List, ◌++◌, Option, Some, None, refl, arith}
 use Rattle.wtp_core.specs.Varint.{number_at}
 use Rattle.wtp_core.specs.VarintNeed.{varint_need, varint_need_range, varint_need_grows}
@@ -7,7 +7,7 @@ use Rattle.wtp_wire.specs.declared.stream_header.StreamKind.{StreamKind}
 use Rattle.wtp_wire.specs.declared.stream_header.StreamKind.TheVariants.{Control, QPackEncoder, QPackDecoder, WebTransport, Exercise}
 use Rattle.wtp_wire.specs.StreamKind.{stream_kind_of}
 
--- how many bytes there have to be, at least, behind a kind's type number, or that of none
+-- the least number of bytes after the type of this kind, or after an unknown type
 abbrev pub second_need : Option StreamKind → List ℕ → ℕ
 second_need None rest = 0
 second_need (Some Control) rest = 0
@@ -20,11 +20,11 @@ abbrev pub need_behind : Option (ℕ × List ℕ) → ℕ
 need_behind None = 0
 need_behind (Some x) = second_need (stream_kind_of x.0) x.1
 
--- how many bytes a header has, at least, that begins with these
+-- the least size of a header that starts with these bytes
 unfoldable pub header_need : List ℕ → ℕ
 header_need bytes = varint_need bytes + need_behind (number_at bytes)
 
--- ---- what readers on from these bytes rely on
+-- ---- what readers that continue from these bytes rely on
 
 pub header_need_is : (h : List ℕ) → header_need h ≡ varint_need h + need_behind (number_at h)
 unfolding header_need

@@ -15,12 +15,12 @@ use Rattle.wtp_wire.specs.HeaderFront.{HeaderFront, Headed, Unknown, BadId, Shor
 
 -- In all of these, old and new are the bytes that the reading holds before and after one poll.
 
--- this case stands in front, all is taken up to its end, and nothing is held
+-- the bytes start with this case, all is taken up to its end, and nothing is held
 pub record HeaderDecided (old new : List ℕ) (a b : Source) (case : List ℕ → HeaderFront) : Type 0 where
   pub front : header_front (old ++ a.ahead) ≡ case b.ahead
   pub empty : new ≡ []
 
--- what one poll did to a source that tells
+-- what one poll did to a source with a model
 abbrev pub HeaderPolled : Polled (Result Header IoReadError) → List ℕ → List ℕ → Source → Source → Type 0
 HeaderPolled (Ready (Ok h)) old new a b = HeaderDecided old new a b (Headed h)
 HeaderPolled (Ready (Err (Parse UnknownStream))) old new a b = HeaderDecided old new a b Unknown
@@ -30,13 +30,13 @@ HeaderPolled Pending old new a b = Waits old new a b
 HeaderPolled Again old new a b = ⊥
 HeaderPolled NoMemory old new a b = ⊥
 
--- bytes were given with which those held are this case, and nothing is held
+-- bytes were given that, after those held, make this case, and nothing is held
 pub record HeaderAnswered (old new : List ℕ) (case : List ℕ → HeaderFront) : Type 0 where
   pub given : List ℕ
   pub front : header_front (old ++ given) ≡ case []
   pub empty : new ≡ []
 
--- More bytes were given behind those held, and none was lost. This holds of each source, also of one that tells nothing.
+-- More bytes were given after those held, and none was lost. This holds of every source, also of one without a model.
 abbrev pub HeaderGiven : Polled (Result Header IoReadError) → List ℕ → List ℕ → Type 0
 HeaderGiven (Ready (Ok h)) old new = HeaderAnswered old new (Headed h)
 HeaderGiven (Ready (Err (Parse UnknownStream))) old new = HeaderAnswered old new Unknown
@@ -48,14 +48,14 @@ HeaderGiven NoMemory old new = ⊥
 
 -- ---- its parts
 
--- what a reading answers that halted with so many bytes taken
+-- the result of a poll whose reading stopped after this many bytes were taken
 abbrev pub halted_header : {T : Type 0} → Halt → ℕ → Polled (Result T IoReadError)
 halted_header halt.NotReady taken = Pending
 halted_header halt.Fin taken = Ready (Err (IO (stop taken AtEnd)))
 halted_header halt.Reset taken = Ready (Err (IO (stop taken AtReset)))
 halted_header halt.NotConnected taken = Ready (Err (IO (stop taken AtDisconnection)))
 
--- what whole bytes are
+-- the result of complete bytes
 abbrev pub IsWhole : Result Header IoReadError → List ℕ → Type 0
 IsWhole (Ok h) bytes = header_front bytes ≡ Headed h []
 IsWhole (Err (Parse UnknownStream)) bytes = header_front bytes ≡ Unknown []

@@ -1,18 +1,18 @@
--- What reading a stream header answers, and what it leaves.
+-- The result of reading a stream header, and the bytes it leaves.
 use Rattle.std.specs.Prelude.{◌≡◌, List, ℕ, Option, Some, None, Result, Ok, Err}
 use Rattle.wtp_wire.specs.declared.stream_header.ParseError.{ParseError}
 use Rattle.wtp_wire.specs.declared.stream_header.ParseError.TheVariants.{UnknownStream, InvalidSessionId}
 use Rattle.wtp_wire.specs.Header.{Header}
 use Rattle.wtp_wire.specs.HeaderFront.{HeaderFront, Headed, Unknown, BadId, Short}
 
--- The answer in this case; where the bytes are not too few, new is what stands behind those that decided.
+-- The result in this case; if the bytes are not too few, new is what follows those that decided.
 abbrev pub AnswersHeader : HeaderFront → Result (Option Header) ParseError → List ℕ → Type 0
 AnswersHeader front (Ok (Some h)) new = front ≡ Headed h new
 AnswersHeader front (Ok None) new = front ≡ Short
 AnswersHeader front (Err UnknownStream) new = front ≡ Unknown new
 AnswersHeader front (Err InvalidSessionId) new = front ≡ BadId new
 
--- The same of a reader of the old bytes that moves past a header, and nowhere else.
+-- The same for a reader of the old bytes that moves past a header, and otherwise does not move.
 abbrev pub AnswersHeaderWhole : HeaderFront → Result (Option Header) ParseError → List ℕ → List ℕ → Type 0
 AnswersHeaderWhole front (Ok (Some h)) old new = front ≡ Headed h new
 AnswersHeaderWhole front (Ok None) old new = (front ≡ Short) × (new ≡ old)

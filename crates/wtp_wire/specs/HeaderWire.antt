@@ -1,11 +1,11 @@
--- The bytes of a stream header that is written: each number in its shortest spelling (RFC 9114, section 6.2).
+-- The bytes of a stream header that is written: each number in its shortest encoding (RFC 9114, section 6.2).
 use Rattle.std.specs.Prelude.{◌≡◌, ℕ, ◌%◌, ◌^◌, ◌<◌, List, [], ◌∷◌, IsTrue}
 use Rattle.wtp_core.specs.Varint.{shortest}
 use Rattle.wtp_core.specs.Writer.{joined}
 use Rattle.wtp_wire.specs.Kind.{is_exercise}
 use Rattle.wtp_wire.specs.Header.{Header, ControlHeader, EncoderHeader, DecoderHeader, WebTransportHeader, ExerciseHeader}
 
--- the parts of a header, in their order
+-- the parts of a header, in order
 abbrev pub header_parts : Header → List (List ℕ)
 header_parts ControlHeader = shortest 0x00 ∷ []
 header_parts EncoderHeader = shortest 0x02 ∷ []
@@ -17,7 +17,7 @@ header_parts (ExerciseHeader number) = shortest number ∷ []
 abbrev pub header_wire : Header → List ℕ
 header_wire h = joined (header_parts h)
 
--- h's numbers are those of its kind
+-- the numbers of h are those of its kind
 abbrev pub IsReadableHeader : Header → Type 0
 IsReadableHeader ControlHeader = Unit {0}
 IsReadableHeader EncoderHeader = Unit {0}

@@ -7,35 +7,36 @@ use Rattle.wtp_wire.specs.declared.frame.FrameKind.TheVariants.{WebTransport}
 use Rattle.wtp_wire.specs.Kind.{IsKind}
 use Rattle.wtp_wire.specs.Front.{Front, Unknown, Short, Spelled, or_short, front}
 
--- the bytes held; or in their place how many payload bytes of an unknown frame are still due
+-- the bytes held; or in their place the number of payload bytes of an unknown frame still to be skipped
 pub record Held : Type 0 where
   pub taken : List ℕ
   pub due : ℕ
 
--- nothing is held, and none are due
+-- nothing is held, and no bytes are still to be skipped
 abbrev pub new_held : Held
 new_held = record { taken = []; due = 0 }
 
--- behind the two numbers of an unknown frame, where n bytes of its payload are due
+-- after the first two numbers of an unknown frame, if n bytes of its payload are still to be skipped
 abbrev pub skip_front : ℕ → List ℕ → Front
 skip_front n bytes = or_short (bytes_at n bytes) (λ payload. Unknown payload.1)
 
--- the case of what is held and of the bytes ahead: the front of both; or where bytes are due, an unknown frame once all of those are there
+-- the case of the bytes held and ahead: the first frame of both; or if bytes are still to be skipped, an unknown frame
+-- once all of those are there
 unfoldable pub front_held : Held → List ℕ → Front
 front_held h ahead = if h.due == 0 then front (h.taken ++ ahead) else skip_front h.due ahead
 
--- what is held between polls: no whole frame or fault; and no byte where bytes are due
+-- what is held between polls: no complete frame or fault; and no byte if bytes are still to be skipped
 pub record IsUnfinished (h : Held) : Type 0 where
   pub short : front_held h [] ≡ Short
   pub alone : 0 < h.due → h.taken ≡ []
 
--- s is the type number and the length of an unknown frame whose payload has n bytes
+-- s is the type and the length of an unknown frame whose payload has n bytes
 pub record IsUnknownHead (n : ℕ) (s : List ℕ) : Type 0 where
   pub id : ℕ
   pub no_kind : (kind : FrameKind) → IsKind kind id → ⊥
   pub spelled : Spelled id n s
 
--- s is the type number and the length of a frame of another kind than WebTransport whose payload of n bytes may be read
+-- s is the type and the length of a frame of another kind than WebTransport whose payload of n bytes may be read
 pub record IsPayloadHead (kind : FrameKind) (n : ℕ) (s : List ℕ) : Type 0 where
   pub id : ℕ
   pub is_kind : IsKind kind id
@@ -45,8 +46,8 @@ pub record IsPayloadHead (kind : FrameKind) (n : ℕ) (s : List ℕ) : Type 0 wh
 
 -- ---- what one poll did; old and new are what is held before and after
 
--- The payload bytes `payload` of an unknown frame were passed, and behind them new.due more are due.
--- `head` is what was held and read in front of them: nothing, where bytes were due before.
+-- The payload bytes `payload` of an unknown frame were skipped, and new.due more after them are still to be skipped.
+-- `head` is what was held and read before them: nothing, if bytes were still to be skipped before.
 pub record Skips (old new : Held) (a b : Source) : Type 0 where
   pub head : List ℕ
   pub payload : List ℕ
@@ -56,7 +57,8 @@ pub record Skips (old new : Held) (a b : Source) : Type 0 where
   pub most : length payload ≤ 4096
   pub empty : new.taken ≡ []
 
--- Nothing was lost: what is held and ahead is the same, but for fewer than 4096 passed bytes of an unknown frame where some are still due.
+-- Nothing was lost: what is held and ahead is the same, except for fewer than 4096 skipped bytes of an unknown frame of
+-- which some are still to be skipped.
 pub record Leaves (old new : Held) (a b : Source) : Type 0 where
   pub same : front_held new b.ahead ≡ front_held old a.ahead
   pub kept : new.due ≡ 0 → (old.due ≡ 0) × (new.taken ++ b.ahead ≡ old.taken ++ a.ahead)

@@ -1,11 +1,11 @@
--- What reading a frame answers, and what it leaves.
+-- The result of reading a frame, and the bytes it leaves.
 use Rattle.std.specs.Prelude.{◌≡◌, List, ℕ, Option, Some, None, Result, Ok, Err}
 use Rattle.wtp_wire.specs.declared.frame.ParseError.{ParseError}
 use Rattle.wtp_wire.specs.declared.frame.ParseError.TheVariants.{UnknownFrame, InvalidSessionId, PayloadTooBig}
 use Rattle.wtp_wire.specs.Content.{Content}
 use Rattle.wtp_wire.specs.Front.{Front, Framed, Unknown, BadId, TooBig, Short}
 
--- The answer in this case; where the bytes are not too few, new is what stands behind those that decided.
+-- The result in this case; if the bytes are not too few, new is what follows those that decided.
 abbrev pub Answers : Front → Result (Option Content) ParseError → List ℕ → Type 0
 Answers front (Ok (Some f)) new = front ≡ Framed f new
 Answers front (Ok None) new = front ≡ Short
@@ -13,7 +13,7 @@ Answers front (Err UnknownFrame) new = front ≡ Unknown new
 Answers front (Err InvalidSessionId) new = front ≡ BadId new
 Answers front (Err PayloadTooBig) new = front ≡ TooBig new
 
--- The same of a reader of the old bytes that moves past a frame, and nowhere else.
+-- The same for a reader of the old bytes that moves past a frame, and otherwise does not move.
 abbrev pub AnswersWhole : Front → Result (Option Content) ParseError → List ℕ → List ℕ → Type 0
 AnswersWhole front (Ok (Some f)) old new = front ≡ Framed f new
 AnswersWhole front (Ok None) old new = (front ≡ Short) × (new ≡ old)

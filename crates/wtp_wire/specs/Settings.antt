@@ -15,7 +15,7 @@ use Rattle.wtp_wire.specs.declared.settings.SettingId.{SettingId}
 use Rattle.wtp_wire.specs.Front.{Spelled}
 use Rattle.wtp_wire.specs.SettingId.{IsSetting, IsReserved, is_setting, is_reserved, known_number_of}
 
--- ---- settings are numbers and their values, by rising number
+-- ---- settings are numbers and their values, in ascending order of the numbers
 
 pub record IsSettings (m : List (ℕ × ℕ)) : Type 0 where
   pub rising : IsStrictlySortedBy nat_cmp (keys_of m)
@@ -35,46 +35,46 @@ value_at_some m (Some id) = value_at m id
 abbrev pub value_of : List (ℕ × ℕ) → SettingId → Option ℕ
 value_of m setting = value_at_some m (known_number_of setting)
 
--- m with this value of a number: in place of the one before, or else at the number's place
+-- m with this value of a number: in place of the previous one, or else at the position of the number
 abbrev pub with_setting : List (ℕ × ℕ) → ℕ → ℕ → List (ℕ × ℕ)
 with_setting m id value = insert_entry nat_cmp m id value
 
 -- ---- the payload
 
--- s is these pairs one after the other: of each a spelling of its identifier, and then one of its value
+-- s is these pairs one after the other: of each an encoding of its identifier, and then one of its value
 abbrev pub ArePairs : List (ℕ × ℕ) → List ℕ → Type 0
 ArePairs [] s = s ≡ []
 ArePairs (p ∷ ps) s = (first rest : List ℕ) × Spelled p.0 p.1 first × ArePairs ps rest × (s ≡ first ++ rest)
 
--- no identifier is one of HTTP/2's, and none that is kept occurs twice
+-- no identifier is one of HTTP/2's, and none that is stored occurs twice
 abbrev pub AreFaultless : List (ℕ × ℕ) → Type 0
 AreFaultless [] = Unit {0}
 AreFaultless (p ∷ ps) = (¬ IsReserved p.0) × (IsSetting p.0 → ¬ Contains (keys_of ps) p.0) × AreFaultless ps
 
--- m are the settings among the pairs, by rising number
+-- m are the settings among the pairs, in ascending order of the numbers
 pub record AreKept (m ps : List (ℕ × ℕ)) : Type 0 where
   pub rising : IsStrictlySortedBy nat_cmp (keys_of m)
   pub same : (id value : ℕ) → (value_at m id ≡ Some value) ↔ (IsSetting id × Contains ps (id, value))
 
--- the payload says these settings
+-- the payload contains these settings
 abbrev pub IsPayload : List (ℕ × ℕ) → List ℕ → Type 0
 IsPayload m s = (ps : List (ℕ × ℕ)) × ArePairs ps s × AreFaultless ps × AreKept m ps
 
--- behind these pairs, the rest begins with an identifier or a value that is cut
+-- after these pairs, the rest starts with an identifier or a value that is truncated
 abbrev pub IsCut : List ℕ → Type 0
 IsCut rest = (rest ≢ []) × ((id value : ℕ) (s more : List ℕ) → Spelled id value s → rest ≡ s ++ more → ⊥)
 
--- behind these pairs, the rest begins with a pair that must not stand there
+-- after these pairs, the rest starts with a pair that is not permitted there
 abbrev pub IsRefused : List (ℕ × ℕ) → List ℕ → Type 0
 IsRefused ps rest = (id value : ℕ) × (s more : List ℕ) × Spelled id value s × (rest ≡ s ++ more) × (IsReserved id ⊎ (IsSetting id × Contains (keys_of ps) id))
 
--- the first fault of the payload, in the order of its bytes
+-- the first fault of the payload, in byte order
 abbrev pub IsFault : ErrorCode → List ℕ → Type 0
 IsFault code s = (ps : List (ℕ × ℕ)) × (front rest : List ℕ) × ArePairs ps front × AreFaultless ps × (s ≡ front ++ rest) × (((code ≡ Frame) × IsCut rest) ⊎ ((code ≡ Settings) × IsRefused ps rest))
 
 -- ---- the same, computed
 
--- the identifier and the value at the front of the bytes, and the bytes behind them
+-- the identifier and the value at the start of the bytes, and the bytes after them
 unfoldable pub pair_at : List ℕ → Option ((ℕ × ℕ) × List ℕ)
 pair_at bytes = option_and_then (λ id. option_map (λ value. ((id.0, value.0), value.1)) (number_at id.1)) (number_at bytes)
 
@@ -90,25 +90,25 @@ abbrev pub or_fault : {A B : Type 0} → Result A ErrorCode → (A → Result B 
 or_fault (Err code) next = Err code
 or_fault (Ok x) next = next x
 
--- m and the pairs that the bytes spell, at most n of them
+-- m and the pairs that the bytes encode, at most n of them
 unfoldable pub settings_from : ℕ → List (ℕ × ℕ) → List ℕ → Result (List (ℕ × ℕ)) ErrorCode
 settings_from n m [] = Ok m
 settings_from zero m (b ∷ bs) = Err Frame
 settings_from (suc n) m (b ∷ bs) = or_cut (pair_at (b ∷ bs)) (λ p. or_fault (kept_with m p.0) (λ kept. settings_from n kept p.1))
 
--- the settings that the payload says, or its first fault
+-- the settings that the payload contains, or its first fault
 unfoldable pub settings_in : List ℕ → Result (List (ℕ × ℕ)) ErrorCode
 settings_in bytes = settings_from (length bytes) [] bytes
 
 -- ---- reading and writing
 
--- what keeping one more pair answers; memory may be wanted only for one that is kept
+-- the result of storing one more pair; allocation may fail only for one that is stored
 abbrev pub Keeps : List (ℕ × ℕ) → ℕ × ℕ → Result (Unit {0}) Refused → List (ℕ × ℕ) → Type 0
 Keeps old p (Ok u) new = kept_with old p ≡ Ok new
 Keeps old p (Err (Code code)) new = kept_with old p ≡ Err code
 Keeps old p (Err Memory) new = kept_with old p ≡ Ok (with_setting old p.0 p.1)
 
--- a front of the payload says settings, and not none
+-- a prefix of the payload contains settings, and at least one
 pub record StartsWithSettings (payload : List ℕ) : Type 0 where
   pub front : List ℕ
   pub rest : List ℕ
@@ -117,13 +117,14 @@ pub record StartsWithSettings (payload : List ℕ) : Type 0 where
   pub read : settings_in front ≡ Ok m
   pub some : m ≢ []
 
--- what reading the payload answers; memory is taken, and so may be wanted, only for a setting behind which there is no fault
+-- the result of reading the payload; memory is allocated only for a setting up to which there is no fault, so only then
+-- may allocation fail
 abbrev pub AnswersSettings : List ℕ → Result (List (ℕ × ℕ)) Refused → Type 0
 AnswersSettings payload (Ok m) = settings_in payload ≡ Ok m
 AnswersSettings payload (Err (Code code)) = settings_in payload ≡ Err code
 AnswersSettings payload (Err Memory) = StartsWithSettings payload
 
--- the parts of a payload that is written: of each setting its number and its value, in their shortest spellings
+-- the parts of a payload that is written: of each setting its number and its value, in their shortest encodings
 abbrev pub settings_parts : List (ℕ × ℕ) → List (List ℕ)
 settings_parts [] = []
 settings_parts (p ∷ ps) = shortest p.0 ∷ shortest p.1 ∷ settings_parts ps
@@ -132,7 +133,8 @@ settings_parts (p ∷ ps) = shortest p.0 ∷ shortest p.1 ∷ settings_parts ps
 abbrev pub settings_wire : List (ℕ × ℕ) → List ℕ
 settings_wire m = joined (settings_parts m)
 
--- the place behind those of the parts that fit it, one after the other, up to the first that does not
+-- the room after those of the parts that fit were written over it, one after the other, up to the first that does not
+-- fit
 abbrev pub overwritten : List (List ℕ) → List ℕ → List ℕ
 overwritten [] place = place
 overwritten (part ∷ parts) place = if nat_lt (length place) (length part) then place else part ++ overwritten parts (drop (length part) place)

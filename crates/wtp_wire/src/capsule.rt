@@ -1,4 +1,4 @@
-//! Capsules (RFC 9297, section 3.2), as they stand in the payload of a DATA frame.
+//! Capsules (RFC 9297, section 3.2), as the payload of a DATA frame contains them.
 ghost use Rattle.std.specs.Prelude.{◌≡◌};
 
 pub mod capsules;
@@ -9,17 +9,18 @@ use wtp_core::bytes::BytesReader;
 pub use wtp_core::numbers::capsule_types;
 use wtp_core::varint::VarInt;
 
-/// What kind of capsule it is.
+/// The kind of a capsule.
 #[derive(Clone, Copy, Debug, PartialEq, Eq)]
 pub enum CapsuleKind {
-    /// It closes its WebTransport session: type 0x2843 (draft-ietf-webtrans-http3-02, section 5).
+    /// The capsule closes its WebTransport session: type 0x2843 (draft-ietf-webtrans-http3-02,
+    /// section 5).
     CloseWebTransportSession,
 }
 
 impl CapsuleKind {
     ghost use Rattle.wtp_wire.specs.Capsule.{capsule_kind_of};
 
-    /// The kind of this type number, where it is known.
+    /// Returns the kind of this type, or `None` if the type is unknown.
     fn parse(id: VarInt) -> Option<Self>
         ensures { result ≡ capsule_kind_of id }
     {
@@ -51,8 +52,9 @@ impl<'a> Capsule<'a> {
     ghost use Rattle.wtp_wire.specs.Content.{kind_in, payload_in};
     ghost use Rattle.wtp_wire.specs.Capsule.{capsule_in};
 
-    /// The capsule at the front of a DATA frame's payload. `None` where no whole capsule of a
-    /// known kind stands there; what stands behind it is not looked at.
+    /// Returns the capsule at the start of a DATA frame's payload. Returns `None` if the payload
+    /// does not start with a complete capsule of a known kind. The bytes after the capsule are not
+    /// read.
     #[tactic(auto, unfolding(crate::specs::Capsule::capsule_in, crate::specs::Capsule::payload_behind))]
     pub fn with_frame(frame: &'a Frame<'_>) -> Option<Self>
         requires { kind_in frame.now ≡ FrameKind.Data }
@@ -65,14 +67,14 @@ impl<'a> Capsule<'a> {
         Some(Capsule { kind, payload })
     }
 
-    /// Its kind.
+    /// Returns the kind.
     pub fn kind(&self) -> CapsuleKind
         ensures { result ≡ self.now.0 }
     {
         self.kind
     }
 
-    /// Its payload.
+    /// Returns the payload.
     pub fn payload(&self) -> &[u8]
         ensures { result.now ≡ self.now.1 }
     {

@@ -24,7 +24,7 @@ impl<'a> Model for Datagram<'a> {
 }
 
 impl<'a> Datagram<'a> {
-    /// A datagram with this payload.
+    /// Creates a datagram with this payload.
     pub fn new(qstream_id: QStreamId, payload: &'a [u8]) -> Self
         ensures { result ≡ (qstream_id, payload.now) }
     {
@@ -34,8 +34,8 @@ impl<'a> Datagram<'a> {
         }
     }
 
-    /// Reads the payload of a QUIC datagram. `Datagram` where no number stands in front, or one of
-    /// 2^60 or more.
+    /// Reads the payload of a QUIC datagram. Returns `Datagram` if it does not start with a number,
+    /// or if that number is 2^60 or more.
     #[tactic(auto, unfolding(crate::specs::Datagram::datagram_in))]
     pub fn read(quic_datagram: &'a [u8]) -> Result<Self, ErrorCode>
         ensures { MatchResult result (λ d. datagram_in quic_datagram.now ≡ Some d) (λ e. (datagram_in quic_datagram.now ≡ None) × (e ≡ ErrorCode.Datagram)) }
@@ -50,8 +50,8 @@ impl<'a> Datagram<'a> {
         }
     }
 
-    /// Writes the datagram to the front of the buffer, and answers how many bytes it has.
-    /// `EndOfBuffer` where the buffer is shorter than that, and then nothing is written.
+    /// Writes the datagram to the start of the buffer, and returns its size in bytes. Returns
+    /// `EndOfBuffer` if the buffer is shorter than that; then nothing is written.
     #[tactic(auto, unfolding(crate::specs::Datagram::datagram_wire))]
     pub fn write(&self, buffer: &mut [u8]) -> Result<usize, EndOfBuffer>
         ensures room { IsOk result ↔ (length (datagram_wire self.now) ≤ length buffer.old) }
@@ -71,8 +71,8 @@ impl<'a> Datagram<'a> {
         Ok(writer.offset())
     }
 
-    /// How many bytes `write` writes: the quarter stream ID in its shortest encoding, and the
-    /// payload. The caller knows that they are fewer than 2^64.
+    /// Returns the number of bytes that `write` writes: the quarter stream ID in its shortest
+    /// encoding, and the payload. The caller guarantees that there are fewer than 2^64.
     #[tactic(auto, unfolding(crate::specs::Datagram::datagram_wire))]
     pub fn write_size(&self) -> usize
         requires { length (shortest self.now.0) + length self.now.1 < 2 ^ 64 }
@@ -81,7 +81,7 @@ impl<'a> Datagram<'a> {
         Self::header_size(self.qstream_id) + self.payload.len()
     }
 
-    /// How many bytes stand in front of the payload.
+    /// Returns the number of bytes before the payload.
     pub fn header_size(qstream_id: QStreamId) -> usize
         ensures size { result ≡ length (shortest qstream_id) }
         ensures most { result ≤ 8 }
@@ -89,14 +89,14 @@ impl<'a> Datagram<'a> {
         qstream_id.into_varint().size()
     }
 
-    /// Its session's quarter stream ID.
+    /// Returns the session's quarter stream ID.
     pub fn qstream_id(&self) -> QStreamId
         ensures { result ≡ self.now.0 }
     {
         self.qstream_id
     }
 
-    /// Its payload.
+    /// Returns the payload.
     pub fn payload(&self) -> &'a [u8]
         ensures { result.now ≡ self.now.1 }
     {

@@ -28,10 +28,10 @@ use wtp_core::ids::SessionId;
 pub use wtp_core::numbers::frame_kind_ids;
 use wtp_core::varint::VarInt;
 
-/// Why no frame can be read at the front of the bytes.
+/// The reason no frame can be read at the start of the input.
 #[derive(Debug, Drop, PartialEq, Eq, thiserror::Error)]
 pub enum ParseError {
-    /// A whole frame of a type that is not known: it is to be ignored (RFC 9114, section 9).
+    /// A complete frame of an unknown type, which has to be ignored (RFC 9114, section 9).
     #[error("cannot parse HTTP3 frame as ID is unknown")]
     UnknownFrame,
     /// A WebTransport frame with an invalid session ID (draft-ietf-webtrans-http3-02, section 4.2).
@@ -42,18 +42,18 @@ pub enum ParseError {
     PayloadTooBig,
 }
 
-/// Why no frame was made.
+/// The reason no frame was created.
 #[derive(Debug, Drop, PartialEq, Eq, thiserror::Error)]
 pub enum GenerateError {
     /// The payload would have more than 2^62 - 1 bytes.
     #[error("payload too long")]
     PayloadTooLong,
-    /// No memory.
+    /// Memory allocation failed.
     #[error("no memory")]
     Memory,
 }
 
-/// What kind of frame it is.
+/// The kind of a frame.
 #[derive(Clone, Copy, Debug, PartialEq, Eq)]
 pub enum FrameKind {
     /// DATA (RFC 9114, section 7.2.1).
@@ -62,24 +62,25 @@ pub enum FrameKind {
     Headers,
     /// SETTINGS (RFC 9114, section 7.2.4).
     Settings,
-    /// The frame that makes its stream one of a WebTransport session: type 0x41
+    /// The frame that associates its stream with a WebTransport session: type 0x41
     /// (draft-ietf-webtrans-http3-02, section 4.2).
     WebTransport,
-    /// A type that is reserved to exercise the rule on unknown types (RFC 9114, section 7.2.8).
+    /// A type that is reserved to exercise the requirement to ignore unknown types (RFC 9114,
+    /// section 7.2.8).
     Exercise(VarInt),
 }
 
 impl FrameKind {
     ghost use Rattle.wtp_wire.specs.Kind.{is_exercise, kind_of, number_of, IsKnown};
 
-    /// Whether the type number is one of those reserved for exercise, `0x21 + 0x1f * n`.
+    /// Returns whether the type is one of those reserved for exercise, `0x21 + 0x1f * n`.
     pub fn is_id_exercise(id: VarInt) -> bool
         ensures { result ≡ is_exercise id }
     {
         id.into_inner() >= 0x21 && (id.into_inner() - 0x21) % 0x1f == 0
     }
 
-    /// The type number.
+    /// Returns the type.
     pub fn id(self) -> VarInt
         ensures { result ≡ number_of self }
     {
@@ -92,7 +93,7 @@ impl FrameKind {
         }
     }
 
-    /// The kind of this type number, where it is known.
+    /// Returns the kind of this type, or `None` if the type is unknown.
     #[inline(always)]
     #[tactic(auto, unfolding(crate::specs::Kind::kind_of))]
     pub fn parse(id: VarInt) -> Option<Self>
@@ -110,7 +111,7 @@ impl FrameKind {
     }
 }
 
-/// A frame, whose payload is borrowed or owned; a short one may be kept in the frame itself.
+/// A frame whose payload is borrowed or owned. A short payload may be stored in the frame itself.
 #[derive(Drop)]
 pub struct Frame<'a> {
     kind: KindNumber,
@@ -131,7 +132,7 @@ impl<'a> Model for Frame<'a> {
     ghost invariant = { λ f. IsProper f.kind (payload_of f.body) (session_of f.body) };
 }
 
-// The fields of the Rust crate's frame, however this one keeps them.
+// The fields of the Rust crate's frame, however this one stores them.
 impl fmt::Debug for Frame<'_> {
     fn fmt<W: fmt::Write>(&self, f: &mut fmt::Formatter<W>) -> fmt::Result {
         f.debug_struct("Frame")
@@ -153,8 +154,8 @@ impl<'a> Frame<'a> {
     // The longest payload that is read, in bytes.
     const MAX_PARSE_PAYLOAD_ALLOWED: u64 = 4096;
 
-    /// A HEADERS frame with this payload, an encoded field section (RFC 9114, section 7.2.2). The payload has
-    /// fewer than 2^62 bytes.
+    /// Creates a HEADERS frame with this payload, an encoded field section (RFC 9114, section
+    /// 7.2.2). The payload has fewer than 2^62 bytes.
     pub fn new_headers(payload: CowSlice<'a, u8>) -> Self
         requires { length (cow_slice_items payload) < 2 ^ 62 }
         ensures { result ≡ HeadersOf (cow_slice_items payload.entry) }
@@ -165,8 +166,8 @@ impl<'a> Frame<'a> {
         }
     }
 
-    /// A SETTINGS frame with this payload (RFC 9114, section 7.2.4). The payload has
-    /// fewer than 2^62 bytes.
+    /// Creates a SETTINGS frame with this payload (RFC 9114, section 7.2.4). The payload has fewer
+    /// than 2^62 bytes.
     pub fn new_settings(payload: CowSlice<'a, u8>) -> Self
         requires { length (cow_slice_items payload) < 2 ^ 62 }
         ensures { result ≡ SettingsOf (cow_slice_items payload.entry) }
@@ -177,8 +178,8 @@ impl<'a> Frame<'a> {
         }
     }
 
-    /// The frame that makes its stream one of this session (draft-ietf-webtrans-http3-02, section
-    /// 4.2).
+    /// Creates the frame that associates its stream with this session
+    /// (draft-ietf-webtrans-http3-02, section 4.2).
     pub fn new_webtransport(session_id: SessionId) -> Self
         ensures { result ≡ WebTransportOf session_id }
     {
@@ -188,8 +189,8 @@ impl<'a> Frame<'a> {
         }
     }
 
-    /// A frame of a type that is reserved for exercise (see `FrameKind::is_id_exercise`; RFC 9114,
-    /// section 7.2.8). The payload has fewer than 2^62 bytes.
+    /// Creates a frame of a type that is reserved for exercise (see `FrameKind::is_id_exercise`;
+    /// RFC 9114, section 7.2.8). The payload has fewer than 2^62 bytes.
     pub fn new_exercise(id: VarInt, payload: CowSlice<'a, u8>) -> Self
         requires reserved { IsTrue (is_exercise id) }
         requires fits { length (cow_slice_items payload) < 2 ^ 62 }
@@ -201,8 +202,8 @@ impl<'a> Frame<'a> {
         }
     }
 
-    /// A DATA frame with this payload (RFC 9114, section 7.2.1). The payload has
-    /// fewer than 2^62 bytes.
+    /// Creates a DATA frame with this payload (RFC 9114, section 7.2.1). The payload has fewer than
+    /// 2^62 bytes.
     pub fn new_data(payload: CowSlice<'a, u8>) -> Self
         requires { length (cow_slice_items payload) < 2 ^ 62 }
         ensures { result ≡ DataOf (cow_slice_items payload.entry) }
@@ -213,7 +214,7 @@ impl<'a> Frame<'a> {
         }
     }
 
-    /// Its kind.
+    /// Returns the kind.
     #[tactic(auto, using(crate::proofs::ContentLemmas::fields))]
     pub fn kind(&self) -> FrameKind
         ensures kind { result ≡ kind_in self.now }
@@ -222,7 +223,7 @@ impl<'a> Frame<'a> {
         self.kind.kind()
     }
 
-    // Its kind, as it is kept.
+    // Returns the kind as it is stored.
     #[inline(always)]
     #[tactic(auto, using(crate::proofs::ContentLemmas::fields))]
     fn kind_number(&self) -> KindNumber
@@ -231,7 +232,7 @@ impl<'a> Frame<'a> {
         self.kind
     }
 
-    /// Its payload, which is empty for WebTransport.
+    /// Returns the payload, which is empty for a WebTransport frame.
     #[tactic(auto, using(crate::proofs::ContentLemmas::fields))]
     pub fn payload(&self) -> &[u8]
         ensures payload { result.now ≡ payload_in self.now }
@@ -240,7 +241,7 @@ impl<'a> Frame<'a> {
         self.body.payload()
     }
 
-    /// Its session, where its kind is WebTransport.
+    /// Returns the session, if the kind is WebTransport.
     #[tactic(auto, using(crate::proofs::ContentLemmas::fields))]
     pub fn session_id(&self) -> Option<SessionId>
         ensures { result ≡ session_in self.now }
@@ -248,7 +249,7 @@ impl<'a> Frame<'a> {
         self.body.session()
     }
 
-    /// The session behind WebTransport's type number.
+    /// Reads the session ID after the WebTransport type.
     #[inline(always)]
     #[tactic(auto, using(wtp_core::proofs::RestLemmas::rests), unfolding(crate::specs::Front::session_front))]
     fn read_session<R: BytesReader<'a>>(reader: &mut R) -> Result<Option<Self>, ParseError>
@@ -265,7 +266,7 @@ impl<'a> Frame<'a> {
         }
     }
 
-    /// The length and the payload behind the type number of another kind.
+    /// Reads the length and the payload after the type of another kind.
     #[inline(always)]
     #[tactic(auto, using(wtp_core::proofs::RestLemmas::rests), unfolding(crate::specs::Front::plain_front))]
     fn read_plain<R: BytesReader<'a>>(
@@ -293,7 +294,7 @@ impl<'a> Frame<'a> {
         }))
     }
 
-    /// The length and the payload behind a type number that is no kind.
+    /// Reads the length and the payload after an unknown type.
     #[inline(always)]
     #[tactic(auto, using(wtp_core::proofs::RestLemmas::rests), unfolding(crate::specs::Front::unknown_front))]
     fn read_unknown<R: BytesReader<'a>>(reader: &mut R) -> Result<Option<Self>, ParseError>
@@ -310,12 +311,15 @@ impl<'a> Frame<'a> {
         }
     }
 
-    /// Reads the frame at the front, and takes no memory.
+    /// Reads the first frame of the input. It does not allocate.
     ///
-    /// `None` where the bytes are too few; whole numbers at the front may have been read then.
-    /// `UnknownFrame` behind a whole frame of a type that is not known; `InvalidSessionId` behind
-    /// WebTransport's type and a number that is no session's; `PayloadTooBig` behind another type
-    /// and a length above 4096, whose payload is not looked for.
+    /// Returns `None` if there are too few bytes; complete numbers at the start may have been read
+    /// then. Errors:
+    ///
+    /// - `UnknownFrame`: a complete frame of an unknown type was read.
+    /// - `InvalidSessionId`: the WebTransport type and an invalid session ID were read.
+    /// - `PayloadTooBig`: another type and a length above 4096 were read; the payload is not looked
+    ///   for.
     #[inline(always)]
     #[tactic(auto, using(wtp_core::proofs::RestLemmas::rests), unfolding(crate::specs::Front::front))]
     pub fn read<R: BytesReader<'a>>(reader: &mut R) -> Result<Option<Self>, ParseError>
@@ -335,8 +339,8 @@ impl<'a> Frame<'a> {
         }
     }
 
-    /// Reads the frame at the front as `read` does, and moves past it; where it answers `None` or
-    /// an error the reader stays where it is.
+    /// Reads the first frame of the input as `read` does, and moves past it. The reader does not
+    /// move if this returns `None` or an error.
     #[inline(always)]
     pub fn read_from_buffer(reader: &mut BufferReader<'a>) -> Result<Option<Self>, ParseError>
         ensures answer { AnswersWhole (front (left_of reader.old)) result (left_of reader.old) (left_of reader.new) }
@@ -350,10 +354,10 @@ impl<'a> Frame<'a> {
         Ok(Some(frame))
     }
 
-    /// Writes the frame, each number in its shortest spelling.
+    /// Writes the frame, each number in its shortest encoding.
     ///
-    /// On an error the writer holds those of the parts type number, length or session, and payload
-    /// that came before the refused one.
+    /// The parts are the type, the length or session ID, and the payload. On an error the writer
+    /// holds the parts before the one that it refused.
     pub fn write<W: BytesWriter>(&self, writer: &mut W) -> Result<(), PutError>
         ensures parts { PutsParts W.grows (parts_of self.now) result (W.written writer.old) (W.room writer.old) (W.written writer.new) (W.room writer.new) }
         ensures full { result ≡ Err PutError.EndOfBuffer → LacksRoom (W.room writer.old) (length (wire self.now)) }
@@ -370,8 +374,8 @@ impl<'a> Frame<'a> {
         }
     }
 
-    /// Writes the frame as `write` does, whole: `EndOfBuffer` exactly where the room is below
-    /// `write_size`, and then nothing is written.
+    /// Writes the complete frame as `write` does. Returns `EndOfBuffer` exactly if the room is less
+    /// than `write_size`; then nothing is written.
     pub fn write_to_buffer(&self, writer: &mut BufferWriter<'_>) -> Result<(), EndOfBuffer>
         ensures room { IsOk result ↔ (length (wire self.now) ≤ length (room_in writer.old)) }
         ensures ok { OnOk result (Wrote (wire self.now) writer.old writer.new) }
@@ -386,7 +390,7 @@ impl<'a> Frame<'a> {
         Ok(())
     }
 
-    /// How many bytes `write` writes.
+    /// Returns the number of bytes that `write` writes.
     pub fn write_size(&self) -> usize
         ensures size { result ≡ length (wire self.now) }
         ensures readable { length (payload_in self.now) ≤ 4096 → IsReadable self.now }

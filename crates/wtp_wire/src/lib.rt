@@ -1,5 +1,5 @@
-//! The wire format of WebTransport over HTTP/3: frames, datagrams, stream headers,
-//! settings and capsules.
+//! The wire format of WebTransport over HTTP/3: frames, datagrams, stream headers, settings and
+//! capsules.
 #![tactic(auto)]
 
 pub mod capsule;

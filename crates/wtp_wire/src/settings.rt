@@ -15,25 +15,26 @@ use wtp_core::error::{ErrorCode, Refused};
 pub use wtp_core::numbers::setting_ids;
 use wtp_core::varint::VarInt;
 
-/// Which setting it is.
+/// The identifier of a setting.
 #[derive(Clone, Copy, Debug, Hash, PartialEq, Eq)]
 pub enum SettingId {
-    /// QPACK's largest dynamic table, in bytes (RFC 9204, section 5).
+    /// The maximum size of the QPACK dynamic table, in bytes (RFC 9204, section 5).
     QPackMaxTableCapacity,
-    /// The largest field section, in bytes (RFC 9114, section 7.2.4.1).
+    /// The maximum size of a field section, in bytes (RFC 9114, section 7.2.4.1).
     MaxFieldSectionSize,
-    /// How many streams QPACK may block (RFC 9204, section 5).
+    /// The number of streams that QPACK may block (RFC 9204, section 5).
     QPackBlockedStreams,
-    /// Extended CONNECT is taken (RFC 9220, section 3).
+    /// Extended CONNECT is supported (RFC 9220, section 3).
     EnableConnectProtocol,
-    /// Datagrams are taken (RFC 9297, section 2.1.1).
+    /// Datagrams are supported (RFC 9297, section 2.1.1).
     H3Datagram,
-    /// WebTransport is taken: 0x2b603742 (draft-ietf-webtrans-http3-02, section 3.1).
+    /// WebTransport is supported: 0x2b603742 (draft-ietf-webtrans-http3-02, section 3.1).
     EnableWebTransport,
-    /// How many WebTransport sessions may be open at once: 0xc671706a
+    /// The maximum number of concurrent WebTransport sessions: 0xc671706a
     /// (draft-ietf-webtrans-http3-07, "HTTP/3 SETTINGS Parameter Registration").
     WebTransportMaxSessions,
-    /// One that is reserved to exercise the rule on unknown ones (RFC 9114, section 7.2.4.1).
+    /// An identifier that is reserved to exercise the requirement to ignore unknown identifiers
+    /// (RFC 9114, section 7.2.4.1).
     Exercise(VarInt),
 }
 
@@ -41,7 +42,7 @@ impl SettingId {
     ghost use Rattle.wtp_wire.specs.SettingId.{setting_number_of, setting_id_of, known_number_of, is_reserved};
     ghost use Rattle.wtp_wire.specs.Kind.{is_exercise};
 
-    /// Its number.
+    /// Returns the number.
     pub fn id(self) -> VarInt
         ensures { result ≡ setting_number_of self }
     {
@@ -57,7 +58,7 @@ impl SettingId {
         }
     }
 
-    /// The setting of this number, where it is known.
+    /// Returns the setting of this number, or `None` if the number is unknown.
     #[tactic(auto, unfolding(crate::specs::SettingId::setting_id_of))]
     fn parse(id: VarInt) -> Option<Self>
         ensures { result ≡ setting_id_of id }
@@ -75,21 +76,22 @@ impl SettingId {
         }
     }
 
-    /// Whether the number is one of those reserved for exercise, `0x21 + 0x1f * n`.
+    /// Returns whether the number is one of those reserved for exercise, `0x21 + 0x1f * n`.
     fn is_exercise(id: VarInt) -> bool
         ensures { result ≡ is_exercise id }
     {
         id.into_inner() >= 0x21 && (id.into_inner() - 0x21) % 0x1f == 0
     }
 
-    /// Whether the number is one of HTTP/2's that must not be received.
+    /// Returns whether the number is an HTTP/2 setting that must not be received.
     fn is_reserved(id: VarInt) -> bool
         ensures { result ≡ is_reserved id }
     {
         matches!(id.into_inner(), 0x00 | 0x02..=0x05)
     }
 
-    /// Its number; none where it is an exercise setting of a number that is not reserved for that.
+    /// Returns the number, or `None` for an exercise setting whose number is not reserved for
+    /// exercise.
     fn known_number(self) -> Option<VarInt>
         ensures { result ≡ known_number_of self }
     {
@@ -100,7 +102,7 @@ impl SettingId {
     }
 }
 
-/// Settings of a connection: of each that is set its value.
+/// Settings of a connection: the value of each setting that is set.
 #[derive(Debug, Drop)]
 pub struct Settings {
     values: BTreeMap<VarInt, VarInt>,
@@ -122,14 +124,14 @@ impl Settings {
     ghost use Rattle.wtp_wire.specs.SettingId.{is_setting};
     ghost use Rattle.wtp_wire.specs.Settings.{IsSettings, value_of, value_at, with_setting, settings_parts, settings_wire, overwritten, Keeps, AnswersSettings};
 
-    /// A builder, in which nothing is set yet. It takes memory with its steps alone.
+    /// Returns a builder in which nothing is set. Only its steps allocate.
     pub fn builder(alloc: Global) -> SettingsBuilder
         ensures { result ≡ [] }
     {
         SettingsBuilder::new(Settings::new(alloc))
     }
 
-    /// No settings.
+    /// Creates settings in which nothing is set.
     #[tactic(auto, using(crate::proofs::SettingsLemmas::no_settings))]
     fn new(alloc: Global) -> Self
         ensures { result ≡ [] }
@@ -139,11 +141,12 @@ impl Settings {
         }
     }
 
-    /// The settings of a SETTINGS frame, or the first fault of its payload.
+    /// Reads the settings of a SETTINGS frame.
     ///
-    /// `Code(Frame)` where an identifier or a value is cut; `Code(Settings)` at an identifier that
-    /// is reserved since HTTP/2 had it, and at a known or exercise one that came before. Unknown
-    /// ones are ignored, and may come again. `Memory` comes behind settings without a fault alone.
+    /// Returns the first fault of its payload: `Code(Frame)` if an identifier or a value is
+    /// truncated; `Code(Settings)` for an identifier that is reserved because HTTP/2 used it, and
+    /// for a repeated identifier that is known or an exercise one. Unknown identifiers are ignored,
+    /// and may be repeated. Returns `Memory` only after settings without a fault.
     pub fn with_frame(alloc: Global, frame: &Frame<'_>) -> Result<Self, Refused>
         requires { kind_in frame.now ≡ FrameKind.Settings }
         ensures { AnswersSettings (payload_in frame.now) result }
@@ -162,7 +165,7 @@ impl Settings {
         Ok(settings)
     }
 
-    /// Keeps one pair of a payload, where its number is known or reserved for exercise.
+    /// Stores one pair of a payload, if its number is known or reserved for exercise.
     #[tactic(auto, unfolding(crate::specs::Settings::kept_with))]
     fn keep(&mut self, number: VarInt, value: VarInt) -> Result<(), Refused>
         ensures { Keeps self.old (number, value) result self.new }
@@ -180,7 +183,7 @@ impl Settings {
         }
     }
 
-    /// Sets the value of a number, and answers the one before.
+    /// Sets the value of a number, and returns the previous one.
     pub(crate) fn set(
         &mut self,
         number: VarInt,
@@ -195,10 +198,11 @@ impl Settings {
         Ok(self.values.insert(number, value)?)
     }
 
-    /// A SETTINGS frame of these settings, by rising number, with a payload of its own.
+    /// Creates a SETTINGS frame of these settings, in ascending order of their numbers, with a
+    /// payload of its own.
     ///
-    /// `Memory` where allocation failed, which cannot be where nothing is set. `PayloadTooLong`
-    /// where the payload would have 2^62 bytes or more. The settings stay as they are.
+    /// Returns `Memory` if allocation failed, which cannot happen if nothing is set. Returns
+    /// `PayloadTooLong` if the payload would have 2^62 bytes or more. The settings do not change.
     #[tactic(auto, using(crate::proofs::SettingsLemmas::no_settings))]
     pub fn generate_frame(&self, alloc: Global) -> Result<FrameOwned, GenerateError>
         ensures ok { IfOk result (λ f. f ≡ SettingsOf (settings_wire self.now)) }
@@ -216,11 +220,11 @@ impl Settings {
         Ok(Frame::new_settings(CowSlice::Owned(payload)))
     }
 
-    /// A SETTINGS frame of these settings, by rising number, with its payload in the buffer. It
-    /// takes no memory.
+    /// Creates a SETTINGS frame of these settings, in ascending order of their numbers, with its
+    /// payload in the buffer. It does not allocate.
     ///
-    /// `EndOfBuffer` exactly where the buffer is too short; then it begins with those of the
-    /// payload's numbers that fit whole.
+    /// Returns `EndOfBuffer` exactly if the buffer is too short; then it starts with those of the
+    /// payload's numbers that fit completely.
     pub fn generate_frame_ref<'a>(&self, buffer: &'a mut [u8]) -> Result<Frame<'a>, EndOfBuffer>
         requires { length buffer.old < 2 ^ 62 }
         ensures room { IsOk result ↔ (length (settings_wire self.now) ≤ length buffer.old) }
@@ -231,13 +235,13 @@ impl Settings {
         Ok(Frame::new_settings(CowSlice::Borrowed(&buffer[..len])))
     }
 
-    /// Writes the payload of a SETTINGS frame to the front of the buffer, by rising number, and
-    /// returns how many bytes it has: what `generate_frame_ref` does to its buffer. It takes no
-    /// memory. Not in the Rust crate.
+    /// Writes the payload of a SETTINGS frame to the start of the buffer, in ascending order of the
+    /// setting numbers, and returns its size in bytes: what `generate_frame_ref` does to its
+    /// buffer. It does not allocate. Not in the Rust crate.
     ///
-    /// `EndOfBuffer` exactly where the buffer is too short. Whatever it returns, the buffer then
-    /// begins with those of the payload's numbers that fit whole, and its other bytes stay as they
-    /// were.
+    /// Returns `EndOfBuffer` exactly if the buffer is too short. Whatever it returns, the buffer
+    /// then starts with those of the payload's numbers that fit completely, and its other bytes do
+    /// not change.
     ///
     /// Source: RFC 9114, section 7.2.4.
     pub fn write_to(&self, buffer: &mut [u8]) -> Result<usize, EndOfBuffer>
@@ -253,7 +257,7 @@ impl Settings {
         }
     }
 
-    /// Writes the payload: of each setting its number, and then its value.
+    /// Writes the payload: the number of each setting, and then its value.
     fn write_payload<W: BytesWriter>(&self, writer: &mut W) -> Result<(), PutError>
         ensures parts { PutsParts W.grows (settings_parts self.now) result (W.written writer.old) (W.room writer.old) (W.written writer.new) (W.room writer.new) }
         ensures target { W.target writer.new ≡ W.target writer.old }
@@ -266,10 +270,10 @@ impl Settings {
         Ok(())
     }
 
-    /// The same settings, in memory of this allocator.
+    /// Returns the same settings, allocated by `alloc`.
     ///
-    /// `AllocError` where allocation failed, which cannot be where nothing is set. These settings
-    /// stay as they are.
+    /// Returns `AllocError` if allocation failed, which cannot happen if nothing is set. These
+    /// settings do not change.
     pub fn clone(&self, alloc: Global) -> Result<Self, AllocError>
         ensures ok { IfOk result (λ s. s ≡ self.now) }
         ensures err { OnErr result (self.now ≢ []) }
@@ -281,7 +285,7 @@ impl Settings {
         Ok(settings)
     }
 
-    /// The value of a setting, where it is set. An exercise setting has none where its number is
+    /// Returns the value of a setting, if it is set. An exercise setting has none if its number is
     /// not reserved for exercise.
     pub fn get(&self, id: SettingId) -> Option<VarInt>
         ensures { result ≡ value_of self.now id }

@@ -1,5 +1,5 @@
-//! Headers of unidirectional streams (RFC 9114, section 6.2), read and written whole or poll
-//! by poll.
+//! Headers of unidirectional streams (RFC 9114, section 6.2), read and written whole or poll by
+//! poll.
 ghost use Rattle.std.specs.Prelude.{◌≡◌, ◌≤◌, length, IfSome, IsOk, OnOk, OnErr, Err, Some, None, ◌↔◌};
 ghost use Rattle.wtp_core.specs.Writer.{LacksRoom, PutsParts};
 ghost use Rattle.wtp_core.specs.Reader.{IsRest};
@@ -18,29 +18,30 @@ use wtp_core::ids::SessionId;
 pub use wtp_core::numbers::stream_type_ids;
 use wtp_core::varint::VarInt;
 
-/// Why no header can be read at the front of the bytes.
+/// The reason no header can be read at the start of the input.
 #[derive(Debug, Drop, PartialEq, Eq, thiserror::Error)]
 pub enum ParseError {
-    /// A type number that is not known.
+    /// The type is unknown.
     #[error("cannot parse HTTP3 stream header as ID is unknown")]
     UnknownStream,
-    /// WebTransport's type number, and a number that is no session's.
+    /// The WebTransport type, followed by an invalid session ID.
     #[error("cannot parse HTTP3 stream header as session ID is invalid")]
     InvalidSessionId,
 }
 
-/// What kind of unidirectional stream it is.
+/// The kind of a unidirectional stream.
 #[derive(Clone, Copy, Debug, PartialEq, Eq)]
 pub enum StreamKind {
     /// The control stream (RFC 9114, section 6.2.1).
     Control,
-    /// QPACK's encoder stream (RFC 9204, section 4.2).
+    /// The QPACK encoder stream (RFC 9204, section 4.2).
     QPackEncoder,
-    /// QPACK's decoder stream (RFC 9204, section 4.2).
+    /// The QPACK decoder stream (RFC 9204, section 4.2).
     QPackDecoder,
     /// A stream of a WebTransport session: type 0x54 (draft-ietf-webtrans-http3-02, section 4.1).
     WebTransport,
-    /// A type that is reserved to exercise the rule on unknown types (RFC 9114, section 6.2.3).
+    /// A type that is reserved to exercise the requirement to ignore unknown types (RFC 9114,
+    /// section 6.2.3).
     Exercise(VarInt),
 }
 
@@ -48,14 +49,14 @@ impl StreamKind {
     ghost use Rattle.wtp_wire.specs.Kind.{is_exercise};
     ghost use Rattle.wtp_wire.specs.StreamKind.{stream_kind_of, stream_number_of, IsKnownStream};
 
-    /// Whether the type number is one of those reserved for exercise, `0x21 + 0x1f * n`.
+    /// Returns whether the type is one of those reserved for exercise, `0x21 + 0x1f * n`.
     pub fn is_id_exercise(id: VarInt) -> bool
         ensures { result ≡ is_exercise id }
     {
         id.into_inner() >= 0x21 && (id.into_inner() - 0x21) % 0x1f == 0
     }
 
-    /// The type number.
+    /// Returns the type.
     pub fn id(self) -> VarInt
         ensures { result ≡ stream_number_of self }
     {
@@ -68,7 +69,7 @@ impl StreamKind {
         }
     }
 
-    /// The kind of this type number, where it is known.
+    /// Returns the kind of this type, or `None` if the type is unknown.
     #[tactic(auto, unfolding(crate::specs::StreamKind::stream_kind_of))]
     pub fn parse(id: VarInt) -> Option<Self>
         ensures kind { result ≡ stream_kind_of id }
@@ -85,7 +86,7 @@ impl StreamKind {
     }
 }
 
-/// The header of a unidirectional stream: its kind, and the session where it is WebTransport's.
+/// The header of a unidirectional stream: its kind, and for WebTransport the session.
 #[derive(Clone, Copy, Debug)]
 pub struct StreamHeader {
     kind: StreamKind,
@@ -111,10 +112,10 @@ impl StreamHeader {
     ghost use Rattle.wtp_wire.specs.HeaderReading.{AnswersHeader, AnswersHeaderWhole};
     ghost use Rattle.wtp_wire.specs.HeaderWire.{header_parts, header_wire, IsReadableHeader};
 
-    /// The most bytes that a header is written in.
+    /// The largest size of an encoded header, in bytes.
     pub const MAX_SIZE: usize = 16;
 
-    /// The header of the control stream.
+    /// Creates the header of the control stream.
     pub fn new_control() -> Self
         ensures { result ≡ ControlHeader }
     {
@@ -124,7 +125,7 @@ impl StreamHeader {
         }
     }
 
-    /// The header of a stream of this session (draft-ietf-webtrans-http3-02, section 4.1).
+    /// Creates the header of a stream of this session (draft-ietf-webtrans-http3-02, section 4.1).
     pub fn new_webtransport(session_id: SessionId) -> Self
         ensures { result ≡ WebTransportHeader session_id }
     {
@@ -134,7 +135,7 @@ impl StreamHeader {
         }
     }
 
-    /// Its kind.
+    /// Returns the kind.
     #[tactic(auto, using(crate::proofs::HeaderLemmas::header_fields))]
     pub fn kind(&self) -> StreamKind
         ensures kind { result ≡ header_kind self.now }
@@ -143,7 +144,7 @@ impl StreamHeader {
         self.kind
     }
 
-    /// Its session, where its kind is WebTransport.
+    /// Returns the session, if the kind is WebTransport.
     #[tactic(auto, using(crate::proofs::HeaderLemmas::header_fields))]
     pub fn session_id(&self) -> Option<SessionId>
         ensures { result ≡ header_session self.now }
@@ -151,7 +152,7 @@ impl StreamHeader {
         self.session_id
     }
 
-    /// The session behind WebTransport's type number.
+    /// Reads the session ID after the WebTransport type.
     #[tactic(auto, using(wtp_core::proofs::RestLemmas::rests), unfolding(crate::specs::HeaderFront::session_header_front))]
     fn read_session<'a, R: BytesReader<'a>>(reader: &mut R) -> Result<Option<Self>, ParseError>
         ensures answer { AnswersHeader (session_header_front (R.left reader.old)) result (R.left reader.new) }
@@ -167,11 +168,12 @@ impl StreamHeader {
         }
     }
 
-    /// Reads the header at the front, and takes no memory.
+    /// Reads the header at the start of the input. It does not allocate.
     ///
-    /// `None` where the bytes are too few; the type number may have been read then.
-    /// `UnknownStream` behind a type number that is not known; `InvalidSessionId` behind
-    /// WebTransport's and a number that is no session's.
+    /// Returns `None` if there are too few bytes; the type may have been read then. Errors:
+    ///
+    /// - `UnknownStream`: an unknown type was read.
+    /// - `InvalidSessionId`: the WebTransport type and an invalid session ID were read.
     #[tactic(auto, using(wtp_core::proofs::RestLemmas::rests), unfolding(crate::specs::HeaderFront::header_front))]
     pub fn read<'a, R: BytesReader<'a>>(reader: &mut R) -> Result<Option<Self>, ParseError>
         ensures answer { AnswersHeader (header_front (R.left reader.old)) result (R.left reader.new) }
@@ -193,8 +195,8 @@ impl StreamHeader {
         }
     }
 
-    /// Reads the header at the front as `read` does, and moves past it; where it answers `None` or
-    /// an error the reader stays where it is.
+    /// Reads the header at the start of the input as `read` does, and moves past it. The reader
+    /// does not move if this returns `None` or an error.
     pub fn read_from_buffer(reader: &mut BufferReader<'_>) -> Result<Option<Self>, ParseError>
         ensures answer { AnswersHeaderWhole (header_front (left_of reader.old)) result (left_of reader.old) (left_of reader.new) }
         ensures whole { whole_of reader.new ≡ whole_of reader.old }
@@ -207,10 +209,10 @@ impl StreamHeader {
         Ok(Some(header))
     }
 
-    /// Writes the header, each number in its shortest spelling.
+    /// Writes the header, each number in its shortest encoding.
     ///
-    /// On an error the writer holds those of the parts type number and session that came before
-    /// the refused one.
+    /// The parts are the type and the session ID. On an error the writer holds the parts before the
+    /// one that it refused.
     pub fn write<W: BytesWriter>(&self, writer: &mut W) -> Result<(), PutError>
         ensures parts { PutsParts W.grows (header_parts self.now) result (W.written writer.old) (W.room writer.old) (W.written writer.new) (W.room writer.new) }
         ensures full { result ≡ Err PutError.EndOfBuffer → LacksRoom (W.room writer.old) (length (header_wire self.now)) }
@@ -223,8 +225,8 @@ impl StreamHeader {
         }
     }
 
-    /// Writes the header as `write` does, whole: `EndOfBuffer` exactly where the room is below
-    /// `write_size`, and then nothing is written.
+    /// Writes the complete header as `write` does. Returns `EndOfBuffer` exactly if the room is
+    /// less than `write_size`; then nothing is written.
     pub fn write_to_buffer(&self, writer: &mut BufferWriter<'_>) -> Result<(), EndOfBuffer>
         ensures room { IsOk result ↔ (length (header_wire self.now) ≤ length (room_in writer.old)) }
         ensures ok { OnOk result (Wrote (header_wire self.now) writer.old writer.new) }
@@ -239,7 +241,7 @@ impl StreamHeader {
         Ok(())
     }
 
-    /// How many bytes `write` writes.
+    /// Returns the number of bytes that `write` writes.
     pub fn write_size(&self) -> usize
         ensures size { result ≡ length (header_wire self.now) }
         ensures most { result ≤ Self.MAX_SIZE }

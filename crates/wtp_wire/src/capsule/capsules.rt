@@ -7,7 +7,7 @@ use std::marker::Model;
 use wtp_core::error::{ErrorCode, Refused};
 use wtp_core::varint::VarInt;
 
-/// A WebTransport session is closed: with this code of the application, and for this reason
+/// A WebTransport session is closed, with an error code and a reason of the application
 /// (draft-ietf-webtrans-http3-02, section 5).
 #[derive(Debug, Drop)]
 pub struct CloseWebTransportSession {
@@ -29,12 +29,12 @@ impl CloseWebTransportSession {
     // The longest reason, in bytes.
     const MAX_REASON_LEN: usize = 1024;
 
-    /// The code and the reason of a capsule's payload: an error code of four bytes, most significant
-    /// first, and then the reason (draft-ietf-webtrans-http3-02, section 5).
+    /// Reads the code and the reason from a capsule's payload: an error code of four bytes, most
+    /// significant first, and then the reason (draft-ietf-webtrans-http3-02, section 5).
     ///
-    /// `Code(Datagram)` where the payload has fewer than 4 or more than 1028 bytes, or is not UTF-8
-    /// after the first four. `Memory` where allocation failed, which only a payload without a fault
-    /// and with a reason that is not empty needs. The capsule stays as it is, and may be read again.
+    /// Returns `Code(Datagram)` if the payload has fewer than 4 or more than 1028 bytes, or is not
+    /// UTF-8 after the first four. Returns `Memory` if allocation failed; only a valid payload with
+    /// a reason that is not empty allocates. The capsule does not change, and may be read again.
     #[tactic(auto, unfolding(crate::specs::CloseSession::close_in))]
     pub fn with_capsule(alloc: Global, capsule: &Capsule<'_>) -> Result<Self, Refused>
         ensures { AnswersClose capsule.now.1 result }
@@ -58,14 +58,14 @@ impl CloseWebTransportSession {
         }
     }
 
-    /// The application's error code.
+    /// Returns the application's error code.
     pub fn error_code(&self) -> VarInt
         ensures { result ≡ self.now.0 }
     {
         VarInt::from_u32(self.error_code)
     }
 
-    /// The reason.
+    /// Returns the reason.
     pub fn reason(&self) -> &str
         ensures { result.now ≡ self.now.1 }
     {

@@ -1,4 +1,4 @@
-//! What stands behind a frame's type number.
+//! The part of a frame after its type.
 ghost use Rattle.std.specs.Prelude.{◌≡◌, ◌+◌, ◌≤◌, None, length, take, drop, IsSome, IfSome};
 ghost use Rattle.wtp_wire.specs.Body.{payload_of, session_of};
 
@@ -10,20 +10,20 @@ use wtp_core::ids::SessionId;
 /// A payload, or a session in its place.
 #[derive(Drop)]
 pub(crate) enum Body<'a> {
-    /// A payload that is borrowed.
+    /// A borrowed payload.
     Borrowed(&'a [u8]),
     /// A payload in a vector.
     Owned(Vec<u8>),
-    /// A payload that is kept in the frame itself.
+    /// A payload stored in the frame itself.
     Short(Short),
-    /// The session of WebTransport's frame.
+    /// The session of a WebTransport frame.
     Session(SessionId),
 }
 
 impl<'a> Body<'a> {
     ghost use Rattle.std.specs.Cow.{cow_slice_items};
 
-    /// The payload, kept as it is.
+    /// Creates a body of this payload, as it is.
     #[inline(always)]
     pub(crate) fn of(payload: CowSlice<'a, u8>) -> Self
         ensures payload { payload_of result ≡ cow_slice_items payload.entry }
@@ -35,7 +35,7 @@ impl<'a> Body<'a> {
         }
     }
 
-    /// The payload, which is empty where a session stands in its place.
+    /// Returns the payload, which is empty if there is a session in its place.
     #[inline(always)]
     pub(crate) fn payload(&self) -> &[u8]
         ensures { result.now ≡ payload_of self.now }
@@ -48,7 +48,7 @@ impl<'a> Body<'a> {
         }
     }
 
-    /// The session, where there is one.
+    /// Returns the session, if there is one.
     #[inline(always)]
     pub(crate) fn session(&self) -> Option<SessionId>
         ensures { result ≡ session_of self.now }
@@ -61,8 +61,8 @@ impl<'a> Body<'a> {
 }
 
 impl Body<'static> {
-    /// A copy of the `len` bytes at `start`. `None` where no memory is to be had, which a payload of
-    /// at most 32 bytes does not need, unless it stands near the end of the bytes.
+    /// Copies the `len` bytes at `start`. Returns `None` if allocation failed. A payload of at most
+    /// 32 bytes does not allocate, unless it is near the end of the bytes.
     #[inline(always)]
     pub(crate) fn copied(alloc: Global, bytes: &[u8], start: usize, len: usize) -> Option<Self>
         requires { start + len ≤ length bytes.now }

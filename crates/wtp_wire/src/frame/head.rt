@@ -1,4 +1,4 @@
-//! The two numbers in front of a frame: its type, and its length or session.
+//! The first two numbers of a frame: its type, and its length or session ID.
 ghost use Rattle.std.specs.Prelude.{◌≡◌, ◌+◌, ◌<◌, length};
 ghost use Rattle.wtp_wire.specs.FrameNeed.{frame_need, frame_need_most, frame_need_grows};
 ghost use Rattle.wtp_wire.specs.FrameHead.{said, said_second};
@@ -9,24 +9,24 @@ use wtp_core::ids::SessionId;
 use wtp_core::polling::head::Head;
 use wtp_core::varint::{VarInt, first_varint};
 
-/// What the two numbers say of the bytes behind them.
+/// What the first two numbers say about the bytes after them.
 #[derive(Clone, Copy)]
 pub(crate) enum Said {
-    /// They are not both there.
+    /// The two numbers are not both complete.
     Unfinished,
-    /// A payload of so many bytes of a frame of this kind.
+    /// A payload of this many bytes follows, of a frame of this kind.
     Payload(FrameKind, u64),
-    /// No more bytes of the frame of this session.
+    /// No more bytes follow: the frame is that of this session.
     Session(SessionId),
-    /// A payload of so many bytes of an unknown frame, to be passed over.
+    /// A payload of this many bytes follows, of an unknown frame. It has to be skipped.
     Skip(u64),
-    /// The second number is no session's.
+    /// The second number is an invalid session ID.
     BadSession,
     /// The payload is too long to be read.
     TooLong,
 }
 
-/// The two numbers are the front of a frame; both stand in front of each.
+/// The first two numbers of a frame are its head; every frame starts with both.
 pub(crate) struct FrameHead;
 
 impl Head for FrameHead {
@@ -46,7 +46,7 @@ impl Head for FrameHead {
     ghost need_grows = { frame_need_grows };
 }
 
-/// What the two numbers at the front say.
+/// Returns what the first two numbers say.
 #[inline(always)]
 #[tactic(auto, unfolding(crate::specs::FrameHead::said, crate::specs::FrameHead::head_at))]
 pub(crate) fn read_head(held: &[u8]) -> Said
@@ -61,7 +61,7 @@ pub(crate) fn read_head(held: &[u8]) -> Said
     said_second(FrameKind::parse(id), number)
 }
 
-/// What the second number says behind a type number of this kind, or of none.
+/// Returns what the second number says after the type of this kind, or after an unknown type.
 #[inline(always)]
 fn said_second(kind: Option<FrameKind>, number: VarInt) -> Said
     ensures { result ≡ said_second kind number }

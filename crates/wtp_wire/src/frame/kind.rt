@@ -1,4 +1,4 @@
-//! Kinds of frames by their type numbers.
+//! Kinds of frames by their types.
 ghost use Rattle.std.specs.Prelude.{◌≡◌, IfSome};
 ghost use Rattle.wtp_wire.specs.Kind.{kind_of, number_of, IsKnown};
 
@@ -6,7 +6,7 @@ use crate::frame::FrameKind;
 use std::marker::Model;
 use wtp_core::varint::VarInt;
 
-/// A kind that is kept as its type number, which has half the size.
+/// A kind that is stored as its type, which has half the size.
 #[derive(Clone, Copy)]
 pub(crate) struct KindNumber {
     id: VarInt,
@@ -27,7 +27,7 @@ impl Model for KindNumber {
 }
 
 impl KindNumber {
-    /// The kind.
+    /// Stores a kind.
     #[inline(always)]
     #[tactic(auto, using(crate::proofs::KindLemmas::numbered))]
     pub(crate) fn of(kind: FrameKind) -> Self
@@ -37,7 +37,7 @@ impl KindNumber {
         KindNumber { id: kind.id() }
     }
 
-    /// The kind of this type number, where it is known.
+    /// Returns the kind of this type, or `None` if the type is unknown.
     #[inline(always)]
     #[tactic(auto, using(crate::proofs::KindLemmas::numbered))]
     pub(crate) fn parse(id: VarInt) -> Option<Self>
@@ -50,7 +50,7 @@ impl KindNumber {
         }
     }
 
-    /// The kind.
+    /// Returns the kind.
     #[inline(always)]
     #[tactic(auto, unfolding(crate::specs::KindNumber::kind_numbered))]
     pub(crate) fn kind(self) -> FrameKind
@@ -65,7 +65,7 @@ impl KindNumber {
         }
     }
 
-    /// The type number.
+    /// Returns the type.
     #[inline(always)]
     #[tactic(auto, using(crate::proofs::KindLemmas::numbered))]
     pub(crate) fn id(self) -> VarInt

@@ -24,10 +24,10 @@ use wtp_core::polling::fill::{Halt, begin, fill};
 use wtp_core::polling::head::fill_head;
 use wtp_core::polling::passing::pass;
 
-/// Why no frame was read from a source.
+/// The reason no frame was read from a source.
 #[derive(Debug, Drop, PartialEq, Eq, thiserror::Error)]
 pub enum IoReadError {
-    /// The bytes in front are no frame.
+    /// The first bytes are not a valid frame.
     #[error("{0}")]
     Parse(ParseError),
     /// The source gave no more bytes.
@@ -50,14 +50,14 @@ impl<'a> Frame<'a> {
     ghost use Rattle.wtp_wire.specs.Kind.{IsKnown};
     ghost use Rattle.wtp_wire.specs.Content.{content};
 
-    /// A state that reads one frame from a source, poll by poll, and then the next.
+    /// Returns a state that reads one frame from a source, poll by poll, and then the next.
     pub fn read_async(alloc: Global) -> FrameReading
         ensures { result ≡ new_held }
     {
         FrameReading::new(alloc)
     }
 
-    /// A frame that owns its payload.
+    /// Creates a frame that owns its payload.
     fn with_payload(kind: FrameKind, payload: Vec<u8>) -> FrameOwned
         requires known { IsKnown kind }
         requires plain { kind ≢ FrameKind.WebTransport }
@@ -71,11 +71,11 @@ impl<'a> Frame<'a> {
     }
 }
 
-/// Reads one frame from a source, poll by poll, and takes not a byte behind it.
+/// Reads one frame from a source, poll by poll, and takes no byte after it.
 ///
-/// It holds the bytes that it took of a frame, or how many bytes of an unknown frame are still to
-/// be passed over, and loses none of that where a poll does not answer a frame or a fault of the
-/// bytes. Then it is as new, and reads the next one.
+/// It holds the bytes that it took of a frame, or the number of bytes of an unknown frame still to
+/// be skipped, and loses none of that if a poll returns neither a frame nor a parse error.
+/// Otherwise it is as new, and reads the next frame.
 #[derive(Drop)]
 pub struct FrameReading {
     alloc: Global,
@@ -86,7 +86,7 @@ pub struct FrameReading {
     due: u64,
 }
 
-// How many bytes it holds, and how many are still to be passed over.
+// The number of bytes held, and the number of bytes still to be skipped.
 impl fmt::Debug for FrameReading {
     fn fmt<W: fmt::Write>(&self, f: &mut fmt::Formatter<W>) -> fmt::Result {
         f.debug_struct("FrameReading")
@@ -106,7 +106,7 @@ impl Model for FrameReading {
 }
 
 impl FrameReading {
-    /// A reading that has taken nothing. Not in the Rust crate.
+    /// Creates a state that has read nothing. Not in the Rust crate.
     pub fn new(alloc: Global) -> Self
         ensures { result ≡ new_held }
     {
@@ -120,19 +120,21 @@ impl FrameReading {
         }
     }
 
-    /// Reads on as far as the source goes, in at most 4112 calls.
+    /// Reads as far as the source goes, in at most 4112 calls.
     ///
-    /// - `Ready(Ok(frame))` or `Ready(Err(Parse(fault)))`: by `Frame::read` of what was taken and
-    ///   is ahead. The source stands right behind the bytes that decided. Memory is taken for the
-    ///   payload alone, once, before its first byte.
-    /// - `Ready(Err(IO(fault)))`: the source gave no more, and too few bytes came. All are held.
-    /// - `Pending`: the source was not ready. `NoMemory`: none was to be had for a payload of 1 to
-    ///   4096 bytes. All that came is held.
-    /// - `Again`: 4096 bytes of an unknown frame's payload were passed over, and some are still due.
+    /// - `Ready(Ok(frame))` or `Ready(Err(Parse(fault)))`: the result of `Frame::read` of the bytes
+    ///   taken and ahead. The source is positioned right after the bytes that decided. Only the
+    ///   payload is allocated, once, before its first byte.
+    /// - `Ready(Err(IO(fault)))`: the source gave no more bytes, and there were too few. All are
+    ///   held.
+    /// - `Pending`: the source was not ready. `NoMemory`: allocation failed for a payload of 1 to
+    ///   4096 bytes. All bytes received are held.
+    /// - `Again`: 4096 bytes of an unknown frame's payload were skipped, and some are still to be
+    ///   skipped.
     ///
-    /// It may be polled again after each of these, over the same source or another. A frame that the
-    /// source has at hand whole is taken in one call, and a payload of at most 32 bytes then mostly
-    /// needs no memory.
+    /// It may be polled again after each of these, with the same source or another. A complete
+    /// frame that the source has buffered is taken in one call, and a payload of at most 32 bytes
+    /// then mostly does not allocate.
     #[inline(always)]
     pub fn poll<S: AsyncRead>(&mut self, source: &mut S) -> Polled<Result<FrameOwned, IoReadError>>
         ensures was_unfinished { IsUnfinished self.old }
@@ -151,7 +153,7 @@ impl FrameReading {
         self.read_on(source)
     }
 
-    /// Reads on as `poll` does, call by call.
+    /// Reads as `poll` does, call by call.
     fn read_on<S: AsyncRead>(&mut self, source: &mut S) -> Polled<Result<FrameOwned, IoReadError>>
         ensures was_unfinished { IsUnfinished self.old }
         ensures unfinished { IsUnfinished self.new }
@@ -165,7 +167,7 @@ impl FrameReading {
         }
     }
 
-    /// Reads on until there is an answer, or until the payload of an unknown frame is next.
+    /// Reads until there is a result, or until the payload of an unknown frame is next.
     #[inline(always)]
     fn start<S: AsyncRead>(
         &mut self,
@@ -203,7 +205,7 @@ impl FrameReading {
     }
 }
 
-/// What is to be done once the two numbers, and what belongs to them, are held.
+/// The next step once the first two numbers, and the payload that belongs to them, are held.
 #[derive(Clone, Copy)]
 enum Next {
     Answer(Decision),
@@ -219,7 +221,7 @@ enum Decision {
     TooLong,
 }
 
-/// The answer, with the payload that was read.
+/// Returns the result, with the payload that was read.
 #[inline(always)]
 fn answer(decision: Decision, payload: Vec<u8>) -> Result<FrameOwned, IoReadError>
     requires { CanAnswer decision (length payload.items) }
@@ -233,7 +235,7 @@ fn answer(decision: Decision, payload: Vec<u8>) -> Result<FrameOwned, IoReadErro
     }
 }
 
-/// Reads on until the bytes held decide; they stay as they are then.
+/// Reads until the bytes held decide; they do not change then.
 #[inline(always)]
 fn advance<S: AsyncRead>(
     source: &mut S,
@@ -268,7 +270,7 @@ fn advance<S: AsyncRead>(
     }
 }
 
-/// Reads on until the two numbers are held, and answers what they say.
+/// Reads until the first two numbers are held, and returns what they say.
 #[inline(always)]
 fn take_head<S: AsyncRead>(
     source: &mut S,
@@ -305,14 +307,14 @@ fn take_head<S: AsyncRead>(
     }
 }
 
-/// Why a payload is not whole.
+/// The reason a payload is incomplete.
 #[derive(Clone, Copy)]
 enum PayloadHalt {
     Source(Halt),
     NoMemory,
 }
 
-/// Reads on until a payload of this size is held; its room is taken whole before its first byte.
+/// Reads until a payload of this size is held. Its room is allocated in full before its first byte.
 #[inline(always)]
 fn fill_payload<S: AsyncRead>(
     source: &mut S,
@@ -340,7 +342,7 @@ fn fill_payload<S: AsyncRead>(
     }
 }
 
-/// Passes over payload bytes of an unknown frame, as many as one poll may.
+/// Skips payload bytes of an unknown frame, as many as one poll may.
 fn pass_on<S: AsyncRead>(source: &mut S, due: &mut u64) -> Polled<Result<FrameOwned, IoReadError>>
     ensures plain { PassedPlain result due.old due.new }
     ensures passed { Telling (S.tells source.old) (S.tells source.new) (PassedOn result due.old due.new) }
@@ -357,7 +359,7 @@ fn pass_on<S: AsyncRead>(source: &mut S, due: &mut u64) -> Polled<Result<FrameOw
     }
 }
 
-/// What a reading of a frame answers that halted with so many bytes taken.
+/// Returns the result of reading a frame that stopped after `taken` bytes.
 fn halted_frame<T>(halt: Halt, taken: usize) -> Polled<Result<T, IoReadError>>
     ensures { result ≡ halted_frame halt taken }
 {

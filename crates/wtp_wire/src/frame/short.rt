@@ -1,4 +1,4 @@
-//! Payloads that a frame keeps in itself.
+//! Payloads stored in the frame itself.
 ghost use Rattle.std.specs.Prelude.{◌≡◌, ◌≤◌, ◌↔◌, List, ℕ, length, take, IsSome, IfSome};
 
 use std::marker::Model;
@@ -7,7 +7,7 @@ use std::marker::Model;
 #[derive(Drop)]
 pub(crate) struct Short {
     len: usize,
-    // The payload, and bytes behind it that are no part of it.
+    // The payload, and bytes after it that are not part of it.
     bytes: [u8; 32],
 }
 
@@ -20,9 +20,10 @@ impl Model for Short {
 }
 
 impl Short {
-    /// The first `len` bytes; `None` where these are more than 32, or where fewer than 32 are given.
+    /// Copies the first `len` bytes. Returns `None` if `len` is above 32, or if fewer than 32 bytes
+    /// are given.
     ///
-    /// All 32 are copied, which takes no call that depends on a number.
+    /// All 32 are copied, which needs no call that depends on a number.
     #[inline(always)]
     pub(crate) fn front_of(bytes: &[u8], len: usize) -> Option<Self>
         ensures front { IfSome result (λ s. s ≡ take len bytes.now) }
@@ -35,7 +36,7 @@ impl Short {
         Some(Short { len, bytes: *front })
     }
 
-    /// The payload.
+    /// Returns the payload.
     #[inline(always)]
     pub(crate) fn as_slice(&self) -> &[u8]
         ensures { result.now ≡ self.now }

@@ -1,4 +1,4 @@
-//! Frames that stand whole in bytes at hand.
+//! Complete frames in buffered bytes.
 ghost use Rattle.std.specs.Prelude.{◌≡◌, ◌+◌, ◌≤◌, List, ℕ, length, drop, IsSome, IfSome};
 ghost use Rattle.wtp_wire.specs.Content.{Content, payload_in};
 ghost use Rattle.wtp_wire.specs.Front.{Framed, front};
@@ -8,10 +8,10 @@ use crate::frame::{Frame, FrameOwned};
 use std::alloc::Global;
 use wtp_core::bytes::BufferReader;
 
-/// The frame at the front of the bytes, with a payload of its own, and how many bytes it has.
+/// Returns the first frame of the input, with a payload of its own, and the number of bytes it has.
 ///
-/// `None` where no whole frame stands there, and where no memory is to be had, which a payload of at
-/// most 32 bytes does not need where 32 bytes are there from its first on.
+/// Returns `None` if the input does not start with a complete frame, and if allocation failed. A
+/// payload of at most 32 bytes does not allocate if there are 32 bytes from its first one on.
 #[inline(always)]
 pub(crate) fn front_frame(alloc: Global, bytes: &[u8]) -> Option<(FrameOwned, usize)>
     ensures size { IfSome result (λ x. x.1 ≤ length bytes.now) }

@@ -16,7 +16,8 @@ use wtp_core::varint::VarInt;
 impl<'a> Frame<'a> {
     ghost use Rattle.wtp_wire.specs.Wire.{wire};
 
-    /// A state that writes the frame to a sink, poll by poll, each number in its shortest spelling.
+    /// Returns a state that writes the frame to a sink, poll by poll, each number in its shortest
+    /// encoding.
     pub fn write_async(&self) -> FrameWriting<'_>
         ensures { result ≡ unsent (wire self.now) }
     {
@@ -40,8 +41,8 @@ impl FrameWriting<'static> {
     ghost use Rattle.wtp_wire.specs.Content.{WebTransportOf};
     ghost use Rattle.wtp_wire.specs.Wire.{wire};
 
-    /// A writing of the frame that makes its stream one of this session, which has sent nothing.
-    /// Not in the Rust crate.
+    /// Returns a state that writes the frame that associates its stream with this session, and has
+    /// sent nothing. Not in the Rust crate.
     pub fn of_session(session_id: SessionId) -> Self
         ensures { result ≡ unsent (wire (WebTransportOf session_id)) }
     {
@@ -58,8 +59,8 @@ impl FrameWriting<'static> {
     }
 }
 
-/// Writes the shortest spellings of both numbers to the front of the buffer, and answers how many
-/// bytes they have.
+/// Writes the shortest encodings of both numbers to the start of the buffer, and returns their size
+/// in bytes.
 fn spell_both(first: VarInt, second: VarInt, buffer: &mut [u8]) -> usize
     requires { 16 ≤ length buffer.old }
     ensures bytes { take result buffer.new ≡ shortest first ++ shortest second }
@@ -72,8 +73,8 @@ fn spell_both(first: VarInt, second: VarInt, buffer: &mut [u8]) -> usize
 
 /// Writes one frame to a sink, poll by poll.
 ///
-/// It knows how many of the frame's bytes were sent, and sends none of them twice. It takes no
-/// memory; the sink may.
+/// It counts the bytes of the frame sent, and sends none of them twice. It does not allocate; the
+/// sink may.
 #[derive(Drop)]
 pub struct FrameWriting<'a> {
     head: [u8; 16],
@@ -83,7 +84,7 @@ pub struct FrameWriting<'a> {
     payload_sent: usize,
 }
 
-// How many bytes were sent of the two numbers and of the payload.
+// The number of bytes sent of the first two numbers and of the payload.
 impl fmt::Debug for FrameWriting<'_> {
     fn fmt<W: fmt::Write>(&self, f: &mut fmt::Formatter<W>) -> fmt::Result {
         f.debug_struct("FrameWriting")
@@ -102,11 +103,12 @@ impl<'a> Model for FrameWriting<'a> {
 }
 
 impl<'a> FrameWriting<'a> {
-    /// Writes on as far as the sink goes.
+    /// Writes as far as the sink goes.
     ///
-    /// It answers `Ready(Ok(()))` once all is sent, and then stays finished and calls its sink no
-    /// more; otherwise what the sink said: not ready (`Pending`), no memory, stopped or not
-    /// connected. After each of these it may be polled again, into the same sink or another.
+    /// Returns `Ready(Ok(()))` once all is sent, and then stays finished and does not call its sink
+    /// again. Otherwise returns what the sink reported: not ready (`Pending`), out of memory,
+    /// stopped or not connected. After each of these it may be polled again, with the same sink or
+    /// another.
     pub fn poll<W: AsyncWrite>(&mut self, sink: &mut W) -> Polled<Result<(), IoWriteError>>
         ensures on { GoesOn self.old self.new }
         ensures whole { IsSent result self.new }

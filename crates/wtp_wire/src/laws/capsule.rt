@@ -4,8 +4,8 @@ ghost use Rattle.wtp_wire.specs.Capsule.{BeginsWithCapsule, capsule_in};
 ghost use Rattle.wtp_wire.specs.CloseSession.{IsClose, close_in};
 ghost use Rattle.wtp_wire.specs.declared.capsule.CapsuleKind.{CapsuleKind};
 
-/// The capsule that bytes begin with is computed, and what is computed stands there: so bytes begin
-/// with at most one.
+/// The capsule at the start of the input is computed, and what is computed is at its start: so the
+/// input starts with at most one capsule.
 pub fn capsule_is_computed()
     ensures computed { (bytes : List ℕ) (kind : CapsuleKind) (payload : List ℕ) → BeginsWithCapsule bytes kind payload → capsule_in bytes ≡ Some (kind, payload) }
     ensures defined { (bytes : List ℕ) (kind : CapsuleKind) (payload : List ℕ) → capsule_in bytes ≡ Some (kind, payload) → BeginsWithCapsule bytes kind payload }

@@ -11,13 +11,14 @@ pub fn setting_id_is_computed()
     ensures defined { (setting : SettingId) (id : ℕ) → setting_id_of id ≡ Some setting → IsSettingId setting id }
 {}
 
-/// What a payload says is computed, and so is its first fault: so it says at most one thing.
+/// The settings of a payload are computed, and so is its first fault: so it has at most one
+/// meaning.
 pub fn settings_are_computed()
     ensures settings { (m : List (ℕ × ℕ)) (payload : List ℕ) → IsPayload m payload → settings_in payload ≡ Ok m }
     ensures fault { (code : ErrorCode) (payload : List ℕ) → IsFault code payload → settings_in payload ≡ Err code }
 {}
 
-/// Each payload says settings or has a fault.
+/// Each payload contains settings or has a fault.
 pub fn one_reading()
     ensures { (payload : List ℕ) → ((m : List (ℕ × ℕ)) × IsPayload m payload) ⊎ ((code : ErrorCode) × IsFault code payload) }
 {}
@@ -27,7 +28,7 @@ pub fn written_settings_are_read()
     ensures { (m : List (ℕ × ℕ)) → IsSettings m → settings_in (settings_wire m) ≡ Ok m }
 {}
 
-/// To set one number changes its value alone.
+/// Setting one number changes its value only.
 pub fn one_setting_changes()
     ensures set { (m : List (ℕ × ℕ)) (id value : ℕ) → value_at (with_setting m id value) id ≡ Some value }
     ensures others { (m : List (ℕ × ℕ)) (id value other : ℕ) → other ≢ id → value_at (with_setting m id value) other ≡ value_at m other }

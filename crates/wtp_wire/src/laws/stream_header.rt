@@ -6,19 +6,19 @@ ghost use Rattle.wtp_wire.specs.HeaderFront.{HeaderFront, Headed, Short, StreamB
 ghost use Rattle.wtp_wire.specs.HeaderWire.{header_wire, IsReadableHeader};
 ghost use Rattle.wtp_wire.specs.declared.stream_header.StreamKind.{StreamKind};
 
-/// The computed kind of a stream's type number is its kind by definition.
+/// The computed kind of a stream type is its kind by definition.
 pub fn stream_kind_is_computed()
     ensures computed { (kind : StreamKind) (id : ℕ) → IsStreamKind kind id → stream_kind_of id ≡ Some kind }
     ensures defined { (kind : StreamKind) (id : ℕ) → stream_kind_of id ≡ Some kind → IsStreamKind kind id }
 {}
 
-/// What a stream's bytes begin with is computed: so at most one case holds, with one header and
-/// one rest.
+/// What a stream's bytes start with is computed: so at most one case of `HeaderFront` holds, with
+/// one header and one rest.
 pub fn header_front_is_computed()
     ensures { (bytes : List ℕ) (c : HeaderFront) → StreamBegins bytes c → header_front bytes ≡ c }
 {}
 
-/// One case holds: the computed one, or the bytes begin with none of the others where it is `Short`.
+/// One case holds: the computed one. If that is `Short`, the bytes start with none of the others.
 pub fn one_header_front()
     ensures { (bytes : List ℕ) → StreamBegins bytes (header_front bytes) ⊎ ((header_front bytes ≡ Short) × ((c : HeaderFront) → StreamBegins bytes c → ⊥)) }
 {}

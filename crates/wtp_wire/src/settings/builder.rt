@@ -6,7 +6,7 @@ use std::alloc::AllocError;
 use std::marker::Model;
 use wtp_core::varint::VarInt;
 
-/// Settings that are set one after the other.
+/// A builder that sets settings one after the other.
 #[derive(Debug, Drop)]
 pub struct SettingsBuilder {
     settings: Settings,
@@ -25,7 +25,7 @@ impl SettingsBuilder {
     ghost use Rattle.wtp_wire.specs.SettingId.{is_setting};
     ghost use Rattle.wtp_wire.specs.Settings.{value_at, with_setting};
 
-    /// A builder that begins with these settings.
+    /// Creates a builder that starts with these settings.
     pub(crate) fn new(settings: Settings) -> Self
         ensures { result ≡ settings }
     {
@@ -42,10 +42,10 @@ impl SettingsBuilder {
         Ok(self)
     }
 
-    /// Sets QPACK's largest dynamic table, in bytes (RFC 9204, section 5).
+    /// Sets the maximum size of the QPACK dynamic table, in bytes (RFC 9204, section 5).
     ///
-    /// `AllocError` where allocation failed; then the builder is given up. That cannot be where the
-    /// setting was set before.
+    /// Returns `AllocError` if allocation failed; then the builder is dropped. This cannot happen
+    /// if the setting was set before.
     pub fn qpack_max_table_capacity(self, value: VarInt) -> Result<Self, AllocError>
         ensures ok { IfOk result (λ b. b ≡ with_setting self 0x01 value) }
         ensures err { OnErr result (value_at self 0x01 ≡ None) }
@@ -53,10 +53,10 @@ impl SettingsBuilder {
         self.set(setting_ids::SETTINGS_QPACK_MAX_TABLE_CAPACITY, value)
     }
 
-    /// Sets how many streams QPACK may block (RFC 9204, section 5).
+    /// Sets the number of streams that QPACK may block (RFC 9204, section 5).
     ///
-    /// `AllocError` where allocation failed; then the builder is given up. That cannot be where the
-    /// setting was set before.
+    /// Returns `AllocError` if allocation failed; then the builder is dropped. This cannot happen
+    /// if the setting was set before.
     pub fn qpack_blocked_streams(self, value: VarInt) -> Result<Self, AllocError>
         ensures ok { IfOk result (λ b. b ≡ with_setting self 0x07 value) }
         ensures err { OnErr result (value_at self 0x07 ≡ None) }
@@ -64,10 +64,10 @@ impl SettingsBuilder {
         self.set(setting_ids::SETTINGS_QPACK_BLOCKED_STREAMS, value)
     }
 
-    /// Sets that extended CONNECT is taken (RFC 9220, section 3).
+    /// Sets that extended CONNECT is supported (RFC 9220, section 3).
     ///
-    /// `AllocError` where allocation failed; then the builder is given up. That cannot be where the
-    /// setting was set before.
+    /// Returns `AllocError` if allocation failed; then the builder is dropped. This cannot happen
+    /// if the setting was set before.
     pub fn enable_connect_protocol(self) -> Result<Self, AllocError>
         ensures ok { IfOk result (λ b. b ≡ with_setting self 0x08 1) }
         ensures err { OnErr result (value_at self 0x08 ≡ None) }
@@ -78,10 +78,10 @@ impl SettingsBuilder {
         )
     }
 
-    /// Sets that WebTransport is taken (draft-ietf-webtrans-http3-02, section 3.1).
+    /// Sets that WebTransport is supported (draft-ietf-webtrans-http3-02, section 3.1).
     ///
-    /// `AllocError` where allocation failed; then the builder is given up. That cannot be where the
-    /// setting was set before.
+    /// Returns `AllocError` if allocation failed; then the builder is dropped. This cannot happen
+    /// if the setting was set before.
     pub fn enable_webtransport(self) -> Result<Self, AllocError>
         ensures ok { IfOk result (λ b. b ≡ with_setting self 0x2b60_3742 1) }
         ensures err { OnErr result (value_at self 0x2b60_3742 ≡ None) }
@@ -92,10 +92,10 @@ impl SettingsBuilder {
         )
     }
 
-    /// Sets that datagrams are taken (RFC 9297, section 2.1.1).
+    /// Sets that datagrams are supported (RFC 9297, section 2.1.1).
     ///
-    /// `AllocError` where allocation failed; then the builder is given up. That cannot be where the
-    /// setting was set before.
+    /// Returns `AllocError` if allocation failed; then the builder is dropped. This cannot happen
+    /// if the setting was set before.
     pub fn enable_h3_datagrams(self) -> Result<Self, AllocError>
         ensures ok { IfOk result (λ b. b ≡ with_setting self 0x33 1) }
         ensures err { OnErr result (value_at self 0x33 ≡ None) }
@@ -103,10 +103,10 @@ impl SettingsBuilder {
         self.set(setting_ids::SETTINGS_H3_DATAGRAM, VarInt::from_u32(1))
     }
 
-    /// Sets how many WebTransport sessions may be open at once (draft-ietf-webtrans-http3-07).
+    /// Sets the maximum number of concurrent WebTransport sessions (draft-ietf-webtrans-http3-07).
     ///
-    /// `AllocError` where allocation failed; then the builder is given up. That cannot be where the
-    /// setting was set before.
+    /// Returns `AllocError` if allocation failed; then the builder is dropped. This cannot happen
+    /// if the setting was set before.
     pub fn webtransport_max_sessions(self, value: VarInt) -> Result<Self, AllocError>
         ensures ok { IfOk result (λ b. b ≡ with_setting self 0xc671_706a value) }
         ensures err { OnErr result (value_at self 0xc671_706a ≡ None) }
@@ -114,7 +114,7 @@ impl SettingsBuilder {
         self.set(setting_ids::SETTINGS_WEBTRANSPORT_MAX_SESSIONS, value)
     }
 
-    /// The settings so far.
+    /// Returns the settings set so far.
     pub fn build(self) -> Settings
         ensures { result ≡ self }
     {

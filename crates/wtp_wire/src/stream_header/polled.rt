@@ -18,10 +18,10 @@ use wtp_core::polling::fill::Halt;
 use wtp_core::polling::head::{Head, fill_head};
 use wtp_core::varint::first_varint;
 
-/// Why no header was read from a source.
+/// The reason no header was read from a source.
 #[derive(Debug, Drop, PartialEq, Eq, thiserror::Error)]
 pub enum IoReadError {
-    /// The bytes in front are no header.
+    /// The first bytes are not a valid header.
     #[error("{0}")]
     Parse(ParseError),
     /// The source gave no more bytes.
@@ -43,14 +43,15 @@ impl From<bytes::IoReadError> for IoReadError {
 impl StreamHeader {
     ghost use Rattle.wtp_wire.specs.HeaderWire.{header_wire};
 
-    /// A state that reads a header from a source, poll by poll.
+    /// Returns a state that reads a header from a source, poll by poll.
     pub fn read_async() -> HeaderReading
         ensures { result ≡ [] }
     {
         HeaderReading::new()
     }
 
-    /// A state that writes the header to a sink, poll by poll, each number in its shortest spelling.
+    /// Returns a state that writes the header to a sink, poll by poll, each number in its shortest
+    /// encoding.
     pub fn write_async(&self) -> HeaderWriting
         ensures { result ≡ unsent (header_wire self.now) }
     {
@@ -63,7 +64,7 @@ impl StreamHeader {
         }
     }
 
-    /// Writes the header to the front of the buffer, and answers how many bytes it has.
+    /// Writes the header to the start of the buffer, and returns its size in bytes.
     fn spell(&self, buffer: &mut [u8]) -> usize
         requires { 16 ≤ length buffer.old }
         ensures bytes { take result buffer.new ≡ header_wire self.now }
@@ -77,7 +78,7 @@ impl StreamHeader {
     }
 }
 
-/// The front of a stream is its type number, and behind WebTransport's one the session.
+/// The head of a stream is its type, followed by the session ID after the WebTransport type.
 struct HeaderHead;
 
 impl Head for HeaderHead {
@@ -102,17 +103,17 @@ impl Head for HeaderHead {
     ghost need_grows = { header_need_grows };
 }
 
-/// Reads one stream header from a source, poll by poll, and takes not a byte behind it.
+/// Reads one stream header from a source, poll by poll, and takes no byte after it.
 ///
-/// It holds the bytes that it took, and loses none of them where a poll does not answer a header or
-/// a fault of the bytes. Then it is as new.
+/// It holds the bytes that it took, and loses none of them if a poll returns neither a header nor a
+/// parse error. Otherwise it is as new.
 #[derive(Drop)]
 pub struct HeaderReading {
     bytes: [u8; 16],
     len: usize,
 }
 
-// How many bytes it holds.
+// The number of bytes held.
 impl fmt::Debug for HeaderReading {
     fn fmt<W: fmt::Write>(&self, f: &mut fmt::Formatter<W>) -> fmt::Result {
         f.debug_struct("HeaderReading")
@@ -130,7 +131,7 @@ impl Model for HeaderReading {
 }
 
 impl HeaderReading {
-    /// A reading that has taken nothing. Not in the Rust crate.
+    /// Creates a state that has read nothing. Not in the Rust crate.
     pub fn new() -> Self
         ensures { result ≡ [] }
     {
@@ -140,14 +141,15 @@ impl HeaderReading {
         }
     }
 
-    /// Reads on as far as the source goes, in at most 16 calls, and takes no memory.
+    /// Reads as far as the source goes, in at most 16 calls, and does not allocate.
     ///
-    /// - `Ready(Ok(header))` or `Ready(Err(Parse(fault)))`: by `StreamHeader::read` of what was
-    ///   taken and is ahead. The source stands right behind the bytes that decided.
-    /// - `Ready(Err(IO(fault)))`: the source gave no more, and too few bytes came. All are held.
-    /// - `Pending`: the source was not ready. All that came is held.
+    /// - `Ready(Ok(header))` or `Ready(Err(Parse(fault)))`: the result of `StreamHeader::read` of
+    ///   the bytes taken and ahead. The source is positioned right after the bytes that decided.
+    /// - `Ready(Err(IO(fault)))`: the source gave no more bytes, and there were too few. All are
+    ///   held.
+    /// - `Pending`: the source was not ready. All bytes received are held.
     ///
-    /// It may be polled again after each of these, over the same source or another.
+    /// It may be polled again after each of these, with the same source or another.
     pub fn poll<S: AsyncRead>(
         &mut self,
         source: &mut S,
@@ -168,7 +170,7 @@ impl HeaderReading {
     }
 }
 
-/// What the bytes of a whole header, and no more, are.
+/// Returns what the bytes of a complete header, and no more, are.
 fn read_whole(bytes: &[u8]) -> Result<StreamHeader, IoReadError>
     requires { header_need bytes.now ≡ length bytes.now }
     ensures { IsWhole result bytes.now }
@@ -181,7 +183,7 @@ fn read_whole(bytes: &[u8]) -> Result<StreamHeader, IoReadError>
     }
 }
 
-/// What a reading of a header answers that halted with so many bytes taken.
+/// Returns the result of reading a header that stopped after `taken` bytes.
 fn halted_header<T>(halt: Halt, taken: usize) -> Polled<Result<T, IoReadError>>
     ensures { result ≡ halted_header halt taken }
 {
@@ -199,8 +201,8 @@ fn halted_header<T>(halt: Halt, taken: usize) -> Polled<Result<T, IoReadError>>
 
 /// Writes one stream header to a sink, poll by poll.
 ///
-/// It knows how many of the header's bytes were sent, and sends none of them twice. It takes no
-/// memory; the sink may.
+/// It counts the bytes of the header sent, and sends none of them twice. It does not allocate; the
+/// sink may.
 #[derive(Drop)]
 pub struct HeaderWriting {
     bytes: [u8; 16],
@@ -208,7 +210,7 @@ pub struct HeaderWriting {
     sent: usize,
 }
 
-// How many bytes were sent.
+// The number of bytes sent.
 impl fmt::Debug for HeaderWriting {
     fn fmt<W: fmt::Write>(&self, f: &mut fmt::Formatter<W>) -> fmt::Result {
         f.debug_struct("HeaderWriting")
@@ -226,7 +228,7 @@ impl Model for HeaderWriting {
 }
 
 impl HeaderWriting {
-    /// Writes on as far as the sink goes, as `FrameWriting` does.
+    /// Writes as far as the sink goes, as `FrameWriting` does.
     pub fn poll<W: AsyncWrite>(&mut self, sink: &mut W) -> Polled<Result<(), IoWriteError>>
         ensures on { GoesOn self.old self.new }
         ensures whole { IsSent result self.new }
