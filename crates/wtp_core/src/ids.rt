@@ -142,7 +142,7 @@ impl SessionId {
         SessionId::try_from_session_stream(StreamId::new(varint))
     }
 
-    /// Returns the session of this stream. The caller guarantees that its two lowest bits are 0.
+    /// Returns the session of this stream. Requires that its two lowest bits are 0.
     pub fn from_session_stream_unchecked(stream_id: StreamId) -> Self
         requires { IsSession stream_id }
         ensures { result ≡ stream_id }

@@ -61,7 +61,7 @@ impl VarInt {
         }
     }
 
-    /// Creates the integer `value`. The caller guarantees that it is less than 2^62.
+    /// Creates the integer `value`. Requires that it is less than 2^62.
     pub fn from_u64_unchecked(value: u64) -> Self
         requires { value < 2 ^ 62 }
         ensures { result ≡ value }

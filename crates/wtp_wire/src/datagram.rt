@@ -72,7 +72,7 @@ impl<'a> Datagram<'a> {
     }
 
     /// Returns the number of bytes that `write` writes: the quarter stream ID in its shortest
-    /// encoding, and the payload. The caller guarantees that there are fewer than 2^64.
+    /// encoding, and the payload. Requires that there are fewer than 2^64.
     #[tactic(auto, unfolding(crate::specs::Datagram::datagram_wire))]
     pub fn write_size(&self) -> usize
         requires { length (shortest self.now.0) + length self.now.1 < 2 ^ 64 }

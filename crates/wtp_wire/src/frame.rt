@@ -155,7 +155,7 @@ impl<'a> Frame<'a> {
     const MAX_PARSE_PAYLOAD_ALLOWED: u64 = 4096;
 
     /// Creates a HEADERS frame with this payload, an encoded field section (RFC 9114, section
-    /// 7.2.2). The payload has fewer than 2^62 bytes.
+    /// 7.2.2). Requires that the payload has fewer than 2^62 bytes.
     pub fn new_headers(payload: CowSlice<'a, u8>) -> Self
         requires { length (cow_slice_items payload) < 2 ^ 62 }
         ensures { result ≡ HeadersOf (cow_slice_items payload.entry) }
@@ -166,8 +166,8 @@ impl<'a> Frame<'a> {
         }
     }
 
-    /// Creates a SETTINGS frame with this payload (RFC 9114, section 7.2.4). The payload has fewer
-    /// than 2^62 bytes.
+    /// Creates a SETTINGS frame with this payload (RFC 9114, section 7.2.4). Requires that the
+    /// payload has fewer than 2^62 bytes.
     pub fn new_settings(payload: CowSlice<'a, u8>) -> Self
         requires { length (cow_slice_items payload) < 2 ^ 62 }
         ensures { result ≡ SettingsOf (cow_slice_items payload.entry) }
@@ -190,7 +190,7 @@ impl<'a> Frame<'a> {
     }
 
     /// Creates a frame of a type that is reserved for exercise (see `FrameKind::is_id_exercise`;
-    /// RFC 9114, section 7.2.8). The payload has fewer than 2^62 bytes.
+    /// RFC 9114, section 7.2.8). Requires that the payload has fewer than 2^62 bytes.
     pub fn new_exercise(id: VarInt, payload: CowSlice<'a, u8>) -> Self
         requires reserved { IsTrue (is_exercise id) }
         requires fits { length (cow_slice_items payload) < 2 ^ 62 }
@@ -202,8 +202,8 @@ impl<'a> Frame<'a> {
         }
     }
 
-    /// Creates a DATA frame with this payload (RFC 9114, section 7.2.1). The payload has fewer than
-    /// 2^62 bytes.
+    /// Creates a DATA frame with this payload (RFC 9114, section 7.2.1). Requires that the payload
+    /// has fewer than 2^62 bytes.
     pub fn new_data(payload: CowSlice<'a, u8>) -> Self
         requires { length (cow_slice_items payload) < 2 ^ 62 }
         ensures { result ≡ DataOf (cow_slice_items payload.entry) }
