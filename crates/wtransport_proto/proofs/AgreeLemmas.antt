@@ -14,7 +14,7 @@ use Rattle.wtransport_proto.specs.Agreeing.{EndsBy, EndsAfter, Agrees}
 use Rattle.wtransport_proto.proofs.RunLemmas.{run-step, past_unknown-shorter, past_unknown-unknown, past_unknown-framed, past_unknown-bad, past_unknown-big, past_unknown-short}
 use Rattle.wtransport_proto.proofs.RemainderLemmas.{remainder-at, remainder-allowed, remainder-refused}
 
--- ---- no unknown frame is in front after the unknown frames
+-- ---- no unknown frame follows the unknown frames
 
 not_unknown : (bytes : List ℕ) (c : Front) → front bytes ≡ c → ((rest : List ℕ) → length rest < length bytes → (r : List ℕ) → front (past_unknown rest) ≢ Unknown r) → (r : List ℕ) → front (past_unknown bytes) ≢ Unknown r
 not_unknown bytes (Framed f rest) e more r = λ u. let known = past_unknown-framed bytes rest f e in let g = ap (λ (l : List ℕ). front l) known in cc
@@ -35,7 +35,7 @@ past_unknown-not_unknown bytes r = known_within (suc (length bytes)) bytes (omeg
 run_at : (role : Role) (first : Bool) (bytes : List ℕ) (tail : Tail) (c : Front) → front (past_unknown bytes) ≡ c → run role first bytes tail ≡ next_run (λ f r. run role f r tail) role first bytes (past_unknown bytes) tail c
 run_at role first bytes tail c e = run-step role first bytes tail ∙ ap (λ (x : Front). next_run (λ f r. run role f r tail) role first bytes (past_unknown bytes) tail x) e
 
--- what ends here, by the case here
+-- what ends here, by the first frame here
 ends_here : (role : Role) (first : Bool) (bytes : List ℕ) (tail : Tail) (c : Front) (left : Remainder) (ending : Ending) → front (past_unknown bytes) ≡ c → left ≡ remainder_here first bytes → EndsBy role tail (remainder_here first bytes) c ending → EndsAfter role tail left ending
 ends_here role first bytes tail c left ending e is h = rw (is, e) h
 
@@ -92,7 +92,7 @@ frames_within (suc n) role first bytes t u l =
     ∙ frames_case role first bytes t u (front (past_unknown bytes)) refl (λ rest less. frames_within n role false rest t u (omega arith))
     ∙ ap (λ (x : Run). x.frames) (sym (run-step role first bytes u))
 
--- ---- what is left is a rest
+-- ---- what is left is a suffix
 
 rest_framed : (bytes rest : List ℕ) (f : Content) → front bytes ≡ Framed f rest → IsRest rest bytes
 rest_framed bytes rest f e = elim (front_holds bytes) [

@@ -34,7 +34,7 @@ module _ {X : Type 0} where
   pub first_on : (first : X → Bool) (x y z : X) → ChangesFirst first x y → ChangesFirst first y z → ChangesFirst first x z
   first_on first x y z p q = record { same = first_then first x y z (first y) (first z) refl refl p q; for_good = λ e. q.for_good (p.for_good e) }
 
--- ---- the frames put out
+-- ---- the frames produced
 
 pub pushed : (xs items items' : List Content) (f : Content) → items ≡ xs ++ drop (length xs) items → items' ≡ items ++ f ∷ [] → drop (length xs) items' ≡ drop (length xs) items ++ f ∷ []
 pushed xs items items' f e p =
@@ -119,7 +119,7 @@ ended role f0 f1 f2 old mid new fs x n a b c g t = record {
   fault = rw (ap (λ (r : Run). r.ending) g.run) t.ends.fault;
 }
 
--- ---- each answer of one poll more
+-- ---- each result of one more poll
 
 pub told_full : (s t : Option Source) (role : Role) (f0 f1 : Bool) (r0 r1 : Held) (fs : List Content) (n polls : ℕ) → n ≤ polls
     → Telling s t (Drove role f0 f1 r0 r1 fs n)

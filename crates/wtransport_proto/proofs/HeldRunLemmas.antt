@@ -1,4 +1,4 @@
--- The run of what is held, and how it goes on poll by poll.
+-- The run of what is held, and how it continues poll by poll.
 use Rattle.std.proofs.Common.{◌≡◌, ◌≢◌, ℕ, ◌+◌, ◌<◌, ◌≤◌, Bool, false, List, [], ◌∷◌, ◌++◌, length, drop, refl, sym, ap, subst, ◌∙◌, arith, length-append, Option, Some, None, inl, inr}
 use Rattle.std.proofs.lemmas.Bool.{cases_lt, ne_eqb, le-ltb, lt-ltb}
 use Rattle.wtp_core.specs.declared.error.ErrorCode.{ErrorCode}
@@ -19,9 +19,9 @@ use Rattle.wtransport_proto.specs.StreamPolling.{TakesFrame, PassesUnknown}
 use Rattle.wtransport_proto.proofs.RunLemmas.{run-step, past_unknown-framed, past_unknown-bad, past_unknown-big, past_unknown-short}
 use Rattle.wtransport_proto.proofs.ReadingLemmas.{run-unknown}
 
--- ---- where nothing is due
+-- ---- if no bytes are still to be skipped
 
--- no case of bytes that are due
+-- no case of bytes that are still to be skipped
 abbrev IsRead : Front → Type 0
 IsRead (Framed f rest) = Unit {0}
 IsRead (Unknown rest) = ⊥
@@ -101,7 +101,7 @@ unknown_size first next old new a b p = elim (cases_lt 0 old.due) [
   | inr l ↦ omega (arith, skips_size old new a b p.skips, head_some old new a b p.skips (omega arith))
 ]
 
--- ---- runs by the front
+-- ---- runs by the first frame
 
 pub run_framed : (role : Role) (first : Bool) (h : Held) (xs rest : List ℕ) (tail : Tail) (f : Content) → front_held h xs ≡ Framed f rest → rule role first (kind_in f) ≡ None → run_held role first h xs tail ≡ follows f (run role false rest tail)
 unfolding run_held
@@ -130,7 +130,7 @@ stop_is bytes Lost = stop_lost bytes
     stop_lost [] = refl
     stop_lost (b ∷ l) = refl
 
--- the run of whole bytes goes by their front
+-- the run of whole bytes goes by their first frame
 run_by_front : (role : Role) (first : Bool) (tail : Tail) (bytes : List ℕ) (c : Front) → tail ≢ MayGoOn → front bytes ≡ c → run_by role first tail (length bytes) c ≡ run role first bytes tail
 run_by_front role first tail bytes (Unknown rest) t e = sym (run-unknown role first bytes rest tail t e)
 run_by_front role first tail bytes (Framed f rest) t e = sym (run-step role first bytes tail ∙ rw (past_unknown-framed bytes rest f e, e) refl)
@@ -138,7 +138,7 @@ run_by_front role first tail bytes (BadId rest) t e = sym (run-step role first b
 run_by_front role first tail bytes (TooBig rest) t e = sym (run-step role first bytes tail ∙ rw (past_unknown-big bytes rest e, e) refl)
 run_by_front role first tail bytes Short t e = sym (run-step role first bytes tail ∙ rw (past_unknown-short bytes e, e) (ap (λ (x : Ending). ends x) (stop_is bytes tail)))
 
--- where nothing is due it is the run of all bytes
+-- if no bytes are still to be skipped it is the run of all bytes
 pub run_held-run : (role : Role) (first : Bool) (h : Held) (xs : List ℕ) (tail : Tail) → tail ≢ MayGoOn → h.due ≡ 0 → run_held role first h xs tail ≡ run role first (h.taken ++ xs) tail
 run_held-run role first h xs tail t z =
     let n : count_held h xs ≡ length (h.taken ++ xs) = omega arith in
@@ -154,7 +154,7 @@ closed AtDisconnection = λ h. cc
 pub run_new : (role : Role) (first : Bool) (new : Held) (b : Source) → new ≡ new_held → run_of role first new b ≡ run role first b.ahead (tail_of b.ending)
 run_new role first new b e = rw e (run_held-run role first new_held b.ahead (tail_of b.ending) (closed b.ending) refl)
 
--- ---- polls carry the run on
+-- ---- polls continue the run
 
 stop_some : (e : source.Ending) (n m : ℕ) → 0 < n → 0 < m → stop_of n (tail_of e) ≡ stop_of m (tail_of e)
 stop_some AtEnd n m l k = rw (ne_eqb n 0 (λ z. omega arith), ne_eqb m 0 (λ z. omega arith)) refl
@@ -196,7 +196,7 @@ frame_run role first next old new f a b t ending =
     ∙ ap (λ (x : source.Ending). follows f (run role false b.ahead (tail_of x))) (sym ending)
     ∙ ap (λ (r : Run). follows f r) (sym (run_new role false new b t.decided.empty) ∙ ap (λ (x : Bool). run_of role x new b) (sym t.flag))
 
--- ---- where payload bytes of an unknown frame are due
+-- ---- if payload bytes of an unknown frame are still to be skipped
 
 skip_there : (d : ℕ) (xs : List ℕ) → d ≤ length xs → skip_front d xs ≡ Unknown (drop d xs)
 unfolding bytes_at

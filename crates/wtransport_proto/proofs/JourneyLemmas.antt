@@ -1,4 +1,4 @@
--- A header map's way: what polls of a sending and of a reading add up to, and that the map comes back.
+-- The journey of a header map: what polls of a sending and of a reading add up to, and that the map comes back.
 use Rattle.std.proofs.Common.{◌≡◌, ◌≢◌, ℕ, ◌+◌, ◌*◌, ◌<◌, ◌≤◌, Bool, false, List, [], ◌∷◌, ◌++◌, length, refl, sym, ap, ◌∙◌, arith, inl, inr, Option, None, Result, Ok, Err}
 use Rattle.std.proofs.lemmas.Bool.{cases_lt}
 use Rattle.wtp_core.specs.declared.bytes.polled.Polled.TheVariants.{Pending, Again, NoMemory}
@@ -41,7 +41,7 @@ headers_allowed InSession first h = refl
 pub headers-run : (role : Role) (first : Bool) (p rest : List ℕ) (tail : Tail) → role ≢ RemoteUni → length p ≤ 4096 → run role first (wire (HeadersOf p) ++ rest) tail ≡ follows (HeadersOf p) (run role false rest tail)
 headers-run role first p rest tail h small = run-allowed role first (wire (HeadersOf p) ++ rest) rest tail (HeadersOf p) (front-wire (HeadersOf p) rest small) (headers_allowed role first h)
 
--- ---- the front behind unknown frames
+-- ---- the first frame after unknown frames
 
 past_case : (bytes : List ℕ) (c : Front) → front bytes ≡ c → past_front c ≡ front (past_unknown bytes)
 past_case bytes (Framed f rest) e = sym (ap front (past_unknown-framed bytes rest f e) ∙ e)
@@ -102,7 +102,7 @@ turned_unknown role f0 f1 f2 n mid new a b c g p k = record {
   waited = λ f rest is. let one = g.waited f rest is in absurd (no_unknown f1 f2 mid new b c f rest p one.0);
 }
 
--- ---- the same of what is told
+-- ---- the same for models
 
 pub told_start : (s : Option Source) (role : Role) (first : Bool) (h : Held) → h ≡ new_held → Telling s s (Turned role first first 0 h)
 told_start s role first h e = telling_same s (Turned role first first 0 h) (λ a. turned_start role first h a e)
@@ -148,7 +148,7 @@ is_headers (SettingsOf p) e = absurd (cc)
 is_headers (WebTransportOf id) e = absurd (cc)
 is_headers (ExerciseOf number p) e = absurd (cc)
 
--- the frame that was taken is the one in front
+-- the frame that was taken is the first frame of the input
 found : (role : Role) (first next : Bool) (f g : Content) (rest : List ℕ) (a b : Source) → front a.ahead ≡ Framed g rest → Takes role first next f a b → (f ≡ g) × (b.ahead ≡ rest)
 found role first next f g rest a b is t =
     let both : Framed f b.ahead ≡ Framed g rest = sym t.known ∙ ap front (past_unknown-framed a.ahead rest g is) ∙ is in

@@ -18,7 +18,7 @@ use Rattle.wtransport_proto.proofs.RunLemmas.{past_unknown-framed, past_unknown-
 use Rattle.wtransport_proto.proofs.RemainderLemmas.{after-unknown, after-known}
 use Rattle.wtransport_proto.proofs.HeldRunLemmas.{run_framed}
 
--- ---- places by the case in front
+-- ---- places by the first frame
 
 pub place_case : (role : Role) (first : Bool) (h : Held) (xs : List ℕ) (c : Front) → front_held h xs ≡ c → place_held role first h xs ≡ place_by role first h xs c
 unfolding place_held
@@ -46,7 +46,7 @@ by_new role first bytes (BadId rest) e = let known : past_unknown bytes ≡ byte
 by_new role first bytes (TooBig rest) e = let known : past_unknown bytes ≡ bytes = past_unknown-big bytes rest e in here_same first bytes known ∙ sym (after-known role first bytes (TooBig rest) known e)
 by_new role first bytes Short e = let known : past_unknown bytes ≡ bytes = past_unknown-short bytes e in here_same first bytes known ∙ sym (after-known role first bytes Short known e)
 
--- where nothing is held it is the place after the frames of the bytes
+-- if nothing is held it is the place after the frames of the bytes
 pub place_new : (role : Role) (first : Bool) (bytes : List ℕ) → place_held role first new_held bytes ≡ place_after (remainder role first bytes)
 place_new role first bytes =
     place_case role first new_held bytes (front bytes) (front_none [] 0 bytes refl)

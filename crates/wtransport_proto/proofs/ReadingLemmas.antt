@@ -1,4 +1,4 @@
--- What reading a frame says of the first known frame, and of the run.
+-- What reading a frame determines about the first known frame, and about the run.
 use Rattle.std.proofs.Common.{◌≡◌, ◌≢◌, [], ◌∷◌, ℕ, Bool, false, List, length, Option, Some, None, Ok, Err, refl, sym, ap, ◌∙◌, inl, inr}
 use Rattle.wtp_core.specs.declared.error.ErrorCode.{ErrorCode}
 use Rattle.wtp_core.specs.declared.error.ErrorCode.TheVariants.{Id, ExcessiveLoad}
@@ -15,7 +15,7 @@ use Rattle.wtp_wire.specs.declared.frame.FrameKind.TheVariants.{Data, Headers, S
 use Rattle.wtransport_proto.specs.Reading.{AnswersKnown, AnswersFrame, FirstAfter, StandsAfter, verdict}
 use Rattle.wtransport_proto.proofs.RunLemmas.{past_unknown-unknown, past_unknown-framed, past_unknown-bad, past_unknown-big, past_unknown-short, run-step}
 
--- only unknown frames were passed between old and cur
+-- only unknown frames were skipped between old and cur
 pub record Passes (old cur : List ℕ) : Type 0 where
   pub known : past_unknown old ≡ past_unknown cur
   pub rest : IsRest cur old
@@ -86,7 +86,7 @@ err_case role first next old left d Short e (answer, later) = absurd cc
 pub run-err : (role : Role) (first next : Bool) (old left : List ℕ) (d : ErrorCode) → AnswersFrame role first (front (past_unknown old)) (Err d) next left → run role first old MayGoOn ≡ ends (H3 d)
 run-err role first next old left d h = err_case role first next old left d (front (past_unknown old)) refl h
 
--- the same for each answer of a reader ahead, whose bytes and whose end are those of the reader
+-- the same for each result of a reader ahead, whose bytes and whose end are those of the reader
 pub run_some : (role : Role) (first next : Bool) (old ahead left new : List ℕ) (o : Option Content) (f : Content) → ahead ≡ old → o ≡ Some f → new ≡ left → AnswersFrame role first (front (past_unknown ahead)) (Ok o) next left → run role first old MayGoOn ≡ follows f (run role next new MayGoOn)
 run_some role first next old ahead left new o f e is n h = rw (← e, n) (run-some role first next ahead left f (rw is at h))
 
@@ -134,7 +134,7 @@ err_place role first next left d Short (answer, later) = later
 pub place_err : (role : Role) (first next : Bool) (old ahead left new : List ℕ) (d : ErrorCode) → ahead ≡ old → new ≡ old → AnswersFrame role first (front (past_unknown ahead)) (Err d) next left → StandsAfter role first old (Err d) next new
 place_err role first next old ahead left new d e n h = (rw (← e) (err_place role first next left d (front (past_unknown ahead)) h), n)
 
--- unknown frames are passed over, where the bytes end
+-- unknown frames are skipped, if the bytes end
 same_stop : (bytes other rest : List ℕ) (tail : Tail) → tail ≢ MayGoOn → stop bytes rest tail ≡ stop other rest tail
 same_stop bytes other rest MayGoOn h = absurd (h refl)
 same_stop bytes other [] Ended h = refl

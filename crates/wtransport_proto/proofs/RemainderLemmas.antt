@@ -44,7 +44,7 @@ remainder-step role first bytes =
     let past : length (past_unknown bytes) ≤ length bytes = past_unknown-shorter bytes in
     within_enough (length bytes) (length rest) role false rest (omega arith) (omega arith))
 
--- by the case of the bytes after the unknown frames
+-- by the first frame of the bytes after the unknown frames
 pub remainder-at : (role : Role) (first : Bool) (bytes : List ℕ) (c : Front) → front (past_unknown bytes) ≡ c → remainder role first bytes ≡ next_remainder (λ f r. remainder role f r) role first bytes c
 remainder-at role first bytes c e = remainder-step role first bytes ∙ ap (λ (x : Front). next_remainder (λ f r. remainder role f r) role first bytes x) e
 
@@ -60,7 +60,7 @@ remainder-refused role first bytes rest f code e refused =
 
 -- ---- the place after it
 
--- the unknown frames in front of the bytes are left out
+-- the unknown frames before the bytes are left out
 after_same : (first : Bool) (xs ys : List ℕ) → past_unknown xs ≡ past_unknown ys → place_after (record { first = first; bytes = xs }) ≡ place_after (record { first = first; bytes = ys })
 after_same first xs ys e = ap (λ (l : List ℕ). record { first = first; held = record { taken = []; due = 0 }; ahead = l }) e
 
@@ -82,7 +82,7 @@ after-unknown role first bytes rest e =
     ∙ after_next (λ f r. remainder role f r) role first bytes rest (front (past_unknown rest)) past
     ∙ ap (λ (r : Remainder). place_after r) (sym (remainder-step role first rest))
 
--- where no unknown frame is in front
+-- if the input does not start with an unknown frame
 pub after-known : (role : Role) (first : Bool) (bytes : List ℕ) (c : Front) → past_unknown bytes ≡ bytes → front bytes ≡ c → place_after (remainder role first bytes) ≡ place_after (next_remainder (λ f r. remainder role f r) role first bytes c)
 after-known role first bytes c known e = ap (λ (r : Remainder). place_after r) (remainder-at role first bytes c (ap (λ (l : List ℕ). front l) known ∙ e))
 

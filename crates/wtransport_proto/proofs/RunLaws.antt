@@ -1,4 +1,4 @@
--- The sentences of a run.
+-- The laws of a run.
 use Rattle.std.proofs.Common.{◌≡◌, ◌≢◌, ℕ, Bool, false, List, Option, Some, None, refl, sym, ap, ◌∙◌}
 use Rattle.wtp_core.specs.declared.error.ErrorCode.{ErrorCode}
 use Rattle.wtp_core.specs.declared.error.ErrorCode.TheVariants.{Id, ExcessiveLoad}
@@ -9,7 +9,7 @@ use Rattle.wtransport_proto.specs.Run.{Run, Tail, MayGoOn, H3, past_unknown, run
 use Rattle.wtransport_proto.proofs.RunLemmas.{past_unknown-unknown, past_unknown-framed, past_unknown-bad, past_unknown-big, past_unknown-short, run-step}
 use Rattle.wtransport_proto.proofs.ReadingLemmas.{rule_first}
 
--- no unknown frame stands at the front, and the bytes are of this case
+-- the bytes do not start with an unknown frame, and are of this case
 run_at : (role : Role) (first : Bool) (bytes : List ℕ) (tail : Tail) (c : Front) → past_unknown bytes ≡ bytes → front bytes ≡ c → run role first bytes tail ≡ next_run (λ f r. run role f r tail) role first bytes bytes tail c
 run_at role first bytes tail c known e =
     run-step role first bytes tail
@@ -33,7 +33,7 @@ run-too_big role first bytes rest tail e = run_at role first bytes tail (TooBig 
 pub run-short : (role : Role) (first : Bool) (bytes : List ℕ) (tail : Tail) → front bytes ≡ Short → run role first bytes tail ≡ ends (stop bytes bytes tail)
 run-short role first bytes tail e = run_at role first bytes tail Short (past_unknown-short bytes e) e
 
--- ---- unknown frames, where the bytes may go on
+-- ---- unknown frames, if the bytes may go on
 
 counted_judged : (o : Option ErrorCode) (bytes : List ℕ) (f : Content) (r : Run) → counted bytes (judged o f r) ≡ judged o f r
 counted_judged None bytes f r = refl
@@ -53,7 +53,7 @@ run-unknown_open role first bytes rest e =
     ∙ counted_next role first bytes rest (past_unknown rest) (front (past_unknown rest)) (λ f r. run role f r MayGoOn)
     ∙ ap (λ (r : Run). counted bytes r) (sym (run-step role first rest MayGoOn))
 
--- ---- the bytes behind unknown frames
+-- ---- the bytes after unknown frames
 
 known_case : (bytes : List ℕ) (c : Front) → front bytes ≡ c → ((rest : List ℕ) → front bytes ≢ Unknown rest) → past_unknown bytes ≡ bytes
 known_case bytes (Framed f rest) e h = past_unknown-framed bytes rest f e
@@ -65,7 +65,7 @@ known_case bytes Short e h = past_unknown-short bytes e
 pub past_unknown-known : (bytes : List ℕ) → ((rest : List ℕ) → front bytes ≢ Unknown rest) → past_unknown bytes ≡ bytes
 past_unknown-known bytes h = known_case bytes (front bytes) refl h
 
--- ---- streams that don't tell the first frame from the others
+-- ---- streams that do not distinguish the first frame from the others
 
 same_next : (role : Role) (f g : Bool) (bytes rest : List ℕ) (tail : Tail) (c : Front) (more : Bool → List ℕ → Run) → role ≢ RemoteBi → next_run more role f bytes rest tail c ≡ next_run more role g bytes rest tail c
 same_next role f g bytes rest tail (Framed x behind) more h = ap (λ (o : Option ErrorCode). judged o x (more false behind)) (rule_first role f g (kind_in x) h)

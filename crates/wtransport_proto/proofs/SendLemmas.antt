@@ -41,7 +41,7 @@ wire_some (SettingsOf p) = first_some 0x04 (shortest (length p) ∷ p ∷ [])
 wire_some (WebTransportOf id) = first_some 0x41 (shortest id ∷ [])
 wire_some (ExerciseOf number p) = first_some number (shortest (length p) ∷ p ∷ [])
 
--- in so many turns, each of which waited, the sink took so many bytes
+-- in this many turns, each of which waited, the sink took this many bytes
 abbrev pub Waited : List ℕ → ℕ → ℕ → Sink → Sink → Type 0
 Waited whole sent turns a b = Took a b (take sent whole) turns 0 0
 

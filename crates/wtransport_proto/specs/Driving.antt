@@ -12,7 +12,7 @@ use Rattle.wtransport_proto.specs.HeldRun.{run_of, size_of}
 use Rattle.wtransport_proto.specs.Place.{place_of, SamePlace, StopsAt}
 use Rattle.wtransport_proto.specs.StreamPolling.{EndsSo, IsDry}
 
--- A stream changed in nothing but whether its next frame is the first, and that for good.
+-- A stream changed in nothing but whether its next frame is the first, and that permanently.
 pub record ChangesFirst {X : Type 0} (first : X → Bool) (old new : X) : Type 0 where
   pub same : first new ≡ first old → new ≡ old
   pub for_good : first old ≡ false → first new ≡ false
@@ -21,20 +21,20 @@ pub record ChangesFirst {X : Type 0} (first : X → Bool) (old new : X) : Type 0
 abbrev pub after : List Content → Run → Run
 after fs r = record { frames = fs ++ r.frames; ending = r.ending }
 
--- The run of before is these frames, and then that of now.
+-- The run from before is these frames, and then the run from now.
 abbrev pub RunsOn : Role → Bool → Bool → Held → Held → List Content → Source → Source → Type 0
 RunsOn role first next old new fs a b = run_of role first old a ≡ after fs (run_of role next new b)
 
--- what so many polls did to a source that tells: no byte more is held and ahead than before
+-- what this many polls did to a source with a model: no more bytes are held and ahead than before
 pub record DriveKeeps (old new : Held) (polls : ℕ) (a b : Source) : Type 0 where
   pub size : size_of new b ≤ size_of old a
   pub asks : Asks (4112 * polls) a b
 
--- The place where the run ends is the same as before: no byte was lost, not even one after the fault that is to come.
+-- The place where the run ends is the same as before: no byte was lost, not even one after the fault that follows.
 abbrev pub KeepsPlace : Role → Bool → Bool → Held → Held → Source → Source → Type 0
 KeepsPlace role first next old new a b = SamePlace (place_of role first old a) (place_of role next new b)
 
--- What a drive did that put out the frames fs. Where it ended, reading, source and flag are as the fault's poll leaves
+-- What a drive did that produced the frames fs. If it ended, reading, source and flag are as the fault's poll leaves
 -- them, at the place where the run of what was there ends.
 abbrev pub DriveDid : Role → Driven → Bool → Bool → Held → Held → List Content → ℕ → Source → Source → Type 0
 DriveDid role (driven.Ended x) first next old new fs polls a b = EndsSo (run_of role first old a) fs x × IsDry x b × DriveKeeps old new polls a b × StopsAt role (place_of role first old a) next new b.ahead
@@ -42,7 +42,7 @@ DriveDid role driven.Waiting first next old new fs polls a b = RunsOn role first
 DriveDid role driven.Spent first next old new fs polls a b = RunsOn role first next old new fs a b × (size_of new b + polls ≤ size_of old a) × DriveKeeps old new polls a b × KeepsPlace role first next old new a b
 DriveDid role driven.NoMemory first next old new fs polls a b = RunsOn role first next old new fs a b × DriveKeeps old new polls a b × KeepsPlace role first next old new a b
 
--- what a drive did so far, in so many polls that each took something
+-- what a drive did so far, in this many polls that each took something
 pub record Drove (role : Role) (first next : Bool) (old new : Held) (fs : List Content) (polls : ℕ) (a b : Source) : Type 0 where
   pub run : RunsOn role first next old new fs a b
   pub place : KeepsPlace role first next old new a b

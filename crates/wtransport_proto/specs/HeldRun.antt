@@ -1,8 +1,7 @@
--- The run of what a reading holds and of the bytes ahead of it.
+-- The run of what a reading holds and of the bytes ahead.
 --
--- It is the run of the bytes held and those ahead behind them; where payload bytes of an unknown frame are
--- due in place of bytes held, it is the run of the bytes behind those. The law `run_held_by_bytes` says
--- just that.
+-- It is the run of the bytes held followed by those ahead; if payload bytes of an unknown frame are still to be skipped
+-- in place of bytes held, it is the run of the bytes after those. The law `run_held_by_bytes` states exactly that.
 use Rattle.std.specs.Prelude.{ℕ, ◌+◌, ◌==◌, Bool, false, List, ◌++◌, length, if◌then◌else◌}
 use Rattle.wtp_core.specs.declared.error.ErrorCode.TheVariants.{Id, ExcessiveLoad, Frame}
 use Rattle.wtp_core.specs.Source.{Source, AtEnd, AtReset, AtDisconnection}
@@ -19,14 +18,14 @@ tail_of AtEnd = Ended
 tail_of AtReset = WasReset
 tail_of AtDisconnection = Lost
 
--- the ending where the bytes are too few for a frame, and so many are there
+-- the ending if the bytes are too few for a frame, and this many are there
 abbrev pub stop_of : ℕ → Tail → Ending
 stop_of n MayGoOn = Open n
 stop_of n Ended = if n == 0 then ImmediateFin else H3 Frame
 stop_of n WasReset = Reset
 stop_of n Lost = NotConnected
 
--- the run by the case in front
+-- the run by the first frame
 abbrev pub run_by : Role → Bool → Tail → ℕ → Front → Run
 run_by role first tail n (Framed f rest) = judged (rule role first (kind_in f)) f (run role false rest tail)
 run_by role first tail n (Unknown rest) = run role first rest tail
@@ -34,7 +33,7 @@ run_by role first tail n (BadId rest) = ends (H3 Id)
 run_by role first tail n (TooBig rest) = ends (H3 ExcessiveLoad)
 run_by role first tail n Short = ends (stop_of n tail)
 
--- how many bytes are held and ahead; those that are due count too
+-- the number of bytes held and ahead; those still to be skipped count too
 abbrev pub count_held : Held → List ℕ → ℕ
 count_held h ahead = h.due + length (h.taken ++ ahead)
 
@@ -46,6 +45,6 @@ run_held role first h ahead tail = run_by role first tail (count_held h ahead) (
 abbrev pub run_of : Role → Bool → Held → Source → Run
 run_of role first h s = run_held role first h s.ahead (tail_of s.ending)
 
--- how many bytes are held and ahead of a source
+-- the number of bytes held and ahead in a source
 abbrev pub size_of : Held → Source → ℕ
 size_of h s = length (h.taken ++ s.ahead)

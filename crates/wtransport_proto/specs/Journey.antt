@@ -1,4 +1,4 @@
--- A header map's way over a stream: sent whole by one end, and read back by the other.
+-- The journey of a header map over a stream: sent completely by one end, and read back by the other.
 use Rattle.std.specs.Prelude.{◌≡◌, ◌≢◌, ℕ, ◌+◌, ◌<◌, ◌≤◌, Bool, false, List, [], ◌++◌, length, take, None, Result, Ok, Err}
 use Rattle.wtp_core.specs.declared.bytes.polled.IoWriteError.TheVariants as fault
 use Rattle.wtp_core.specs.declared.error.Refused.TheVariants as refused
@@ -24,11 +24,12 @@ use Rattle.wtransport_proto.specs.HeldRun.{tail_of, run_of, size_of}
 use Rattle.wtransport_proto.specs.StreamPolling.{EndsSo, IsDry}
 use Rattle.wtransport_proto.specs.Reading.{FirstAfter}
 
--- In all of these, a and b are what the sink or the source tells before and after the call.
+-- In all of these, a and b are the models of the sink or the source before and after the call.
 
 -- ---- sending
 
--- the sink took all of these bytes, within so many turns: each turn but the last waited, and neither stopped nor was lost
+-- the sink took all of these bytes, within this many turns: each turn but the last waited, and neither stopped nor was
+-- lost
 abbrev pub SentWhole : List ℕ → ℕ → Sink → Sink → Type 0
 SentWhole whole turns a b = (waits : ℕ) × (waits < turns) × Took a b whole waits 0 0
 
@@ -38,7 +39,8 @@ pub record TookPart (whole : List ℕ) (waits stops losses : ℕ) (a b : Sink) :
   pub part : sent < length whole
   pub took : Took a b (take sent whole) waits stops losses
 
--- Why sending was given up, within so many turns: each turn waited; or each but the last did, and the last one stopped, was lost or found no memory.
+-- Why sending was given up, within this many turns: each turn waited; or each but the last did, and the last one
+-- stopped, was lost or failed to allocate.
 abbrev pub GaveUp : SendError → List ℕ → ℕ → Sink → Sink → Type 0
 GaveUp send.Waiting whole turns a b = TookPart whole turns 0 0 a b
 GaveUp (send.IO fault.Stopped) whole turns a b = (waits : ℕ) × (waits < turns) × TookPart whole waits 1 0 a b
@@ -53,7 +55,7 @@ SendDid whole turns (Err e) a b = GaveUp e whole turns a b
 
 -- In these, first and next say whether the next frame would be the first of its stream.
 
--- the front behind an unknown frame is that of the bytes behind all of them
+-- the first frame after an unknown frame is that of the bytes after all of them
 abbrev pub past_front : Front → Front
 past_front (Framed f rest) = Framed f rest
 past_front (Unknown rest) = front (past_unknown rest)
@@ -61,25 +63,26 @@ past_front (BadId rest) = BadId rest
 past_front (TooBig rest) = TooBig rest
 past_front Short = Short
 
--- No frame came, and this is held of one. Nothing was lost but unknown frames.
+-- No frame was read, and this is held of one. Nothing was lost but unknown frames.
 pub record Kept (role : Role) (first next : Bool) (held : Held) (a b : Source) : Type 0 where
   pub run : run role first a.ahead (tail_of a.ending) ≡ run_of role next held b
   pub known : past_front (front_held held b.ahead) ≡ front (past_unknown a.ahead)
   pub flag : next ≡ first
 
--- Each of so many turns waited or took some of an unknown frame; where a frame stands in front, it still does, and each waited.
+-- Each of this many turns waited or took some of an unknown frame; if the input starts with a frame, it still does, and
+-- each waited.
 pub record Turned (role : Role) (first next : Bool) (turns : ℕ) (held : Held) (a b : Source) : Type 0 where
   pub kept : Kept role first next held a b
   pub moved : size_of held b + a.waits + turns ≤ length a.ahead + b.waits
   pub waited : (f : Content) (rest : List ℕ) → front a.ahead ≡ Framed f rest → (front_held held b.ahead ≡ Framed f rest) × (a.waits + turns ≤ b.waits)
 
--- This frame stands behind the unknown frames in front, the stream allows it, and it was taken, and no byte behind it.
+-- This frame follows the unknown frames at the start, the stream allows it, and it was taken, and no byte after it.
 pub record Takes (role : Role) (first next : Bool) (f : Content) (a b : Source) : Type 0 where
   pub known : front (past_unknown a.ahead) ≡ Framed f b.ahead
   pub allowed : rule role first (kind_in f) ≡ None
   pub flag : next ≡ false
 
--- what decided is taken whole, and no byte behind it; where the bytes are too few, nothing is ahead
+-- what decided is taken completely, and no byte after it; if the bytes are too few, nothing is ahead
 abbrev pub Behind : Front → List ℕ → Type 0
 Behind (Framed f rest) left = left ≡ rest
 Behind (Unknown rest) left = ⊥
@@ -87,7 +90,7 @@ Behind (BadId rest) left = left ≡ rest
 Behind (TooBig rest) left = left ≡ rest
 Behind Short left = left ≡ []
 
--- the stream gives no frame more, and ends with this fault
+-- the stream gives no more frames, and ends with this fault
 pub record Breaks (role : Role) (first next : Bool) (x : IoReadError) (a b : Source) : Type 0 where
   pub ends : EndsSo (run role first a.ahead (tail_of a.ending)) [] x
   pub flag : FirstAfter role first (front (past_unknown a.ahead)) next
@@ -112,7 +115,7 @@ MapDid role first next turns (Err (receive.OtherKind kind)) a b = (f : Content) 
 MapDid role first next turns (Err (receive.Section e)) a b = (p : List ℕ) × Takes role first next (HeadersOf p) a b × (e ≢ refused.Memory → headers_at p ≡ Err e) × (e ≡ refused.Memory → BeginsLine p)
 MapDid role first next turns (Err receive.Memory) a b = FrameDid role first next turns (Err receive.Memory) a b
 
--- m came back, and rest is ahead; or each turn waited, or memory was wanting
+-- m came back, and rest is ahead; or each turn waited, or allocation failed
 abbrev pub CameBack : List Field → List ℕ → ℕ → Result (List Field) ReceiveError → Source → Source → Type 0
 CameBack m rest turns (Ok n) a b = (n ≡ m) × (b.ahead ≡ rest)
 CameBack m rest turns (Err receive.Waiting) a b = a.waits + turns ≤ b.waits
@@ -122,13 +125,14 @@ CameBack m rest turns (Err (receive.Section (refused.Code c))) a b = ⊥
 CameBack m rest turns (Err (receive.Section refused.Memory)) a b = Unit {0}
 CameBack m rest turns (Err receive.Memory) a b = Unit {0}
 
--- Where the frame of the map m stands in front of the source, whatever follows and however it is cut or delayed, and its payload may be read, m comes back.
+-- If the source starts with the frame of the map m, whatever follows and however it is cut or delayed, and its payload
+-- may be read, m comes back.
 abbrev pub ReadsBack : Role → List Field → ℕ → Result (List Field) ReceiveError → Source → Source → Type 0
 ReadsBack role m turns result a b = (rest : List ℕ) → role ≢ RemoteUni → length (payload m) ≤ 4096 → a.ahead ≡ wire (HeadersOf (payload m)) ++ rest → CameBack m rest turns result a b
 
 -- ---- both
 
--- Reading began only where all was sent.
+-- Reading began only if all was sent.
 abbrev pub Sent : List ℕ → ℕ → Result (List Field) JourneyError → Sink → Sink → Type 0
 Sent whole turns (Ok m) a b = SentWhole whole turns a b
 Sent whole turns (Err (journey.Frame e)) a b = b ≡ a
@@ -141,7 +145,7 @@ Received role first next turns (Err (journey.Frame e)) a b = b ≡ a
 Received role first next turns (Err (journey.Send e)) a b = b ≡ a
 Received role first next turns (Err (journey.Receive e)) a b = MapDid role first next turns (Err e) a b
 
--- what holds where reading did not begin
+-- what holds if reading did not begin
 abbrev pub UnlessRead : Result (List Field) JourneyError → Type 0 → Type 0
 UnlessRead (Ok m) P = Unit {0}
 UnlessRead (Err (journey.Frame e)) P = P

@@ -1,7 +1,7 @@
 -- Where a run ends: what its frames leave, of bytes and of what a reading holds (RFC 9114, sections 7.1 and 9).
 --
--- The run of bytes goes on with the bytes after each frame that the stream allows. It ends where no such frame
--- begins, unknown frames passed over. The laws `remainder_by_front` and `place_by_front` say just that.
+-- The run of bytes continues with the bytes after each frame that the stream allows. It ends where no such frame
+-- begins, unknown frames skipped. The laws `remainder_by_front` and `place_by_front` state exactly that.
 use Rattle.std.specs.Prelude.{◌≡◌, ℕ, zero, suc, ◌+◌, ◌<◌, Bool, false, List, [], ◌++◌, length, Option, Some, None}
 use Rattle.wtp_core.specs.declared.error.ErrorCode.{ErrorCode}
 use Rattle.wtp_core.specs.Source.{Source}
@@ -12,7 +12,7 @@ use Rattle.wtransport_proto.specs.Rule.{Role, rule}
 use Rattle.wtransport_proto.specs.Run.{past_unknown}
 use Rattle.wtransport_proto.specs.Reading.{FirstAfter}
 
--- onward where there is no fault, and else here
+-- onward if there is no fault, otherwise here
 abbrev pub if_allowed : {X : Type 0} → Option ErrorCode → X → X → X
 if_allowed None onward here = onward
 if_allowed (Some c) onward here = here
@@ -46,8 +46,8 @@ remainder role first bytes = remainder_within (length bytes) role first bytes
 
 -- ---- of what a reading holds and the bytes ahead
 
--- What is held and ahead where a run ends, and whether a frame there would be the first of its stream. No frame
--- that the stream allows begins there, and no whole unknown frame.
+-- What is held and ahead where a run ends, and whether a frame there would be the first of its stream. No frame that
+-- the stream allows begins there, and no complete unknown frame.
 pub record Place : Type 0 where
   pub first : Bool
   pub held : Held
@@ -78,20 +78,22 @@ place_of role first h s = place_held role first h s.ahead
 
 -- ---- nothing is lost
 
--- these bytes begin with the head and some of the payload of an unknown frame, the rest of which is due, and left come after
+-- these bytes start with the head and some of the payload of an unknown frame, the rest of which is still to be
+-- skipped, followed by left
 pub record BeginsUnknown (whole : List ℕ) (due : ℕ) (left : List ℕ) : Type 0 where
   pub head : List ℕ
   pub payload : List ℕ
   pub parts : whole ≡ (head ++ payload) ++ left
   pub is_head : IsUnknownHead (length payload + due) head
 
--- so many bytes were due, some of them came, and so many are due now
+-- this many bytes were still to be skipped, some of them were received, and this many are still to be skipped now
 pub record ComesDue (due : ℕ) (ahead : List ℕ) (now : ℕ) (left : List ℕ) : Type 0 where
   pub payload : List ℕ
   pub parts : ahead ≡ payload ++ left
   pub counts : due ≡ length payload + now
 
--- What is held and ahead is what was, except that bytes of an unknown frame were passed, the rest of which is due.
+-- What is held and ahead is what was, except that bytes of an unknown frame were skipped, the rest of which is still to
+-- be skipped.
 pub record Remains (old new : Held) (ahead left : List ℕ) : Type 0 where
   pub same : front_held new left ≡ front_held old ahead
   pub kept : new.due ≡ 0 → (old.due ≡ 0) × (new.taken ++ left ≡ old.taken ++ ahead)
@@ -105,8 +107,8 @@ pub record SamePlace (old new : Place) : Type 0 where
 
 -- ---- after the fault
 
--- What a fault leaves, by the case in front of its place: a refused frame or what decided is taken whole, and no byte
--- after it; where the bytes are too few, nothing is ahead, and all that came is held.
+-- What a fault leaves, by the first frame at its place: a refused frame or what decided is taken completely, and no
+-- byte after it; if the bytes are too few, nothing is ahead, and all bytes received are held.
 abbrev pub LeftAfter : Place → Front → Held → List ℕ → Type 0
 LeftAfter p (Framed f rest) new left = (new ≡ new_held) × (left ≡ rest)
 LeftAfter p (Unknown rest) new left = ⊥

@@ -1,4 +1,4 @@
--- What reading a frame from a stream answers.
+-- The result of reading a frame from a stream.
 use Rattle.std.specs.Prelude.{◌≡◌, ℕ, Bool, false, List, Option, Some, None, Result, Ok, Err, length, ◌⊎◌}
 use Rattle.wtp_core.specs.declared.error.ErrorCode.{ErrorCode}
 use Rattle.wtp_core.specs.declared.error.ErrorCode.TheVariants.{Id, ExcessiveLoad}
@@ -12,13 +12,14 @@ abbrev pub verdict : Option ErrorCode → Content → Result (Option Content) Er
 verdict None f = Ok (Some f)
 verdict (Some c) f = Err c
 
--- what reading the first known frame answers, and what it leaves unless the bytes are too few
+-- the result of reading the first known frame, and the bytes it leaves unless they are too few
 abbrev pub AnswersKnown : Front → Result (Option Content) ErrorCode → List ℕ → Type 0
 AnswersKnown front (Ok (Some f)) left = front ≡ Framed f left
 AnswersKnown front (Ok None) left = front ≡ Short
 AnswersKnown front (Err c) left = ((c ≡ Id) × (front ≡ BadId left)) ⊎ ((c ≡ ExcessiveLoad) × (front ≡ TooBig left))
 
--- what reading a frame of a stream answers, by its first known frame; whether a next one would be the first; and what it leaves unless the bytes are too few
+-- the result of reading a frame of a stream, by its first known frame; whether a next one would be the first; and the
+-- bytes it leaves unless they are too few
 abbrev pub AnswersFrame : Role → Bool → Front → Result (Option Content) ErrorCode → Bool → List ℕ → Type 0
 AnswersFrame role first (Framed f rest) answer next left = (answer ≡ verdict (rule role first (kind_in f)) f) × (next ≡ false) × (left ≡ rest)
 AnswersFrame role first (BadId rest) answer next left = (answer ≡ Err Id) × (next ≡ first) × (left ≡ rest)
@@ -26,7 +27,7 @@ AnswersFrame role first (TooBig rest) answer next left = (answer ≡ Err Excessi
 AnswersFrame role first (Unknown rest) answer next left = ⊥
 AnswersFrame role first Short answer next left = (answer ≡ Ok None) × (next ≡ first)
 
--- after a fault: a refused frame was read whole, the others were not
+-- after a fault: a refused frame was read completely, the others were not
 abbrev pub FirstAfter : Role → Bool → Front → Bool → Type 0
 FirstAfter role first (Framed f rest) next = next ≡ false
 FirstAfter role first (Unknown rest) next = next ≡ first
@@ -34,13 +35,13 @@ FirstAfter role first (BadId rest) next = next ≡ first
 FirstAfter role first (TooBig rest) next = next ≡ first
 FirstAfter role first Short next = next ≡ first
 
--- the same by the run of what is left, of a reader that moves past a frame alone
+-- the same by the run of what is left, for a reader that moves past a frame only
 abbrev pub AnswersRun : Role → Bool → List ℕ → Result (Option Content) ErrorCode → Bool → List ℕ → Type 0
 AnswersRun role first old (Ok (Some f)) next new = run role first old MayGoOn ≡ follows f (run role next new MayGoOn)
 AnswersRun role first old (Ok None) next new = (run role first old MayGoOn ≡ ends (Open (length old))) × (new ≡ old)
 AnswersRun role first old (Err c) next new = (run role first old MayGoOn ≡ ends (H3 c)) × (new ≡ old)
 
--- the same by the first known frame: whether a next one would be the first, and the bytes that are left
+-- the same by the first known frame: whether a next one would be the first, and the bytes left
 abbrev pub StandsAfter : Role → Bool → List ℕ → Result (Option Content) ErrorCode → Bool → List ℕ → Type 0
 StandsAfter role first old (Ok (Some f)) next new = (front (past_unknown old) ≡ Framed f new) × (rule role first (kind_in f) ≡ None) × (next ≡ false)
 StandsAfter role first old (Ok None) next new = (front (past_unknown old) ≡ Short) × (next ≡ first) × (new ≡ old)

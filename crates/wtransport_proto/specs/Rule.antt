@@ -1,4 +1,5 @@
--- Which frames a stream allows (RFC 9114, sections 6.2.1, 7.2 and table 1; a WebTransport frame only as the first of a stream that the peer opened).
+-- Which frames a stream allows (RFC 9114, sections 6.2.1, 7.2 and table 1; a WebTransport frame only as the first of a
+-- stream that the peer opened).
 use Rattle.std.specs.Prelude.{Bool, true, false, Option, Some, None}
 use Rattle.wtp_core.specs.declared.error.ErrorCode.{ErrorCode}
 use Rattle.wtp_core.specs.declared.error.ErrorCode.TheVariants.{FrameUnexpected, Frame}
@@ -12,7 +13,7 @@ pub data Role : Type 0 where
   RemoteUni : Role
   InSession : Role
 
--- the fault of a frame of this kind, which may be the stream's first
+-- the fault of a frame of this kind, which may be the first of the stream
 abbrev pub rule : Role → Bool → FrameKind → Option ErrorCode
 rule RemoteBi first Data = None
 rule RemoteBi first Headers = None

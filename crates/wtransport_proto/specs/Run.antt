@@ -1,9 +1,9 @@
 -- The frames that a stream finds in its bytes, and how that ends (RFC 9114, sections 7.1 and 9).
 --
--- By the case of `front` of the bytes: an unknown frame is passed over; a frame that the rule allows is one
--- more, and the run of the bytes behind it follows; a frame that it refuses, a number that is no session's
--- and a payload that is too big end the run with their code; bytes that are too few end it as they end.
--- The laws `run_goes_by_front` and `run_passes_unknown` say just that.
+-- By the first frame of the bytes, `front`: an unknown frame is skipped; a frame that the rule allows is one more, and
+-- the run of the bytes after it follows; a frame that it refuses, an invalid session ID and a payload that is too big
+-- end the run with their code; bytes that are too few end it as they end. The laws `run_goes_by_front` and
+-- `run_passes_unknown` state exactly that.
 use Rattle.std.specs.Prelude.{ℕ, zero, suc, Bool, false, List, [], ◌∷◌, length, Option, Some, None}
 use Rattle.wtp_core.specs.declared.error.ErrorCode.{ErrorCode}
 use Rattle.wtp_core.specs.declared.error.ErrorCode.TheVariants.{Id, ExcessiveLoad}
@@ -19,7 +19,7 @@ pub data Tail : Type 0 where
   WasReset : Tail
   Lost : Tail
 
--- How a run ends: with so many bytes behind its last frame where they may go on, with an error code, or as the bytes end.
+-- How a run ends: with this many bytes after its last frame if they may go on, with an error code, or as the bytes end.
 pub data Ending : Type 0 where
   Open : ℕ → Ending
   H3 : ErrorCode → Ending
@@ -38,7 +38,7 @@ ends e = record { frames = []; ending = e }
 abbrev pub follows : Content → Run → Run
 follows f r = record { frames = f ∷ r.frames; ending = r.ending }
 
--- ---- unknown frames are passed over
+-- ---- unknown frames are skipped
 
 abbrev pub passed : (List ℕ → List ℕ) → List ℕ → Front → List ℕ
 passed more bytes (Framed f rest) = bytes
@@ -47,7 +47,7 @@ passed more bytes (BadId rest) = bytes
 passed more bytes (TooBig rest) = bytes
 passed more bytes Short = bytes
 
--- the bytes behind the unknown frames at the front, of which there are at most n
+-- the bytes after the unknown frames at the start, of which there are at most n
 abbrev pub past_within : ℕ → List ℕ → List ℕ
 past_within zero bytes = bytes
 past_within (suc n) bytes = passed (λ rest. past_within n rest) bytes (front bytes)
@@ -57,7 +57,7 @@ past_unknown bytes = past_within (length bytes) bytes
 
 -- ---- the run
 
--- where no frame begins rest, and bytes are all those behind the last frame
+-- rest starts with no frame, and bytes are all those after the last frame
 abbrev pub stop : List ℕ → List ℕ → Tail → Ending
 stop bytes rest MayGoOn = Open (length bytes)
 stop bytes [] Ended = ImmediateFin
@@ -85,7 +85,7 @@ run_within (suc n) role tail first bytes = next_run (λ f rest. run_within n rol
 unfoldable pub run : Role → Bool → List ℕ → Tail → Run
 run role first bytes tail = run_within (length bytes) role tail first bytes
 
--- a run of bytes that may go on, where all the bytes behind its last frame are these
+-- a run of bytes that may go on, if all the bytes after its last frame are these
 abbrev pub counted_end : List ℕ → Ending → Ending
 counted_end bytes (Open n) = Open (length bytes)
 counted_end bytes (H3 code) = H3 code
@@ -97,6 +97,6 @@ abbrev pub counted_run : List ℕ → List Content → Ending → Run
 counted_run bytes [] ending = ends (counted_end bytes ending)
 counted_run bytes (f ∷ frames) ending = record { frames = f ∷ frames; ending = ending }
 
--- the run, where these bytes are left over in place of its own as long as no frame came
+-- the run, with these bytes left over in place of its own as long as there was no frame
 abbrev pub counted : List ℕ → Run → Run
 counted bytes r = counted_run bytes r.frames r.ending

@@ -18,7 +18,8 @@ use Rattle.wtransport_proto.specs.Reading.{FirstAfter}
 use Rattle.wtransport_proto.specs.Run.{Run, Ending, H3, ImmediateFin, Reset, NotConnected}
 use Rattle.wtransport_proto.specs.HeldRun.{run_of, size_of}
 
--- In all of these, old and new are what the reading holds before and after one poll; first and next say whether the next frame would be the first of its stream.
+-- In all of these, old and new are what the reading holds before and after one poll; first and next say whether the
+-- next frame would be the first of its stream.
 
 -- a stream's fault at this ending of a run
 abbrev pub IsFault : IoReadError → Ending → Type 0
@@ -40,20 +41,21 @@ pub record EndsSo (r : Run) (fs : List Content) (x : IoReadError) : Type 0 where
   pub frames : r.frames ≡ fs
   pub fault : IsFault x r.ending
 
--- a fault of the source comes behind all that was ahead
+-- a fault of the source follows all bytes ahead
 abbrev pub IsDry : IoReadError → Source → Type 0
 IsDry (stream.H3 c) b = Unit {0}
 IsDry (stream.IO e) b = b.ahead ≡ []
 
--- ---- what one poll did to a source that tells
+-- ---- what one poll did to a source with a model
 
--- this frame was taken, and no byte behind it
+-- this frame was taken, and no byte after it
 pub record TakesFrame (role : Role) (first next : Bool) (old new : Held) (f : Content) (a b : Source) : Type 0 where
   pub decided : Decided old new a b (Framed f)
   pub allowed : rule role first (kind_in f) ≡ None
   pub flag : next ≡ false
 
--- What a fault leaves. What decided is taken whole, and no byte behind it; where the bytes are too few, nothing is ahead, and nothing was lost.
+-- What a fault leaves. What decided is taken completely, and no byte after it; if the bytes are too few, nothing is
+-- ahead, and nothing was lost.
 abbrev pub StandsBehind : Front → Held → Held → Source → Source → Type 0
 StandsBehind (Framed f rest) old new a b = (new ≡ new_held) × (rest ≡ b.ahead)
 StandsBehind (Unknown rest) old new a b = ⊥
@@ -61,7 +63,7 @@ StandsBehind (BadId rest) old new a b = (new ≡ new_held) × (rest ≡ b.ahead)
 StandsBehind (TooBig rest) old new a b = (new ≡ new_held) × (rest ≡ b.ahead)
 StandsBehind Short old new a b = Leaves old new a b × (b.ahead ≡ [])
 
--- the run has no frame more, and ends with this fault
+-- the run has no more frames, and ends with this fault
 pub record Faults (role : Role) (first next : Bool) (old new : Held) (x : IoReadError) (a b : Source) : Type 0 where
   pub ends : EndsSo (run_of role first old a) [] x
   pub size : size_of new b ≤ size_of old a
@@ -69,14 +71,14 @@ pub record Faults (role : Role) (first next : Bool) (old new : Held) (x : IoRead
   pub place : StandsBehind (front_held old a.ahead) old new a b
   pub dry : IsDry x b
 
--- an unknown frame was passed over; or 4096 bytes of its payload, and some are still due
+-- an unknown frame was skipped; or 4096 bytes of its payload, and some are still to be skipped
 pub record PassesUnknown (first next : Bool) (old new : Held) (a b : Source) : Type 0 where
   pub skips : Skips old new a b
   pub whole : new.due ≡ 0 → Decided old new a b Unknown
   pub part : 0 < new.due → (front_held new b.ahead ≡ front_held old a.ahead) × (length skips.payload ≡ 4096)
   pub flag : next ≡ first
 
--- no memory was to be had for the payload of a frame, none of whose bytes was held
+-- allocation failed for the payload of a frame, none of whose bytes was held
 pub record LacksMemory (first next : Bool) (old new : Held) (a b : Source) : Type 0 where
   pub leaves : Leaves old new a b
   pub none_due : old.due ≡ 0
@@ -91,9 +93,10 @@ StreamPolled role Pending first next old new a b = Leaves old new a b × (next �
 StreamPolled role Again first next old new a b = PassesUnknown first next old new a b
 StreamPolled role NoMemory first next old new a b = LacksMemory first next old new a b
 
--- ---- of each source, also of one that tells nothing
+-- ---- of every source, also of one without a model
 
--- The frame that the rule refuses was given whole; or a number that is no session's; or a length that is too big. Or the source ended inside a frame.
+-- The frame that the rule refuses was given completely; or an invalid session ID; or a length that is too big. Or the
+-- source ended inside a frame.
 abbrev pub CodeGiven : Role → Bool → Bool → Held → Held → ErrorCode → Type 0
 CodeGiven role first next old new c =
     ((f : Content) × Answered old new (Framed f) × (rule role first (kind_in f) ≡ Some c) × (next ≡ false))
@@ -101,7 +104,7 @@ CodeGiven role first next old new c =
     ⊎ ((c ≡ ExcessiveLoad) × Answered old new TooBig × (next ≡ first))
     ⊎ ((c ≡ Frame) × Keeps old new × (next ≡ first))
 
--- an unknown frame was given whole, or a part of its payload
+-- an unknown frame was given completely, or a part of its payload
 abbrev pub PassGiven : Held → Held → Type 0
 PassGiven old new = Answered old new Unknown ⊎ (Keeps old new × (0 < new.due))
 

@@ -29,9 +29,9 @@ use Rattle.wtransport_proto.specs.Streams.{header_of, session_of}
 
 -- ---- upgrades that are written
 
--- What one poll did to a sink that tells, where each state that is handed back holds such a writing: the sink's list grew by the
--- bytes from those sent before up to those sent now, and by all of them where it is done. Then no count changed; where it waited,
--- stopped or was lost, that count rose by exactly one, and the others stayed.
+-- What one poll did to a sink with a model, if each returned state holds such a writing: the sink's list grew by the
+-- bytes from those sent before up to those sent now, and by all of them if it is done. Then no count changed; if it
+-- waited, stopped or was lost, that count rose by exactly one, and the others stayed.
 abbrev pub StepSends : {P T : Type 0} → (P → Writing) → Stepped P T IoWriteError → Writing → Sink → Sink → Type 0
 StepSends writing (Done t) old a b = Took a b (drop old.sent old.bytes) 0 0 0
 StepSends writing (Pending p) old a b = Took a b (between old (writing p)) 1 0 0
@@ -51,7 +51,7 @@ bi_writing u = u.writing
 abbrev pub BiGoesOn : BiUpgrading → BiUpgrading → Type 0
 BiGoesOn old new = (new.stream ≡ old.stream) × (new.session_id ≡ old.session_id) × SentPart old.writing new.writing
 
--- This holds of each sink, also of one that tells nothing.
+-- This holds of every sink, also of one without a model.
 abbrev pub BiStepped : Stepped BiUpgrading (Stream BiLocal WT) IoWriteError → BiUpgrading → Type 0
 BiStepped (Done s) old = session_of s ≡ old.session_id
 BiStepped (Pending p) old = BiGoesOn old p
@@ -65,7 +65,7 @@ uni_writing u = u.writing
 abbrev pub UniGoesOn : UniUpgrading → UniUpgrading → Type 0
 UniGoesOn old new = (new.stream ≡ old.stream) × (new.header ≡ old.header) × SentPart old.writing new.writing
 
--- This holds of each sink, also of one that tells nothing.
+-- This holds of every sink, also of one without a model.
 abbrev pub UniStepped : Stepped UniUpgrading (Stream UniLocal (H3 Header)) IoWriteError → UniUpgrading → Type 0
 UniStepped (Done s) old = header_of s ≡ old.header
 UniStepped (Pending p) old = UniGoesOn old p
@@ -76,14 +76,14 @@ UniStepped (Failed p e) old = UniGoesOn old p
 
 -- In these, old and new are the bytes that the state holds before and after one poll.
 
--- a type number that is not known, or a number that is no session's; or the source ended inside the header
+-- an unknown type, or an invalid session ID; or the source ended inside the header
 abbrev pub HeaderFault : ErrorCode → List ℕ → List ℕ → Source → Source → Type 0
 HeaderFault c old new a b =
     ((c ≡ StreamCreation) × HeaderDecided old new a b Unknown)
     ⊎ ((c ≡ Id) × HeaderDecided old new a b BadId)
     ⊎ ((c ≡ Frame) × (header_front (old ++ a.ahead) ≡ Short) × Stops old new read.UnexpectedFin a b)
 
--- what one poll did to a source that tells
+-- what one poll did to a source with a model
 abbrev pub AcceptPolled : Stepped UniAccepting (Stream UniRemote (H3 Header)) IoReadError → List ℕ → Source → Source → Type 0
 AcceptPolled (Done s) old a b = header_front (old ++ a.ahead) ≡ Headed (header_of s) b.ahead
 AcceptPolled (Pending p) old a b = Waits old p.reading a b
@@ -100,7 +100,7 @@ HeaderFaultGiven c old new =
     ⊎ ((c ≡ Id) × HeaderAnswered old new BadId)
     ⊎ ((c ≡ Frame) × Grew old new)
 
--- This holds of each source, also of one that tells nothing.
+-- This holds of every source, also of one without a model.
 abbrev pub AcceptGiven : Stepped UniAccepting (Stream UniRemote (H3 Header)) IoReadError → UniAccepting → Type 0
 AcceptGiven (Done s) old = (given : List ℕ) × (header_front (old.reading ++ given) ≡ Headed (header_of s) [])
 AcceptGiven (Pending p) old = (p.stream ≡ old.stream) × Grew old.reading p.reading

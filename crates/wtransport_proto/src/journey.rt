@@ -1,4 +1,5 @@
-//! A header map's way over a stream: sent whole by one end, and read back by the other.
+//! The journey of a header map over a stream: sent completely by one end, and read back by the
+//! other.
 //!
 //! Polls are repeated a bounded number of times here, as a caller with nothing else to do would.
 ghost use Rattle.std.specs.Prelude.{◌≡◌, ◌≤◌, ◌*◌, ◌^◌, List, length, Err};
@@ -18,24 +19,24 @@ use wtp_core::error::Refused;
 use wtp_fields::headers::Headers;
 use wtp_wire::frame::{Frame, FrameKind, FrameOwned, FrameReading, GenerateError};
 
-/// Why a frame was not sent whole. Not in the Rust crate.
+/// The reason a frame was not sent completely. Not in the Rust crate.
 #[derive(Debug, Drop, PartialEq, Eq, thiserror::Error)]
 pub enum SendError {
     /// The sink was not ready in any turn.
     #[error("the sink is not ready")]
     Waiting,
-    /// The sink takes no more.
+    /// The sink accepts no more bytes.
     #[error("{0}")]
     IO(IoWriteError),
-    /// No memory.
+    /// Memory allocation failed.
     #[error("no memory")]
     Memory,
 }
 
-/// Why no header map was read. Not in the Rust crate.
+/// The reason no header map was read. Not in the Rust crate.
 #[derive(Debug, Drop, PartialEq, Eq, thiserror::Error)]
 pub enum ReceiveError {
-    /// No frame came in any turn: the source was not ready, or gave a part of an unknown frame.
+    /// No turn gave a frame: the source was not ready, or gave a part of an unknown frame.
     #[error("the source is not ready")]
     Waiting,
     /// The stream gives no frame.
@@ -44,21 +45,21 @@ pub enum ReceiveError {
     /// The frame's kind is not HEADERS.
     #[error("no HEADERS frame")]
     OtherKind(FrameKind),
-    /// The frame's payload is no map, or no memory was to be had for the map.
+    /// The frame's payload is not a header map, or memory allocation failed for the map.
     #[error("{0}")]
     Section(Refused),
-    /// No memory was to be had for the frame.
+    /// Memory allocation failed for the frame.
     #[error("no memory")]
     Memory,
 }
 
-/// Where a header map's way ended. Not in the Rust crate.
+/// The step at which a header map's journey ended. Not in the Rust crate.
 #[derive(Debug, Drop, PartialEq, Eq, thiserror::Error)]
 pub enum JourneyError {
-    /// No frame was made of the map.
+    /// No frame was created from the map.
     #[error("{0}")]
     Frame(GenerateError),
-    /// The frame was not sent whole.
+    /// The frame was not sent completely.
     #[error("{0}")]
     Send(SendError),
     /// No map was read.
@@ -66,10 +67,10 @@ pub enum JourneyError {
     Receive(ReceiveError),
 }
 
-/// Sends a frame whole, in at most so many polls. Not in the Rust crate.
+/// Sends a complete frame, in at most `turns` polls. Not in the Rust crate.
 ///
-/// With an error a part of it was sent, and the rest cannot be sent any more. `Waiting` comes where
-/// the sink was not ready in each turn.
+/// On an error a part of the frame was sent, and the rest cannot be sent any more. Returns
+/// `Waiting` if the sink was not ready in each turn.
 pub fn send<W: AsyncWrite>(frame: &Frame<'_>, sink: &mut W, turns: u32) -> Result<(), SendError>
     ensures { Telling (W.tells sink.old) (W.tells sink.new) (SendDid (wire frame.now) turns result) }
 {
@@ -86,7 +87,7 @@ pub fn send<W: AsyncWrite>(frame: &Frame<'_>, sink: &mut W, turns: u32) -> Resul
     Err(SendError::Waiting)
 }
 
-/// Reads the next frame, in at most so many polls.
+/// Reads the next frame, in at most `turns` polls.
 fn next_frame<K: ReadsFrames, S: AsyncRead>(
     alloc: Global,
     stream: &mut K,
@@ -111,14 +112,15 @@ fn next_frame<K: ReadsFrames, S: AsyncRead>(
     Err(ReceiveError::Waiting)
 }
 
-/// Reads the map of the next frame, in at most so many polls. Not in the Rust crate.
-/// Unknown frames are passed over.
+/// Reads the header map of the next frame, in at most `turns` polls. Unknown frames are skipped.
+/// Not in the Rust crate.
 ///
-/// The source then stands right behind the frame. What came of a frame that is not all there after
-/// the last turn is lost. Frames may be read, as `can_read` tells.
+/// The source is then positioned right after the frame. The bytes of a frame that is incomplete
+/// after the last turn are lost. Requires that frames may be read, as `can_read` reports.
 ///
-/// Where the frame of a map stands in front, with a payload of at most 4096 bytes, and the stream
-/// allows HEADERS frames, that map is read, or each turn waited, or memory was wanting.
+/// If the input starts with the frame of a map, with a payload of at most 4096 bytes, and the
+/// stream allows HEADERS frames, then that map is read, or the source was not ready in each turn,
+/// or allocation failed.
 pub fn receive<K: ReadsFrames, S: AsyncRead>(
     alloc: Global,
     stream: &mut K,
@@ -142,13 +144,13 @@ pub fn receive<K: ReadsFrames, S: AsyncRead>(
     }
 }
 
-/// Sends a header map whole, and then reads one from a stream; each in at most so many polls.
+/// Sends a complete header map, and then reads one from a stream; each in at most `turns` polls.
 /// Not in the Rust crate.
 ///
-/// Where the map's frame stands in front of the source, with a payload of at most 4096 bytes, and
-/// the stream allows HEADERS frames, the map that is read is the one that was sent, and what stood
-/// behind the frame is ahead. No fault of reading can come then. Frames may be read, as `can_read`
-/// tells.
+/// If the source starts with the map's frame, with a payload of at most 4096 bytes, and the stream
+/// allows HEADERS frames, then the map that is read is the one that was sent, and what follows the
+/// frame is ahead. No reading fault can occur then. Requires that frames may be read, as `can_read`
+/// reports.
 pub fn send_and_receive<W: AsyncWrite, K: ReadsFrames, S: AsyncRead>(
     alloc: Global,
     headers: &Headers,
@@ -167,7 +169,7 @@ pub fn send_and_receive<W: AsyncWrite, K: ReadsFrames, S: AsyncRead>(
     ensures can { K.can stream.new }
     ensures changes { ChangesFirst K.first stream.old stream.new }
 {
-    // Each name stands in the map once, and all are texts.
+    // Each name is in the map once, and all are texts.
     let _fields = headers.as_ref();
     let frame = headers.generate_frame(alloc).map_err(JourneyError::Frame)?;
     send(&frame, sink, turns).map_err(JourneyError::Send)?;

@@ -1,4 +1,4 @@
-//! Laws of the definitions that contracts of this crate cite. Each function does nothing: its
+//! Laws of the definitions that the contracts of this crate cite. Each function does nothing: its
 //! contract is the law. The laws of the crates below are in [`base`], [`wire`] and [`fields`].
 ghost use Rattle.std.specs.Prelude.{◌≡◌, ◌≢◌, ◌<◌, ◌≤◌, ◌++◌, ℕ, List, Bool, false, Some, None, Ok, length, drop};
 ghost use Rattle.wtp_core.specs.declared.error.ErrorCode.{ErrorCode};
@@ -22,7 +22,7 @@ pub use wtp_wire::laws as wire;
 
 pub mod place;
 
-/// The run goes by the case of the bytes, but for unknown frames.
+/// The run goes by the first frame of the bytes, except for unknown frames.
 pub fn run_goes_by_front()
     ensures allowed { (role : Role) (first : Bool) (bytes rest : List ℕ) (tail : Tail) (f : Content) → front bytes ≡ Framed f rest → rule role first (kind_in f) ≡ None → run role first bytes tail ≡ follows f (run role false rest tail) }
     ensures refused { (role : Role) (first : Bool) (bytes rest : List ℕ) (tail : Tail) (f : Content) (code : ErrorCode) → front bytes ≡ Framed f rest → rule role first (kind_in f) ≡ Some code → run role first bytes tail ≡ ends (H3 code) }
@@ -31,28 +31,28 @@ pub fn run_goes_by_front()
     ensures short { (role : Role) (first : Bool) (bytes : List ℕ) (tail : Tail) → front bytes ≡ Short → run role first bytes tail ≡ ends (stop bytes bytes tail) }
 {}
 
-/// An unknown frame is passed over: the run is that of the bytes behind it. Where the bytes may go
-/// on, its bytes count as left over as long as no frame came.
+/// An unknown frame is skipped: the run is that of the bytes after it. If the bytes may go on, its
+/// bytes count as left over as long as there was no frame.
 pub fn run_passes_unknown()
     ensures ended { (role : Role) (first : Bool) (bytes rest : List ℕ) (tail : Tail) → tail ≢ MayGoOn → front bytes ≡ Unknown rest → run role first bytes tail ≡ run role first rest tail }
     ensures going_on { (role : Role) (first : Bool) (bytes rest : List ℕ) → front bytes ≡ Unknown rest → run role first bytes MayGoOn ≡ counted bytes (run role first rest MayGoOn) }
 {}
 
-/// The bytes behind the unknown frames at the front, frame by frame.
+/// The bytes after the unknown frames at the start, frame by frame.
 pub fn past_unknown_by_front()
     ensures unknown { (bytes rest : List ℕ) → front bytes ≡ Unknown rest → past_unknown bytes ≡ past_unknown rest }
     ensures known { (bytes : List ℕ) → ((rest : List ℕ) → front bytes ≢ Unknown rest) → past_unknown bytes ≡ bytes }
 {}
 
-/// Only a stream in both directions that the peer opened tells the first frame from the others.
+/// Only a bidirectional stream that the peer opened distinguishes the first frame from the others.
 pub fn only_remote_bi_counts()
     ensures rules { (role : Role) (f g : Bool) (kind : FrameKind) → role ≢ RemoteBi → rule role f kind ≡ rule role g kind }
     ensures runs { (role : Role) (f g : Bool) (bytes : List ℕ) (tail : Tail) → role ≢ RemoteBi → run role f bytes tail ≡ run role g bytes tail }
 {}
 
-/// The run of what a reading holds and of the bytes ahead: that of the bytes held, and those ahead
-/// behind them. Where payload bytes of an unknown frame are due, it is the run of the bytes behind
-/// those; with fewer bytes ahead it has no frame.
+/// The run of what a reading holds and of the bytes ahead: that of the bytes held followed by those
+/// ahead. If payload bytes of an unknown frame are still to be skipped, it is the run of the bytes
+/// after those; with fewer bytes ahead it has no frame.
 pub fn run_held_by_bytes()
     ensures held { (role : Role) (first : Bool) (h : Held) (ahead : List ℕ) (tail : Tail) → tail ≢ MayGoOn → h.due ≡ 0 → run_held role first h ahead tail ≡ run role first (h.taken ++ ahead) tail }
     ensures due { (role : Role) (first : Bool) (h : Held) (ahead : List ℕ) (tail : Tail) → 0 < h.due → h.due ≤ length ahead → run_held role first h ahead tail ≡ run role first (drop h.due ahead) tail }
@@ -60,15 +60,16 @@ pub fn run_held_by_bytes()
 {}
 
 /// Whole and polled reading agree: the run of bytes that may go on has the frames of the run of the
-/// same bytes with an end. Both end by what those frames leave of the bytes: with the same code, or,
-/// where the bytes are too few, the one is open with just these bytes left, and the other stops there.
+/// same bytes with an end. Both end by what those frames leave of the bytes: with the same code,
+/// or, if the bytes are too few, the one is open with exactly these bytes left, and the other stops
+/// there.
 pub fn buffered_and_polled_agree()
     ensures { (role : Role) (first : Bool) (bytes : List ℕ) (tail : Tail) → tail ≢ MayGoOn → Agrees role first tail bytes (run role first bytes MayGoOn) (run role first bytes tail) }
 {}
 
-/// A header map that is sent whole is read back as the same map: on each stream that goes in both
-/// directions, the run of the bytes of its frame, and any bytes behind them, begins with that frame,
-/// and the map of the frame's section is the map.
+/// A header map that is sent completely is read back as the same map: on each bidirectional stream,
+/// the run of the bytes of its frame, followed by any bytes, starts with that frame, and the map of
+/// the frame's section is the map.
 pub fn header_run()
     ensures sent { (role : Role) (first : Bool) (m : List Field) (rest : List ℕ) (tail : Tail) → role ≢ RemoteUni → length (payload m) ≤ 4096 → run role first (wire (HeadersOf (payload m)) ++ rest) tail ≡ follows (HeadersOf (payload m)) (run role false rest tail) }
     ensures again { (m : List Field) → IsMap m → AreTexts m → map_at (payload m) ≡ Ok m }

@@ -1,7 +1,7 @@
 //! The protocol core of WebTransport over HTTP/3, without a network.
 //!
-//! Bytes of streams and datagrams come in; frames and exact error codes come out, and the same
-//! things are written as bytes. A user names this crate alone: it passes on the crates below it.
+//! Bytes of streams and datagrams are parsed into frames and exact error codes, and the same things
+//! are written as bytes. A user depends on this crate only: it re-exports the crates below it.
 #![tactic(auto)]
 
 pub use wtp_core::{bytes, error, ids, varint};
@@ -12,5 +12,6 @@ pub mod journey;
 pub mod laws;
 pub mod stream;
 
-/// The application protocol that a QUIC connection of WebTransport negotiates (RFC 9114, section 3.1).
+/// The application protocol that a QUIC connection of WebTransport negotiates (RFC 9114, section
+/// 3.1).
 pub const WEBTRANSPORT_ALPN: &[u8; 2] = b"h3";

@@ -1,6 +1,7 @@
 //! Streams of QUIC, HTTP/3 and WebTransport, by their kind and state.
 //!
-//! A stream holds no bytes: it is handed a reader or a writer, and says what may come on it.
+//! A stream holds no bytes: it is given a reader or a writer, and reports what may be received on
+//! it.
 ghost use Rattle.std.specs.Prelude.{◌≡◌};
 ghost use Rattle.wtp_wire.specs.Header.{header_kind, header_session, WebTransportHeader};
 ghost use Rattle.wtransport_proto.specs.Streams.{header_of, session_of};
@@ -35,21 +36,22 @@ pub struct Stream<K, S> {
 }
 
 impl<K> Stream<K, H3<StreamHeader>> {
-    /// What kind of unidirectional stream it is.
+    /// Returns the kind of unidirectional stream.
     pub fn kind(&self) -> StreamKind
         ensures { result ≡ header_kind (header_of self.now) }
     {
         self.stage.header.kind()
     }
 
-    /// Its session, where its kind is WebTransport.
+    /// Returns the session, if the kind is WebTransport.
     pub fn session_id(&self) -> Option<SessionId>
         ensures { result ≡ header_session (header_of self.now) }
     {
         self.stage.header.session_id()
     }
 
-    /// The same as a stream of its session. Its kind is WebTransport, as `kind` tells.
+    /// Converts to a stream of the session. Requires that the kind is WebTransport, as `kind`
+    /// reports.
     pub fn upgrade(self) -> Stream<K, WT>
         requires { header_kind (header_of self) ≡ StreamKind.WebTransport }
         ensures { header_of self ≡ WebTransportHeader (session_of result) }
@@ -65,7 +67,7 @@ impl<K> Stream<K, H3<StreamHeader>> {
 }
 
 impl<K> Stream<K, WT> {
-    /// Its session.
+    /// Returns the session.
     pub fn session_id(&self) -> SessionId
         ensures { result ≡ session_of self.now }
     {

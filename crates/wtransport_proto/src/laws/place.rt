@@ -9,8 +9,8 @@ ghost use Rattle.wtransport_proto.specs.Place.{remainder, remainder_here, place_
 ghost use Rattle.wtransport_proto.specs.Rule.{Role, rule};
 ghost use Rattle.wtransport_proto.specs.Run.{Tail, past_unknown, run};
 
-/// What the frames of a run leave of its bytes: what they leave after the first frame, where the
-/// stream allows it, unknown frames passed over; else all of the bytes.
+/// What the frames of a run leave of its bytes: if the stream allows the first frame after any
+/// unknown frames, what they leave of the bytes after it; otherwise all of the bytes.
 pub fn remainder_by_front()
     ensures allowed { (role : Role) (first : Bool) (bytes rest : List ℕ) (f : Content)
         → front (past_unknown bytes) ≡ Framed f rest → rule role first (kind_in f) ≡ None
@@ -23,14 +23,14 @@ pub fn remainder_by_front()
         → remainder role first bytes ≡ remainder_here first bytes }
 {}
 
-/// A run ends by what its frames leave: with the code of a refused frame, an invalid session ID or a
-/// payload that is too big, or as the bytes end where they are too few.
+/// A run ends by what its frames leave: with the code of a refused frame, of an invalid session ID
+/// or of a payload that is too big, or as the bytes end if they are too few.
 pub fn run_ends_by_remainder()
     ensures { (role : Role) (first : Bool) (bytes : List ℕ) (tail : Tail) → EndsAfter role tail (remainder role first bytes) (run role first bytes tail).ending }
 {}
 
-/// The place where the run of what is held and ahead ends, by the case of both: frames that the
-/// stream allows and unknown frames are taken, and nothing else is.
+/// The place where the run of what is held and ahead ends, by the first frame of both: frames that
+/// the stream allows and unknown frames are taken, and nothing else is.
 pub fn place_by_front()
     ensures allowed { (role : Role) (first : Bool) (h : Held) (ahead rest : List ℕ) (f : Content)
         → front_held h ahead ≡ Framed f rest → rule role first (kind_in f) ≡ None
@@ -48,7 +48,7 @@ pub fn place_by_front()
         → front_held h ahead ≡ Short → place_held role first h ahead ≡ place_here first h ahead }
 {}
 
-/// Where nothing is held, it is the place after the frames of the bytes ahead.
+/// If nothing is held, it is the place after the frames of the bytes ahead.
 pub fn place_by_remainder()
     ensures { (role : Role) (first : Bool) (bytes : List ℕ) → place_held role first new_held bytes ≡ place_after (remainder role first bytes) }
 {}

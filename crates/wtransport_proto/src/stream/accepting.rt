@@ -8,8 +8,8 @@ use wtp_core::error::ErrorCode;
 use wtp_wire::stream_header;
 use wtp_wire::stream_header::{HeaderReading, ParseError};
 
-/// Makes a stream one of HTTP/3 by the header that is read from it, poll by poll.
-/// Not in the Rust crate.
+/// Converts a stream to one of HTTP/3 by the header that is read from it, poll by poll. Not in the
+/// Rust crate.
 #[derive(Debug, Drop)]
 pub struct UniAccepting {
     pub(crate) stream: StreamUniRemoteQuic,
@@ -21,13 +21,16 @@ impl UniAccepting {
     ghost use Rattle.wtp_core.specs.Polled.{Asks};
     ghost use Rattle.wtransport_proto.specs.UpgradeSteps.{AcceptPolled, AcceptGiven};
 
-    /// Reads on as far as the source goes, in at most 16 calls, and takes no memory. `Done` once
-    /// the header is read; the source stands right behind it.
+    /// Reads as far as the source goes, in at most 16 calls, and does not allocate. Returns `Done`
+    /// once the header is read; the source is positioned right after it.
     ///
-    /// With every other answer the state is handed back, and holds what came. `Failed` has
-    /// `StreamCreation` behind a type number that is not known, which must not be taken for a fault
-    /// of the connection (RFC 9114, section 6.2), `Id` behind WebTransport's and a number that is no
-    /// session's, `Frame` at an end inside the header, or the fault of the source.
+    /// Every other result returns the state, which holds the bytes received. `Failed` has:
+    ///
+    /// - `StreamCreation` after an unknown type, which must not be treated as a connection error
+    ///   (RFC 9114, section 6.2);
+    /// - `Id` after the WebTransport type and an invalid session ID;
+    /// - `Frame` if the source ended inside the header;
+    /// - or the fault of the source.
     pub fn poll<S: AsyncRead>(
         mut self,
         source: &mut S,

@@ -1,4 +1,4 @@
-//! Streams in both directions that this end opened.
+//! Bidirectional streams that this end opened.
 ghost use Rattle.std.specs.Prelude.{◌≡◌, ◌≢◌, ◌≤◌, ◌↔◌, true, false, length, Err, IsTrue, IfOk, IfErr, IsOk, OnOk, OnErr, Ok};
 ghost use Rattle.wtp_core.specs.Reader.{IsRest};
 ghost use Rattle.wtp_core.specs.Cursor.{left_of, whole_of};
@@ -42,7 +42,7 @@ pub type StreamBiLocalH3 = Stream<BiLocal, H3>;
 pub type StreamBiLocalWT = Stream<BiLocal, WT>;
 
 impl StreamBiLocalQuic {
-    /// A stream that this end opened.
+    /// Creates a stream that this end opened.
     pub fn open_bi() -> Self {
         Stream {
             kind: BiLocal::default(),
@@ -50,7 +50,7 @@ impl StreamBiLocalQuic {
         }
     }
 
-    /// The same as a stream of HTTP/3, to which no frame was written.
+    /// Converts to a stream of HTTP/3 to which no frame was written.
     pub fn upgrade(self) -> StreamBiLocalH3
         ensures { can_upgrade result ≡ true }
     {
@@ -65,11 +65,14 @@ impl StreamBiLocalQuic {
 }
 
 impl StreamBiLocalH3 {
-    /// Reads the next frame, and takes no memory. Unknown frames are passed over whole.
+    /// Reads the next frame. It does not allocate. Unknown frames are skipped whole.
     ///
-    /// `None` where the bytes are too few; whole frames and numbers may have been read then.
-    /// `FrameUnexpected` behind a frame that may not come here, `Id` behind a WebTransport frame
-    /// whose number is no session's, `ExcessiveLoad` behind a length above 4096.
+    /// Returns `None` if there are too few bytes; complete frames and numbers may have been read
+    /// then. Errors:
+    ///
+    /// - `FrameUnexpected`: a frame was read that is not permitted here.
+    /// - `Id`: a WebTransport frame with an invalid session ID was read.
+    /// - `ExcessiveLoad`: a length above 4096 was read.
     #[inline(always)]
     pub fn read_frame<'a, R: BytesReader<'a>>(
         &self,
@@ -82,8 +85,8 @@ impl StreamBiLocalH3 {
         reading::read_frame::<Self, R>(&mut true, reader)
     }
 
-    /// Reads the next frame as `read_frame` does, and moves past it; where it answers `None` or an
-    /// error the reader stays where it is.
+    /// Reads the next frame as `read_frame` does, and moves past it. The reader does not move if
+    /// this returns `None` or an error.
     #[inline(always)]
     pub fn read_frame_from_buffer<'a>(
         &self,
@@ -98,15 +101,15 @@ impl StreamBiLocalH3 {
 
     /// Reads the next frame, poll by poll, by the rules of `read_frame`.
     ///
-    /// - `Ready(Ok(frame))`: the next frame. The source stands right behind it.
-    /// - `Ready(Err(H3(code)))`: the code that `read_frame` answers, behind the bytes that decided;
-    ///   or `Frame` at an end inside a frame.
-    /// - `Ready(Err(IO(fault)))`: the source gave no more; `ImmediateFin` where nothing is held.
-    /// - `Pending`: the source was not ready. `NoMemory`: none was to be had for a payload.
-    /// - `Again`: an unknown frame was passed over, or 4096 bytes of its payload.
+    /// - `Ready(Ok(frame))`: the next frame. The source is positioned right after it.
+    /// - `Ready(Err(H3(code)))`: the code that `read_frame` returns, after the bytes that decided;
+    ///   or `Frame` if the source ended inside a frame.
+    /// - `Ready(Err(IO(fault)))`: the source gave no more bytes; `ImmediateFin` if nothing is held.
+    /// - `Pending`: the source was not ready. `NoMemory`: allocation failed for a payload.
+    /// - `Again`: an unknown frame was skipped, or 4096 bytes of its payload.
     ///
-    /// The reading holds what came of a frame, and loses nothing. It may be polled again after each
-    /// of these, over the same source or another.
+    /// The reading holds the bytes received of a frame, and loses nothing. It may be polled again
+    /// after each of these, with the same source or another.
     pub fn read_frame_async<S: AsyncRead>(
         &self,
         reading: &mut FrameReading,
@@ -121,12 +124,12 @@ impl StreamBiLocalH3 {
         polled::poll_frame::<Self, S>(&mut true, reading, source)
     }
 
-    /// Writes a frame as `Frame::write` does, and takes it. Its kind is not WebTransport, which is
-    /// for `upgrade`.
+    /// Writes a frame as `Frame::write` does, and consumes it. Requires that its kind is not
+    /// WebTransport, which is for `upgrade`.
     ///
-    /// A stream to which a frame was written cannot be upgraded any more. On an error the stream is
-    /// as it was, the frame is given up, and the writer holds those of its parts that came before
-    /// the refused one.
+    /// A stream to which a frame was written cannot be upgraded any more. On an error the stream
+    /// does not change, the frame is dropped, and the writer holds those of its parts before the
+    /// one that it refused.
     pub fn write_frame<W: BytesWriter>(
         &mut self,
         frame: Frame<'_>,
@@ -144,11 +147,11 @@ impl StreamBiLocalH3 {
         Ok(())
     }
 
-    /// Writes a frame whole as `Frame::write_to_buffer` does, with the condition of `write_frame`
-    /// and what that does to the stream, and takes it.
+    /// Writes a complete frame as `Frame::write_to_buffer` does, with the condition of
+    /// `write_frame` and its effect on the stream, and consumes it.
     ///
-    /// `EndOfBuffer` where the room is too small; then nothing is written, the stream is as it was,
-    /// and the frame is given up.
+    /// Returns `EndOfBuffer` if the room is too small; then nothing is written, the stream does not
+    /// change, and the frame is dropped.
     pub fn write_frame_to_buffer(
         &mut self,
         frame: Frame<'_>,
@@ -167,12 +170,12 @@ impl StreamBiLocalH3 {
         Ok(())
     }
 
-    /// Writes a frame, poll by poll, as `FrameWriting` does. Its kind is not
+    /// Writes a frame, poll by poll, as `FrameWriting` does. Requires that its kind is not
     /// WebTransport, which is for `upgrade_async`.
     ///
-    /// A stream to which a frame was written whole cannot be upgraded any more; after every other
-    /// answer it is as it was. The condition still holds after each poll, so that the next one may
-    /// follow.
+    /// A stream to which a complete frame was written cannot be upgraded any more; after every
+    /// other result it has not changed. The condition still holds after each poll, so that the next
+    /// one may follow.
     pub fn write_frame_async<W: AsyncWrite>(
         &mut self,
         writing: &mut FrameWriting<'_>,
@@ -193,18 +196,17 @@ impl StreamBiLocalH3 {
         answer
     }
 
-    /// Whether `upgrade` may be called: no write of a frame succeeded before.
+    /// Returns whether `upgrade` may be called: no write of a frame succeeded before.
     pub fn can_upgrade(&self) -> bool
         ensures { result ≡ can_upgrade self.now }
     {
         !self.stage.first_frame_done
     }
 
-    /// Makes it a stream of this session by a WebTransport frame, which is written as
-    /// `Frame::write` does. It can be upgraded, as `can_upgrade` tells.
+    /// Converts to a stream of this session by a WebTransport frame, which is written as
+    /// `Frame::write` does. Requires that the stream can be upgraded, as `can_upgrade` reports.
     ///
-    /// On an error the stream is handed back as it was, and the writer may hold the frame's type
-    /// number.
+    /// On an error the stream is returned unchanged, and the writer may hold the frame's type.
     pub fn upgrade<W: BytesWriter>(
         self,
         session_id: SessionId,
@@ -226,15 +228,15 @@ impl StreamBiLocalH3 {
         }
     }
 
-    /// How many bytes `upgrade` writes.
+    /// Returns the number of bytes that `upgrade` writes.
     pub fn upgrade_size(&self, session_id: SessionId) -> usize
         ensures { result ≡ length (wire (WebTransportOf session_id)) }
     {
         Frame::new_webtransport(session_id).write_size()
     }
 
-    /// A state that makes it a stream of this session, poll by poll, as `upgrade` does. It can be
-    /// upgraded, as `can_upgrade` tells.
+    /// Returns a state that converts to a stream of this session, poll by poll, as `upgrade` does.
+    /// Requires that the stream can be upgraded, as `can_upgrade` reports.
     pub fn upgrade_async(self, session_id: SessionId) -> BiUpgrading
         requires { IsTrue (can_upgrade self) }
         ensures stream { result.stream ≡ self }
@@ -248,7 +250,7 @@ impl StreamBiLocalH3 {
         }
     }
 
-    /// The same as the stream of a session, for which this is the request.
+    /// Converts to the stream of a session, which this request is for.
     pub fn into_session(self, session_request: SessionRequest) -> StreamSession
         ensures { request_of result ≡ session_request }
     {

@@ -1,4 +1,4 @@
-//! Streams in both directions that the peer opened.
+//! Bidirectional streams that the peer opened.
 ghost use Rattle.std.specs.Prelude.{◌≡◌, ◌≤◌, ◌↔◌, true, length, Err, IsOk, OnOk, OnErr, Ok};
 ghost use Rattle.wtp_core.specs.Reader.{IsRest};
 ghost use Rattle.wtp_core.specs.Cursor.{left_of, whole_of};
@@ -39,7 +39,7 @@ pub type StreamBiRemoteH3 = Stream<BiRemote, H3>;
 pub type StreamBiRemoteWT = Stream<BiRemote, WT>;
 
 impl StreamBiRemoteQuic {
-    /// A stream that the peer opened.
+    /// Creates a stream that the peer opened.
     pub fn accept_bi() -> Self {
         Stream {
             kind: BiRemote::default(),
@@ -47,7 +47,7 @@ impl StreamBiRemoteQuic {
         }
     }
 
-    /// The same as a stream of HTTP/3, of which no frame was read.
+    /// Converts to a stream of HTTP/3 of which no frame was read.
     pub fn upgrade(self) -> StreamBiRemoteH3
         ensures { first_of result ≡ true }
     {
@@ -62,13 +62,17 @@ impl StreamBiRemoteQuic {
 }
 
 impl StreamBiRemoteH3 {
-    /// Reads the next frame, and takes no memory. Unknown frames are passed over whole.
+    /// Reads the next frame. It does not allocate. Unknown frames are skipped whole.
     ///
-    /// `None` where the bytes are too few; whole frames and numbers may have been read then.
-    /// `FrameUnexpected` or `Frame` behind a frame that may not come here, `Id` behind a
-    /// WebTransport frame whose number is no session's, `ExcessiveLoad` behind a length above 4096.
-    /// A WebTransport frame may come only as the first one; a refused frame counts, an unknown one
-    /// and one that could not be read don't.
+    /// Returns `None` if there are too few bytes; complete frames and numbers may have been read
+    /// then. Errors:
+    ///
+    /// - `FrameUnexpected` or `Frame`: a frame was read that is not permitted here.
+    /// - `Id`: a WebTransport frame with an invalid session ID was read.
+    /// - `ExcessiveLoad`: a length above 4096 was read.
+    ///
+    /// A WebTransport frame is permitted only as the first one. A refused frame counts; an unknown
+    /// one and one that could not be read do not.
     #[inline(always)]
     pub fn read_frame<'a, R: BytesReader<'a>>(
         &mut self,
@@ -81,12 +85,12 @@ impl StreamBiRemoteH3 {
         reading::read_frame::<Self, R>(&mut self.stage.first_frame_done, reader)
     }
 
-    /// Reads the next frame as `read_frame` does, and moves past it; where it returns `None` or an
-    /// error the reader stays where it is.
+    /// Reads the next frame as `read_frame` does, and moves past it. The reader does not move if
+    /// this returns `None` or an error.
     ///
     /// After an error the next frame counts as the first one as after `read_frame`: a refused frame
-    /// was the first, although the reader is still before it, so a WebTransport frame may not come
-    /// any more; an invalid session ID or a length above 4096 leaves that as it was.
+    /// was the first, although the reader is still before it, so a WebTransport frame is not
+    /// permitted any more; an invalid session ID or a length above 4096 leaves that unchanged.
     #[inline(always)]
     pub fn read_frame_from_buffer<'a>(
         &mut self,
@@ -101,15 +105,15 @@ impl StreamBiRemoteH3 {
 
     /// Reads the next frame, poll by poll, by the rules of `read_frame`.
     ///
-    /// - `Ready(Ok(frame))`: the next frame. The source stands right behind it.
-    /// - `Ready(Err(H3(code)))`: the code that `read_frame` answers, behind the bytes that decided;
-    ///   or `Frame` at an end inside a frame.
-    /// - `Ready(Err(IO(fault)))`: the source gave no more; `ImmediateFin` where nothing is held.
-    /// - `Pending`: the source was not ready. `NoMemory`: none was to be had for a payload.
-    /// - `Again`: an unknown frame was passed over, or 4096 bytes of its payload.
+    /// - `Ready(Ok(frame))`: the next frame. The source is positioned right after it.
+    /// - `Ready(Err(H3(code)))`: the code that `read_frame` returns, after the bytes that decided;
+    ///   or `Frame` if the source ended inside a frame.
+    /// - `Ready(Err(IO(fault)))`: the source gave no more bytes; `ImmediateFin` if nothing is held.
+    /// - `Pending`: the source was not ready. `NoMemory`: allocation failed for a payload.
+    /// - `Again`: an unknown frame was skipped, or 4096 bytes of its payload.
     ///
-    /// The reading holds what came of a frame, and loses nothing. It may be polled again after each
-    /// of these, over the same source or another.
+    /// The reading holds the bytes received of a frame, and loses nothing. It may be polled again
+    /// after each of these, with the same source or another.
     #[inline(always)]
     pub fn read_frame_async<S: AsyncRead>(
         &mut self,
@@ -125,10 +129,10 @@ impl StreamBiRemoteH3 {
         polled::poll_frame::<Self, S>(&mut self.stage.first_frame_done, reading, source)
     }
 
-    /// Writes a frame as `Frame::write` does, and takes it.
+    /// Writes a frame as `Frame::write` does, and consumes it.
     ///
-    /// On an error the frame is given up, and the writer holds those of its parts that came before
-    /// the refused one.
+    /// On an error the frame is dropped, and the writer holds those of its parts before the one
+    /// that it refused.
     pub fn write_frame<W: BytesWriter>(
         &self,
         frame: Frame<'_>,
@@ -141,10 +145,10 @@ impl StreamBiRemoteH3 {
         frame.write(writer)
     }
 
-    /// Writes a frame whole as `Frame::write_to_buffer` does, and takes it.
+    /// Writes a complete frame as `Frame::write_to_buffer` does, and consumes it.
     ///
-    /// `EndOfBuffer` where the room is too small; then nothing is written, and the frame is given
-    /// up.
+    /// Returns `EndOfBuffer` if the room is too small; then nothing is written, and the frame is
+    /// dropped.
     pub fn write_frame_to_buffer(
         &self,
         frame: Frame<'_>,
@@ -172,8 +176,8 @@ impl StreamBiRemoteH3 {
         writing.poll(sink)
     }
 
-    /// The same as a stream of this session: that of the WebTransport frame which was read as the
-    /// first one.
+    /// Converts to a stream of this session: the session of the WebTransport frame that was read as
+    /// the first one.
     pub fn upgrade(self, session_id: SessionId) -> StreamBiRemoteWT
         ensures { session_of result ≡ session_id }
     {
@@ -183,7 +187,7 @@ impl StreamBiRemoteH3 {
         }
     }
 
-    /// The same as the stream of a session, for which this is the request.
+    /// Converts to the stream of a session, which this request is for.
     pub fn into_session(self, session_request: SessionRequest) -> StreamSession
         ensures { request_of result ≡ session_request }
     {

@@ -19,21 +19,21 @@ use wtp_wire::frame::{FrameOwned, FrameReading};
 
 /// A stream from which frames are read. Not in the Rust crate.
 pub trait ReadsFrames {
-    // Which reading state it is.
+    // The reading state.
     ghost role: { Role };
 
-    // Whether no frame was read whole before.
+    // Whether no complete frame was read before.
     ghost first: { Self → Bool };
 
     // Whether frames may be read.
     ghost can: { Self → Type 0 };
 
-    /// Whether frames may be read.
+    /// Returns whether frames may be read.
     fn can_read(&self) -> bool
         ensures { IsTrue result ↔ can self.now };
 
-    /// Reads the next frame, poll by poll, as the stream's own `read_frame_async` does. Frames may
-    /// be read, as `can_read` tells.
+    /// Reads the next frame, poll by poll, as the stream's own `read_frame_async` does. Requires
+    /// that frames may be read, as `can_read` reports.
     fn read_frame_async<S: AsyncRead>(
         &mut self,
         reading: &mut FrameReading,
@@ -133,7 +133,7 @@ impl ReadsFrames for StreamSession {
     }
 }
 
-/// How a drive ended. Not in the Rust crate.
+/// The way a drive ended. Not in the Rust crate.
 #[derive(Debug, Drop, PartialEq, Eq)]
 pub enum Driven {
     /// The stream gives no more frames.
@@ -142,23 +142,23 @@ pub enum Driven {
     Waiting,
     /// All polls were made, and each took something.
     Spent,
-    /// No memory was to be had, for a payload or for a place in the list.
+    /// Memory allocation failed, for a payload or for a place in the list.
     NoMemory,
 }
 
 /// Polls the stream at most `polls` times, and appends each frame to `out`. Not in the Rust crate.
 ///
-/// - `Ended(fault)`: the first fault. As after the poll that found it, the source is positioned right
-///   after a refused frame, or after the bytes that decided, and nothing is held; where the source
-///   ended inside a frame, all that came of it is held.
+/// - `Ended(fault)`: the first fault. As after the poll that found it, the source is positioned
+///   right after a refused frame, or after the bytes that decided, and nothing is held; if the
+///   source ended inside a frame, all bytes received of it are held.
 /// - `Waiting`: the source was not ready.
 /// - `Spent`: all polls were made, and each took something.
 /// - `NoMemory`: allocation failed, for a payload or for a place in `out`.
 ///
-/// No answer loses a byte: what was there is the frames that were appended and what is held and ahead
-/// now. So it may be called again after each of them, with the same stream, reading and list, over
-/// the same source or another. With no polls it touches nothing. Frames may be read, as `can_read`
-/// reports.
+/// No result loses a byte: what was there is the frames that were appended and what is held and
+/// ahead now. So it may be called again after each of them, with the same stream, reading and list,
+/// and with the same source or another. With no polls it changes nothing. Requires that frames may
+/// be read, as `can_read` reports.
 pub fn drive<K: ReadsFrames, S: AsyncRead>(
     stream: &mut K,
     reading: &mut FrameReading,

@@ -1,4 +1,5 @@
-//! Reading frames from a stream, poll by poll: one reading for all kinds, which differ in their rule.
+//! Reading frames from a stream, poll by poll: one implementation for all kinds, which differ in
+//! their rule.
 ghost use Rattle.std.specs.Prelude.{◌≡◌, true, not};
 ghost use Rattle.wtp_core.specs.Source.{Telling};
 ghost use Rattle.wtp_core.specs.Polled.{Asks};
@@ -13,10 +14,10 @@ use wtp_core::error::ErrorCode;
 use wtp_wire::frame;
 use wtp_wire::frame::{FrameOwned, FrameReading, ParseError};
 
-/// Why no frame, or no header, was read from a stream.
+/// The reason no frame, or no header, was read from a stream.
 #[derive(Debug, Drop, PartialEq, Eq, thiserror::Error)]
 pub enum IoReadError {
-    /// The bytes break a rule of HTTP/3; an end inside a frame or a header does.
+    /// The bytes violate a rule of HTTP/3; an end inside a frame or a header does.
     #[error("{0}")]
     H3(ErrorCode),
     /// The source gave no more bytes.
@@ -24,7 +25,8 @@ pub enum IoReadError {
     IO(bytes::IoReadError),
 }
 
-/// Polls the reading, judges its answer by the rule of `K`, and notes that a frame was read whole.
+/// Polls the reading, judges its result by the rule of `K`, and records that a complete frame was
+/// read.
 #[inline(always)]
 pub(crate) fn poll_frame<K: Rule, S: AsyncRead>(
     first_frame_done: &mut bool,
@@ -62,7 +64,7 @@ pub(crate) fn poll_frame<K: Rule, S: AsyncRead>(
     }
 }
 
-/// An end inside a frame is a fault of the frame.
+/// Converts a fault of the source: an end inside a frame is a fault of the frame.
 pub(crate) fn stream_fault(fault: bytes::IoReadError) -> IoReadError
     ensures { result ≡ stream_fault fault }
 {

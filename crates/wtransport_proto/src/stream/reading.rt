@@ -1,4 +1,4 @@
-//! Reading frames from a stream: one reading for all kinds, which differ in their rule.
+//! Reading frames from a stream: one implementation for all kinds, which differ in their rule.
 ghost use Rattle.std.specs.Prelude.{◌≡◌, true, not};
 ghost use Rattle.wtp_core.specs.Cursor.{left_of, whole_of};
 ghost use Rattle.wtp_core.specs.Reader.{IsRest};
@@ -13,15 +13,15 @@ use wtp_wire::frame::{Frame, FrameKind, ParseError};
 
 /// A stream in a reading state.
 pub(crate) trait Rule {
-    // Which reading state it is.
+    // The reading state.
     ghost role: { Role };
 
-    /// The fault of a frame of this kind, which may be the stream's first.
+    /// Returns the fault of a frame of this kind, which may be the first of the stream.
     fn fault(first: bool, kind: FrameKind) -> Option<ErrorCode>
         ensures { result ≡ rule role first kind };
 }
 
-/// Reads the first frame of a known or exercise kind; unknown frames in front of it are passed over.
+/// Reads the first frame of a known or exercise kind; unknown frames before it are skipped.
 #[inline(always)]
 #[tactic(auto, using(wtp_core::proofs::RestLemmas::rests))]
 fn read_known<'a, R: BytesReader<'a>>(reader: &mut R) -> Result<Option<Frame<'a>>, ErrorCode>
@@ -39,7 +39,7 @@ fn read_known<'a, R: BytesReader<'a>>(reader: &mut R) -> Result<Option<Frame<'a>
     }
 }
 
-/// Reads the next frame by the rule of `K`, and notes that a frame was read whole.
+/// Reads the next frame by the rule of `K`, and records that a complete frame was read.
 #[inline(always)]
 pub(crate) fn read_frame<'a, K: Rule, R: BytesReader<'a>>(
     first_frame_done: &mut bool,
@@ -60,7 +60,7 @@ pub(crate) fn read_frame<'a, K: Rule, R: BytesReader<'a>>(
     }
 }
 
-/// Reads the next frame as `read_frame` does, and moves past it alone.
+/// Reads the next frame as `read_frame` does, and moves past it only.
 #[inline(always)]
 #[tactic(auto, using(crate::proofs::ReadingLemmas::run_answers))]
 pub(crate) fn read_frame_from_buffer<'a, K: Rule>(

@@ -31,11 +31,14 @@ use wtp_wire::frame::{Frame, FrameKind, FrameOwned, FrameReading, FrameWriting};
 pub type StreamSession = Stream<Bi, Session>;
 
 impl StreamSession {
-    /// Reads the next frame, and takes no memory. Unknown frames are passed over whole.
+    /// Reads the next frame. It does not allocate. Unknown frames are skipped whole.
     ///
-    /// `None` where the bytes are too few; whole frames and numbers may have been read then.
-    /// `FrameUnexpected` behind a frame that may not come here, `Id` behind a WebTransport frame
-    /// whose number is no session's, `ExcessiveLoad` behind a length above 4096.
+    /// Returns `None` if there are too few bytes; complete frames and numbers may have been read
+    /// then. Errors:
+    ///
+    /// - `FrameUnexpected`: a frame was read that is not permitted here.
+    /// - `Id`: a WebTransport frame with an invalid session ID was read.
+    /// - `ExcessiveLoad`: a length above 4096 was read.
     #[inline(always)]
     pub fn read_frame<'a, R: BytesReader<'a>>(
         &self,
@@ -48,8 +51,8 @@ impl StreamSession {
         reading::read_frame::<Self, R>(&mut true, reader)
     }
 
-    /// Reads the next frame as `read_frame` does, and moves past it; where it answers `None` or an
-    /// error the reader stays where it is.
+    /// Reads the next frame as `read_frame` does, and moves past it. The reader does not move if
+    /// this returns `None` or an error.
     #[inline(always)]
     pub fn read_frame_from_buffer<'a>(
         &self,
@@ -64,15 +67,15 @@ impl StreamSession {
 
     /// Reads the next frame, poll by poll, by the rules of `read_frame`.
     ///
-    /// - `Ready(Ok(frame))`: the next frame. The source stands right behind it.
-    /// - `Ready(Err(H3(code)))`: the code that `read_frame` answers, behind the bytes that decided;
-    ///   or `Frame` at an end inside a frame.
-    /// - `Ready(Err(IO(fault)))`: the source gave no more; `ImmediateFin` where nothing is held.
-    /// - `Pending`: the source was not ready. `NoMemory`: none was to be had for a payload.
-    /// - `Again`: an unknown frame was passed over, or 4096 bytes of its payload.
+    /// - `Ready(Ok(frame))`: the next frame. The source is positioned right after it.
+    /// - `Ready(Err(H3(code)))`: the code that `read_frame` returns, after the bytes that decided;
+    ///   or `Frame` if the source ended inside a frame.
+    /// - `Ready(Err(IO(fault)))`: the source gave no more bytes; `ImmediateFin` if nothing is held.
+    /// - `Pending`: the source was not ready. `NoMemory`: allocation failed for a payload.
+    /// - `Again`: an unknown frame was skipped, or 4096 bytes of its payload.
     ///
-    /// The reading holds what came of a frame, and loses nothing. It may be polled again after each
-    /// of these, over the same source or another.
+    /// The reading holds the bytes received of a frame, and loses nothing. It may be polled again
+    /// after each of these, with the same source or another.
     pub fn read_frame_async<S: AsyncRead>(
         &self,
         reading: &mut FrameReading,
@@ -87,10 +90,10 @@ impl StreamSession {
         polled::poll_frame::<Self, S>(&mut true, reading, source)
     }
 
-    /// Writes a frame as `Frame::write` does, and takes it.
+    /// Writes a frame as `Frame::write` does, and consumes it.
     ///
-    /// On an error the frame is given up, and the writer holds those of its parts that came before
-    /// the refused one.
+    /// On an error the frame is dropped, and the writer holds those of its parts before the one
+    /// that it refused.
     pub fn write_frame<W: BytesWriter>(
         &self,
         frame: Frame<'_>,
@@ -103,10 +106,10 @@ impl StreamSession {
         frame.write(writer)
     }
 
-    /// Writes a frame whole as `Frame::write_to_buffer` does, and takes it.
+    /// Writes a complete frame as `Frame::write_to_buffer` does, and consumes it.
     ///
-    /// `EndOfBuffer` where the room is too small; then nothing is written, and the frame is given
-    /// up.
+    /// Returns `EndOfBuffer` if the room is too small; then nothing is written, and the frame is
+    /// dropped.
     pub fn write_frame_to_buffer(
         &self,
         frame: Frame<'_>,
@@ -134,7 +137,7 @@ impl StreamSession {
         writing.poll(sink)
     }
 
-    /// The request for the session.
+    /// Returns the request for the session.
     pub fn request(&self) -> &SessionRequest
         ensures { result.now ≡ request_of self.now }
     {

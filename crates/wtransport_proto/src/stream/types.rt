@@ -11,15 +11,15 @@ pub struct Bi;
 #[derive(Debug, Drop)]
 pub struct Uni;
 
-/// The peer opened it.
+/// The peer opened the stream.
 #[derive(Debug, Drop)]
 pub struct Remote;
 
-/// This end opened it.
+/// This end opened the stream.
 #[derive(Debug, Drop)]
 pub struct Local;
 
-/// A stream in both directions that the peer opened.
+/// A bidirectional stream that the peer opened.
 #[derive(Debug, Drop)]
 pub struct BiRemote(Bi, Remote);
 
@@ -29,7 +29,7 @@ impl Default for BiRemote {
     }
 }
 
-/// A stream in both directions that this end opened.
+/// A bidirectional stream that this end opened.
 #[derive(Debug, Drop)]
 pub struct BiLocal(Bi, Local);
 
@@ -39,7 +39,7 @@ impl Default for BiLocal {
     }
 }
 
-/// A stream in one direction that the peer opened.
+/// A unidirectional stream that the peer opened.
 #[derive(Debug, Drop)]
 pub struct UniRemote(Uni, Remote);
 
@@ -49,7 +49,7 @@ impl Default for UniRemote {
     }
 }
 
-/// A stream in one direction that this end opened.
+/// A unidirectional stream that this end opened.
 #[derive(Debug, Drop)]
 pub struct UniLocal(Uni, Local);
 
@@ -63,8 +63,8 @@ impl Default for UniLocal {
 #[derive(Debug, Drop)]
 pub struct Quic;
 
-/// A stream of HTTP/3. `H` is `StreamHeader` where the stream goes in one direction, which begins
-/// with a header (RFC 9114, section 6.2), and `()` where it goes in both.
+/// A stream of HTTP/3. `H` is `StreamHeader` if the stream is unidirectional, as it starts with a
+/// header (RFC 9114, section 6.2), and `()` if it is bidirectional.
 #[derive(Debug, Drop)]
 pub struct H3<H = ()> {
     pub(crate) header: H,

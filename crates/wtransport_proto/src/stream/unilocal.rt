@@ -1,4 +1,4 @@
-//! Streams in one direction that this end opened.
+//! Unidirectional streams that this end opened.
 ghost use Rattle.std.specs.Prelude.{◌≡◌, ◌≤◌, ◌↔◌, length, Err, IfOk, IfErr, IsOk, OnOk, OnErr, Ok};
 ghost use Rattle.wtp_core.specs.Source.{Telling};
 ghost use Rattle.wtp_core.specs.Writer.{PutsParts, LacksRoom};
@@ -25,7 +25,7 @@ pub type StreamUniLocalH3 = Stream<UniLocal, H3<StreamHeader>>;
 pub type StreamUniLocalWT = Stream<UniLocal, WT>;
 
 impl StreamUniLocalQuic {
-    /// A stream that this end opened.
+    /// Creates a stream that this end opened.
     pub fn open_uni() -> Self {
         Stream {
             kind: UniLocal::default(),
@@ -33,10 +33,10 @@ impl StreamUniLocalQuic {
         }
     }
 
-    /// Makes it a stream of HTTP/3 with this header, which is written as `StreamHeader::write` does.
+    /// Converts to a stream of HTTP/3 with this header, which is written as `StreamHeader::write`
+    /// does.
     ///
-    /// On an error the stream is handed back as it was, and the writer may hold the header's type
-    /// number.
+    /// On an error the stream is returned unchanged, and the writer may hold the header's type.
     pub fn upgrade<W: BytesWriter>(
         self,
         stream_header: StreamHeader,
@@ -60,7 +60,8 @@ impl StreamUniLocalQuic {
         }
     }
 
-    /// A state that makes it a stream of HTTP/3 with this header, poll by poll, as `upgrade` does.
+    /// Returns a state that converts to a stream of HTTP/3 with this header, poll by poll, as
+    /// `upgrade` does.
     pub fn upgrade_async(self, header: StreamHeader) -> UniUpgrading
         ensures stream { result.stream ≡ self }
         ensures header { result.header ≡ header }
@@ -74,7 +75,7 @@ impl StreamUniLocalQuic {
         }
     }
 
-    /// How many bytes `upgrade` writes.
+    /// Returns the number of bytes that `upgrade` writes.
     pub fn upgrade_size(stream_header: StreamHeader) -> usize
         ensures size { result ≡ length (header_wire stream_header) }
         ensures most { result ≤ StreamHeader.MAX_SIZE }
@@ -84,11 +85,12 @@ impl StreamUniLocalQuic {
 }
 
 impl StreamUniLocalH3 {
-    /// Writes a frame as `Frame::write` does, and takes it. The stream's kind is not WebTransport,
-    /// as `kind` tells: that is for `upgrade`. The stream stays as it is, and may be written again.
+    /// Writes a frame as `Frame::write` does, and consumes it. Requires that the stream's kind is
+    /// not WebTransport, as `kind` reports: that is for `upgrade`. The stream does not change, and
+    /// may be written again.
     ///
-    /// On an error the frame is given up, and the writer holds those of its parts that came before
-    /// the refused one.
+    /// On an error the frame is dropped, and the writer holds those of its parts before the one
+    /// that it refused.
     pub fn write_frame<W: BytesWriter>(
         &mut self,
         frame: Frame<'_>,
@@ -104,11 +106,11 @@ impl StreamUniLocalH3 {
         frame.write(writer)
     }
 
-    /// Writes a frame whole as `Frame::write_to_buffer` does, with the condition of `write_frame`,
-    /// and takes it.
+    /// Writes a complete frame as `Frame::write_to_buffer` does, with the condition of
+    /// `write_frame`, and consumes it.
     ///
-    /// `EndOfBuffer` where the room is too small; then nothing is written, and the frame is given
-    /// up.
+    /// Returns `EndOfBuffer` if the room is too small; then nothing is written, and the frame is
+    /// dropped.
     pub fn write_frame_to_buffer(
         &mut self,
         frame: Frame<'_>,
@@ -125,8 +127,8 @@ impl StreamUniLocalH3 {
         frame.write_to_buffer(writer)
     }
 
-    /// Writes a frame, poll by poll, as `FrameWriting` does, with the condition of
-    /// `write_frame`. The stream stays as it is, so that the next poll may follow.
+    /// Writes a frame, poll by poll, as `FrameWriting` does, with the condition of `write_frame`.
+    /// The stream does not change, so that the next poll may follow.
     pub fn write_frame_async<W: AsyncWrite>(
         &mut self,
         writing: &mut FrameWriting<'_>,

@@ -1,4 +1,4 @@
-//! Streams in one direction that the peer opened.
+//! Unidirectional streams that the peer opened.
 ghost use Rattle.std.specs.Prelude.{◌≡◌, ◌↔◌, [], false, IsTrue};
 ghost use Rattle.wtp_core.specs.Reader.{IsRest};
 ghost use Rattle.wtp_core.specs.Cursor.{left_of, whole_of};
@@ -31,17 +31,17 @@ pub type StreamUniRemoteH3 = Stream<UniRemote, H3<StreamHeader>>;
 /// A stream of a WebTransport session.
 pub type StreamUniRemoteWT = Stream<UniRemote, WT>;
 
-/// A stream that was upgraded, or not yet.
+/// A stream that may have been upgraded.
 #[derive(Debug, Drop)]
 pub enum MaybeUpgradeH3 {
-    /// The bytes are too few for a header.
+    /// There were too few bytes for a header.
     Quic(StreamUniRemoteQuic),
     /// The header was read.
     H3(StreamUniRemoteH3),
 }
 
 impl StreamUniRemoteQuic {
-    /// A stream that the peer opened.
+    /// Creates a stream that the peer opened.
     pub fn accept_uni() -> Self {
         Stream {
             kind: UniRemote::default(),
@@ -51,10 +51,12 @@ impl StreamUniRemoteQuic {
 
     /// Reads the stream's header as `StreamHeader::read` does.
     ///
-    /// `Quic` where the bytes are too few; the type number may have been read then.
-    /// `StreamCreation` behind a type number that is not known, which must not be taken for a fault
-    /// of the connection (RFC 9114, section 6.2), `Id` behind WebTransport's and a number that is no
-    /// session's. With an error the stream is given up.
+    /// Returns `Quic` if there are too few bytes; the type may have been read then. On an error the
+    /// stream is dropped:
+    ///
+    /// - `StreamCreation`: an unknown type was read. It must not be treated as a connection error
+    ///   (RFC 9114, section 6.2).
+    /// - `Id`: the WebTransport type and an invalid session ID were read.
     pub fn upgrade<'a, R: BytesReader<'a>>(
         self,
         reader: &mut R,
@@ -77,7 +79,7 @@ impl StreamUniRemoteQuic {
         }
     }
 
-    /// A state that reads the stream's header, poll by poll, as `upgrade` does.
+    /// Returns a state that reads the stream's header, poll by poll, as `upgrade` does.
     pub fn upgrade_async(self) -> UniAccepting
         ensures stream { result.stream ≡ self }
         ensures reading { result.reading ≡ [] }
@@ -90,19 +92,23 @@ impl StreamUniRemoteQuic {
 }
 
 impl StreamUniRemoteH3 {
-    /// Whether frames may be read: its kind is not WebTransport, which is for `upgrade`.
+    /// Returns whether frames may be read: the kind is not WebTransport, which is for `upgrade`.
     pub fn can_read(&self) -> bool
         ensures { IsTrue result ↔ CanRead self.now }
     {
         self.kind() != StreamKind::WebTransport
     }
 
-    /// Reads the next frame, and takes no memory. Unknown frames are passed over whole. Frames may
-    /// be read, as `can_read` tells; the stream stays as it is, so that the next call may follow.
+    /// Reads the next frame. It does not allocate. Unknown frames are skipped whole. Requires that
+    /// frames may be read, as `can_read` reports; the stream does not change, so that the next call
+    /// may follow.
     ///
-    /// `None` where the bytes are too few; whole frames and numbers may have been read then.
-    /// `FrameUnexpected` behind a frame that may not come here, `Id` behind a WebTransport frame
-    /// whose number is no session's, `ExcessiveLoad` behind a length above 4096.
+    /// Returns `None` if there are too few bytes; complete frames and numbers may have been read
+    /// then. Errors:
+    ///
+    /// - `FrameUnexpected`: a frame was read that is not permitted here.
+    /// - `Id`: a WebTransport frame with an invalid session ID was read.
+    /// - `ExcessiveLoad`: a length above 4096 was read.
     #[inline(always)]
     pub fn read_frame<'a, R: BytesReader<'a>>(
         &mut self,
@@ -118,8 +124,8 @@ impl StreamUniRemoteH3 {
         reading::read_frame::<Self, R>(&mut true, reader)
     }
 
-    /// Reads the next frame as `read_frame` does, and moves past it; where it answers `None` or an
-    /// error the reader stays where it is.
+    /// Reads the next frame as `read_frame` does, and moves past it. The reader does not move if
+    /// this returns `None` or an error.
     #[inline(always)]
     pub fn read_frame_from_buffer<'a>(
         &mut self,
@@ -137,15 +143,15 @@ impl StreamUniRemoteH3 {
 
     /// Reads the next frame, poll by poll, by the rules of `read_frame`.
     ///
-    /// - `Ready(Ok(frame))`: the next frame. The source stands right behind it.
-    /// - `Ready(Err(H3(code)))`: the code that `read_frame` answers, behind the bytes that decided;
-    ///   or `Frame` at an end inside a frame.
-    /// - `Ready(Err(IO(fault)))`: the source gave no more; `ImmediateFin` where nothing is held.
-    /// - `Pending`: the source was not ready. `NoMemory`: none was to be had for a payload.
-    /// - `Again`: an unknown frame was passed over, or 4096 bytes of its payload.
+    /// - `Ready(Ok(frame))`: the next frame. The source is positioned right after it.
+    /// - `Ready(Err(H3(code)))`: the code that `read_frame` returns, after the bytes that decided;
+    ///   or `Frame` if the source ended inside a frame.
+    /// - `Ready(Err(IO(fault)))`: the source gave no more bytes; `ImmediateFin` if nothing is held.
+    /// - `Pending`: the source was not ready. `NoMemory`: allocation failed for a payload.
+    /// - `Again`: an unknown frame was skipped, or 4096 bytes of its payload.
     ///
-    /// The reading holds what came of a frame, and loses nothing. It may be polled again after each
-    /// of these, over the same source or another.
+    /// The reading holds the bytes received of a frame, and loses nothing. It may be polled again
+    /// after each of these, with the same source or another.
     pub fn read_frame_async<S: AsyncRead>(
         &mut self,
         reading: &mut FrameReading,

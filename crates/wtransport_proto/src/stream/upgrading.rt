@@ -8,7 +8,8 @@ use wtp_core::ids::SessionId;
 use wtp_wire::frame::FrameWriting;
 use wtp_wire::stream_header::{HeaderWriting, StreamHeader};
 
-/// Makes a stream one of a session by a WebTransport frame, poll by poll. Not in the Rust crate.
+/// Converts a stream to one of a session by a WebTransport frame, poll by poll. Not in the Rust
+/// crate.
 #[derive(Debug, Drop)]
 pub struct BiUpgrading {
     pub(crate) stream: StreamBiLocalH3,
@@ -20,10 +21,10 @@ impl BiUpgrading {
     ghost use Rattle.wtp_core.specs.Source.{Telling};
     ghost use Rattle.wtransport_proto.specs.UpgradeSteps.{BiStepped, StepSends, bi_writing};
 
-    /// Writes on as far as the sink goes, as `FrameWriting` does; `Done` once all is sent.
+    /// Writes as far as the sink goes, as `FrameWriting` does. Returns `Done` once all is sent.
     ///
-    /// With every other answer the state is handed back: it knows what was sent, and may be polled
-    /// again, into the same sink or another.
+    /// Every other result returns the state. It knows what was sent, and may be polled again, with
+    /// the same sink or another.
     pub fn poll<W: AsyncWrite>(
         mut self,
         sink: &mut W,
@@ -46,7 +47,7 @@ impl BiUpgrading {
     }
 }
 
-/// Makes a stream one of HTTP/3 by its header, poll by poll. Not in the Rust crate.
+/// Converts a stream to one of HTTP/3 by its header, poll by poll. Not in the Rust crate.
 #[derive(Debug, Drop)]
 pub struct UniUpgrading {
     pub(crate) stream: StreamUniLocalQuic,
@@ -58,10 +59,10 @@ impl UniUpgrading {
     ghost use Rattle.wtp_core.specs.Source.{Telling};
     ghost use Rattle.wtransport_proto.specs.UpgradeSteps.{UniStepped, StepSends, uni_writing};
 
-    /// Writes on as far as the sink goes, as `HeaderWriting` does; `Done` once all is sent.
+    /// Writes as far as the sink goes, as `HeaderWriting` does. Returns `Done` once all is sent.
     ///
-    /// With every other answer the state is handed back: it knows what was sent, and may be polled
-    /// again, into the same sink or another.
+    /// Every other result returns the state. It knows what was sent, and may be polled again, with
+    /// the same sink or another.
     pub fn poll<W: AsyncWrite>(
         mut self,
         sink: &mut W,
