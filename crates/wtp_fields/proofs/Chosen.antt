@@ -1,4 +1,4 @@
--- What a chain of readings says.
+-- The result of a chain of readings.
 use Rattle.std.proofs.Common.{◌≡◌, ◌⊎◌, inl, inr, refl, List, ℕ, ap, Result, Ok, Err}
 use Rattle.wtp_fields.specs.declared.qpack.DecodingError.{DecodingError}
 use Rattle.wtp_fields.specs.Reading.{◌>>=◌}
@@ -11,7 +11,7 @@ pub bind_err : {A B : Type 0} (r : Result A DecodingError) (f : A → Result B D
 bind_err (Ok x) f d e = inr (x, refl, e)
 bind_err (Err x) f d e = inl (cc e)
 
--- two readings that are one have the same value, and the same bytes behind it
+-- two equal readings have the same value, and the same bytes after it
 pub same_value : {X : Type 0} (a b : X) (s t : List ℕ) → ◌≡◌ {A = Result (X × List ℕ) DecodingError} (Ok (a, s)) (Ok (b, t)) → a ≡ b
 same_value {X} a b s t e =
     let pair : ◌≡◌ {A = X × List ℕ} (a, s) (b, t) = cc e in

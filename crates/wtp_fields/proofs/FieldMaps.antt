@@ -19,7 +19,7 @@ abbrev pub Below : List ℕ → List Field → Type 0
 Below name [] = Unit {0}
 Below name (e ∷ es) = (slice_cmp nat_cmp name e.0 ≡ Less) × Below name es
 
--- each name is below those behind it
+-- each name is below those after it
 abbrev pub Ascends : List Field → Type 0
 Ascends [] = Unit {0}
 Ascends (e ∷ es) = Below e.0 es × Ascends es

@@ -1,4 +1,4 @@
--- Header maps: what a map holds, and the values of its names.
+-- Header maps: the contents of a map, and the values of its names.
 use Rattle.std.proofs.Common.{◌≡◌, ℕ, Bool, true, false, cond, List, [], ◌∷◌, ◌++◌, map, string_bytes, String, Global, refl, ◌∙◌, ap, arith, Option, Some, option_map}
 use Rattle.std.proofs.lemmas.Cmp.{nat_list_cmp_total}
 use Rattle.std.proofs.lemmas.List.{map-append}

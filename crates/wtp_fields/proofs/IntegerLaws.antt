@@ -1,4 +1,4 @@
--- What reading an integer gives, and the relations.
+-- The result of reading an integer, and the relations.
 use Rattle.std.proofs.Common.{◌≡◌, ℕ, zero, suc, ◌+◌, ◌-◌, ◌*◌, ◌/◌, ◌%◌, ◌^◌, ◌<◌, ◌≤◌, ◌⊎◌, inl, inr, List, [], ◌∷◌, ◌++◌, length, refl, sym, ◌∙◌, ap, arith, Ok, Err, eq-eqb, pow_mono, subst}
 use Rattle.std.proofs.lemmas.Bool.{cases_lt, cases_eq, lt-leb, le-leb, lt-ltb, le-ltb, ne_eqb}
 use Rattle.std.proofs.lemmas.Nat.{pow-add, pow_pos, mod_low}
@@ -7,13 +7,13 @@ use Rattle.wtp_fields.specs.declared.qpack.DecodingError.TheVariants.{Unexpected
 use Rattle.wtp_fields.specs.Integer.{AreOpen, AreClosed, groups_value, IsInt, IsOverflow, IsCut, groups_at, integer_at, shortest_groups, shortest_int}
 use Rattle.wtp_fields.proofs.IntegerWriting.{power}
 
--- one group and those behind it
+-- one group and those after it
 split : (sum k g v : ℕ) → sum + (g % 128 + 128 * v) * 2 ^ (7 * k) ≡ sum + g % 128 * 2 ^ (7 * k) + v * 2 ^ (7 * suc k)
 split sum k g v =
     let up : 2 ^ (7 * suc k) ≡ 2 ^ (7 * k) * 128 = ap (λ n. 2 ^ n) (omega arith) ∙ pow-add 2 (7 * k) 7 in
     rw up (omega arith)
 
--- a group behind which more follow
+-- a group after which more follow
 on_from : (g : ℕ) (bytes : List ℕ) (sum k v : ℕ) → 128 ≤ g → sum + (g % 128 + 128 * v) * 2 ^ (7 * k) < 2 ^ 64
     → groups_at sum k (g ∷ bytes) ≡ groups_at (sum + g % 128 * 2 ^ (7 * k)) (suc k) bytes
 unfolding groups_at
@@ -51,7 +51,7 @@ groups_cut [] sum k h within = refl
 groups_cut (g ∷ gs) sum k (on, more) within =
     on_from g gs sum k (groups_value gs) on within ∙ groups_cut gs (sum + g % 128 * 2 ^ (7 * k)) (suc k) more (rw (← split sum k g (groups_value gs)) within)
 
--- ---- one of three comes
+-- ---- there are three results
 
 pub record Whole (bytes : List ℕ) (sum k : ℕ) : Type 0 where
   pub groups : List ℕ
@@ -123,7 +123,7 @@ ones_first : (n b : ℕ) (bytes : List ℕ) → b % 2 ^ n ≡ 2 ^ n - 1 → inte
 unfolding integer_at
 ones_first n b bytes ones = rw (eq-eqb (b % 2 ^ n) (2 ^ n - 1) ones) refl
 
--- a spelled integer is read, whatever follows
+-- an encoded integer is read, whatever follows
 pub int_read : (n v : ℕ) (s rest : List ℕ) → IsInt n v s → integer_at n (s ++ rest) ≡ Ok (v, rest)
 unfolding integer_at
 int_read n v [] rest h = absurd h
@@ -143,7 +143,7 @@ unfolding integer_at
 cut_read n [] h = refl
 cut_read n (b ∷ gs) (ones, open_groups, within) = ones_first n b gs ones ∙ groups_cut gs (2 ^ n - 1) 0 open_groups (rw (once (2 ^ n - 1) (groups_value gs)) within)
 
--- what a front of the bytes is
+-- what a prefix of the bytes is
 pub record Front (n : ℕ) (bytes : List ℕ) : Type 0 where
   pub value : ℕ
   pub spelling : List ℕ

@@ -8,7 +8,7 @@ use Rattle.std.proofs.Math.Nat.{mul-le-mul_right, mul-le-mul_left}
 use Rattle.wtp_fields.specs.declared.qpack.DecodingError.TheVariants.{UnexpectedFin, IntegerOverflow}
 use Rattle.wtp_fields.specs.Integer.{groups_at, integer_at}
 
--- a group that does not fit, by its place
+-- a group that does not fit, by its position
 pub too_wide : (low shift : ℕ) → 0 < low → 64 ≤ shift → 2 ^ 64 ≤ low * 2 ^ shift
 too_wide low shift some wide =
     let p : 2 ^ 64 ≤ 2 ^ shift = pow_mono {i = 64} {j = shift} wide in
@@ -21,7 +21,7 @@ too_high low shift h =
     let q : (18446744073709551615 / 2 ^ shift + 1) * 2 ^ shift ≤ low * 2 ^ shift = mul-le-mul_right (2 ^ shift) (omega arith) in
     omega (arith, shr_split 18446744073709551615 shift, mod_below 18446744073709551615 (2 ^ shift) (pow_pos shift))
 
--- the shift that is kept is capped: where the sum fits, it is the true one
+-- the stored shift is capped: if the sum fits, it is the true one
 capped : (value low k shift : ℕ) → shift ≡ min (7 * k) 70 → value + low * 2 ^ shift < 2 ^ 64 → value + low * 2 ^ (7 * k) ≡ value + low * 2 ^ shift
 capped value zero k shift e h = omega arith
 capped value (suc low) k shift e h = elim (cases_lt k 10) [
@@ -33,7 +33,7 @@ capped value (suc low) k shift e h = elim (cases_lt k 10) [
       absurd (omega arith)
 ]
 
--- where it does not fit, the true one does not either
+-- if it does not fit, the true one does not either
 capped_over : (value low k shift : ℕ) → shift ≡ min (7 * k) 70 → 2 ^ 64 ≤ value + low * 2 ^ shift → 2 ^ 64 ≤ value + low * 2 ^ (7 * k)
 capped_over value low k shift e h =
     let p : 2 ^ shift ≤ 2 ^ (7 * k) = pow_mono {i = shift} {j = 7 * k} (omega arith) in
@@ -55,7 +55,7 @@ group_more : (sum k : ℕ) (bytes : List ℕ) → k < length bytes → sum + get
 unfolding groups_at
 group_more sum k bytes lt h more = rw (drop-cons bytes k 0 lt, lt-leb (2 ^ 64) (sum + get_or bytes k 0 % 128 * 2 ^ (7 * k)) h, le-ltb (get_or bytes k 0) 128 more) refl
 
--- one group, by the shift that is kept
+-- one group, by the stored shift
 pub over_at : (sum low k shift : ℕ) (bytes : List ℕ) → k < length bytes → low ≡ get_or bytes k 0 % 128 → shift ≡ min (7 * k) 70 → (sum + low * 2 ^ shift < 2 ^ 64 → ⊥)
     → groups_at sum k (drop k bytes) ≡ Err IntegerOverflow
 over_at sum low k shift bytes lt e cap h =

@@ -5,7 +5,7 @@ use Rattle.std.proofs.lemmas.Nat.{pow-add}
 use Rattle.std.proofs.Math.Nat.{mul-le-mul_right}
 use Rattle.wtp_fields.specs.Integer.{shortest_groups, shortest_int}
 
--- seven bits more
+-- seven more bits
 pub power : (k : ℕ) → 2 ^ (7 * suc (suc k)) ≡ 128 * 2 ^ (7 * suc k)
 power k = ap (λ n. 2 ^ n) (omega arith) ∙ pow-add 2 7 (7 * suc k)
 

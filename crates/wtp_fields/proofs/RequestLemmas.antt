@@ -1,4 +1,4 @@
--- Requests: what a map without a fault has, and what keeps it so.
+-- Requests: the fields of a map without a fault, and what keeps it so.
 use Rattle.std.proofs.Common.{◌≡◌, ℕ, Bool, true, false, cond, ◌||◌, List, [], ◌∷◌, drop, codes, refl, sym, ◌∙◌, ap, append_assoc, append-nil, Option, Some, None, IsSome}
 use Rattle.std.proofs.lemmas.Map.Text.{is_eq-slice_cmp}
 use Rattle.std.specs.Borrow.{Bor}
@@ -39,7 +39,7 @@ faultless_has m e =
     let last = first_none (fault_without MissingPath (value_of (codes ":path") m)) _ path.1 in
     record { authority = has_value MissingAuthority (value_of (codes ":authority") m) path.0; path = has_value MissingPath (value_of (codes ":path") m) last.0 }
 
--- what is lent of a value is there where the value is
+-- what is borrowed of a value is there if the value is
 pub lent_some : (o : Option (Bor (List ℕ))) (value : Option (List ℕ)) → option_copied o ≡ value → IsSome value → IsSome o
 lent_some None None e there = there
 lent_some None (Some v) e there = cc e

@@ -40,7 +40,7 @@ status_good m text has there =
     let same : status.text ≡ text = cc both in
     subst IsStatusText same status.good
 
--- a text that is good is parsed, and one that is parsed is good
+-- a valid text is parsed, and a parsed text is valid
 pub good_parses : {T E : Type 0} {P : Type 0} (r : Result T E) (value : T) → OkIff r P value → P → IsOk r
 good_parses (Ok x) value given good = refl
 good_parses (Err e) value given good = absurd (given good)

@@ -1,4 +1,4 @@
--- What reading a section gives, and the lines one behind the other.
+-- The result of reading a section, and the lines one after the other.
 use Rattle.std.proofs.Common.{◌≡◌, ℕ, zero, suc, ◌<◌, ◌≤◌, ◌⊎◌, inl, inr, List, [], ◌∷◌, length, refl, subst, arith, Ok, Err}
 use Rattle.wtp_fields.specs.declared.qpack.DecodingError.{DecodingError}
 use Rattle.wtp_fields.specs.Field.{Field}
@@ -21,7 +21,7 @@ are_lines (suc n) (b ∷ bs) lines few e =
     let same : first.0.0 ∷ later.0 ≡ lines = cc later.2 in
     subst (λ z. AreLines (b ∷ bs) z []) same (first.0.1, first.1, are_lines n first.0.1 later.0 (omega arith) later.1)
 
--- the lines before a fault, and where it stands
+-- the lines before a fault, and its position
 pub record Faulty (bytes : List ℕ) (e : DecodingError) : Type 0 where
   pub lines : List Field
   pub rest : List ℕ

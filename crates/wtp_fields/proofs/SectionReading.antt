@@ -1,4 +1,4 @@
--- Sections: what the lines give is what the section gives.
+-- Sections: the result of the lines is the result of the section.
 use Rattle.std.proofs.Common.{◌≡◌, ◌≢◌, ℕ, zero, suc, ◌<◌, ◌≤◌, inl, inr, List, [], ◌∷◌, ◌++◌, length, refl, sym, ◌∙◌, ap, arith, Ok, Err, Result, IfOk, IfErr, map, string_bytes, String, Global}
 use Rattle.std.proofs.lemmas.Grind.{fold-append}
 use Rattle.std.specs.Ordering.{match_ordering}
@@ -35,7 +35,7 @@ put_entry (e ∷ es) k v =
     map_chosen held_field (string_cmp k e.0) ((k, v) ∷ e ∷ es) ((e.0, v) ∷ es) (e ∷ insert_entry string_cmp es k v)
     ∙ ap (λ z. match_ordering (string_cmp k e.0) ((string_bytes k, string_bytes v) ∷ held_field e ∷ map held_field es) ((string_bytes e.0, string_bytes v) ∷ map held_field es) (held_field e ∷ z)) (put_entry es k v)
 
--- ---- a line is shorter than what it stands in front of
+-- ---- a line is shorter than the bytes that start with it
 
 indexed_shorter : (bytes : List ℕ) (l : Field) (rest : List ℕ) → indexed_at bytes ≡ Ok (l, rest) → length rest < length bytes
 unfolding indexed_at
@@ -76,7 +76,7 @@ unfolding line_at
 line_shorter [] line rest e = cc
 line_shorter (b ∷ bs) line rest e = form_shorter (representation_of b) (b ∷ bs) line rest e
 
--- ---- lines, one behind the other
+-- ---- lines, one after the other
 
 pub lines_more : (text : List ℕ) (ls : List Field) (rest : List ℕ) (l : Field) (behind : List ℕ) → AreLines text ls rest → line_at rest ≡ Ok (l, behind) → AreLines text (ls ++ l ∷ []) behind
 lines_more text [] rest l behind e line = (behind, rw e line, refl)
@@ -130,7 +130,7 @@ pub map_no_lines : (bytes : List ℕ) (f : DecodingError) → lines_behind bytes
 unfolding map_at section_at
 map_no_lines bytes f e = rw e refl
 
--- what the lines give is what the section gives
+-- the result of the lines is the result of the section
 pub section_given : {M : Type 0} (view : M → List Field) (r : Result M DecodingError) (bytes body : List ℕ) → lines_behind bytes ≡ Ok body
     → IfOk r (λ m. (ls : List Field) × AreLines body ls [] × (view m ≡ field_map ls))
     → IfErr r (λ e. (ls : List Field) × (rest : List ℕ) × AreLines body ls rest × (0 < length rest) × (e ≢ Memory → line_at rest ≡ Err e))

@@ -21,7 +21,7 @@ pub texts_push : {X : Type 0} (f : X → Field) (ps : List X) (p : X) → AreTex
 texts_push f [] p h one = (one.0, one.1, tt)
 texts_push f (q ∷ ps) p (name, value, others) one = (name, value, texts_push f ps p others one)
 
--- what is read where no fault is, unless memory was refused
+-- what is read if there is no fault, unless allocation failed
 pub read_back : {M : Type 0} (view : M → List Field) (r : Result M DecodingError) (read : Result (List Field) DecodingError) (m : List Field) → read ≡ Ok m → GivesUnlessMemory view r read
     → MatchResult r (λ x. view x ≡ m) (λ e. e ≡ Memory)
 read_back view (Ok x) read m e h = cc

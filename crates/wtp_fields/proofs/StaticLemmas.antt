@@ -33,7 +33,7 @@ most Less = omega arith
 most Equal = omega arith
 most Greater = omega arith
 
--- what is less than a name compares to no more
+-- if a is less than b, then a compares to x as no more than b does
 rises : (a b x : List ℕ) → slice_cmp nat_cmp a b ≡ Less → ordering_index (slice_cmp nat_cmp a x) ≤ ordering_index (slice_cmp nat_cmp b x)
 rises a b x less = by_cases (slice_cmp nat_cmp b x) refl
   where
@@ -46,7 +46,7 @@ rises a b x less = by_cases (slice_cmp nat_cmp b x) refl
     by_cases Greater e = most (slice_cmp nat_cmp a x)
 
 module _ (names : List (Bor (List ℕ) × ℕ)) (x : List ℕ) where
-  -- the comparisons with a name rise along ordered names, as a binary search asks
+  -- the comparisons with a name rise along ordered names, as a binary search requires
   pub names_rise : AreOrdered (numbered names) → IsNonDecreasingBy (λ y. ordering_index (slice_cmp nat_cmp y.0.now x)) names
   names_rise ordered i j d le within = elim (cases_eq i j) [
     | inl same ↦ rw same (omega arith)
@@ -62,14 +62,14 @@ module _ (names : List (Bor (List ℕ) × ℕ)) (x : List ℕ) where
   numbered_at : (k : ℕ) (d : Bor (List ℕ) × ℕ) (e : Numbered) → k < length names → get_or (numbered names) k e ≡ ((get_or names k d).0.now, (get_or names k d).1)
   numbered_at k d e within = get_or_in lent_name names k d e within
 
-  -- a name that compares as equal stands there with its index
+  -- a name that compares as equal is there with its index
   pub stands : (place : ℕ) (d : Bor (List ℕ) × ℕ) → place < length names → HoldsAt (λ y. slice_cmp nat_cmp y.0.now x ≡ Equal) names place
       → Contains (numbered names) (x, (get_or names place d).1)
   stands place d within equal =
       let same : (get_or names place d).0.now ≡ x = exact_bytes (get_or names place d).0.now x (equal d) in
       (place, rw (length-map names lent_name) within, numbered_at place d (x, (get_or names place d).1) within ∙ ap (λ z. (z, (get_or names place d).1)) same)
 
-  -- where each name is below or above, none is equal
+  -- if each name is below or above, none is equal
   pub is_absent : (i : ℕ) → IsPartitionPoint (λ y. slice_cmp nat_cmp y.0.now x ≡ Less) (λ y. slice_cmp nat_cmp y.0.now x ≡ Greater) names i → (k : ℕ) → Contains (numbered names) (x, k) → ⊥
   is_absent i parted k (place, within, e) =
       let d : Bor (List ℕ) × ℕ = (record { ref_ptr = (0, 0); now = [] }, 0) in
@@ -84,7 +84,7 @@ module _ (names : List (Bor (List ℕ) × ℕ)) (x : List ℕ) where
 
 -- ---- the table
 
--- each name is below those behind it, as a test
+-- each name is below those after it, as a test
 ascends : List (List ℕ) → Bool
 ascends [] = true
 ascends (x ∷ xs) = list_all (λ y. is_lt (slice_cmp nat_cmp x y)) xs && ascends xs
@@ -93,7 +93,7 @@ is_some_of : Option ℕ → ℕ → Bool
 is_some_of None k = false
 is_some_of (Some j) k = j == k
 
--- the index beside a name is that of its first entry
+-- the index of a name is that of its first entry
 has_first : Numbered → Bool
 has_first e = is_some_of (first_entry e.0) e.1
 
@@ -176,13 +176,13 @@ first_by_name name None found absent = by_cases (first_entry name) refl
         let one = listed entry (AllPass-from_list_all is_listed static_table entries_listed j ([], []) there.0) in
         absurd (absent names_ordered one.0 (subst (λ z. Contains static_names (z, one.0)) (same_bytes entry.0 name there.1) one.1))
 
--- ---- the names that begin with a byte
+-- ---- the names that start with a byte
 
 none_pass : {X : Type 0} (p : X → Bool) (xs : List X) → AllByRecursion (λ x. p x ≡ false) xs → filter p xs ≡ []
 none_pass p [] h = refl
 none_pass p (x ∷ xs) h = ap (λ b. cond b (x ∷ filter p xs) (filter p xs)) h.0 ∙ none_pass p xs h.1
 
--- no name begins with another byte than these
+-- no name starts with another byte than these
 pub no_names : (b : ℕ) → (b ≡ 58 → ⊥) → (b ≡ 97 → ⊥) → (b ≡ 99 → ⊥) → (b ≡ 100 → ⊥) → (b ≡ 101 → ⊥) → (b ≡ 102 → ⊥) → (b ≡ 105 → ⊥) → (b ≡ 108 → ⊥) → (b ≡ 111 → ⊥) → (b ≡ 112 → ⊥) → (b ≡ 114 → ⊥) → (b ≡ 115 → ⊥) → (b ≡ 116 → ⊥) → (b ≡ 117 → ⊥) → (b ≡ 118 → ⊥) → (b ≡ 120 → ⊥)
     → static_names_of b ≡ []
 unfolding static_names_of static_names
@@ -255,7 +255,7 @@ begins (b ∷ bs) first is =
     let same : first ≡ b = cc is in
     rw same (eq-eqb b b refl)
 
--- what is found among the names that begin with a name's first byte is the name's first entry
+-- what is found among the names that start with a name's first byte is the name's first entry
 pub first_by_start : (name : List ℕ) (first : ℕ) (o : Option ℕ) → Some first ≡ slice_get name 0
     → IfSome o (λ k. Contains (static_names_of first) (name, k))
     → (AreOrdered (static_names_of first) → IfNone o ((k : ℕ) → Contains (static_names_of first) (name, k) → ⊥))
@@ -272,9 +272,9 @@ unfolding static_table
 no_name [] is = refl
 no_name (b ∷ bs) is = cc
 
--- ---- entries by their indices
+-- ---- entries by index
 
--- no entry stands past the table
+-- there is no entry past the table
 pub past : (k : ℕ) → 99 ≤ k → entry_at k ≡ None
 unfolding static_table
 past k h = slice_get_past static_table k h

@@ -60,7 +60,7 @@ found_or (suc n) w = elim (chosen (same_bits (code n) w) true false (same_bits (
   ]
 ]
 
--- two words at the front of the same bits are one
+-- two words at the start of the same bits are equal
 same_word : (x y : ℕ) (more behind : List Bool) → x < 257 → y < 257 → code x ++ more ≡ code y ++ behind → x ≡ y
 same_word x y more behind hx hy e =
     let there = row_exists (front 30 (code x ++ more)) (front_below 30 (code x ++ more)) in
@@ -82,7 +82,7 @@ coded_first (y ∷ u) x rest h (small, pad, p, e) =
     let dropped : rest ≡ coded u ++ pad = append_cancel_left (code x) rest (coded u ++ pad) (split ∙ ap (λ z. code z ++ (coded u ++ pad)) (sym same)) in
     (u, ap (λ z. z ∷ u) (sym same), rw same small.0, (small.1, pad, p, dropped))
 
--- no word stands in front of these bits
+-- no word is at the start of these bits
 abbrev pub HasNoWord : List Bool → Type 0
 HasNoWord seen = (x : ℕ) (more : List Bool) → x < 257 → seen ≡ code x ++ more → ⊥
 

@@ -1,4 +1,4 @@
--- What reading a string gives, and the relation.
+-- The result of reading a string, and the relation.
 use Rattle.std.proofs.Common.{◌≡◌, ℕ, ◌+◌, ◌*◌, ◌<◌, ◌≤◌, ◌==◌, inl, inr, Bool, true, false, nat_lt, List, [], ◌∷◌, ◌++◌, length, take, drop, refl, sym, ◌∙◌, ap, subst, arith, append_assoc, append-nil, length-take-le, Option, Some, None, Ok, Err, Result, IsUtf8, cond}
 use Rattle.std.specs.Bool.{MatchBool}
 use Rattle.std.specs.Str.{is_utf8}
@@ -76,7 +76,7 @@ unfolding flag_above
 flag_front n v [] more h = absurd h
 flag_front n v (b ∷ bs) more h = refl
 
--- a whole string is read by its content
+-- a complete string is read by its content
 whole_read : (n : ℕ) (size body rest : List ℕ) → IsInt n (length body) size
     → string_at n ((size ++ body) ++ rest) ≡ (content (flag_above n size) body >>= λ text. Ok (text, rest))
 unfolding string_at

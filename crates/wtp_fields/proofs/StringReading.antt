@@ -62,7 +62,7 @@ string_shorter n bytes t rest e =
           omega (arith, ap length behind, length-drop m.0 m.1)
     ]
 
--- ---- an integer's fault is not the want of memory
+-- ---- an integer's fault is not a failed allocation
 
 groups_not_memory : (bytes : List ℕ) (sum k : ℕ) → groups_at sum k bytes ≡ Err Memory → ⊥
 unfolding groups_at

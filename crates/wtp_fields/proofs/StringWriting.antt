@@ -13,7 +13,7 @@ use Rattle.wtp_fields.specs.StringLiteral.{filled_bytes, huffman_bytes, encoded_
 use Rattle.wtp_huffman.proofs.HuffmanBits.{front_below, low_bits_front, low_bits_length, ones_bits}
 use Rattle.wtp_huffman.proofs.HuffmanLaws.{one_string}
 
--- ones behind bits do not change their number
+-- ones after bits do not change their number
 front_ones : (n : ℕ) (bs pad : List Bool) → AllOnes pad → front n (bs ++ pad) ≡ front n bs
 unfolding front
 front_ones zero bs pad h = refl
@@ -86,7 +86,7 @@ written_coded n flags size t old one two (less, e) first h =
     let body : h.string ≡ huffman_bytes t = huffman_same t h.string h.bytes h.is_coded in
     rw (encoded_coded n flags t less, h.appended, body, first, e) (append_assoc old (shortest_int n (flags * 2 + 1) (coded_len t)) (huffman_bytes t))
 
--- the code of a text behind one byte, and how many bytes it has
+-- the code of a text after one byte, and the number of its bytes
 behind_byte : (t old one two : List ℕ) → one ≡ old ++ 0 ∷ [] → AppendsHuffman t one two → two ≡ old ++ 0 ∷ huffman_bytes t
 behind_byte t old one two first h =
     let body : h.string ≡ huffman_bytes t = huffman_same t h.string h.bytes h.is_coded in
@@ -106,7 +106,7 @@ written_behind n flags start size byte t old one two at e less first h is_size =
     let front : byte ∷ [] ≡ shortest_int n (flags * 2 + 1) (coded_len t) = rw all at is_size in
     rw (encoded_coded n flags t (omega (arith, less, all)), ← front) replaced
 
--- it was taken back, since the code is not shorter
+-- it was removed again, because the code is not shorter
 pub taken_back : (start size : ℕ) (t old one two : List ℕ) → start ≡ length old → size ≡ length two - start - 1 → length t ≤ size
     → one ≡ old ++ 0 ∷ [] → AppendsHuffman t one two → (take start two ≡ old) × (length t ≤ coded_len t)
 taken_back start size t old one two at e more first h =

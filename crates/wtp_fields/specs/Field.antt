@@ -13,11 +13,11 @@ use Rattle.std.specs.BTreeMap.{BTreeMap, insert_entry}
 abbrev pub Field : Type 0
 Field = List ℕ × List ℕ
 
--- a pair of texts that is lent
+-- a pair of borrowed texts
 abbrev pub lent_field : Bor (List ℕ) × Bor (List ℕ) → Field
 lent_field e = (e.0.now, e.1.now)
 
--- pairs of texts that are lent
+-- pairs of borrowed texts
 abbrev pub lent : List (Bor (List ℕ) × Bor (List ℕ)) → List Field
 lent = map lent_field
 
@@ -35,11 +35,11 @@ AreTexts (field ∷ fields) = IsText field.0 × IsText field.1 × AreTexts field
 abbrev pub held_field : String Global × String Global → Field
 held_field e = (string_bytes e.0, string_bytes e.1)
 
--- what a map holds, by the bytes of the names
+-- the contents of a map, by the bytes of the names
 abbrev pub held : BTreeMap (String Global) (String Global) → List Field
 held m = map held_field m.entries
 
--- each name once, in the order of their bytes
+-- each name once, in byte order
 abbrev pub IsMap : List Field → Type 0
 IsMap fields = IsStrictlySortedBy (slice_cmp nat_cmp) (map (λ (field : Field). field.0) fields)
 
@@ -47,7 +47,7 @@ IsMap fields = IsStrictlySortedBy (slice_cmp nat_cmp) (map (λ (field : Field). 
 abbrev pub put : List Field → Field → List Field
 put fields field = insert_entry (slice_cmp nat_cmp) fields field.0 field.1
 
--- the map of lines: each put into it in turn
+-- the map of lines: each is put into it in turn
 unfoldable pub field_map : List Field → List Field
 field_map = fold put []
 

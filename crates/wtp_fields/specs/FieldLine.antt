@@ -14,16 +14,16 @@ use Rattle.wtp_fields.specs.Integer.{integer_at, shortest_int}
 use Rattle.wtp_fields.specs.StaticTable.{entry_at, first_entry}
 use Rattle.wtp_fields.specs.StringLiteral.{string_at, encoded_string}
 
--- the bit at a place of a byte, the lowest at 0
+-- the bit at a position of a byte, the lowest at 0
 abbrev pub bit : ℕ → ℕ → Bool
 bit place byte = byte / 2 ^ place % 2 == 1
 
--- the table that the bit T names
+-- the table that the bit T refers to
 abbrev pub table_of : Bool → Table
 table_of true = Static
 table_of false = Dynamic
 
--- what a line is by the first four bits, the highest first
+-- the representation of a line by its first four bits, the highest first
 abbrev pub by_bits : Bool → Bool → Bool → Bool → Representation
 by_bits true t _ _ = Indexed (table_of t)  -- 1T, section 4.5.2
 by_bits false false false true = IndexedPostBase  -- 0001, section 4.5.3
@@ -34,25 +34,25 @@ by_bits false false true n = LiteralName  -- 001N, section 4.5.6
 abbrev pub representation_of : ℕ → Representation
 representation_of first = by_bits (bit 7 first) (bit 6 first) (bit 5 first) (bit 4 first)
 
--- what was read of a line: the field and the bytes behind it
+-- what was read of a line: the field and the bytes after it
 abbrev pub seen : Line → Field × List ℕ
 seen line = ((string_bytes line.name, string_bytes line.value), line.rest.now)
 
--- ---- reading: the field and the bytes behind it, or the first fault
+-- ---- reading: the field and the bytes after it, or the first fault
 
 -- the entry of the static table, if there is one
 abbrev pub or_not_found : Option Field → Result Field DecodingError
 or_not_found None = Err IndexNotfound
 or_not_found (Some entry) = Ok entry
 
--- an index of prefix 6, the whole entry
+-- an index with prefix 6, the whole entry
 unfoldable pub indexed_at : List ℕ → Result (Field × List ℕ) DecodingError
 indexed_at bytes = do
   index ← integer_at 6 bytes
   entry ← or_not_found (entry_at index.0)
   Ok (entry, index.1)
 
--- an index of prefix 4, the name of the entry; and a value
+-- an index with prefix 4, the name of the entry; and a value
 unfoldable pub name_reference_at : List ℕ → Result (Field × List ℕ) DecodingError
 name_reference_at bytes = do
   index ← integer_at 4 bytes
@@ -67,7 +67,7 @@ literal_name_at bytes = do
   value ← string_at 7 name.1
   Ok ((name.0, value.0), value.1)
 
--- what needs the dynamic table is refused before more is read
+-- a line that needs the dynamic table is refused before more of it is read
 abbrev pub line_by : Representation → List ℕ → Result (Field × List ℕ) DecodingError
 line_by (Indexed Static) bytes = indexed_at bytes
 line_by (Indexed Dynamic) bytes = Err DynamicNotSupported
@@ -77,7 +77,7 @@ line_by (NameReference Dynamic) bytes = Err DynamicNotSupported
 line_by PostBaseNameReference bytes = Err DynamicNotSupported
 line_by LiteralName bytes = literal_name_at bytes
 
--- the line at the front
+-- the line at the start
 unfoldable pub line_at : List ℕ → Result (Field × List ℕ) DecodingError
 line_at [] = Err UnexpectedFin
 line_at (first ∷ bytes) = line_by (representation_of first) (first ∷ bytes)
@@ -88,8 +88,8 @@ abbrev pub has_value : Option Field → List ℕ → Bool
 has_value None value = false
 has_value (Some entry) value = bytes_eq entry.1 value
 
--- a line by the index of the name's first static entry, if there is one: 11 and the index, where the entry has the
--- value too; 0101, the index and the value; or 0010, the name and the value
+-- a line by the index of the name's first static entry, if there is one: 11 and the index, if the entry has the value
+-- too; 0101, the index and the value; or 0010, the name and the value
 abbrev pub line_of : Option ℕ → Field → List ℕ
 line_of (Some index) field = if has_value (entry_at index) field.1 then shortest_int 6 3 index else shortest_int 4 5 index ++ encoded_string 7 0 field.1
 line_of None field = encoded_string 3 2 field.0 ++ encoded_string 7 0 field.1

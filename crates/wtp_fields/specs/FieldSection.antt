@@ -7,20 +7,20 @@ use Rattle.wtp_fields.specs.Reading.{◌>>=◌}
 use Rattle.wtp_fields.specs.Integer.{integer_at}
 use Rattle.wtp_fields.specs.FieldLine.{line_at, encoded_line}
 
--- The bytes behind the prefix of a section (section 4.5.1): the Required Insert Count, an integer of prefix 8, and
--- the Delta Base, one of prefix 7. Both are passed over.
+-- The bytes after the prefix of a section (section 4.5.1): the Required Insert Count, an integer with prefix 8, and the
+-- Delta Base, one with prefix 7. Both are ignored.
 unfoldable pub lines_behind : List ℕ → Result (List ℕ) DecodingError
 lines_behind bytes = do
   count ← integer_at 8 bytes
   base ← integer_at 7 count.1
   Ok base.1
 
--- these lines stand at the front of the bytes, one behind the other, and the rest behind them
+-- the bytes start with these lines, one after the other, followed by the rest
 abbrev pub AreLines : List ℕ → List Field → List ℕ → Type 0
 AreLines bytes [] rest = bytes ≡ rest
 AreLines bytes (line ∷ lines) rest = (behind : List ℕ) × (line_at bytes ≡ Ok (line, behind)) × AreLines behind lines rest
 
--- a line begins behind the prefix and good lines
+-- a line begins after the prefix and valid lines
 pub record ReachesLine (section : List ℕ) : Type 0 where
   pub lines : List ℕ
   pub fields : List Field
@@ -31,7 +31,7 @@ pub record ReachesLine (section : List ℕ) : Type 0 where
 
 -- ---- reading
 
--- the lines until the end, at most n: each has a byte at least
+-- the lines until the end, at most n: each has at least one byte
 unfoldable pub lines_at : ℕ → List ℕ → Result (List Field) DecodingError
 lines_at n [] = Ok []
 lines_at zero (b ∷ bs) = Ok []

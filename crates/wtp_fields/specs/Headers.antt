@@ -13,11 +13,11 @@ abbrev pub begins_with_colon : List ℕ → Bool
 begins_with_colon [] = false
 begins_with_colon (b ∷ bs) = b == 58
 
--- a pseudo-header field, which its name tells (RFC 9114, section 4.3)
+-- a pseudo-header field, which is determined by its name (RFC 9114, section 4.3)
 abbrev pub is_pseudo : Field → Bool
 is_pseudo field = begins_with_colon field.0
 
--- the fields of a map in the order in which they are sent: pseudo-header fields stand before the others (RFC 9114,
+-- the fields of a map in the order in which they are sent: pseudo-header fields come before the others (RFC 9114,
 -- section 4.3), and each group is in the map's order
 unfoldable pub sent_order : List Field → List Field
 sent_order m = filter is_pseudo m ++ filter (λ field. not (is_pseudo field)) m
@@ -36,11 +36,11 @@ or_decompression (Err fault) = Err (Code Decompression)
 abbrev pub headers_at : List ℕ → Result (List Field) Refused
 headers_at bytes = or_decompression (map_at bytes)
 
--- the call returned what is read, unless memory was refused
+-- the call returned what is read, unless allocation failed
 abbrev pub GivesUnlessRefused : Result (List Field) Refused → Result (List Field) Refused → Type 0
 GivesUnlessRefused result read = MatchResult result (λ m. read ≡ Ok m) (λ e. e ≢ Memory → read ≡ Err e)
 
--- a line begins behind the prefix of the section and good lines
+-- a line begins after the prefix of the section and valid lines
 abbrev pub BeginsLine : List ℕ → Type 0
 BeginsLine bytes = (lines : List ℕ) × (fields : List Field) × (rest : List ℕ) × (lines_behind bytes ≡ Ok lines) × AreLines lines fields rest × (0 < length rest)
 

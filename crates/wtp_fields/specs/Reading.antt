@@ -1,13 +1,13 @@
--- What a reading function answers: a value, or its first fault.
+-- The result of a reading function: a value, or its first fault.
 use Rattle.std.specs.Prelude.{◌≡◌, ◌≢◌, MatchResult, Result, Ok, Err}
 use Rattle.wtp_fields.specs.declared.qpack.DecodingError.{DecodingError}
 use Rattle.wtp_fields.specs.declared.qpack.DecodingError.TheVariants.{Memory}
 
--- what a call returned, seen by view, is what is read
+-- what a call returned, viewed by view, is what is read
 abbrev pub Gives : {X Y : Type 0} → (X → Y) → Result X DecodingError → Result Y DecodingError → Type 0
 Gives view result read = MatchResult result (λ x. read ≡ Ok (view x)) (λ e. read ≡ Err e)
 
--- the same, unless memory was refused
+-- the same, unless allocation failed
 abbrev pub GivesUnlessMemory : {X Y : Type 0} → (X → Y) → Result X DecodingError → Result Y DecodingError → Type 0
 GivesUnlessMemory view result read = MatchResult result (λ x. read ≡ Ok (view x)) (λ e. e ≢ Memory → read ≡ Err e)
 

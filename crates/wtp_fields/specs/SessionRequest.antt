@@ -56,11 +56,11 @@ fault_of m = first_fault (
 
 -- ---- the request for a URL
 
--- the user part: user name and password, and what parts them from the host (RFC 3986, section 3.2.1)
+-- the user part: user name and password, and what separates them from the host (RFC 3986, section 3.2.1)
 abbrev pub user_part : Parts → List ℕ
 user_part url = url.username ++ (when (not (is_empty url.password)) (codes ":") ++ (url.password ++ when (has_credentials url) (codes "@")))
 
--- the port, if the URL has one: that is never the default of its scheme
+-- the port, if the URL has one: it is never the default of its scheme
 abbrev pub port_part : Parts → List ℕ
 port_part url = when (is_some url.port) (codes ":") ++ unwrap_or (option_map decimal url.port) []
 
@@ -68,7 +68,7 @@ port_part url = when (is_some url.port) (codes ":") ++ unwrap_or (option_map dec
 unfoldable pub authority_of : Parts → List ℕ
 authority_of url = user_part url ++ (host_text (host_or_empty url) ++ port_part url)
 
--- the path, and the query behind it if there is one
+-- the path, followed by the query if there is one
 abbrev pub with_query : List ℕ → Option (List ℕ) → List ℕ
 with_query path None = path
 with_query path (Some query) = path ++ 63 ∷ query
@@ -107,7 +107,7 @@ abbrev pub request_at : Parsed Parts → Result (List Field) UrlParseError
 request_at (Err fault) = Err (renamed fault)
 request_at (Ok url) = request_for url
 
--- ---- the request that a frame says
+-- ---- the request in a frame
 
 -- a request with a fault is a malformed message (RFC 9114, section 4.1.2)
 abbrev pub or_message : Option HeadersParseError → List Field → Result (List Field) Refused
@@ -118,7 +118,7 @@ abbrev pub request_of : Result (List Field) Refused → Result (List Field) Refu
 request_of (Ok m) = or_message (fault_of m) m
 request_of (Err refused) = Err refused
 
--- the request that a frame says, or the error code for what stands in its place
+-- the request in a frame, or the error code if there is none
 abbrev pub request_in : Content → Result (List Field) Refused
 request_in (HeadersOf payload) = request_of (headers_at payload)
 request_in (DataOf payload) = Err (Code FrameUnexpected)

@@ -13,11 +13,11 @@ status_of m = value_of (codes ":status") m
 unfoldable pub HasStatus : List Field → Type 0
 HasStatus m = IsSomeAnd (status_of m) IsStatusText
 
--- the map of a status alone, in its shortest digits
+-- the map of a status only, in its shortest digits
 abbrev pub status_alone : ℕ → List Field
 status_alone code = (codes ":status", decimal code) ∷ []
 
--- what the response with the status of a map is: its code alone, or why there is none
+-- the response with the status of a map: its code only, or why there is none
 abbrev pub ByStatus : Option (List ℕ) → Result (List Field) HeadersParseError → Type 0
 ByStatus None result = result ≡ Err MissingStatusCode
 ByStatus (Some text) result = MatchResult result (λ response. IsStatusText text × (response ≡ status_alone (status_in text)))

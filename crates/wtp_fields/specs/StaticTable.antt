@@ -3,7 +3,7 @@ use Rattle.std.specs.Prelude.{ℕ, List, [], ◌∷◌, Option, codes, position,
 use Rattle.std.specs.Str.{bytes_eq}
 use Rattle.wtp_fields.specs.Field.{Field}
 
--- names and values, by their indices
+-- names and values, by index
 unfoldable pub static_table : List Field
 static_table =
     -- from 0 on

@@ -13,8 +13,8 @@ use Rattle.wtp_fields.specs.Integer.{IsInt, integer_at, shortest_int}
 unfoldable pub flag_above : ℕ → List ℕ → Bool
 flag_above n bytes = slice_index bytes 0 / 2 ^ n % 2 == 1
 
--- The text t is spelled by s: an integer of prefix n says how many bytes stand behind it, and these are the text, in
--- the Huffman code where the flag H is set. The text is UTF-8.
+-- s is an encoding of the text t: an integer with prefix n gives the number of bytes after it, and these are the text,
+-- in the Huffman code if the flag H is set. The text is UTF-8.
 pub record IsString (n : ℕ) (t s : List ℕ) : Type 0 where
   pub size : List ℕ
   pub body : List ℕ
@@ -43,22 +43,22 @@ unfoldable pub symbol_below : ℕ → List Bool → Option ℕ
 symbol_below zero word = None
 symbol_below (suc n) word = if same_bits (code n) word then Some n else symbol_below n word
 
--- what comes by the word that was seen: no word yet, so more bits; the end of the string, so no text; a byte, and
--- the text of the bits behind it
+-- the result for a word: no word yet, so more bits; the end of the string, so no text; a byte, and the text of the bits
+-- after it
 abbrev pub by_word : Option ℕ → Option (List ℕ) → Option (List ℕ) → Option (List ℕ)
 by_word None more behind = more
 by_word (Some x) more behind = if x == 256 then None else option_map (λ t. x ∷ t) behind
 
--- the text of code words and padding, where the bits seen are the front of a word
+-- the text of code words and padding, if the bits seen are the start of a word
 unfoldable pub text_of_bits : List Bool → List Bool → Option (List ℕ)
 text_of_bits seen [] = if nat_lt (length seen) 8 && all_ones seen then Some [] else None
 text_of_bits seen (b ∷ bs) = by_word (symbol_below 257 (seen ++ b ∷ [])) (text_of_bits (seen ++ b ∷ []) bs) (text_of_bits [] bs)
 
--- the text that these bytes are in the Huffman code, if there is one
+-- the text that these bytes encode in the Huffman code, if there is one
 unfoldable pub huffman_text : List ℕ → Option (List ℕ)
 huffman_text s = text_of_bits [] (bits_of s)
 
--- ---- reading: the text and the bytes behind it, or the first fault
+-- ---- reading: the text and the bytes after it, or the first fault
 
 abbrev pub or_invalid : Option (List ℕ) → Result (List ℕ) DecodingError
 or_invalid None = Err InvalidString
@@ -72,7 +72,7 @@ utf8_text bytes = if is_utf8 bytes then Ok bytes else Err InvalidString
 unfoldable pub content : Bool → List ℕ → Result (List ℕ) DecodingError
 content is_huffman body = if is_huffman then or_invalid (huffman_text body) >>= utf8_text else utf8_text body
 
--- the string at the front, its length in n bits
+-- the string at the start, with its length in n bits
 unfoldable pub string_at : ℕ → List ℕ → Result (List ℕ × List ℕ) DecodingError
 string_at n bytes = do
   size ← integer_at n bytes
@@ -82,7 +82,7 @@ string_at n bytes = do
 
 -- ---- writing
 
--- the first k bytes of bits, with ones behind them
+-- the first k bytes of bits, filled with ones at the end
 unfoldable pub filled_bytes : ℕ → List Bool → List ℕ
 filled_bytes zero bits = []
 filled_bytes (suc k) bits = front 8 bits ∷ filled_bytes k (drop 8 bits)
@@ -91,7 +91,7 @@ filled_bytes (suc k) bits = front 8 bits ∷ filled_bytes k (drop 8 bits)
 unfoldable pub huffman_bytes : List ℕ → List ℕ
 huffman_bytes t = filled_bytes (coded_len t) (coded t)
 
--- the text behind its length, under the flags and H: in the Huffman code exactly where that has fewer bytes
+-- the text after its length, under the flags and H: in the Huffman code exactly if that has fewer bytes
 unfoldable pub encoded_string : ℕ → ℕ → List ℕ → List ℕ
 encoded_string n flags t =
     let s = huffman_bytes t in

@@ -1,4 +1,4 @@
-//! Header maps, and the HEADERS frames that say them (RFC 9114, section 7.2.2).
+//! Header maps, and the HEADERS frames that contain them (RFC 9114, section 7.2.2).
 ghost use Rattle.std.specs.Prelude.{◌≡◌, ℕ, ◌≤◌, ◌^◌, ◌++◌, List, [], length, OnOk, OnErr, IfOk, Err, map};
 ghost use Rattle.std.specs.Borrow.{Bor};
 ghost use Rattle.std.specs.Option.{option_copied};
@@ -16,15 +16,15 @@ use wtp_core::error::{ErrorCode, Refused};
 use wtp_core::varint::VarInt;
 use wtp_wire::frame::{Frame, FrameKind, FrameOwned, GenerateError};
 
-/// A map of header fields: of each name one value, both UTF-8 texts.
+/// A map of header fields: one value for each name, both UTF-8 texts.
 #[derive(Debug, Drop)]
 pub struct Headers {
     fields: BTreeMap<String, String>,
-    // where the texts of later fields are kept
+    // the allocator of the texts of later fields
     alloc: Global,
 }
 
-// Contracts see the fields, names and values as bytes, in the order of the names' bytes.
+// Contracts treat a map as its fields, names and values as bytes, in the byte order of the names.
 impl Model for Headers {
     ghost use Rattle.std.specs.Prelude.{List};
     ghost use Rattle.wtp_fields.specs.Field.{Field, held};
@@ -35,7 +35,7 @@ impl Model for Headers {
 }
 
 impl Headers {
-    /// The empty map.
+    /// Creates the empty map.
     pub(crate) fn new(alloc: Global) -> Self
         ensures { result ≡ [] }
     {
@@ -45,15 +45,16 @@ impl Headers {
         }
     }
 
-    /// Where the texts of later fields are kept.
+    /// Returns the allocator of the texts of later fields.
     pub(crate) fn allocator(&self) -> Global {
         self.alloc
     }
 
-    /// The map of the field section that is the frame's payload. The last value of a name wins.
+    /// Returns the map of the field section that is the frame's payload. The last value of a name
+    /// wins.
     ///
-    /// Every fault of the section is [`ErrorCode::Decompression`]. Memory is refused only where a
-    /// field line begins behind good ones.
+    /// Every fault of the section is [`ErrorCode::Decompression`]. Allocation fails only where a
+    /// field line begins after valid ones.
     pub fn with_frame(alloc: Global, frame: &Frame<'_>) -> Result<Self, Refused>
         requires { kind_in frame.now ≡ FrameKind.Headers }
         ensures read { GivesUnlessRefused result (headers_at (payload_in frame.now)) }
@@ -66,12 +67,12 @@ impl Headers {
         }
     }
 
-    /// Returns a HEADERS frame of the map (RFC 9114, section 7.2.2), whose payload the map determines: pseudo-header
-    /// fields, whose names begin with a colon, come first (RFC 9114, section 4.3), and each group is in the order of the
-    /// names' bytes.
+    /// Returns a HEADERS frame of the map (RFC 9114, section 7.2.2), whose payload the map
+    /// determines: pseudo-header fields, whose names start with a colon, come first (RFC 9114,
+    /// section 4.3), and each group is in the byte order of the names.
     ///
-    /// Returns [`GenerateError::Memory`] if allocation fails, and [`GenerateError::PayloadTooLong`] if the payload has
-    /// 2^62 bytes or more. The map is unchanged.
+    /// Returns [`GenerateError::Memory`] if allocation fails, and [`GenerateError::PayloadTooLong`]
+    /// if the payload has 2^62 bytes or more. The map is unchanged.
     pub fn generate_frame(&self, alloc: Global) -> Result<FrameOwned, GenerateError>
         ensures frame { IfOk result (λ frame. frame ≡ HeadersOf (payload self.now)) }
         ensures too_long { result ≡ Err GenerateError.PayloadTooLong → 2 ^ 62 ≤ length (payload self.now) }
@@ -85,7 +86,7 @@ impl Headers {
         Ok(Frame::new_headers(CowSlice::Owned(payload)))
     }
 
-    /// The value of a name.
+    /// Returns the value of a name.
     pub fn get(&self, name: &str) -> Option<&str>
         ensures { option_copied result ≡ value_of name.now self.now }
     {
@@ -95,7 +96,7 @@ impl Headers {
         }
     }
 
-    /// Gives a name this value, in place of the one that it had. On an error nothing is changed.
+    /// Sets the value of a name, in place of its previous value. On an error nothing changes.
     pub fn insert(&mut self, name: &str, value: &str) -> Result<(), AllocError>
         ensures ok { OnOk result (self.new ≡ put self.old (name.now, value.now)) }
         ensures err { OnErr result (self.new ≡ self.old) }
@@ -124,19 +125,19 @@ impl Headers {
         Ok(headers)
     }
 
-    /// The fields by their names.
+    /// Returns the fields by their names.
     pub fn as_ref(&self) -> &BTreeMap<String, String>
         ensures fields { held result.now ≡ self.now }
         ensures ordered { IsMap self.now }
         ensures texts { AreTexts self.now }
     {
-        // The contract of `len` says that each name stands in the map once, in order.
+        // The contract of `len` states that each name is in the map once, in order.
         let _len = self.fields.len();
         &self.fields
     }
 }
 
-/// Whether a name is that of a pseudo-header field.
+/// Returns whether a name is that of a pseudo-header field.
 fn is_pseudo(name: &str) -> bool
     ensures { result ≡ begins_with_colon name.now }
 {
@@ -159,7 +160,7 @@ fn write_group(
     Ok(())
 }
 
-/// The payload of a map.
+/// Returns the payload of a map.
 #[tactic(auto, unfolding(crate::specs::Headers::payload))]
 fn written(alloc: Global, fields: &BTreeMap<String, String>) -> Result<Vec<u8>, AllocError>
     ensures { IfOk result (λ v. v.items ≡ payload (held fields.now)) }

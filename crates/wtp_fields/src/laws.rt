@@ -1,4 +1,5 @@
-//! Laws of the definitions: the contract of each function is the law. Those over definitions alone do nothing.
+//! Laws of the definitions: the contract of each function is the law. Those about definitions only
+//! do nothing.
 
 mod headers;
 mod qpack;

@@ -1,7 +1,7 @@
-//! Field sections of QPACK over the static table alone (RFC 9204, section 4.5).
+//! Field sections of QPACK with the static table only (RFC 9204, section 4.5).
 //!
-//! A peer that is told a table capacity of 0 writes no line that needs the dynamic table, and such a
-//! line is refused.
+//! A peer that receives a table capacity of 0 sends no line that needs the dynamic table, and such
+//! a line is refused.
 
 ghost use Rattle.std.specs.Prelude.{◌≡◌, ℕ, List, IfOk, IfErr};
 ghost use Rattle.std.specs.Borrow.{Bor};
@@ -23,16 +23,16 @@ use std::alloc::{AllocError, AllocFailed, Global};
 use std::collections::BTreeMap;
 use thiserror::Error;
 
-/// Why a field section is not read.
+/// The reason a field section cannot be read.
 #[derive(Debug, Drop, Clone, Copy, PartialEq, Eq, Error)]
 pub enum DecodingError {
     /// The bytes end within an integer, a string or the section's prefix.
     #[error("end of stream reached prematurely")]
     UnexpectedFin,
-    /// An integer passes 2^64 - 1.
+    /// An integer exceeds 2^64 - 1.
     #[error("integer overflow")]
     IntegerOverflow,
-    /// A string is no Huffman text, or its bytes are not UTF-8.
+    /// A string is not a Huffman text, or its bytes are not UTF-8.
     #[error("invalid string decoding")]
     InvalidString,
     /// A field line refers to the dynamic table.
@@ -41,7 +41,7 @@ pub enum DecodingError {
     /// The static table has no entry of an index.
     #[error("index not found in the static table")]
     IndexNotfound,
-    /// Memory was refused.
+    /// Memory allocation failed.
     #[error("no memory")]
     Memory,
 }
@@ -67,15 +67,15 @@ impl<T: Drop> From<AllocFailed<T>> for DecodingError {
 pub struct Decoder;
 
 impl Decoder {
-    /// The map of a section's fields. The last value of a name wins.
+    /// Returns the map of a section's fields. The last value of a name wins.
     ///
-    /// The first fault in the order of the bytes is answered: a line that needs the dynamic table is
-    /// refused before more of it is read, and an index that the static table lacks before the value.
-    /// [`DecodingError::Memory`] comes only where memory was refused at a line, all lines before which
-    /// are good. So a section without a line never answers it.
+    /// Returns the first fault in byte order: a line that needs the dynamic table is refused before
+    /// more of it is read, and an index that the static table lacks before the value. Returns
+    /// [`DecodingError::Memory`] only if allocation failed at a line, all lines before which are
+    /// valid. So a section without a line never returns it.
     pub fn decode(alloc: Global, section: &[u8]) -> Result<BTreeMap<String, String>, DecodingError>
         ensures read { GivesUnlessMemory (λ m. held m) result (map_at section.now) }
-        // Memory is refused only at a line that begins behind the prefix and good lines.
+        // Allocation fails only at a line that begins after the prefix and valid lines.
         ensures memory { IfErr result (λ e. e ≡ Memory → ReachesLine section.now) }
     {
         match field_section::skip_prefix(section) {
@@ -90,11 +90,11 @@ impl Decoder {
 pub struct Encoder;
 
 impl Encoder {
-    /// Returns the section of the pairs of a name and a value, in their order, by the static table alone (RFC 9204,
-    /// section 4.5).
+    /// Returns the section of the pairs of a name and a value, in their order, with the static
+    /// table only (RFC 9204, section 4.5).
     ///
-    /// A line refers to the first static entry of its name: to the whole of it if the value is the same, else to the
-    /// name. A text is in the Huffman code if that is strictly shorter.
+    /// A line refers to the first static entry of its name: to the whole entry if the value is the
+    /// same, otherwise to the name. A text is in the Huffman code if that is strictly shorter.
     ///
     /// Returns [`AllocError`] if allocation fails. The pairs are dropped in either case.
     pub fn encode<'a, I: Iterator<Item = (&'a str, &'a str)> + Drop>(

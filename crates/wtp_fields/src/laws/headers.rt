@@ -6,14 +6,14 @@ ghost use Rattle.wtp_fields.specs.Field.{Field, IsMap, AreTexts, put, value_of};
 ghost use Rattle.wtp_fields.specs.FieldSection.{map_at};
 ghost use Rattle.wtp_fields.specs.Headers.{payload, headers_at};
 
-/// A field put into a map gives its name its value, and leaves the values of all other names.
+/// Putting a field into a map sets the value of its name, and leaves the values of all other names.
 pub fn header_maps()
     ensures value { (m : List Field) (field : Field) (name : List ℕ) → value_of name (put m field) ≡ (if bytes_eq field.0 name then Some field.1 else value_of name m) }
     ensures ordered { (m : List Field) (field : Field) → IsMap m → IsMap (put m field) }
 {}
 
-/// A header map and its payload determine each other: the map of the payload's section is the map, and two maps are one
-/// exactly if their payloads are. So the frame that says a map is read as that map.
+/// A header map and its payload determine each other: the map of the payload's section is the map,
+/// and two maps are equal exactly if their payloads are. So the frame of a map is read as that map.
 pub fn header_payloads()
     ensures again { (m : List Field) → IsMap m → AreTexts m → map_at (payload m) ≡ Ok m }
     ensures same { (m n : List Field) → IsMap m → AreTexts m → IsMap n → AreTexts n → (m ≡ n) ↔ (payload m ≡ payload n) }

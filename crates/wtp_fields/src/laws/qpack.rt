@@ -13,9 +13,10 @@ use crate::qpack::{Decoder, DecodingError, Encoder};
 use std::alloc::Global;
 use std::collections::BTreeMap;
 
-/// Reading an integer and the relations of RFC 7541, section 5.1, are one: a front that spells an integer is read as
-/// it, whatever follows; one that passes 2^64 - 1 with its last byte is an overflow; bytes that end before either are
-/// cut; and nothing else comes. What is written spells its number, and no spelling is shorter.
+/// Reading an integer agrees with the relations of RFC 7541, section 5.1: bytes that start with an
+/// encoding of an integer are read as that integer, whatever follows; those that exceed 2^64 - 1
+/// with their last byte are an overflow; bytes that end before either are truncated; and there is
+/// no other result. What is written is an encoding of its number, and no encoding is shorter.
 pub fn prefixed_integers()
     ensures read { (n v : ℕ) (s rest : List ℕ) → IsInt n v s → integer_at n (s ++ rest) ≡ Ok (v, rest) }
     ensures found { (n v : ℕ) (bytes rest : List ℕ) → n ≤ 8 → integer_at n bytes ≡ Ok (v, rest)
@@ -30,9 +31,9 @@ pub fn prefixed_integers()
     ensures shortest { (n flags v : ℕ) (s : List ℕ) → IsInt n v s → length (shortest_int n flags v) ≤ length s }
 {}
 
-/// Reading a string and the relation of RFC 9204, section 4.1.2, are one. The fault of a string's length is its own; a
-/// length of more bytes than follow is cut, and whole bytes that are no text are invalid. What is written
-/// spells its text.
+/// Reading a string agrees with the relation of RFC 9204, section 4.1.2. A fault of the string's
+/// length is the fault of the string; a length of more bytes than follow is truncated input, and
+/// complete bytes that are not a text are invalid. What is written is an encoding of its text.
 pub fn string_literals()
     ensures huffman { (t s : List ℕ) → (huffman_text s ≡ Some t) ↔ IsHuffman t s }
     ensures read { (n : ℕ) (t s rest : List ℕ) → IsString n t s → string_at n (s ++ rest) ≡ Ok (t, rest) }
@@ -53,8 +54,8 @@ pub fn field_lines()
         → line_at (encoded_line field ++ rest) ≡ Ok (field, rest) }
 {}
 
-/// Reading a section goes by its lines, one behind the other, behind the two integers of its prefix; its fault is that
-/// of the prefix, or of the first line that has one.
+/// Reading a section goes by its lines, one after the other, after the two integers of its prefix;
+/// its fault is that of the prefix, or of the first line that has one.
 pub fn field_sections()
     ensures read { (bytes lines : List ℕ) (fields : List Field) → lines_behind bytes ≡ Ok lines
         → AreLines lines fields [] → section_at bytes ≡ Ok fields }
@@ -69,8 +70,9 @@ pub fn field_sections()
     ensures written { (fields : List Field) → AreTexts fields → section_at (section_of fields) ≡ Ok fields }
 {}
 
-/// The map of lines has each name once, in the order of bytes, with the value of the last line of that name, and no
-/// other name. So decoding what any fields were encoded to gives the last value of each name.
+/// The map of lines has each name once, in byte order, with the value of the last line of that
+/// name, and no other name. So decoding the encoding of any fields gives the last value of each
+/// name.
 pub fn field_maps()
     ensures ordered { (lines : List Field) → IsMap (field_map lines) }
     ensures last { (lines : List Field) (name : List ℕ) → value_of name (field_map lines) ≡ last_value name lines }
@@ -79,7 +81,8 @@ pub fn field_maps()
         → map_at (section_of fields) ≡ Ok (field_map fields) }
 {}
 
-/// Encodes fields and decodes them again: the last value of each name comes back, and no other name.
+/// Encodes fields and decodes them again: the last value of each name is returned, and no other
+/// name.
 pub fn encoded_and_decoded(
     alloc: Global,
     pairs: &[(&str, &str)],

@@ -9,16 +9,16 @@ ghost use Rattle.wtp_fields.specs.FieldLine.{bit, table_of, representation_of, s
 use super::{DecodingError, integer, static_table, string_literal};
 use std::alloc::{AllocError, Global};
 
-/// The table that an index refers to, by the bit T.
+/// The table that an index refers to, given by the bit T.
 #[derive(Clone, Copy)]
 pub enum Table {
-    /// The table of the standard, by absolute indices.
+    /// The static table of the standard, with absolute indices.
     Static,
-    /// The table that the peer fills, which is not supported.
+    /// The dynamic table, which the peer fills. It is not supported.
     Dynamic,
 }
 
-/// What a field line is, by the first four bits.
+/// The representation of a field line, given by its first four bits.
 #[derive(Clone, Copy)]
 pub enum Representation {
     /// `1T`: the field of an entry.
@@ -33,18 +33,18 @@ pub enum Representation {
     LiteralName,
 }
 
-/// A field and the bytes behind its line.
+/// A field and the bytes after its line.
 #[derive(Drop)]
 pub struct Line<'a> {
     /// The field's name.
     pub name: String,
     /// The field's value.
     pub value: String,
-    /// The bytes behind the line.
+    /// The bytes after the line.
     pub rest: &'a [u8],
 }
 
-/// Whether a bit is set, the lowest at 0.
+/// Returns whether a bit is set, where the lowest bit is 0.
 fn has_bit(byte: u8, place: u32) -> bool
     requires { place < 8 }
     ensures { result ≡ bit place byte }
@@ -52,7 +52,7 @@ fn has_bit(byte: u8, place: u32) -> bool
     byte >> place & 1 == 1
 }
 
-/// The table that the bit T names.
+/// Returns the table that the bit T refers to.
 fn table_of(is_static: bool) -> Table
     ensures { result ≡ table_of is_static }
 {
@@ -63,7 +63,7 @@ fn table_of(is_static: bool) -> Table
     }
 }
 
-/// What the line of a first byte is.
+/// Returns the representation of the line with this first byte.
 pub fn representation_of(first: u8) -> Representation
     ensures { result ≡ representation_of first }
 {
@@ -82,7 +82,7 @@ pub fn representation_of(first: u8) -> Representation
     }
 }
 
-/// The static entry of an index.
+/// Returns the static entry of an index.
 fn entry(index: u64) -> Result<(&'static str, &'static str), DecodingError>
     ensures { Gives (λ e. (e.0.now, e.1.now)) result (or_not_found (entry_at index)) }
 {
@@ -92,7 +92,7 @@ fn entry(index: u64) -> Result<(&'static str, &'static str), DecodingError>
     }
 }
 
-/// The field of a static entry.
+/// Reads the field of a static entry.
 #[tactic(auto, unfolding(crate::specs::FieldLine::indexed_at))]
 fn indexed(alloc: Global, bytes: &[u8]) -> Result<Line<'_>, DecodingError>
     ensures { GivesUnlessMemory seen result (indexed_at bytes.now) }
@@ -106,7 +106,7 @@ fn indexed(alloc: Global, bytes: &[u8]) -> Result<Line<'_>, DecodingError>
     })
 }
 
-/// The name of a static entry, and a value.
+/// Reads the name of a static entry, and a value.
 #[tactic(auto, unfolding(crate::specs::FieldLine::name_reference_at))]
 fn name_reference<'a>(
     alloc: Global,
@@ -122,7 +122,7 @@ fn name_reference<'a>(
     Ok(Line { name, value, rest })
 }
 
-/// A name and a value.
+/// Reads a name and a value.
 #[tactic(auto, unfolding(crate::specs::FieldLine::literal_name_at))]
 fn literal_name<'a>(
     alloc: Global,
@@ -136,7 +136,8 @@ fn literal_name<'a>(
     Ok(Line { name, value, rest })
 }
 
-/// The line at the front, of a representation. One that needs the dynamic table is refused before more is read.
+/// Reads the line at the start, of this representation. A line that needs the dynamic table is
+/// refused before more of it is read.
 fn read_as<'a>(
     alloc: Global,
     scratch: &mut Vec<u8>,
@@ -156,7 +157,7 @@ fn read_as<'a>(
     }
 }
 
-/// The line at the front. Huffman text is decoded in `scratch`.
+/// Reads the line at the start. Huffman text is decoded in `scratch`.
 pub fn read<'a>(
     alloc: Global,
     scratch: &mut Vec<u8>,
@@ -170,7 +171,7 @@ pub fn read<'a>(
     }
 }
 
-/// Whether the static entry of an index has this value.
+/// Returns whether the static entry of an index has this value.
 fn is_value(index: usize, value: &str) -> bool
     ensures { result ≡ has_value (entry_at index) value.now }
 {

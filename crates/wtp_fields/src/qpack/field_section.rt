@@ -11,10 +11,10 @@ use super::{DecodingError, field_line, integer};
 use std::alloc::{AllocError, Global};
 use std::collections::BTreeMap;
 
-/// The room that is taken for a section at first; it grows for a longer one.
+/// The initial capacity for a section; it grows for a longer one.
 const ROOM: usize = 512;
 
-/// The empty prefix, and room for lines behind it.
+/// Returns the empty prefix, with room for lines after it.
 pub fn begun(alloc: Global) -> Result<Vec<u8>, AllocError>
     ensures { IfOk result (λ v. v.items ≡ 0 ∷ 0 ∷ []) }
 {
@@ -23,7 +23,8 @@ pub fn begun(alloc: Global) -> Result<Vec<u8>, AllocError>
     Ok(out)
 }
 
-/// The bytes behind the two integers in front of the lines, whose values are passed over.
+/// Returns the bytes after the two integers that precede the lines. The values of the integers are
+/// ignored.
 #[tactic(auto, unfolding(crate::specs::FieldSection::lines_behind))]
 pub fn skip_prefix(bytes: &[u8]) -> Result<&[u8], DecodingError>
     ensures { Gives (λ x. x.now) result (lines_behind bytes.now) }
@@ -33,7 +34,7 @@ pub fn skip_prefix(bytes: &[u8]) -> Result<&[u8], DecodingError>
     Ok(rest)
 }
 
-/// The map of the lines.
+/// Returns the map of the lines.
 pub fn read_lines(alloc: Global, lines: &[u8]) -> Result<BTreeMap<String, String>, DecodingError>
     ensures found { IfOk result (λ m. (ls : List Field) × AreLines lines.now ls [] × (held m ≡ field_map ls)) }
     ensures fault { IfErr result (λ e. (ls : List Field) × (rest : List ℕ) × AreLines lines.now ls rest

@@ -1,4 +1,4 @@
-//! Integers in a prefix of `N` bits (RFC 7541, section 5.1; RFC 9204, section 4.1.1).
+//! Integers with a prefix of `N` bits (RFC 7541, section 5.1; RFC 9204, section 4.1.1).
 
 ghost use Rattle.std.specs.Prelude.{◌≡◌, ◌+◌, ◌-◌, ◌*◌, ◌^◌, ◌<◌, ◌≤◌, [], ◌∷◌, ◌++◌, OnOk, SomeIff};
 ghost use Rattle.wtp_fields.specs.Integer.{integer_at, groups_at, shortest_int};
@@ -7,7 +7,7 @@ ghost use Rattle.wtp_fields.specs.Reading.{Gives};
 use super::DecodingError;
 use std::alloc::AllocError;
 
-/// `value + low * 2 ^ shift`, where that is below 2^64.
+/// Returns `value + low * 2 ^ shift`, if that is less than 2^64.
 fn grown(value: u64, low: u64, shift: u32) -> Option<u64>
     requires { low < 128 }
     ensures { SomeIff result (value + low * 2 ^ shift < 2 ^ 64) (value + low * 2 ^ shift) }
@@ -21,7 +21,7 @@ fn grown(value: u64, low: u64, shift: u32) -> Option<u64>
     value.checked_add(low << shift)
 }
 
-/// The number whose low `N` bits are ones, and no others.
+/// Returns the number whose low `N` bits are ones, and no others.
 fn ones<const N: u32>() -> u64
     requires { N ≤ 8 }
     ensures { result + 1 ≡ 2 ^ N }
@@ -29,12 +29,13 @@ fn ones<const N: u32>() -> u64
     (1 << N) - 1
 }
 
-/// The groups behind a prefix of ones, on top of its value, and the bytes behind them.
+/// Reads the groups after a prefix of ones and adds them to its value. Returns the sum and the
+/// bytes after the groups.
 fn read_groups(prefix: u64, bytes: &[u8]) -> Result<(u64, &[u8]), DecodingError>
     ensures { Gives (λ x. (x.0, x.1.now)) result (groups_at prefix 0 bytes.now) }
 {
     let mut value = prefix;
-    // Groups of zeros may follow without limit, so the shift stops where no bit fits any more.
+    // Groups of zeros may follow without limit, so the shift stops once no bit fits any more.
     let mut shift = 0u32;
     for (k, group) in bytes.iter().enumerate() {
         match grown(value, u64::from(*group % 128), shift) {
@@ -49,7 +50,8 @@ fn read_groups(prefix: u64, bytes: &[u8]) -> Result<(u64, &[u8]), DecodingError>
     Err(DecodingError::UnexpectedFin)
 }
 
-/// The integer at the front, in the low `N` bits of the first byte, and the bytes behind it.
+/// Reads the integer at the start, in the low `N` bits of the first byte. Returns it and the bytes
+/// after it.
 pub fn read<const N: u32>(bytes: &[u8]) -> Result<(u64, &[u8]), DecodingError>
     requires some { 1 ≤ N }
     requires few { N ≤ 8 }
@@ -70,7 +72,7 @@ pub fn read<const N: u32>(bytes: &[u8]) -> Result<(u64, &[u8]), DecodingError>
     }
 }
 
-/// The byte of an integer that needs no group: the flags above its low `N` bits.
+/// Returns the byte of an integer that needs no group: the flags above its low `N` bits.
 #[tactic(auto, unfolding(crate::specs::Integer::shortest_int))]
 pub fn only_byte<const N: u32>(flags: u8, value: u64) -> u8
     requires some { 1 ≤ N }
@@ -82,7 +84,8 @@ pub fn only_byte<const N: u32>(flags: u8, value: u64) -> u8
     (u64::from(flags) * (ones::<N>() + 1) + value) as u8
 }
 
-/// Appends an integer: the flags above the low `N` bits of the first byte, and no needless group.
+/// Appends an integer: the flags above the low `N` bits of the first byte, and no unnecessary
+/// group.
 pub fn write<const N: u32>(out: &mut Vec<u8>, flags: u8, value: u64) -> Result<(), AllocError>
     requires some { 1 ≤ N }
     requires few { N ≤ 8 }

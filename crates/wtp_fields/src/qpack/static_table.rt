@@ -1,4 +1,4 @@
-//! The static table (RFC 9204, section 3.1 and Appendix A), and its names in the order of their bytes.
+//! The static table (RFC 9204, section 3.1 and Appendix A), and its names in byte order.
 
 ghost use Rattle.std.specs.Prelude.{◌≡◌, ℕ, option_map, slice_get, IfSome, IfNone, Contains};
 ghost use Rattle.wtp_fields.specs.Field.{lent, lent_field};
@@ -8,7 +8,7 @@ ghost use Rattle.wtp_fields.specs.StaticNames.{numbered, static_names_of, AreOrd
 #[cfg(test)]
 mod tests;
 
-/// Names and values, by their indices.
+/// Names and values, by index.
 pub static ENTRIES: [(&str, &str); 99] = [
     (":authority", ""),
     (":path", "/"),
@@ -120,7 +120,7 @@ pub static ENTRIES: [(&str, &str); 99] = [
     ("x-frame-options", "sameorigin"),
 ];
 
-/// The names in the order of their bytes, each with the index of its first entry.
+/// The names in byte order, each with the index of its first entry.
 pub static NAMES: [(&str, usize); 52] = [
     (":authority", 0),
     (":method", 15),
@@ -176,28 +176,28 @@ pub static NAMES: [(&str, usize); 52] = [
     ("x-xss-protection", 62),
 ];
 
-/// The whole table.
+/// Returns the whole table.
 fn table() -> &'static [(&'static str, &'static str)]
     ensures { lent result.now ≡ static_table }
 {
     &ENTRIES
 }
 
-/// The entry of an index in a table.
+/// Returns the entry of an index in a table.
 fn entry_in<'a>(table: &[(&'a str, &'a str)], index: u64) -> Option<(&'a str, &'a str)>
     ensures { option_map lent_field result ≡ slice_get (lent table.now) index }
 {
     table.get(index as usize).copied()
 }
 
-/// The entry of an index.
+/// Returns the entry of an index.
 pub fn entry(index: u64) -> Option<(&'static str, &'static str)>
     ensures { option_map lent_field result ≡ entry_at index }
 {
     entry_in(table(), index)
 }
 
-/// The names that begin with a byte, in the order of their bytes.
+/// Returns the names that start with a byte, in byte order.
 fn names_of(first: u8) -> &'static [(&'static str, usize)]
     ensures { numbered result.now ≡ static_names_of first }
 {
@@ -222,7 +222,7 @@ fn names_of(first: u8) -> &'static [(&'static str, usize)]
     }
 }
 
-/// The index beside a name, by binary search.
+/// Returns the index of a name, by binary search.
 fn index_in(names: &[(&str, usize)], name: &str) -> Option<usize>
     ensures found { IfSome result (λ k. Contains (numbered names.now) (name.now, k)) }
     ensures absent { AreOrdered (numbered names.now) → IfNone result ((k : ℕ) → ¬ Contains (numbered names.now) (name.now, k)) }
@@ -233,7 +233,8 @@ fn index_in(names: &[(&str, usize)], name: &str) -> Option<usize>
     }
 }
 
-/// The index of the first entry of a name: looked for among the names that begin with the same byte.
+/// Returns the index of the first entry of a name. It is looked up among the names that start with
+/// the same byte.
 pub fn first_entry(name: &str) -> Option<usize>
     ensures { result ≡ first_entry name.now }
 {

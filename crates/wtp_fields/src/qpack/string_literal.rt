@@ -11,10 +11,10 @@ use super::{DecodingError, integer};
 use std::alloc::{AllocError, Global};
 use wtp_huffman::huffman::{self, HuffmanError};
 
-/// The room that is taken for Huffman text at first; it grows for a longer one.
+/// The initial capacity for Huffman text; it grows for a longer text.
 const ROOM: usize = 256;
 
-/// The bytes as a text, where they are UTF-8.
+/// Returns the bytes as a text, if they are UTF-8.
 #[cold]
 #[inline(never)]
 fn tested(bytes: &[u8]) -> Result<&str, DecodingError>
@@ -26,7 +26,7 @@ fn tested(bytes: &[u8]) -> Result<&str, DecodingError>
     }
 }
 
-/// The same, told whether they are ASCII, as nearly every text is.
+/// The same, given whether the bytes are ASCII, as nearly every text is.
 #[inline(always)]
 fn text_by(bytes: &[u8], is_ascii: bool) -> Result<&str, DecodingError>
     requires { TellsAscii is_ascii bytes.now }
@@ -39,8 +39,8 @@ fn text_by(bytes: &[u8], is_ascii: bool) -> Result<&str, DecodingError>
     }
 }
 
-/// Puts the bytes that a Huffman text stands for in the place of what stood in `scratch`, and answers whether they are
-/// ASCII.
+/// Replaces the contents of `scratch` by the decoded bytes of a Huffman text, and returns whether
+/// they are ASCII.
 fn decoded(scratch: &mut Vec<u8>, bytes: &[u8]) -> Result<bool, DecodingError>
     ensures bytes { GivesUnlessMemory (λ _. scratch.new.items) result (or_invalid (huffman_text bytes.now)) }
     ensures ascii { IfOk result (λ is_ascii. TellsAscii is_ascii scratch.new.items) }
@@ -55,7 +55,7 @@ fn decoded(scratch: &mut Vec<u8>, bytes: &[u8]) -> Result<bool, DecodingError>
     }
 }
 
-/// The text of a string's bytes. Huffman text is decoded in `scratch`.
+/// Returns the text of a string's bytes. Huffman text is decoded in `scratch`.
 #[inline(always)]
 #[tactic(auto, unfolding(crate::specs::StringLiteral::content))]
 fn content<'a>(
@@ -72,7 +72,7 @@ fn content<'a>(
     text_by(scratch.as_slice(), is_ascii)
 }
 
-/// The flag H, the bit above the prefix.
+/// Returns the flag H, the bit above the prefix.
 #[tactic(auto, unfolding(crate::specs::StringLiteral::flag_above))]
 fn has_flag<const N: u32>(bytes: &[u8]) -> bool
     requires some { 1 ≤ N }
@@ -83,8 +83,8 @@ fn has_flag<const N: u32>(bytes: &[u8]) -> bool
     u64::from(bytes[0]) / (1u64 << N) % 2 == 1
 }
 
-/// The string at the front, its length in the low `N` bits of the first byte, and the bytes behind it. Its text is
-/// allocated once, at its size.
+/// Reads the string at the start, with its length in the low `N` bits of the first byte. Returns it
+/// and the bytes after it. Its text is allocated once, at its size.
 #[inline(always)]
 #[tactic(auto, unfolding(crate::specs::StringLiteral::string_at))]
 pub fn read<'a, const N: u32>(
@@ -105,14 +105,15 @@ pub fn read<'a, const N: u32>(
     Ok((String::from_str(alloc, text)?, behind))
 }
 
-/// How long the text is in the Huffman code, where that is strictly shorter.
+/// Returns the length of the text in the Huffman code, if that is strictly shorter.
 fn shorter_len(text: &[u8]) -> Option<usize>
     ensures { SomeIff result (coded_len text.now < length text.now) (coded_len text.now) }
 {
     huffman::encoded_len(text).filter(|size| *size < text.len())
 }
 
-/// Appends a text behind its length, under the flags: in the Huffman code where that is strictly shorter.
+/// Appends the length of a text and then the text, under the flags: in the Huffman code if that is
+/// strictly shorter.
 pub fn write<const N: u32>(out: &mut Vec<u8>, flags: u8, text: &str) -> Result<(), AllocError>
     requires some { 1 ≤ N }
     requires few { N ≤ 7 }
@@ -128,8 +129,8 @@ pub fn write<const N: u32>(out: &mut Vec<u8>, flags: u8, text: &str) -> Result<(
     }
 }
 
-/// The same for a text so short that the length of its code is in the first byte, where the code is shorter. So the
-/// code is made behind that byte, and counted then.
+/// The same for a text so short that the length of its code fits into the first byte, if the code
+/// is shorter. So the code is written after that byte first, and counted then.
 fn write_short<const N: u32>(out: &mut Vec<u8>, flags: u8, text: &[u8]) -> Result<(), AllocError>
     requires some { 1 ≤ N }
     requires few { N ≤ 7 }
@@ -150,7 +151,7 @@ fn write_short<const N: u32>(out: &mut Vec<u8>, flags: u8, text: &[u8]) -> Resul
     write_plain::<N>(out, flags, text)
 }
 
-/// The same for any text, whose code is counted before it is made.
+/// The same for any text, whose code is counted before it is written.
 fn write_long<const N: u32>(out: &mut Vec<u8>, flags: u8, text: &[u8]) -> Result<(), AllocError>
     requires some { 1 ≤ N }
     requires few { N ≤ 7 }
@@ -166,7 +167,7 @@ fn write_long<const N: u32>(out: &mut Vec<u8>, flags: u8, text: &[u8]) -> Result
     Ok(())
 }
 
-/// Appends a text as it is, behind its length.
+/// Appends the length of a text and then the text as it is.
 fn write_plain<const N: u32>(out: &mut Vec<u8>, flags: u8, text: &[u8]) -> Result<(), AllocError>
     requires some { 1 ≤ N }
     requires few { N ≤ 7 }

@@ -13,22 +13,22 @@ use std::marker::Model;
 use thiserror::Error;
 use url::{ParseError, Url};
 
-/// Why there is no request for a text that should be a URL.
+/// The reason there is no request for a text that should be a URL.
 #[derive(Debug, Drop, PartialEq, Eq, Error)]
 pub enum UrlParseError {
     /// The URL has no host.
     #[error("host is missing in the URL")]
     EmptyHost,
-    /// The host is no international domain name.
+    /// The host is not an international domain name.
     #[error("invalid international domain name")]
     IdnaError,
-    /// The port is no number below 2^16.
+    /// The port is not a number below 2^16.
     #[error("invalid port number")]
     InvalidPort,
-    /// The host ends in a number and is no IPv4 address.
+    /// The host ends in a number and is not an IPv4 address.
     #[error("invalid IPv4 address")]
     InvalidIpv4Address,
-    /// The host stands in brackets and is no IPv6 address.
+    /// The host is in brackets and is not an IPv6 address.
     #[error("invalid IPv6 address")]
     InvalidIpv6Address,
     /// The host has a character that no domain has.
@@ -37,10 +37,11 @@ pub enum UrlParseError {
     /// The text has no scheme.
     #[error("relative URL without a base")]
     RelativeUrlWithoutBase,
-    /// The text is relative to a URL that is no base. It does not come here, since no base is given.
+    /// The text is relative to a URL that is not a base. This does not occur, because no base is
+    /// given.
     #[error("relative URL with a cannot-be-a-base base")]
     RelativeUrlWithCannotBeABaseBase,
-    /// A host for a URL that has none. It does not come here, since no host is set.
+    /// A host for a URL that has none. This does not occur, because no host is set.
     #[error("a cannot-be-a-base URL doesn’t have a host to set")]
     SetHostOnCannotBeABaseUrl,
     /// The URL would be 4 GB or longer. It is returned only for a text of at least 16 MiB.
@@ -52,7 +53,7 @@ pub enum UrlParseError {
     /// The URL's scheme is not `https`.
     #[error("URL scheme is not 'https'")]
     SchemeNotHttps,
-    /// No memory.
+    /// Memory allocation failed.
     #[error("no memory")]
     Memory,
 }
@@ -88,22 +89,22 @@ impl From<ParseError> for UrlParseError {
     }
 }
 
-/// The length in bytes, 16 MiB, from which a text may have a URL of 4 GB or more, which `url` refuses. It would take 256
-/// bytes in the URL for each byte of a shorter text.
+/// The length in bytes, 16 MiB, from which the URL of a text may be 4 GB or longer, which `url`
+/// refuses. The URL of a shorter text would need 256 bytes for each byte of the text.
 const LONG_TEXT: usize = 1 << 24;
 
-/// The name is that of a field that a request sets by itself.
+/// The name is that of a field that a request sets itself.
 #[derive(Debug, Drop, PartialEq, Eq, Error)]
 #[error("used reserved header")]
 pub struct ReservedHeader;
 
-/// Why a field was not put into a request.
+/// The reason a field was not put into a request.
 #[derive(Debug, Drop, PartialEq, Eq, Error)]
 pub enum InsertError {
     /// The name is one of [`SessionRequest::RESERVED_HEADERS`].
     #[error("{0}")]
     Reserved(ReservedHeader),
-    /// No memory.
+    /// Memory allocation failed.
     #[error("no memory")]
     Memory,
 }
@@ -125,7 +126,7 @@ pub struct SessionRequest {
     headers: Headers,
 }
 
-// Contracts see a request as its header map, which has no fault.
+// Contracts treat a request as its header map, which has no fault.
 impl Model for SessionRequest {
     ghost use Rattle.std.specs.Prelude.{◌≡◌, List, None};
     ghost use Rattle.wtp_fields.specs.Field.{Field};
@@ -139,7 +140,7 @@ impl Model for SessionRequest {
 }
 
 impl SessionRequest {
-    /// The names of the fields that a request sets by itself.
+    /// The names of the fields that a request sets itself.
     pub const RESERVED_HEADERS: &'static [&'static str] = &[
         ":method",
         ":scheme",
@@ -171,7 +172,7 @@ impl SessionRequest {
         Self::for_url(alloc, &parsed)
     }
 
-    /// The request for the session at a URL.
+    /// Returns the request for the session at a URL.
     #[tactic(auto, unfolding(crate::specs::SessionRequest::request_for))]
     fn for_url(alloc: Global, url: &Url) -> Result<Self, UrlParseError>
         ensures request { MatchResult result (λ request. request_for url.now ≡ Ok request) (λ e. e ≢ answered.Memory → request_for url.now ≡ Err e) }
@@ -185,44 +186,44 @@ impl SessionRequest {
         Ok(SessionRequest { headers })
     }
 
-    /// The field `:authority`.
+    /// Returns the field `:authority`.
     pub fn authority(&self) -> &str
         ensures { value_of (codes ":authority") self.now ≡ Some result.now }
     {
         self.headers.get(":authority").unwrap()
     }
 
-    /// The field `:path`.
+    /// Returns the field `:path`.
     pub fn path(&self) -> &str
         ensures { value_of (codes ":path") self.now ≡ Some result.now }
     {
         self.headers.get(":path").unwrap()
     }
 
-    /// The field `origin`.
+    /// Returns the field `origin`.
     pub fn origin(&self) -> Option<&str>
         ensures { option_copied result ≡ value_of (codes "origin") self.now }
     {
         self.headers.get("origin")
     }
 
-    /// The field `user-agent`.
+    /// Returns the field `user-agent`.
     pub fn user_agent(&self) -> Option<&str>
         ensures { option_copied result ≡ value_of (codes "user-agent") self.now }
     {
         self.headers.get("user-agent")
     }
 
-    /// The value of a field.
+    /// Returns the value of a field.
     pub fn get(&self, name: &str) -> Option<&str>
         ensures { option_copied result ≡ value_of name.now self.now }
     {
         self.headers.get(name)
     }
 
-    /// Gives a field this value, in place of the one that it had. On an error nothing is changed.
+    /// Sets the value of a field, in place of its previous value. On an error nothing changes.
     ///
-    /// The names of [`Self::RESERVED_HEADERS`] are refused, before memory is asked for.
+    /// The names of [`Self::RESERVED_HEADERS`] are refused, before anything is allocated.
     pub fn insert(&mut self, name: &str, value: &str) -> Result<(), InsertError>
         ensures ok { OnOk result (self.new ≡ put self.old (name.now, value.now)) }
         ensures reserved { IsErrOf result (InsertError.Reserved (record {})) ↔ IsTrue (is_reserved name.now) }
@@ -235,7 +236,7 @@ impl SessionRequest {
         Ok(())
     }
 
-    /// Its header map.
+    /// Returns the header map.
     pub fn headers(&self) -> &Headers
         ensures headers { result.now ≡ self.now }
         ensures faultless { fault_of self.now ≡ None }
@@ -249,18 +250,18 @@ impl TryFrom<Headers> for SessionRequest {
 
     ghost try_from_gives = { λ headers result. MatchResult result (λ request. (fault_of headers ≡ None) × (request ≡ headers)) (λ fault. fault_of headers ≡ Some fault) };
 
-    /// Returns the request of a header map that has the fields of one (RFC 9114, section 4.3.1; RFC 9220, section 3). It
-    /// keeps all other fields.
+    /// Returns the request of a header map that has the fields of one (RFC 9114, section 4.3.1; RFC
+    /// 9220, section 3). It keeps all other fields.
     ///
-    /// Returns the first fault in the order of [`HeadersParseError`], and never `Memory`: nothing is allocated. The map
-    /// is dropped on an error.
+    /// Returns the first fault in the order of [`HeadersParseError`], and never `Memory`: nothing
+    /// is allocated. The map is dropped on an error.
     fn try_from(headers: Headers) -> Result<Self, HeadersParseError> {
         check(&headers)?;
         Ok(SessionRequest { headers })
     }
 }
 
-/// Answers the fault of a field that must have this value.
+/// Returns the fault of a field that must have this value.
 fn expect_value(
     headers: &Headers,
     name: &str,
@@ -277,7 +278,7 @@ fn expect_value(
     }
 }
 
-/// Answers the fault of a field that must have a value.
+/// Returns the fault of a field that must have a value.
 fn expect_field(
     headers: &Headers,
     name: &str,
@@ -291,7 +292,7 @@ fn expect_field(
     }
 }
 
-/// Answers the first fault of a request's fields.
+/// Returns the first fault of a request's fields.
 #[tactic(auto, unfolding(crate::specs::SessionRequest::fault_of))]
 fn check(headers: &Headers) -> Result<(), HeadersParseError>
     ensures { MatchResult result (λ _. fault_of headers.now ≡ None) (λ fault. fault_of headers.now ≡ Some fault) }
@@ -321,14 +322,14 @@ fn check(headers: &Headers) -> Result<(), HeadersParseError>
     expect_field(headers, ":path", HeadersParseError::MissingPath)
 }
 
-/// The authority of a URL.
+/// Returns the authority of a URL.
 fn authority(url: &Url) -> &str
     ensures { result.now ≡ authority_of url.now }
 {
     url.authority()
 }
 
-/// The path, and the query behind it.
+/// Returns the path, followed by the query.
 fn path_with_query(alloc: Global, path: &str, query: Option<&str>) -> Result<String, AllocError>
     ensures { IfOk result (λ text. string_bytes text ≡ with_query path.now (option_copied query.entry)) }
 {
@@ -340,7 +341,7 @@ fn path_with_query(alloc: Global, path: &str, query: Option<&str>) -> Result<Str
     Ok(text)
 }
 
-/// The map of the five fields of a request.
+/// Returns the map of the five fields of a request.
 #[tactic(auto, unfolding(crate::specs::SessionRequest::five_fields, crate::specs::Field::field_map))]
 fn five_fields(alloc: Global, authority: &str, path: &str) -> Result<Headers, AllocError>
     ensures { IfOk result (λ headers. headers ≡ five_fields authority.now path.now) }

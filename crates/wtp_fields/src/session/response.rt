@@ -11,13 +11,13 @@ use std::marker::Model;
 use thiserror::Error;
 use wtp_core::ids::StatusCode;
 
-/// Why a field was not put into a response.
+/// The reason a field was not put into a response.
 #[derive(Debug, Drop, PartialEq, Eq, Error)]
 pub enum AddError {
-    /// A `:status` that is no status code from 100 to 599.
+    /// A `:status` that is not a status code from 100 to 599.
     #[error("invalid HTTP status code")]
     InvalidStatusCode,
-    /// No memory.
+    /// Memory allocation failed.
     #[error("no memory")]
     Memory,
 }
@@ -33,13 +33,13 @@ impl From<AllocError> for AddError {
     }
 }
 
-/// The response to the request for a session: its status code, and what else the server says.
+/// The response to the request for a session: its status code, and other fields.
 #[derive(Debug, Drop)]
 pub struct SessionResponse {
     headers: Headers,
 }
 
-// Contracts see a response as its header map, which has a status.
+// Contracts treat a response as its header map, which has a status.
 impl Model for SessionResponse {
     ghost use Rattle.std.specs.Prelude.{List};
     ghost use Rattle.wtp_fields.specs.Field.{Field};
@@ -102,7 +102,7 @@ impl SessionResponse {
         Self::with_status_code(alloc, StatusCode::TOO_MANY_REQUESTS)
     }
 
-    /// The status code.
+    /// Returns the status code.
     pub fn code(&self) -> StatusCode
         ensures { option_map status_in (status_of self.now) ≡ Some result }
     {
@@ -110,10 +110,10 @@ impl SessionResponse {
         text.parse::<StatusCode>().unwrap()
     }
 
-    /// Gives a field this value, in place of the one that it had. On an error nothing is changed.
+    /// Sets the value of a field, in place of its previous value. On an error nothing changes.
     ///
-    /// A `:status` that is no status code is refused, before memory is asked for; a good one is kept
-    /// as it is written.
+    /// A `:status` that is not a status code is refused, before anything is allocated. A valid one
+    /// is stored as it is written.
     pub fn add(&mut self, name: &str, value: &str) -> Result<(), AddError>
         ensures ok { OnOk result (self.new ≡ put self.old (name.now, value.now)) }
         ensures invalid { IsErrOf result AddError.InvalidStatusCode ↔ ((name.now ≡ codes ":status") × ¬ IsStatusText value.now) }
@@ -126,7 +126,7 @@ impl SessionResponse {
         Ok(())
     }
 
-    /// Its header map.
+    /// Returns the header map.
     pub fn headers(&self) -> &Headers
         ensures headers { result.now ≡ self.now }
         ensures status { HasStatus self.now }
@@ -140,10 +140,12 @@ impl TryFrom<Headers> for SessionResponse {
 
     ghost try_from_gives = { λ headers result. ByStatus (status_of headers) result };
 
-    /// Returns the response with the status code of a header map, and no other field (RFC 9114, section 4.3.2).
+    /// Returns the response with the status code of a header map, and no other field (RFC 9114,
+    /// section 4.3.2).
     ///
-    /// Returns `MissingStatusCode` if there is no `:status`, and `InvalidStatusCode` if it is no status code from 100 to
-    /// 599, both before anything is allocated, and `Memory` if allocation fails. The map is dropped in every case.
+    /// Returns `MissingStatusCode` if there is no `:status`, and `InvalidStatusCode` if it is not a
+    /// status code from 100 to 599, both before anything is allocated, and `Memory` if allocation
+    /// fails. The map is dropped in every case.
     fn try_from(headers: Headers) -> Result<Self, HeadersParseError> {
         let Some(text) = headers.get(":status") else {
             return Err(HeadersParseError::MissingStatusCode);
