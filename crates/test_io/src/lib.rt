@@ -1,5 +1,5 @@
-//! What the tests share: sources and sinks that cut what they give and take, make wait, and stop; and `same`, the check
-//! of one row. No product code stands here.
+//! Helpers for the tests: sources and sinks that split what they give and take, are not ready, and
+//! stop; and `same`, the check of one row. There is no product code here.
 #![tactic(auto)]
 
 ghost use Rattle.std.specs.Prelude.{◌≡◌, Some, ◌+◌, ◌-◌, ◌^◌, ◌<◌, ◌≤◌, [], length, drop, false, if◌then◌else◌};
@@ -12,9 +12,10 @@ use std::fmt::{Debug, Display};
 use std::process::Abort;
 use wtp_core::bytes::{AsyncRead, AsyncWrite, IoReadError, ReadStep, WriteStep};
 
-/// Asserts that what came is what was wanted. On a failure it says what the row shows, what came and what was wanted.
+/// Asserts that the actual value equals the expected one. On a failure it prints what the row
+/// shows, the actual value and the expected one.
 ///
-/// A call is cheap to prove; an `assert_eq!` in its place is proved at each place anew.
+/// A call is cheap to prove; an `assert_eq!` in its place is proved again at each place.
 pub fn same<R: Abort, T: PartialEq + Debug + Drop, S: Display + Drop>(
     rt: &R,
     came: T,
@@ -36,10 +37,10 @@ pub enum End {
 }
 
 impl End {
-    /// Each of them.
+    /// Every ending.
     pub const EACH: [End; 3] = [End::Fin, End::Reset, End::NotConnected];
 
-    /// What a reading answers at this end, where it took so many bytes of what it reads.
+    /// Returns the result of a reading at this end, after `taken` bytes of what it reads.
     pub fn fault(self, taken: usize) -> IoReadError
         ensures { result ≡ stop taken (ending_of self) }
     {
@@ -52,8 +53,8 @@ impl End {
     }
 }
 
-/// Gives one byte a call, and is not ready once before each byte and once before its end, where it
-/// stays. It tells all that it gives.
+/// Gives one byte per call, and is not ready once before each byte and once before its end, where
+/// it stays. It has a model of all that it gives.
 #[derive(Drop)]
 pub struct Trickle<'a> {
     rest: &'a [u8],
@@ -64,7 +65,7 @@ pub struct Trickle<'a> {
 }
 
 impl<'a> Trickle<'a> {
-    /// These bytes, and then this end.
+    /// Creates a source of these bytes, followed by this end.
     pub fn new(bytes: &'a [u8], end: End) -> Self
         ensures { (result.rest.now ≡ bytes.now) × (result.end ≡ end) × (result.given ≡ 0) × (result.is_ready ≡ false) }
     {
@@ -76,7 +77,7 @@ impl<'a> Trickle<'a> {
         }
     }
 
-    /// The bytes that it has not given yet.
+    /// Returns the bytes not given yet.
     pub fn rest(&self) -> &'a [u8]
         ensures { result.now ≡ self.now.rest.now }
     {
@@ -116,8 +117,9 @@ impl AsyncRead for Trickle<'_> {
     }
 }
 
-/// Answers by a list, where `Bytes(n)` gives the next n bytes, in one call where the buffer takes
-/// them all, and `Bytes(0)` is an end; then it gives the rest, as a slice does. It tells nothing.
+/// Returns the results of a list, where `Bytes(n)` gives the next n bytes, in one call if they all
+/// fit into the buffer, and `Bytes(0)` is an end; then it gives the rest, as a slice does. It has
+/// no model.
 #[derive(Drop)]
 pub struct Answers<'a> {
     rest: &'a [u8],
@@ -126,7 +128,7 @@ pub struct Answers<'a> {
 }
 
 impl<'a> Answers<'a> {
-    /// These bytes, by these answers.
+    /// Creates a source of these bytes, with these results.
     pub fn new(bytes: &'a [u8], steps: &'a [ReadStep]) -> Self
         ensures { (result.rest.now ≡ bytes.now) × (result.steps.now ≡ steps.now) × (result.piece ≡ 0) }
     {
@@ -137,14 +139,14 @@ impl<'a> Answers<'a> {
         }
     }
 
-    /// The bytes that it has not given yet.
+    /// Returns the bytes not given yet.
     pub fn rest(&self) -> &'a [u8]
         ensures { result.now ≡ self.now.rest.now }
     {
         self.rest
     }
 
-    /// How many answers it has not begun to give.
+    /// Returns the number of results that it has not begun to give.
     pub fn left(&self) -> usize
         ensures { result ≡ length self.now.steps.now }
     {
@@ -191,7 +193,8 @@ static ONE_A_CALL: [WriteStep; 10] = [
     WriteStep::NotConnected,
 ];
 
-/// Answers of a sink that takes so many bytes (8 at most), one a call, then stops, and is then lost.
+/// Returns the results of a sink that takes `bytes` bytes (8 at most), one per call, then stops,
+/// and is then lost.
 pub fn stops_behind(bytes: usize) -> &'static [WriteStep]
     ensures few { bytes ≤ 8 → result.now ≡ drop (8 - bytes) one_a_call }
     ensures more { 8 < bytes → result.now ≡ [] }
@@ -202,11 +205,11 @@ pub fn stops_behind(bytes: usize) -> &'static [WriteStep]
     &ONE_A_CALL[8 - bytes..]
 }
 
-/// Answers of a sink that is not ready before each byte and takes one a call, for 32 bytes.
+/// The results of a sink that is not ready before each byte and takes one per call, for 32 bytes.
 pub static BYTE_BY_BYTE: [[WriteStep; 2]; 32] = [[WriteStep::NotReady, WriteStep::Bytes(1)]; 32];
 
-/// Answers by a list, where `Bytes(n)` takes at most n bytes, and at least one; then it takes all,
-/// as a vector does. It tells all that it takes.
+/// Returns the results of a list, where `Bytes(n)` takes at most n bytes, and at least one; then it
+/// takes all, as a vector does. It has a model of all that it takes.
 #[derive(Drop)]
 pub struct Paced<'a> {
     steps: &'a [WriteStep],
@@ -220,7 +223,7 @@ pub struct Paced<'a> {
 }
 
 impl<'a> Paced<'a> {
-    /// A sink that gives these answers.
+    /// Creates a sink that returns these results.
     pub fn new(alloc: Global, steps: &'a [WriteStep]) -> Self
         ensures { (result.steps.now ≡ steps.now) × (result.taken.items ≡ []) × (result.waits ≡ 0) × (result.stops ≡ 0) × (result.losses ≡ 0) }
     {
@@ -233,14 +236,14 @@ impl<'a> Paced<'a> {
         }
     }
 
-    /// The bytes that it took.
+    /// Returns the bytes that it took.
     pub fn taken(&self) -> &[u8]
         ensures { result.now ≡ self.now.taken.items }
     {
         self.taken.as_slice()
     }
 
-    /// How many answers it has not given yet.
+    /// Returns the number of results not returned yet.
     pub fn left(&self) -> usize
         ensures { result ≡ length self.now.steps.now }
     {
