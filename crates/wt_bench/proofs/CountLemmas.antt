@@ -15,7 +15,7 @@ use Rattle.wtransport_proto.specs.StreamPolling.{EndsSo}
 use Rattle.wtransport_proto.proofs.HeldRunLemmas.{run_new}
 use Rattle.wt_bench.specs.Counts.{count_at, count_of}
 
--- so many frames of the whole run were counted, and this one is left
+-- this many frames of the whole run were counted, and this one is left
 pub record IsCounted (n : ℕ) (left whole : Run) : Type 0 where
   pub frames : n + length left.frames ≡ length whole.frames
   pub ending : left.ending ≡ whole.ending
@@ -68,7 +68,7 @@ counted_all n left whole e is c =
 pub run_ahead : (role : Role) (first : Bool) (bytes : List ℕ) → run_of role first new_held (all_ahead bytes) ≡ run role first bytes Ended
 run_ahead role first bytes = run_new role first new_held (all_ahead bytes) refl
 
--- the frames that a drive puts out of such a run
+-- the frames that a drive produces from such a run
 pub ended_count : (fs : List Content) (n : ℕ) (first : Bool) (bytes : List ℕ) → EndsSo (run_of RemoteBi first new_held (all_ahead bytes)) fs (IO io.ImmediateFin) → length fs ≡ n → pos n ≡ count_of (run RemoteBi first bytes Ended)
 ended_count fs n first bytes e is =
     let w = rw (run_ahead RemoteBi first bytes) at e in

@@ -1,8 +1,8 @@
--- How many frames are counted.
+-- The number of frames that are counted.
 use Rattle.std.specs.Prelude.{ℕ, ℤ, pos, negsuc, length}
 use Rattle.wtransport_proto.specs.Run.{Run, Ending, Open, H3, ImmediateFin, Reset, NotConnected}
 
--- so many where a run ends with no fault, in front of a frame; else -1
+-- this many if a run ends with no fault, before a frame; otherwise -1
 abbrev pub count_at : Ending → ℕ → ℤ
 count_at (Open left) n = pos n
 count_at (H3 code) n = negsuc 0

@@ -1,4 +1,4 @@
--- Pairs of texts as C hands them over.
+-- Pairs of texts as C passes them.
 use Rattle.std.specs.Prelude.{List, map}
 use Rattle.wtp_fields.specs.Field.{Field}
 use Rattle.wt_bench.specs.declared.pair.Pair.{Pair}

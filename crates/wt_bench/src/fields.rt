@@ -14,7 +14,7 @@ use wtp_fields::qpack::{Decoder, Encoder};
 use wtp_wire::frame::Frame;
 use wtp_wire::settings::Settings;
 
-/// Pairs in turn, as texts.
+/// An iterator over pairs, as texts.
 #[derive(Drop)]
 struct Texts<'s, 'a> {
     pairs: &'s [Pair<'a>],
@@ -40,7 +40,7 @@ impl<'s, 'a> Iterator for Texts<'s, 'a> {
     }
 }
 
-/// Decodes a field section: the pairs of its map.
+/// Decodes a field section, and returns the number of pairs of its map.
 #[unsafe(no_mangle)]
 pub extern "C" fn wt_bench_qpack_decode(alloc: Global, section: &[u8]) -> i64
     ensures { result ≢ negsuc 0 → (m : List Field) × (map_at section.now ≡ Ok m) × (result ≡ pos (length m)) }
@@ -51,7 +51,7 @@ pub extern "C" fn wt_bench_qpack_decode(alloc: Global, section: &[u8]) -> i64
     }
 }
 
-/// Encodes pairs: the bytes of their field section put into `out`.
+/// Encodes pairs, and writes the bytes of their field section to `out`.
 #[unsafe(no_mangle)]
 pub extern "C" fn wt_bench_qpack_encode(alloc: Global, pairs: &[Pair<'_>], out: &mut [u8]) -> i64
     ensures { result ≢ negsuc 0 → result ≡ pos (length (section_of (given pairs.now))) }
@@ -62,7 +62,7 @@ pub extern "C" fn wt_bench_qpack_encode(alloc: Global, pairs: &[Pair<'_>], out: 
     }
 }
 
-/// Reads the payload of a SETTINGS frame: 1 where it is taken.
+/// Reads the payload of a SETTINGS frame. Returns 1 if it is accepted.
 #[unsafe(no_mangle)]
 pub extern "C" fn wt_bench_settings(alloc: Global, payload: &[u8]) -> i64
     requires { length payload.now < 2 ^ 62 }

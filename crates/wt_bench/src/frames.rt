@@ -1,5 +1,5 @@
-//! Frames of a stream that the peer opened: read whole, poll by poll, and driven into a list. Each call answers how
-//! many frames there are, or -1 where the bytes are at fault or no memory is to be had.
+//! Frames of a stream that the peer opened: read whole, poll by poll, and driven into a list. Each
+//! call returns the number of frames, or -1 if the bytes are invalid or allocation failed.
 ghost use Rattle.std.specs.Prelude.{◌≡◌, ◌≢◌, ◌<◌, ◌^◌, true, pos, negsuc};
 ghost use Rattle.wtransport_proto.specs.Rule.{RemoteBi};
 ghost use Rattle.wtransport_proto.specs.Run.{run, MayGoOn, Ended};
@@ -12,7 +12,7 @@ use wtransport_proto::frame::FrameReading;
 use wtransport_proto::stream::biremote::StreamBiRemoteQuic;
 use wtransport_proto::stream::{Driven, IoReadError, drive};
 
-/// So many frames.
+/// Returns this many frames.
 fn answer(frames: usize) -> i64
     requires { frames < 2 ^ 63 }
     ensures { result ≡ pos frames }
@@ -20,7 +20,8 @@ fn answer(frames: usize) -> i64
     frames.cast_signed() as i64
 }
 
-/// Reads frames whole, from bytes that may go on. The lengths of their payloads are added to `payloads`.
+/// Reads complete frames, from bytes that may go on. The lengths of their payloads are added to
+/// `payloads`.
 #[unsafe(no_mangle)]
 pub extern "C" fn wt_bench_list(bytes: &[u8], payloads: &mut usize) -> i64
     ensures { result ≡ count_of (run RemoteBi true bytes.now MayGoOn) }

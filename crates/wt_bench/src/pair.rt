@@ -1,9 +1,9 @@
-//! A pair of texts as C hands it over.
+//! A pair of texts as C passes it.
 
 ghost use Rattle.std.specs.Prelude.{◌≡◌, true};
 ghost use Rattle.std.specs.Str.{is_utf8};
 
-/// A name and a value as C hands them over: texts, but no texts can cross.
+/// A name and a value as C passes them: they are texts, but a text cannot cross the boundary.
 #[repr(C)]
 #[derive(Clone, Copy)]
 pub struct Pair<'a> {
@@ -16,7 +16,7 @@ pub struct Pair<'a> {
 }
 
 impl<'a> Pair<'a> {
-    /// The two texts, which are not tested again.
+    /// Returns the two texts, which are not validated again.
     pub fn texts(self) -> (&'a str, &'a str)
         ensures name { result.0.now ≡ self.entry.name.now }
         ensures value { result.1.now ≡ self.entry.value.now }
