@@ -1,5 +1,6 @@
-//! A crate of a user's, which names `wtransport_proto` alone: its contracts cite the definitions
-//! that the library passes on, and its proofs use the library's laws. No product code is here.
+//! A user's crate, which depends on `wtransport_proto` only: its contracts cite the definitions
+//! that the library re-exports, and its proofs use the library's laws. There is no product code
+//! here.
 #![tactic(auto)]
 
 ghost use Rattle.std.specs.Prelude.{◌≡◌, ◌≢◌, ◌↔◌, Some, None, Ok, List, ℕ, IsTrue, IfSome, IfOk, []};
@@ -22,14 +23,14 @@ use wtransport_proto::session::SessionResponse;
 use wtransport_proto::settings::{SettingId, Settings};
 use wtransport_proto::varint::VarInt;
 
-/// Whether the peer takes datagrams.
+/// Returns whether the peer supports datagrams.
 pub fn takes_datagrams(settings: &Settings) -> bool
     ensures { IsTrue result ↔ (value_of settings.now SettingId.H3Datagram ≡ Some 1) }
 {
     settings.get(SettingId::H3Datagram) == Some(VarInt::from_u32(1))
 }
 
-/// The frame that the bytes begin with, by the wire grammar.
+/// Returns the first frame of the input, by the wire grammar.
 pub fn first_frame<'a>(bytes: &'a [u8]) -> Option<Frame<'a>>
     ensures { IfSome result (λ frame. (rest : List ℕ) × (front bytes.now ≡ Framed frame rest) × Begins bytes.now (Framed frame rest)) }
 {
@@ -41,11 +42,11 @@ pub fn first_frame<'a>(bytes: &'a [u8]) -> Option<Frame<'a>>
     }
 }
 
-/// Whether a field section has no field.
+/// Returns whether a field section has no field.
 ///
 /// # Errors
 ///
-/// The section's first fault, or `Memory` where memory was refused.
+/// Returns the section's first fault, or `Memory` if allocation failed.
 pub fn is_empty(alloc: Global, section: &[u8]) -> Result<bool, DecodingError>
     ensures { IfOk result (λ empty. IsTrue empty ↔ (map_at section.now ≡ Ok [])) }
 {
@@ -53,7 +54,7 @@ pub fn is_empty(alloc: Global, section: &[u8]) -> Result<bool, DecodingError>
     Ok(fields.is_empty())
 }
 
-/// Whether a DATA frame begins with a capsule that closes its session with the code 0.
+/// Returns whether a DATA frame starts with a capsule that closes its session with the code 0.
 pub fn closes_cleanly(alloc: Global, frame: &Frame<'_>) -> bool
     requires { kind_in frame.now ≡ FrameKind.Data }
     ensures { IsTrue result → (kind : CapsuleKind) × (payload reason : List ℕ) × (capsule_in (payload_in frame.now) ≡ Some (kind, payload)) × AnswersClose payload (Ok (0, reason)) }
@@ -67,7 +68,7 @@ pub fn closes_cleanly(alloc: Global, frame: &Frame<'_>) -> bool
     }
 }
 
-/// The status of a response, which has one.
+/// Returns the status of a response, which has one.
 pub fn status(response: &SessionResponse) -> StatusCode
     ensures { status_of response.now ≢ None }
 {
