@@ -39,7 +39,7 @@ setting_number_of (Exercise number) = number
 
 -- ---- the same, computed
 
--- the number, except of an exercise setting whose number is not reserved for exercise
+-- the number, except for an exercise setting whose number is not reserved for exercise
 abbrev pub known_number_of : SettingId → Option ℕ
 known_number_of QPackMaxTableCapacity = Some 0x01
 known_number_of MaxFieldSectionSize = Some 0x06

@@ -87,8 +87,8 @@ impl<'a> BufferReader<'a> {
 
     /// Creates a reader over the bytes left. Only its `commit` moves this reader.
     ///
-    /// A caller whose proof needs this reader's position afterwards is generic over `P:
-    /// ParentReader`.
+    /// A caller whose proof needs this reader's position afterwards is generic over
+    /// `P: ParentReader`.
     pub fn child(&mut self) -> BufferReaderChild<'a, '_>
         ensures same_reference { result.parent.ghost_name ≡ self.entry.ghost_name }
         ensures same_parent { result.parent.now ≡ self.old }

@@ -10,7 +10,7 @@ pub trait Head {
     // The least length of a head that starts with these bytes.
     ghost need: { List ℕ → ℕ };
 
-    // The largest value of `need`.
+    // An upper bound of `need`.
     ghost most: { ℕ };
 
     /// Returns the least length of a head that starts with the bytes `held`.
