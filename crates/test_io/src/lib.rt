@@ -1,5 +1,5 @@
-//! Helpers for the tests: sources and sinks that split what they give and take, are not ready, and
-//! stop; and `same`, the check of one row. There is no product code here.
+//! Sources and sinks for the tests, which split what they give and take, are not ready, and stop.
+//! There is no product code here.
 #![tactic(auto)]
 
 ghost use Rattle.std.specs.Prelude.{◌≡◌, Some, ◌+◌, ◌-◌, ◌^◌, ◌<◌, ◌≤◌, [], length, drop, false, if◌then◌else◌};
@@ -8,22 +8,7 @@ ghost use Rattle.wtp_core.specs.Polled.{stop};
 ghost use Rattle.test_io.specs.Pieces.{ending_of, one_a_call};
 
 use std::alloc::Global;
-use std::fmt::{Debug, Display};
-use std::process::Abort;
 use wtp_core::bytes::{AsyncRead, AsyncWrite, IoReadError, ReadStep, WriteStep};
-
-/// Asserts that the actual value equals the expected one. On a failure it prints what the row
-/// shows, the actual value and the expected one.
-///
-/// A call is cheap to prove; an `assert_eq!` in its place is proved again at each place.
-pub fn same<R: Abort, T: PartialEq + Debug + Drop, S: Display + Drop>(
-    rt: &R,
-    came: T,
-    wanted: T,
-    shows: S,
-) {
-    assert!(rt; came == wanted, "{shows}: {came:?}, and not {wanted:?}");
-}
 
 /// How a source ends.
 #[derive(Clone, Copy, Debug, PartialEq, Eq)]
