@@ -9,3 +9,5 @@ mod printed;
 mod settings;
 #[cfg(test)]
 mod stream_headers;
+#[cfg(test)]
+mod texts;

@@ -1,5 +1,6 @@
 //! What frames, datagrams and the states of polled reading and writing print for debugging.
 
+use crate::texts::prints;
 use std::borrow::CowSlice;
 use std::test::Fail;
 use wtp_core::bytes::Polled;
@@ -11,51 +12,47 @@ use wtp_wire::stream_header::StreamHeader;
 
 #[test]
 fn frames_are_printed(rt: HostRuntime) -> Result<(), Fail> {
-    let alloc = rt.alloc();
-    let payload = CowSlice::Borrowed(&[1, 255]);
-    let text = format!(in alloc; "{:?}", Frame::new_data(payload))?;
-    let data = "Frame { kind: Data, payload: [1, 255], session_id: None }";
-    assert_eq!(rt; text.as_str(), data);
+    let data = Frame::new_data(CowSlice::Borrowed(&[1, 255]));
+    let text = "Frame { kind: Data, payload: [1, 255], session_id: None }";
+    prints(&rt, &data, text, "data")?;
     let session = SessionId::try_from_varint(VarInt::from_u32(4))?;
-    let text = format!(in alloc; "{:?}", Frame::new_webtransport(session))?;
-    let opening = "Frame { kind: WebTransport, payload: [], session_id: Some(4) }";
-    assert_eq!(rt; text.as_str(), opening);
+    let opening = Frame::new_webtransport(session);
+    let text = "Frame { kind: WebTransport, payload: [], session_id: Some(4) }";
+    prints(&rt, &opening, text, "a session")?;
     Ok(())
 }
 
 #[test]
 fn answers_are_printed(rt: HostRuntime) -> Result<(), Fail> {
-    let alloc = rt.alloc();
-    let mut reading = FrameReading::new(alloc);
     let mut source: &[u8] = &[0x01, 0x01, 0x07];
-    let answer = reading.poll(&mut source);
-    let text = format!(in alloc; "{answer:?}")?;
-    let frame = "Ready(Ok(Frame { kind: Headers, payload: [7], session_id: None }))";
-    assert_eq!(rt; text.as_str(), frame);
+    let ready = FrameReading::new(rt.alloc()).poll(&mut source);
+    let text = "Ready(Ok(Frame { kind: Headers, payload: [7], session_id: None }))";
+    prints(&rt, &ready, text, "a frame")?;
     let waiting: Polled<Result<FrameOwned, IoReadError>> = Polled::Pending;
-    let text = format!(in alloc; "{waiting:?}")?;
-    assert_eq!(rt; text.as_str(), "Pending");
+    prints(&rt, &waiting, "Pending", "no answer yet")?;
     Ok(())
 }
 
 #[test]
 fn states_are_printed(rt: HostRuntime) -> Result<(), Fail> {
-    let alloc = rt.alloc();
+    let text = "FrameReading { head_bytes: 0, payload_bytes: 0, due_bytes: 0, .. }";
+    prints(&rt, &Frame::read_async(rt.alloc()), text, "reading a frame")?;
     let frame = Frame::new_data(CowSlice::Borrowed(&[7]));
-    let (reading, writing) = (Frame::read_async(alloc), frame.write_async());
-    let text = format!(in alloc; "{reading:?} {writing:?}")?;
-    let frames = "FrameReading { head_bytes: 0, payload_bytes: 0, due_bytes: 0, .. } \
-                  FrameWriting { head_sent: 0, payload_sent: 0, .. }";
-    assert_eq!(rt; text.as_str(), frames);
+    let text = "FrameWriting { head_sent: 0, payload_sent: 0, .. }";
+    prints(&rt, &frame.write_async(), text, "writing a frame")?;
+    let text = "HeaderReading { bytes: 0, .. }";
+    prints(&rt, &StreamHeader::read_async(), text, "reading a header")?;
     let header = StreamHeader::new_control();
-    let (reading, writing) = (StreamHeader::read_async(), header.write_async());
-    let text = format!(in alloc; "{reading:?} {writing:?}")?;
-    let headers = "HeaderReading { bytes: 0, .. } HeaderWriting { sent: 0, .. }";
-    assert_eq!(rt; text.as_str(), headers);
-    let datagram = Datagram::new(QStreamId::MAX, &[7]);
-    let text = format!(in alloc; "{datagram:?} {header:?}")?;
-    let others = "Datagram { qstream_id: 1152921504606846975, payload: [7] } \
-                  StreamHeader { kind: Control, session_id: None }";
-    assert_eq!(rt; text.as_str(), others);
+    let text = "HeaderWriting { sent: 0, .. }";
+    prints(&rt, &header.write_async(), text, "writing a header")?;
+    let text = "Datagram { qstream_id: 1152921504606846975, payload: [7] }";
+    prints(
+        &rt,
+        &Datagram::new(QStreamId::MAX, &[7]),
+        text,
+        "a datagram",
+    )?;
+    let text = "StreamHeader { kind: Control, session_id: None }";
+    prints(&rt, &header, text, "a header")?;
     Ok(())
 }

@@ -1,31 +1,23 @@
 //! Worked rows of settings, and what stands where memory is refused.
-ghost use Rattle.std.specs.Prelude.{◌<◌, ◌^◌, length};
-
+use crate::texts::has_text;
 use std::alloc::{AllocError, Global};
 use std::borrow::CowSlice;
+use std::process::Abort;
 use std::test::Fail;
-use wtp_core::bytes::{BufferWriter, PutError};
+use test_io::same;
+use wtp_core::bytes::{BufferWriter, EndOfBuffer, PutError};
 use wtp_core::error::{ErrorCode, Refused};
 use wtp_core::varint::VarInt;
 use wtp_wire::frame::{Frame, FrameOwned, GenerateError};
 use wtp_wire::settings::{SettingId, Settings};
 
 /// What reading the payload answers; a second time where memory was refused.
-fn answer(alloc: Global, payload: &[u8]) -> Result<Settings, Refused>
-    requires { length payload.now < 2 ^ 62 }
-{
+fn answer<R: Abort + AllocGlobal>(rt: &R, payload: &[u8]) -> Result<Settings, Refused> {
+    assert!(rt; payload.len() < 64);
     let frame = Frame::new_settings(CowSlice::Borrowed(payload));
-    match Settings::with_frame(alloc, &frame) {
-        Err(Refused::Memory) => Settings::with_frame(alloc, &frame),
+    match Settings::with_frame(rt.alloc(), &frame) {
+        Err(Refused::Memory) => Settings::with_frame(rt.alloc(), &frame),
         read => read,
-    }
-}
-
-/// Settings of each step but one; from the start again where memory was refused.
-fn built(alloc: Global) -> Result<Settings, AllocError> {
-    match steps(alloc) {
-        Ok(settings) => Ok(settings),
-        Err(_) => steps(alloc),
     }
 }
 
@@ -40,11 +32,37 @@ fn steps(alloc: Global) -> Result<Settings, AllocError> {
     Ok(builder.build())
 }
 
-/// Settings of one step; from the start again where memory was refused.
+/// Settings of each step but one; from the start again where memory was refused.
+fn built(alloc: Global) -> Result<Settings, AllocError> {
+    match steps(alloc) {
+        Ok(settings) => Ok(settings),
+        Err(_) => steps(alloc),
+    }
+}
+
+/// Settings of the step of datagrams.
+fn datagrams_step(alloc: Global) -> Result<Settings, AllocError> {
+    Ok(Settings::builder(alloc).enable_h3_datagrams()?.build())
+}
+
+/// Settings of the step of datagrams; from the start again where memory was refused.
 fn datagrams(alloc: Global) -> Result<Settings, AllocError> {
-    match Settings::builder(alloc).enable_h3_datagrams() {
-        Ok(builder) => Ok(builder.build()),
-        Err(_) => Ok(Settings::builder(alloc).enable_h3_datagrams()?.build()),
+    match datagrams_step(alloc) {
+        Ok(settings) => Ok(settings),
+        Err(_) => datagrams_step(alloc),
+    }
+}
+
+/// Settings of the step of the connect protocol.
+fn connect_step(alloc: Global) -> Result<Settings, AllocError> {
+    Ok(Settings::builder(alloc).enable_connect_protocol()?.build())
+}
+
+/// Settings of the step of the connect protocol; from the start again where memory was refused.
+fn connect(alloc: Global) -> Result<Settings, AllocError> {
+    match connect_step(alloc) {
+        Ok(settings) => Ok(settings),
+        Err(_) => connect_step(alloc),
     }
 }
 
@@ -54,6 +72,18 @@ fn framed(alloc: Global, settings: &Settings) -> Result<FrameOwned, GenerateErro
         Err(GenerateError::Memory) => settings.generate_frame(alloc),
         frame => frame,
     }
+}
+
+/// Asserts the payload of the frame of the settings.
+fn check_frame<R: Abort + AllocGlobal>(
+    rt: &R,
+    settings: &Settings,
+    payload: &[u8],
+    shows: &str,
+) -> Result<(), GenerateError> {
+    let frame = framed(rt.alloc(), settings)?;
+    same(rt, frame.payload(), payload, shows);
+    Ok(())
 }
 
 /// Puts the whole frame into the empty vector; from the start again where memory was refused.
@@ -67,193 +97,240 @@ fn written(frame: &Frame<'_>, out: &mut Vec<u8>) -> Result<(), PutError> {
     }
 }
 
+/// Asserts the bytes of the frame, put into a vector.
+fn check_written<R: Abort + AllocGlobal>(
+    rt: &R,
+    frame: &Frame<'_>,
+    bytes: &[u8],
+    shows: &str,
+) -> Result<(), PutError> {
+    let mut whole = Vec::new(rt.alloc());
+    written(frame, &mut whole)?;
+    same(rt, whole.as_slice(), bytes, shows);
+    Ok(())
+}
+
 /// The payload of `steps`, by rising number.
 const STEPS: [u8; 20] = [
     0x01, 0x02, 0x07, 0x01, 0x33, 0x01, 0xab, 0x60, 0x37, 0x42, 0x01, 0xc0, 0x00, 0x00, 0x00, 0xc6,
     0x71, 0x70, 0x6a, 0x03,
 ];
 
+/// Payloads at fault, the code, and what the row shows.
+const FAULTS: [(&[u8], ErrorCode, &str); 11] = [
+    (&[0x33, 0x01, 0x33, 0x00], ErrorCode::Settings, "again"),
+    (&[0x33, 0x01, 0x33], ErrorCode::Frame, "again, but cut"),
+    (&[0x02], ErrorCode::Frame, "reserved, but cut"),
+    (&[0x02, 0x00], ErrorCode::Settings, "reserved"),
+    (&[0x00, 0x00], ErrorCode::Settings, "the first reserved"),
+    (&[0x05, 0x00], ErrorCode::Settings, "the last reserved"),
+    (
+        &[0x02, 0x00, 0x33],
+        ErrorCode::Settings,
+        "reserved before a cut",
+    ),
+    (&[0x33], ErrorCode::Frame, "a value is missing"),
+    (&[0x40], ErrorCode::Frame, "an identifier is cut"),
+    (
+        &[0x21, 0x00, 0x21, 0x01],
+        ErrorCode::Settings,
+        "an exercise setting again",
+    ),
+    (
+        &[0x40, 0x21, 0x00, 0x21, 0x00],
+        ErrorCode::Settings,
+        "in two encodings",
+    ),
+];
+
+/// The fault of an answer.
+fn fault_of(read: Result<Settings, Refused>) -> Option<Refused> {
+    match read {
+        Ok(_) => None,
+        Err(fault) => Some(fault),
+    }
+}
+
 #[test]
 fn faults_are_found_in_order_past_refused_memory(rt: HostRuntime) {
-    for (payload, code, word) in [
-        (&[0x33, 0x01, 0x33, 0x00][..], ErrorCode::Settings, "again"),
-        (&[0x33, 0x01, 0x33][..], ErrorCode::Frame, "again, but cut"),
-        (&[0x02][..], ErrorCode::Frame, "reserved, but cut"),
-        (&[0x02, 0x00][..], ErrorCode::Settings, "reserved"),
-        (&[0x00, 0x00][..], ErrorCode::Settings, "the first reserved"),
-        (&[0x05, 0x00][..], ErrorCode::Settings, "the last reserved"),
-        (
-            &[0x02, 0x00, 0x33][..],
-            ErrorCode::Settings,
-            "reserved before a cut",
-        ),
-        (&[0x33][..], ErrorCode::Frame, "a value is missing"),
-        (&[0x40][..], ErrorCode::Frame, "an identifier is cut"),
-        (
-            &[0x21, 0x00, 0x21, 0x01][..],
-            ErrorCode::Settings,
-            "an exercise setting again",
-        ),
-        (
-            &[0x40, 0x21, 0x00, 0x21, 0x00][..],
-            ErrorCode::Settings,
-            "in two spellings",
-        ),
-    ] {
-        assert!(rt; payload.len() < 64);
-        match answer(rt.alloc(), payload) {
-            Err(fault) => assert_eq!(rt; fault, Refused::Code(code), "{word}"),
-            Ok(_) => assert!(rt; false, "{word}"),
-        }
+    for (payload, code, word) in FAULTS {
+        let fault = fault_of(answer(&rt, payload));
+        same(&rt, fault, Some(Refused::Code(code)), word);
     }
+}
+
+/// The value of a setting.
+fn value(settings: &Settings, id: SettingId) -> Option<u64> {
+    Some(settings.get(id)?.into_inner())
+}
+
+/// Asserts the value of a setting.
+fn check_value<R: Abort>(
+    rt: &R,
+    settings: &Settings,
+    id: SettingId,
+    wanted: Option<u64>,
+    shows: &str,
+) {
+    same(rt, value(settings, id), wanted, shows);
 }
 
 #[test]
 fn unknown_settings_are_ignored_past_refused_memory(rt: HostRuntime) -> Result<(), Fail> {
-    let read = answer(rt.alloc(), &[0x0a, 0x01, 0x0a, 0x02])?;
-    let none = framed(rt.alloc(), &read)?;
-    assert_eq!(rt; none.payload(), [].as_slice(), "no setting");
-    let mixed = answer(rt.alloc(), &[0x21, 0x05, 0x0a, 0x01, 0x06, 0x07])?;
+    let read = answer(&rt, &[0x0a, 0x01, 0x0a, 0x02])?;
+    check_frame(&rt, &read, &[], "no setting")?;
+    let mixed = answer(&rt, &[0x21, 0x05, 0x0a, 0x01, 0x06, 0x07])?;
     let exercise = SettingId::Exercise(VarInt::from_u32(0x21));
-    assert_eq!(rt; mixed.get(exercise), Some(VarInt::from_u32(5)), "exercise");
-    assert_eq!(rt;
-        mixed.get(SettingId::MaxFieldSectionSize),
-        Some(VarInt::from_u32(7)),
-        "known"
+    check_value(&rt, &mixed, exercise, Some(5), "exercise");
+    check_value(
+        &rt,
+        &mixed,
+        SettingId::MaxFieldSectionSize,
+        Some(7),
+        "known",
     );
-    assert_eq!(rt; mixed.get(SettingId::H3Datagram), None, "not set");
+    check_value(&rt, &mixed, SettingId::H3Datagram, None, "not set");
     Ok(())
 }
+
+/// Asserts the frame of `steps`, put into a buffer and into a vector.
+fn check_whole<R: Abort + AllocGlobal>(rt: &R, settings: &Settings) -> Result<(), Fail> {
+    let frame = framed(rt.alloc(), settings)?;
+    let mut room = [0x00; 22];
+    let mut writer = BufferWriter::new(&mut room);
+    frame.write_to_buffer(&mut writer)?;
+    same(rt, &room[..2], &[0x04, 0x14], "type and length");
+    same(rt, &room[2..], &STEPS, "payload");
+    check_written(rt, &frame, &room, "into a vector")?;
+    Ok(())
+}
+
+/// Asserts the payload of the frame of the settings, made in this buffer.
+fn check_lent<R: Abort>(
+    rt: &R,
+    settings: &Settings,
+    buffer: &mut [u8],
+    payload: &[u8],
+    shows: &str,
+) -> Result<(), EndOfBuffer> {
+    assert!(rt; buffer.len() < 64);
+    let frame = settings.generate_frame_ref(buffer)?;
+    same(rt, frame.payload(), payload, shows);
+    Ok(())
+}
+
+/// Asserts the payload of `steps`, written alone into a longer buffer.
+fn check_alone<R: Abort>(
+    rt: &R,
+    settings: &Settings,
+    buffer: &mut [u8],
+) -> Result<(), EndOfBuffer> {
+    let size = settings.write_to(buffer)?;
+    let came = (size, buffer.get(..20), buffer.get(20..));
+    let rest = [0x55; 20];
+    let wanted = (20, Some(STEPS.as_slice()), Some(rest.as_slice()));
+    same(
+        rt,
+        came,
+        wanted,
+        "the payload alone, and what follows stays",
+    );
+    Ok(())
+}
+
+/// The settings of `steps` and their values.
+const VALUES: [(SettingId, u64); 5] = [
+    (SettingId::QPackMaxTableCapacity, 2),
+    (SettingId::QPackBlockedStreams, 1),
+    (SettingId::H3Datagram, 1),
+    (SettingId::EnableWebTransport, 1),
+    (SettingId::WebTransportMaxSessions, 3),
+];
 
 #[test]
 fn settings_are_written_by_rising_number_past_refused_memory(rt: HostRuntime) -> Result<(), Fail> {
     let settings = built(rt.alloc())?;
-    let frame = framed(rt.alloc(), &settings)?;
-    let mut room = [0x00; 22];
-    let mut writer = BufferWriter::new(&mut room);
-    frame.write_to_buffer(&mut writer)?;
-    assert_eq!(rt; &room[..2], [0x04, 0x14].as_slice(), "type and length");
-    assert_eq!(rt; &room[2..], STEPS.as_slice(), "payload");
-    let mut whole = Vec::new(rt.alloc());
-    written(&frame, &mut whole)?;
-    assert!(rt; whole.as_slice() == room.as_slice(), "into a vector");
-    let mut place = [0x55; 24];
-    let lent = settings.generate_frame_ref(&mut place)?;
-    assert_eq!(rt; lent.payload(), STEPS.as_slice(), "in a buffer");
-    let mut long = [0x55; 40];
-    assert_eq!(rt; settings.write_to(&mut long)?, 20, "the payload alone");
-    assert_eq!(rt; long.get(..20), Some(STEPS.as_slice()), "the payload alone");
-    assert_eq!(rt;
-        long.get(20..),
-        Some([0x55; 20].as_slice()),
-        "what follows stays"
-    );
-    let read = answer(rt.alloc(), &STEPS)?;
-    for (id, value) in [
-        (SettingId::QPackMaxTableCapacity, 2),
-        (SettingId::QPackBlockedStreams, 1),
-        (SettingId::H3Datagram, 1),
-        (SettingId::EnableWebTransport, 1),
-        (SettingId::WebTransportMaxSessions, 3),
-    ] {
-        assert_eq!(rt; read.get(id), Some(VarInt::from_u32(value)), "read back");
+    check_whole(&rt, &settings)?;
+    check_lent(&rt, &settings, &mut [0x55; 24], &STEPS, "in a buffer")?;
+    check_alone(&rt, &settings, &mut [0x55; 40])?;
+    let read = answer(&rt, &STEPS)?;
+    for (id, value) in VALUES {
+        check_value(&rt, &read, id, Some(value), "read back");
     }
+    Ok(())
+}
+
+/// A copy of the settings of the connect protocol; a second time where memory was refused, which
+/// leaves them as they were.
+fn copied<R: Abort + AllocGlobal>(rt: &R, connect: &Settings) -> Result<Settings, Fail> {
+    match connect.clone(rt.alloc()) {
+        Ok(copy) => Ok(copy),
+        Err(_) => {
+            check_frame(rt, connect, &[0x08, 0x01], "as before the refusal")?;
+            Ok(connect.clone(rt.alloc())?)
+        }
+    }
+}
+
+/// Asserts the frame and the value of the settings of the connect protocol.
+fn check_connect<R: Abort + AllocGlobal>(
+    rt: &R,
+    settings: &Settings,
+    shows: &str,
+) -> Result<(), Fail> {
+    let frame = framed(rt.alloc(), settings)?;
+    same(rt, frame.payload(), &[0x08, 0x01], shows);
+    check_written(rt, &frame, &[0x04, 0x02, 0x08, 0x01], shows)?;
+    check_value(
+        rt,
+        settings,
+        SettingId::EnableConnectProtocol,
+        Some(1),
+        shows,
+    );
     Ok(())
 }
 
 #[test]
 fn a_step_sets_one_setting_past_refused_memory(rt: HostRuntime) -> Result<(), Fail> {
-    let connect = match Settings::builder(rt.alloc()).enable_connect_protocol() {
-        Ok(builder) => builder.build(),
-        Err(_) => Settings::builder(rt.alloc())
-            .enable_connect_protocol()?
-            .build(),
-    };
-    let copy = match connect.clone(rt.alloc()) {
-        Ok(copy) => copy,
-        Err(_) => {
-            let frame = framed(rt.alloc(), &connect)?;
-            assert_eq!(rt;
-                frame.payload(),
-                [0x08, 0x01].as_slice(),
-                "as before the refusal"
-            );
-            connect.clone(rt.alloc())?
-        }
-    };
-    for settings in [&connect, &copy] {
-        let frame = framed(rt.alloc(), settings)?;
-        assert_eq!(rt; frame.payload(), [0x08, 0x01].as_slice());
-        let mut whole = Vec::new(rt.alloc());
-        written(&frame, &mut whole)?;
-        assert!(rt;
-            whole.as_slice() == [0x04, 0x02, 0x08, 0x01].as_slice(),
-            "its frame"
-        );
-        assert_eq!(rt;
-            settings.get(SettingId::EnableConnectProtocol),
-            Some(VarInt::from_u32(1))
-        );
-    }
+    let connect = connect(rt.alloc())?;
+    let copy = copied(&rt, &connect)?;
+    check_connect(&rt, &connect, "the settings")?;
+    check_connect(&rt, &copy, "their copy")?;
     Ok(())
+}
+
+/// Asserts that the settings do not fit into the buffer, and what it holds after that.
+fn check_short<R: Abort>(
+    rt: &R,
+    settings: &Settings,
+    buffer: &mut [u8],
+    holds: &[u8],
+    shows: &str,
+) {
+    assert!(rt; buffer.len() < 64);
+    let is_refused = settings.generate_frame_ref(buffer).is_err();
+    same(rt, (is_refused, &*buffer), (true, holds), shows);
 }
 
 #[test]
 fn a_buffer_may_be_too_short_past_refused_memory(rt: HostRuntime) -> Result<(), Fail> {
     let settings = datagrams(rt.alloc())?;
-    let number = settings_number();
-    assert_eq!(rt;
-        settings.get(SettingId::Exercise(number)),
-        None,
-        "no exercise setting"
-    );
-    let mut two = [0x55; 2];
-    let frame = settings.generate_frame_ref(&mut two)?;
-    assert_eq!(rt; frame.payload(), [0x33, 0x01].as_slice(), "enough");
-    let mut one = [0x55; 1];
-    assert!(rt; settings.generate_frame_ref(&mut one).is_err(), "too short");
-    assert_eq!(rt; one[0], 0x33, "what fits");
+    let exercise = SettingId::Exercise(SettingId::H3Datagram.id());
+    check_value(&rt, &settings, exercise, None, "no exercise setting");
+    check_lent(&rt, &settings, &mut [0x55; 2], &[0x33, 0x01], "enough")?;
+    check_short(&rt, &settings, &mut [0x55; 1], &[0x33], "what fits");
     let long = built(rt.alloc())?;
-    let mut ten = [0x55; 10];
-    assert!(rt;
-        long.generate_frame_ref(&mut ten).is_err(),
-        "too short for the value"
-    );
-    assert_eq!(rt; &ten[..], &STEPS[..10], "whole numbers");
-    let mut nine = [0x55; 9];
-    assert!(rt;
-        long.generate_frame_ref(&mut nine).is_err(),
-        "too short for the number"
-    );
-    assert_eq!(rt;
-        &nine[..],
-        [0x01, 0x02, 0x07, 0x01, 0x33, 0x01, 0x55, 0x55, 0x55].as_slice()
-    );
+    let cut = &STEPS[..10];
+    check_short(&rt, &long, &mut [0x55; 10], cut, "too short for the value");
+    let cut = &[0x01, 0x02, 0x07, 0x01, 0x33, 0x01, 0x55, 0x55, 0x55];
+    check_short(&rt, &long, &mut [0x55; 9], cut, "too short for the number");
     Ok(())
-}
-
-/// The number of the setting of datagrams.
-fn settings_number() -> VarInt {
-    SettingId::H3Datagram.id()
-}
-
-/// The text of an error; a second time where memory was refused.
-fn text_of(alloc: Global, fault: GenerateError) -> Result<String, AllocError> {
-    match fault.to_string(alloc) {
-        Ok(text) => Ok(text),
-        Err(_) => fault.to_string(alloc),
-    }
 }
 
 #[test]
 fn faults_have_their_texts_past_refused_memory(rt: HostRuntime) -> Result<(), Fail> {
-    assert_eq!(rt;
-        text_of(rt.alloc(), GenerateError::PayloadTooLong)?.as_str(),
-        "payload too long"
-    );
-    assert_eq!(rt;
-        text_of(rt.alloc(), GenerateError::Memory)?.as_str(),
-        "no memory"
-    );
+    has_text(&rt, &GenerateError::PayloadTooLong, "payload too long")?;
+    has_text(&rt, &GenerateError::Memory, "no memory")?;
     Ok(())
 }

@@ -1,21 +1,46 @@
 //! Worked rows of stream headers, and what stands where memory is refused.
-use std::alloc::{AllocError, Global};
+use crate::texts::has_text;
+use std::process::Abort;
 use std::test::Fail;
+use test_io::same;
 use wtp_core::bytes::{BufferReader, BufferWriter, EndOfBuffer, PutError};
 use wtp_core::ids::SessionId;
 use wtp_core::varint::VarInt;
 use wtp_wire::stream_header::{ParseError, StreamHeader, StreamKind};
 
-/// What reading the bytes answers: the kind and the session of a header.
-fn answer(bytes: &[u8]) -> Result<Option<(StreamKind, Option<u64>)>, ParseError> {
-    let mut reader = bytes;
-    match StreamHeader::read(&mut reader)? {
-        Some(header) => {
-            let session = header.session_id().map(|id| id.into_u64());
-            Ok(Some((header.kind(), session)))
-        }
-        None => Ok(None),
+/// What a reading answers: the kind and the session of a header.
+type Answer = Result<Option<(StreamKind, Option<u64>)>, ParseError>;
+
+/// The kind and the session of a header.
+fn parts(header: StreamHeader) -> (StreamKind, Option<u64>) {
+    match header.session_id() {
+        Some(session) => (header.kind(), Some(session.into_u64())),
+        None => (header.kind(), None),
     }
+}
+
+/// The answer, by the parts of the header.
+fn by_parts(read: Result<Option<StreamHeader>, ParseError>) -> Answer {
+    match read {
+        Ok(Some(header)) => Ok(Some(parts(header))),
+        Ok(None) => Ok(None),
+        Err(fault) => Err(fault),
+    }
+}
+
+/// What reading the bytes answers.
+fn answer(bytes: &[u8]) -> Answer {
+    let mut reader = bytes;
+    by_parts(StreamHeader::read(&mut reader))
+}
+
+/// Asserts what reading the bytes answers, also by a buffer, and the buffer's place after that.
+fn check<R: Abort>(rt: &R, bytes: &[u8], wanted: Answer, place: usize, shows: &str) {
+    let read = answer(bytes);
+    same(rt, &read, &wanted, shows);
+    let mut reader = BufferReader::new(bytes);
+    let buffered = by_parts(StreamHeader::read_from_buffer(&mut reader));
+    same(rt, (&buffered, reader.offset()), (&wanted, place), shows);
 }
 
 /// The session of this number.
@@ -23,106 +48,102 @@ fn session(number: u64) -> Result<SessionId, Fail> {
     Ok(SessionId::try_from_varint(VarInt::try_from_u64(number)?)?)
 }
 
+/// Bytes of a header, its kind, its session, and what the row shows.
+const HEADERS: [(&[u8], StreamKind, Option<u64>, &str); 5] = [
+    (&[0x00], StreamKind::Control, None, "control"),
+    (
+        &[0x40, 0x00],
+        StreamKind::Control,
+        None,
+        "a longer encoding",
+    ),
+    (&[0x02], StreamKind::QPackEncoder, None, "encoder"),
+    (&[0x03], StreamKind::QPackDecoder, None, "decoder"),
+    (
+        &[0x40, 0x54, 0x04],
+        StreamKind::WebTransport,
+        Some(4),
+        "session 4",
+    ),
+];
+
 #[test]
 fn headers_are_read(rt: HostRuntime) {
-    let exercise = StreamKind::Exercise(VarInt::from_u32(0x21));
-    let far = StreamKind::Exercise(VarInt::from_u32(0x21 + 0x1f * 5));
-    for (bytes, kind, session, word) in [
-        (&[0x00][..], StreamKind::Control, None, "control"),
-        (
-            &[0x40, 0x00][..],
-            StreamKind::Control,
-            None,
-            "a longer spelling",
-        ),
-        (&[0x02][..], StreamKind::QPackEncoder, None, "encoder"),
-        (&[0x03][..], StreamKind::QPackDecoder, None, "decoder"),
-        (&[0x21][..], exercise, None, "exercise"),
-        (&[0x40, 0xbc][..], far, None, "a further exercise type"),
-        (
-            &[0x40, 0x54, 0x04][..],
-            StreamKind::WebTransport,
-            Some(4),
-            "session 4",
-        ),
-    ] {
-        assert_eq!(rt; answer(bytes), Ok(Some((kind, session))), "{word}");
-        let mut reader = BufferReader::new(bytes);
-        let read = StreamHeader::read_from_buffer(&mut reader);
-        assert!(rt; matches!(read, Ok(Some(_))), "{word}");
-        assert_eq!(rt; reader.capacity(), 0, "{word}: the place");
+    for (bytes, kind, session, word) in HEADERS {
+        check(&rt, bytes, Ok(Some((kind, session))), bytes.len(), word);
     }
+    let exercise = StreamKind::Exercise(VarInt::from_u32(0x21));
+    let wanted = Ok(Some((exercise, None)));
+    check(&rt, &[0x21], wanted, 1, "exercise");
+    let far = StreamKind::Exercise(VarInt::from_u32(0x21 + 0x1f * 5));
+    let wanted = Ok(Some((far, None)));
+    check(&rt, &[0x40, 0xbc], wanted, 2, "a further exercise type");
 }
 
 #[test]
 fn other_headers_are_refused(rt: HostRuntime) {
-    for (bytes, word) in [
-        (&[0x01][..], "push"),
-        (&[0x22][..], "behind an exercise type"),
-        (&[0x80, 0x42, 0x42, 0x42][..], "unknown"),
-    ] {
-        assert_eq!(rt; answer(bytes), Err(ParseError::UnknownStream), "{word}");
+    let unknown: [(&[u8], &str); 3] = [
+        (&[0x01], "push"),
+        (&[0x22], "after an exercise type"),
+        (&[0x80, 0x42, 0x42, 0x42], "unknown"),
+    ];
+    for (bytes, word) in unknown {
+        check(&rt, bytes, Err(ParseError::UnknownStream), 0, word);
     }
-    let odd = [0x40, 0x54, 0x01];
-    assert_eq!(rt;
-        answer(&odd),
-        Err(ParseError::InvalidSessionId),
-        "no session"
-    );
-    let mut reader = BufferReader::new(&odd);
-    assert!(rt; StreamHeader::read_from_buffer(&mut reader).is_err());
-    assert_eq!(rt; reader.offset(), 0, "unmoved");
+    let fault = Err(ParseError::InvalidSessionId);
+    check(&rt, &[0x40, 0x54, 0x01], fault, 0, "no session");
 }
+
+/// Bytes that end before their header does, and what the row shows.
+const FRONTS: [(&[u8], &str); 6] = [
+    (&[], "nothing"),
+    (&[0x80], "unknown, one byte"),
+    (&[0x80, 0x42], "unknown, two bytes"),
+    (&[0x80, 0x42, 0x42], "unknown, without its last byte"),
+    (&[0x40], "session 0, one byte"),
+    (&[0x40, 0x54], "session 0, without its number"),
+];
 
 #[test]
 fn fronts_of_headers_are_none(rt: HostRuntime) {
-    for (bytes, word) in [
-        (&[][..], "nothing"),
-        (&[0x80][..], "unknown, one byte"),
-        (&[0x80, 0x42][..], "unknown, two bytes"),
-        (&[0x80, 0x42, 0x42][..], "unknown, without its last byte"),
-        (&[0x40][..], "session 0, one byte"),
-        (&[0x40, 0x54][..], "session 0, without its number"),
-    ] {
-        assert_eq!(rt; answer(bytes), Ok(None), "{word}");
-        let mut reader = BufferReader::new(bytes);
-        let read = StreamHeader::read_from_buffer(&mut reader);
-        assert!(rt; matches!(read, Ok(None)), "{word}");
-        assert_eq!(rt; reader.offset(), 0, "{word}: the place");
+    for (bytes, word) in FRONTS {
+        check(&rt, bytes, Ok(None), 0, word);
     }
 }
 
+/// Asserts the size and the bytes of the header, and that it is read back from them.
+fn check_written<R: Abort>(
+    rt: &R,
+    header: StreamHeader,
+    bytes: &[u8],
+    shows: &str,
+) -> Result<(), EndOfBuffer> {
+    let mut room = [0x55; StreamHeader::MAX_SIZE];
+    let mut writer = BufferWriter::new(&mut room);
+    header.write_to_buffer(&mut writer)?;
+    let came = (header.write_size(), writer.buffer_written());
+    same(rt, came, (bytes.len(), bytes), shows);
+    same(rt, answer(bytes), Ok(Some(parts(header))), shows);
+    Ok(())
+}
+
+/// The number of a session, the bytes of its header, and what the row shows.
+const WRITTEN: [(u64, &[u8], &str); 3] = [
+    (0, &[0x40, 0x54, 0x00], "session 0"),
+    (4, &[0x40, 0x54, 0x04], "session 4"),
+    (
+        (1 << 62) - 4,
+        &[0x40, 0x54, 0xff, 0xff, 0xff, 0xff, 0xff, 0xff, 0xff, 0xfc],
+        "the last session",
+    ),
+];
+
 #[test]
 fn headers_are_written(rt: HostRuntime) -> Result<(), Fail> {
-    let far = [0x40, 0x54, 0xff, 0xff, 0xff, 0xff, 0xff, 0xff, 0xff, 0xfc];
-    for (header, bytes, word) in [
-        (StreamHeader::new_control(), &[0x00][..], "control"),
-        (
-            StreamHeader::new_webtransport(session(0)?),
-            &[0x40, 0x54, 0x00][..],
-            "session 0",
-        ),
-        (
-            StreamHeader::new_webtransport(session(4)?),
-            &[0x40, 0x54, 0x04][..],
-            "session 4",
-        ),
-        (
-            StreamHeader::new_webtransport(session((1 << 62) - 4)?),
-            &far[..],
-            "the last session",
-        ),
-    ] {
-        assert_eq!(rt; header.write_size(), bytes.len(), "{word}");
-        let mut room = [0x55; StreamHeader::MAX_SIZE];
-        let mut writer = BufferWriter::new(&mut room);
-        header.write_to_buffer(&mut writer)?;
-        assert_eq!(rt; writer.buffer_written(), bytes, "{word}");
-        assert_eq!(rt;
-            answer(bytes),
-            Ok(Some((header.kind(), header.session_id().map(|id| id.into_u64())))),
-            "{word}: read back"
-        );
+    check_written(&rt, StreamHeader::new_control(), &[0x00], "control")?;
+    for (number, bytes, word) in WRITTEN {
+        let header = StreamHeader::new_webtransport(session(number)?);
+        check_written(&rt, header, bytes, word)?;
     }
     Ok(())
 }
@@ -132,23 +153,21 @@ fn headers_need_their_room(rt: HostRuntime) -> Result<(), Fail> {
     let header = StreamHeader::new_webtransport(session(4)?);
     let mut two = [0x55; 2];
     let mut writer = BufferWriter::new(&mut two);
-    assert_eq!(rt;
-        header.write_to_buffer(&mut writer),
-        Err(EndOfBuffer),
-        "whole or not at all"
-    );
-    assert_eq!(rt; writer.offset(), 0, "nothing was written");
-    assert_eq!(rt;
-        header.write(&mut writer),
-        Err(PutError::EndOfBuffer),
-        "by parts"
-    );
-    assert_eq!(rt;
-        writer.buffer_written(),
-        [0x40, 0x54].as_slice(),
-        "the type number was written"
-    );
+    let whole = header.write_to_buffer(&mut writer);
+    same(&rt, whole, Err(EndOfBuffer), "whole or not at all");
+    same(&rt, writer.offset(), 0, "nothing was written");
+    let by_parts = header.write(&mut writer);
+    same(&rt, by_parts, Err(PutError::EndOfBuffer), "by parts");
+    let written = writer.buffer_written();
+    same(&rt, written, &[0x40, 0x54], "the type number was written");
     Ok(())
+}
+
+/// Asserts that a refusal of memory left none of the header's parts, or the first one.
+fn check_refused<R: Abort>(rt: &R, fault: PutError, out: &[u8]) {
+    same(rt, fault, PutError::Memory, "the refusal");
+    let parts: &[u8] = if out.is_empty() { &[] } else { &[0x40, 0x54] };
+    same(rt, out, parts, "parts before the refusal");
 }
 
 #[test]
@@ -156,27 +175,26 @@ fn refused_memory_leaves_whole_parts(rt: HostRuntime) -> Result<(), Fail> {
     let header = StreamHeader::new_webtransport(session(4)?);
     let mut out = Vec::new(rt.alloc());
     if let Err(fault) = header.write(&mut out) {
-        assert_eq!(rt; fault, PutError::Memory);
-        let parts = out.len();
-        assert!(rt;
-            parts == 0 || out.as_slice() == [0x40, 0x54].as_slice(),
-            "parts before"
-        );
+        check_refused(&rt, fault, out.as_slice());
         out.clear();
         header.write(&mut out)?;
     }
-    assert_eq!(rt; out.as_slice(), [0x40, 0x54, 0x04].as_slice());
+    same(&rt, out.as_slice(), &[0x40, 0x54, 0x04], "session 4");
     Ok(())
+}
+
+/// The number of the kind of this number, or `None` for no kind.
+fn kind_number(id: VarInt) -> Option<VarInt> {
+    Some(StreamKind::parse(id)?.id())
 }
 
 #[test]
 fn kinds_have_their_numbers(rt: HostRuntime) {
     for number in [0x00, 0x02, 0x03, 0x54, 0x21, 0x40, 0x5f] {
         let id = VarInt::from_u32(number);
-        let kind = StreamKind::parse(id);
-        assert_eq!(rt; kind.map(|kind| kind.id()), Some(id), "at {number}");
+        same(&rt, kind_number(id), Some(id), number);
     }
-    for (number, want) in [
+    for (number, wanted) in [
         (0x20, false),
         (0x21, true),
         (0x22, false),
@@ -184,29 +202,15 @@ fn kinds_have_their_numbers(rt: HostRuntime) {
         (0x54, false),
     ] {
         let id = VarInt::from_u32(number);
-        assert_eq!(rt; StreamKind::is_id_exercise(id), want, "at {number}");
-    }
-}
-
-/// The text of an error; a second time where memory was refused.
-fn text_of(alloc: Global, fault: ParseError) -> Result<String, AllocError> {
-    match fault.to_string(alloc) {
-        Ok(text) => Ok(text),
-        Err(_) => fault.to_string(alloc),
+        same(&rt, StreamKind::is_id_exercise(id), wanted, number);
     }
 }
 
 #[test]
 fn faults_have_their_texts_past_refused_memory(rt: HostRuntime) -> Result<(), Fail> {
-    let unknown = text_of(rt.alloc(), ParseError::UnknownStream)?;
-    assert_eq!(rt;
-        unknown.as_str(),
-        "cannot parse HTTP3 stream header as ID is unknown"
-    );
-    let session = text_of(rt.alloc(), ParseError::InvalidSessionId)?;
-    assert_eq!(rt;
-        session.as_str(),
-        "cannot parse HTTP3 stream header as session ID is invalid"
-    );
+    let text = "cannot parse HTTP3 stream header as ID is unknown";
+    has_text(&rt, &ParseError::UnknownStream, text)?;
+    let text = "cannot parse HTTP3 stream header as session ID is invalid";
+    has_text(&rt, &ParseError::InvalidSessionId, text)?;
     Ok(())
 }

@@ -1,0 +1,35 @@
+//! What the tests share: the check of a text that a value has, for debugging or for display.
+use std::alloc::{AllocError, Global};
+use std::fmt::{Debug, Display};
+use std::process::Abort;
+use test_io::same;
+
+/// Asserts what the value prints for debugging.
+pub fn prints<R: Abort + AllocGlobal, T: Debug>(
+    rt: &R,
+    value: &T,
+    wanted: &str,
+    shows: &str,
+) -> Result<(), AllocError> {
+    let text = format!(in rt.alloc(); "{value:?}")?;
+    same(rt, text.as_str(), wanted, shows);
+    Ok(())
+}
+
+/// The text of an error; a second time where memory was refused.
+fn text_of<E: Display>(alloc: Global, fault: &E) -> Result<String, AllocError> {
+    match fault.to_string(alloc) {
+        Ok(text) => Ok(text),
+        Err(_) => fault.to_string(alloc),
+    }
+}
+
+/// Asserts the text of an error, past refused memory.
+pub fn has_text<R: Abort + AllocGlobal, E: Display>(
+    rt: &R,
+    fault: &E,
+    wanted: &str,
+) -> Result<(), AllocError> {
+    same(rt, text_of(rt.alloc(), fault)?.as_str(), wanted, "its text");
+    Ok(())
+}
