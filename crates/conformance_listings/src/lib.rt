@@ -8,4 +8,6 @@ mod programs;
 #[cfg(test)]
 mod requests;
 #[cfg(test)]
+mod rows;
+#[cfg(test)]
 mod stepped;

@@ -1,13 +1,11 @@
 //! Listings of recorded streams.
+use crate::rows::{Row, check_listing, joined};
 use std::alloc::{AllocError, Global};
 use std::process::Abort;
 use std::test::Fail;
-use wt_listings::{ListKind, list_frames};
+use wt_listings::{ListKind, Listing, list_frames};
 
-/// Input, listing, status, and what the row shows.
-type Row = (&'static [u8], &'static str, u8, &'static str);
-
-const BI_REMOTE: [Row; 17] = [
+static BI_REMOTE: [Row; 17] = [
     (
         b"\x40\x41\x04\x00\x01a",
         "WEBTRANSPORT 4\nDATA 1\nEND 0\n",
@@ -72,17 +70,17 @@ const BI_REMOTE: [Row; 17] = [
         b"\x00\x01a\x0a\x00",
         "DATA 1\nEND 2\n",
         0,
-        "an unknown one behind a frame",
+        "an unknown one after a frame",
     ),
     (
         b"\x00\x01a\x0a\x05b",
         "DATA 1\nEND 3\n",
         0,
-        "a cut unknown one behind a frame",
+        "a cut unknown one after a frame",
     ),
 ];
 
-const BI_LOCAL: [Row; 8] = [
+static BI_LOCAL: [Row; 8] = [
     (
         b"\x40\x41\x04\x00\x01a",
         "FAULT FrameUnexpectedError 261\n",
@@ -113,7 +111,7 @@ const BI_LOCAL: [Row; 8] = [
     (b"\x40", "END 1\n", 0, "a cut type"),
 ];
 
-const CONTROL: [Row; 8] = [
+static CONTROL: [Row; 8] = [
     (
         b"\x04\x00\x07\x01\x00\x04\x00",
         "SETTINGS 0\nSETTINGS 0\nEND 0\n",
@@ -144,61 +142,82 @@ const CONTROL: [Row; 8] = [
     (b"", "END 0\n", 0, "nothing"),
 ];
 
-/// Compares the listing of each row.
-fn check(rt: &impl Abort, alloc: Global, kind: ListKind, rows: &[Row]) -> Result<(), AllocError> {
+/// Asserts the listing of an input.
+fn check<R: Abort + AllocGlobal>(
+    rt: &R,
+    kind: ListKind,
+    input: &[u8],
+    text: &str,
+    status: u8,
+    shows: &str,
+) -> Result<(), AllocError> {
+    let listing = list_frames(rt.alloc(), kind, input)?;
+    check_listing(rt, listing, text, status, shows);
+    Ok(())
+}
+
+/// Asserts the listing of each row.
+fn check_rows<R: Abort + AllocGlobal>(
+    rt: &R,
+    kind: ListKind,
+    rows: &[Row],
+) -> Result<(), AllocError> {
     for (input, text, status, word) in rows {
-        let listing = list_frames(alloc, kind, input)?;
-        assert_eq!(rt; listing.text.as_slice(), text.as_bytes(), "{word}");
-        assert_eq!(rt; listing.status, *status, "{word}");
+        check(rt, kind, input, text, *status, word)?;
     }
     Ok(())
 }
 
 #[test]
 fn remote_bidirectional_streams_are_listed(rt: HostRuntime) -> Result<(), Fail> {
-    check(&rt, rt.alloc(), ListKind::BiRemote, &BI_REMOTE)?;
+    check_rows(&rt, ListKind::BiRemote, &BI_REMOTE)?;
     Ok(())
 }
 
 #[test]
 fn local_bidirectional_streams_are_listed(rt: HostRuntime) -> Result<(), Fail> {
-    check(&rt, rt.alloc(), ListKind::BiLocal, &BI_LOCAL)?;
+    check_rows(&rt, ListKind::BiLocal, &BI_LOCAL)?;
     Ok(())
 }
 
 #[test]
 fn control_streams_are_listed(rt: HostRuntime) -> Result<(), Fail> {
-    check(&rt, rt.alloc(), ListKind::Control, &CONTROL)?;
+    check_rows(&rt, ListKind::Control, &CONTROL)?;
     Ok(())
 }
 
+/// Inputs of a peer's stream in parts, their listings, and what the row shows.
+static LONG: [(&[&[u8]], &str, &str); 2] = [
+    (&[b"\x00\x50\x00", &[7; 4096]], "DATA 4096\nEND 0\n", "data"),
+    (
+        &[b"\x0a\x50\x01", &[0; 4097], b"\x00\x00"],
+        "DATA 0\nEND 0\n",
+        "an unknown frame",
+    ),
+];
+
 #[test]
 fn the_longest_payloads_are_listed(rt: HostRuntime) -> Result<(), Fail> {
-    let alloc = rt.alloc();
-    let mut input = vec![in alloc; 0x00, 0x50, 0x00]?;
-    input.extend_from_slice(&[7; 4096])?;
-    let listing = list_frames(alloc, ListKind::BiRemote, input.as_slice())?;
-    assert_eq!(rt; listing.text.as_slice(), b"DATA 4096\nEND 0\n".as_slice());
-    let mut input = vec![in alloc; 0x0a, 0x50, 0x01]?;
-    input.extend_from_slice(&[0; 4097])?;
-    input.extend_from_slice(&[0x00, 0x00])?;
-    let listing = list_frames(alloc, ListKind::BiRemote, input.as_slice())?;
-    assert_eq!(rt; listing.text.as_slice(), b"DATA 0\nEND 0\n".as_slice());
-    assert_eq!(rt; listing.status, 0);
+    for (parts, text, word) in &LONG {
+        let input = joined(rt.alloc(), parts)?;
+        check(&rt, ListKind::BiRemote, input.as_slice(), text, 0, word)?;
+    }
     Ok(())
+}
+
+/// The listing of the input; a second time where memory was refused. Nothing is left after a refusal,
+/// and the next call is whole.
+fn listed(alloc: Global, input: &[u8]) -> Result<Listing, AllocError> {
+    match list_frames(alloc, ListKind::BiRemote, input) {
+        Ok(listing) => Ok(listing),
+        Err(_) => list_frames(alloc, ListKind::BiRemote, input),
+    }
 }
 
 #[test]
 fn refused_memory_gives_no_listing(rt: HostRuntime) -> Result<(), Fail> {
-    let alloc = rt.alloc();
-    let input = b"\x40\x41\x04\x21\x01a\x00\x01a\x04\x00";
-    let listing = match list_frames(alloc, ListKind::BiRemote, input) {
-        Ok(listing) => listing,
-        // Nothing is left behind, and the next call is whole.
-        Err(_) => list_frames(alloc, ListKind::BiRemote, input)?,
-    };
+    let listing = listed(rt.alloc(), b"\x40\x41\x04\x21\x01a\x00\x01a\x04\x00")?;
     let text = "WEBTRANSPORT 4\nEXERCISE 33 1\nDATA 1\nFAULT FrameUnexpectedError 261\n";
-    assert_eq!(rt; listing.text.as_slice(), text.as_bytes());
-    assert_eq!(rt; listing.status, 2);
+    check_listing(&rt, listing, text, 2, "each kind of line");
     Ok(())
 }

@@ -1,8 +1,10 @@
 //! The program, over readers and writers of the tests' own.
+use crate::rows::{REQUEST, REQUEST_LISTING};
 use std::alloc::{AllocError, Global};
 use std::io::{self, Read, Write};
 use std::process::Abort;
 use std::test::Fail;
+use test_io::same;
 use wt_listings::run_program;
 
 /// Gives these bytes, so many a call, and then fails or ends.
@@ -66,25 +68,49 @@ struct Ran {
     errors: Vec<u8>,
 }
 
-fn run(
-    alloc: Global,
-    words: &[&str],
-    input: &mut Input<'_>,
-    room: usize,
-    error_room: usize,
-) -> Result<Ran, AllocError> {
+/// The words, each as a text.
+fn texts(alloc: Global, words: &[&str]) -> Result<Vec<String>, AllocError> {
     let mut texts = Vec::new(alloc);
     for word in words {
         texts.push(String::from_str(alloc, word)?)?;
     }
+    Ok(texts)
+}
+
+/// One run of the program, with so much room for what it writes and for its errors.
+fn run(alloc: Global, words: &[String], input: &mut Input<'_>, rooms: (usize, usize)) -> Ran {
+    let (room, error_room) = rooms;
     let mut output = Output::new(alloc, room);
     let mut errors = Output::new(alloc, error_room);
-    let status = run_program(alloc, texts.as_slice(), input, &mut output, &mut errors);
-    Ok(Ran {
+    let status = run_program(alloc, words, input, &mut output, &mut errors);
+    Ran {
         status,
         output: output.bytes,
         errors: errors.bytes,
-    })
+    }
+}
+
+/// Asserts the status, the output and the errors of a run by these words.
+fn check<R: Abort + AllocGlobal>(
+    rt: &R,
+    words: &[&str],
+    input: &mut Input<'_>,
+    rooms: (usize, usize),
+    wanted: (u8, &str, &str),
+) -> Result<(), AllocError> {
+    let texts = texts(rt.alloc(), words)?;
+    let ran = run(rt.alloc(), texts.as_slice(), input, rooms);
+    let came = (
+        words,
+        rooms,
+        ran.status,
+        ran.output.as_slice(),
+        ran.errors.as_slice(),
+    );
+    let (status, output, errors) = wanted;
+    let wanted = (words, rooms, status, output.as_bytes(), errors.as_bytes());
+    same(rt, came, wanted, "words, rooms, status, output, errors");
+    Ok(())
 }
 
 const INPUT: [u8; 6] = [0x40, 0x41, 0x04, 0x00, 0x01, 0x61];
@@ -95,15 +121,8 @@ const FAULT: &str = "FAULT FrameUnexpectedError 261\n";
 
 const CUT: &str = "FAULT FrameError 262\n";
 
-/// The HEADERS frame of the request for `https://example.com/`.
-const REQUEST: [u8; 42] =
-    *b"\x01\x28\x00\x00\x50\x88\x2f\x91\xd3\x5d\x05\x5c\x87\xa7\xcf\xc1\x2f\x00\xb9\x5d\x87\x49\xc8\x7a\x3f\x89\xf0\x58\xd3\x60\xea\x45\x67\xb1\x3f\x5f\x07\x84\x9d\x29\xad\x1f";
-
-const FIELDS: &str =
-    "FIELD :authority=example.com\nFIELD :method=CONNECT\nFIELD :path=/\nFIELD :protocol=webtransport\nFIELD :scheme=https\nEND 0\n";
-
 /// Words that name a listing, input, status and text.
-const NAMED: [(&[&str], &[u8], u8, &str); 17] = [
+static NAMED: [(&[&str], &[u8], u8, &str); 17] = [
     (&[], &INPUT, 0, LISTING),
     (&["buffer"], &INPUT, 0, LISTING),
     (&["buffer", "bi-remote"], &INPUT, 0, LISTING),
@@ -123,29 +142,37 @@ const NAMED: [(&[&str], &[u8], u8, &str); 17] = [
     (&["stepped", "1"], b"\x00\x05a", 2, CUT),
     (&["stepped", "01048576"], b"\x0a\x05a", 2, CUT),
     (&["stepped", "0000000000000000000000002"], b"", 0, "END 0\n"),
-    (&["request"], &REQUEST, 0, FIELDS),
+    (&["request"], &REQUEST, 0, REQUEST_LISTING),
     (&["request"], b"\x00\x05a", 0, "END 3\n"),
     (&["request"], &INPUT, 2, FAULT),
 ];
 
+/// Asserts the status and the listing of a run by these words, over an input of one byte a call.
+fn check_listing<R: Abort + AllocGlobal>(
+    rt: &R,
+    words: &[&str],
+    bytes: &[u8],
+    status: u8,
+    text: &str,
+) -> Result<(), AllocError> {
+    let mut input = Input {
+        bytes,
+        step: 1,
+        fails: false,
+    };
+    check(rt, words, &mut input, (200, 100), (status, text, ""))
+}
+
 #[test]
 fn the_words_choose_the_listing(rt: HostRuntime) -> Result<(), Fail> {
-    for (words, bytes, status, text) in NAMED {
-        let mut input = Input {
-            bytes,
-            step: 1,
-            fails: false,
-        };
-        let ran = run(rt.alloc(), words, &mut input, 200, 100)?;
-        assert_eq!(rt; ran.status, status, "{text}");
-        assert_eq!(rt; ran.output.as_slice(), text.as_bytes());
-        assert!(rt; ran.errors.is_empty());
+    for (words, bytes, status, text) in &NAMED {
+        check_listing(&rt, words, bytes, *status, text)?;
     }
     Ok(())
 }
 
 /// Words that name none.
-const OTHERS: [&[&str]; 21] = [
+static OTHERS: [&[&str]; 21] = [
     &["buffer", "bi-remote", "x"],
     &["buffer", "bi-local", ""],
     &["buffer", "bi-local "],
@@ -169,19 +196,23 @@ const OTHERS: [&[&str]; 21] = [
     &["stepped", "1", "1"],
 ];
 
+/// Asserts that a run by these words lists nothing and reads nothing.
+fn check_usage<R: Abort + AllocGlobal>(rt: &R, words: &[&str]) -> Result<(), AllocError> {
+    let mut input = Input {
+        bytes: &INPUT,
+        step: 1,
+        fails: false,
+    };
+    let wanted = (1, "", "wt_frames: usage\n");
+    check(rt, words, &mut input, (100, 100), wanted)?;
+    same(rt, input.bytes.len(), 6, "nothing was read");
+    Ok(())
+}
+
 #[test]
 fn other_words_are_refused(rt: HostRuntime) -> Result<(), Fail> {
-    for words in OTHERS {
-        let mut input = Input {
-            bytes: &INPUT,
-            step: 1,
-            fails: false,
-        };
-        let ran = run(rt.alloc(), words, &mut input, 100, 100)?;
-        assert_eq!(rt; ran.status, 1);
-        assert_eq!(rt; ran.errors.as_slice(), b"wt_frames: usage\n".as_slice());
-        assert!(rt; ran.output.is_empty());
-        assert_eq!(rt; input.bytes.len(), 6, "nothing was read");
+    for words in &OTHERS {
+        check_usage(&rt, words)?;
     }
     Ok(())
 }
@@ -193,10 +224,8 @@ fn a_fault_of_the_stream_is_listed(rt: HostRuntime) -> Result<(), Fail> {
         step: 2,
         fails: false,
     };
-    let ran = run(rt.alloc(), &[], &mut input, 100, 100)?;
-    assert_eq!(rt; ran.status, 2);
-    assert_eq!(rt; ran.output.as_slice(), b"FAULT IdError 264\n".as_slice());
-    assert!(rt; ran.errors.is_empty());
+    let wanted = (2, "FAULT IdError 264\n", "");
+    check(&rt, &[], &mut input, (100, 100), wanted)?;
     Ok(())
 }
 
@@ -207,31 +236,29 @@ fn a_failing_read_ends_the_run(rt: HostRuntime) -> Result<(), Fail> {
         step: 4,
         fails: true,
     };
-    let ran = run(rt.alloc(), &[], &mut input, 100, 100)?;
-    assert_eq!(rt; ran.status, 3);
-    assert_eq!(rt;
-        ran.errors.as_slice(),
-        b"wt_frames: read fault\n".as_slice()
-    );
-    assert!(rt; ran.output.is_empty());
+    let wanted = (3, "", "wt_frames: read fault\n");
+    check(&rt, &[], &mut input, (100, 100), wanted)?;
     Ok(())
+}
+
+/// Room of an output that is too short, and what it takes.
+static ROOMS: [(usize, &str); 3] = [(0, ""), (5, "WEBTR"), (27, "WEBTRANSPORT 4\nDATA 1\nEND 0")];
+
+/// Asserts that a run fails where its output takes so many bytes, which are these.
+fn check_cut<R: Abort + AllocGlobal>(rt: &R, room: usize, text: &str) -> Result<(), AllocError> {
+    let mut input = Input {
+        bytes: &INPUT,
+        step: 100,
+        fails: false,
+    };
+    let wanted = (3, text, "wt_frames: write fault\n");
+    check(rt, &["buffer"], &mut input, (room, 100), wanted)
 }
 
 #[test]
 fn a_failing_write_ends_the_run(rt: HostRuntime) -> Result<(), Fail> {
-    for room in [0, 5, 27] {
-        let mut input = Input {
-            bytes: &INPUT,
-            step: 100,
-            fails: false,
-        };
-        let ran = run(rt.alloc(), &["buffer"], &mut input, room, 100)?;
-        assert_eq!(rt; ran.status, 3, "{room}");
-        assert_eq!(rt;
-            ran.errors.as_slice(),
-            b"wt_frames: write fault\n".as_slice()
-        );
-        assert_eq!(rt; ran.output.len(), room);
+    for (room, text) in &ROOMS {
+        check_cut(&rt, *room, text)?;
     }
     Ok(())
 }
@@ -243,43 +270,31 @@ fn a_fault_of_the_error_output_is_ignored(rt: HostRuntime) -> Result<(), Fail> {
         step: 100,
         fails: false,
     };
-    let ran = run(rt.alloc(), &["x"], &mut input, 100, 3)?;
-    assert_eq!(rt; ran.status, 1);
-    assert_eq!(rt; ran.errors.as_slice(), b"wt_".as_slice());
+    check(&rt, &["x"], &mut input, (100, 3), (1, "", "wt_"))?;
     Ok(())
+}
+
+/// Asserts what a run over so many bytes of unknown frames answers. Each frame has four bytes.
+fn check_long<R: Abort + AllocGlobal>(
+    rt: &R,
+    size: usize,
+    wanted: (u8, &str, &str),
+) -> Result<(), AllocError> {
+    let bytes = vec![in rt.alloc(); 2; size]?;
+    let mut input = Input {
+        bytes: bytes.as_slice(),
+        step: 4096,
+        fails: false,
+    };
+    check(rt, &[], &mut input, (100, 100), wanted)
 }
 
 #[test]
 fn long_input_is_refused(rt: HostRuntime) -> Result<(), Fail> {
-    let alloc = rt.alloc();
-    for (size, status) in [(1048576, 0), (1048577, 3)] {
-        // Unknown frames of no payload.
-        let bytes = vec![in alloc; 2; size]?;
-        let mut input = Input {
-            bytes: bytes.as_slice(),
-            step: 4096,
-            fails: false,
-        };
-        let ran = run(alloc, &[], &mut input, 100, 100)?;
-        assert_eq!(rt; ran.status, status, "{size}");
-        if status == 3 {
-            assert_eq!(rt;
-                ran.errors.as_slice(),
-                b"wt_frames: input too long\n".as_slice()
-            );
-            assert!(rt; ran.output.is_empty());
-        }
-    }
+    // No frame of a known type is in it, so all bytes are left.
+    check_long(&rt, 1048576, (0, "END 1048576\n", ""))?;
+    check_long(&rt, 1048577, (3, "", "wt_frames: input too long\n"))?;
     Ok(())
-}
-
-/// The words, each as a text.
-fn texts(alloc: Global, words: &[&str]) -> Result<Vec<String>, AllocError> {
-    let mut texts = Vec::new(alloc);
-    for word in words {
-        texts.push(String::from_str(alloc, word)?)?;
-    }
-    Ok(texts)
 }
 
 /// One run of the program, with room for all that it writes.
@@ -289,13 +304,23 @@ fn run_once(alloc: Global, words: &[String], bytes: &[u8]) -> Ran {
         step: 100,
         fails: false,
     };
-    let mut output = Output::new(alloc, 200);
-    let mut errors = Output::new(alloc, 100);
-    let status = run_program(alloc, words, &mut input, &mut output, &mut errors);
-    Ran {
-        status,
-        output: output.bytes,
-        errors: errors.bytes,
+    run(alloc, words, &mut input, (200, 100))
+}
+
+/// Asserts what a run answered that met a refusal of memory.
+fn check_status<R: Abort>(rt: &R, ran: &Ran, text: &str) {
+    if ran.status == 4 {
+        let no_memory = b"wt_frames: no memory\n".as_slice();
+        let came = (ran.errors.as_slice(), ran.output.is_empty());
+        same(rt, came, (no_memory, true), text);
+    }
+}
+
+/// The words, each as a text; a second time where memory was refused.
+fn texts_again(alloc: Global, words: &[&str]) -> Result<Vec<String>, AllocError> {
+    match texts(alloc, words) {
+        Ok(words) => Ok(words),
+        Err(_) => texts(alloc, words),
     }
 }
 
@@ -307,23 +332,18 @@ fn check_refused<R: Abort + AllocGlobal>(
     bytes: &[u8],
     text: &str,
 ) -> Result<(), AllocError> {
-    let words = match texts(rt.alloc(), words) {
-        Ok(words) => words,
-        Err(_) => texts(rt.alloc(), words)?,
-    };
+    let words = texts_again(rt.alloc(), words)?;
     let mut ran = run_once(rt.alloc(), words.as_slice(), bytes);
-    if ran.status == 4 {
-        assert!(rt;
-            ran.errors.as_slice() == b"wt_frames: no memory\n".as_slice(),
-            "{text}"
-        );
-        assert!(rt; ran.output.is_empty(), "{text}");
-    }
+    check_status(rt, &ran, text);
     if ran.status >= 3 {
         ran = run_once(rt.alloc(), words.as_slice(), bytes);
     }
-    assert!(rt; ran.status == 0, "{text}");
-    assert!(rt; ran.output.as_slice() == text.as_bytes(), "{text}");
+    same(
+        rt,
+        (ran.status, ran.output.as_slice()),
+        (0, text.as_bytes()),
+        text,
+    );
     Ok(())
 }
 
@@ -363,6 +383,6 @@ fn refused_memory_has_its_status_poll_by_poll(rt: HostRuntime) -> Result<(), Fai
 
 #[test]
 fn refused_memory_has_its_status_on_a_request(rt: HostRuntime) -> Result<(), Fail> {
-    check_refused(&rt, &["request"], &REQUEST, FIELDS)?;
+    check_refused(&rt, &["request"], &REQUEST, REQUEST_LISTING)?;
     Ok(())
 }

@@ -1,15 +1,16 @@
 //! Listings of recorded streams that come a few bytes at a time and then end.
+ghost use Rattle.std.specs.Prelude.{◌<◌};
+
+use crate::rows::{Row, check_listing, joined};
 use std::alloc::{AllocError, Global};
 use std::process::Abort;
 use std::test::Fail;
-use wt_listings::list_stepped;
-
-/// Input, listing, status, and what the row shows.
-type Row = (&'static [u8], &'static str, u8, &'static str);
+use test_io::same;
+use wt_listings::{Listing, list_stepped};
 
 const CUT: &str = "FAULT FrameError 262\n";
 
-const ROWS: [Row; 20] = [
+static ROWS: [Row; 20] = [
     (
         b"\x40\x41\x04\x00\x01a",
         "WEBTRANSPORT 4\nDATA 1\nEND 0\n",
@@ -88,37 +89,51 @@ const ROWS: [Row; 20] = [
         b"\x00\x01a\x0a\x01x",
         "DATA 1\nEND 0\n",
         0,
-        "an unknown one behind a frame",
+        "an unknown one after a frame",
     ),
 ];
 
-/// The listing of the input is the same for each number of bytes a call.
-fn check(
-    rt: &impl Abort,
-    alloc: Global,
+/// Asserts the listing of an input that comes k bytes a call.
+fn check_step<R: Abort + AllocGlobal>(
+    rt: &R,
+    k: usize,
     input: &[u8],
     text: &str,
     status: u8,
-    word: &str,
+    shows: &str,
+) -> Result<(), AllocError>
+    requires { 0 < k }
+{
+    let listing = list_stepped(rt.alloc(), k, input)?;
+    let came = (k, listing.text.as_slice(), listing.status);
+    same(rt, came, (k, text.as_bytes(), status), shows);
+    Ok(())
+}
+
+/// Asserts that the listing of the input is the same for each number of bytes a call.
+fn check<R: Abort + AllocGlobal>(
+    rt: &R,
+    input: &[u8],
+    text: &str,
+    status: u8,
+    shows: &str,
 ) -> Result<(), AllocError> {
     for k in 1..14 {
-        let listing = list_stepped(alloc, k, input)?;
-        assert_eq!(rt; listing.text.as_slice(), text.as_bytes(), "{word}, {k}");
-        assert_eq!(rt; listing.status, status, "{word}, {k}");
+        check_step(rt, k, input, text, status, shows)?;
     }
     Ok(())
 }
 
 #[test]
 fn streams_are_listed_step_by_step(rt: HostRuntime) -> Result<(), Fail> {
-    for (input, text, status, word) in ROWS {
-        check(&rt, rt.alloc(), input, text, status, word)?;
+    for (input, text, status, word) in &ROWS {
+        check(&rt, input, text, *status, word)?;
     }
     Ok(())
 }
 
 /// So many bytes of an exercise frame and a late session, the listing and the status.
-const STOPS: [(usize, &str, u8); 13] = [
+static STOPS: [(usize, &str, u8); 13] = [
     (0, "END 0\n", 0),
     (1, CUT, 2),
     (2, CUT, 2),
@@ -134,48 +149,70 @@ const STOPS: [(usize, &str, u8); 13] = [
     (12, "EXERCISE 33 7\nFAULT FrameError 262\n", 2),
 ];
 
+/// Asserts the listing of so many bytes of an exercise frame and a late session.
+fn check_stop<R: Abort + AllocGlobal>(
+    rt: &R,
+    size: usize,
+    text: &str,
+    status: u8,
+) -> Result<(), Fail> {
+    let bytes = b"\x21\x07Payload\x40\x41\x00";
+    let (input, _) = bytes.split_at_checked(size).ok_or("so many bytes")?;
+    check(rt, input, text, status, "an end")?;
+    Ok(())
+}
+
 #[test]
 fn streams_that_end_at_each_place_are_listed(rt: HostRuntime) -> Result<(), Fail> {
-    let bytes = b"\x21\x07Payload\x40\x41\x00";
-    for (size, text, status) in STOPS {
-        let (input, _) = bytes.split_at_checked(size).ok_or("so many bytes")?;
-        check(&rt, rt.alloc(), input, text, status, "an end")?;
+    for (size, text, status) in &STOPS {
+        check_stop(&rt, *size, text, *status)?;
     }
     Ok(())
 }
 
-/// A head, so many zeros, what follows them, the listing and the status.
-const LONG: [(&[u8], usize, &[u8], &str, u8); 5] = [
-    (b"\x00\x50\x00", 4096, b"", "DATA 4096\nEND 0\n", 0),
-    (b"\x0a\x50\x00", 4096, b"\x00\x00", "DATA 0\nEND 0\n", 0),
-    (b"\x0a\x50\x01", 4097, b"\x00\x00", "DATA 0\nEND 0\n", 0),
-    (b"\x0a\x60\x00", 8192, b"\x00\x00", "DATA 0\nEND 0\n", 0),
-    (b"\x0a\x50\x01", 4096, b"", CUT, 2),
+/// Inputs in parts, their listings, and their status.
+static LONG: [(&[&[u8]], &str, u8); 5] = [
+    (&[b"\x00\x50\x00", &[0; 4096]], "DATA 4096\nEND 0\n", 0),
+    (
+        &[b"\x0a\x50\x00", &[0; 4096], b"\x00\x00"],
+        "DATA 0\nEND 0\n",
+        0,
+    ),
+    (
+        &[b"\x0a\x50\x01", &[0; 4097], b"\x00\x00"],
+        "DATA 0\nEND 0\n",
+        0,
+    ),
+    (
+        &[b"\x0a\x60\x00", &[0; 8192], b"\x00\x00"],
+        "DATA 0\nEND 0\n",
+        0,
+    ),
+    (&[b"\x0a\x50\x01", &[0; 4096]], CUT, 2),
 ];
 
 #[test]
 fn the_longest_payloads_are_listed_step_by_step(rt: HostRuntime) -> Result<(), Fail> {
-    let alloc = rt.alloc();
-    for (head, zeros, rest, text, status) in LONG {
-        let mut input = Vec::from_slice(alloc, head)?;
-        input.extend_from_slice(vec![in alloc; 0; zeros]?.as_slice())?;
-        input.extend_from_slice(rest)?;
-        check(&rt, alloc, input.as_slice(), text, status, "zeros")?;
+    for (parts, text, status) in &LONG {
+        let input = joined(rt.alloc(), parts)?;
+        check(&rt, input.as_slice(), text, *status, "zeros")?;
     }
     Ok(())
 }
 
+/// The listing of the input, two bytes a call; a second time where memory was refused. Nothing is
+/// left after a refusal, and the next call is whole.
+fn listed(alloc: Global, input: &[u8]) -> Result<Listing, AllocError> {
+    match list_stepped(alloc, 2, input) {
+        Ok(listing) => Ok(listing),
+        Err(_) => list_stepped(alloc, 2, input),
+    }
+}
+
 #[test]
 fn refused_memory_gives_no_stepped_listing(rt: HostRuntime) -> Result<(), Fail> {
-    let alloc = rt.alloc();
-    let input = b"\x40\x41\x04\x21\x01a\x00\x01a\x04\x00";
-    let listing = match list_stepped(alloc, 2, input) {
-        Ok(listing) => listing,
-        // Nothing is left behind, and the next call is whole.
-        Err(_) => list_stepped(alloc, 2, input)?,
-    };
+    let listing = listed(rt.alloc(), b"\x40\x41\x04\x21\x01a\x00\x01a\x04\x00")?;
     let text = "WEBTRANSPORT 4\nEXERCISE 33 1\nDATA 1\nFAULT FrameUnexpectedError 261\n";
-    assert_eq!(rt; listing.text.as_slice(), text.as_bytes());
-    assert_eq!(rt; listing.status, 2);
+    check_listing(&rt, listing, text, 2, "each kind of line");
     Ok(())
 }
