@@ -50,7 +50,7 @@ fn parts<R: Abort>(rt: &R, payload: &[u8]) -> Option<(CapsuleKind, usize)> {
 }
 
 /// Payloads that close a session, the code, the reason, and what the row shows.
-const CLOSES: [(&[u8], u64, &[u8], &str); 3] = [
+static CLOSES: [(&[u8], u64, &[u8], &str); 3] = [
     (
         &[0x68, 0x43, 0x05, 0x00, 0x00, 0x00, 0x07, 0x78, 0xff, 0xff],
         7,
@@ -73,8 +73,8 @@ const CLOSES: [(&[u8], u64, &[u8], &str); 3] = [
 
 #[test]
 fn sessions_are_closed_past_refused_memory(rt: HostRuntime) {
-    for (payload, code, reason, word) in CLOSES {
-        check(&rt, payload, Some(Ok((code, reason))), word);
+    for (payload, code, reason, word) in &CLOSES {
+        check(&rt, payload, Some(Ok((*code, *reason))), word);
     }
 }
 
@@ -96,7 +96,7 @@ fn bad_closes_are_refused(rt: HostRuntime) {
 }
 
 /// Payloads without a capsule, and what the row shows.
-const OTHERS: [(&[u8], &str); 5] = [
+static OTHERS: [(&[u8], &str); 5] = [
     (&[], "nothing"),
     (&[0x68, 0x43, 0x04, 0x00, 0x00, 0x00], "cut"),
     (&[0x68, 0x43], "no length"),
@@ -109,7 +109,7 @@ const OTHERS: [(&[u8], &str); 5] = [
 
 #[test]
 fn other_payloads_are_no_capsules(rt: HostRuntime) {
-    for (payload, word) in OTHERS {
+    for (payload, word) in &OTHERS {
         check(&rt, payload, None, word);
     }
 }

@@ -117,7 +117,7 @@ const STEPS: [u8; 20] = [
 ];
 
 /// Payloads at fault, the code, and what the row shows.
-const FAULTS: [(&[u8], ErrorCode, &str); 11] = [
+static FAULTS: [(&[u8], ErrorCode, &str); 11] = [
     (&[0x33, 0x01, 0x33, 0x00], ErrorCode::Settings, "again"),
     (&[0x33, 0x01, 0x33], ErrorCode::Frame, "again, but cut"),
     (&[0x02], ErrorCode::Frame, "reserved, but cut"),
@@ -153,9 +153,9 @@ fn fault_of(read: Result<Settings, Refused>) -> Option<Refused> {
 
 #[test]
 fn faults_are_found_in_order_past_refused_memory(rt: HostRuntime) {
-    for (payload, code, word) in FAULTS {
+    for (payload, code, word) in &FAULTS {
         let fault = fault_of(answer(&rt, payload));
-        same(&rt, fault, Some(Refused::Code(code)), word);
+        same(&rt, fault, Some(Refused::Code(*code)), word);
     }
 }
 

@@ -80,14 +80,16 @@ fn headers_are_read(rt: HostRuntime) {
     check(&rt, &[0x40, 0xbc], wanted, 2, "a further exercise type");
 }
 
+/// Bytes of no header, and what the row shows.
+static UNKNOWN: [(&[u8], &str); 3] = [
+    (&[0x01], "push"),
+    (&[0x22], "after an exercise type"),
+    (&[0x80, 0x42, 0x42, 0x42], "unknown"),
+];
+
 #[test]
 fn other_headers_are_refused(rt: HostRuntime) {
-    let unknown: [(&[u8], &str); 3] = [
-        (&[0x01], "push"),
-        (&[0x22], "after an exercise type"),
-        (&[0x80, 0x42, 0x42, 0x42], "unknown"),
-    ];
-    for (bytes, word) in unknown {
+    for (bytes, word) in &UNKNOWN {
         check(&rt, bytes, Err(ParseError::UnknownStream), 0, word);
     }
     let fault = Err(ParseError::InvalidSessionId);
@@ -95,7 +97,7 @@ fn other_headers_are_refused(rt: HostRuntime) {
 }
 
 /// Bytes that end before their header does, and what the row shows.
-const FRONTS: [(&[u8], &str); 6] = [
+static FRONTS: [(&[u8], &str); 6] = [
     (&[], "nothing"),
     (&[0x80], "unknown, one byte"),
     (&[0x80, 0x42], "unknown, two bytes"),
@@ -106,7 +108,7 @@ const FRONTS: [(&[u8], &str); 6] = [
 
 #[test]
 fn fronts_of_headers_are_none(rt: HostRuntime) {
-    for (bytes, word) in FRONTS {
+    for (bytes, word) in &FRONTS {
         check(&rt, bytes, Ok(None), 0, word);
     }
 }
@@ -128,7 +130,7 @@ fn check_written<R: Abort>(
 }
 
 /// The number of a session, the bytes of its header, and what the row shows.
-const WRITTEN: [(u64, &[u8], &str); 3] = [
+static WRITTEN: [(u64, &[u8], &str); 3] = [
     (0, &[0x40, 0x54, 0x00], "session 0"),
     (4, &[0x40, 0x54, 0x04], "session 4"),
     (
@@ -141,8 +143,8 @@ const WRITTEN: [(u64, &[u8], &str); 3] = [
 #[test]
 fn headers_are_written(rt: HostRuntime) -> Result<(), Fail> {
     check_written(&rt, StreamHeader::new_control(), &[0x00], "control")?;
-    for (number, bytes, word) in WRITTEN {
-        let header = StreamHeader::new_webtransport(session(number)?);
+    for (number, bytes, word) in &WRITTEN {
+        let header = StreamHeader::new_webtransport(session(*number)?);
         check_written(&rt, header, bytes, word)?;
     }
     Ok(())
