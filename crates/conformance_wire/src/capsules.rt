@@ -8,18 +8,25 @@ use wtp_wire::capsule::capsules::CloseWebTransportSession;
 use wtp_wire::capsule::{Capsule, CapsuleKind, capsule_types};
 use wtp_wire::frame::Frame;
 
-/// What closing by this payload of a DATA frame answers, or `None` for no capsule; a second time
-/// where memory was refused.
-fn answer<R: Abort + AllocGlobal>(
+/// What closing by this payload of a DATA frame answers, or `None` for no capsule.
+fn read<R: Abort + AllocGlobal>(
     rt: &R,
     payload: &[u8],
 ) -> Option<Result<CloseWebTransportSession, Refused>> {
     assert!(rt; payload.len() < 2048);
     let frame = Frame::new_data(CowSlice::Borrowed(payload));
     let capsule = Capsule::with_frame(&frame)?;
-    match CloseWebTransportSession::with_capsule(rt.alloc(), &capsule) {
-        Err(Refused::Memory) => Some(CloseWebTransportSession::with_capsule(rt.alloc(), &capsule)),
-        read => Some(read),
+    Some(CloseWebTransportSession::with_capsule(rt.alloc(), &capsule))
+}
+
+/// As `read`; a second time where memory was refused.
+fn answer<R: Abort + AllocGlobal>(
+    rt: &R,
+    payload: &[u8],
+) -> Option<Result<CloseWebTransportSession, Refused>> {
+    match read(rt, payload) {
+        Some(Err(Refused::Memory)) => read(rt, payload),
+        answer => answer,
     }
 }
 

@@ -1,7 +1,9 @@
 //! What frames, datagrams and the states of polled reading and writing print for debugging.
 
 use crate::texts::prints;
+use std::alloc::AllocError;
 use std::borrow::CowSlice;
+use std::process::Abort;
 use std::test::Fail;
 use wtp_core::bytes::Polled;
 use wtp_core::ids::{QStreamId, SessionId};
@@ -33,26 +35,32 @@ fn answers_are_printed(rt: HostRuntime) -> Result<(), Fail> {
     Ok(())
 }
 
-#[test]
-fn states_are_printed(rt: HostRuntime) -> Result<(), Fail> {
+/// Asserts what the states of reading and of writing a frame print.
+fn check_frames<R: Abort + AllocGlobal>(rt: &R) -> Result<(), AllocError> {
     let text = "FrameReading { head_bytes: 0, payload_bytes: 0, due_bytes: 0, .. }";
-    prints(&rt, &Frame::read_async(rt.alloc()), text, "reading a frame")?;
+    prints(rt, &Frame::read_async(rt.alloc()), text, "reading a frame")?;
     let frame = Frame::new_data(CowSlice::Borrowed(&[7]));
     let text = "FrameWriting { head_sent: 0, payload_sent: 0, .. }";
-    prints(&rt, &frame.write_async(), text, "writing a frame")?;
+    prints(rt, &frame.write_async(), text, "writing a frame")
+}
+
+/// Asserts what a stream header and the states of reading and of writing it print.
+fn check_headers<R: Abort + AllocGlobal>(rt: &R) -> Result<(), AllocError> {
     let text = "HeaderReading { bytes: 0, .. }";
-    prints(&rt, &StreamHeader::read_async(), text, "reading a header")?;
+    prints(rt, &StreamHeader::read_async(), text, "reading a header")?;
     let header = StreamHeader::new_control();
     let text = "HeaderWriting { sent: 0, .. }";
-    prints(&rt, &header.write_async(), text, "writing a header")?;
-    let text = "Datagram { qstream_id: 1152921504606846975, payload: [7] }";
-    prints(
-        &rt,
-        &Datagram::new(QStreamId::MAX, &[7]),
-        text,
-        "a datagram",
-    )?;
+    prints(rt, &header.write_async(), text, "writing a header")?;
     let text = "StreamHeader { kind: Control, session_id: None }";
-    prints(&rt, &header, text, "a header")?;
+    prints(rt, &header, text, "a header")
+}
+
+#[test]
+fn states_are_printed(rt: HostRuntime) -> Result<(), Fail> {
+    check_frames(&rt)?;
+    check_headers(&rt)?;
+    let datagram = Datagram::new(QStreamId::MAX, &[7]);
+    let text = "Datagram { qstream_id: 1152921504606846975, payload: [7] }";
+    prints(&rt, &datagram, text, "a datagram")?;
     Ok(())
 }

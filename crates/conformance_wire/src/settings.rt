@@ -11,13 +11,18 @@ use wtp_core::varint::VarInt;
 use wtp_wire::frame::{Frame, FrameOwned, GenerateError};
 use wtp_wire::settings::{SettingId, Settings};
 
-/// What reading the payload answers; a second time where memory was refused.
-fn answer<R: Abort + AllocGlobal>(rt: &R, payload: &[u8]) -> Result<Settings, Refused> {
+/// What reading the payload answers.
+fn read<R: Abort + AllocGlobal>(rt: &R, payload: &[u8]) -> Result<Settings, Refused> {
     assert!(rt; payload.len() < 64);
     let frame = Frame::new_settings(CowSlice::Borrowed(payload));
-    match Settings::with_frame(rt.alloc(), &frame) {
-        Err(Refused::Memory) => Settings::with_frame(rt.alloc(), &frame),
-        read => read,
+    Settings::with_frame(rt.alloc(), &frame)
+}
+
+/// As `read`; a second time where memory was refused.
+fn answer<R: Abort + AllocGlobal>(rt: &R, payload: &[u8]) -> Result<Settings, Refused> {
+    match read(rt, payload) {
+        Err(Refused::Memory) => read(rt, payload),
+        answer => answer,
     }
 }
 
@@ -66,10 +71,15 @@ fn connect(alloc: Global) -> Result<Settings, AllocError> {
     }
 }
 
+/// The frame of the settings.
+fn frame_of(alloc: Global, settings: &Settings) -> Result<FrameOwned, GenerateError> {
+    settings.generate_frame(alloc)
+}
+
 /// The frame of the settings; a second time where memory was refused.
 fn framed(alloc: Global, settings: &Settings) -> Result<FrameOwned, GenerateError> {
-    match settings.generate_frame(alloc) {
-        Err(GenerateError::Memory) => settings.generate_frame(alloc),
+    match frame_of(alloc, settings) {
+        Err(GenerateError::Memory) => frame_of(alloc, settings),
         frame => frame,
     }
 }
@@ -86,12 +96,17 @@ fn check_frame<R: Abort + AllocGlobal>(
     Ok(())
 }
 
+/// Puts the whole frame into the vector.
+fn put(frame: &Frame<'_>, out: &mut Vec<u8>) -> Result<(), PutError> {
+    frame.write(out)
+}
+
 /// Puts the whole frame into the empty vector; from the start again where memory was refused.
 fn written(frame: &Frame<'_>, out: &mut Vec<u8>) -> Result<(), PutError> {
-    match frame.write(out) {
+    match put(frame, out) {
         Err(PutError::Memory) => {
             out.clear();
-            frame.write(out)
+            put(frame, out)
         }
         answer => answer,
     }
@@ -193,12 +208,17 @@ fn unknown_settings_are_ignored_past_refused_memory(rt: HostRuntime) -> Result<(
     Ok(())
 }
 
+/// Puts the whole frame into the buffer.
+fn put_in_buffer(frame: &Frame<'_>, buffer: &mut [u8]) -> Result<(), EndOfBuffer> {
+    let mut writer = BufferWriter::new(buffer);
+    frame.write_to_buffer(&mut writer)
+}
+
 /// Asserts the frame of `steps`, put into a buffer and into a vector.
 fn check_whole<R: Abort + AllocGlobal>(rt: &R, settings: &Settings) -> Result<(), Fail> {
     let frame = framed(rt.alloc(), settings)?;
     let mut room = [0x00; 22];
-    let mut writer = BufferWriter::new(&mut room);
-    frame.write_to_buffer(&mut writer)?;
+    put_in_buffer(&frame, &mut room)?;
     same(rt, &room[..2], &[0x04, 0x14], "type and length");
     same(rt, &room[2..], &STEPS, "payload");
     check_written(rt, &frame, &room, "into a vector")?;
