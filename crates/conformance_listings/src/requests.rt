@@ -5,6 +5,7 @@ use std::process::Abort;
 use std::test::Fail;
 use test_io::same;
 use wt_listings::{Listing, list_request};
+use wtransport_proto::frame::FrameOwned;
 use wtransport_proto::session::SessionRequest;
 
 static ROWS: [Row; 15] = [
@@ -119,7 +120,7 @@ static AROUND: [(&[&[u8]], &str, &str); 5] = [
     (
         &[b"\x0a\x01x", &REQUEST, b"\x0a"],
         "END 1\n",
-        "between unknown frames",
+        "between an unknown frame and an unknown type alone",
     ),
 ];
 
@@ -157,10 +158,19 @@ fn other_fields_in_their_order(rt: HostRuntime) -> Result<(), Fail> {
     Ok(())
 }
 
-/// The bytes of the HEADERS frame of a request that is made anew.
+/// A request that is made anew.
+fn request(alloc: Global) -> Result<SessionRequest, Fail> {
+    Ok(SessionRequest::new(alloc, "https://example.com/")?)
+}
+
+/// The HEADERS frame of a request that is made anew.
+fn request_frame(alloc: Global) -> Result<FrameOwned, Fail> {
+    Ok(request(alloc)?.headers().generate_frame(alloc)?)
+}
+
+/// The bytes of that frame.
 fn made(alloc: Global) -> Result<Vec<u8>, Fail> {
-    let request = SessionRequest::new(alloc, "https://example.com/")?;
-    let frame = request.headers().generate_frame(alloc)?;
+    let frame = request_frame(alloc)?;
     let mut written = Vec::new(alloc);
     frame.write(&mut written)?;
     Ok(written)
