@@ -10,4 +10,6 @@ mod requests;
 #[cfg(test)]
 mod rows;
 #[cfg(test)]
+mod same;
+#[cfg(test)]
 mod stepped;

@@ -1,10 +1,10 @@
 //! The program, over readers and writers of the tests' own.
 use crate::rows::{REQUEST, REQUEST_LISTING};
+use crate::same::same;
 use std::alloc::{AllocError, Global};
 use std::io::{self, Read, Write};
 use std::process::Abort;
 use std::test::Fail;
-use test_io::same;
 use wt_listings::run_program;
 
 /// Gives these bytes, so many a call, and then fails or ends.

@@ -1,9 +1,9 @@
 //! Listings of the request for a session.
 use crate::rows::{REQUEST, REQUEST_LISTING, Row, check_listing, joined};
+use crate::same::same;
 use std::alloc::{AllocError, Global};
 use std::process::Abort;
 use std::test::Fail;
-use test_io::same;
 use wt_listings::{Listing, list_request};
 use wtransport_proto::frame::FrameOwned;
 use wtransport_proto::session::SessionRequest;

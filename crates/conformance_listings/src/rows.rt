@@ -1,7 +1,7 @@
 //! What the tests share: rows of listings, a request, and inputs that are made of parts.
+use crate::same::same;
 use std::alloc::{AllocError, Global};
 use std::process::Abort;
-use test_io::same;
 use wt_listings::Listing;
 
 /// Input, listing, status, and what the row shows.

@@ -2,10 +2,10 @@
 ghost use Rattle.std.specs.Prelude.{◌<◌};
 
 use crate::rows::{Row, check_listing, joined};
+use crate::same::same;
 use std::alloc::{AllocError, Global};
 use std::process::Abort;
 use std::test::Fail;
-use test_io::same;
 use wt_listings::{Listing, list_stepped};
 
 const CUT: &str = "FAULT FrameError 262\n";

@@ -1,7 +1,7 @@
 //! Worked rows of capsules, and what stands where memory is refused.
+use crate::same::same;
 use std::borrow::CowSlice;
 use std::process::Abort;
-use test_io::same;
 use wtp_core::error::{ErrorCode, Refused};
 use wtp_core::varint::VarInt;
 use wtp_wire::capsule::capsules::CloseWebTransportSession;

@@ -6,6 +6,8 @@ mod capsules;
 #[cfg(test)]
 mod printed;
 #[cfg(test)]
+mod same;
+#[cfg(test)]
 mod settings;
 #[cfg(test)]
 mod stream_headers;

@@ -1,10 +1,10 @@
 //! Worked rows of settings, and what stands where memory is refused.
+use crate::same::same;
 use crate::texts::has_text;
 use std::alloc::{AllocError, Global};
 use std::borrow::CowSlice;
 use std::process::Abort;
 use std::test::Fail;
-use test_io::same;
 use wtp_core::bytes::{BufferWriter, EndOfBuffer, PutError};
 use wtp_core::error::{ErrorCode, Refused};
 use wtp_core::varint::VarInt;

@@ -1,8 +1,8 @@
 //! Worked rows of stream headers, and what stands where memory is refused.
+use crate::same::same;
 use crate::texts::has_text;
 use std::process::Abort;
 use std::test::Fail;
-use test_io::same;
 use wtp_core::bytes::{BufferReader, BufferWriter, EndOfBuffer, PutError};
 use wtp_core::ids::SessionId;
 use wtp_core::varint::VarInt;

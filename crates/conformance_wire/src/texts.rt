@@ -1,8 +1,8 @@
 //! What the tests share: the check of a text that a value has, for debugging or for display.
+use crate::same::same;
 use std::alloc::{AllocError, Global};
 use std::fmt::{Debug, Display};
 use std::process::Abort;
-use test_io::same;
 
 /// Asserts what the value prints for debugging.
 pub fn prints<R: Abort + AllocGlobal, T: Debug>(
