@@ -1,6 +1,7 @@
 //! The code words of the bytes (RFC 7541, Appendix B), for encoding.
 ghost use Rattle.std.specs.Prelude.{◌≡◌, ◌<◌, ◌≤◌, ◌^◌};
 ghost use Rattle.wtp_huffman.specs.Huffman.{word_of};
+ghost use Rattle.wtp_huffman.specs.declared.huffman.rows.TheConstants.{LONGEST};
 
 /// A code word: how many bits it has, and the number that they spell.
 #[derive(Clone, Copy)]
@@ -13,7 +14,7 @@ pub struct Code {
 pub fn code_of(byte: u8) -> Code
     ensures bits { result.bits ≡ (word_of byte).bits }
     ensures number { result.number ≡ (word_of byte).number }
-    ensures most { result.bits ≤ 30 }
+    ensures most { result.bits ≤ LONGEST }
     ensures fits { result.number < 2 ^ (word_of byte).bits }
 {
     let (bits, number) = CODES[byte as usize];

@@ -7,17 +7,35 @@ ghost use Rattle.wtp_huffman.specs.HuffmanTables.{front, InRow, IsWord};
 ghost use Rattle.wtp_huffman.specs.declared.huffman.HuffmanError.TheVariants.{Invalid, Memory};
 
 use super::HuffmanError;
-use super::pairs::pair_entry;
-use super::rows::{ROWS, row_number, symbol_number};
-use super::short::short_entry;
+use super::pairs::{PAIR, pair_entry};
+use super::rows::{ROWS, WINDOW, row_number, symbol_number};
+use super::short::{SHORT, SHORT_LIMIT, short_entry};
 use std::alloc::Global;
 use std::mem::replace;
 
 /// The symbol that ends a string, which no text holds.
 const END: u16 = 256;
 
-/// Bits of which the first eight are below this begin with a word of at most eight.
-const SHORT_END: u64 = 0xfe00_0000_0000_0000;
+/// How many of 64 bits come after a window.
+const AFTER_WINDOW: u32 = u64::BITS - WINDOW;
+
+/// How many of 64 bits come after the bits by which one or two short words are looked up.
+const AFTER_PAIR: u32 = u64::BITS - PAIR;
+
+/// How many of 64 bits come after four bytes.
+const AFTER_FOUR: u32 = u64::BITS - u32::BITS;
+
+/// How many of 64 bits come after a byte.
+const AFTER_BYTE: u32 = u64::BITS - u8::BITS;
+
+/// How many bits of a window come after its first eight, by which a short word is looked up.
+const AFTER_SHORT: u32 = WINDOW - SHORT;
+
+/// Bits that wait begin with a short word where their number is below this.
+const SHORT_END: u64 = (SHORT_LIMIT as u64) << AFTER_WINDOW;
+
+/// The window of ones: padding, and the end of a string.
+const ONES: u32 = (1 << WINDOW) - 1;
 
 /// A symbol, and how many bits its word has.
 #[derive(Clone, Copy)]
@@ -50,7 +68,7 @@ fn most_bytes(text: &[u8]) -> usize
 }
 
 /// Replaces what `out` holds by the text that is coded so, and returns whether the text is ASCII. Few bytes are tested
-/// for that, since all words of at most eight bits stand for ASCII. If `out` has too little room, memory is taken at
+/// for that, since all short words stand for ASCII. If `out` has too little room, memory is taken at
 /// once, twice the code's length, which is more than enough and soon computed.
 ///
 /// Returns [`HuffmanError::Invalid`] if the bytes are not code words and then fewer than eight ones (RFC 7541, section
@@ -88,13 +106,13 @@ fn decoded_in(mut out: Vec<u8>, text: &[u8]) -> Result<(Vec<u8>, bool), HuffmanE
     let mut is_ascii = true;
     'windows: loop {
         (rest, waiting, held) = refilled(rest, waiting, held);
-        if held < 30 {
+        if held < WINDOW {
             break;
         }
         (waiting, held, is_ascii) = words_taken(&mut out, waiting, held, is_ascii)?;
     }
     'last: loop {
-        if held >= 12 && waiting < SHORT_END {
+        if held >= PAIR && waiting < SHORT_END {
             (waiting, held) = short_taken(&mut out, waiting, held);
             continue;
         }
@@ -121,7 +139,7 @@ fn words_taken(
     held: u32,
     is_ascii: bool,
 ) -> Result<(u64, u32, bool), HuffmanError>
-    requires enough { 30 ≤ held }
+    requires enough { WINDOW ≤ held }
     requires few { held < 64 }
     requires clear { IsClear held waiting }
     requires room { 5 * vec_len out.old + held < 5 * vec_capacity out.old + 5 }
@@ -150,7 +168,7 @@ fn word_taken(
     held: u32,
     is_ascii: bool,
 ) -> Result<(u64, u32, bool), HuffmanError>
-    requires enough { 30 ≤ held }
+    requires enough { WINDOW ≤ held }
     requires few { held < 64 }
     requires clear { IsClear held waiting }
     requires room { vec_len out.old < vec_capacity out.old }
@@ -160,7 +178,7 @@ fn word_taken(
     ensures same { vec_capacity out.new ≡ vec_capacity out.old }
     ensures ascii { IfOk result (λ r. TellsAscii is_ascii out.old.items → TellsAscii r.2 out.new.items) }
 {
-    let word = word_at((waiting >> 34) as u32);
+    let word = word_at((waiting >> AFTER_WINDOW) as u32);
     let is_ascii = push_any(out, byte_of(word)?, is_ascii);
     Ok((waiting << word.bits, held - word.bits, is_ascii))
 }
@@ -178,22 +196,21 @@ fn push_any(out: &mut Vec<u8>, byte: u8, is_ascii: bool) -> bool
     is_ascii && byte < 128
 }
 
-/// Takes the one or two words of at most eight bits that lie within the first twelve of those that wait. They stand
-/// for ASCII.
+/// Takes the one or two short words that lie within the first twelve of the bits that wait. They stand for ASCII.
 #[inline(always)]
 fn short_taken(out: &mut Vec<u8>, waiting: u64, held: u32) -> (u64, u32)
-    requires enough { 12 ≤ held }
+    requires enough { PAIR ≤ held }
     requires few { held < 64 }
-    requires short { waiting < 0xfe00_0000_0000_0000 }
+    requires short { waiting < SHORT_END }
     requires clear { IsClear held waiting }
     requires room { vec_len out.old + 2 ≤ vec_capacity out.old }
     ensures taken { Takes out.old.items held waiting out.new.items result.1 result.0 }
-    ensures most { held ≤ result.1 + 12 }
+    ensures most { held ≤ result.1 + PAIR }
     ensures room { 5 * vec_len out.new + result.1 ≤ 5 * vec_len out.old + held }
     ensures same { vec_capacity out.new ≡ vec_capacity out.old }
     ensures ascii { (is_ascii : Bool) → TellsAscii is_ascii out.old.items → TellsAscii is_ascii out.new.items }
 {
-    let (bits, spare, first, second) = pair_entry((waiting >> 52) as usize);
+    let (bits, spare, first, second) = pair_entry((waiting >> AFTER_PAIR) as usize);
     push_some(out, first, second, spare as usize);
     (waiting << bits, held - u32::from(bits))
 }
@@ -213,28 +230,28 @@ fn push_some(out: &mut Vec<u8>, first: u8, second: u8, spare: usize)
     out.truncate(out.len().saturating_sub(spare));
 }
 
-/// Takes bytes from the front of `rest` until 30 bits wait or none is left. The highest `held` bits of `waiting`
-/// wait, and zeros stand behind them.
+/// Takes bytes from the front of `rest` until a window waits or no byte is left. The highest `held` bits of `waiting`
+/// wait, and zeros come after them.
 fn refilled(mut rest: &[u8], mut waiting: u64, mut held: u32) -> (&[u8], u64, u32)
     requires few { held < 64 }
     requires clear { IsClear held waiting }
     ensures same { waiting_bits result.2 result.1 ++ bits_of result.0.now ≡ waiting_bits held waiting ++ bits_of rest.now }
     ensures clear { IsClear result.2 result.1 }
     ensures few { result.2 < 64 }
-    ensures enough { result.2 < 30 → length result.0.now ≡ 0 }
+    ensures enough { result.2 < WINDOW → length result.0.now ≡ 0 }
     ensures size { 8 * length result.0.now + result.2 ≡ 8 * length rest.now + held }
 {
-    while held < 30 {
+    while held < WINDOW {
         match rest.first_chunk::<4>() {
             Some(front) => {
-                waiting += u64::from(number_of(front)) << (32 - held);
-                held += 32;
+                waiting += u64::from(number_of(front)) << (AFTER_FOUR - held);
+                held += u32::BITS;
                 rest = rest.split_at(4).1;
             }
             None => match rest.split_first() {
                 Some((byte, behind)) => {
-                    waiting += u64::from(*byte) << (56 - held);
-                    held += 8;
+                    waiting += u64::from(*byte) << (AFTER_BYTE - held);
+                    held += u8::BITS;
                     rest = behind;
                 }
                 None => return (rest, waiting, held),
@@ -251,14 +268,14 @@ fn number_of(four: &[u8; 4]) -> u32
     u32::from_be_bytes(*four)
 }
 
-/// The last bits that wait, filled with ones to 30.
+/// The window of the last bits that wait, with ones after them.
 fn last_window(waiting: u64, held: u32) -> u32
-    requires few { held < 30 }
+    requires few { held < WINDOW }
     requires clear { IsClear held waiting }
-    ensures value { result ≡ front 30 (waiting_bits held waiting) }
-    ensures small { result < 2 ^ 30 }
+    ensures value { result ≡ front WINDOW (waiting_bits held waiting) }
+    ensures small { result < 2 ^ WINDOW }
 {
-    (waiting >> 34) as u32 + ((1 << (30 - held)) - 1)
+    (waiting >> AFTER_WINDOW) as u32 + ((1 << (WINDOW - held)) - 1)
 }
 
 /// The byte of a word. The end of a string is none.
@@ -272,22 +289,22 @@ fn byte_of(word: Found) -> Result<u8, HuffmanError>
     Ok(word.symbol as u8)
 }
 
-/// Whether the bits that are left, fewer than 30, are padding.
+/// Whether the bits that are left, fewer than a window, are padding.
 fn is_padding(window: u32, held: u32) -> bool
-    ensures { IsTrue result ↔ ((held < 8) × (window ≡ 0x3fff_ffff)) }
+    ensures { IsTrue result ↔ ((held < 8) × (window ≡ ONES)) }
 {
     if held > 7 {
         return false;
     }
-    window == 0x3fff_ffff
+    window == ONES
 }
 
 /// The word at the front of a window.
 fn word_at(window: u32) -> Found
-    requires { window < 2 ^ 30 }
+    requires { window < 2 ^ WINDOW }
     ensures { IsWord window result.bits result.symbol }
 {
-    if window < 0x3f80_0000 {
+    if window < SHORT_LIMIT {
         short_word(window)
     } else {
         word_in(window, any_row(window))
@@ -300,19 +317,19 @@ fn word_in(window: u32, k: usize) -> Found
     ensures { IsWord window result.bits result.symbol }
 {
     let row = row_number(k);
-    let rank = (window >> (30 - row.bits)) - row.first;
+    let rank = (window >> (WINDOW - row.bits)) - row.first;
     Found {
         bits: row.bits,
         symbol: symbol_number(row.skipped + rank as usize),
     }
 }
 
-/// The word at the front of a window that begins with one of at most eight bits.
+/// The word at the front of a window that begins with a short one.
 fn short_word(window: u32) -> Found
-    requires { window < 0x3f80_0000 }
+    requires { window < SHORT_LIMIT }
     ensures { IsWord window result.bits result.symbol }
 {
-    let (bits, byte) = short_entry((window >> 22) as usize);
+    let (bits, byte) = short_entry((window >> AFTER_SHORT) as usize);
     Found {
         bits: u32::from(bits),
         symbol: u16::from(byte),
@@ -321,7 +338,7 @@ fn short_word(window: u32) -> Found
 
 /// The row of a window: the first whose limit is above it.
 fn any_row(window: u32) -> usize
-    requires { window < 2 ^ 30 }
+    requires { window < 2 ^ WINDOW }
     ensures { InRow window result }
 {
     for (k, row) in ROWS.iter().enumerate() {

@@ -1,6 +1,7 @@
 //! From a text to code words.
 ghost use Rattle.std.specs.Prelude.{◌≡◌, ℕ, ◌*◌, ◌+◌, ◌%◌, ◌<◌, ◌≤◌, ◌^◌, ◌++◌, Bool, List, length, IfOk, OnOk, IsOk, MatchOption, SomeIff};
 ghost use Rattle.wtp_huffman.specs.Huffman.{bits_of, low_bits, code, coded, coded_len, IsBytes, IsHuffman, IsPadding};
+ghost use Rattle.wtp_huffman.specs.declared.huffman.rows.TheConstants.{LONGEST};
 ghost use Rattle.wtp_huffman.specs.HuffmanSteps.{Adds, AppendsHuffman, BeginsWith, IsNumberOf, Keeps};
 
 use super::codes::code_of;
@@ -10,7 +11,7 @@ use std::alloc::{AllocError, Global};
 const PART: usize = 1 << 32;
 
 /// The most bits that join up to seven that wait: fewer than 64 together.
-const MOST: u32 = 56;
+const MOST: u32 = u64::BITS - u8::BITS;
 
 /// So many bits: the lowest of a number. What stands above them says nothing.
 #[derive(Clone, Copy)]
@@ -97,9 +98,9 @@ pub fn encoded_len(text: &[u8]) -> Option<usize>
 
 /// How many bits the words of a text have.
 fn word_bits(text: &[u8]) -> u64
-    requires { length text.now ≤ 2 ^ 32 }
+    requires { length text.now ≤ PART }
     ensures value { result ≡ length (coded text.now) }
-    ensures small { result ≤ 30 * 2 ^ 32 }
+    ensures small { result ≤ LONGEST * PART }
 {
     let mut bits = 0;
     for byte in text {
@@ -114,7 +115,7 @@ fn word(byte: u8) -> Bits
     ensures bits { low_bits result.count result.number ≡ code byte }
     ensures fits { result.number < 2 ^ result.count }
     ensures some { 0 < result.count }
-    ensures most { result.count ≤ 30 }
+    ensures most { result.count ≤ LONGEST }
 {
     let code = code_of(byte);
     Bits {
@@ -128,7 +129,7 @@ fn word(byte: u8) -> Bits
 fn words_of(four: &[u8; 4]) -> Bits
     ensures words { result.count ≤ 64 → IsNumberOf (coded four.now) result.count result.number }
     ensures some { 0 < result.count }
-    ensures most { result.count ≤ 120 }
+    ensures most { result.count ≤ 4 * LONGEST }
 {
     let [a, b, c, d] = *four;
     joined(joined(word(a), word(b)), joined(word(c), word(d)))

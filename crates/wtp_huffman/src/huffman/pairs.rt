@@ -1,10 +1,18 @@
-//! The one or two words of at most eight bits that lie within a window's first twelve bits, by these.
+//! The one or two short words that lie within a window's first twelve bits, by these.
 ghost use Rattle.std.specs.Prelude.{◌≡◌, ◌-◌, ◌<◌};
 ghost use Rattle.wtp_huffman.specs.HuffmanTables.{pair_bits_at, pair_count_at, pair_first_at, pair_second_at};
 
+use super::short::{SHORT, SHORT_FRONTS};
+
+/// How many bits are looked up at a time for one or two short words.
+pub const PAIR: u32 = 12;
+
+/// How many numbers of twelve bits begin with a short word: those below this.
+pub const PAIR_FRONTS: usize = SHORT_FRONTS << (PAIR - SHORT);
+
 /// In four bytes, from the lowest on: how many bits the words have together, the byte of the first, that of the second
 /// or 0, and 0 where they are two, 1 where it is one. The bits stand lowest since the next look-up waits for them.
-pub static PAIRS: [u32; 4064] = [
+pub static PAIRS: [u32; PAIR_FRONTS] = [
     3158026, 3158026, 3158026, 3158026, 3223562, 3223562, 3223562, 3223562, 3289098, 3289098,
     3289098, 3289098, 6369290, 6369290, 6369290, 6369290, 6500362, 6500362, 6500362, 6500362,
     6631434, 6631434, 6631434, 6631434, 6893578, 6893578, 6893578, 6893578, 7286794, 7286794,
@@ -429,7 +437,7 @@ pub static PAIRS: [u32; 4064] = [
 #[tactic(auto, unfolding(crate::specs::HuffmanTables::pair_bits_at, crate::specs::HuffmanTables::pair_count_at, crate::specs::HuffmanTables::pair_first_at, crate::specs::HuffmanTables::pair_second_at))]
 #[inline(always)]
 pub fn pair_entry(front: usize) -> (u8, u8, u8, u8)
-    requires { front < 4064 }
+    requires { front < PAIR_FRONTS }
     ensures bits { result.0 ≡ pair_bits_at front }
     ensures count { 2 - result.1 ≡ pair_count_at front }
     ensures first { result.2 ≡ pair_first_at front }

@@ -11,7 +11,7 @@ pub struct Row {
     pub first: u32,
     /// How many symbols have shorter words.
     pub skipped: usize,
-    /// The number past the last, with zeros behind it up to 30 bits.
+    /// The number past the last, with zeros after it up to a window's bits.
     pub limit: u32,
 }
 
@@ -144,6 +144,12 @@ pub static ROWS: [Row; 21] = [
         limit: 0x40000000,
     },
 ];
+
+/// How many bits the longest word has.
+pub const LONGEST: u32 = ROWS[ROWS.len() - 1].bits;
+
+/// How many bits a window has: as many as the longest word, so that each window begins with a word.
+pub const WINDOW: u32 = LONGEST;
 
 /// The symbols in the order of their words; 256 is the end of the string.
 pub static SYMBOLS: [u16; 257] = [

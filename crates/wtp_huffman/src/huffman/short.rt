@@ -1,9 +1,23 @@
-//! The words of at most eight bits, by a window's first eight bits.
+//! The short words, by a window's first eight bits.
 ghost use Rattle.std.specs.Prelude.{◌≡◌, ◌<◌};
 ghost use Rattle.wtp_huffman.specs.HuffmanTables.{short_bits_at, short_byte_at};
 
+use super::rows::{ROWS, WINDOW};
+
+/// The row of the longest short words: these have at most eight bits.
+const LAST_SHORT: usize = 3;
+
+/// How many bits a short word has at most.
+pub const SHORT: u32 = ROWS[LAST_SHORT].bits;
+
+/// A window below this begins with a short word.
+pub const SHORT_LIMIT: u32 = ROWS[LAST_SHORT].limit;
+
+/// How many numbers of eight bits begin with a short word: those below this.
+pub const SHORT_FRONTS: usize = (SHORT_LIMIT >> (WINDOW - SHORT)) as usize;
+
 /// How many bits the word has.
-pub static SHORT_BITS: [u8; 254] = [
+pub static SHORT_BITS: [u8; SHORT_FRONTS] = [
     5, 5, 5, 5, 5, 5, 5, 5, 5, 5, 5, 5, 5, 5, 5, 5, 5, 5, 5, 5, 5, 5, 5, 5, 5, 5, 5, 5, 5, 5, 5, 5,
     5, 5, 5, 5, 5, 5, 5, 5, 5, 5, 5, 5, 5, 5, 5, 5, 5, 5, 5, 5, 5, 5, 5, 5, 5, 5, 5, 5, 5, 5, 5, 5,
     5, 5, 5, 5, 5, 5, 5, 5, 5, 5, 5, 5, 5, 5, 5, 5, 6, 6, 6, 6, 6, 6, 6, 6, 6, 6, 6, 6, 6, 6, 6, 6,
@@ -15,7 +29,7 @@ pub static SHORT_BITS: [u8; 254] = [
 ];
 
 /// The byte that it stands for.
-pub static SHORT_BYTES: [u8; 254] = [
+pub static SHORT_BYTES: [u8; SHORT_FRONTS] = [
     48, 48, 48, 48, 48, 48, 48, 48, 49, 49, 49, 49, 49, 49, 49, 49, 50, 50, 50, 50, 50, 50, 50, 50,
     97, 97, 97, 97, 97, 97, 97, 97, 99, 99, 99, 99, 99, 99, 99, 99, 101, 101, 101, 101, 101, 101,
     101, 101, 105, 105, 105, 105, 105, 105, 105, 105, 111, 111, 111, 111, 111, 111, 111, 111, 115,
@@ -33,7 +47,7 @@ pub static SHORT_BYTES: [u8; 254] = [
 /// The length and the byte of the word that eight bits begin with.
 #[tactic(auto, unfolding(crate::specs::HuffmanTables::short_bits_at, crate::specs::HuffmanTables::short_byte_at))]
 pub fn short_entry(front: usize) -> (u8, u8)
-    requires { front < 254 }
+    requires { front < SHORT_FRONTS }
     ensures bits { result.0 ≡ short_bits_at front }
     ensures byte { result.1 ≡ short_byte_at front }
 {

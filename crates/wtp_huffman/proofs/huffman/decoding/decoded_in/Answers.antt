@@ -42,13 +42,13 @@ last-init c =
     let bits : List Bool = waiting_bits c.refilled.result.2 c.refilled.result.1 ++ bits_of c.refilled.result.0.now in
     let P : List Bool → Type 0 = λ b. Reads c.args.text.now c.windows.out.items b in
     let reads : P bits = subst P (sym c.refilled.ensures.same) c.windows.invariant.reads in
-    let none : length c.refilled.result.0.now ≡ 0 = c.refilled.ensures.enough c.if-held-lt30.true in
+    let none : length c.refilled.result.0.now ≡ 0 = c.refilled.ensures.enough c.if-held-lt-WINDOW.true in
     let alone : bits ≡ waiting_bits c.refilled.result.2 c.refilled.result.1 =
     ap (λ b. waiting_bits c.refilled.result.2 c.refilled.result.1 ++ b) (no_bits c.refilled.result.0.now none) ∙ append-nil (waiting_bits c.refilled.result.2 c.refilled.result.1) in
     record {
       reads = subst P alone reads;
       clear = c.refilled.ensures.clear;
-      few = c.if-held-lt30.true;
+      few = c.if-held-lt-WINDOW.true;
       start = omega (arith, c.windows.invariant.start, c.refilled.ensures.size);
       ascii = c.windows.invariant.ascii;
       room = omega (arith, c.windows.invariant.room, c.refilled.ensures.size);
