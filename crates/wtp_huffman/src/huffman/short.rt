@@ -1,4 +1,4 @@
-//! The short words, by a window's first eight bits.
+//! The short words, by a window's first eight bits. `tools/huffman-tables` makes the numbers of both tables.
 ghost use Rattle.std.specs.Prelude.{◌≡◌, ◌<◌};
 ghost use Rattle.wtp_huffman.specs.HuffmanTables.{short_bits_at, short_byte_at};
 
