@@ -7,20 +7,20 @@ ghost use Rattle.wtp_huffman.specs.HuffmanTables.{front, InRow, IsWord};
 ghost use Rattle.wtp_huffman.specs.declared.huffman.HuffmanError.TheVariants.{Invalid, Memory};
 
 use super::HuffmanError;
-use super::pairs::{PAIR, pair_entry};
-use super::rows::{ROWS, WINDOW, row_number, symbol_number};
-use super::short::{SHORT, SHORT_LIMIT, short_entry};
+use super::pairs::{PAIR_BITS, pair_entry};
+use super::rows::{ROWS, SHORTEST, WINDOW, row_number, symbol_number};
+use super::short::{LONGEST_SHORT, SHORT_LIMIT, short_entry};
 use std::alloc::Global;
 use std::mem::replace;
 
-/// The symbol that ends a string, which no text holds.
+/// The symbol that ends a string (EOS in RFC 7541), which no text holds.
 const END: u16 = 256;
 
 /// How many of 64 bits come after a window.
 const AFTER_WINDOW: u32 = u64::BITS - WINDOW;
 
-/// How many of 64 bits come after the bits by which one or two short words are looked up.
-const AFTER_PAIR: u32 = u64::BITS - PAIR;
+/// How many of 64 bits come after those by which one or two short words are looked up.
+const AFTER_PAIR: u32 = u64::BITS - PAIR_BITS;
 
 /// How many of 64 bits come after four bytes.
 const AFTER_FOUR: u32 = u64::BITS - u32::BITS;
@@ -29,12 +29,12 @@ const AFTER_FOUR: u32 = u64::BITS - u32::BITS;
 const AFTER_BYTE: u32 = u64::BITS - u8::BITS;
 
 /// How many bits of a window come after its first eight, by which a short word is looked up.
-const AFTER_SHORT: u32 = WINDOW - SHORT;
+const AFTER_SHORT: u32 = WINDOW - LONGEST_SHORT;
 
 /// Bits that wait begin with a short word where their number is below this.
 const SHORT_END: u64 = (SHORT_LIMIT as u64) << AFTER_WINDOW;
 
-/// The window of ones: padding, and the end of a string.
+/// The window of ones: padding, and the word of the end of a string.
 const ONES: u32 = (1 << WINDOW) - 1;
 
 /// A symbol, and how many bits its word has.
@@ -61,10 +61,10 @@ pub fn decode(alloc: Global, text: &[u8]) -> Result<Vec<u8>, HuffmanError>
 
 /// The most bytes that a coded text stands for: one for each five bits.
 fn most_bytes(text: &[u8]) -> usize
-    ensures enough { 8 * length text.now < 5 * result + 5 }
+    ensures enough { 8 * length text.now < SHORTEST * result + SHORTEST }
     ensures none { length text.now ≡ 0 → result ≡ 0 }
 {
-    text.len() / 5 * 8 + text.len() % 5 * 8 / 5
+    text.len() / SHORTEST * 8 + text.len() % SHORTEST * 8 / SHORTEST
 }
 
 /// Replaces what `out` holds by the text that is coded so, and returns whether the text is ASCII. Few bytes are tested
@@ -94,7 +94,7 @@ pub fn decode_into(out: &mut Vec<u8>, text: &[u8]) -> Result<bool, HuffmanError>
 fn decoded_in(mut out: Vec<u8>, text: &[u8]) -> Result<(Vec<u8>, bool), HuffmanError>
     requires none { out.items ≡ [] }
     requires len { vec_len out ≡ 0 }
-    requires room { 8 * length text.now < 5 * vec_capacity out + 5 }
+    requires room { 8 * length text.now < SHORTEST * vec_capacity out + SHORTEST }
     ensures found { IfOk result (λ r. IsHuffman r.0.items text.now) }
     ensures only { (t : List ℕ) → IsHuffman t text.now → MatchResult result (λ r. r.0.items ≡ t) (λ e. e ≡ Memory) }
     ensures ascii { IfOk result (λ r. TellsAscii r.1 r.0.items) }
@@ -112,7 +112,7 @@ fn decoded_in(mut out: Vec<u8>, text: &[u8]) -> Result<(Vec<u8>, bool), HuffmanE
         (waiting, held, is_ascii) = words_taken(&mut out, waiting, held, is_ascii)?;
     }
     'last: loop {
-        if held >= PAIR && waiting < SHORT_END {
+        if held >= PAIR_BITS && waiting < SHORT_END {
             (waiting, held) = short_taken(&mut out, waiting, held);
             continue;
         }
@@ -142,10 +142,10 @@ fn words_taken(
     requires enough { WINDOW ≤ held }
     requires few { held < 64 }
     requires clear { IsClear held waiting }
-    requires room { 5 * vec_len out.old + held < 5 * vec_capacity out.old + 5 }
+    requires room { SHORTEST * vec_len out.old + held < SHORTEST * vec_capacity out.old + SHORTEST }
     ensures taken { IfOk result (λ r. Takes out.old.items held waiting out.new.items r.1 r.0) }
     ensures fails { IsCodedOn out.old.items held waiting → IsOk result }
-    ensures room { IfOk result (λ r. 5 * vec_len out.new + r.1 ≤ 5 * vec_len out.old + held) }
+    ensures room { IfOk result (λ r. SHORTEST * vec_len out.new + r.1 ≤ SHORTEST * vec_len out.old + held) }
     ensures same { vec_capacity out.new ≡ vec_capacity out.old }
     ensures ascii { IfOk result (λ r. TellsAscii is_ascii out.old.items → TellsAscii r.2 out.new.items) }
 {
@@ -174,7 +174,7 @@ fn word_taken(
     requires room { vec_len out.old < vec_capacity out.old }
     ensures taken { IfOk result (λ r. Takes out.old.items held waiting out.new.items r.1 r.0) }
     ensures fails { IsCodedOn out.old.items held waiting → IsOk result }
-    ensures room { IfOk result (λ r. 5 * vec_len out.new + r.1 ≤ 5 * vec_len out.old + held) }
+    ensures room { IfOk result (λ r. SHORTEST * vec_len out.new + r.1 ≤ SHORTEST * vec_len out.old + held) }
     ensures same { vec_capacity out.new ≡ vec_capacity out.old }
     ensures ascii { IfOk result (λ r. TellsAscii is_ascii out.old.items → TellsAscii r.2 out.new.items) }
 {
@@ -199,14 +199,14 @@ fn push_any(out: &mut Vec<u8>, byte: u8, is_ascii: bool) -> bool
 /// Takes the one or two short words that lie within the first twelve of the bits that wait. They stand for ASCII.
 #[inline(always)]
 fn short_taken(out: &mut Vec<u8>, waiting: u64, held: u32) -> (u64, u32)
-    requires enough { PAIR ≤ held }
+    requires enough { PAIR_BITS ≤ held }
     requires few { held < 64 }
     requires short { waiting < SHORT_END }
     requires clear { IsClear held waiting }
     requires room { vec_len out.old + 2 ≤ vec_capacity out.old }
     ensures taken { Takes out.old.items held waiting out.new.items result.1 result.0 }
-    ensures most { held ≤ result.1 + PAIR }
-    ensures room { 5 * vec_len out.new + result.1 ≤ 5 * vec_len out.old + held }
+    ensures most { held ≤ result.1 + PAIR_BITS }
+    ensures room { SHORTEST * vec_len out.new + result.1 ≤ SHORTEST * vec_len out.old + held }
     ensures same { vec_capacity out.new ≡ vec_capacity out.old }
     ensures ascii { (is_ascii : Bool) → TellsAscii is_ascii out.old.items → TellsAscii is_ascii out.new.items }
 {
@@ -281,7 +281,7 @@ fn last_window(waiting: u64, held: u32) -> u32
 /// The byte of a word. The end of a string is none.
 fn byte_of(word: Found) -> Result<u8, HuffmanError>
     requires { word.symbol < 257 }
-    ensures { MatchResult result (λ byte. (byte ≡ word.symbol) × (byte < 256)) (λ e. (e ≡ Invalid) × (word.symbol ≡ 256)) }
+    ensures { MatchResult result (λ byte. (byte ≡ word.symbol) × (byte < 256)) (λ e. (e ≡ Invalid) × (word.symbol ≡ END)) }
 {
     if word.symbol == END {
         return Err(HuffmanError::Invalid);

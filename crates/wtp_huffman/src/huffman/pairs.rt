@@ -3,13 +3,13 @@
 ghost use Rattle.std.specs.Prelude.{◌≡◌, ◌-◌, ◌<◌};
 ghost use Rattle.wtp_huffman.specs.HuffmanTables.{pair_bits_at, pair_count_at, pair_first_at, pair_second_at};
 
-use super::short::{SHORT, SHORT_FRONTS};
+use super::short::{LONGEST_SHORT, SHORT_FRONTS};
 
 /// How many bits are looked up at a time for one or two short words.
-pub const PAIR: u32 = 12;
+pub const PAIR_BITS: u32 = 12;
 
 /// How many numbers of twelve bits begin with a short word: those below this.
-pub const PAIR_FRONTS: usize = SHORT_FRONTS << (PAIR - SHORT);
+pub const PAIR_FRONTS: usize = SHORT_FRONTS << (PAIR_BITS - LONGEST_SHORT);
 
 /// In four bytes, from the lowest on: how many bits the words have together, the byte of the first, that of the second
 /// or 0, and 0 where they are two, 1 where it is one. The bits are lowest since the next look-up waits for them.

@@ -145,6 +145,9 @@ pub static ROWS: [Row; 21] = [
     },
 ];
 
+/// How many bits the shortest word has.
+pub const SHORTEST: usize = ROWS[0].bits as usize;
+
 /// How many bits the longest word has.
 pub const LONGEST: u32 = ROWS[ROWS.len() - 1].bits;
 

@@ -1,20 +1,21 @@
-//! The short words, by a window's first eight bits. `tools/huffman-tables` makes the numbers of both tables.
+//! The short words, which are those of at most eight bits, by a window's first eight. `tools/huffman-tables` makes the
+//! numbers of both tables.
 ghost use Rattle.std.specs.Prelude.{◌≡◌, ◌<◌};
 ghost use Rattle.wtp_huffman.specs.HuffmanTables.{short_bits_at, short_byte_at};
 
 use super::rows::{ROWS, WINDOW};
 
-/// The row of the longest short words: these have at most eight bits.
+/// The row of the longest short words.
 const LAST_SHORT: usize = 3;
 
-/// How many bits a short word has at most.
-pub const SHORT: u32 = ROWS[LAST_SHORT].bits;
+/// How many bits they have.
+pub const LONGEST_SHORT: u32 = ROWS[LAST_SHORT].bits;
 
 /// A window below this begins with a short word.
 pub const SHORT_LIMIT: u32 = ROWS[LAST_SHORT].limit;
 
 /// How many numbers of eight bits begin with a short word: those below this.
-pub const SHORT_FRONTS: usize = (SHORT_LIMIT >> (WINDOW - SHORT)) as usize;
+pub const SHORT_FRONTS: usize = (SHORT_LIMIT >> (WINDOW - LONGEST_SHORT)) as usize;
 
 /// How many bits the word has.
 pub static SHORT_BITS: [u8; SHORT_FRONTS] = [
