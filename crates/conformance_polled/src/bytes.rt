@@ -1,16 +1,45 @@
 //! Numbers and buffers, read and written poll by poll.
+use crate::readings::{Reading, check_end, check_pending};
+use crate::writings::{DONE, Writing, check_refused, check_stopped, check_written};
+use std::fmt::Display;
 use std::io;
 use std::io::ErrorKind;
 use std::process::Abort;
 use std::test::Fail;
-use test_io::{Answers, BYTE_BY_BYTE, End, Paced, Trickle, stops_behind};
+use test_io::{Answers, End, Paced, Trickle, same};
 use wtp_core::bytes::{
     AsyncRead, BytesReaderAsync, BytesWriterAsync, GetBuffer, GetVarint, IoReadError, IoWriteError,
     Polled, PutBuffer, PutVarint, ReadStep, WriteStep,
 };
 use wtp_core::varint::VarInt;
 
-/// Numbers, and their shortest spellings.
+/// What a poll of a reading of a number answers.
+type Number = Polled<Result<u64, IoReadError>>;
+
+/// One poll of a reading of a number.
+fn polled<S: AsyncRead>(reading: &mut GetVarint, source: &mut S) -> Number {
+    match reading.poll(source) {
+        Polled::Ready(Ok(number)) => Polled::Ready(Ok(number.into_inner())),
+        Polled::Ready(Err(stop)) => Polled::Ready(Err(stop)),
+        Polled::Pending => Polled::Pending,
+        Polled::Again => Polled::Again,
+        Polled::NoMemory => Polled::NoMemory,
+    }
+}
+
+/// Polls, one for each answer.
+fn check_each<R: Abort, S: AsyncRead>(
+    rt: &R,
+    reading: &mut GetVarint,
+    source: &mut S,
+    each: &[Number],
+) {
+    for (at, wanted) in each.iter().enumerate() {
+        same(rt, &polled(reading, source), wanted, at);
+    }
+}
+
+/// Numbers, and their shortest encodings.
 const ROWS: [(u64, &[u8]); 4] = [
     (37, &[0x25]),
     (15293, &[0x7b, 0xbd]),
@@ -21,73 +50,69 @@ const ROWS: [(u64, &[u8]); 4] = [
     ),
 ];
 
-#[test]
-fn numbers_are_read(rt: HostRuntime) -> Result<(), Fail> {
-    for (number, bytes) in ROWS {
-        let varint = VarInt::try_from_u64(number)?;
-        let mut whole = bytes;
-        let mut reading = whole.get_varint();
-        assert_eq!(rt;
-            reading.poll(&mut whole),
-            Polled::Ready(Ok(varint)),
-            "{number}"
-        );
-        assert!(rt; whole.is_empty(), "{number}");
-        let mut slow = Trickle::new(bytes, End::Fin);
-        let mut reading = slow.get_varint();
-        for at in 0..bytes.len() {
-            assert_eq!(rt; reading.poll(&mut slow), Polled::Pending, "{number}, {at}");
-        }
-        assert_eq!(rt;
-            reading.poll(&mut slow),
-            Polled::Ready(Ok(varint)),
-            "{number}"
-        );
-        assert!(rt; slow.rest().is_empty(), "{number}");
-    }
-    Ok(())
+/// The number's bytes, whole and byte by byte.
+fn check_number<R: Abort>(rt: &R, number: u64, bytes: &[u8]) {
+    let mut whole = bytes;
+    let mut reading = whole.get_varint();
+    let came = polled(&mut reading, &mut whole);
+    same(
+        rt,
+        (came, whole),
+        (Polled::Ready(Ok(number)), [].as_slice()),
+        "whole",
+    );
+    let mut slow = Trickle::new(bytes, End::Fin);
+    let mut reading = slow.get_varint();
+    check_pending(rt, &mut reading, &mut slow, (bytes, End::Fin), bytes.len());
+    let came = polled(&mut reading, &mut slow);
+    let rest = slow.rest();
+    same(
+        rt,
+        (came, rest),
+        (Polled::Ready(Ok(number)), [].as_slice()),
+        "byte by byte",
+    );
 }
 
-/// The front of a number, byte by byte, up to each end: it is answered once, and then again.
+#[test]
+fn numbers_are_read(rt: HostRuntime) {
+    for (number, bytes) in ROWS {
+        check_number(&rt, number, bytes);
+    }
+}
+
+/// The front of a number, byte by byte up to each end, and whole.
 fn check_cut_number<R: Abort>(rt: &R, front: &[u8]) {
     for end in End::EACH {
-        let mut source = Trickle::new(front, end);
-        let mut reading = GetVarint::new();
-        for at in 0..=front.len() {
-            assert_eq!(rt; reading.poll(&mut source), Polled::Pending, "{end:?}, {at}");
-        }
-        let fault = Polled::Ready(Err(end.fault(front.len())));
-        assert_eq!(rt; reading.poll(&mut source), fault, "{end:?}");
-        assert_eq!(rt; reading.poll(&mut source), fault, "{end:?}");
+        check_end(rt, &mut GetVarint::new(), front, end);
     }
+    let mut whole = front;
+    let came = polled(&mut GetVarint::new(), &mut whole);
+    let fault = Polled::Ready(Err(End::Fin.fault(front.len())));
+    same(rt, (front, came), (front, fault), "whole");
 }
 
 #[test]
 fn cut_numbers_end(rt: HostRuntime) {
     for (_, bytes) in ROWS {
         for len in 0..bytes.len() {
-            let front = bytes.get(..len).unwrap_or(&[]);
-            check_cut_number(&rt, front);
-            let mut whole = front;
-            let fault = Polled::Ready(Err(End::Fin.fault(len)));
-            assert_eq!(rt; GetVarint::new().poll(&mut whole), fault, "{len}");
+            check_cut_number(&rt, bytes.get(..len).unwrap_or(&[]));
         }
     }
 }
+
+/// What the polls of one number answer, and at last of no number.
+const READ_ON: [Number; 3] = [
+    Polled::Pending,
+    Polled::Ready(Ok(15293)),
+    Polled::Ready(Err(IoReadError::ImmediateFin)),
+];
 
 #[test]
 fn a_number_is_read_on(rt: HostRuntime) {
     let mut source = Answers::new(&[0x7b, 0xbd], &[ReadStep::Bytes(1), ReadStep::NotReady]);
     let mut reading = source.get_varint();
-    assert_eq!(rt; reading.poll(&mut source), Polled::Pending);
-    let number = VarInt::from_u32(15293);
-    assert_eq!(rt; reading.poll(&mut source), Polled::Ready(Ok(number)));
-    let fault = IoReadError::ImmediateFin;
-    assert_eq!(rt;
-        reading.poll(&mut source),
-        Polled::Ready(Err(fault)),
-        "as new"
-    );
+    check_each(&rt, &mut reading, &mut source, &READ_ON);
 }
 
 /// Stops before each byte, of a source that tells nothing.
@@ -100,33 +125,60 @@ const STOPS: [ReadStep; 6] = [
     ReadStep::Bytes(2),
 ];
 
+/// What the polls of one number answer at these stops.
+const PAST_STOPS: [Number; 4] = [
+    Polled::Ready(Err(IoReadError::Reset)),
+    Polled::Ready(Err(IoReadError::NotConnected)),
+    Polled::Ready(Err(IoReadError::UnexpectedFin)),
+    Polled::Ready(Ok(494878333)),
+];
+
 #[test]
 fn a_number_is_read_past_stops(rt: HostRuntime) {
     let mut source = Answers::new(&[0x9d, 0x7f, 0x3e, 0x7d, 0x25], &STOPS);
     let mut reading = GetVarint::new();
-    for fault in [
-        IoReadError::Reset,
-        IoReadError::NotConnected,
-        IoReadError::UnexpectedFin,
-    ] {
-        assert_eq!(rt; reading.poll(&mut source), Polled::Ready(Err(fault)));
-    }
-    let number = VarInt::from_u32(494878333);
-    assert_eq!(rt; reading.poll(&mut source), Polled::Ready(Ok(number)));
-    assert_eq!(rt; source.rest(), [0x25].as_slice());
+    check_each(&rt, &mut reading, &mut source, &PAST_STOPS);
+    same(
+        &rt,
+        source.rest(),
+        [0x25].as_slice(),
+        "the byte after the number",
+    );
 }
 
 const TEXT: &[u8; 12] = b"WebTransport";
+
+/// What a poll of a reading into a buffer answers.
+type Filled = Polled<Result<(), IoReadError>>;
+
+/// The buffer is full.
+const FULL: Filled = Polled::Ready(Ok(()));
+
+/// Polls of a reading into a buffer, one for each answer.
+fn check_fills<R: Abort, S: AsyncRead>(
+    rt: &R,
+    reading: &mut GetBuffer<'_>,
+    source: &mut S,
+    each: &[Filled],
+) {
+    for (at, wanted) in each.iter().enumerate() {
+        same(rt, &reading.poll(source), wanted, at);
+    }
+}
 
 #[test]
 fn a_buffer_is_filled(rt: HostRuntime) {
     let mut whole = b"WebTransport!".as_slice();
     let mut buffer = [0; 12];
     let mut reading = whole.get_buffer(&mut buffer);
-    assert_eq!(rt; reading.poll(&mut whole), Polled::Ready(Ok(())));
-    assert_eq!(rt; reading.poll(&mut whole), Polled::Ready(Ok(())), "finished");
-    assert_eq!(rt; buffer.as_slice(), TEXT.as_slice());
-    assert_eq!(rt; whole, b"!".as_slice());
+    check_fills(&rt, &mut reading, &mut whole, &[FULL, FULL]);
+    let wanted = (TEXT.as_slice(), b"!".as_slice());
+    same(
+        &rt,
+        (buffer.as_slice(), whole),
+        wanted,
+        "the buffer, the rest",
+    );
 }
 
 #[test]
@@ -134,48 +186,53 @@ fn a_buffer_is_filled_byte_by_byte(rt: HostRuntime) {
     let mut slow = Trickle::new(TEXT, End::Fin);
     let mut buffer = [0; 12];
     let mut reading = slow.get_buffer(&mut buffer);
-    for at in 0..12usize {
-        assert_eq!(rt; reading.poll(&mut slow), Polled::Pending, "{at}");
+    check_pending(&rt, &mut reading, &mut slow, (TEXT, End::Fin), 12);
+    check_fills(&rt, &mut reading, &mut slow, &[FULL, FULL]);
+    same(&rt, buffer.as_slice(), TEXT.as_slice(), "the buffer");
+}
+
+/// The front of a buffer, byte by byte up to each end.
+fn check_cut_buffer<R: Abort>(rt: &R, front: &[u8]) {
+    for end in End::EACH {
+        let mut buffer = [0; 12];
+        check_end(rt, &mut GetBuffer::new(&mut buffer), front, end);
+        same(
+            rt,
+            (end, buffer.get(..front.len())),
+            (end, Some(front)),
+            "the buffer",
+        );
     }
-    assert_eq!(rt; reading.poll(&mut slow), Polled::Ready(Ok(())));
-    assert_eq!(rt; reading.poll(&mut slow), Polled::Ready(Ok(())), "finished");
-    assert_eq!(rt; buffer.as_slice(), TEXT.as_slice());
 }
 
 #[test]
 fn cut_buffers_end(rt: HostRuntime) {
     for len in 0..12usize {
-        let front = TEXT.get(..len).unwrap_or(&[]);
-        for end in End::EACH {
-            let mut source = Trickle::new(front, end);
-            let mut buffer = [0; 12];
-            let mut reading = GetBuffer::new(&mut buffer);
-            for at in 0..=len {
-                assert_eq!(rt; reading.poll(&mut source), Polled::Pending, "{end:?}, {at}");
-            }
-            let fault = Polled::Ready(Err(end.fault(len)));
-            assert_eq!(rt; reading.poll(&mut source), fault, "{end:?}, {len}");
-            assert_eq!(rt; reading.poll(&mut source), fault, "{end:?}, {len}");
-            assert_eq!(rt; buffer.get(..len), Some(front), "{end:?}, {len}");
-        }
+        check_cut_buffer(&rt, TEXT.get(..len).unwrap_or(&[]));
     }
 }
+
+/// What the polls of one buffer answer at the stops.
+const FULL_PAST_STOPS: [Filled; 4] = [
+    Polled::Ready(Err(IoReadError::Reset)),
+    Polled::Ready(Err(IoReadError::NotConnected)),
+    Polled::Ready(Err(IoReadError::UnexpectedFin)),
+    FULL,
+];
 
 #[test]
 fn a_buffer_is_filled_past_stops(rt: HostRuntime) {
     let mut source = Answers::new(b"Web!", &STOPS);
     let mut buffer = [0; 3];
     let mut reading = GetBuffer::new(&mut buffer);
-    for fault in [
-        IoReadError::Reset,
-        IoReadError::NotConnected,
-        IoReadError::UnexpectedFin,
-    ] {
-        assert_eq!(rt; reading.poll(&mut source), Polled::Ready(Err(fault)));
-    }
-    assert_eq!(rt; reading.poll(&mut source), Polled::Ready(Ok(())));
-    assert_eq!(rt; buffer.as_slice(), b"Web".as_slice());
-    assert_eq!(rt; source.rest(), b"!".as_slice());
+    check_fills(&rt, &mut reading, &mut source, &FULL_PAST_STOPS);
+    let wanted = (b"Web".as_slice(), b"!".as_slice());
+    same(
+        &rt,
+        (buffer.as_slice(), source.rest()),
+        wanted,
+        "the buffer, the rest",
+    );
 }
 
 #[test]
@@ -183,82 +240,51 @@ fn an_empty_buffer_is_full(rt: HostRuntime) {
     let mut source = Answers::new(TEXT, &[ReadStep::Reset]);
     let mut buffer = [];
     let mut reading = source.get_buffer(&mut buffer);
-    assert_eq!(rt; reading.poll(&mut source), Polled::Ready(Ok(())));
-    assert_eq!(rt; source.left(), 1, "no call");
+    check_fills(&rt, &mut reading, &mut source, &[FULL]);
+    same(&rt, source.left(), 1, "no call");
+}
+
+/// The number is written into a vector and into a slow sink.
+fn check_number_written<R: Abort + AllocGlobal>(
+    rt: &R,
+    number: u64,
+    bytes: &[u8],
+) -> Result<(), Fail> {
+    let varint = VarInt::try_from_u64(number)?;
+    let mut whole = Vec::new(rt.alloc()).put_varint(varint);
+    let mut slow = Paced::new(rt.alloc(), &[]).put_varint(varint);
+    check_written(rt, &mut whole, &mut slow, bytes);
+    Ok(())
 }
 
 #[test]
 fn numbers_are_written(rt: HostRuntime) -> Result<(), Fail> {
     for (number, bytes) in ROWS {
-        let varint = VarInt::try_from_u64(number)?;
-        let mut whole = Vec::new(rt.alloc());
-        let mut writing = whole.put_varint(varint);
-        assert_eq!(rt; writing.poll(&mut whole), Polled::Ready(Ok(())), "{number}");
-        assert_eq!(rt; writing.poll(&mut whole), Polled::Ready(Ok(())), "{number}");
-        assert_eq!(rt; whole.as_slice(), bytes, "{number}");
-        let mut slow = Paced::new(rt.alloc(), BYTE_BY_BYTE.as_flattened());
-        let mut writing = slow.put_varint(varint);
-        for at in 0..bytes.len() {
-            assert_eq!(rt; writing.poll(&mut slow), Polled::Pending, "{number}, {at}");
-        }
-        assert_eq!(rt; writing.poll(&mut slow), Polled::Ready(Ok(())), "{number}");
-        assert_eq!(rt; slow.taken(), bytes, "{number}");
+        check_number_written(&rt, number, bytes)?;
     }
     Ok(())
 }
 
 #[test]
 fn a_buffer_is_written(rt: HostRuntime) {
-    let mut whole = Vec::new(rt.alloc());
-    let mut writing = whole.put_buffer(TEXT);
-    assert_eq!(rt; writing.poll(&mut whole), Polled::Ready(Ok(())));
-    assert_eq!(rt; writing.poll(&mut whole), Polled::Ready(Ok(())), "finished");
-    assert_eq!(rt; whole.as_slice(), TEXT.as_slice());
-    let mut slow = Paced::new(rt.alloc(), BYTE_BY_BYTE.as_flattened());
-    let mut writing = slow.put_buffer(TEXT);
-    for at in 0..12usize {
-        assert_eq!(rt; writing.poll(&mut slow), Polled::Pending, "{at}");
-    }
-    assert_eq!(rt; writing.poll(&mut slow), Polled::Ready(Ok(())));
-    assert_eq!(rt; slow.taken(), TEXT.as_slice());
+    let mut whole = Vec::new(rt.alloc()).put_buffer(TEXT);
+    let mut slow = Paced::new(rt.alloc(), &[]).put_buffer(TEXT);
+    check_written(&rt, &mut whole, &mut slow, TEXT);
 }
 
 #[test]
 fn a_stopped_number_is_written_on(rt: HostRuntime) {
     let bytes = [0x9d, 0x7f, 0x3e, 0x7d];
     for sent in 0..=3usize {
-        let mut sink = Paced::new(rt.alloc(), stops_behind(sent));
         let mut writing = PutVarint::new(VarInt::from_u32(494878333));
-        for fault in [IoWriteError::Stopped, IoWriteError::NotConnected] {
-            assert_eq!(rt;
-                writing.poll(&mut sink),
-                Polled::Ready(Err(fault)),
-                "{sent}"
-            );
-            assert_eq!(rt; Some(sink.taken()), bytes.get(..sent), "{sent}");
-        }
-        let mut other = Vec::new(rt.alloc());
-        assert_eq!(rt; writing.poll(&mut other), Polled::Ready(Ok(())), "{sent}");
-        assert_eq!(rt; Some(other.as_slice()), bytes.get(sent..), "{sent}");
+        check_stopped(&rt, &mut writing, &bytes, sent);
     }
 }
 
 #[test]
 fn a_stopped_buffer_is_written_on(rt: HostRuntime) {
     for sent in 0..=3usize {
-        let mut sink = Paced::new(rt.alloc(), stops_behind(sent));
-        let mut writing = PutBuffer::new(TEXT);
-        for fault in [IoWriteError::Stopped, IoWriteError::NotConnected] {
-            assert_eq!(rt;
-                writing.poll(&mut sink),
-                Polled::Ready(Err(fault)),
-                "{sent}"
-            );
-            assert_eq!(rt; Some(sink.taken()), TEXT.get(..sent), "{sent}");
-        }
-        let mut other = Vec::new(rt.alloc());
-        assert_eq!(rt; writing.poll(&mut other), Polled::Ready(Ok(())), "{sent}");
-        assert_eq!(rt; Some(other.as_slice()), TEXT.get(sent..), "{sent}");
+        check_stopped(&rt, &mut PutBuffer::new(TEXT), TEXT, sent);
     }
 }
 
@@ -266,41 +292,36 @@ fn a_stopped_buffer_is_written_on(rt: HostRuntime) {
 fn an_empty_buffer_is_written(rt: HostRuntime) {
     let mut sink = Paced::new(rt.alloc(), &[WriteStep::Stopped]);
     let mut writing = sink.put_buffer(&[]);
-    assert_eq!(rt; writing.poll(&mut sink), Polled::Ready(Ok(())));
-    assert_eq!(rt; sink.left(), 1, "no call");
+    let came = writing.write_on(&mut sink);
+    same(&rt, (came, sink.left()), (DONE, 1), "no call");
 }
 
 #[test]
 fn refused_memory_sends_a_number_once(rt: HostRuntime) {
-    let mut vector = Vec::new(rt.alloc());
-    let mut writing = vector.put_varint(VarInt::from_u32(16384));
-    let mut answer = writing.poll(&mut vector);
-    if answer == Polled::NoMemory {
-        assert!(rt; vector.is_empty());
-        answer = writing.poll(&mut vector);
-    }
-    assert_eq!(rt; answer, Polled::Ready(Ok(())));
-    assert_eq!(rt; vector.as_slice(), [0x80, 0x00, 0x40, 0x00].as_slice());
+    let mut writing = Vec::new(rt.alloc()).put_varint(VarInt::from_u32(16384));
+    check_refused(&rt, &mut writing, &[], &[0x80, 0x00, 0x40, 0x00]);
 }
 
 #[test]
 fn refused_memory_sends_a_buffer_once(rt: HostRuntime) {
-    let mut vector = Vec::new(rt.alloc());
-    let mut writing = vector.put_buffer(TEXT);
-    let mut answer = writing.poll(&mut vector);
-    if answer == Polled::NoMemory {
-        assert!(rt; vector.is_empty());
-        answer = writing.poll(&mut vector);
-    }
-    assert_eq!(rt; answer, Polled::Ready(Ok(())));
-    assert_eq!(rt; vector.as_slice(), TEXT.as_slice());
+    let mut writing = Vec::new(rt.alloc()).put_buffer(TEXT);
+    check_refused(&rt, &mut writing, &[], TEXT);
+}
+
+/// What an error of the system becomes for a reading and for a writing.
+fn check_error<R: Abort>(rt: &R, kind: ErrorKind, read: IoReadError, write: IoWriteError) {
+    let came = (
+        kind,
+        IoReadError::from(io::Error::from(kind)),
+        IoWriteError::from(io::Error::from(kind)),
+    );
+    same(rt, came, (kind, read, write), "the error");
 }
 
 #[test]
 fn errors_of_the_system_are_stops(rt: HostRuntime) {
-    let reset = || io::Error::from(ErrorKind::ConnectionReset);
-    assert_eq!(rt; IoReadError::from(reset()), IoReadError::Reset);
-    assert_eq!(rt; IoWriteError::from(reset()), IoWriteError::Stopped);
+    let reset = ErrorKind::ConnectionReset;
+    check_error(&rt, reset, IoReadError::Reset, IoWriteError::Stopped);
     for kind in [
         ErrorKind::NotConnected,
         ErrorKind::ConnectionAborted,
@@ -308,32 +329,50 @@ fn errors_of_the_system_are_stops(rt: HostRuntime) {
         ErrorKind::UnexpectedEof,
         ErrorKind::Other,
     ] {
-        let read = IoReadError::from(io::Error::from(kind));
-        assert_eq!(rt; read, IoReadError::NotConnected, "{kind:?}");
-        let write = IoWriteError::from(io::Error::from(kind));
-        assert_eq!(rt; write, IoWriteError::NotConnected, "{kind:?}");
+        check_error(
+            &rt,
+            kind,
+            IoReadError::NotConnected,
+            IoWriteError::NotConnected,
+        );
     }
+}
+
+/// The stop is printed as this text.
+fn check_printed<R: Abort + AllocGlobal, T: Display + Drop>(
+    rt: &R,
+    stop: T,
+    text: &str,
+) -> Result<(), Fail> {
+    let shown = format!(in rt.alloc(); "{stop}")?;
+    same(rt, shown.as_str(), text, "printed");
+    Ok(())
 }
 
 #[test]
 fn stops_are_printed(rt: HostRuntime) -> Result<(), Fail> {
     for (stop, text) in [
-        (IoReadError::ImmediateFin, "EOF reached on first byte"),
-        (IoReadError::UnexpectedFin, "EOF reached after first byte"),
-        (IoReadError::Reset, "interrupted"),
-        (IoReadError::NotConnected, "not connected"),
+        (
+            IoReadError::ImmediateFin,
+            "read operation failed because EOF reached on first byte",
+        ),
+        (
+            IoReadError::UnexpectedFin,
+            "read operation failed because EOF reached after first byte",
+        ),
+        (
+            IoReadError::Reset,
+            "read operation failed because interrupted",
+        ),
+        (
+            IoReadError::NotConnected,
+            "read operation failed because not connected",
+        ),
     ] {
-        let shown = format!(in rt.alloc(); "{stop}")?;
-        let expected = format!(in rt.alloc(); "read operation failed because {text}")?;
-        assert_eq!(rt; shown.as_str(), expected.as_str());
+        check_printed(&rt, stop, text)?;
     }
-    for (stop, text) in [
-        (IoWriteError::Stopped, "operation has been stopped"),
-        (IoWriteError::NotConnected, "not connected"),
-    ] {
-        let shown = format!(in rt.alloc(); "{stop}")?;
-        let expected = format!(in rt.alloc(); "write operation failed because {text}")?;
-        assert_eq!(rt; shown.as_str(), expected.as_str());
-    }
-    Ok(())
+    let stopped = "write operation failed because operation has been stopped";
+    check_printed(&rt, IoWriteError::Stopped, stopped)?;
+    let lost = "write operation failed because not connected";
+    check_printed(&rt, IoWriteError::NotConnected, lost)
 }

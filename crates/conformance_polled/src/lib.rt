@@ -1,12 +1,18 @@
 //! Numbers, buffers, frames and stream headers that are read and written poll by poll, as tests over the public
-//! crates. No product code stands here.
+//! crates. No product code is here.
 #![tactic(auto)]
 
 #[cfg(test)]
-mod at_hand;
+mod buffered;
 #[cfg(test)]
 mod bytes;
 #[cfg(test)]
+mod frame_answers;
+#[cfg(test)]
 mod frames;
 #[cfg(test)]
-mod headers;
+mod readings;
+#[cfg(test)]
+mod stream_headers;
+#[cfg(test)]
+mod writings;

@@ -1,0 +1,119 @@
+//! What the polls of a reading of frames answer, and the check of such answers.
+use std::fmt::Display;
+use std::process::Abort;
+use test_io::same;
+use wtp_core::bytes;
+use wtp_core::bytes::{AsyncRead, Polled};
+use wtp_wire::frame::{FrameOwned, FrameReading, IoReadError, ParseError};
+
+/// A frame as its type number, its session and its payload.
+pub(crate) type Parts<'a> = (u64, Option<u64>, &'a [u8]);
+
+/// What a poll of a reading answers.
+pub(crate) type Answer<'a> = Polled<Result<Parts<'a>, &'a IoReadError>>;
+
+/// One poll of a reading.
+pub(crate) fn polled<S: AsyncRead>(
+    reading: &mut FrameReading,
+    source: &mut S,
+) -> Polled<Result<FrameOwned, IoReadError>> {
+    reading.poll(source)
+}
+
+/// The frame's type number.
+fn number(frame: &FrameOwned) -> u64 {
+    frame.kind().id().into_inner()
+}
+
+/// The frame's session.
+fn session(frame: &FrameOwned) -> Option<u64> {
+    match frame.session_id() {
+        Some(session) => Some(session.into_u64()),
+        None => None,
+    }
+}
+
+pub(crate) const UNKNOWN: Answer<'static> = Polled::Ready(Err(&IoReadError::Parse(
+    ParseError::UnknownFrame,
+)));
+
+pub(crate) const NO_SESSION: Answer<'static> = Polled::Ready(Err(&IoReadError::Parse(
+    ParseError::InvalidSessionId,
+)));
+
+pub(crate) const TOO_BIG: Answer<'static> = Polled::Ready(Err(&IoReadError::Parse(
+    ParseError::PayloadTooBig,
+)));
+
+pub(crate) const IMMEDIATE_FIN: Answer<'static> = Polled::Ready(Err(&IoReadError::IO(
+    bytes::IoReadError::ImmediateFin,
+)));
+
+pub(crate) const UNEXPECTED_FIN: Answer<'static> = Polled::Ready(Err(&IoReadError::IO(
+    bytes::IoReadError::UnexpectedFin,
+)));
+
+pub(crate) const RESET: Answer<'static> = Polled::Ready(Err(&IoReadError::IO(
+    bytes::IoReadError::Reset,
+)));
+
+pub(crate) const NOT_CONNECTED: Answer<'static> = Polled::Ready(Err(&IoReadError::IO(
+    bytes::IoReadError::NotConnected,
+)));
+
+pub(crate) const EMPTY_DATA: Answer<'static> = Polled::Ready(Ok((0x00, None, b"")));
+
+pub(crate) const DATA: Answer<'static> = Polled::Ready(Ok((0x00, None, b"a")));
+
+/// The frame's parts.
+fn parts(frame: &FrameOwned) -> Parts<'_> {
+    (number(frame), session(frame), frame.payload())
+}
+
+/// The answer, with the frame as its parts.
+pub(crate) fn seen(answer: &Polled<Result<FrameOwned, IoReadError>>) -> Answer<'_> {
+    match answer {
+        Polled::Ready(Ok(frame)) => Polled::Ready(Ok(parts(frame))),
+        Polled::Ready(Err(error)) => Polled::Ready(Err(error)),
+        Polled::Pending => Polled::Pending,
+        Polled::Again => Polled::Again,
+        Polled::NoMemory => Polled::NoMemory,
+    }
+}
+
+/// The answer once more.
+fn again(answer: &Answer<'static>) -> Answer<'static> {
+    match answer {
+        Polled::Ready(Ok(parts)) => Polled::Ready(Ok(*parts)),
+        Polled::Ready(Err(error)) => Polled::Ready(Err(*error)),
+        Polled::Pending => Polled::Pending,
+        Polled::Again => Polled::Again,
+        Polled::NoMemory => Polled::NoMemory,
+    }
+}
+
+/// One poll of the reading, over a source of the row's bytes.
+pub(crate) fn check<R: Abort, S: AsyncRead, W: Display + Drop>(
+    rt: &R,
+    reading: &mut FrameReading,
+    source: &mut S,
+    wanted: &Answer<'static>,
+    row: &[u8],
+    shows: W,
+) {
+    let answer = polled(reading, source);
+    same(rt, (row, seen(&answer)), (row, again(wanted)), shows);
+}
+
+/// Polls, one for each answer.
+pub(crate) fn check_each<R: Abort, S: AsyncRead>(
+    rt: &R,
+    reading: &mut FrameReading,
+    source: &mut S,
+    each: &[Answer<'static>],
+    row: &[u8],
+) {
+    for (at, wanted) in each.iter().enumerate() {
+        check(rt, reading, source, wanted, row, at);
+    }
+}
