@@ -1,8 +1,9 @@
 //! Bytes that a source has buffered and shows before it is asked, and frames that are read from them.
 use crate::frame_answers::{Answer, NO_SESSION, UNEXPECTED_FIN, UNKNOWN, check_each, polled};
+use crate::same::same;
 use std::alloc::Global;
 use std::process::Abort;
-use test_io::{End, Trickle, same};
+use test_io::{End, Trickle};
 use wtp_core::bytes::{AsyncRead, Polled, ReadStep};
 use wtp_wire::frame::{FrameKind, FrameOwned, FrameReading};
 

@@ -1,12 +1,13 @@
 //! Numbers and buffers, read and written poll by poll.
 use crate::readings::{Reading, check_end, check_pending};
+use crate::same::same;
 use crate::writings::{DONE, Writing, check_refused, check_stopped, check_written};
 use std::fmt::Display;
 use std::io;
 use std::io::ErrorKind;
 use std::process::Abort;
 use std::test::Fail;
-use test_io::{Answers, End, Paced, Trickle, same};
+use test_io::{Answers, End, Paced, Trickle};
 use wtp_core::bytes::{
     AsyncRead, BytesReaderAsync, BytesWriterAsync, GetBuffer, GetVarint, IoReadError, IoWriteError,
     Polled, PutBuffer, PutVarint, ReadStep, WriteStep,

@@ -1,7 +1,7 @@
 //! What the polls of a reading of frames answer, and the check of such answers.
+use crate::same::same;
 use std::fmt::Display;
 use std::process::Abort;
-use test_io::same;
 use wtp_core::bytes;
 use wtp_core::bytes::{AsyncRead, Polled};
 use wtp_wire::frame::{FrameOwned, FrameReading, IoReadError, ParseError};

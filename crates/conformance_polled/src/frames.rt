@@ -4,12 +4,13 @@ use crate::frame_answers::{
     UNEXPECTED_FIN, UNKNOWN, check, check_each, polled, seen,
 };
 use crate::readings::{check_end, check_pending, check_stops};
+use crate::same::same;
 use crate::writings::{Writing, Written, check_refused, check_stopped, check_written};
 use std::alloc::AllocError;
 use std::borrow::CowSlice;
 use std::process::Abort;
 use std::test::Fail;
-use test_io::{Answers, End, Paced, Trickle, same};
+use test_io::{Answers, End, Paced, Trickle};
 use wtp_core::bytes;
 use wtp_core::bytes::{IoWriteError, Polled, ReadStep, WriteStep};
 use wtp_core::ids::{SessionId, StreamId};

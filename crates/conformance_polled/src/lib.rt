@@ -13,6 +13,8 @@ mod frames;
 #[cfg(test)]
 mod readings;
 #[cfg(test)]
+mod same;
+#[cfg(test)]
 mod stream_headers;
 #[cfg(test)]
 mod writings;

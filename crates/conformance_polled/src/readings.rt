@@ -1,7 +1,8 @@
 //! What every reading does, whatever it reads, over a source that gives a byte a poll and then ends.
 use crate::frame_answers;
+use crate::same::same;
 use std::process::Abort;
-use test_io::{End, Trickle, same};
+use test_io::{End, Trickle};
 use wtp_core::bytes::{AsyncRead, GetBuffer, GetVarint, IoReadError, Polled};
 use wtp_wire::frame::{self, FrameReading};
 use wtp_wire::stream_header::{self, HeaderReading};

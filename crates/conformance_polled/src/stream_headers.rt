@@ -1,9 +1,10 @@
 //! Headers of streams, read and written poll by poll.
 use crate::readings::{check_end, check_pending};
+use crate::same::same;
 use crate::writings::{check_refused, check_stopped, check_written};
 use std::process::Abort;
 use std::test::Fail;
-use test_io::{Answers, End, Trickle, same};
+use test_io::{Answers, End, Trickle};
 use wtp_core::bytes;
 use wtp_core::bytes::{AsyncRead, Polled, ReadStep};
 use wtp_core::ids::SessionId;

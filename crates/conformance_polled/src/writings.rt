@@ -1,6 +1,7 @@
 //! What every writing does, whatever it writes, into vectors and into sinks that wait or stop.
+use crate::same::same;
 use std::process::Abort;
-use test_io::{BYTE_BY_BYTE, Paced, same, stops_behind};
+use test_io::{BYTE_BY_BYTE, Paced, stops_behind};
 use wtp_core::bytes::{AsyncWrite, IoWriteError, Polled, PutBuffer, PutVarint};
 use wtp_wire::frame::FrameWriting;
 use wtp_wire::stream_header::HeaderWriting;
