@@ -8,10 +8,10 @@ use wt_listings::program::Fault;
 pub use wt_listings::{ListKind, Listing, list_frames, list_request, list_stepped, run_program};
 
 fn main(rt: HostRuntime) -> ExitCode {
-    let status = match words(&rt) {
-        Ok(words) => run_program(
+    let status = match arguments(&rt) {
+        Ok(arguments) => run_program(
             rt.alloc(),
-            words.as_slice(),
+            arguments.as_slice(),
             &mut rt.stdin(),
             &mut rt.stdout(),
             &mut rt.stderr(),
@@ -25,8 +25,8 @@ fn main(rt: HostRuntime) -> ExitCode {
     ExitCode::from(status)
 }
 
-/// The words behind the program's name.
-fn words<R: Env + AllocGlobal>(rt: &R) -> io::Result<Vec<String>> {
-    let words = env::args(rt)?.skip(1).collect(rt.alloc())?;
-    Ok(words)
+/// The arguments after the program's name.
+fn arguments<R: Env + AllocGlobal>(rt: &R) -> io::Result<Vec<String>> {
+    let arguments = env::args(rt)?.skip(1).collect(rt.alloc())?;
+    Ok(arguments)
 }

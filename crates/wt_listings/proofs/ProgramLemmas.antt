@@ -4,7 +4,7 @@ use Rattle.wt_listings.specs.declared.program.Fault.{Fault}
 use Rattle.wt_listings.specs.declared.program.Fault.TheVariants.{Usage, InputTooLong, ReadFault, WriteFault, NoMemory}
 use Rattle.wt_listings.specs.Program.{fault_status}
 
--- only other words have status 1
+-- only other arguments have status 1
 pub usage-status : (fault : Fault) → fault_status fault ≡ 1 → fault ≡ Usage
 usage-status Usage e = refl
 usage-status InputTooLong e = absurd (cc)

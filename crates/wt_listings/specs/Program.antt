@@ -1,11 +1,11 @@
--- The words of the program, its faults and statuses, and what it writes.
+-- The arguments of the program, its faults and statuses, and what it writes.
 use Rattle.std.specs.Prelude.{◌≡◌, ◌⊎◌, ℕ, ◌≤◌, List, [], ◌∷◌, length, Option, IfSome, codes}
 use Rattle.std.specs.Io.KnownBytes.{Appends, IsAtEnd}
 use Rattle.std.specs.Str.Parse.{IsNumeral, digits_value}
 use Rattle.wt_listings.specs.declared.listing.ListKind.{ListKind}
 use Rattle.wt_listings.specs.declared.listing.ListKind.TheVariants.{BiRemote, BiLocal, Control}
-use Rattle.wt_listings.specs.declared.program.words.Command.{Command}
-use Rattle.wt_listings.specs.declared.program.words.Command.TheVariants.{Buffer, Stepped, Request}
+use Rattle.wt_listings.specs.declared.program.arguments.Command.{Command}
+use Rattle.wt_listings.specs.declared.program.arguments.Command.TheVariants.{Buffer, Stepped, Request}
 use Rattle.wt_listings.specs.declared.program.Fault.{Fault}
 use Rattle.wt_listings.specs.declared.program.Fault.TheVariants.{Usage, InputTooLong, ReadFault, WriteFault, NoMemory}
 use Rattle.wt_listings.specs.Lines.{Listed, listed}
@@ -26,22 +26,22 @@ name_of BiRemote = codes "bi-remote"
 name_of BiLocal = codes "bi-local"
 name_of Control = codes "control"
 
--- the word writes this number of bytes, from 1 to 1048576, in decimal digits and nothing else
-pub record WritesSize (word : List ℕ) (k : ℕ) : Type 0 where
-  pub digits : IsNumeral 10 word
-  pub value : k ≡ digits_value 10 word
+-- the argument writes this number of bytes, from 1 to 1048576, in decimal digits and nothing else
+pub record WritesSize (argument : List ℕ) (k : ℕ) : Type 0 where
+  pub digits : IsNumeral 10 argument
+  pub value : k ≡ digits_value 10 argument
   pub some : 1 ≤ k
   pub few : k ≤ 1048576
 
--- the words name this command; none, and "buffer" alone, name the listing of BiRemote
+-- the arguments name this command; none, and "buffer" alone, name the listing of BiRemote
 abbrev pub Names : List (List ℕ) → Command → Type 0
-Names words (Buffer kind) = (words ≡ codes "buffer" ∷ name_of kind ∷ []) ⊎ ((kind ≡ BiRemote) × ((words ≡ []) ⊎ (words ≡ codes "buffer" ∷ [])))
-Names words (Stepped k) = (word : List ℕ) × (words ≡ codes "stepped" ∷ word ∷ []) × WritesSize word k
-Names words Request = words ≡ codes "request" ∷ []
+Names arguments (Buffer kind) = (arguments ≡ codes "buffer" ∷ name_of kind ∷ []) ⊎ ((kind ≡ BiRemote) × ((arguments ≡ []) ⊎ (arguments ≡ codes "buffer" ∷ [])))
+Names arguments (Stepped k) = (size : List ℕ) × (arguments ≡ codes "stepped" ∷ size ∷ []) × WritesSize size k
+Names arguments Request = arguments ≡ codes "request" ∷ []
 
--- no command has these words
+-- no command has these arguments
 abbrev pub NamesNone : List (List ℕ) → Type 0
-NamesNone words = (command : Command) → Names words command → ⊥
+NamesNone arguments = (command : Command) → Names arguments command → ⊥
 
 -- a stream gives at least one byte a call
 abbrev pub CanList : Command → Type 0
@@ -60,9 +60,9 @@ abbrev pub Lists : Command → Option (List ℕ) → Option (List ℕ) → Optio
 Lists command input output written status = IfSome input (λ bytes. (status ≡ (listing_of command bytes).status) × (length bytes ≤ 1048576) × Appends output written (listing_of command bytes).text)
 
 -- what a run of the program without a fault did
-abbrev pub ListsWords : List (List ℕ) → Option (List ℕ) → Option (List ℕ) → Option (List ℕ) → ℕ → Type 0
-ListsWords words input output written status = (command : Command) × Names words command × Lists command input output written status
+abbrev pub ListsArguments : List (List ℕ) → Option (List ℕ) → Option (List ℕ) → Option (List ℕ) → ℕ → Type 0
+ListsArguments arguments input output written status = (command : Command) × Names arguments command × Lists command input output written status
 
 -- the arguments name a command, and all of the input was read and is short enough to be listed
 abbrev pub ReadsWhole : List (List ℕ) → Option (List ℕ) → Option (List ℕ) → Type 0
-ReadsWhole words input left = (command : Command) × Names words command × IfSome input (λ bytes. length bytes ≤ 1048576) × IsAtEnd left
+ReadsWhole arguments input left = (command : Command) × Names arguments command × IfSome input (λ bytes. length bytes ≤ 1048576) × IsAtEnd left

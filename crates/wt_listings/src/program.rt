@@ -1,19 +1,19 @@
-//! The program: its words, its input and output, and its statuses.
+//! The program: its arguments, its input and output, and its statuses.
 ghost use Rattle.std.specs.Prelude.{◌≡◌, ◌≢◌, ◌≤◌, ◌<◌, ◌⊎◌, map, length, Err, IfOk, IfErr, IfSome, OnOk, vec_len, string_bytes};
 ghost use Rattle.std.specs.Io.KnownBytes.{Appends, IsAtEnd};
 ghost use Rattle.wt_listings.specs.Listings.{Says};
-ghost use Rattle.wt_listings.specs.Program.{fault_status, CanList, listing_of, NamesNone, ListsWords, ReadsWhole};
+ghost use Rattle.wt_listings.specs.Program.{fault_status, CanList, listing_of, NamesNone, ListsArguments, ReadsWhole};
 
-mod words;
+mod arguments;
 
 use crate::listing::Listing;
 use crate::listing::frames::list_frames;
 use crate::listing::request::list_request;
 use crate::listing::stepped::list_stepped;
+pub use arguments::Command;
+use arguments::named_command;
 use std::alloc::{AllocError, Global};
 use std::io::{Read, Write};
-pub use words::Command;
-use words::named_command;
 
 /// How many bytes of input are listed at most.
 const MAX_INPUT: usize = 1_048_576;
@@ -24,7 +24,7 @@ const MAX_TURNS: u32 = 2_097_152;
 /// Why there is no listing.
 #[derive(Clone, Copy, Debug, PartialEq, Eq, thiserror::Error)]
 pub enum Fault {
-    /// The words are not those of a listing.
+    /// The arguments name no listing.
     #[error("wt_frames: usage")]
     Usage,
     /// More than 1048576 bytes of input.
@@ -54,10 +54,10 @@ impl Fault {
     }
 }
 
-/// Lists the input as the words say, and answers the status with which the program ends.
+/// Lists the input as the arguments say, and answers the status with which the program ends.
 ///
 /// - `buffer bi-remote`, `buffer bi-local`, `buffer control`: the frames, by [`list_frames`];
-///   `buffer` or no word for the first.
+///   `buffer` or no argument for the first.
 /// - `stepped k`: the frames, by [`list_stepped`]; `k` is written in decimal digits alone, leading
 ///   zeros among them, and from 1 to 1048576.
 /// - `request`: the fields of the request, by [`list_request`].
@@ -69,23 +69,23 @@ impl Fault {
 /// the listing could not be written, of which it may then hold a part.
 pub fn run_program<R: Read, W: Write, E: Write>(
     alloc: Global,
-    words: &[String],
+    arguments: &[String],
     input: &mut R,
     output: &mut W,
     errors: &mut E,
 ) -> u8
-    // Other words are answered before anything is read or written.
-    ensures usage { NamesNone (map (λ w. string_bytes w) words.now) → (result ≡ 1) × (input.new ≡ input.old) × (output.new ≡ output.old) }
-    ensures no_usage { result ≡ 1 → NamesNone (map (λ w. string_bytes w) words.now) }
+    // Other arguments are answered before anything is read or written.
+    ensures usage { NamesNone (map (λ w. string_bytes w) arguments.now) → (result ≡ 1) × (input.new ≡ input.old) × (output.new ≡ output.old) }
+    ensures no_usage { result ≡ 1 → NamesNone (map (λ w. string_bytes w) arguments.now) }
     // Status 0 and 2 come with the whole listing of the whole input.
-    ensures lists { (result ≡ 0) ⊎ (result ≡ 2) → ListsWords (map (λ w. string_bytes w) words.now) (R.remaining input.old) (W.contents output.old) (W.contents output.new) result }
+    ensures lists { (result ≡ 0) ⊎ (result ≡ 2) → ListsArguments (map (λ w. string_bytes w) arguments.now) (R.remaining input.old) (W.contents output.old) (W.contents output.new) result }
     // Status 1 and 4 come with nothing written.
     ensures quiet { (result ≡ 1) ⊎ (result ≡ 4) → output.new ≡ output.old }
     // With status 3 nothing was written, unless the whole input was read and its listing was being written.
-    ensures refused { result ≡ 3 → (output.new ≡ output.old) ⊎ ReadsWhole (map (λ w. string_bytes w) words.now) (R.remaining input.old) (R.remaining input.new) }
+    ensures refused { result ≡ 3 → (output.new ≡ output.old) ⊎ ReadsWhole (map (λ w. string_bytes w) arguments.now) (R.remaining input.old) (R.remaining input.new) }
     ensures statuses { result ≤ 4 }
 {
-    match try_run(alloc, words, input, output) {
+    match try_run(alloc, arguments, input, output) {
         Ok(status) => status,
         Err(fault) => {
             let _ = writeln!(errors, "{fault}");
@@ -97,18 +97,18 @@ pub fn run_program<R: Read, W: Write, E: Write>(
 /// The same, with the fault in place of its line.
 fn try_run<R: Read, W: Write>(
     alloc: Global,
-    words: &[String],
+    arguments: &[String],
     input: &mut R,
     output: &mut W,
 ) -> Result<u8, Fault>
-    ensures usage { NamesNone (map (λ w. string_bytes w) words.now) → (result ≡ Err Fault.Usage) × (input.new ≡ input.old) }
-    ensures no_usage { result ≡ Err Fault.Usage → NamesNone (map (λ w. string_bytes w) words.now) }
-    ensures lists { IfOk result (ListsWords (map (λ w. string_bytes w) words.now) (R.remaining input.old) (W.contents output.old) (W.contents output.new)) }
+    ensures usage { NamesNone (map (λ w. string_bytes w) arguments.now) → (result ≡ Err Fault.Usage) × (input.new ≡ input.old) }
+    ensures no_usage { result ≡ Err Fault.Usage → NamesNone (map (λ w. string_bytes w) arguments.now) }
+    ensures lists { IfOk result (ListsArguments (map (λ w. string_bytes w) arguments.now) (R.remaining input.old) (W.contents output.old) (W.contents output.new)) }
     ensures status { IfOk result (λ s. (s ≡ 0) ⊎ (s ≡ 2)) }
     ensures quiet { IfErr result (λ e. e ≢ Fault.WriteFault → output.new ≡ output.old) }
-    ensures unwritten { result ≡ Err Fault.WriteFault → ReadsWhole (map (λ w. string_bytes w) words.now) (R.remaining input.old) (R.remaining input.new) }
+    ensures unwritten { result ≡ Err Fault.WriteFault → ReadsWhole (map (λ w. string_bytes w) arguments.now) (R.remaining input.old) (R.remaining input.new) }
 {
-    let command = named_command(words).ok_or(Fault::Usage)?;
+    let command = named_command(arguments).ok_or(Fault::Usage)?;
     let bytes = read_input(alloc, input)?;
     let listing = list(alloc, command, bytes.as_slice()).map_err(|_| Fault::NoMemory)?;
     write_output(output, listing.text.as_slice())?;

@@ -1,11 +1,11 @@
-//! The words of the program, and what they name.
+//! The arguments of the program, and what they name.
 ghost use Rattle.std.specs.Prelude.{◌≡◌, ◌≢◌, ℕ, [], ◌∷◌, map, IfSome, IfNone, string_bytes};
 ghost use Rattle.wt_listings.specs.Program.{name_of, Names, NamesNone, WritesSize};
 ghost use Rattle.wt_listings.specs.declared.listing.ListKind.{ListKind};
 
 use crate::listing::ListKind;
 
-/// How many bytes come a call at most.
+/// The greatest number of bytes a call.
 const MAX_SIZE: usize = 1_048_576;
 
 /// What the program lists.
@@ -19,12 +19,12 @@ pub enum Command {
     Request,
 }
 
-/// What the words name, where they name something.
-pub(crate) fn named_command(words: &[String]) -> Option<Command>
-    ensures named { IfSome result (Names (map (λ w. string_bytes w) words.now)) }
-    ensures none { IfNone result (NamesNone (map (λ w. string_bytes w) words.now)) }
+/// What the arguments name, where they name something.
+pub(crate) fn named_command(arguments: &[String]) -> Option<Command>
+    ensures named { IfSome result (Names (map (λ w. string_bytes w) arguments.now)) }
+    ensures none { IfNone result (NamesNone (map (λ w. string_bytes w) arguments.now)) }
 {
-    match words {
+    match arguments {
         [] => Some(Command::Buffer(ListKind::BiRemote)),
         [name] => plain_command(name.as_str()),
         [name, detail] => detailed_command(name.as_str(), detail.as_str()),
@@ -32,7 +32,7 @@ pub(crate) fn named_command(words: &[String]) -> Option<Command>
     }
 }
 
-/// What a single word names.
+/// What a single argument names.
 fn plain_command(name: &str) -> Option<Command>
     ensures named { IfSome result (Names (name.now ∷ [])) }
     ensures none { IfNone result (NamesNone (name.now ∷ [])) }
@@ -44,7 +44,7 @@ fn plain_command(name: &str) -> Option<Command>
     }
 }
 
-/// What two words name.
+/// What two arguments name.
 fn detailed_command(name: &str, detail: &str) -> Option<Command>
     ensures named { IfSome result (Names (name.now ∷ detail.now ∷ [])) }
     ensures none { IfNone result (NamesNone (name.now ∷ detail.now ∷ [])) }
