@@ -18,9 +18,6 @@ use std::io::{Read, Write};
 /// How many bytes of input are listed at most.
 const MAX_INPUT: usize = 1_048_576;
 
-/// How often input is read at most.
-const MAX_TURNS: u32 = 2_097_152;
-
 /// Why there is no listing.
 #[derive(Clone, Copy, Debug, PartialEq, Eq, thiserror::Error)]
 pub enum Fault {
@@ -30,7 +27,7 @@ pub enum Fault {
     /// More than 1048576 bytes of input.
     #[error("wt_frames: input too long")]
     InputTooLong,
-    /// Input could not be read, or did not end.
+    /// Input could not be read.
     #[error("wt_frames: read fault")]
     ReadFault,
     /// The listing could not be written.
@@ -138,7 +135,8 @@ fn read_input<R: Read>(alloc: Global, input: &mut R) -> Result<Vec<u8>, Fault>
 {
     let mut bytes = Vec::new(alloc);
     let mut chunk = [0; 4096];
-    'turns: for _turn in 0..MAX_TURNS {
+    // Each turn but the last takes in at least one byte, so no input goes on past the limit.
+    'turns: loop {
         let count = input.read(&mut chunk).map_err(|_| Fault::ReadFault)?;
         if count == 0 {
             return Ok(bytes);
@@ -150,7 +148,6 @@ fn read_input<R: Read>(alloc: Global, input: &mut R) -> Result<Vec<u8>, Fault>
             return Err(Fault::InputTooLong);
         }
     }
-    Err(Fault::ReadFault)
 }
 
 /// Writes the whole listing.
