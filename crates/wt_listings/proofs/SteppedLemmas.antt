@@ -20,15 +20,20 @@ use Rattle.wtransport_proto.specs.StreamPolling.{IsFault, EndsSo}
 use Rattle.wtransport_proto.proofs.HeldRunLemmas.{run_new}
 use Rattle.wt_listings.specs.declared.listing.Listing.{Listing}
 use Rattle.wt_listings.specs.CutSource.{told}
-use Rattle.wt_listings.specs.Lines.{line, last_line, listed, text_of, status_of}
+use Rattle.wt_listings.specs.Lines.{line, last_line, listed, text_of, status_of, with_ending}
 use Rattle.wt_listings.specs.Listings.{Says, stepped}
 use Rattle.wt_listings.specs.Stepped.{ClosesStream}
 use Rattle.wt_listings.proofs.ListingLemmas.{IsBegun}
 
 -- ---- the last line
 
-pub end_behind_frame : (line : List ℕ) → line ≡ last_line (Open 0) → line ≡ last_line ImmediateFin
-end_behind_frame line is = is ∙ ap (λ (l : List ℕ). codes "END " ++ l ++ codes "\n") (decimal_digit 0 (omega arith))
+-- an end after a frame is listed as no bytes after it
+pub says_end : (E : Type 0) (r : Result Listing E) (lines : List ℕ) → IfOk r (λ l. Says l (with_ending lines (Open 0))) → IfOk r (λ l. Says l (with_ending lines ImmediateFin))
+says_end E (Ok l) lines says = record {
+  text = says.text ∙ ap (λ (zero : List ℕ). lines ++ (codes "END " ++ zero ++ codes "\n")) (decimal_digit 0 (omega arith));
+  status = says.status;
+}
+says_end E (Err e) lines says = tt
 
 pub is_end : (x : IoReadError) (fault : bytes.IoReadError) (e : Ending) → x ≡ stream.IO fault → ClosesStream x → IsFault x e → e ≡ ImmediateFin
 is_end (stream.H3 code) fault e is closes h = absurd (cc)
@@ -36,9 +41,6 @@ is_end (stream.IO io.ImmediateFin) fault e is closes h = h
 is_end (stream.IO io.UnexpectedFin) fault e is closes h = absurd closes
 is_end (stream.IO io.Reset) fault e is closes h = absurd closes
 is_end (stream.IO io.NotConnected) fault e is closes h = absurd closes
-
-pub lined : (text items line : List ℕ) (e known : Ending) → items ≡ text ++ line → line ≡ last_line known → e ≡ known → items ≡ text ++ last_line e
-lined text items line e known grown is same = grown ∙ ap (λ (l : List ℕ). text ++ l) (is ∙ sym (ap last_line same))
 
 -- ---- the lines of the frames of one drive
 
@@ -63,21 +65,21 @@ begun_whole items first h bytes left input none is_first fresh same =
     let is : run_of RemoteBi first h (told bytes left) ≡ run RemoteBi true input Ended = run_new RemoteBi first h (told bytes left) fresh ∙ rw (is_first, same) refl in
     rw (none, is) (record { lines = refl; ending = refl })
 
--- behind the last drive only the last line is left
+-- after the last drive only the last line is left
 says_whole : (l : Listing) (text items : List ℕ) (fs : List Content) (x : IoReadError) (left whole : Run) → IsBegun text left whole → EndsSo left fs x → items ≡ text ++ flat_map line fs
-    → l.text.items ≡ items ++ last_line left.ending → l.status ≡ status_of left.ending → Says l (listed whole)
-says_whole l text items fs x left whole begun ends grown last status = record {
-  text = last ∙ ap (λ (y : List ℕ). y ++ last_line left.ending) grown
+    → Says l (with_ending items left.ending) → Says l (listed whole)
+says_whole l text items fs x left whole begun ends grown says = record {
+  text = says.text ∙ ap (λ (y : List ℕ). y ++ last_line left.ending) grown
       ∙ append_assoc text (flat_map line fs) (last_line left.ending)
       ∙ ap (λ (gs : List Content). text ++ (flat_map line gs ++ last_line left.ending)) (sym ends.frames)
       ∙ begun.lines;
-  status = status ∙ ap status_of begun.ending;
+  status = says.status ∙ ap status_of begun.ending;
 }
 
 pub says_listed : (E : Type 0) (r : Result Listing E) (text items : List ℕ) (fs : List Content) (x : IoReadError) (left whole : Run) → IsBegun text left whole → EndsSo left fs x → items ≡ text ++ flat_map line fs
-    → IfOk r (λ l. l.text.items ≡ items ++ last_line left.ending) → IfOk r (λ l. l.status ≡ status_of left.ending) → IfOk r (λ l. Says l (listed whole))
-says_listed E (Ok l) text items fs x left whole begun ends grown last status = says_whole l text items fs x left whole begun ends grown last status
-says_listed E (Err e) text items fs x left whole begun ends grown last status = tt
+    → IfOk r (λ l. Says l (with_ending items left.ending)) → IfOk r (λ l. Says l (listed whole))
+says_listed E (Ok l) text items fs x left whole begun ends grown says = says_whole l text items fs x left whole begun ends grown says
+says_listed E (Err e) text items fs x left whole begun ends grown says = tt
 
 -- ---- what a drive did that has to be called again
 

@@ -14,7 +14,7 @@ line (SettingsOf payload) = codes "SETTINGS " ++ decimal (length payload) ++ cod
 line (WebTransportOf id) = codes "WEBTRANSPORT " ++ decimal id ++ codes "\n"
 line (ExerciseOf number payload) = codes "EXERCISE " ++ decimal number ++ codes " " ++ decimal (length payload) ++ codes "\n"
 
--- the last line: how many bytes stand behind the last frame, or the fault; none of a stream that was reset or lost
+-- the last line: how many bytes come after the last frame, or the fault; none of a stream that was reset or lost
 abbrev pub last_line : Ending → List ℕ
 last_line (Open rest) = codes "END " ++ decimal rest ++ codes "\n"
 last_line (H3 code) = codes "FAULT " ++ name_of code ++ codes " " ++ decimal (number_of code) ++ codes "\n"
@@ -29,15 +29,19 @@ status_of ImmediateFin = 0
 status_of Reset = 3
 status_of NotConnected = 3
 
--- all lines of a run
-abbrev pub text_of : Run → List ℕ
-text_of r = flat_map line r.frames ++ last_line r.ending
-
 -- what a listing says: its text, and the status with which the program ends
 pub record Listed : Type 0 where
   pub text : List ℕ
   pub status : ℕ
 
+-- the listing of these lines and the last line of this ending
+abbrev pub with_ending : List ℕ → Ending → Listed
+with_ending lines ending = record { text = lines ++ last_line ending; status = status_of ending }
+
 -- the listing of a run
 abbrev pub listed : Run → Listed
-listed r = record { text = text_of r; status = status_of r.ending }
+listed r = with_ending (flat_map line r.frames) r.ending
+
+-- all lines of a run
+abbrev pub text_of : Run → List ℕ
+text_of r = (listed r).text

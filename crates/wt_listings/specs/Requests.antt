@@ -2,7 +2,7 @@
 -- HTTP/3, "Creating a New Session").
 use Rattle.std.specs.Prelude.{true, ℕ, List, [], ◌∷◌, ◌++◌, length, codes, Result, Ok, Err}
 use Rattle.std.specs.List.{flat_map}
-use Rattle.wt_listings.specs.Lines.{Listed, last_line, status_of}
+use Rattle.wt_listings.specs.Lines.{Listed, with_ending}
 use Rattle.wtransport_proto.specs.declared.error.Refused.{Refused}
 use Rattle.wtransport_proto.specs.declared.error.Refused.TheVariants.{Code, Memory}
 use Rattle.wtransport_proto.specs.Content.{Content}
@@ -18,15 +18,15 @@ field_line field = codes "FIELD " ++ field.0 ++ codes "=" ++ field.1 ++ codes "\
 
 -- the lines of a map, and the ending
 abbrev pub fields_listed : List Field → Ending → Listed
-fields_listed fields ending = record { text = flat_map field_line fields ++ last_line ending; status = status_of ending }
+fields_listed fields ending = with_ending (flat_map field_line fields) ending
 
--- the request, with so many bytes behind its frame; or the error code for what stands in its place (memory is never wanting to what a frame says)
+-- the request, with so many bytes after its frame; or the error code for what stands in its place (memory is never wanting to what a frame says)
 abbrev pub request_listed : Result (List Field) Refused → ℕ → Listed
 request_listed (Ok fields) rest = fields_listed fields (Open rest)
 request_listed (Err (Code code)) rest = fields_listed [] (H3 code)
 request_listed (Err Memory) rest = record { text = []; status = 4 }
 
--- how many bytes stand behind a frame at the front
+-- how many bytes come after a frame at the front
 abbrev pub size_behind : Front → ℕ
 size_behind (Framed f rest) = length rest
 size_behind (Unknown rest) = length rest

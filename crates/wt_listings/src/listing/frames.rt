@@ -4,8 +4,9 @@ ghost use Rattle.wtransport_proto.specs.Run.{run, MayGoOn};
 ghost use Rattle.wt_listings.specs.Lines.{listed};
 ghost use Rattle.wt_listings.specs.Listings.{Says, recorded};
 
+use crate::listing::lines::Lines;
 use crate::listing::recorded::{RecordedStream, control_stream};
-use crate::listing::{ListKind, Listing, end_line, fault_line, frame_line};
+use crate::listing::{ListKind, Listing};
 use std::alloc::{AllocError, Global};
 use wtransport_proto::bytes::BufferReader;
 use wtransport_proto::stream::bilocal::StreamBiLocalQuic;
@@ -37,23 +38,12 @@ fn list_stream<S: RecordedStream>(
     ensures status { IfOk result (λ l. (l.status ≡ 0) ⊎ (l.status ≡ 2)) }
 {
     let mut reader = BufferReader::new(input);
-    let mut text = Vec::new(alloc);
+    let mut lines = Lines::new(alloc);
     'frames: loop {
         match stream.next_frame(&mut reader) {
-            Ok(Some(frame)) => {
-                let line = frame_line(alloc, &frame)?;
-                text.extend_from_slice(line.as_bytes())?;
-            }
-            Ok(None) => {
-                let line = end_line(alloc, reader.capacity())?;
-                text.extend_from_slice(line.as_bytes())?;
-                return Ok(Listing { text, status: 0 });
-            }
-            Err(code) => {
-                let line = fault_line(alloc, code)?;
-                text.extend_from_slice(line.as_bytes())?;
-                return Ok(Listing { text, status: 2 });
-            }
+            Ok(Some(frame)) => lines.frame(&frame)?,
+            Ok(None) => return lines.end(reader.capacity()),
+            Err(code) => return lines.fault(code),
         }
     }
 }

@@ -3,12 +3,13 @@ ghost use Rattle.std.specs.Prelude.{◌≡◌, ◌⊎◌, ◌++◌, ◌<◌, IfO
 ghost use Rattle.std.specs.List.{flat_map};
 ghost use Rattle.wtransport_proto.specs.Run.{Ending};
 ghost use Rattle.wtransport_proto.specs.StreamPolling.{IsFault};
-ghost use Rattle.wt_listings.specs.Lines.{line, last_line, listed, status_of};
+ghost use Rattle.wt_listings.specs.Lines.{line, listed, with_ending};
 ghost use Rattle.wt_listings.specs.Listings.{Says, stepped};
 ghost use Rattle.wt_listings.specs.Stepped.{ClosesStream};
 
+use crate::listing::Listing;
 use crate::listing::cut_source::CutSource;
-use crate::listing::{Listing, end_line, fault_line, frame_line};
+use crate::listing::lines::Lines;
 use std::alloc::{AllocError, Global};
 use wtransport_proto::bytes;
 use wtransport_proto::frame::{FrameOwned, FrameReading};
@@ -35,43 +36,39 @@ pub fn list_stepped(alloc: Global, k: usize, input: &[u8]) -> Result<Listing, Al
     let mut reading = FrameReading::new(alloc);
     let mut source = CutSource::new(input, k);
     let mut frames = Vec::new(alloc);
-    let mut text = Vec::new(alloc);
+    let mut lines = Lines::new(alloc);
     // Each drive waits or takes bytes, and the source waits at most once more than it has bytes.
     'drives: loop {
         let driven = drive(&mut stream, &mut reading, &mut source, &mut frames, POLLS);
-        add_lines(alloc, &mut text, frames.as_slice())?;
+        add_lines(&mut lines, frames.as_slice())?;
         frames.clear();
         match driven {
-            Driven::Ended(fault) => return closed(alloc, text, fault),
+            Driven::Ended(fault) => return close(lines, fault),
             Driven::Waiting | Driven::Spent => {}
             Driven::NoMemory => return Err(AllocError),
         }
     }
 }
 
-/// Puts the lines of these frames behind the text.
-fn add_lines(alloc: Global, text: &mut Vec<u8>, frames: &[FrameOwned]) -> Result<(), AllocError>
-    ensures { IfOk result (λ _. text.new.items ≡ text.old.items ++ flat_map line frames.now) }
+/// Adds the lines of these frames.
+fn add_lines(lines: &mut Lines, frames: &[FrameOwned]) -> Result<(), AllocError>
+    ensures { IfOk result (λ _. lines.new ≡ lines.old ++ flat_map line frames.now) }
 {
     for frame in frames {
-        let line = frame_line(alloc, frame)?;
-        text.extend_from_slice(line.as_bytes())?;
+        lines.frame(frame)?;
     }
     Ok(())
 }
 
-/// The listing whose last line says how the stream ended: by an end behind a frame, or by a code.
-fn closed(alloc: Global, mut text: Vec<u8>, fault: IoReadError) -> Result<Listing, AllocError>
+/// The listing whose last line says how the stream ended: by an end after a frame, or by a code.
+fn close(lines: Lines, fault: IoReadError) -> Result<Listing, AllocError>
     requires { ClosesStream fault }
-    ensures text { (e : Ending) → IsFault fault e → IfOk result (λ l. l.text.items ≡ text.items ++ last_line e) }
-    ensures status { (e : Ending) → IsFault fault e → IfOk result (λ l. l.status ≡ status_of e) }
-    ensures either { IfOk result (λ l. (l.status ≡ 0) ⊎ (l.status ≡ 2)) }
+    ensures listing { (e : Ending) → IsFault fault e → IfOk result (λ l. Says l (with_ending lines e)) }
+    ensures status { IfOk result (λ l. (l.status ≡ 0) ⊎ (l.status ≡ 2)) }
 {
-    let (last, status) = match fault {
-        IoReadError::H3(code) => (fault_line(alloc, code)?, 2),
-        IoReadError::IO(bytes::IoReadError::ImmediateFin) => (end_line(alloc, 0)?, 0),
+    match fault {
+        IoReadError::H3(code) => lines.fault(code),
+        IoReadError::IO(bytes::IoReadError::ImmediateFin) => lines.end(0),
         IoReadError::IO(_) => unreachable!(),
-    };
-    text.extend_from_slice(last.as_bytes())?;
-    Ok(Listing { text, status })
+    }
 }

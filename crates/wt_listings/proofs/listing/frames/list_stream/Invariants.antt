@@ -6,7 +6,7 @@ use Rattle.wt_listings.proofs.listing.frames.list_stream.Given as goal
 
 abbrev pub invariant-frames : goal.invariant-frames
 invariant-frames g l = record {
-  begun : IsBegun l.text.items (run g.S.RecordedStream.role (g.S.RecordedStream.first l.stream) (left_of l.reader) MayGoOn) (run g.S.RecordedStream.role (g.S.RecordedStream.first l.initial.stream) l.input MayGoOn);
+  begun : IsBegun l.lines (run g.S.RecordedStream.role (g.S.RecordedStream.first l.stream) (left_of l.reader) MayGoOn) (run g.S.RecordedStream.role (g.S.RecordedStream.first l.initial.stream) l.input MayGoOn);
   can_read : g.S.RecordedStream.can_read l.stream;
 }
 

@@ -5,4 +5,4 @@ use Rattle.wt_listings.specs.Requests.{field_line}
 use Rattle.wt_listings.proofs.listing.request.list_fields.Given as goal
 
 abbrev pub invariant-loop-name : goal.invariant-loop-name
-invariant-loop-name l = l.text.items ++ flat_map field_line (map held_field l.name-iterator) ≡ flat_map field_line (held l.fields)
+invariant-loop-name l = l.lines ++ flat_map field_line (map held_field l.name-iterator) ≡ flat_map field_line (held l.fields)

@@ -8,8 +8,8 @@ returns-in-Ok-Some-clause-listing c =
 
 pub returns-in-Ok-None-clause-listing : goal.returns-in-Ok-None-clause-listing
 returns-in-Ok-None-clause-listing c =
-    rw (listing_of_none _ _ c.args.input.now _ _ _ c.capacity-in-Ok-None.result c.upgrade-stream.ensures c.new-reader.ensures.left c.in-Ok-None.field-0-is c.capacity-in-Ok-None.ensures c.in-Ok-None.ensures.run) c.list_end.ensures.listing
+    rw (listing_of_none _ _ c.args.input.now _ _ _ c.capacity-in-Ok-None.result c.upgrade-stream.ensures c.new-reader.ensures.left c.in-Ok-None.field-0-is c.capacity-in-Ok-None.ensures c.in-Ok-None.ensures.run) (rw c.new.ensures at c.end.ensures)
 
 pub returns-in-Err-clause-listing : goal.returns-in-Err-clause-listing
 returns-in-Err-clause-listing c =
-    rw (listing_of_fault _ true c.args.input.now _ _ c.in-Err.code c.upgrade-stream.ensures c.new-reader.ensures.left c.in-Err.ensures.run) c.list_fault.ensures.listing
+    rw (listing_of_fault _ true c.args.input.now _ _ c.in-Err.code c.upgrade-stream.ensures c.new-reader.ensures.left c.in-Err.ensures.run) (rw c.new-in-Err.ensures at c.fault.ensures)

@@ -4,4 +4,4 @@ use Rattle.wt_listings.specs.Lines.{line}
 use Rattle.wt_listings.proofs.listing.stepped.add_lines.Given as goal
 
 abbrev pub invariant-loop-frame : goal.invariant-loop-frame
-invariant-loop-frame l = l.text.items ≡ l.fn.text.items ++ flat_map line (take l.frame-index l.frames)
+invariant-loop-frame l = l.lines ≡ l.fn.lines ++ flat_map line (take l.frame-index l.frames)

@@ -5,7 +5,7 @@ use Rattle.wt_listings.proofs.listing.stepped.list_stepped.Goals as goal
 
 pub drives-init : goal.drives-init
 drives-init c = record {
-  begun = begun_whole _ _ _ _ c.new-source.result.waits_left _ c.new-text.ensures.items c.upgrade-stream.ensures c.new-reading.ensures c.new-source.ensures.bytes;
+  begun = begun_whole _ _ _ _ c.new-source.result.waits_left _ c.new-lines.ensures c.upgrade-stream.ensures c.new-reading.ensures c.new-source.ensures.bytes;
   none = c.new-frames.ensures.items;
   fits = c.new-source.ensures.fits;
 }
@@ -21,11 +21,11 @@ drives-preserved c = record {
 pub drives-smaller : goal.drives-smaller
 drives-smaller c = let less = less_left _ _ _ _ _ _ _ _ _ _ c.drives.source.waits_left c.drive-driven.new.source.waits_left c.in-Waiting.is (omega arith) c.drives.invariant.fits c.drive-driven.ensures.did in less.1
 
-pub closed-requires : goal.closed-requires
-closed-requires c = fault_closes _ _ _ c.in-Ended.ensures.did.0.fault c.drives.invariant.begun.ending (run_closed _ _ _)
+pub close-requires : goal.close-requires
+close-requires c = fault_closes _ _ _ c.in-Ended.ensures.did.0.fault c.drives.invariant.begun.ending (run_closed _ _ _)
 
 pub returns-in-Ended-clause-listing : goal.returns-in-Ended-clause-listing
 returns-in-Ended-clause-listing c =
     let did = c.in-Ended.ensures.did in
     says_listed _ _ _ _ _ _ _ _ c.drives.invariant.begun did.0 (lines_of_all _ _ _ _ _ c.drives.invariant.none c.as_slice.ensures.value c.in_ok-add_lines.ensures)
-    (c.closed.ensures.text _ did.0.fault) (c.closed.ensures.status _ did.0.fault)
+    (c.close.ensures.listing _ did.0.fault)

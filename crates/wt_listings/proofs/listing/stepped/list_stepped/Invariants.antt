@@ -9,7 +9,7 @@ use Rattle.wt_listings.proofs.listing.stepped.list_stepped.Given as goal
 
 abbrev pub invariant-drives : goal.invariant-drives
 invariant-drives l = record {
-  begun : IsBegun l.text.items (run_of RemoteBi (first_of l.stream) l.reading (told l.source.rest.now l.source.waits_left)) (stepped l.input);
+  begun : IsBegun l.lines (run_of RemoteBi (first_of l.stream) l.reading (told l.source.rest.now l.source.waits_left)) (stepped l.input);
   none : l.frames.items ≡ [];
   fits : l.source.waits_left < 2 ^ 64;
 }

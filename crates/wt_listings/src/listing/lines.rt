@@ -1,0 +1,90 @@
+//! Making a listing line by line.
+ghost use Rattle.std.specs.Prelude.{◌≡◌, ℕ, List, [], ◌++◌, IfOk, string_bytes};
+ghost use Rattle.wt_listings.specs.Lines.{line, with_ending};
+ghost use Rattle.wt_listings.specs.Listings.{Says};
+ghost use Rattle.wt_listings.specs.Requests.{field_line};
+ghost use Rattle.wtransport_proto.specs.Run.{Open, H3};
+
+use crate::listing::Listing;
+use std::alloc::{AllocError, Global};
+use std::marker::Model;
+use wtransport_proto::error::ErrorCode;
+use wtransport_proto::frame::{Frame, FrameKind};
+
+/// The lines of a listing so far. Each is written straight into the text of the listing.
+///
+/// The text and the status of a listing are set together, by the call that writes the last line:
+/// [`end`](Lines::end) or [`fault`](Lines::fault).
+#[derive(Drop)]
+pub(crate) struct Lines {
+    text: String,
+}
+
+// The bytes of the text.
+impl Model for Lines {
+    ghost Value = { List ℕ };
+
+    ghost view = { λ lines. string_bytes lines.text };
+}
+
+impl Lines {
+    /// No lines.
+    pub(crate) fn new(alloc: Global) -> Self
+        ensures { result ≡ [] }
+    {
+        Lines {
+            text: String::new(alloc),
+        }
+    }
+
+    /// Adds the line of a frame.
+    pub(crate) fn frame(&mut self, frame: &Frame<'_>) -> Result<(), AllocError>
+        ensures { IfOk result (λ _. self.new ≡ self.old ++ line frame.now) }
+    {
+        if let Some(session) = frame.session_id() {
+            let id = session.into_u64();
+            return writeln!(self.text, "WEBTRANSPORT {id}");
+        }
+        let size = frame.payload().len();
+        match frame.kind() {
+            FrameKind::Data => writeln!(self.text, "DATA {size}"),
+            FrameKind::Headers => writeln!(self.text, "HEADERS {size}"),
+            FrameKind::Settings => writeln!(self.text, "SETTINGS {size}"),
+            FrameKind::Exercise(number) => {
+                let id = number.into_inner();
+                writeln!(self.text, "EXERCISE {id} {size}")
+            }
+            FrameKind::WebTransport => unreachable!(),
+        }
+    }
+
+    /// Adds the line of a field.
+    pub(crate) fn field(&mut self, name: &str, value: &str) -> Result<(), AllocError>
+        ensures { IfOk result (λ _. self.new ≡ self.old ++ field_line (name.now, value.now)) }
+    {
+        writeln!(self.text, "FIELD {name}={value}")
+    }
+
+    /// Returns the listing with a last line that says how many bytes come after the last frame.
+    pub(crate) fn end(mut self, rest: usize) -> Result<Listing, AllocError>
+        ensures { IfOk result (λ l. Says l (with_ending self (Open rest))) }
+    {
+        writeln!(self.text, "END {rest}")?;
+        Ok(Listing {
+            text: self.text.into_bytes(),
+            status: 0,
+        })
+    }
+
+    /// Returns the listing with a last line that says which fault ends the stream.
+    pub(crate) fn fault(mut self, code: ErrorCode) -> Result<Listing, AllocError>
+        ensures { IfOk result (λ l. Says l (with_ending self (H3 code))) }
+    {
+        let number = code.to_code().into_inner();
+        writeln!(self.text, "FAULT {code} {number}")?;
+        Ok(Listing {
+            text: self.text.into_bytes(),
+            status: 2,
+        })
+    }
+}
