@@ -1,11 +1,15 @@
 //! Error codes: numbers and printed names.
-use std::alloc::AllocError;
+use crate::texts::{debugs, displays};
 use std::process::Abort;
-use std::test::Fail;
-use wtransport_proto::error::{ErrorCode, h3_error_codes, qpack_error_codes, wt_error_codes};
+use test_io::same;
+use wtransport_proto::error::{
+    ErrorCode, Refused, h3_error_codes, qpack_error_codes, wt_error_codes,
+};
 use wtransport_proto::varint::VarInt;
 
-const STREAM_CODES: [(ErrorCode, VarInt, u64, &str); 6] = [
+/// A code, its constant, its number and its name: those of HTTP/3's streams, of its connections, and
+/// of QPACK and WebTransport.
+const CODES: [(ErrorCode, VarInt, u64, &str); 15] = [
     (
         ErrorCode::Datagram,
         h3_error_codes::H3_DATAGRAM_ERROR,
@@ -42,9 +46,6 @@ const STREAM_CODES: [(ErrorCode, VarInt, u64, &str); 6] = [
         262,
         "FrameError",
     ),
-];
-
-const CONNECTION_CODES: [(ErrorCode, VarInt, u64, &str); 6] = [
     (
         ErrorCode::ExcessiveLoad,
         h3_error_codes::H3_EXCESSIVE_LOAD,
@@ -76,9 +77,6 @@ const CONNECTION_CODES: [(ErrorCode, VarInt, u64, &str); 6] = [
         270,
         "MessageError",
     ),
-];
-
-const OTHER_CODES: [(ErrorCode, VarInt, u64, &str); 3] = [
     (
         ErrorCode::Decompression,
         qpack_error_codes::QPACK_DECOMPRESSION_FAILED,
@@ -99,50 +97,32 @@ const OTHER_CODES: [(ErrorCode, VarInt, u64, &str); 3] = [
     ),
 ];
 
-/// The code's number, its constant and what it prints.
+/// Asserts a code's number, its constant and what it prints.
 fn check<R: Abort + AllocGlobal>(
     rt: &R,
     code: ErrorCode,
     constant: VarInt,
     number: u64,
     name: &str,
-) -> Result<(), AllocError> {
-    assert_eq!(rt; code.to_code(), constant, "{name}");
-    assert_eq!(rt; constant.into_inner(), number, "{name}");
-    let text = format!(in rt.alloc(); "{code} {code:?}")?;
-    let expected = format!(in rt.alloc(); "{name} {name} (code: {number})")?;
-    assert_eq!(rt; text.as_str(), expected.as_str());
-    Ok(())
-}
-
-#[test]
-fn codes_of_http3_streams_have_their_numbers_and_names(rt: HostRuntime) -> Result<(), Fail> {
-    for (code, constant, number, name) in STREAM_CODES {
-        check(&rt, code, constant, number, name)?;
+) {
+    let came = (code.to_code(), constant.into_inner());
+    same(rt, came, (constant, number), name);
+    displays(rt, &code, name);
+    match format!(in rt.alloc(); "{name} (code: {number})") {
+        Ok(wanted) => debugs(rt, &code, wanted.as_str()),
+        Err(_) => panic!(rt; "{name}: out of memory"),
     }
-    Ok(())
 }
 
 #[test]
-fn codes_of_http3_connections_have_their_numbers_and_names(rt: HostRuntime) -> Result<(), Fail> {
-    for (code, constant, number, name) in CONNECTION_CODES {
-        check(&rt, code, constant, number, name)?;
+fn codes_have_their_numbers_and_names(rt: HostRuntime) {
+    for (code, constant, number, name) in CODES {
+        check(&rt, code, constant, number, name);
     }
-    Ok(())
 }
 
 #[test]
-fn other_codes_have_their_numbers_and_names(rt: HostRuntime) -> Result<(), Fail> {
-    for (code, constant, number, name) in OTHER_CODES {
-        check(&rt, code, constant, number, name)?;
-    }
-    Ok(())
-}
-
-#[test]
-fn refusals_print_their_cause(rt: HostRuntime) -> Result<(), Fail> {
-    use wtransport_proto::error::Refused;
-    let text = format!(in rt.alloc(); "{}; {}", Refused::Code(ErrorCode::Id), Refused::Memory)?;
-    assert_eq!(rt; text.as_str(), "IdError; no memory");
-    Ok(())
+fn refusals_print_their_cause(rt: HostRuntime) {
+    displays(&rt, &Refused::Code(ErrorCode::Id), "IdError");
+    displays(&rt, &Refused::Memory, "no memory");
 }

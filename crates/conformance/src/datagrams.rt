@@ -1,66 +1,88 @@
 //! Datagrams.
+use std::process::Abort;
 use std::test::Fail;
+use test_io::same;
 use wtransport_proto::bytes::EndOfBuffer;
 use wtransport_proto::datagram::Datagram;
 use wtransport_proto::error::ErrorCode;
 use wtransport_proto::ids::QStreamId;
 
+/// Asserts the parts and the sizes of a datagram with the largest number.
+fn check_parts<R: Abort>(rt: &R, datagram: &Datagram<'_>, payload: &[u8], size: usize) {
+    let number = datagram.qstream_id();
+    let came = (number, datagram.payload());
+    same(rt, came, (QStreamId::MAX, payload), size);
+    let header = Datagram::header_size(number);
+    let came = (header, datagram.payload().len(), datagram.write_size());
+    same(rt, came, (8, payload.len(), size), size);
+}
+
+/// Asserts what writing a datagram answers, and what the buffer holds then.
+fn check_write<R: Abort>(
+    rt: &R,
+    datagram: &Datagram<'_>,
+    buffer: &mut [u8],
+    wanted: (Result<usize, EndOfBuffer>, &[u8]),
+    word: &str,
+) {
+    let outcome = datagram.write(buffer);
+    same(rt, (outcome, &*buffer), wanted, word);
+}
+
+/// The largest number and the payload `x`.
+const SHORT: [u8; 9] = [0xcf, 0xff, 0xff, 0xff, 0xff, 0xff, 0xff, 0xff, 0x78];
+
 #[test]
 fn datagrams_are_read_and_written(rt: HostRuntime) -> Result<(), Fail> {
-    let bytes = [0xcf, 0xff, 0xff, 0xff, 0xff, 0xff, 0xff, 0xff, 0x78];
-    let datagram = Datagram::read(&bytes)?;
-    assert_eq!(rt; datagram.qstream_id(), QStreamId::MAX);
-    assert_eq!(rt; datagram.payload(), b"x".as_slice());
-    assert_eq!(rt; Datagram::header_size(datagram.qstream_id()), 8);
-    assert_eq!(rt; datagram.payload().len(), 1);
-    assert_eq!(rt; datagram.write_size(), 9);
-    let mut buffer = [7; 11];
-    assert_eq!(rt; datagram.write(&mut buffer), Ok(9));
-    assert_eq!(rt; buffer.get(..9), Some(bytes.as_slice()));
-    assert_eq!(rt; buffer.get(9..), Some([7, 7].as_slice()));
+    let datagram = Datagram::read(&SHORT)?;
+    check_parts(&rt, &datagram, b"x", 9);
+    let written = [0xcf, 0xff, 0xff, 0xff, 0xff, 0xff, 0xff, 0xff, 0x78, 7, 7];
+    let wanted = (Ok(9), written.as_slice());
+    check_write(&rt, &datagram, &mut [7; 11], wanted, "two bytes are left");
     Ok(())
 }
 
+const LONG: &[u8; 25] = b"This is a testing payload";
+
 #[test]
 fn a_long_payload_is_read_back(rt: HostRuntime) -> Result<(), Fail> {
-    let payload = b"This is a testing payload";
-    let datagram = Datagram::new(QStreamId::MAX, payload);
-    assert_eq!(rt; Datagram::header_size(datagram.qstream_id()), 8);
-    let size = datagram.write_size();
-    assert_eq!(rt; size, 33);
+    let datagram = Datagram::new(QStreamId::MAX, LONG);
+    check_parts(&rt, &datagram, LONG, 33);
     let mut buffer = [0; 75];
-    assert_eq!(rt; datagram.write(&mut buffer), Ok(33));
-    let written = buffer.get(..size).unwrap_or(&[]);
-    let read = Datagram::read(written)?;
-    assert_eq!(rt; read.qstream_id(), QStreamId::MAX);
-    assert_eq!(rt; read.payload(), payload.as_slice());
+    same(&rt, datagram.write(&mut buffer), Ok(33), "what is written");
+    let read = Datagram::read(buffer.get(..33).unwrap_or(&[]))?;
+    check_parts(&rt, &read, LONG, 33);
     Ok(())
 }
 
 #[test]
 fn one_byte_too_little_room_leaves_the_buffer(rt: HostRuntime) {
-    let datagram = Datagram::new(QStreamId::MAX, b"This is a testing payload");
-    let mut buffer = [7; 32];
-    assert!(rt; datagram.write(&mut buffer) == Err(EndOfBuffer));
-    assert!(rt; buffer.as_slice() == [7; 32].as_slice());
+    let long = Datagram::new(QStreamId::MAX, LONG);
+    let wanted = (Err(EndOfBuffer), [7; 32].as_slice());
+    check_write(&rt, &long, &mut [7; 32], wanted, "32 bytes for 33");
+    let short = Datagram::new(QStreamId::MAX, b"x");
+    let wanted = (Err(EndOfBuffer), [7; 8].as_slice());
+    check_write(&rt, &short, &mut [7; 8], wanted, "8 bytes for 9");
+}
+
+/// Bytes that are no datagram, and what the row shows.
+const FAULTS: [(&[u8], &str); 3] = [
+    (&[], "nothing"),
+    (&[0xcf], "a cut number"),
+    (&[0xd0, 0, 0, 0, 0, 0, 0, 0], "a number of 2^60"),
+];
+
+/// Why the bytes are no datagram.
+fn fault(bytes: &[u8]) -> Option<ErrorCode> {
+    match Datagram::read(bytes) {
+        Ok(_) => None,
+        Err(code) => Some(code),
+    }
 }
 
 #[test]
 fn faults_are_answered(rt: HostRuntime) {
-    let rows: [(&[u8], &str); 3] = [
-        (&[], "nothing"),
-        (&[0xcf], "a cut number"),
-        (&[0xd0, 0, 0, 0, 0, 0, 0, 0], "a number of 2^60"),
-    ];
-    for (bytes, word) in rows {
-        assert_eq!(rt;
-            Datagram::read(bytes).err(),
-            Some(ErrorCode::Datagram),
-            "{word}"
-        );
+    for (bytes, word) in FAULTS {
+        same(&rt, fault(bytes), Some(ErrorCode::Datagram), word);
     }
-    let datagram = Datagram::new(QStreamId::MAX, b"x");
-    let mut buffer = [7; 8];
-    assert_eq!(rt; datagram.write(&mut buffer), Err(EndOfBuffer));
-    assert_eq!(rt; buffer.as_slice(), [7; 8].as_slice());
 }

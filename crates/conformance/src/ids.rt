@@ -1,27 +1,65 @@
 //! Numbers of streams and sessions, and status codes.
+use crate::texts::{debugs, displays};
+use std::process::Abort;
 use std::str::FromStr;
 use std::test::Fail;
+use test_io::same;
 use wtransport_proto::ids::{
     InvalidQStreamId, InvalidSessionId, InvalidStatusCode, QStreamId, SessionId, StatusCode,
     StreamId,
 };
 use wtransport_proto::varint::VarInt;
 
+/// Who opened the stream and how it goes, by its two lowest bits.
+const KINDS: [(u32, bool, bool); 4] = [
+    (0, true, true),
+    (1, false, true),
+    (2, true, false),
+    (3, false, false),
+];
+
+/// Asserts what a stream says of itself.
+fn check_stream<A: Abort>(rt: &A, number: u32, by_client: bool, both_ways: bool) {
+    let stream = StreamId::new(VarInt::from_u32(number));
+    let kind = (stream.is_client_initiated(), stream.is_bidirectional());
+    let local = (stream.is_local(false), stream.is_local(true));
+    let wanted = (
+        (by_client, both_ways),
+        (by_client, !by_client),
+        u64::from(number),
+    );
+    same(rt, (kind, local, stream.into_u64()), wanted, number);
+}
+
 #[test]
 fn the_two_lowest_bits_say_who_and_how(rt: HostRuntime) {
-    for number in 0..1024u32 {
-        let stream = StreamId::new(VarInt::from_u32(number));
-        let (by_client, both_ways) = match number % 4 {
-            0 => (true, true),
-            1 => (false, true),
-            2 => (true, false),
-            _ => (false, false),
-        };
-        assert_eq!(rt; stream.is_client_initiated(), by_client, "{number}");
-        assert_eq!(rt; stream.is_bidirectional(), both_ways, "{number}");
-        assert_eq!(rt; stream.is_local(false), by_client, "{number}");
-        assert_eq!(rt; stream.is_local(true), !by_client, "{number}");
-        assert_eq!(rt; stream.into_u64(), u64::from(number), "{number}");
+    for four in 0..256u32 {
+        for (bits, by_client, both_ways) in KINDS {
+            check_stream(&rt, four.wrapping_mul(4) | bits, by_client, both_ways);
+        }
+    }
+}
+
+/// Whether the stream is a session's; asserts that its session has all the numbers that it must
+/// have.
+fn is_session<A: Abort>(rt: &A, number: u32, quarter: u64) -> bool {
+    let varint = VarInt::from_u32(number);
+    let stream = StreamId::new(varint);
+    match SessionId::try_from_session_stream(stream) {
+        Ok(session) => {
+            let varints = (SessionId::try_from_varint(varint), session.into_varint());
+            let streams = (session.session_stream(), number % 4);
+            let wanted = ((Ok(session), varint), (stream, 0));
+            same(rt, (varints, streams), wanted, number);
+            let id = QStreamId::from_session_id(session);
+            let came = (id.into_u64(), id.into_session_id(), id.into_stream_id());
+            same(rt, came, (quarter, session, stream), number);
+            true
+        }
+        Err(InvalidSessionId) => {
+            same(rt, number % 4 == 0, false, number);
+            false
+        }
     }
 }
 
@@ -29,87 +67,92 @@ fn the_two_lowest_bits_say_who_and_how(rt: HostRuntime) {
 fn only_client_streams_both_ways_are_sessions(rt: HostRuntime) {
     let mut quarter = 0u64;
     for number in 0..1024u32 {
-        let varint = VarInt::from_u32(number);
-        let stream = StreamId::new(varint);
-        match SessionId::try_from_session_stream(stream) {
-            Ok(session) => {
-                assert_eq!(rt; number % 4, 0, "{number}");
-                assert_eq!(rt; SessionId::try_from_varint(varint), Ok(session), "{number}");
-                assert_eq!(rt; session.into_varint(), varint, "{number}");
-                assert_eq!(rt; session.session_stream(), stream, "{number}");
-                let id = QStreamId::from_session_id(session);
-                assert_eq!(rt; id.into_u64(), quarter, "{number}");
-                assert_eq!(rt; id.into_session_id(), session, "{number}");
-                assert_eq!(rt; id.into_stream_id(), stream, "{number}");
-                quarter = quarter.wrapping_add(1);
-            }
-            Err(InvalidSessionId) => assert_ne!(rt; number % 4, 0, "{number}"),
+        if is_session(&rt, number, quarter) {
+            quarter = quarter.wrapping_add(1);
         }
     }
-    assert_eq!(rt; quarter, 256);
+    same(&rt, quarter, 256, "sessions of 1024 streams");
 }
 
 #[test]
-fn bounds_are_kept(rt: HostRuntime) -> Result<(), Fail> {
-    assert_eq!(rt; StreamId::MAX.into_varint(), VarInt::MAX);
-    assert_eq!(rt; QStreamId::MAX.into_u64(), 1152921504606846975);
-    assert_eq!(rt;
-        QStreamId::try_from_varint(QStreamId::MAX.into_varint())?,
-        QStreamId::MAX
-    );
-    let above = VarInt::try_from_u64(1152921504606846976)?;
-    assert_eq!(rt; QStreamId::try_from_varint(above), Err(InvalidQStreamId));
+fn bounds_are_kept(rt: HostRuntime) {
+    let came = (StreamId::MAX.into_varint(), QStreamId::MAX.into_u64());
+    let wanted = (VarInt::MAX, 1152921504606846975);
+    same(&rt, came, wanted, "the largest stream and quarter");
+    let largest = QStreamId::try_from_varint(QStreamId::MAX.into_varint());
+    let above = VarInt::from_u64_unchecked(1152921504606846976);
+    let came = (largest, QStreamId::try_from_varint(above));
+    let wanted = (Ok(QStreamId::MAX), Err(InvalidQStreamId));
+    same(&rt, came, wanted, "the largest quarter and one more");
     let session = SessionId::from_session_stream_unchecked(StreamId::new(VarInt::from_u32(8)));
-    assert_eq!(rt; session.into_u64(), 8);
-    Ok(())
+    same(&rt, session.into_u64(), 8, "a session that is not checked");
+}
+
+/// Asserts that a number is a status code or not, from each type of number.
+fn check_status<A: Abort>(rt: &A, number: u32, is_good: bool) {
+    let code = StatusCode::try_from_u32(number);
+    let same_width = StatusCode::try_from(number);
+    let wide = StatusCode::try_from(u64::from(number));
+    let came = (code.is_ok(), &same_width, &wide);
+    same(rt, came, (is_good, &code, &code), number);
 }
 
 #[test]
 fn status_codes_are_100_to_599(rt: HostRuntime) {
-    for (number, good) in [
+    for (number, is_good) in [
         (0, false),
         (99, false),
         (100, true),
         (599, true),
         (600, false),
     ] {
-        let code = StatusCode::try_from_u32(number);
-        assert_eq!(rt; code.is_ok(), good, "{number}");
-        assert_eq!(rt; StatusCode::try_from(number), code, "{number}");
-        assert_eq!(rt; StatusCode::try_from(u64::from(number)), code, "{number}");
+        check_status(&rt, number, is_good);
     }
-    assert_eq!(rt; StatusCode::try_from(65736u64), Err(InvalidStatusCode));
-    assert_eq!(rt; StatusCode::try_from(200u8), Ok(StatusCode::OK));
-    assert_eq!(rt; StatusCode::try_from(99u8), Err(InvalidStatusCode));
-    assert_eq!(rt;
-        StatusCode::try_from(429u16),
-        Ok(StatusCode::TOO_MANY_REQUESTS)
+    let came = (StatusCode::try_from(65736u64), StatusCode::try_from(200u8));
+    let wanted = (Err(InvalidStatusCode), Ok(StatusCode::OK));
+    same(&rt, came, wanted, "65736 of 64 bits, 200 of 8");
+    let came = (StatusCode::try_from(99u8), StatusCode::try_from(429u16));
+    let wanted = (Err(InvalidStatusCode), Ok(StatusCode::TOO_MANY_REQUESTS));
+    same(&rt, came, wanted, "99 of 8 bits, 429 of 16");
+    let named = (
+        StatusCode::FORBIDDEN.into_inner(),
+        StatusCode::NOT_FOUND.into_inner(),
     );
-    assert_eq!(rt; StatusCode::FORBIDDEN.into_inner(), 403);
-    assert_eq!(rt; StatusCode::NOT_FOUND.into_inner(), 404);
-    assert_eq!(rt; StatusCode::MIN.into_inner(), 100);
-    assert_eq!(rt; StatusCode::MAX.into_inner(), 599);
-    assert!(rt; StatusCode::OK.is_successful());
-    assert!(rt; !StatusCode::NOT_FOUND.is_successful());
+    let bounds = (StatusCode::MIN.into_inner(), StatusCode::MAX.into_inner());
+    same(&rt, (named, bounds), ((403, 404), (100, 599)), "constants");
+    let came = (
+        StatusCode::OK.is_successful(),
+        StatusCode::NOT_FOUND.is_successful(),
+    );
+    same(&rt, came, (true, false), "success");
 }
+
+/// The number of the status code that a text says.
+fn status(text: &str) -> Option<u16> {
+    match StatusCode::from_str(text) {
+        Ok(code) => Some(code.into_inner()),
+        Err(InvalidStatusCode) => None,
+    }
+}
+
+/// A text, and the status code that it says.
+const TEXTS: [(&str, Option<u16>); 10] = [
+    ("200", Some(200)),
+    ("0200", Some(200)),
+    ("+200", Some(200)),
+    ("", None),
+    ("+", None),
+    ("99", None),
+    ("600", None),
+    ("65736", None),
+    ("-200", None),
+    ("20x", None),
+];
 
 #[test]
 fn status_texts_are_read(rt: HostRuntime) {
-    let rows = [
-        ("200", Some(200)),
-        ("0200", Some(200)),
-        ("+200", Some(200)),
-        ("", None),
-        ("+", None),
-        ("99", None),
-        ("600", None),
-        ("65736", None),
-        ("-200", None),
-        ("20x", None),
-    ];
-    for (text, number) in rows {
-        let code = StatusCode::from_str(text).ok();
-        assert_eq!(rt; code.map(StatusCode::into_inner), number, "{text}");
+    for (text, number) in TEXTS {
+        same(&rt, status(text), number, text);
     }
 }
 
@@ -118,15 +161,16 @@ fn ids_are_printed(rt: HostRuntime) -> Result<(), Fail> {
     let stream = StreamId::new(VarInt::from_u32(8));
     let session = SessionId::try_from_session_stream(stream)?;
     let quarter = QStreamId::from_session_id(session);
-    let alloc = rt.alloc();
-    let text = format!(in alloc; "{stream} {session} {quarter} {}", StatusCode::OK)?;
-    assert_eq!(rt; text.as_str(), "8 8 2 200");
-    let text = format!(in alloc; "{stream:?} {session:?} {quarter:?} {:?}", StatusCode::OK)?;
-    assert_eq!(rt; text.as_str(), "8 8 2 200");
-    let text = format!(in alloc; "{InvalidSessionId}; {InvalidQStreamId}; {InvalidStatusCode}")?;
-    assert_eq!(rt;
-        text.as_str(),
-        "invalid session ID; invalid QStream ID; invalid HTTP status code"
-    );
+    displays(&rt, &stream, "8");
+    debugs(&rt, &stream, "8");
+    displays(&rt, &session, "8");
+    debugs(&rt, &session, "8");
+    displays(&rt, &quarter, "2");
+    debugs(&rt, &quarter, "2");
+    displays(&rt, &StatusCode::OK, "200");
+    debugs(&rt, &StatusCode::OK, "200");
+    displays(&rt, &InvalidSessionId, "invalid session ID");
+    displays(&rt, &InvalidQStreamId, "invalid QStream ID");
+    displays(&rt, &InvalidStatusCode, "invalid HTTP status code");
     Ok(())
 }

@@ -2,6 +2,7 @@
 use std::alloc::{AllocError, Global};
 use std::process::Abort;
 use std::test::Fail;
+use test_io::same;
 use wtransport_proto::bytes::IoReadError;
 use wtransport_proto::error::{ErrorCode, Refused};
 use wtransport_proto::frame::{FrameKind, GenerateError};
@@ -21,10 +22,15 @@ const FRAME: &[u8] = b"\x01\x0f\x00\x00\x22:z\x012\x21a\x013\x21b\x011";
 /// An unknown frame, the frame of the pairs, and a DATA frame.
 const BYTES: &[u8] = b"\x0a\x01!\x01\x0f\x00\x00\x22:z\x012\x21a\x013\x21b\x011\x00\x01x";
 
+/// The map of the pairs.
+fn made_once(alloc: Global) -> Result<Headers, AllocError> {
+    Headers::from_iter(alloc, PAIRS.iter().copied())
+}
+
 /// The map of the pairs, made once more where memory was refused.
 fn made(alloc: Global) -> Result<Headers, AllocError> {
-    match Headers::from_iter(alloc, PAIRS.iter().copied()) {
-        Err(AllocError) => Headers::from_iter(alloc, PAIRS.iter().copied()),
+    match made_once(alloc) {
+        Err(AllocError) => made_once(alloc),
         outcome => outcome,
     }
 }
@@ -37,13 +43,20 @@ fn request(alloc: Global) -> Result<SessionRequest, UrlParseError> {
     }
 }
 
-/// Whether memory was wanting.
-fn wants_memory(error: &JourneyError) -> bool {
+/// Whether an allocation failed in the way to the sink, or in the way back.
+fn is_out_of_memory(error: &JourneyError) -> bool {
     match error {
-        JourneyError::Frame(GenerateError::Memory)
-        | JourneyError::Send(SendError::Memory)
-        | JourneyError::Receive(ReceiveError::Memory)
-        | JourneyError::Receive(ReceiveError::Section(Refused::Memory)) => true,
+        JourneyError::Frame(error) => *error == GenerateError::Memory,
+        JourneyError::Send(error) => *error == SendError::Memory,
+        JourneyError::Receive(error) => is_receive_out_of_memory(error),
+    }
+}
+
+/// Whether an allocation failed in the way back.
+fn is_receive_out_of_memory(error: &ReceiveError) -> bool {
+    match error {
+        ReceiveError::Memory => true,
+        ReceiveError::Section(error) => *error == Refused::Memory,
         _ => false,
     }
 }
@@ -55,6 +68,7 @@ fn travels<K: ReadsFrames>(
     alloc: Global,
     headers: &Headers,
     stream: &mut K,
+    word: &str,
 ) -> Result<(), Fail>
     requires { K.can stream.old }
 {
@@ -63,21 +77,19 @@ fn travels<K: ReadsFrames>(
     let mut outcome = journey::send_and_receive(alloc, headers, &mut sink, stream, &mut source, 2);
     let refused = match &outcome {
         Ok(_) => false,
-        Err(error) => wants_memory(error),
+        Err(error) => is_out_of_memory(error),
     };
     if refused {
-        assert!(rt; FRAME.starts_with(sink.as_slice()));
+        same(rt, FRAME.starts_with(sink.as_slice()), true, word);
         sink.clear();
         source = BYTES;
         outcome = journey::send_and_receive(alloc, headers, &mut sink, stream, &mut source, 2);
     }
     let back = outcome?;
-    assert_eq!(rt; sink.as_slice(), FRAME);
-    assert_eq!(rt; source, b"\x00\x01x".as_slice());
-    assert_eq!(rt; back.as_ref().len(), PAIRS.len());
-    for (name, value) in PAIRS {
-        assert_eq!(rt; back.get(name), Some(value));
-    }
+    let came = (sink.as_slice(), source, back.as_ref().len());
+    same(rt, came, (FRAME, b"\x00\x01x".as_slice(), 3), word);
+    let came = (back.get("b"), back.get(":z"), back.get("a"));
+    same(rt, came, (Some("1"), Some("2"), Some("3")), word);
     Ok(())
 }
 
@@ -85,11 +97,17 @@ fn travels<K: ReadsFrames>(
 fn a_map_comes_back(rt: HostRuntime) -> Result<(), Fail> {
     let headers = made(rt.alloc())?;
     let mut remote = StreamBiRemoteQuic::accept_bi().upgrade();
-    travels(&rt, rt.alloc(), &headers, &mut remote)?;
+    travels(&rt, rt.alloc(), &headers, &mut remote, "the peer's stream")?;
     let mut local = StreamBiLocalQuic::open_bi().upgrade();
-    travels(&rt, rt.alloc(), &headers, &mut local)?;
+    travels(&rt, rt.alloc(), &headers, &mut local, "an own stream")?;
     let mut session = local.into_session(request(rt.alloc())?);
-    travels(&rt, rt.alloc(), &headers, &mut session)
+    travels(
+        &rt,
+        rt.alloc(),
+        &headers,
+        &mut session,
+        "a session's stream",
+    )
 }
 
 #[test]
@@ -106,45 +124,41 @@ fn no_turn_touches_nothing(rt: HostRuntime) -> Result<(), Fail> {
         &mut source,
         0,
     );
+    let waiting = Some(JourneyError::Send(SendError::Waiting));
     match outcome.err() {
-        Some(JourneyError::Frame(error)) => assert_eq!(rt; error, GenerateError::Memory),
-        error => assert_eq!(rt; error, Some(JourneyError::Send(SendError::Waiting))),
+        Some(JourneyError::Frame(error)) => same(&rt, error, GenerateError::Memory, "the frame"),
+        error => same(&rt, error, waiting, "the way"),
     }
-    assert!(rt; sink.is_empty());
-    assert_eq!(rt; source, BYTES);
+    same(&rt, (sink.is_empty(), source), (true, BYTES), "both ends");
     Ok(())
 }
 
-/// Why no map is read from bytes that take no memory, on a stream that the peer opened.
-fn refusal(alloc: Global, bytes: &[u8], turns: u32) -> Option<ReceiveError> {
+/// Asserts why no map is read from bytes that take no memory, on a stream that the peer opened.
+fn check_refusal<R: Abort + AllocGlobal>(
+    rt: &R,
+    bytes: &[u8],
+    turns: u32,
+    wanted: ReceiveError,
+    word: &str,
+) {
     let mut stream = StreamBiRemoteQuic::accept_bi().upgrade();
     let mut source = bytes;
-    journey::receive(alloc, &mut stream, &mut source, turns).err()
+    let outcome = journey::receive(rt.alloc(), &mut stream, &mut source, turns);
+    same(rt, outcome.err(), Some(wanted), word);
 }
 
 #[test]
 fn other_bytes_are_no_map(rt: HostRuntime) {
-    let alloc = rt.alloc();
-    assert_eq!(rt; refusal(alloc, FRAME, 0), Some(ReceiveError::Waiting));
-    assert_eq!(rt; refusal(alloc, b"\x0a\x00", 1), Some(ReceiveError::Waiting));
-    assert_eq!(rt;
-        refusal(alloc, b"", 1),
-        Some(ReceiveError::Stream(stream::IoReadError::IO(IoReadError::ImmediateFin)))
-    );
-    assert_eq!(rt;
-        refusal(alloc, b"\x01", 1),
-        Some(ReceiveError::Stream(stream::IoReadError::H3(ErrorCode::Frame)))
-    );
-    assert_eq!(rt;
-        refusal(alloc, b"\x04\x00", 1),
-        Some(ReceiveError::Stream(stream::IoReadError::H3(ErrorCode::FrameUnexpected)))
-    );
-    assert_eq!(rt;
-        refusal(alloc, b"\x00\x00", 1),
-        Some(ReceiveError::OtherKind(FrameKind::Data))
-    );
-    assert_eq!(rt;
-        refusal(alloc, b"\x01\x00", 1),
-        Some(ReceiveError::Section(Refused::Code(ErrorCode::Decompression)))
-    );
+    check_refusal(&rt, FRAME, 0, ReceiveError::Waiting, "no turn");
+    check_refusal(&rt, b"\x0a\x00", 1, ReceiveError::Waiting, "unknown");
+    let ended = ReceiveError::Stream(stream::IoReadError::IO(IoReadError::ImmediateFin));
+    check_refusal(&rt, b"", 1, ended, "nothing");
+    let cut = ReceiveError::Stream(stream::IoReadError::H3(ErrorCode::Frame));
+    check_refusal(&rt, b"\x01", 1, cut, "a cut frame");
+    let unexpected = ReceiveError::Stream(stream::IoReadError::H3(ErrorCode::FrameUnexpected));
+    check_refusal(&rt, b"\x04\x00", 1, unexpected, "settings");
+    let other = ReceiveError::OtherKind(FrameKind::Data);
+    check_refusal(&rt, b"\x00\x00", 1, other, "data");
+    let section = ReceiveError::Section(Refused::Code(ErrorCode::Decompression));
+    check_refusal(&rt, b"\x01\x00", 1, section, "empty headers");
 }

@@ -16,6 +16,8 @@ mod readers;
 #[cfg(test)]
 mod server;
 #[cfg(test)]
+mod texts;
+#[cfg(test)]
 mod varints;
 #[cfg(test)]
 mod writers;

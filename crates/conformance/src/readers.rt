@@ -1,7 +1,8 @@
 //! Readers: slices, places in a slice, and their children.
-use std::test::Fail;
+use crate::texts::{debugs, displays};
+use std::process::Abort;
+use test_io::same;
 use wtransport_proto::bytes::{BufferReader, BytesReader, EndOfBuffer};
-use wtransport_proto::varint::VarInt;
 
 /// The numbers 37, 15293, 494878333 and 151288809941952652, and a text.
 const BYTES: [u8; 27] = [
@@ -11,106 +12,130 @@ const BYTES: [u8; 27] = [
 
 const NUMBERS: [u64; 4] = [37, 15293, 494878333, 151288809941952652];
 
+/// The next number of a reader.
+pub fn number<'a, R: BytesReader<'a>>(reader: &mut R) -> Option<u64> {
+    match reader.get_varint() {
+        Some(number) => Some(number.into_inner()),
+        None => None,
+    }
+}
+
+/// A reader of these bytes, after the first.
+fn after_one<'a, R: Abort>(rt: &R, bytes: &'a [u8]) -> BufferReader<'a> {
+    let mut reader = BufferReader::new(bytes);
+    same(rt, reader.skip(1), Ok(()), "the first byte");
+    reader
+}
+
+/// Asserts that the numbers and the text are read, and nothing after them.
+fn check_all_is_read<'a, A: Abort, R: BytesReader<'a>>(rt: &A, reader: &mut R, word: &str) {
+    for wanted in NUMBERS {
+        same(rt, number(reader), Some(wanted), word);
+    }
+    let text = reader.get_bytes(12);
+    let after = (number(reader), reader.get_bytes(1));
+    let wanted = (Some(b"WebTransport".as_slice()), (None, None));
+    same(rt, (text, after), wanted, word);
+}
+
 #[test]
 fn numbers_and_text_are_read(rt: HostRuntime) {
     let mut slice = BYTES.as_slice();
+    check_all_is_read(&rt, &mut slice, "a slice");
+    same(&rt, slice.get_bytes(0), Some([].as_slice()), "no byte");
     let mut reader = BufferReader::new(&BYTES);
-    for number in NUMBERS {
-        assert_eq!(rt; slice.get_varint().map(VarInt::into_inner), Some(number));
-        assert_eq!(rt; reader.get_varint().map(VarInt::into_inner), Some(number));
-    }
-    assert_eq!(rt; slice.get_bytes(12), Some(b"WebTransport".as_slice()));
-    assert_eq!(rt; reader.get_bytes(12), Some(b"WebTransport".as_slice()));
-    assert_eq!(rt; slice.get_varint(), None);
-    assert_eq!(rt; slice.get_bytes(1), None);
-    assert_eq!(rt; slice.get_bytes(0), Some([].as_slice()));
-    assert_eq!(rt; reader.get_varint(), None);
-    assert_eq!(rt; reader.get_bytes(1), None);
-    assert_eq!(rt; reader.offset(), 27);
-    assert_eq!(rt; reader.capacity(), 0);
+    check_all_is_read(&rt, &mut reader, "a place in a slice");
+    same(
+        &rt,
+        (reader.offset(), reader.capacity()),
+        (27, 0),
+        "the end",
+    );
+}
+
+/// Asserts that neither a number nor eight bytes are read from so few bytes.
+fn check_too_few<A: Abort>(rt: &A, front: &[u8], len: usize) {
+    let mut reader = BufferReader::new(front);
+    let number = number(&mut reader);
+    let bytes = reader.get_bytes(8);
+    let place = (reader.offset(), reader.capacity());
+    same(
+        rt,
+        (number, bytes.is_none(), place),
+        (None, true, (0, len)),
+        len,
+    );
 }
 
 #[test]
 fn fronts_are_too_few(rt: HostRuntime) {
     let whole = &BYTES[7..15];
-    for (len, front) in [(0, &whole[..0]), (1, &whole[..1]), (7, &whole[..7])] {
-        let mut reader = BufferReader::new(front);
-        assert_eq!(rt; reader.get_varint(), None, "{len}");
-        assert_eq!(rt; reader.get_bytes(8), None, "{len}");
-        assert_eq!(rt; reader.offset(), 0, "{len}");
-        assert_eq!(rt; reader.capacity(), len, "{len}");
-    }
+    check_too_few(&rt, &whole[..0], 0);
+    check_too_few(&rt, &whole[..1], 1);
+    check_too_few(&rt, &whole[..7], 7);
 }
 
 #[test]
-fn a_committed_child_moves_its_parent(rt: HostRuntime) -> Result<(), Fail> {
-    let mut reader = BufferReader::new(&[1, 2]);
-    reader.skip(1)?;
+fn a_committed_child_moves_its_parent(rt: HostRuntime) {
+    let mut reader = after_one(&rt, &[1, 2]);
     let mut child = reader.child();
-    assert_eq!(rt; child.capacity(), 1);
-    assert_eq!(rt; child.offset(), 0);
-    assert_eq!(rt; child.buffer(), [2].as_slice());
-    assert_eq!(rt; child.get_bytes(1), Some([2].as_slice()));
-    assert_eq!(rt; child.offset(), 1);
-    assert_eq!(rt; child.buffer_remaining(), [].as_slice());
+    let came = (child.capacity(), child.offset(), child.buffer());
+    same(&rt, came, (1, 0, [2].as_slice()), "a child");
+    let byte = child.get_bytes(1);
+    let came = (byte, child.offset(), child.buffer_remaining());
+    let wanted = (Some([2].as_slice()), 1, [].as_slice());
+    same(&rt, came, wanted, "a child that read all");
     child.commit();
-    assert_eq!(rt; reader.offset(), 2);
-    assert_eq!(rt; reader.capacity(), 0);
-    Ok(())
+    let came = (reader.offset(), reader.capacity());
+    same(&rt, came, (2, 0), "its parent");
 }
 
 #[test]
-fn a_child_that_read_all_is_dropped(rt: HostRuntime) -> Result<(), Fail> {
-    let mut reader = BufferReader::new(&[1, 2]);
-    reader.skip(1)?;
+fn a_child_that_read_all_is_dropped(rt: HostRuntime) {
+    let mut reader = after_one(&rt, &[1, 2]);
     {
         let mut child = reader.child();
-        assert!(rt; child.get_bytes(1) == Some([2].as_slice()));
-        assert!(rt; child.capacity() == 0);
+        let byte = child.get_bytes(1);
+        let wanted = (Some([2].as_slice()), 0);
+        same(&rt, (byte, child.capacity()), wanted, "the child");
     }
-    assert!(rt; reader.offset() == 1);
-    assert!(rt; reader.capacity() == 1);
-    assert!(rt; reader.buffer_remaining() == [2].as_slice());
-    Ok(())
-}
-
-#[test]
-fn a_dropped_child_moves_nothing(rt: HostRuntime) -> Result<(), Fail> {
-    let mut reader = BufferReader::new(&[1, 2, 3]);
-    reader.skip(1)?;
-    {
-        let mut child = reader.child();
-        assert_eq!(rt; child.skip(3), Err(EndOfBuffer));
-        child.skip(1)?;
-        assert_eq!(rt; child.get_varint().map(VarInt::into_inner), Some(3));
-    }
-    assert_eq!(rt; reader.offset(), 1);
-    assert_eq!(rt; reader.buffer_remaining(), [2, 3].as_slice());
-    assert_eq!(rt; reader.skip(3), Err(EndOfBuffer));
-    assert_eq!(rt; reader.offset(), 1);
-    assert_eq!(rt; reader.buffer(), [1, 2, 3].as_slice());
-    Ok(())
-}
-
-#[test]
-fn a_reader_moves_to_one_ahead(rt: HostRuntime) -> Result<(), Fail> {
-    let mut reader = BufferReader::new(&[1, 2, 3]);
-    reader.skip(1)?;
-    let mut ahead = BufferReader::new(reader.buffer_remaining());
-    ahead.skip(1)?;
-    reader.move_to(&ahead);
-    assert_eq!(rt; reader.offset(), 2);
-    Ok(())
-}
-
-#[test]
-fn a_place_is_printed(rt: HostRuntime) -> Result<(), Fail> {
-    let mut reader = BufferReader::new(&[1, 2]);
-    reader.skip(1)?;
-    let text = format!(in rt.alloc(); "{reader:?}; {EndOfBuffer}")?;
-    assert_eq!(rt;
-        text.as_str(),
-        "BufferReader { buf: [1, 2], off: 1 }; end of buffer has been reached"
+    let came = (
+        reader.offset(),
+        reader.capacity(),
+        reader.buffer_remaining(),
     );
-    Ok(())
+    same(&rt, came, (1, 1, [2].as_slice()), "its parent");
+}
+
+#[test]
+fn a_dropped_child_moves_nothing(rt: HostRuntime) {
+    let mut reader = after_one(&rt, &[1, 2, 3]);
+    {
+        let mut child = reader.child();
+        same(&rt, child.skip(3), Err(EndOfBuffer), "the child has 2");
+        same(&rt, child.skip(1), Ok(()), "the child's first byte");
+        same(&rt, number(&mut child), Some(3), "the child's last byte");
+    }
+    let came = (reader.offset(), reader.buffer_remaining());
+    same(&rt, came, (1, [2, 3].as_slice()), "its parent");
+    let outcome = reader.skip(3);
+    let came = (outcome, reader.offset(), reader.buffer());
+    let wanted = (Err(EndOfBuffer), 1, [1, 2, 3].as_slice());
+    same(&rt, came, wanted, "the parent has 2");
+}
+
+#[test]
+fn a_reader_moves_to_one_ahead(rt: HostRuntime) {
+    let mut reader = after_one(&rt, &[1, 2, 3]);
+    let mut ahead = BufferReader::new(reader.buffer_remaining());
+    same(&rt, ahead.skip(1), Ok(()), "one ahead");
+    reader.move_to(&ahead);
+    same(&rt, reader.offset(), 2, "one after the other");
+}
+
+#[test]
+fn a_place_is_printed(rt: HostRuntime) {
+    let mut reader = after_one(&rt, &[1, 2]);
+    debugs(&rt, &reader, "BufferReader { buf: [1, 2], off: 1 }");
+    displays(&rt, &EndOfBuffer, "end of buffer has been reached");
 }

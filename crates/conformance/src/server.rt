@@ -1,6 +1,7 @@
 //! A server's first steps over slices: a request is read and answered. README shows this code.
 use std::alloc::Global;
 use std::test::Fail;
+use test_io::same;
 use wtransport_proto::bytes::BufferReader;
 use wtransport_proto::session::{SessionRequest, SessionResponse, request_of_frame};
 use wtransport_proto::stream::bilocal::StreamBiLocalQuic;
@@ -27,10 +28,17 @@ fn serve(alloc: Global, bytes: &[u8], answer: &mut Vec<u8>) -> Result<Option<Str
 /// The bytes that a client sends for this URL.
 fn asked(alloc: Global, url: &str) -> Result<Vec<u8>, Fail> {
     let request = SessionRequest::new(alloc, url)?;
-    let mut stream = StreamBiLocalQuic::open_bi().upgrade();
     let mut bytes = Vec::new(alloc);
-    stream.write_frame(request.headers().generate_frame(alloc)?, &mut bytes)?;
+    send(alloc, &request, &mut bytes)?;
     Ok(bytes)
+}
+
+/// Writes the frame of the request on a stream of its own.
+fn send(alloc: Global, request: &SessionRequest, bytes: &mut Vec<u8>) -> Result<(), Fail> {
+    let mut stream = StreamBiLocalQuic::open_bi().upgrade();
+    let frame = request.headers().generate_frame(alloc)?;
+    stream.write_frame(frame, bytes)?;
+    Ok(())
 }
 
 /// A client's URL, the path that the server sees, and the bytes that answer it: the name `:status`
@@ -55,19 +63,20 @@ fn a_request_is_answered(rt: HostRuntime) -> Result<(), Fail> {
         let bytes = asked(rt.alloc(), url)?;
         let mut answer = Vec::new(rt.alloc());
         let stream = serve(rt.alloc(), bytes.as_slice(), &mut answer)?.ok_or("a session")?;
-        assert_eq!(rt; stream.request().authority(), "example.com");
-        assert_eq!(rt; stream.request().path(), path);
-        assert_eq!(rt; answer.as_slice(), expected);
+        let request = stream.request();
+        let came = (request.authority(), request.path(), answer.as_slice());
+        same(&rt, came, ("example.com", path, expected), url);
     }
     Ok(())
 }
 
 #[test]
 fn a_request_that_is_not_whole_is_waited_for(rt: HostRuntime) -> Result<(), Fail> {
-    let bytes = asked(rt.alloc(), "https://example.com/chat")?;
-    let (_last, front) = bytes.as_slice().split_last().ok_or("bytes")?;
+    let mut bytes = asked(rt.alloc(), "https://example.com/chat")?;
+    let last = bytes.pop();
     let mut answer = Vec::new(rt.alloc());
-    assert!(rt; serve(rt.alloc(), front, &mut answer)?.is_none());
-    assert!(rt; answer.is_empty());
+    let stream = serve(rt.alloc(), bytes.as_slice(), &mut answer)?;
+    let came = (last.is_some(), stream.is_none(), answer.is_empty());
+    same(&rt, came, (true, true, true), "no answer");
     Ok(())
 }

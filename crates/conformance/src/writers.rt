@@ -1,85 +1,114 @@
 //! Writers: vectors, and places in a slice.
+use crate::texts::displays;
+use std::process::Abort;
 use std::test::Fail;
+use test_io::same;
 use wtransport_proto::bytes::{BufferWriter, BytesWriter, PutError};
-use wtransport_proto::varint::VarInt;
+use wtransport_proto::varint::{VarInt, VarIntBoundsExceeded};
 
-const ROWS: [(u64, &[u8]); 6] = [
-    (37, &[0x25]),
-    (15293, &[0x7b, 0xbd]),
-    (16384, &[0x80, 0x00, 0x40, 0x00]),
-    (494878333, &[0x9d, 0x7f, 0x3e, 0x7d]),
+/// A number, its shortest encoding, and the room that this leaves of nine bytes.
+const ROWS: [(u64, &[u8], usize); 6] = [
+    (37, &[0x25], 8),
+    (15293, &[0x7b, 0xbd], 7),
+    (16384, &[0x80, 0x00, 0x40, 0x00], 5),
+    (494878333, &[0x9d, 0x7f, 0x3e, 0x7d], 5),
     (
         151288809941952652,
         &[0xc2, 0x19, 0x7c, 0x5e, 0xff, 0x14, 0xe8, 0x8c],
+        1,
     ),
-    (4611686018427387903, &[0xff; 8]),
+    (4611686018427387903, &[0xff; 8], 1),
 ];
 
-#[test]
-fn the_shortest_spelling_is_written(rt: HostRuntime) -> Result<(), Fail> {
-    for (number, bytes) in ROWS {
-        let varint = VarInt::try_from_u64(number)?;
-        let mut vector = Vec::new(rt.alloc());
-        let mut buffer = [0; 9];
-        let mut writer = BufferWriter::new(&mut buffer);
-        writer.put_varint(varint)?;
-        assert_eq!(rt; writer.buffer_written(), bytes, "{number}");
-        assert_eq!(rt; writer.offset(), bytes.len(), "{number}");
-        assert_eq!(rt;
-            writer.capacity(),
-            9usize.wrapping_sub(bytes.len()),
-            "{number}"
-        );
-        vector.put_varint(varint)?;
-        assert_eq!(rt; vector.as_slice(), bytes, "{number}");
+/// Asserts that the number is written as these bytes into a slice of nine.
+fn check_slice<R: Abort>(rt: &R, varint: VarInt, bytes: &[u8], left: usize) {
+    let mut buffer = [0; 9];
+    let mut writer = BufferWriter::new(&mut buffer);
+    let outcome = writer.put_varint(varint);
+    let sizes = (writer.offset(), writer.capacity());
+    let came = (outcome, writer.buffer_written(), sizes);
+    same(rt, came, (Ok(()), bytes, (bytes.len(), left)), varint);
+}
+
+/// Asserts that the number is written as these bytes into a vector.
+fn check_vector<R: Abort + AllocGlobal>(rt: &R, varint: VarInt, bytes: &[u8]) {
+    let mut vector = Vec::new(rt.alloc());
+    let outcome = vector.put_varint(varint);
+    same(rt, (outcome, vector.as_slice()), (Ok(()), bytes), varint);
+}
+
+/// Asserts that the number is written as these bytes, and leaves so much of nine.
+fn check_written<R: Abort + AllocGlobal>(rt: &R, number: u64, bytes: &[u8], left: usize) {
+    match VarInt::try_from_u64(number) {
+        Ok(varint) => {
+            check_slice(rt, varint, bytes, left);
+            check_vector(rt, varint, bytes);
+        }
+        Err(VarIntBoundsExceeded) => panic!(rt; "{number}: out of bounds"),
     }
-    Ok(())
 }
 
 #[test]
-fn too_little_room_changes_nothing(rt: HostRuntime) -> Result<(), Fail> {
+fn the_shortest_spelling_is_written(rt: HostRuntime) {
+    for (number, bytes, left) in ROWS {
+        check_written(&rt, number, bytes, left);
+    }
+}
+
+const TOO_LITTLE: Result<(), PutError> = Err(PutError::EndOfBuffer);
+
+#[test]
+fn too_little_room_changes_nothing(rt: HostRuntime) {
     let mut buffer = [7; 3];
     let mut writer = BufferWriter::new(&mut buffer);
-    assert_eq!(rt;
-        writer.put_varint(VarInt::from_u32(16384)),
-        Err(PutError::EndOfBuffer)
-    );
-    assert_eq!(rt; writer.put_bytes(&[1, 2, 3, 4]), Err(PutError::EndOfBuffer));
-    assert_eq!(rt; writer.offset(), 0);
-    writer.put_bytes(&[1, 2])?;
-    assert_eq!(rt; writer.put_bytes(&[3, 4]), Err(PutError::EndOfBuffer));
-    assert_eq!(rt; writer.buffer_written(), [1, 2].as_slice());
-    assert_eq!(rt; buffer.as_slice(), [1, 2, 7].as_slice());
+    let number = writer.put_varint(VarInt::from_u32(16384));
+    let bytes = writer.put_bytes(&[1, 2, 3, 4]);
+    let came = (number, bytes, writer.offset());
+    let wanted = (TOO_LITTLE, TOO_LITTLE, 0);
+    same(&rt, came, wanted, "four bytes into three");
+    let two = writer.put_bytes(&[1, 2]);
+    let bytes = writer.put_bytes(&[3, 4]);
+    let came = (two, bytes, writer.buffer_written());
+    let wanted = (Ok(()), TOO_LITTLE, [1, 2].as_slice());
+    same(&rt, came, wanted, "two, and two into one");
+    same(&rt, buffer.as_slice(), [1, 2, 7].as_slice(), "the buffer");
     let mut nothing = [];
     let mut writer = BufferWriter::new(&mut nothing);
-    assert_eq!(rt; writer.put_varint(VarInt::MIN), Err(PutError::EndOfBuffer));
-    Ok(())
+    let number = writer.put_varint(VarInt::MIN);
+    same(&rt, number, TOO_LITTLE, "one into none");
+}
+
+/// Asserts that a refusal changed nothing.
+fn check_refusal<R: Abort>(rt: &R, error: PutError, came: &[u8], wanted: &[u8], word: &str) {
+    same(rt, (error, came), (PutError::Memory, wanted), word);
 }
 
 #[test]
 fn refused_memory_changes_nothing(rt: HostRuntime) -> Result<(), Fail> {
     let mut vector = Vec::new(rt.alloc());
     let number = VarInt::from_u32(16384);
+    let encoding = [0x80, 0x00, 0x40, 0x00];
     if let Err(error) = vector.put_varint(number) {
-        assert_eq!(rt; error, PutError::Memory);
-        assert!(rt; vector.is_empty());
+        check_refusal(&rt, error, vector.as_slice(), &[], "the number");
         vector.put_varint(number)?;
     }
     let text = [1; 64];
     if let Err(error) = vector.put_bytes(&text) {
-        assert_eq!(rt; error, PutError::Memory);
-        assert_eq!(rt; vector.as_slice(), [0x80, 0x00, 0x40, 0x00].as_slice());
+        check_refusal(&rt, error, vector.as_slice(), &encoding, "the text");
         vector.put_bytes(&text)?;
     }
-    assert_eq!(rt; vector.len(), 68);
-    assert_eq!(rt; vector.get(..4), Some([0x80, 0x00, 0x40, 0x00].as_slice()));
-    assert_eq!(rt; vector.get(4..), Some(text.as_slice()));
+    let came = (vector.len(), vector.get(..4), vector.get(4..));
+    let wanted = (68, Some(encoding.as_slice()), Some(text.as_slice()));
+    same(&rt, came, wanted, "both");
     Ok(())
 }
 
 #[test]
-fn put_errors_are_printed(rt: HostRuntime) -> Result<(), Fail> {
-    let text = format!(in rt.alloc(); "{}; {}", PutError::EndOfBuffer, PutError::Memory)?;
-    assert_eq!(rt; text.as_str(), "end of buffer has been reached; no memory");
-    Ok(())
+fn put_errors_are_printed(rt: HostRuntime) {
+    displays(
+        &rt,
+        &PutError::EndOfBuffer,
+        "end of buffer has been reached",
+    );
+    displays(&rt, &PutError::Memory, "no memory");
 }

@@ -1,0 +1,20 @@
+//! What the tests share: the checks of the texts that a value has, for display and for debugging.
+use std::fmt::{Debug, Display};
+use std::process::Abort;
+use test_io::same;
+
+/// Asserts what a value displays.
+pub fn displays<R: Abort + AllocGlobal, T: Display>(rt: &R, value: &T, wanted: &str) {
+    match value.to_string(rt.alloc()) {
+        Ok(text) => same(rt, text.as_str(), wanted, "for display"),
+        Err(_) => panic!(rt; "{wanted}: out of memory"),
+    }
+}
+
+/// Asserts what a value prints for debugging.
+pub fn debugs<R: Abort + AllocGlobal, T: Debug>(rt: &R, value: &T, wanted: &str) {
+    match format!(in rt.alloc(); "{value:?}") {
+        Ok(text) => same(rt, text.as_str(), wanted, "for debugging"),
+        Err(_) => panic!(rt; "{wanted}: out of memory"),
+    }
+}
