@@ -1,7 +1,7 @@
 //! Error codes: numbers and printed names.
+use crate::same::same;
 use crate::texts::{debugs, displays};
 use std::process::Abort;
-use test_io::same;
 use wtransport_proto::error::{
     ErrorCode, Refused, h3_error_codes, qpack_error_codes, wt_error_codes,
 };

@@ -1,7 +1,7 @@
 //! Datagrams.
+use crate::same::same;
 use std::process::Abort;
 use std::test::Fail;
-use test_io::same;
 use wtransport_proto::bytes::EndOfBuffer;
 use wtransport_proto::datagram::Datagram;
 use wtransport_proto::error::ErrorCode;

@@ -1,9 +1,9 @@
 //! Frames, read and written whole.
+use crate::same::same;
 use crate::texts::displays;
 use std::borrow::CowSlice;
 use std::process::Abort;
 use std::test::Fail;
-use test_io::same;
 use wtransport_proto::bytes::{BufferReader, BufferWriter, BytesWriter, EndOfBuffer, PutError};
 use wtransport_proto::frame::{Frame, FrameKind, ParseError, frame_kind_ids};
 use wtransport_proto::ids::{InvalidSessionId, SessionId, StreamId};

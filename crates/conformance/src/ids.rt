@@ -1,9 +1,9 @@
 //! Numbers of streams and sessions, and status codes.
+use crate::same::same;
 use crate::texts::{debugs, displays};
 use std::process::Abort;
 use std::str::FromStr;
 use std::test::Fail;
-use test_io::same;
 use wtransport_proto::ids::{
     InvalidQStreamId, InvalidSessionId, InvalidStatusCode, QStreamId, SessionId, StatusCode,
     StreamId,

@@ -1,8 +1,8 @@
 //! A header map's way over streams: sent whole into a vector, and read back from the same bytes.
+use crate::same::same;
 use std::alloc::{AllocError, Global};
 use std::process::Abort;
 use std::test::Fail;
-use test_io::same;
 use wtransport_proto::bytes::IoReadError;
 use wtransport_proto::error::{ErrorCode, Refused};
 use wtransport_proto::frame::{FrameKind, GenerateError};

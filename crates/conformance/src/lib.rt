@@ -1,4 +1,4 @@
-//! Worked rows and tables of the protocol, as tests over the public crates. No product code stands here.
+//! Worked rows and tables of the protocol, as tests over the public crates. There is no product code here.
 #![tactic(auto)]
 
 #[cfg(test)]
@@ -13,6 +13,8 @@ mod ids;
 mod journey;
 #[cfg(test)]
 mod readers;
+#[cfg(test)]
+mod same;
 #[cfg(test)]
 mod server;
 #[cfg(test)]

@@ -1,7 +1,7 @@
 //! Readers: slices, places in a slice, and their children.
+use crate::same::same;
 use crate::texts::{debugs, displays};
 use std::process::Abort;
-use test_io::same;
 use wtransport_proto::bytes::{BufferReader, BytesReader, EndOfBuffer};
 
 /// The numbers 37, 15293, 494878333 and 151288809941952652, and a text.

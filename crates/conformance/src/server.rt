@@ -1,7 +1,7 @@
 //! A server's first steps over slices: a request is read and answered. README shows this code.
+use crate::same::same;
 use std::alloc::Global;
 use std::test::Fail;
-use test_io::same;
 use wtransport_proto::bytes::BufferReader;
 use wtransport_proto::session::{SessionRequest, SessionResponse, request_of_frame};
 use wtransport_proto::stream::bilocal::StreamBiLocalQuic;

@@ -1,7 +1,7 @@
 //! What the tests share: the checks of the texts that a value has, for display and for debugging.
+use crate::same::same;
 use std::fmt::{Debug, Display};
 use std::process::Abort;
-use test_io::same;
 
 /// Asserts what a value displays.
 pub fn displays<R: Abort + AllocGlobal, T: Display>(rt: &R, value: &T, wanted: &str) {

@@ -1,7 +1,7 @@
 //! Variable-length integers, by the standard's examples (RFC 9000, appendix A.1) and bounds.
 use crate::readers::number;
+use crate::same::same;
 use crate::texts::{debugs, displays};
-use test_io::same;
 use wtransport_proto::ids::StreamId;
 use wtransport_proto::varint::{VarInt, VarIntBoundsExceeded};
 

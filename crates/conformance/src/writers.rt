@@ -1,8 +1,8 @@
 //! Writers: vectors, and places in a slice.
+use crate::same::same;
 use crate::texts::displays;
 use std::process::Abort;
 use std::test::Fail;
-use test_io::same;
 use wtransport_proto::bytes::{BufferWriter, BytesWriter, PutError};
 use wtransport_proto::varint::{VarInt, VarIntBoundsExceeded};
 

@@ -1,5 +1,7 @@
 //! The standard's examples and table, worked rows, and refused memory.
+use crate::same::same;
 use std::alloc::{AllocError, Global};
+use std::process::Abort;
 use std::test::Fail;
 use wtp_fields::huffman::{HuffmanError, decode, encode, encoded_len};
 
@@ -70,12 +72,24 @@ static TEXTS: [(&str, &[u8], &[u8]); 18] = [
     ("the longest word of a byte", b"\x16", b"\xff\xff\xff\xfb"),
 ];
 
+/// Asserts that a text is encoded to this string, and decoded from it.
+fn assert_coded(
+    rt: &impl Abort,
+    alloc: Global,
+    text: &[u8],
+    coded: &[u8],
+    shows: &str,
+) -> Result<(), Fail> {
+    same(rt, encoded(alloc, text)?.as_slice(), coded, shows);
+    same(rt, decoded(alloc, coded)?.as_slice(), text, shows);
+    Ok(())
+}
+
 #[test]
 fn texts_and_their_strings_past_refused_memory(rt: HostRuntime) -> Result<(), Fail> {
     for (shows, text, coded) in TEXTS {
-        assert_eq!(rt; encoded(rt.alloc(), text)?.as_slice(), coded, "{shows}");
-        assert_eq!(rt; encoded_len(text), Some(coded.len()), "{shows}");
-        assert_eq!(rt; decoded(rt.alloc(), coded)?.as_slice(), text, "{shows}");
+        same(&rt, encoded_len(text), Some(coded.len()), shows);
+        assert_coded(&rt, rt.alloc(), text, coded, shows)?;
     }
     Ok(())
 }
@@ -93,10 +107,11 @@ static REFUSED: [(&str, &[u8]); 6] = [
 #[test]
 fn refused_strings_past_refused_memory(rt: HostRuntime) {
     for (shows, coded) in REFUSED {
-        assert_eq!(rt;
+        same(
+            &rt,
             decoded(rt.alloc(), coded).err(),
             Some(HuffmanError::Invalid),
-            "{shows}"
+            shows,
         );
     }
 }
@@ -105,54 +120,71 @@ fn refused_strings_past_refused_memory(rt: HostRuntime) {
 /// than the text: each is refused in turn.
 #[test]
 fn refused_memory(rt: HostRuntime) -> Result<(), Fail> {
-    let (text, coded) = (
+    let coded = b"\xff\xff\xff\xf3\xff\xff\xff\xcf\xff\xff\xff\x3f\xff\xff\xfc";
+    assert_coded(
+        &rt,
+        rt.alloc(),
         b"\n\n\n\n",
-        b"\xff\xff\xff\xf3\xff\xff\xff\xcf\xff\xff\xff\x3f\xff\xff\xfc",
-    );
-    assert_eq!(rt; encoded(rt.alloc(), text)?.as_slice(), coded.as_slice());
-    assert_eq!(rt; decoded(rt.alloc(), coded)?.as_slice(), text.as_slice());
-    Ok(())
+        coded,
+        "four words of thirty bits",
+    )
+}
+
+/// Whether a text of one byte is coded to this string of one byte, which must be no text's string otherwise.
+fn is_text(rt: &impl Abort, alloc: Global, byte: u8) -> bool {
+    match decoded(alloc, &[byte]) {
+        Ok(text) => {
+            same(rt, text.len(), 1, byte);
+            true
+        }
+        Err(e) => {
+            same(rt, e, HuffmanError::Invalid, byte);
+            false
+        }
+    }
 }
 
 #[test]
 fn strings_of_one_byte_past_refused_memory(rt: HostRuntime) {
     let (mut texts, mut refused) = (0u32, 0u32);
     for byte in 0..=255u8 {
-        match decoded(rt.alloc(), &[byte]) {
-            Ok(text) => {
-                assert_eq!(rt; text.len(), 1, "{byte}");
-                texts = texts.wrapping_add(1);
-            }
-            Err(e) => {
-                assert_eq!(rt; e, HuffmanError::Invalid, "{byte}");
-                refused = refused.wrapping_add(1);
-            }
+        if is_text(&rt, rt.alloc(), byte) {
+            texts = texts.wrapping_add(1);
+        } else {
+            refused = refused.wrapping_add(1);
         }
     }
-    assert_eq!(rt; (texts, refused), (74, 182));
+    same(&rt, (texts, refused), (74, 182), "all strings");
+}
+
+/// Asserts that a string of two bytes is refused, or is the string of what it is decoded to.
+fn assert_only(rt: &impl Abort, alloc: Global, coded: [u8; 2]) -> Result<(), AllocError> {
+    let number = u16::from_be_bytes(coded);
+    match decoded(alloc, &coded) {
+        Ok(text) => {
+            let again = encoded(alloc, text.as_slice())?;
+            same(rt, again.as_slice(), coded.as_slice(), number);
+        }
+        Err(e) => same(rt, e, HuffmanError::Invalid, number),
+    }
+    Ok(())
 }
 
 #[test]
 fn strings_of_two_bytes_past_refused_memory(rt: HostRuntime) -> Result<(), Fail> {
     for first in 0..=255u8 {
         for second in 0..=255u8 {
-            match decoded(rt.alloc(), &[first, second]) {
-                Ok(text) => {
-                    let again = encoded(rt.alloc(), text.as_slice())?;
-                    assert_eq!(rt; again.as_slice(), [first, second].as_slice());
-                }
-                Err(e) => assert_eq!(rt; e, HuffmanError::Invalid, "{first} {second}"),
-            }
+            assert_only(&rt, rt.alloc(), [first, second])?;
         }
     }
     Ok(())
 }
 
-/// A word at the front of 32 bits, with ones behind it, and how many bytes it begins in.
+/// A word at the front of 32 bits, with ones after it, and how many bytes it begins in.
 fn padded(bits: u32, number: u32) -> ([u8; 4], usize) {
-    let behind = 32u32.saturating_sub(bits);
-    let ones = 1u32.wrapping_shl(behind).wrapping_sub(1);
-    let window = number.wrapping_shl(behind).wrapping_add(ones);
+    let left = 32u32.saturating_sub(bits);
+    let ones = 1u32.wrapping_shl(left).wrapping_sub(1);
+    let window = number.wrapping_shl(left).wrapping_add(ones);
     (window.to_be_bytes(), bits.div_ceil(8) as usize)
 }
 
@@ -226,38 +258,54 @@ static LENGTHS: [(u32, u32, &[u8]); 21] = [
     (30, 0x3ffffffc, &[10, 13, 22]),
 ];
 
+/// Asserts that a symbol has this word of so many bits.
+fn assert_word(
+    rt: &impl Abort,
+    alloc: Global,
+    symbol: u8,
+    bits: u32,
+    number: u32,
+) -> Result<(), Fail> {
+    let (window, len) = padded(bits, number);
+    let (coded, _) = window
+        .as_slice()
+        .split_at_checked(len)
+        .ok_or("at most 30 bits")?;
+    same(rt, encoded(alloc, &[symbol])?.as_slice(), coded, symbol);
+    same(
+        rt,
+        decoded(alloc, coded)?.as_slice(),
+        [symbol].as_slice(),
+        symbol,
+    );
+    Ok(())
+}
+
 #[test]
 fn words_past_refused_memory(rt: HostRuntime) -> Result<(), Fail> {
     let mut symbols = 0u32;
     for (bits, first, row) in LENGTHS {
         let mut number = first;
         for symbol in row {
-            let (window, len) = padded(bits, number);
-            let (coded, _) = window
-                .as_slice()
-                .split_at_checked(len)
-                .ok_or("at most 30 bits")?;
-            assert_eq!(rt;
-                encoded(rt.alloc(), &[*symbol])?.as_slice(),
-                coded,
-                "{symbol}"
-            );
-            assert_eq!(rt;
-                decoded(rt.alloc(), coded)?.as_slice(),
-                [*symbol].as_slice(),
-                "{symbol}"
-            );
+            assert_word(&rt, rt.alloc(), *symbol, bits, number)?;
             number = number.wrapping_add(1);
             symbols = symbols.wrapping_add(1);
         }
     }
-    assert_eq!(rt; symbols, 256);
-    let (end, _) = padded(30, 0x3fff_ffff);
-    assert_eq!(rt;
-        decoded(rt.alloc(), &end).err(),
-        Some(HuffmanError::Invalid)
-    );
+    same(&rt, symbols, 256, "each symbol");
     Ok(())
+}
+
+#[test]
+fn end_of_the_string_past_refused_memory(rt: HostRuntime) {
+    let (end, _) = padded(30, 0x3fff_ffff);
+    let fault = decoded(rt.alloc(), &end).err();
+    same(
+        &rt,
+        fault,
+        Some(HuffmanError::Invalid),
+        "the end of the string",
+    );
 }
 
 /// An error's text, asked for once more where memory was refused.
@@ -274,7 +322,7 @@ fn messages_past_refused_memory(rt: HostRuntime) -> Result<(), Fail> {
         (HuffmanError::Invalid, "invalid Huffman text"),
         (HuffmanError::Memory, "no memory"),
     ] {
-        assert_eq!(rt; shown(rt.alloc(), error)?.as_str(), text);
+        same(&rt, shown(rt.alloc(), error)?.as_str(), text, "a message");
     }
     Ok(())
 }

@@ -1,9 +1,24 @@
-//! Huffman text, header maps and the messages of sessions, as tests over the public crates. No product code stands here.
+//! Huffman text, field sections, header maps and the messages of sessions, as tests over the public crates: of sections
+//! the first bytes of lines, prefixed integers and string literals, and the static table. There is no product code here.
 #![tactic(auto)]
 
 #[cfg(test)]
-mod headers;
+mod field_sections;
+#[cfg(test)]
+mod first_bytes;
+#[cfg(test)]
+mod header_maps;
 #[cfg(test)]
 mod huffman;
 #[cfg(test)]
-mod session;
+mod prefixed_integers;
+#[cfg(test)]
+mod requests;
+#[cfg(test)]
+mod responses;
+#[cfg(test)]
+mod same;
+#[cfg(test)]
+mod session_errors;
+#[cfg(test)]
+mod static_table;

@@ -1,4 +1,4 @@
-//! Streams of each kind, whole and poll by poll, as tests over the public crates. No product code stands here.
+//! Streams of each kind, whole and poll by poll, as tests over the public crates. There is no product code here.
 #![tactic(auto)]
 
 #[cfg(test)]

@@ -1,4 +1,4 @@
-//! Capsules, settings and stream headers, as tests over the public crates. No product code stands here.
+//! Capsules, settings and stream headers, as tests over the public crates. There is no product code here.
 #![tactic(auto)]
 
 #[cfg(test)]

@@ -16,8 +16,6 @@ pub(crate) mod field_section;
 mod integer;
 mod static_table;
 mod string_literal;
-#[cfg(test)]
-mod tests;
 
 use std::alloc::{AllocError, AllocFailed, Global};
 use std::collections::BTreeMap;

@@ -5,9 +5,6 @@ ghost use Rattle.wtp_fields.specs.Field.{lent, lent_field};
 ghost use Rattle.wtp_fields.specs.StaticTable.{static_table, entry_at, first_entry};
 ghost use Rattle.wtp_fields.specs.StaticNames.{numbered, static_names_of, AreOrdered};
 
-#[cfg(test)]
-mod tests;
-
 /// Names and values, by index.
 pub static ENTRIES: [(&str, &str); 99] = [
     (":authority", ""),

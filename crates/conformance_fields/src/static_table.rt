@@ -1,7 +1,10 @@
-//! All 99 entries and all 52 names.
-use super::super::tests::{assert_fields, decoded};
-use super::{entry, first_entry};
+//! All 99 entries of the static table and all 52 names, by lines that refer to them.
+use crate::field_sections::{assert_decoded, assert_encoded, decoded, joined};
+use crate::same::same;
+use std::alloc::{AllocError, Global};
+use std::process::Abort;
 use std::test::Fail;
+use wtp_fields::qpack::DecodingError;
 
 /// The static table as RFC 9204, Appendix A, lists it.
 static APPENDIX_A: [(&str, &str); 99] = [
@@ -115,34 +118,107 @@ static APPENDIX_A: [(&str, &str); 99] = [
     ("x-frame-options", "sameorigin"),
 ];
 
+/// Asserts that an index refers to this entry, as a whole and by its name.
+fn assert_entry(
+    rt: &impl Abort,
+    alloc: Global,
+    index: usize,
+    (name, value): (&str, &str),
+) -> Result<(), Fail> {
+    let whole = if index < 63 {
+        joined(alloc, [b"\x00\x00", &[0xc0 | index as u8], b""])?
+    } else {
+        joined(
+            alloc,
+            [
+                b"\x00\x00\xff",
+                &[(index.wrapping_sub(63) % 128) as u8],
+                b"",
+            ],
+        )?
+    };
+    assert_decoded(rt, alloc, whole.as_slice(), &[(name, value)], index)?;
+    let named = named(alloc, index)?;
+    assert_decoded(rt, alloc, named.as_slice(), &[(name, "~")], index)?;
+    Ok(())
+}
+
+/// The section of one line that refers to the name of an entry, and has the value `~`, which no entry has.
+fn named(alloc: Global, index: usize) -> Result<Vec<u8>, AllocError> {
+    if index < 15 {
+        joined(alloc, [b"\x00\x00", &[0x50 | index as u8], b"\x01~"])
+    } else {
+        joined(
+            alloc,
+            [
+                b"\x00\x00\x5f",
+                &[(index.wrapping_sub(15) % 128) as u8],
+                b"\x01~",
+            ],
+        )
+    }
+}
+
+/// Asserts that a name is encoded by the index of its first entry.
+fn assert_first_entry(
+    rt: &impl Abort,
+    alloc: Global,
+    first: usize,
+    name: &str,
+) -> Result<(), AllocError> {
+    let section = named(alloc, first)?;
+    assert_encoded(rt, alloc, &[(name, "~")], section.as_slice(), name)
+}
+
 #[test]
 fn whole_table_past_refused_memory(rt: HostRuntime) -> Result<(), Fail> {
-    let mut names = 0u8;
     for (index, (name, value)) in APPENDIX_A.iter().enumerate() {
-        assert_eq!(rt; entry(index as u64), Some((*name, *value)), "{index}");
-        let first = APPENDIX_A.iter().position(|e| e.0 == *name);
-        assert_eq!(rt; first_entry(name), first, "{name}");
-        if first == Some(index) {
+        assert_entry(&rt, rt.alloc(), index, (*name, *value))?;
+    }
+    let fault = Some(DecodingError::IndexNotfound);
+    same(
+        &rt,
+        decoded(rt.alloc(), b"\x00\x00\xff\x24").err(),
+        fault,
+        "index 99",
+    );
+    same(
+        &rt,
+        decoded(rt.alloc(), b"\x00\x00\x5f\x54").err(),
+        fault,
+        "the name of index 99",
+    );
+    Ok(())
+}
+
+#[test]
+fn names_past_refused_memory(rt: HostRuntime) -> Result<(), Fail> {
+    let mut names = 0u8;
+    for (index, (name, _)) in APPENDIX_A.iter().enumerate() {
+        let first = APPENDIX_A
+            .iter()
+            .position(|e| e.0 == *name)
+            .unwrap_or(index);
+        assert_first_entry(&rt, rt.alloc(), first, name)?;
+        if first == index {
             names = names.wrapping_add(1);
         }
-        let short = [0, 0, 0xc0 | (index % 63) as u8];
-        let long = [0, 0, 0xff, (index % 63) as u8];
-        let section = if index < 63 {
-            short.as_slice()
-        } else {
-            long.as_slice()
-        };
-        let fields = decoded(rt.alloc(), section)?;
-        assert_fields(&rt, &fields, &[(*name, *value)], name);
     }
-    assert_eq!(rt; names, 52);
-    assert_eq!(rt; entry(99), None);
-    for (shows, name) in [
-        ("before all", ""),
-        ("behind all", "zz"),
-        ("between two", "agf"),
-    ] {
-        assert_eq!(rt; first_entry(name), None, "{shows}");
+    same(&rt, names, 52, "names");
+    Ok(())
+}
+
+/// What a row shows, a name of no entry, and the section of this name with the value `~`.
+static UNKNOWN: [(&str, &str, &[u8]); 3] = [
+    ("before all", "", b"\x00\x00\x20\x01~"),
+    ("after all", "zz", b"\x00\x00\x22zz\x01~"),
+    ("between two", "agf", b"\x00\x00\x23agf\x01~"),
+];
+
+#[test]
+fn names_of_no_entry_past_refused_memory(rt: HostRuntime) -> Result<(), Fail> {
+    for (shows, name, section) in UNKNOWN {
+        assert_encoded(&rt, rt.alloc(), &[(name, "~")], section, shows)?;
     }
     Ok(())
 }

@@ -1,0 +1,325 @@
+//! Prefixed integers (RFC 7541, section 5.1) as the integers of sections, lengths and indices, and string literals whose
+//! lengths they are.
+use crate::field_sections::{assert_come_back, assert_decoded, decoded, encoded, joined};
+use crate::same::same;
+use std::alloc::Global;
+use std::process::Abort;
+use std::test::Fail;
+use wtp_fields::qpack::DecodingError;
+
+/// Letters whose text is as long in the Huffman code, where each is 0xfd.
+static Z: [u8; 2139] = [b'Z'; 2139];
+
+/// Letters of five bits in the Huffman code.
+static A: [u8; 2139] = [b'a'; 2139];
+
+/// The text of a letter, `a` or `Z`, so many times.
+fn text_of(letter: u8, len: usize) -> Result<&'static str, Fail> {
+    let letters: &'static [u8] = if letter == b'a' { &A } else { &Z };
+    let (bytes, _) = letters.split_at_checked(len).ok_or("too few letters")?;
+    Ok(str::from_utf8(bytes)?)
+}
+
+/// What a row shows, the letter of a name and how many, the same of a value, the front of the section of this field, and
+/// the length of the section.
+static WRITTEN: [(&str, (u8, usize), (u8, usize), &[u8], usize); 12] = [
+    ("no letter", (b'Z', 0), (b'Z', 0), b"\x00\x00\x20\x00", 4),
+    ("a name of 6", (b'Z', 6), (b'Z', 0), b"\x00\x00\x26Z", 10),
+    (
+        "all ones and an empty group",
+        (b'Z', 7),
+        (b'Z', 0),
+        b"\x00\x00\x27\x00Z",
+        12,
+    ),
+    (
+        "a name of 10",
+        (b'Z', 10),
+        (b'Z', 0),
+        b"\x00\x00\x27\x03Z",
+        15,
+    ),
+    (
+        "a name of 31",
+        (b'Z', 31),
+        (b'Z', 0),
+        b"\x00\x00\x27\x18Z",
+        36,
+    ),
+    (
+        "a name of 1337",
+        (b'Z', 1337),
+        (b'Z', 0),
+        b"\x00\x00\x27\xb2\x0aZ",
+        1343,
+    ),
+    (
+        "a code of 1337",
+        (b'a', 2139),
+        (b'Z', 0),
+        b"\x00\x00\x2f\xb2\x0a\x18",
+        1343,
+    ),
+    (
+        "a value of 10",
+        (b'Z', 0),
+        (b'Z', 10),
+        b"\x00\x00\x20\x0aZ",
+        14,
+    ),
+    (
+        "a value of 31",
+        (b'Z', 0),
+        (b'Z', 31),
+        b"\x00\x00\x20\x1fZ",
+        35,
+    ),
+    (
+        "a value of 127",
+        (b'Z', 0),
+        (b'Z', 127),
+        b"\x00\x00\x20\x7f\x00Z",
+        132,
+    ),
+    (
+        "a value of 1337",
+        (b'Z', 0),
+        (b'Z', 1337),
+        b"\x00\x00\x20\x7f\xba\x09Z",
+        1343,
+    ),
+    (
+        "a value whose code has 1337",
+        (b'Z', 0),
+        (b'a', 2139),
+        b"\x00\x00\x20\xff\xba\x09\x18",
+        1343,
+    ),
+];
+
+/// Asserts that the section of a field has this front and this length.
+fn assert_written(
+    rt: &impl Abort,
+    alloc: Global,
+    field: (&str, &str),
+    (front, len): (&[u8], usize),
+    shows: &str,
+) -> Result<(), Fail> {
+    let section = encoded(alloc, &[field])?;
+    let came = section.as_slice().split_at_checked(front.len());
+    same(rt, came.map(|parts| parts.0), Some(front), shows);
+    same(rt, section.len(), len, shows);
+    Ok(())
+}
+
+#[test]
+fn written_integers_past_refused_memory(rt: HostRuntime) -> Result<(), Fail> {
+    for (shows, name, value, front, len) in WRITTEN {
+        let field = (text_of(name.0, name.1)?, text_of(value.0, value.1)?);
+        assert_written(&rt, rt.alloc(), field, (front, len), shows)?;
+        assert_come_back(&rt, rt.alloc(), &[field], &[field], shows)?;
+    }
+    Ok(())
+}
+
+/// What a row shows, and a section up to an integer of 1337, and a byte that follows so many times.
+static NAMES_OF_1337: [(&str, &[u8], u8); 4] = [
+    ("a name", b"\x00\x00\x27\xb2\x0a", b'Z'),
+    ("a name in the code", b"\x00\x00\x2f\xb2\x0a", 0xfd),
+    ("a name never to be indexed", b"\x00\x00\x37\xb2\x0a", b'Z'),
+    ("the same in the code", b"\x00\x00\x3f\xb2\x0a", 0xfd),
+];
+
+/// The same of values.
+static VALUES_OF_1337: [(&str, &[u8], u8); 6] = [
+    ("a value", b"\x00\x00\x20\x7f\xba\x09", b'Z'),
+    ("a value in the code", b"\x00\x00\x20\xff\xba\x09", 0xfd),
+    ("never to be indexed", b"\x00\x00\x30\x7f\xba\x09", b'Z'),
+    ("the same in the code", b"\x00\x00\x30\xff\xba\x09", 0xfd),
+    (
+        "an empty name in the code",
+        b"\x00\x00\x28\x7f\xba\x09",
+        b'Z',
+    ),
+    ("both in the code", b"\x00\x00\x38\xff\xba\x09", 0xfd),
+];
+
+/// Asserts that a section with a byte 1337 times in it is decoded to this field.
+fn assert_read(
+    rt: &impl Abort,
+    alloc: Global,
+    (front, byte, end): (&[u8], u8, &[u8]),
+    field: (&str, &str),
+    shows: &str,
+) -> Result<(), Fail> {
+    let section = joined(alloc, [front, &[byte; 1337], end])?;
+    assert_decoded(rt, alloc, section.as_slice(), &[field], shows)?;
+    Ok(())
+}
+
+#[test]
+fn integers_under_each_flag_past_refused_memory(rt: HostRuntime) -> Result<(), Fail> {
+    let text = text_of(b'Z', 1337)?;
+    for (shows, front, byte) in NAMES_OF_1337 {
+        assert_read(&rt, rt.alloc(), (front, byte, b"\x00"), (text, ""), shows)?;
+    }
+    for (shows, front, byte) in VALUES_OF_1337 {
+        assert_read(&rt, rt.alloc(), (front, byte, b""), ("", text), shows)?;
+    }
+    Ok(())
+}
+
+/// What a row shows, a section, and the fault of its last integer; none of 2^64 - 1 in the prefix of a section, where
+/// each integer is passed over.
+static ANSWERS: [(&str, &[u8], Option<DecodingError>); 27] = [
+    ("nothing", b"", Some(DecodingError::UnexpectedFin)),
+    ("no group", b"\xff", Some(DecodingError::UnexpectedFin)),
+    (
+        "a group that goes on",
+        b"\xff\x80",
+        Some(DecodingError::UnexpectedFin),
+    ),
+    (
+        "nine groups of ones",
+        &[0xff; 10],
+        Some(DecodingError::UnexpectedFin),
+    ),
+    (
+        "a long row of ones",
+        &[0xff; 100],
+        Some(DecodingError::IntegerOverflow),
+    ),
+    (
+        "no second integer",
+        b"\x00",
+        Some(DecodingError::UnexpectedFin),
+    ),
+    (
+        "no group of the second",
+        b"\x00\x7f",
+        Some(DecodingError::UnexpectedFin),
+    ),
+    (
+        "a group of it that goes on",
+        b"\x00\x7f\x80",
+        Some(DecodingError::UnexpectedFin),
+    ),
+    (
+        "no group of an index",
+        b"\x00\x00\xff",
+        Some(DecodingError::UnexpectedFin),
+    ),
+    (
+        "no group of a name",
+        b"\x00\x00\x5f",
+        Some(DecodingError::UnexpectedFin),
+    ),
+    (
+        "no group of a length",
+        b"\x00\x00\x27",
+        Some(DecodingError::UnexpectedFin),
+    ),
+    (
+        "no group of a value",
+        b"\x00\x00\x20\x7f",
+        Some(DecodingError::UnexpectedFin),
+    ),
+    (
+        "index 1337",
+        b"\x00\x00\xff\xfa\x09",
+        Some(DecodingError::IndexNotfound),
+    ),
+    (
+        "name 1337",
+        b"\x00\x00\x5f\xaa\x0a",
+        Some(DecodingError::IndexNotfound),
+    ),
+    (
+        "name 1337 never to be indexed",
+        b"\x00\x00\x7f\xaa\x0a",
+        Some(DecodingError::IndexNotfound),
+    ),
+    (
+        "a first integer of 2^64 - 1",
+        b"\xff\x80\xfe\xff\xff\xff\xff\xff\xff\xff\x01\x00",
+        None,
+    ),
+    (
+        "a first integer of 2^64",
+        b"\xff\x81\xfe\xff\xff\xff\xff\xff\xff\xff\x01\x00",
+        Some(DecodingError::IntegerOverflow),
+    ),
+    (
+        "a second integer of 2^64 - 1",
+        b"\x00\x7f\x80\xff\xff\xff\xff\xff\xff\xff\xff\x01",
+        None,
+    ),
+    (
+        "a second integer of 2^64",
+        b"\x00\x7f\x81\xff\xff\xff\xff\xff\xff\xff\xff\x01",
+        Some(DecodingError::IntegerOverflow),
+    ),
+    (
+        "an index of 2^64 - 1",
+        b"\x00\x00\xff\xc0\xff\xff\xff\xff\xff\xff\xff\xff\x01",
+        Some(DecodingError::IndexNotfound),
+    ),
+    (
+        "an index of 2^64",
+        b"\x00\x00\xff\xc1\xff\xff\xff\xff\xff\xff\xff\xff\x01",
+        Some(DecodingError::IntegerOverflow),
+    ),
+    (
+        "the name of index 2^64 - 1",
+        b"\x00\x00\x5f\xf0\xff\xff\xff\xff\xff\xff\xff\xff\x01",
+        Some(DecodingError::IndexNotfound),
+    ),
+    (
+        "the name of index 2^64",
+        b"\x00\x00\x5f\xf1\xff\xff\xff\xff\xff\xff\xff\xff\x01",
+        Some(DecodingError::IntegerOverflow),
+    ),
+    (
+        "a name of 2^64 - 1",
+        b"\x00\x00\x27\xf8\xff\xff\xff\xff\xff\xff\xff\xff\x01",
+        Some(DecodingError::UnexpectedFin),
+    ),
+    (
+        "a name of 2^64",
+        b"\x00\x00\x27\xf9\xff\xff\xff\xff\xff\xff\xff\xff\x01",
+        Some(DecodingError::IntegerOverflow),
+    ),
+    (
+        "a value of 2^64 - 1",
+        b"\x00\x00\x20\x7f\x80\xff\xff\xff\xff\xff\xff\xff\xff\x01",
+        Some(DecodingError::UnexpectedFin),
+    ),
+    (
+        "a value of 2^64",
+        b"\x00\x00\x20\x7f\x81\xff\xff\xff\xff\xff\xff\xff\xff\x01",
+        Some(DecodingError::IntegerOverflow),
+    ),
+];
+
+#[test]
+fn cut_and_great_integers_past_refused_memory(rt: HostRuntime) {
+    for (shows, section, fault) in ANSWERS {
+        same(&rt, decoded(rt.alloc(), section).err(), fault, shows);
+    }
+}
+
+/// Lengths within the prefixes of names and values, at their edges, and of one and two groups after them.
+static LENGTHS: [usize; 18] = [
+    0, 1, 6, 7, 8, 30, 31, 32, 126, 127, 128, 134, 135, 158, 159, 254, 255, 1023,
+];
+
+#[test]
+fn strings_past_refused_memory(rt: HostRuntime) -> Result<(), Fail> {
+    for len in LENGTHS {
+        for letter in [b'a', b'Z'] {
+            let text = text_of(letter, len)?;
+            assert_come_back(&rt, rt.alloc(), &[(text, text)], &[(text, text)], len)?;
+        }
+    }
+    Ok(())
+}

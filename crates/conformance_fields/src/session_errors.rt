@@ -1,0 +1,141 @@
+//! Texts of the errors of requests, responses and their header maps, and refused memory.
+use crate::same::same;
+use std::alloc::{AllocError, Global};
+use std::fmt::Display;
+use std::process::Abort;
+use std::test::Fail;
+use wtp_fields::session::{
+    AddError, HeadersParseError, InsertError, ReservedHeader, UrlParseError,
+};
+
+/// An error's text, asked for once more where memory was refused.
+fn shown(alloc: Global, error: &impl Display) -> Result<String, AllocError> {
+    match error.to_string(alloc) {
+        Err(AllocError) => error.to_string(alloc),
+        outcome => outcome,
+    }
+}
+
+/// Asserts that an error has this text.
+fn assert_shown(
+    rt: &impl Abort,
+    alloc: Global,
+    error: &impl Display,
+    text: &str,
+) -> Result<(), AllocError> {
+    same(rt, shown(alloc, error)?.as_str(), text, text);
+    Ok(())
+}
+
+/// Errors of header maps, and their texts.
+static ERRORS_OF_MAPS: [(HeadersParseError, &str); 11] = [
+    (
+        HeadersParseError::MissingMethod,
+        "':method' field is missing",
+    ),
+    (
+        HeadersParseError::MethodNotConnect,
+        "':method' is not CONNECT",
+    ),
+    (
+        HeadersParseError::MissingScheme,
+        "':scheme' field is missing",
+    ),
+    (
+        HeadersParseError::SchemeNotHttps,
+        "':scheme' is not 'https'",
+    ),
+    (
+        HeadersParseError::MissingProtocol,
+        "':protocol' field is missing",
+    ),
+    (
+        HeadersParseError::ProtocolNotWebTransport,
+        "':protocol' is not 'webtransport'",
+    ),
+    (
+        HeadersParseError::MissingAuthority,
+        "':authority' field is missing",
+    ),
+    (HeadersParseError::MissingPath, "':path' field is missing"),
+    (
+        HeadersParseError::MissingStatusCode,
+        "':status' field is missing",
+    ),
+    (
+        HeadersParseError::InvalidStatusCode,
+        "invalid HTTP status code",
+    ),
+    (HeadersParseError::Memory, "no memory"),
+];
+
+#[test]
+fn printed_errors_of_maps_past_refused_memory(rt: HostRuntime) -> Result<(), Fail> {
+    for (error, text) in &ERRORS_OF_MAPS {
+        assert_shown(&rt, rt.alloc(), error, text)?;
+    }
+    Ok(())
+}
+
+/// Errors of URLs, and their texts.
+static ERRORS_OF_URLS: [(UrlParseError, &str); 13] = [
+    (UrlParseError::EmptyHost, "host is missing in the URL"),
+    (
+        UrlParseError::IdnaError,
+        "invalid international domain name",
+    ),
+    (UrlParseError::InvalidPort, "invalid port number"),
+    (UrlParseError::InvalidIpv4Address, "invalid IPv4 address"),
+    (UrlParseError::InvalidIpv6Address, "invalid IPv6 address"),
+    (
+        UrlParseError::InvalidDomainCharacter,
+        "invalid domain character",
+    ),
+    (
+        UrlParseError::RelativeUrlWithoutBase,
+        "relative URL without a base",
+    ),
+    (
+        UrlParseError::RelativeUrlWithCannotBeABaseBase,
+        "relative URL with a cannot-be-a-base base",
+    ),
+    (
+        UrlParseError::SetHostOnCannotBeABaseUrl,
+        "a cannot-be-a-base URL doesn’t have a host to set",
+    ),
+    (
+        UrlParseError::Overflow,
+        "URLs more than 4 GB are not supported",
+    ),
+    (UrlParseError::Unknown, "unknown error during URL parsing"),
+    (UrlParseError::SchemeNotHttps, "URL scheme is not 'https'"),
+    (UrlParseError::Memory, "no memory"),
+];
+
+#[test]
+fn printed_errors_of_urls_past_refused_memory(rt: HostRuntime) -> Result<(), Fail> {
+    for (error, text) in &ERRORS_OF_URLS {
+        assert_shown(&rt, rt.alloc(), error, text)?;
+    }
+    Ok(())
+}
+
+#[test]
+fn printed_errors_of_fields_past_refused_memory(rt: HostRuntime) -> Result<(), Fail> {
+    for (error, text) in [
+        (
+            InsertError::Reserved(ReservedHeader),
+            "used reserved header",
+        ),
+        (InsertError::Memory, "no memory"),
+    ] {
+        assert_shown(&rt, rt.alloc(), &error, text)?;
+    }
+    for (error, text) in [
+        (AddError::InvalidStatusCode, "invalid HTTP status code"),
+        (AddError::Memory, "no memory"),
+    ] {
+        assert_shown(&rt, rt.alloc(), &error, text)?;
+    }
+    Ok(())
+}
