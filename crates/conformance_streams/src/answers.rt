@@ -2,12 +2,12 @@
 use std::alloc::{AllocError, Global};
 use std::process::Abort;
 use std::test::Fail;
-use wtransport_proto::bytes::{AsyncRead, IoReadError as Fault, Polled};
+use test_io::same;
+use wtransport_proto::bytes::{IoReadError as Fault, Polled};
 use wtransport_proto::error::ErrorCode;
-use wtransport_proto::frame::{FrameOwned, FrameReading};
+use wtransport_proto::frame::{Frame, FrameOwned};
 use wtransport_proto::ids::{SessionId, StreamId};
 use wtransport_proto::stream::IoReadError;
-use wtransport_proto::stream::biremote::StreamBiRemoteH3;
 use wtransport_proto::varint::VarInt;
 
 /// The answer of one poll.
@@ -22,13 +22,13 @@ pub(crate) enum Answer<'a> {
     Again,
 }
 
-/// The stream ends behind a whole frame.
+/// The stream ends after a whole frame.
 pub(crate) const FIN: Answer<'static> = Answer::Fault(IoReadError::IO(Fault::ImmediateFin));
 
 /// The stream ends inside a frame, or a frame came too late.
 pub(crate) const CUT: Answer<'static> = Answer::Fault(IoReadError::H3(ErrorCode::Frame));
 
-/// These bytes, and zeros behind them, so many in all.
+/// These bytes, and zeros after them, so many in all.
 pub(crate) fn padded(alloc: Global, front: &[u8], len: usize) -> Result<Vec<u8>, AllocError> {
     let mut bytes = Vec::from_slice(alloc, front)?;
     bytes.resize(len, 0)?;
@@ -41,6 +41,30 @@ pub(crate) fn session_4() -> Result<SessionId, Fail> {
     Ok(SessionId::try_from_session_stream(stream)?)
 }
 
+/// The answer of a poll, or what it is to answer, as a value that is compared.
+type Told<'a> = Polled<Result<(u64, &'a [u8]), &'a IoReadError>>;
+
+/// What a poll answered.
+fn told(answered: &Answered) -> Told<'_> {
+    match answered {
+        Polled::Ready(Ok(frame)) => Polled::Ready(Ok(number_and_payload(frame))),
+        Polled::Ready(Err(fault)) => Polled::Ready(Err(fault)),
+        Polled::Pending => Polled::Pending,
+        Polled::Again => Polled::Again,
+        Polled::NoMemory => Polled::NoMemory,
+    }
+}
+
+/// What a poll is to answer.
+fn wanted<'a>(answer: &'a Answer<'_>) -> Told<'a> {
+    match answer {
+        Answer::Frame(number, payload) => Polled::Ready(Ok((*number, payload))),
+        Answer::Fault(fault) => Polled::Ready(Err(fault)),
+        Answer::Pending => Polled::Pending,
+        Answer::Again => Polled::Again,
+    }
+}
+
 /// The answer is this one. What the row shows and the place in it are for the message.
 pub(crate) fn check_answer<R: Abort>(
     rt: &R,
@@ -49,46 +73,10 @@ pub(crate) fn check_answer<R: Abort>(
     word: &str,
     place: usize,
 ) {
-    match (answered, answer) {
-        (Polled::Ready(Ok(frame)), Answer::Frame(number, payload)) => {
-            check_frame(rt, frame, *number, payload, word);
-        }
-        (Polled::Ready(Err(fault)), Answer::Fault(wanted)) => {
-            assert!(rt; fault == wanted, "{word}, {place}: {fault:?}");
-        }
-        (Polled::Pending, Answer::Pending) => {}
-        (Polled::Again, Answer::Again) => {}
-        _ => panic!(rt; "{word}, {place}: another answer"),
-    }
+    same(rt, (place, told(answered)), (place, wanted(answer)), word);
 }
 
-/// The frame has this type number and this payload.
-pub(crate) fn check_frame<R: Abort>(
-    rt: &R,
-    frame: &FrameOwned,
-    number: u64,
-    payload: &[u8],
-    word: &str,
-) {
-    assert_eq!(rt; frame.kind().id().into_inner(), number, "{word}");
-    assert_eq!(rt; frame.payload(), payload, "{word}");
-}
-
-/// The polls of the stream answer this, one behind the other. Where no memory is to be had for a
-/// payload, the poll is made again.
-pub(crate) fn check_polls<R: Abort, S: AsyncRead>(
-    rt: &R,
-    stream: &mut StreamBiRemoteH3,
-    reading: &mut FrameReading,
-    source: &mut S,
-    answers: &[Answer<'_>],
-    word: &str,
-) {
-    for (place, answer) in answers.iter().enumerate() {
-        let mut answered = stream.read_frame_async(reading, source);
-        if let Polled::NoMemory = answered {
-            answered = stream.read_frame_async(reading, source);
-        }
-        check_answer(rt, &answered, answer, word, place);
-    }
+/// The frame's type number and payload.
+pub(crate) fn number_and_payload<'a>(frame: &'a Frame<'_>) -> (u64, &'a [u8]) {
+    (frame.kind().id().into_inner(), frame.payload())
 }

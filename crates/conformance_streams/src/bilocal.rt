@@ -1,128 +1,150 @@
 //! Streams in both directions that this end opened.
+use crate::reads::{FRAMES_OF_BOTH, Wanted, check_buffer, check_reads};
 use std::borrow::CowSlice;
 use std::test::Fail;
+use test_io::same;
 use wtransport_proto::bytes::{BufferReader, BufferWriter, EndOfBuffer, PutError};
 use wtransport_proto::error::ErrorCode;
 use wtransport_proto::frame::Frame;
 use wtransport_proto::ids::{SessionId, StreamId};
-use wtransport_proto::stream::bilocal::StreamBiLocalQuic;
+use wtransport_proto::stream::bilocal::{StreamBiLocalH3, StreamBiLocalQuic, StreamBiLocalWT};
 use wtransport_proto::varint::VarInt;
 
-/// Bytes of a frame, and the frame's type number or the fault that refuses it.
-const FRAMES: [(&[u8], Result<u64, ErrorCode>); 5] = [
-    (b"\x00\x01a", Ok(0x00)),
-    (b"\x01\x01a", Ok(0x01)),
-    (b"\x04\x00", Err(ErrorCode::FrameUnexpected)),
-    (b"\x40\x41\x04", Err(ErrorCode::FrameUnexpected)),
-    (b"\x21\x01a", Ok(0x21)),
+#[test]
+fn frames_are_read_by_the_rule(rt: HostRuntime) {
+    let mut stream = StreamBiLocalQuic::open_bi().upgrade();
+    check_reads(&rt, &mut stream, &FRAMES_OF_BOTH);
+    same(&rt, stream.can_upgrade(), true, "reading does not count");
+}
+
+/// Bytes, and what a read of them from a buffer answers, whose reader stays before them.
+const STAYS: [(&[u8], Wanted<'static>, &str); 3] = [
+    (b"\x0a\x00\x00\x05a", Ok(None), "too few bytes"),
+    (b"\x40\x41\x01", Err(ErrorCode::Id), "no session"),
+    (
+        b"\x00\x50\x01",
+        Err(ErrorCode::ExcessiveLoad),
+        "length 4097",
+    ),
 ];
 
 #[test]
-fn frames_are_read_by_the_rule(rt: HostRuntime) -> Result<(), Fail> {
-    let stream = StreamBiLocalQuic::open_bi().upgrade();
-    for (bytes, answer) in FRAMES {
+fn too_few_bytes_and_faults_stay(rt: HostRuntime) {
+    let mut stream = StreamBiLocalQuic::open_bi().upgrade();
+    for (bytes, wanted, shows) in STAYS {
         let mut reader = BufferReader::new(bytes);
-        let mut rest = bytes;
-        match answer {
-            Ok(number) => {
-                let frame = stream
-                    .read_frame_from_buffer(&mut reader)?
-                    .ok_or("a frame")?;
-                assert_eq!(rt; frame.kind().id().into_inner(), number);
-                assert_eq!(rt; reader.offset(), bytes.len());
-                assert!(rt; stream.read_frame(&mut rest)?.is_some());
-            }
-            Err(code) => {
-                assert_eq!(rt;
-                    stream.read_frame_from_buffer(&mut reader).err(),
-                    Some(code)
-                );
-                assert_eq!(rt; reader.offset(), 0);
-                assert_eq!(rt; stream.read_frame(&mut rest).err(), Some(code));
-            }
-        }
-        assert!(rt; rest.is_empty());
+        check_buffer(&rt, &mut stream, &mut reader, wanted, 0, shows);
     }
-    assert!(rt; stream.can_upgrade());
-    Ok(())
+}
+
+/// What writing a data frame of one byte answers.
+fn put(stream: &mut StreamBiLocalH3, writer: &mut BufferWriter<'_>) -> Result<(), PutError> {
+    stream.write_frame(Frame::new_data(CowSlice::Borrowed(b"a")), writer)
 }
 
 #[test]
-fn too_few_bytes_and_faults_stay(rt: HostRuntime) -> Result<(), Fail> {
-    let stream = StreamBiLocalQuic::open_bi().upgrade();
-    let mut reader = BufferReader::new(&[0x0a, 0x00, 0x00, 0x05, 0x61]);
-    assert!(rt; stream.read_frame_from_buffer(&mut reader)?.is_none());
-    assert_eq!(rt; reader.offset(), 0);
-    for (bytes, code) in [
-        ([0x40, 0x41, 0x01], ErrorCode::Id),
-        ([0x00, 0x50, 0x01], ErrorCode::ExcessiveLoad),
-    ] {
-        let mut reader = BufferReader::new(&bytes);
-        assert_eq!(rt;
-            stream.read_frame_from_buffer(&mut reader).err(),
-            Some(code)
-        );
-        assert_eq!(rt; reader.offset(), 0);
-    }
-    Ok(())
-}
-
-#[test]
-fn a_frame_that_was_written_ends_upgrading(rt: HostRuntime) -> Result<(), Fail> {
+fn a_frame_that_was_written_ends_upgrading(rt: HostRuntime) {
     let mut stream = StreamBiLocalQuic::open_bi().upgrade();
     let mut buffer = [0; 2];
     let mut writer = BufferWriter::new(&mut buffer);
-    assert_eq!(rt;
-        stream.write_frame(Frame::new_data(CowSlice::Borrowed(b"a")), &mut writer),
-        Err(PutError::EndOfBuffer)
+    let answer = put(&mut stream, &mut writer);
+    same(
+        &rt,
+        (answer, writer.buffer_written(), stream.can_upgrade()),
+        (Err(PutError::EndOfBuffer), [0x00, 0x01].as_slice(), true),
+        "too little room",
     );
-    assert_eq!(rt; writer.buffer_written(), [0x00, 0x01].as_slice());
-    assert!(rt; stream.can_upgrade());
     let mut buffer = [0; 3];
     let mut writer = BufferWriter::new(&mut buffer);
-    stream.write_frame(Frame::new_data(CowSlice::Borrowed(b"a")), &mut writer)?;
-    assert_eq!(rt; writer.buffer_written(), b"\x00\x01a".as_slice());
-    assert!(rt; !stream.can_upgrade());
-    Ok(())
+    let answer = put(&mut stream, &mut writer);
+    same(
+        &rt,
+        (answer, writer.buffer_written(), stream.can_upgrade()),
+        (Ok(()), b"\x00\x01a".as_slice(), false),
+        "room for all",
+    );
+}
+
+/// What writing a data frame of one byte whole answers.
+fn put_data(
+    stream: &mut StreamBiLocalH3,
+    writer: &mut BufferWriter<'_>,
+) -> Result<(), EndOfBuffer> {
+    stream.write_frame_to_buffer(Frame::new_data(CowSlice::Borrowed(b"a")), writer)
+}
+
+/// What writing an empty headers frame whole answers.
+fn put_headers(
+    stream: &mut StreamBiLocalH3,
+    writer: &mut BufferWriter<'_>,
+) -> Result<(), EndOfBuffer> {
+    stream.write_frame_to_buffer(Frame::new_headers(CowSlice::Borrowed(b"")), writer)
 }
 
 #[test]
-fn a_frame_that_was_written_whole_ends_upgrading(rt: HostRuntime) -> Result<(), Fail> {
+fn a_frame_that_was_written_whole_ends_upgrading(rt: HostRuntime) {
     let mut stream = StreamBiLocalQuic::open_bi().upgrade();
     let mut buffer = [0; 2];
     let mut writer = BufferWriter::new(&mut buffer);
-    assert_eq!(rt;
-        stream.write_frame_to_buffer(Frame::new_data(CowSlice::Borrowed(b"a")), &mut writer),
-        Err(EndOfBuffer)
+    let answer = put_data(&mut stream, &mut writer);
+    same(
+        &rt,
+        (answer, writer.offset(), stream.can_upgrade()),
+        (Err(EndOfBuffer), 0, true),
+        "too little room",
     );
-    assert_eq!(rt; writer.offset(), 0);
-    assert!(rt; stream.can_upgrade());
-    stream.write_frame_to_buffer(Frame::new_headers(CowSlice::Borrowed(b"")), &mut writer)?;
-    assert_eq!(rt; writer.buffer_written(), [0x01, 0x00].as_slice());
-    assert!(rt; !stream.can_upgrade());
-    Ok(())
+    let answer = put_headers(&mut stream, &mut writer);
+    same(
+        &rt,
+        (answer, writer.buffer_written(), stream.can_upgrade()),
+        (Ok(()), [0x01, 0x00].as_slice(), false),
+        "room for all",
+    );
+}
+
+/// The answer of an upgrade.
+type Upgraded = Result<StreamBiLocalWT, (StreamBiLocalH3, PutError)>;
+
+/// The stream that was handed back, and why.
+fn handed_back(upgraded: Upgraded) -> Result<(StreamBiLocalH3, PutError), Fail> {
+    match upgraded {
+        Ok(_) => Err("too little room")?,
+        Err(back) => Ok(back),
+    }
+}
+
+/// The session of the stream that was upgraded.
+fn session_of(upgraded: Upgraded) -> Result<SessionId, Fail> {
+    match upgraded {
+        Ok(stream) => Ok(stream.session_id()),
+        Err(_) => Err("there is room")?,
+    }
 }
 
 #[test]
 fn it_is_upgraded_where_there_is_room(rt: HostRuntime) -> Result<(), Fail> {
     let session = SessionId::try_from_session_stream(StreamId::new(VarInt::from_u32(0)))?;
     let stream = StreamBiLocalQuic::open_bi().upgrade();
-    assert_eq!(rt; stream.upgrade_size(session), 3);
+    same(&rt, stream.upgrade_size(session), 3, "size");
     let mut buffer = [0; 2];
     let mut writer = BufferWriter::new(&mut buffer);
-    let Err((stream, error)) = stream.upgrade(session, &mut writer) else {
-        return Err("too little room")?;
-    };
-    assert_eq!(rt; error, PutError::EndOfBuffer);
-    assert_eq!(rt; writer.buffer_written(), [0x40, 0x41].as_slice());
+    let (stream, error) = handed_back(stream.upgrade(session, &mut writer))?;
+    same(
+        &rt,
+        (error, writer.buffer_written()),
+        (PutError::EndOfBuffer, [0x40, 0x41].as_slice()),
+        "too little room",
+    );
     assert!(rt; stream.can_upgrade());
     let mut buffer = [0; 4];
     let mut writer = BufferWriter::new(&mut buffer);
-    let Ok(stream) = stream.upgrade(session, &mut writer) else {
-        return Err("there is room")?;
-    };
-    assert_eq!(rt; writer.buffer_written(), [0x40, 0x41, 0x00].as_slice());
-    assert_eq!(rt; stream.session_id(), session);
+    let came = session_of(stream.upgrade(session, &mut writer))?;
+    same(
+        &rt,
+        (came, writer.buffer_written()),
+        (session, [0x40, 0x41, 0x00].as_slice()),
+        "there is room",
+    );
     Ok(())
 }
 
@@ -136,7 +158,7 @@ fn refused_memory_hands_the_stream_back(rt: HostRuntime) -> Result<(), Fail> {
     {
         Ok(upgraded) => upgraded,
         Err((stream, error)) => {
-            assert_eq!(rt; error, PutError::Memory);
+            same(&rt, error, PutError::Memory, "error");
             let written = vector.as_slice();
             assert!(rt; written == [].as_slice() || written == [0x40, 0x41].as_slice());
             vector.clear();
@@ -146,7 +168,11 @@ fn refused_memory_hands_the_stream_back(rt: HostRuntime) -> Result<(), Fail> {
             }
         }
     };
-    assert_eq!(rt; vector.as_slice(), [0x40, 0x41, 0x40, 0x40].as_slice());
-    assert_eq!(rt; upgraded.session_id(), session);
+    same(
+        &rt,
+        (vector.as_slice(), upgraded.session_id()),
+        ([0x40, 0x41, 0x40, 0x40].as_slice(), session),
+        "upgraded",
+    );
     Ok(())
 }

@@ -1,22 +1,23 @@
 //! Driving streams.
-use crate::answers::{check_frame, padded};
+use crate::answers::{number_and_payload, padded};
 use crate::session::opened;
 use crate::uniremote::upgraded;
+use std::alloc::{AllocError, Global};
 use std::process::Abort;
 use std::test::Fail;
-use test_io::{End, Trickle};
+use test_io::{End, Trickle, same};
 use wtransport_proto::bytes::{AsyncRead, IoReadError as Fault};
 use wtransport_proto::error::ErrorCode;
 use wtransport_proto::frame::{Frame, FrameOwned, FrameReading};
 use wtransport_proto::stream::bilocal::StreamBiLocalQuic;
-use wtransport_proto::stream::biremote::StreamBiRemoteQuic;
+use wtransport_proto::stream::biremote::{StreamBiRemoteH3, StreamBiRemoteQuic};
 use wtransport_proto::stream::{Driven, IoReadError, ReadsFrames, drive};
 
 const FIN: Driven = Driven::Ended(IoReadError::IO(Fault::ImmediateFin));
 
 const CUT: Driven = Driven::Ended(IoReadError::H3(ErrorCode::Frame));
 
-/// Drives the stream; where no memory is to be had, once more.
+/// Drives the stream; where allocation failed, once more.
 fn driven<K: ReadsFrames, S: AsyncRead>(
     stream: &mut K,
     reading: &mut FrameReading,
@@ -34,9 +35,53 @@ fn driven<K: ReadsFrames, S: AsyncRead>(
 
 /// The frames put out are these, by type number and payload.
 fn check_frames<R: Abort>(rt: &R, out: &Vec<FrameOwned>, frames: &[(u64, &[u8])]) {
-    assert_eq!(rt; out.len(), frames.len());
-    for (frame, (number, payload)) in out.iter().zip(frames) {
-        check_frame(rt, frame, *number, payload, "put out");
+    same(rt, out.len(), frames.len(), "frames put out");
+    for (frame, wanted) in out.iter().zip(frames) {
+        same(rt, number_and_payload(frame), *wanted, "put out");
+    }
+}
+
+/// A stream that the peer opened, and what was driven out of it.
+#[derive(Drop)]
+struct Driving {
+    stream: StreamBiRemoteH3,
+    reading: FrameReading,
+    out: Vec<FrameOwned>,
+}
+
+impl Driving {
+    /// A new stream, of which nothing was read.
+    fn new(alloc: Global) -> Self {
+        Driving {
+            stream: StreamBiRemoteQuic::accept_bi().upgrade(),
+            reading: Frame::read_async(alloc),
+            out: Vec::new(alloc),
+        }
+    }
+
+    /// Drives it on, with so many polls.
+    fn on<S: AsyncRead>(&mut self, source: &mut S, polls: u32) -> Driven {
+        driven(
+            &mut self.stream,
+            &mut self.reading,
+            source,
+            &mut self.out,
+            polls,
+        )
+    }
+
+    /// Drives it on, with so many polls: this is how it ends, how many frames it has put out since
+    /// it was new, and how many bytes are left.
+    fn check<R: Abort>(
+        &mut self,
+        rt: &R,
+        bytes: &mut &[u8],
+        polls: u32,
+        wanted: (Driven, usize, usize),
+        shows: &str,
+    ) {
+        let end = self.on(bytes, polls);
+        same(rt, (end, self.out.len(), bytes.len()), wanted, shows);
     }
 }
 
@@ -55,116 +100,93 @@ fn refused_memory_loses_no_frame(rt: HostRuntime) {
         assert!(rt; out.len() < 2);
         end = drive(&mut stream, &mut reading, &mut source, &mut out, 10);
     }
-    assert_eq!(rt; end, FIN);
+    same(&rt, end, FIN, "the end");
     check_frames(&rt, &out, &TWO_FRAMES);
 }
 
+/// How a drive of one poll ends, how many frames were put out then, and how many bytes are left.
+const ONE_BY_ONE: [(Driven, usize, usize); 3] = [
+    (Driven::Spent, 1, 3),
+    (Driven::Spent, 2, 0),
+    (FIN, 2, 0),
+];
+
 #[test]
 fn polls_are_spent_one_by_one(rt: HostRuntime) {
-    let mut stream = StreamBiRemoteQuic::accept_bi().upgrade();
-    let mut reading = Frame::read_async(rt.alloc());
-    let mut out = Vec::new(rt.alloc());
-    let mut source = TWO;
-    for (end, count) in [(Driven::Spent, 1), (Driven::Spent, 2), (FIN, 2)] {
-        assert_eq!(rt;
-            driven(&mut stream, &mut reading, &mut source, &mut out, 1),
-            end
-        );
-        assert_eq!(rt; out.len(), count);
+    let mut driving = Driving::new(rt.alloc());
+    let mut bytes = TWO;
+    for wanted in ONE_BY_ONE {
+        driving.check(&rt, &mut bytes, 1, wanted, "one poll");
     }
-    check_frames(&rt, &out, &TWO_FRAMES);
+    check_frames(&rt, &driving.out, &TWO_FRAMES);
 }
 
 #[test]
 fn a_cut_unknown_frame_ends_it(rt: HostRuntime) {
-    let mut stream = StreamBiRemoteQuic::accept_bi().upgrade();
-    let mut reading = Frame::read_async(rt.alloc());
-    let mut out = Vec::new(rt.alloc());
-    let mut source = [0x0a, 0x0a, 0x00, 0x00].as_slice();
-    assert_eq!(rt;
-        driven(&mut stream, &mut reading, &mut source, &mut out, 2),
-        CUT
-    );
-    assert!(rt; out.is_empty());
+    let mut driving = Driving::new(rt.alloc());
+    let mut bytes = [0x0a, 0x0a, 0x00, 0x00].as_slice();
+    driving.check(&rt, &mut bytes, 2, (CUT, 0, 0), "a cut unknown frame");
 }
 
-/// Drives over an unknown frame of 8192 bytes and a data frame of none.
+/// An unknown frame of 8192 bytes and a data frame of none.
+fn unknown_then_data(alloc: Global) -> Result<Vec<u8>, AllocError> {
+    padded(alloc, &[0x0a, 0x60, 0x00], 3 + 8192 + 2)
+}
+
+/// How many polls are made, how many frames were put out then, and how many bytes are left.
+const PARTS: [(u32, usize, usize); 4] = [(0, 0, 8197), (1, 0, 4098), (1, 0, 2), (1, 1, 0)];
+
 #[test]
-fn each_part_of_an_unknown_frame_is_a_poll(rt: HostRuntime) -> Result<(), Fail> {
-    let bytes = padded(rt.alloc(), &[0x0a, 0x60, 0x00], 3 + 8192 + 2)?;
-    let mut stream = StreamBiRemoteQuic::accept_bi().upgrade();
-    let mut reading = Frame::read_async(rt.alloc());
-    let mut out = Vec::new(rt.alloc());
-    let mut source = bytes.as_slice();
-    for (polls, count, left) in [(0, 0, 8197), (1, 0, 4098), (1, 0, 2), (1, 1, 0)] {
-        assert_eq!(rt;
-            driven(&mut stream, &mut reading, &mut source, &mut out, polls),
-            Driven::Spent
-        );
-        assert_eq!(rt; out.len(), count);
-        assert_eq!(rt; source.len(), left);
+fn each_part_of_an_unknown_frame_is_a_poll(rt: HostRuntime) -> Result<(), AllocError> {
+    let unknown = unknown_then_data(rt.alloc())?;
+    let mut driving = Driving::new(rt.alloc());
+    let mut bytes = unknown.as_slice();
+    for (polls, frames, left) in PARTS {
+        let wanted = (Driven::Spent, frames, left);
+        driving.check(&rt, &mut bytes, polls, wanted, "part");
     }
-    check_frames(&rt, &out, &[(0x00, b"")]);
+    check_frames(&rt, &driving.out, &[(0x00, b"")]);
     Ok(())
 }
 
 #[test]
-fn three_polls_pass_an_unknown_frame(rt: HostRuntime) -> Result<(), Fail> {
-    let bytes = padded(rt.alloc(), &[0x0a, 0x60, 0x00], 3 + 8192 + 2)?;
-    let mut stream = StreamBiRemoteQuic::accept_bi().upgrade();
-    let mut reading = Frame::read_async(rt.alloc());
-    let mut out = Vec::new(rt.alloc());
-    let mut source = bytes.as_slice();
-    assert_eq!(rt;
-        driven(&mut stream, &mut reading, &mut source, &mut out, 3),
-        Driven::Spent
-    );
-    check_frames(&rt, &out, &[(0x00, b"")]);
+fn three_polls_pass_an_unknown_frame(rt: HostRuntime) -> Result<(), AllocError> {
+    let unknown = unknown_then_data(rt.alloc())?;
+    let mut driving = Driving::new(rt.alloc());
+    let mut bytes = unknown.as_slice();
+    driving.check(&rt, &mut bytes, 3, (Driven::Spent, 1, 0), "three polls");
+    check_frames(&rt, &driving.out, &[(0x00, b"")]);
     Ok(())
 }
 
 #[test]
 fn waits_lose_no_frame(rt: HostRuntime) {
-    let mut stream = StreamBiRemoteQuic::accept_bi().upgrade();
-    let mut reading = Frame::read_async(rt.alloc());
-    let mut out = Vec::new(rt.alloc());
+    let mut driving = Driving::new(rt.alloc());
     let mut source = Trickle::new(b"\x21\x07Payload\x40\x41\x00", End::Fin);
     for turn in 0..12usize {
-        assert_eq!(rt;
-            driven(&mut stream, &mut reading, &mut source, &mut out, 10),
-            Driven::Waiting,
-            "{turn}"
-        );
+        same(&rt, driving.on(&mut source, 10), Driven::Waiting, turn);
     }
-    assert_eq!(rt;
-        driven(&mut stream, &mut reading, &mut source, &mut out, 10),
-        CUT
-    );
-    check_frames(&rt, &out, &[(0x21, b"Payload")]);
+    same(&rt, driving.on(&mut source, 10), CUT, "after all waits");
+    check_frames(&rt, &driving.out, &[(0x21, b"Payload")]);
 }
+
+/// How the drives over a cut source end.
+const CUT_SOURCE: [Driven; 3] = [
+    Driven::Waiting,
+    Driven::Waiting,
+    Driven::Ended(IoReadError::IO(Fault::Reset)),
+];
 
 #[test]
 fn a_drive_goes_on_over_a_second_source(rt: HostRuntime) {
-    let mut stream = StreamBiRemoteQuic::accept_bi().upgrade();
-    let mut reading = Frame::read_async(rt.alloc());
-    let mut out = Vec::new(rt.alloc());
+    let mut driving = Driving::new(rt.alloc());
     let mut source = Trickle::new(b"\x00", End::Reset);
-    for end in [
-        Driven::Waiting,
-        Driven::Waiting,
-        Driven::Ended(IoReadError::IO(Fault::Reset)),
-    ] {
-        assert_eq!(rt;
-            driven(&mut stream, &mut reading, &mut source, &mut out, 10),
-            end
-        );
+    for (turn, end) in CUT_SOURCE.into_iter().enumerate() {
+        same(&rt, driving.on(&mut source, 10), end, turn);
     }
-    let mut source = b"\x01a".as_slice();
-    assert_eq!(rt;
-        driven(&mut stream, &mut reading, &mut source, &mut out, 10),
-        FIN
-    );
-    check_frames(&rt, &out, &[(0x00, b"a")]);
+    let mut bytes = b"\x01a".as_slice();
+    driving.check(&rt, &mut bytes, 10, (FIN, 1, 0), "the second source");
+    check_frames(&rt, &driving.out, &[(0x00, b"a")]);
 }
 
 /// Driven over the bytes, the stream puts out these frames and ends so.
@@ -180,10 +202,11 @@ fn check_driven<R: Abort + AllocGlobal, K: ReadsFrames>(
     let mut out = Vec::new(rt.alloc());
     let mut source = bytes;
     assert!(rt; stream.can_read());
-    assert_eq!(rt;
+    same(
+        rt,
         driven(stream, &mut reading, &mut source, &mut out, 10),
         Driven::Ended(fault),
-        "{word}"
+        word,
     );
     check_frames(rt, &out, frames);
 }

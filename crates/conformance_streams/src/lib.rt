@@ -16,6 +16,8 @@ mod polled;
 #[cfg(test)]
 mod printed;
 #[cfg(test)]
+mod reads;
+#[cfg(test)]
 mod rules;
 #[cfg(test)]
 mod session;

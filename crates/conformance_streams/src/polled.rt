@@ -1,8 +1,9 @@
 //! Reading frames from streams, poll by poll.
-use crate::answers::{Answer, Answered, CUT, FIN, check_answer, check_polls, padded};
+use crate::answers::{Answer, Answered, CUT, FIN, check_answer, padded};
+use crate::reads::{check_polls, check_source};
+use std::alloc::AllocError;
 use std::process::Abort;
-use std::test::Fail;
-use test_io::{Answers, End, Trickle};
+use test_io::{Answers, End, Trickle, same};
 use wtransport_proto::bytes::{IoReadError as Fault, Polled, ReadStep};
 use wtransport_proto::error::ErrorCode;
 use wtransport_proto::frame::{Frame, FrameReading};
@@ -80,17 +81,28 @@ const ROWS: [Row; 9] = [
     ),
 ];
 
+/// The polls of a stream that the peer opened answer this over bytes that come in these steps.
+fn check_steps<R: Abort + AllocGlobal>(
+    rt: &R,
+    bytes: &[u8],
+    steps: &[ReadStep],
+    answers: &[Answer<'_>],
+    word: &str,
+) {
+    let mut stream = StreamBiRemoteQuic::accept_bi().upgrade();
+    let mut reading = Frame::read_async(rt.alloc());
+    let mut source = Answers::new(bytes, steps);
+    check_polls(rt, &mut stream, &mut reading, &mut source, answers, word);
+}
+
 #[test]
 fn polls_answer_by_the_bytes(rt: HostRuntime) {
     for (bytes, steps, answers, word) in ROWS {
-        let mut stream = StreamBiRemoteQuic::accept_bi().upgrade();
-        let mut reading = Frame::read_async(rt.alloc());
-        let mut source = Answers::new(bytes, steps);
-        check_polls(&rt, &mut stream, &mut reading, &mut source, answers, word);
+        check_steps(&rt, bytes, steps, answers, word);
     }
 }
 
-/// The front of the bytes, behind which come zeros, how many bytes there are in all, the answers of
+/// The front of the bytes, after which come zeros, how many bytes there are in all, the answers of
 /// the polls, and what the row shows. A data frame of no bytes is two zeros.
 const LONG: [([u8; 3], usize, &'static [Answer<'static>], &'static str); 4] = [
     (
@@ -119,19 +131,29 @@ const LONG: [([u8; 3], usize, &'static [Answer<'static>], &'static str); 4] = [
     ),
 ];
 
+/// The polls of a stream that the peer opened answer this over such bytes.
+fn check_long<R: Abort + AllocGlobal>(
+    rt: &R,
+    front: &[u8],
+    len: usize,
+    answers: &[Answer<'_>],
+    word: &str,
+) -> Result<(), AllocError> {
+    let bytes = padded(rt.alloc(), front, len)?;
+    let mut stream = StreamBiRemoteQuic::accept_bi().upgrade();
+    check_source(rt, &mut stream, bytes.as_slice(), answers, word);
+    Ok(())
+}
+
 #[test]
-fn long_unknown_frames_are_passed_in_parts(rt: HostRuntime) -> Result<(), Fail> {
+fn long_unknown_frames_are_passed_in_parts(rt: HostRuntime) -> Result<(), AllocError> {
     for (front, len, answers, word) in LONG {
-        let bytes = padded(rt.alloc(), &front, len)?;
-        let mut stream = StreamBiRemoteQuic::accept_bi().upgrade();
-        let mut reading = Frame::read_async(rt.alloc());
-        let mut source = bytes.as_slice();
-        check_polls(&rt, &mut stream, &mut reading, &mut source, answers, word);
+        check_long(&rt, &front, len, answers, word)?;
     }
     Ok(())
 }
 
-/// Past so many waits, the next poll answers this.
+/// After so many waits, the next poll answers this.
 fn check_late<R: Abort>(
     rt: &R,
     stream: &mut StreamBiRemoteH3,
@@ -146,15 +168,21 @@ fn check_late<R: Abort>(
     check_polls(rt, stream, reading, source, &[answer], "there");
 }
 
+/// How often the source is not ready, and what the next poll answers.
+const LATE: [(usize, Answer<'static>); 3] = [
+    (9, Answer::Frame(0x21, b"Payload")),
+    (3, CUT),
+    (1, FIN),
+];
+
 #[test]
 fn each_byte_may_come_late(rt: HostRuntime) {
     let mut stream = StreamBiRemoteQuic::accept_bi().upgrade();
     let mut reading = Frame::read_async(rt.alloc());
     let mut source = Trickle::new(EXERCISE_THEN_SESSION, End::Fin);
-    let exercise = Answer::Frame(0x21, b"Payload");
-    check_late(&rt, &mut stream, &mut reading, &mut source, 9, exercise);
-    check_late(&rt, &mut stream, &mut reading, &mut source, 3, CUT);
-    check_late(&rt, &mut stream, &mut reading, &mut source, 1, FIN);
+    for (waits, answer) in LATE {
+        check_late(&rt, &mut stream, &mut reading, &mut source, waits, answer);
+    }
 }
 
 #[test]
@@ -184,7 +212,7 @@ fn last_answer(len: usize, end: End) -> Answer<'static> {
     }
 }
 
-/// The next answer but that the source is not ready, or that no memory is to be had.
+/// The next answer but that the source is not ready, or that allocation failed.
 fn answered(
     stream: &mut StreamBiRemoteH3,
     reading: &mut FrameReading,
@@ -199,20 +227,55 @@ fn answered(
     Polled::Pending
 }
 
+/// The next such answer is this one.
+fn check_next<R: Abort>(
+    rt: &R,
+    stream: &mut StreamBiRemoteH3,
+    reading: &mut FrameReading,
+    source: &mut Trickle<'_>,
+    answer: Answer<'_>,
+    place: (&str, usize),
+) {
+    let (word, len) = place;
+    let came = answered(stream, reading, source);
+    check_answer(rt, &came, &answer, word, len);
+}
+
 /// Over the first so many of the bytes the stream answers by the table, and then the same again.
 fn check_stop<R: Abort + AllocGlobal>(rt: &R, len: usize, end: End) {
     let mut stream = StreamBiRemoteQuic::accept_bi().upgrade();
     let mut reading = Frame::read_async(rt.alloc());
     let mut source = Trickle::new(EXERCISE_THEN_SESSION.get(..len).unwrap_or(&[]), end);
     if len >= 9 {
-        let first = answered(&mut stream, &mut reading, &mut source);
-        check_answer(rt, &first, &Answer::Frame(0x21, b"Payload"), "first", len);
+        let first = Answer::Frame(0x21, b"Payload");
+        check_next(
+            rt,
+            &mut stream,
+            &mut reading,
+            &mut source,
+            first,
+            ("first", len),
+        );
     }
-    let last = answered(&mut stream, &mut reading, &mut source);
-    check_answer(rt, &last, &last_answer(len, end), "last", len);
+    let last = last_answer(len, end);
+    check_next(
+        rt,
+        &mut stream,
+        &mut reading,
+        &mut source,
+        last,
+        ("last", len),
+    );
     if len < 12 {
-        let again = answered(&mut stream, &mut reading, &mut source);
-        check_answer(rt, &again, &last_answer(len, end), "again", len);
+        let again = last_answer(len, end);
+        check_next(
+            rt,
+            &mut stream,
+            &mut reading,
+            &mut source,
+            again,
+            ("again", len),
+        );
     }
 }
 
@@ -232,7 +295,7 @@ fn refused_memory_for_a_payload_is_asked_for_again(rt: HostRuntime) {
     let mut source = b"\x00\x03abc".as_slice();
     let mut answered = stream.read_frame_async(&mut reading, &mut source);
     if let Polled::NoMemory = answered {
-        assert_eq!(rt; source, b"abc".as_slice());
+        same(&rt, source, b"abc".as_slice(), "rest of the source");
         answered = stream.read_frame_async(&mut reading, &mut source);
     }
     check_answer(&rt, &answered, &Answer::Frame(0x00, b"abc"), "data", 0);

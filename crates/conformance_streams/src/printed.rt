@@ -1,81 +1,86 @@
 //! What streams, upgrades and their answers print for debugging.
+use crate::answers::session_4;
+use std::alloc::AllocError;
+use std::fmt::Debug;
+use std::process::Abort;
 use std::test::Fail;
+use test_io::same;
 use wtransport_proto::bytes::Polled;
 use wtransport_proto::frame::{FrameOwned, FrameReading};
-use wtransport_proto::ids::{SessionId, StreamId};
 use wtransport_proto::stream::IoReadError;
 use wtransport_proto::stream::bilocal::StreamBiLocalQuic;
 use wtransport_proto::stream::biremote::StreamBiRemoteQuic;
 use wtransport_proto::stream::unilocal::StreamUniLocalQuic;
 use wtransport_proto::stream::uniremote::StreamUniRemoteQuic;
-use wtransport_proto::varint::VarInt;
+
+/// It prints this for debugging.
+fn check_printed<R: Abort + AllocGlobal, T: Debug>(
+    rt: &R,
+    value: &T,
+    wanted: &str,
+) -> Result<(), AllocError> {
+    let text = format!(in rt.alloc(); "{value:?}")?;
+    same(rt, text.as_str(), wanted, "printed");
+    Ok(())
+}
 
 #[test]
 fn streams_are_printed(rt: HostRuntime) -> Result<(), Fail> {
-    let alloc = rt.alloc();
     let quic = StreamBiLocalQuic::open_bi();
-    let text = format!(in alloc; "{quic:?}")?;
-    assert_eq!(rt;
-        text.as_str(),
-        "Stream { kind: BiLocal(Bi, Local), stage: Quic }"
-    );
-    let opened = quic.upgrade();
-    let text = format!(in alloc; "{opened:?}")?;
-    assert_eq!(rt;
-        text.as_str(),
-        "Stream { kind: BiLocal(Bi, Local), stage: H3 { header: (), first_frame_done: false } }"
-    );
-    let session = SessionId::try_from_session_stream(StreamId::new(VarInt::from_u32(4)))?;
-    let text = format!(in alloc;
-        "{:?}",
-        StreamBiRemoteQuic::accept_bi().upgrade().upgrade(session)
+    check_printed(
+        &rt,
+        &quic,
+        "Stream { kind: BiLocal(Bi, Local), stage: Quic }",
     )?;
-    assert_eq!(rt;
-        text.as_str(),
-        "Stream { kind: BiRemote(Bi, Remote), stage: WT { session_id: 4 } }"
-    );
-    let text = format!(in alloc; "{:?}", StreamUniLocalQuic::open_uni())?;
-    assert_eq!(rt;
-        text.as_str(),
-        "Stream { kind: UniLocal(Uni, Local), stage: Quic }"
-    );
+    check_printed(
+        &rt,
+        &quic.upgrade(),
+        "Stream { kind: BiLocal(Bi, Local), stage: H3 { header: (), first_frame_done: false } }",
+    )?;
+    check_printed(
+        &rt,
+        &StreamBiRemoteQuic::accept_bi()
+            .upgrade()
+            .upgrade(session_4()?),
+        "Stream { kind: BiRemote(Bi, Remote), stage: WT { session_id: 4 } }",
+    )?;
+    check_printed(
+        &rt,
+        &StreamUniLocalQuic::open_uni(),
+        "Stream { kind: UniLocal(Uni, Local), stage: Quic }",
+    )?;
     Ok(())
 }
 
 #[test]
 fn upgrades_are_printed(rt: HostRuntime) -> Result<(), Fail> {
-    let alloc = rt.alloc();
     let mut none = [].as_slice();
-    let waiting = StreamUniRemoteQuic::accept_uni().upgrade(&mut none)?;
-    let text = format!(in alloc; "{waiting:?}")?;
-    assert_eq!(rt;
-        text.as_str(),
-        "Quic(Stream { kind: UniRemote(Uni, Remote), stage: Quic })"
-    );
-    let accepting = StreamUniRemoteQuic::accept_uni().upgrade_async();
-    let text = format!(in alloc; "{accepting:?}")?;
-    assert_eq!(rt;
-        text.as_str(),
+    check_printed(
+        &rt,
+        &StreamUniRemoteQuic::accept_uni().upgrade(&mut none)?,
+        "Quic(Stream { kind: UniRemote(Uni, Remote), stage: Quic })",
+    )?;
+    check_printed(
+        &rt,
+        &StreamUniRemoteQuic::accept_uni().upgrade_async(),
         "UniAccepting { stream: Stream { kind: UniRemote(Uni, Remote), stage: Quic }, \
-         reading: HeaderReading { bytes: 0, .. } }"
-    );
+         reading: HeaderReading { bytes: 0, .. } }",
+    )?;
     Ok(())
 }
 
 #[test]
-fn an_answer_is_printed(rt: HostRuntime) -> Result<(), Fail> {
-    let alloc = rt.alloc();
+fn an_answer_is_printed(rt: HostRuntime) -> Result<(), AllocError> {
     let mut stream = StreamBiRemoteQuic::accept_bi().upgrade();
-    let mut reading = FrameReading::new(alloc);
+    let mut reading = FrameReading::new(rt.alloc());
     let mut source = b"\x04\x00".as_slice();
     let answer: Polled<Result<FrameOwned, IoReadError>> = stream.read_frame_async(
         &mut reading,
         &mut source,
     );
-    let text = format!(in alloc; "{answer:?}")?;
-    assert_eq!(rt;
-        text.as_str(),
-        "Ready(Err(H3(FrameUnexpectedError (code: 261))))"
-    );
-    Ok(())
+    check_printed(
+        &rt,
+        &answer,
+        "Ready(Err(H3(FrameUnexpectedError (code: 261))))",
+    )
 }

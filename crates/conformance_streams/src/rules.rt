@@ -1,17 +1,14 @@
 //! Reading frames by the rule of each state, poll by poll.
-use crate::answers::{Answer, CUT, FIN, check_answer, check_polls};
+use crate::answers::{Answer, CUT, FIN};
+use crate::reads::{PollRow, check_source, check_sources};
 use crate::session::opened;
 use crate::uniremote::upgraded;
 use std::test::Fail;
-use wtransport_proto::bytes::Polled;
+use test_io::same;
 use wtransport_proto::error::ErrorCode;
-use wtransport_proto::frame::Frame;
 use wtransport_proto::stream::IoReadError;
 use wtransport_proto::stream::bilocal::StreamBiLocalQuic;
 use wtransport_proto::stream::biremote::StreamBiRemoteQuic;
-
-/// What a source gives before its end, the answers of the polls, and what the row shows.
-type Row = (&'static [u8], &'static [Answer<'static>], &'static str);
 
 const UNEXPECTED: Answer<'static> = Answer::Fault(IoReadError::H3(ErrorCode::FrameUnexpected));
 
@@ -19,8 +16,8 @@ const BAD_SESSION: Answer<'static> = Answer::Fault(IoReadError::H3(ErrorCode::Id
 
 const TOO_BIG: Answer<'static> = Answer::Fault(IoReadError::H3(ErrorCode::ExcessiveLoad));
 
-/// A stream that the peer opened: a session may come first, and not behind a frame that was read.
-const OPENED_THERE: [Row; 10] = [
+/// A stream that the peer opened: a session may come first, and not after a frame that was read.
+const OPENED_THERE: [PollRow; 10] = [
     (b"\x00\x01a", &[Answer::Frame(0x00, b"a"), FIN], "data"),
     (b"\x01\x01a", &[Answer::Frame(0x01, b"a"), FIN], "headers"),
     (b"\x04\x00", &[UNEXPECTED, FIN], "settings"),
@@ -33,17 +30,17 @@ const OPENED_THERE: [Row; 10] = [
     (
         b"\x0a\x00\x40\x41\x04",
         &[Answer::Again, Answer::Frame(0x41, b""), FIN],
-        "a session behind an unknown frame",
+        "a session after an unknown frame",
     ),
     (
         b"\x40\x41\x01\x40\x41\x04",
         &[BAD_SESSION, Answer::Frame(0x41, b""), FIN],
-        "a session behind a number that is none",
+        "a session after a number that is none",
     ),
     (
         b"\x00\x50\x01\x40\x41\x04",
         &[TOO_BIG, Answer::Frame(0x41, b""), FIN],
-        "a session behind a length that is too big",
+        "a session after a length that is too big",
     ),
     (
         b"\x00\xff\xff\xff\xff\xff\xff\xff\xff",
@@ -53,7 +50,7 @@ const OPENED_THERE: [Row; 10] = [
     (
         b"\x00\x00\x40\x41\x04",
         &[Answer::Frame(0x00, b""), CUT, FIN],
-        "a session behind data",
+        "a session after data",
     ),
 ];
 
@@ -61,14 +58,12 @@ const OPENED_THERE: [Row; 10] = [
 fn a_stream_opened_there_keeps_its_rule(rt: HostRuntime) {
     for (bytes, answers, word) in OPENED_THERE {
         let mut stream = StreamBiRemoteQuic::accept_bi().upgrade();
-        let mut reading = Frame::read_async(rt.alloc());
-        let mut source = bytes;
-        check_polls(&rt, &mut stream, &mut reading, &mut source, answers, word);
+        check_source(&rt, &mut stream, bytes, answers, word);
     }
 }
 
 /// A stream in both directions that was opened here, or that has its session.
-const OPENED_HERE: [Row; 8] = [
+const OPENED_HERE: [PollRow; 8] = [
     (b"\x00\x01a", &[Answer::Frame(0x00, b"a"), FIN], "data"),
     (b"\x01\x01a", &[Answer::Frame(0x01, b"a"), FIN], "headers"),
     (b"\x04\x00", &[UNEXPECTED, FIN], "settings"),
@@ -77,7 +72,7 @@ const OPENED_HERE: [Row; 8] = [
     (
         b"\x0a\x01x\x00",
         &[Answer::Again, CUT],
-        "a cut frame behind an unknown one",
+        "a cut frame after an unknown one",
     ),
     (b"\x40\x41\x01", &[BAD_SESSION, FIN], "no session"),
     (b"\x00\x50\x01", &[TOO_BIG, FIN], "length 4097"),
@@ -85,40 +80,19 @@ const OPENED_HERE: [Row; 8] = [
 
 #[test]
 fn a_stream_opened_here_keeps_its_rule(rt: HostRuntime) {
-    let stream = StreamBiLocalQuic::open_bi().upgrade();
-    for (bytes, answers, word) in OPENED_HERE {
-        let mut reading = Frame::read_async(rt.alloc());
-        let mut source = bytes;
-        for (place, answer) in answers.iter().enumerate() {
-            let mut answered = stream.read_frame_async(&mut reading, &mut source);
-            if let Polled::NoMemory = answered {
-                answered = stream.read_frame_async(&mut reading, &mut source);
-            }
-            check_answer(&rt, &answered, answer, word, place);
-        }
-    }
-    assert!(rt; stream.can_upgrade());
+    let mut stream = StreamBiLocalQuic::open_bi().upgrade();
+    check_sources(&rt, &mut stream, &OPENED_HERE);
+    same(&rt, stream.can_upgrade(), true, "reading does not count");
 }
 
 #[test]
 fn the_stream_of_a_session_keeps_its_rule(rt: HostRuntime) -> Result<(), Fail> {
-    let stream = opened(rt.alloc())?;
-    for (bytes, answers, word) in OPENED_HERE {
-        let mut reading = Frame::read_async(rt.alloc());
-        let mut source = bytes;
-        for (place, answer) in answers.iter().enumerate() {
-            let mut answered = stream.read_frame_async(&mut reading, &mut source);
-            if let Polled::NoMemory = answered {
-                answered = stream.read_frame_async(&mut reading, &mut source);
-            }
-            check_answer(&rt, &answered, answer, word, place);
-        }
-    }
+    check_sources(&rt, &mut opened(rt.alloc())?, &OPENED_HERE);
     Ok(())
 }
 
 /// A control stream that the peer opened.
-const CONTROL: [Row; 8] = [
+const CONTROL: [PollRow; 8] = [
     (b"\x00\x01a", &[UNEXPECTED, FIN], "data"),
     (b"\x01\x01a", &[UNEXPECTED, FIN], "headers"),
     (
@@ -144,20 +118,6 @@ const CONTROL: [Row; 8] = [
 
 #[test]
 fn a_control_stream_keeps_its_rule(rt: HostRuntime) -> Result<(), Fail> {
-    let mut stream = upgraded(&[0x00])?;
-    for (bytes, answers, word) in CONTROL {
-        let mut reading = Frame::read_async(rt.alloc());
-        let mut source = bytes;
-        for (place, answer) in answers.iter().enumerate() {
-            if !stream.can_read() {
-                return Err("frames may be read")?;
-            }
-            let mut answered = stream.read_frame_async(&mut reading, &mut source);
-            if let Polled::NoMemory = answered {
-                answered = stream.read_frame_async(&mut reading, &mut source);
-            }
-            check_answer(&rt, &answered, answer, word, place);
-        }
-    }
+    check_sources(&rt, &mut upgraded(&[0x00])?, &CONTROL);
     Ok(())
 }

@@ -1,55 +1,23 @@
 //! What every state of a stream does: a reading state over sources that wait, end, are reset or
-//! disconnect, and a writing state into a vector that finds no memory.
+//! disconnect, and a writing state into a vector whose allocation fails.
 use crate::answers::Answered;
+use crate::reads::Reads;
 use crate::session::opened;
 use crate::uniremote::upgraded;
 use std::alloc::{AllocError, Global};
 use std::borrow::CowSlice;
 use std::process::Abort;
 use std::test::Fail;
-use test_io::{End, Trickle};
+use test_io::{End, Trickle, same};
 use wtransport_proto::bytes::{BufferWriter, IoReadError as Fault, Polled, PutError};
 use wtransport_proto::error::ErrorCode;
-use wtransport_proto::frame::{Frame, FrameReading};
+use wtransport_proto::frame::Frame;
 use wtransport_proto::stream::IoReadError;
 use wtransport_proto::stream::bilocal::{StreamBiLocalH3, StreamBiLocalQuic};
 use wtransport_proto::stream::biremote::{StreamBiRemoteH3, StreamBiRemoteQuic};
 use wtransport_proto::stream::session::StreamSession;
 use wtransport_proto::stream::unilocal::{StreamUniLocalH3, StreamUniLocalQuic};
-use wtransport_proto::stream::uniremote::StreamUniRemoteH3;
 use wtransport_proto::stream_header::{StreamHeader, StreamKind};
-
-/// A reading state, polled by its own call.
-trait Polls {
-    fn poll(&mut self, reading: &mut FrameReading, source: &mut Trickle<'_>) -> Answered;
-}
-
-impl Polls for StreamBiRemoteH3 {
-    fn poll(&mut self, reading: &mut FrameReading, source: &mut Trickle<'_>) -> Answered {
-        self.read_frame_async(reading, source)
-    }
-}
-
-impl Polls for StreamBiLocalH3 {
-    fn poll(&mut self, reading: &mut FrameReading, source: &mut Trickle<'_>) -> Answered {
-        self.read_frame_async(reading, source)
-    }
-}
-
-impl Polls for StreamSession {
-    fn poll(&mut self, reading: &mut FrameReading, source: &mut Trickle<'_>) -> Answered {
-        self.read_frame_async(reading, source)
-    }
-}
-
-impl Polls for StreamUniRemoteH3 {
-    fn poll(&mut self, reading: &mut FrameReading, source: &mut Trickle<'_>) -> Answered {
-        if !self.can_read() {
-            return Polled::NoMemory;
-        }
-        self.read_frame_async(reading, source)
-    }
-}
 
 /// An exercise frame of three bytes, an unknown frame of three, and an empty exercise frame of two,
 /// which every reading state takes.
@@ -102,7 +70,7 @@ fn last_word(end: End, is_whole: bool) -> &'static str {
 }
 
 /// What so many polls answer over the first so many of the bytes, which end so.
-fn words<K: Polls>(
+fn words<K: Reads>(
     alloc: Global,
     stream: &mut K,
     len: usize,
@@ -120,7 +88,7 @@ fn words<K: Polls>(
 }
 
 /// The stream answers one row by the table, and at the end the same again.
-fn check_row<R: Abort + AllocGlobal, K: Polls>(
+fn check_row<R: Abort + AllocGlobal, K: Reads>(
     rt: &R,
     stream: &mut K,
     row: (usize, &str, bool),
@@ -131,12 +99,12 @@ fn check_row<R: Abort + AllocGlobal, K: Polls>(
     let polls = front.len().saturating_add(2);
     let came = words(rt.alloc(), stream, len, end, polls)?;
     let wanted = format!(in rt.alloc(); "{front}{last}{last}")?;
-    assert!(rt; came == wanted, "{len}: {came}, and not {wanted}");
+    same(rt, came.as_str(), wanted.as_str(), len);
     Ok(())
 }
 
 /// The stream answers every row by the table, over each end.
-fn check_rows<R: Abort + AllocGlobal, K: Polls>(rt: &R, stream: &mut K) -> Result<(), AllocError> {
+fn check_rows<R: Abort + AllocGlobal, K: Reads>(rt: &R, stream: &mut K) -> Result<(), AllocError> {
     for row in ROWS {
         for end in End::EACH {
             check_row(rt, stream, row, end)?;
@@ -204,13 +172,18 @@ fn check_refused<R: Abort + AllocGlobal, K: Writes>(
 ) -> Result<(), PutError> {
     let mut out = Vec::new(rt.alloc());
     if let Err(error) = stream.write(&mut out) {
-        assert!(rt; error == PutError::Memory);
+        same(rt, error, PutError::Memory, "fault");
         assert!(rt; are_parts(out.as_slice()));
         out.clear();
         stream.write(&mut out)?;
     }
-    assert!(rt; out.get(..3) == Some([0x00, 0x40, 0x64].as_slice()));
-    assert!(rt; out.get(3..) == Some(PAYLOAD.as_slice()));
+    same(
+        rt,
+        out.get(..3),
+        Some([0x00, 0x40, 0x64].as_slice()),
+        "head",
+    );
+    same(rt, out.get(3..), Some(PAYLOAD.as_slice()), "payload");
     Ok(())
 }
 
@@ -263,9 +236,11 @@ fn faults_of_a_stream_are_printed(rt: HostRuntime) -> Result<(), Fail> {
     let code = IoReadError::H3(ErrorCode::FrameUnexpected);
     let fault = IoReadError::IO(Fault::UnexpectedFin);
     let text = format!(in rt.alloc(); "{code}; {fault}")?;
-    assert!(rt;
-        text.as_str()
-            == "FrameUnexpectedError; read operation failed because EOF reached after first byte"
+    same(
+        &rt,
+        text.as_str(),
+        "FrameUnexpectedError; read operation failed because EOF reached after first byte",
+        "printed",
     );
     Ok(())
 }

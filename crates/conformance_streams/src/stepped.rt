@@ -2,7 +2,7 @@
 use crate::answers::session_4;
 use std::process::Abort;
 use std::test::Fail;
-use test_io::{End, Paced, Trickle, stops_behind};
+use test_io::{End, Paced, Trickle, same, stops_behind};
 use wtransport_proto::bytes::{AsyncRead, IoReadError as Fault, IoWriteError, Stepped, WriteStep};
 use wtransport_proto::error::ErrorCode;
 use wtransport_proto::stream::bilocal::{StreamBiLocalQuic, StreamBiLocalWT};
@@ -11,15 +11,35 @@ use wtransport_proto::stream::uniremote::{StreamUniRemoteH3, StreamUniRemoteQuic
 use wtransport_proto::stream::{BiUpgrading, IoReadError, UniAccepting, UniUpgrading};
 use wtransport_proto::stream_header::{StreamHeader, StreamKind};
 
-/// Polls into the vector until it is done; twice, where no memory is to be had.
+/// The state, handed back since its source or sink was not ready.
+fn pending<P: Drop, T: Drop, E: Drop>(stepped: Stepped<P, T, E>) -> Result<P, Fail> {
+    match stepped {
+        Stepped::Pending(state) => Ok(state),
+        _ => Err("not ready")?,
+    }
+}
+
+/// The state, handed back since it failed, and the fault.
+fn failed<P: Drop, T: Drop, E: Drop>(stepped: Stepped<P, T, E>) -> Result<(P, E), Fail> {
+    match stepped {
+        Stepped::Failed(state, fault) => Ok((state, fault)),
+        _ => Err("a fault")?,
+    }
+}
+
+/// What the state was to make.
+fn done<P: Drop, T: Drop, E: Drop>(stepped: Stepped<P, T, E>) -> Result<T, Fail> {
+    match stepped {
+        Stepped::Done(made) => Ok(made),
+        _ => Err("done")?,
+    }
+}
+
+/// Polls into the vector until it is done; twice, where allocation failed.
 fn session_made(upgrading: BiUpgrading, vector: &mut Vec<u8>) -> Result<StreamBiLocalWT, Fail> {
     match upgrading.poll(vector) {
-        Stepped::Done(stream) => Ok(stream),
-        Stepped::NoMemory(upgrading) => match upgrading.poll(vector) {
-            Stepped::Done(stream) => Ok(stream),
-            _ => Err("a stream of a session")?,
-        },
-        _ => Err("a stream of a session")?,
+        Stepped::NoMemory(upgrading) => done(upgrading.poll(vector)),
+        stepped => done(stepped),
     }
 }
 
@@ -29,15 +49,22 @@ fn check_bi_stop<R: Abort + AllocGlobal>(rt: &R, room: usize) -> Result<(), Fail
     let session = session_4()?;
     let stream = StreamBiLocalQuic::open_bi().upgrade();
     let mut sink = Paced::new(rt.alloc(), stops_behind(room));
-    let Stepped::Failed(upgrading, fault) = stream.upgrade_async(session).poll(&mut sink) else {
-        return Err("the sink stops")?;
-    };
-    assert_eq!(rt; fault, IoWriteError::Stopped);
-    assert_eq!(rt; Some(sink.taken()), wire.get(..room));
+    let (upgrading, fault) = failed(stream.upgrade_async(session).poll(&mut sink))?;
+    let stopped = IoWriteError::Stopped;
+    same(
+        rt,
+        (fault, Some(sink.taken())),
+        (stopped, wire.get(..room)),
+        room,
+    );
     let mut vector = Vec::new(rt.alloc());
     let stream = session_made(upgrading, &mut vector)?;
-    assert_eq!(rt; Some(vector.as_slice()), wire.get(room..));
-    assert_eq!(rt; stream.session_id(), session);
+    same(
+        rt,
+        (Some(vector.as_slice()), stream.session_id()),
+        (wire.get(room..), session),
+        room,
+    );
     Ok(())
 }
 
@@ -61,22 +88,18 @@ const HALTS: [WriteStep; 4] = [
 fn a_session_frame_waits_for_its_sink(rt: HostRuntime) -> Result<(), Fail> {
     let stream = StreamBiLocalQuic::open_bi().upgrade();
     let mut sink = Paced::new(rt.alloc(), &HALTS);
-    let Stepped::Pending(upgrading) = stream.upgrade_async(session_4()?).poll(&mut sink) else {
-        return Err("not ready")?;
-    };
-    let Stepped::Pending(upgrading) = upgrading.poll(&mut sink) else {
-        return Err("not ready again")?;
-    };
-    assert_eq!(rt; sink.taken(), [0x40, 0x41].as_slice());
-    let Stepped::Failed(upgrading, fault) = upgrading.poll(&mut sink) else {
-        return Err("lost")?;
-    };
-    assert_eq!(rt; fault, IoWriteError::NotConnected);
-    let Stepped::Done(stream) = upgrading.poll(&mut sink) else {
-        return Err("done")?;
-    };
-    assert_eq!(rt; sink.taken(), [0x40, 0x41, 0x04].as_slice());
-    assert_eq!(rt; stream.session_id(), session_4()?);
+    let upgrading = pending(stream.upgrade_async(session_4()?).poll(&mut sink))?;
+    let upgrading = pending(upgrading.poll(&mut sink))?;
+    same(&rt, sink.taken(), [0x40, 0x41].as_slice(), "two bytes");
+    let (upgrading, fault) = failed(upgrading.poll(&mut sink))?;
+    same(&rt, fault, IoWriteError::NotConnected, "lost");
+    let stream = done(upgrading.poll(&mut sink))?;
+    same(
+        &rt,
+        (sink.taken(), stream.session_id()),
+        ([0x40, 0x41, 0x04].as_slice(), session_4()?),
+        "done",
+    );
     Ok(())
 }
 
@@ -86,20 +109,20 @@ fn refused_memory_hands_back_the_session_frame(rt: HostRuntime) -> Result<(), Fa
     let stream = StreamBiLocalQuic::open_bi().upgrade();
     let mut vector = Vec::new(rt.alloc());
     let stream = session_made(stream.upgrade_async(session), &mut vector)?;
-    assert_eq!(rt; vector.as_slice(), [0x40, 0x41, 0x04].as_slice());
-    assert_eq!(rt; stream.session_id(), session);
+    same(
+        &rt,
+        (vector.as_slice(), stream.session_id()),
+        ([0x40, 0x41, 0x04].as_slice(), session),
+        "made",
+    );
     Ok(())
 }
 
-/// Polls into the vector until it is done; twice, where no memory is to be had.
+/// Polls into the vector until it is done; twice, where allocation failed.
 fn header_written(upgrading: UniUpgrading, vector: &mut Vec<u8>) -> Result<StreamUniLocalH3, Fail> {
     match upgrading.poll(vector) {
-        Stepped::Done(stream) => Ok(stream),
-        Stepped::NoMemory(upgrading) => match upgrading.poll(vector) {
-            Stepped::Done(stream) => Ok(stream),
-            _ => Err("a stream of HTTP/3")?,
-        },
-        _ => Err("a stream of HTTP/3")?,
+        Stepped::NoMemory(upgrading) => done(upgrading.poll(vector)),
+        stepped => done(stepped),
     }
 }
 
@@ -109,15 +132,22 @@ fn check_uni_stop<R: Abort + AllocGlobal>(rt: &R, room: usize) -> Result<(), Fai
     let header = StreamHeader::new_webtransport(session_4()?);
     let stream = StreamUniLocalQuic::open_uni();
     let mut sink = Paced::new(rt.alloc(), stops_behind(room));
-    let Stepped::Failed(upgrading, fault) = stream.upgrade_async(header).poll(&mut sink) else {
-        return Err("the sink stops")?;
-    };
-    assert_eq!(rt; fault, IoWriteError::Stopped);
-    assert_eq!(rt; Some(sink.taken()), wire.get(..room));
+    let (upgrading, fault) = failed(stream.upgrade_async(header).poll(&mut sink))?;
+    let stopped = IoWriteError::Stopped;
+    same(
+        rt,
+        (fault, Some(sink.taken())),
+        (stopped, wire.get(..room)),
+        room,
+    );
     let mut vector = Vec::new(rt.alloc());
     let stream = header_written(upgrading, &mut vector)?;
-    assert_eq!(rt; Some(vector.as_slice()), wire.get(room..));
-    assert_eq!(rt; stream.session_id(), header.session_id());
+    same(
+        rt,
+        (Some(vector.as_slice()), stream.session_id()),
+        (wire.get(room..), header.session_id()),
+        room,
+    );
     Ok(())
 }
 
@@ -134,22 +164,18 @@ fn a_header_waits_for_its_sink(rt: HostRuntime) -> Result<(), Fail> {
     let header = StreamHeader::new_webtransport(session_4()?);
     let mut sink = Paced::new(rt.alloc(), &HALTS);
     let upgrading = StreamUniLocalQuic::open_uni().upgrade_async(header);
-    let Stepped::Pending(upgrading) = upgrading.poll(&mut sink) else {
-        return Err("not ready")?;
-    };
-    let Stepped::Pending(upgrading) = upgrading.poll(&mut sink) else {
-        return Err("not ready again")?;
-    };
-    assert_eq!(rt; sink.taken(), [0x40, 0x54].as_slice());
-    let Stepped::Failed(upgrading, fault) = upgrading.poll(&mut sink) else {
-        return Err("lost")?;
-    };
-    assert_eq!(rt; fault, IoWriteError::NotConnected);
-    let Stepped::Done(stream) = upgrading.poll(&mut sink) else {
-        return Err("done")?;
-    };
-    assert_eq!(rt; sink.taken(), [0x40, 0x54, 0x04].as_slice());
-    assert_eq!(rt; stream.kind(), StreamKind::WebTransport);
+    let upgrading = pending(upgrading.poll(&mut sink))?;
+    let upgrading = pending(upgrading.poll(&mut sink))?;
+    same(&rt, sink.taken(), [0x40, 0x54].as_slice(), "two bytes");
+    let (upgrading, fault) = failed(upgrading.poll(&mut sink))?;
+    same(&rt, fault, IoWriteError::NotConnected, "lost");
+    let stream = done(upgrading.poll(&mut sink))?;
+    same(
+        &rt,
+        (sink.taken(), stream.kind()),
+        ([0x40, 0x54, 0x04].as_slice(), StreamKind::WebTransport),
+        "done",
+    );
     Ok(())
 }
 
@@ -158,22 +184,24 @@ fn refused_memory_hands_back_the_header(rt: HostRuntime) -> Result<(), Fail> {
     let mut vector = Vec::new(rt.alloc());
     let upgrading = StreamUniLocalQuic::open_uni().upgrade_async(StreamHeader::new_control());
     let stream = header_written(upgrading, &mut vector)?;
-    assert_eq!(rt; vector.as_slice(), [0x00].as_slice());
-    assert_eq!(rt; stream.kind(), StreamKind::Control);
+    same(
+        &rt,
+        (vector.as_slice(), stream.kind()),
+        ([0x00].as_slice(), StreamKind::Control),
+        "made",
+    );
     Ok(())
 }
 
 /// The stream fails with this fault, and is handed back.
-fn failed<R: Abort, S: AsyncRead>(
+fn check_failed<R: Abort, S: AsyncRead>(
     rt: &R,
     accepting: UniAccepting,
     source: &mut S,
-    fault: IoReadError,
+    wanted: IoReadError,
 ) -> Result<UniAccepting, Fail> {
-    let Stepped::Failed(accepting, error) = accepting.poll(source) else {
-        return Err("a fault")?;
-    };
-    assert_eq!(rt; error, fault);
+    let (accepting, fault) = failed(accepting.poll(source))?;
+    same(rt, fault, wanted, "the fault");
     Ok(accepting)
 }
 
@@ -182,27 +210,36 @@ fn accepted<S: AsyncRead>(
     accepting: UniAccepting,
     source: &mut S,
 ) -> Result<StreamUniRemoteH3, Fail> {
-    match accepting.poll(source) {
-        Stepped::Done(stream) => Ok(stream),
-        _ => Err("a stream of HTTP/3")?,
-    }
+    done(accepting.poll(source))
 }
 
-/// The bytes of a header and an end, and the fault that refuses them.
-const FAULTS: [(&[u8], IoReadError); 4] = [
-    (b"", IoReadError::IO(Fault::ImmediateFin)),
-    (b"\x40\x54", IoReadError::H3(ErrorCode::Frame)),
-    (b"\x40\x54\x01", IoReadError::H3(ErrorCode::Id)),
-    (b"\x40\x42", IoReadError::H3(ErrorCode::StreamCreation)),
+/// The fault of a stream that is these bytes, and how many of them are left.
+fn fault_of(mut bytes: &[u8]) -> Result<(IoReadError, usize), Fail> {
+    let accepting = StreamUniRemoteQuic::accept_uni().upgrade_async();
+    let (_, fault) = failed(accepting.poll(&mut bytes))?;
+    Ok((fault, bytes.len()))
+}
+
+/// The bytes of a header and an end, the fault that refuses them, and what the row shows.
+const FAULTS: [(&[u8], IoReadError, &str); 4] = [
+    (b"", IoReadError::IO(Fault::ImmediateFin), "nothing"),
+    (b"\x40\x54", IoReadError::H3(ErrorCode::Frame), "cut"),
+    (
+        b"\x40\x54\x01",
+        IoReadError::H3(ErrorCode::Id),
+        "no session",
+    ),
+    (
+        b"\x40\x42",
+        IoReadError::H3(ErrorCode::StreamCreation),
+        "an unknown type",
+    ),
 ];
 
 #[test]
 fn faults_of_the_header_hand_it_back(rt: HostRuntime) -> Result<(), Fail> {
-    for (bytes, fault) in FAULTS {
-        let mut source = bytes;
-        let accepting = StreamUniRemoteQuic::accept_uni().upgrade_async();
-        let _ = failed(&rt, accepting, &mut source, fault)?;
-        assert!(rt; source.is_empty());
+    for (bytes, fault, shows) in FAULTS {
+        same(&rt, fault_of(bytes)?, (fault, 0), shows);
     }
     Ok(())
 }
@@ -212,8 +249,12 @@ fn headers_are_accepted(rt: HostRuntime) -> Result<(), Fail> {
     let mut source = b"\x00\x04\x00".as_slice();
     let accepting = StreamUniRemoteQuic::accept_uni().upgrade_async();
     let stream = accepted(accepting, &mut source)?;
-    assert_eq!(rt; stream.kind(), StreamKind::Control);
-    assert_eq!(rt; source, b"\x04\x00".as_slice());
+    same(
+        &rt,
+        (stream.kind(), source),
+        (StreamKind::Control, b"\x04\x00".as_slice()),
+        "control, and the bytes left",
+    );
     Ok(())
 }
 
@@ -221,29 +262,30 @@ fn headers_are_accepted(rt: HostRuntime) -> Result<(), Fail> {
 fn a_cut_header_is_accepted_from_a_second_source(rt: HostRuntime) -> Result<(), Fail> {
     let accepting = StreamUniRemoteQuic::accept_uni().upgrade_async();
     let cut = IoReadError::H3(ErrorCode::Frame);
-    let accepting = failed(&rt, accepting, &mut b"\x40\x54".as_slice(), cut)?;
+    let accepting = check_failed(&rt, accepting, &mut b"\x40\x54".as_slice(), cut)?;
     let stream = accepted(accepting, &mut b"\x04".as_slice())?;
-    assert_eq!(rt; stream.kind(), StreamKind::WebTransport);
-    assert_eq!(rt; stream.session_id(), Some(session_4()?));
+    same(
+        &rt,
+        (stream.kind(), stream.session_id()),
+        (StreamKind::WebTransport, Some(session_4()?)),
+        "a session",
+    );
     Ok(())
 }
 
-/// The state, past the waits before so many bytes and before the end.
+/// The state, after the waits before so many bytes and before the end.
 fn waited(
     mut accepting: UniAccepting,
     source: &mut Trickle<'_>,
     len: usize,
 ) -> Result<UniAccepting, Fail> {
     for _turn in 0..=len {
-        match accepting.poll(source) {
-            Stepped::Pending(state) => accepting = state,
-            _ => return Err("not ready")?,
-        }
+        accepting = pending(accepting.poll(source))?;
     }
     Ok(accepting)
 }
 
-/// The fault of a stream behind the first so many bytes of a header, which are too few and end so.
+/// The fault of a stream after the first so many bytes of a header, which are too few and end so.
 fn stop_fault(len: usize, end: End) -> IoReadError {
     match (len, end) {
         (0, End::Fin) => IoReadError::IO(Fault::ImmediateFin),
@@ -259,11 +301,11 @@ fn check_header_stop<R: Abort>(rt: &R, len: usize, end: End) -> Result<(), Fail>
     let mut source = Trickle::new(wire.get(..len).unwrap_or(&[]), end);
     let accepting = StreamUniRemoteQuic::accept_uni().upgrade_async();
     let accepting = waited(accepting, &mut source, len)?;
-    let accepting = failed(rt, accepting, &mut source, stop_fault(len, end))?;
-    let accepting = failed(rt, accepting, &mut source, stop_fault(len, end))?;
+    let accepting = check_failed(rt, accepting, &mut source, stop_fault(len, end))?;
+    let accepting = check_failed(rt, accepting, &mut source, stop_fault(len, end))?;
     let mut rest = wire.get(len..).unwrap_or(&[]);
     let stream = accepted(accepting, &mut rest)?;
-    assert_eq!(rt; stream.session_id(), Some(session_4()?));
+    same(rt, stream.session_id(), Some(session_4()?), len);
     Ok(())
 }
 

@@ -1,61 +1,109 @@
 //! Streams in one direction that this end opened.
+ghost use Rattle.wtransport_proto.specs.Streams.{CanWrite};
+
+use crate::answers::session_4;
 use std::borrow::CowSlice;
+use std::process::Abort;
 use std::test::Fail;
+use test_io::same;
 use wtransport_proto::bytes::{BufferWriter, EndOfBuffer, PutError};
 use wtransport_proto::frame::Frame;
 use wtransport_proto::ids::{SessionId, StreamId};
-use wtransport_proto::stream::unilocal::StreamUniLocalQuic;
+use wtransport_proto::stream::unilocal::{StreamUniLocalH3, StreamUniLocalQuic};
 use wtransport_proto::stream_header::{StreamHeader, StreamKind};
 use wtransport_proto::varint::VarInt;
 
-#[test]
-fn a_control_stream_writes_settings(rt: HostRuntime) -> Result<(), Fail> {
-    let header = StreamHeader::new_control();
-    assert_eq!(rt; StreamUniLocalQuic::upgrade_size(header), 1);
-    let mut buffer = [0; 5];
-    let mut writer = BufferWriter::new(&mut buffer);
-    let Ok(mut stream) = StreamUniLocalQuic::open_uni().upgrade(header, &mut writer) else {
-        return Err("there is room")?;
-    };
-    assert_eq!(rt; writer.buffer_written(), [0x00].as_slice());
-    assert_eq!(rt; stream.kind(), StreamKind::Control);
-    assert_eq!(rt; stream.session_id(), None);
-    stream.write_frame(Frame::new_settings(CowSlice::Borrowed(&[])), &mut writer)?;
-    assert_eq!(rt; writer.buffer_written(), [0x00, 0x04, 0x00].as_slice());
+/// The answer of an upgrade.
+type Upgraded = Result<StreamUniLocalH3, (StreamUniLocalQuic, PutError)>;
+
+/// The stream that was handed back, and why.
+fn handed_back(upgraded: Upgraded) -> Result<(StreamUniLocalQuic, PutError), Fail> {
+    match upgraded {
+        Ok(_) => Err("too little room")?,
+        Err(back) => Ok(back),
+    }
+}
+
+/// The stream that was made.
+fn made(upgraded: Upgraded) -> Result<StreamUniLocalH3, Fail> {
+    match upgraded {
+        Ok(stream) => Ok(stream),
+        Err(_) => Err("there is room")?,
+    }
+}
+
+/// Writes settings in parts and whole, where there is room for two empty ones.
+fn check_settings<R: Abort>(
+    rt: &R,
+    stream: &mut StreamUniLocalH3,
+    writer: &mut BufferWriter<'_>,
+) -> Result<(), Fail>
+    requires { CanWrite stream.old }
+{
+    stream.write_frame(Frame::new_settings(CowSlice::Borrowed(&[])), writer)?;
+    let wanted = [0x00, 0x04, 0x00].as_slice();
+    same(rt, writer.buffer_written(), wanted, "in parts");
     let frame = Frame::new_settings(CowSlice::Borrowed(&[0x33, 0x01]));
-    assert_eq!(rt;
-        stream.write_frame_to_buffer(frame, &mut writer),
-        Err(EndOfBuffer)
+    let answer = stream.write_frame_to_buffer(frame, writer);
+    same(
+        rt,
+        (answer, writer.offset()),
+        (Err(EndOfBuffer), 3),
+        "too little room",
     );
-    assert_eq!(rt; writer.offset(), 3);
-    stream.write_frame_to_buffer(Frame::new_settings(CowSlice::Borrowed(&[])), &mut writer)?;
-    assert_eq!(rt;
-        writer.buffer_written(),
-        [0x00, 0x04, 0x00, 0x04, 0x00].as_slice()
-    );
+    stream.write_frame_to_buffer(Frame::new_settings(CowSlice::Borrowed(&[])), writer)?;
+    let wanted = [0x00, 0x04, 0x00, 0x04, 0x00].as_slice();
+    same(rt, writer.buffer_written(), wanted, "whole");
     Ok(())
 }
 
 #[test]
+fn a_control_stream_writes_settings(rt: HostRuntime) -> Result<(), Fail> {
+    let header = StreamHeader::new_control();
+    same(&rt, StreamUniLocalQuic::upgrade_size(header), 1, "size");
+    let mut buffer = [0; 5];
+    let mut writer = BufferWriter::new(&mut buffer);
+    let mut stream = made(StreamUniLocalQuic::open_uni().upgrade(header, &mut writer))?;
+    same(
+        &rt,
+        (writer.buffer_written(), stream.kind(), stream.session_id()),
+        ([0x00].as_slice(), StreamKind::Control, None),
+        "the stream",
+    );
+    if stream.kind() == StreamKind::WebTransport {
+        return Err("a control stream")?;
+    }
+    check_settings(&rt, &mut stream, &mut writer)
+}
+
+#[test]
 fn it_is_upgraded_where_there_is_room(rt: HostRuntime) -> Result<(), Fail> {
-    let session = SessionId::try_from_session_stream(StreamId::new(VarInt::from_u32(4)))?;
+    let session = session_4()?;
     let header = StreamHeader::new_webtransport(session);
-    assert_eq!(rt; StreamUniLocalQuic::upgrade_size(header), 3);
+    same(&rt, StreamUniLocalQuic::upgrade_size(header), 3, "size");
     let mut buffer = [0; 2];
     let mut writer = BufferWriter::new(&mut buffer);
-    let Err((stream, error)) = StreamUniLocalQuic::open_uni().upgrade(header, &mut writer) else {
-        return Err("too little room")?;
-    };
-    assert_eq!(rt; error, PutError::EndOfBuffer);
-    assert_eq!(rt; writer.buffer_written(), [0x40, 0x54].as_slice());
+    let upgraded = StreamUniLocalQuic::open_uni().upgrade(header, &mut writer);
+    let (stream, error) = handed_back(upgraded)?;
+    same(
+        &rt,
+        (error, writer.buffer_written()),
+        (PutError::EndOfBuffer, [0x40, 0x54].as_slice()),
+        "too little room",
+    );
     let mut buffer = [0; 3];
     let mut writer = BufferWriter::new(&mut buffer);
-    let Ok(stream) = stream.upgrade(header, &mut writer) else {
-        return Err("there is room")?;
-    };
-    assert_eq!(rt; writer.buffer_written(), [0x40, 0x54, 0x04].as_slice());
-    assert_eq!(rt; stream.session_id(), Some(session));
-    assert_eq!(rt; stream.upgrade().session_id(), session);
+    let stream = made(stream.upgrade(header, &mut writer))?;
+    same(
+        &rt,
+        (writer.buffer_written(), stream.session_id()),
+        ([0x40, 0x54, 0x04].as_slice(), Some(session)),
+        "room for all",
+    );
+    if stream.kind() != StreamKind::WebTransport {
+        return Err("a stream of a session")?;
+    }
+    same(&rt, stream.upgrade().session_id(), session, "its session");
     Ok(())
 }
 
@@ -67,7 +115,7 @@ fn refused_memory_hands_the_stream_back(rt: HostRuntime) -> Result<(), Fail> {
     let upgraded = match StreamUniLocalQuic::open_uni().upgrade(header, &mut vector) {
         Ok(upgraded) => upgraded,
         Err((stream, error)) => {
-            assert_eq!(rt; error, PutError::Memory);
+            same(&rt, error, PutError::Memory, "error");
             let written = vector.as_slice();
             assert!(rt; written == [].as_slice() || written == [0x40, 0x54].as_slice());
             vector.clear();
@@ -77,7 +125,11 @@ fn refused_memory_hands_the_stream_back(rt: HostRuntime) -> Result<(), Fail> {
             }
         }
     };
-    assert_eq!(rt; vector.as_slice(), [0x40, 0x54, 0x40, 0x40].as_slice());
-    assert_eq!(rt; upgraded.session_id(), Some(session));
+    same(
+        &rt,
+        (vector.as_slice(), upgraded.session_id()),
+        ([0x40, 0x54, 0x40, 0x40].as_slice(), Some(session)),
+        "upgraded",
+    );
     Ok(())
 }

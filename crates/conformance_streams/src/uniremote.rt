@@ -1,159 +1,182 @@
 //! Streams in one direction that the peer opened.
+use crate::answers::session_4;
+use crate::reads::{ReadRow, check_buffer, check_reads};
+use std::process::Abort;
 use std::test::Fail;
+use test_io::same;
 use wtransport_proto::bytes::BufferReader;
 use wtransport_proto::error::ErrorCode;
-use wtransport_proto::frame::FrameKind;
-use wtransport_proto::ids::{SessionId, StreamId};
+use wtransport_proto::ids::SessionId;
 use wtransport_proto::stream::uniremote::{MaybeUpgradeH3, StreamUniRemoteH3, StreamUniRemoteQuic};
 use wtransport_proto::stream_header::StreamKind;
 use wtransport_proto::varint::VarInt;
 
-/// The stream whose header is read from these bytes.
-pub(crate) fn upgraded(mut header: &[u8]) -> Result<StreamUniRemoteH3, Fail> {
-    match StreamUniRemoteQuic::accept_uni().upgrade(&mut header)? {
+/// The stream whose header is read from the front of the bytes.
+fn header_read(stream: StreamUniRemoteQuic, bytes: &mut &[u8]) -> Result<StreamUniRemoteH3, Fail> {
+    match stream.upgrade(bytes)? {
         MaybeUpgradeH3::H3(stream) => Ok(stream),
         MaybeUpgradeH3::Quic(_) => Err("a whole header")?,
     }
 }
 
+/// The stream whose header is read from these bytes.
+pub(crate) fn upgraded(mut header: &[u8]) -> Result<StreamUniRemoteH3, Fail> {
+    header_read(StreamUniRemoteQuic::accept_uni(), &mut header)
+}
+
+/// A stream's kind, its session, and whether frames may be read.
+type Shown = (StreamKind, Option<SessionId>, bool);
+
+/// From the bytes such a stream is made, and these are left.
+fn check_header<R: Abort>(
+    rt: &R,
+    mut bytes: &[u8],
+    wanted: Shown,
+    left: &[u8],
+    shows: &str,
+) -> Result<(), Fail> {
+    let stream = header_read(StreamUniRemoteQuic::accept_uni(), &mut bytes)?;
+    let came = (stream.kind(), stream.session_id(), stream.can_read());
+    same(rt, (came, bytes), (wanted, left), shows);
+    Ok(())
+}
+
 #[test]
 fn headers_are_read(rt: HostRuntime) -> Result<(), Fail> {
-    let session = SessionId::try_from_session_stream(StreamId::new(VarInt::from_u32(4)))?;
+    let session = StreamKind::WebTransport;
     let exercise = StreamKind::Exercise(VarInt::from_u32(33));
-    let rows: [(&[u8], StreamKind, Option<SessionId>, &[u8]); 5] = [
-        (&[0x00, 0x04], StreamKind::Control, None, &[0x04]),
-        (&[0x02], StreamKind::QPackEncoder, None, &[]),
-        (&[0x03], StreamKind::QPackDecoder, None, &[]),
+    let rows: [(&[u8], Shown, &[u8], &str); 5] = [
         (
-            &[0x40, 0x54, 0x04],
-            StreamKind::WebTransport,
-            Some(session),
-            &[],
+            b"\x00\x04",
+            (StreamKind::Control, None, true),
+            b"\x04",
+            "control",
         ),
-        (&[0x21], exercise, None, &[]),
+        (
+            b"\x02",
+            (StreamKind::QPackEncoder, None, true),
+            b"",
+            "encoder",
+        ),
+        (
+            b"\x03",
+            (StreamKind::QPackDecoder, None, true),
+            b"",
+            "decoder",
+        ),
+        (
+            b"\x40\x54\x04",
+            (session, Some(session_4()?), false),
+            b"",
+            "a session",
+        ),
+        (b"\x21", (exercise, None, true), b"", "exercise"),
     ];
-    for (bytes, kind, session_id, behind) in rows {
-        let mut rest = bytes;
-        let MaybeUpgradeH3::H3(stream) = StreamUniRemoteQuic::accept_uni().upgrade(&mut rest)?
-        else {
-            return Err("a whole header")?;
-        };
-        assert_eq!(rt; stream.kind(), kind);
-        assert_eq!(rt; stream.session_id(), session_id);
-        assert_eq!(rt; stream.can_read(), session_id.is_none());
-        assert_eq!(rt; rest, behind);
+    for (bytes, wanted, left, shows) in rows {
+        check_header(&rt, bytes, wanted, left, shows)?;
     }
+    Ok(())
+}
+
+/// The stream, handed back since the bytes are too few for a header.
+fn cut(bytes: &mut &[u8]) -> Result<StreamUniRemoteQuic, Fail> {
+    match StreamUniRemoteQuic::accept_uni().upgrade(bytes)? {
+        MaybeUpgradeH3::H3(_) => Err("too few bytes")?,
+        MaybeUpgradeH3::Quic(stream) => Ok(stream),
+    }
+}
+
+/// Of the cut header so many bytes are left; then a whole header is read.
+fn check_cut<R: Abort>(rt: &R, mut bytes: &[u8], left: usize) -> Result<(), Fail> {
+    let stream = cut(&mut bytes)?;
+    let stream = header_read(stream, &mut b"\x40\x54\x04".as_slice())?;
+    same(
+        rt,
+        (bytes.len(), stream.kind()),
+        (left, StreamKind::WebTransport),
+        "bytes left, and the kind",
+    );
     Ok(())
 }
 
 #[test]
 fn a_cut_header_is_read_on(rt: HostRuntime) -> Result<(), Fail> {
-    for (bytes, left) in [
-        ([].as_slice(), 0),
-        ([0x40].as_slice(), 1),
-        ([0x40, 0x54].as_slice(), 0),
-    ] {
-        let mut rest = bytes;
-        let MaybeUpgradeH3::Quic(stream) = StreamUniRemoteQuic::accept_uni().upgrade(&mut rest)?
-        else {
-            return Err("too few bytes")?;
-        };
-        assert_eq!(rt; rest.len(), left);
-        let mut whole = [0x40, 0x54, 0x04].as_slice();
-        let MaybeUpgradeH3::H3(stream) = stream.upgrade(&mut whole)? else {
-            return Err("a whole header")?;
-        };
-        assert_eq!(rt; stream.kind(), StreamKind::WebTransport);
-    }
+    check_cut(&rt, b"", 0)?;
+    check_cut(&rt, b"\x40", 1)?;
+    check_cut(&rt, b"\x40\x54", 0)?;
     Ok(())
 }
 
+/// What refuses the header at the front of the bytes, and how many bytes are left.
+fn refused(mut bytes: &[u8]) -> (Option<ErrorCode>, usize) {
+    let code = StreamUniRemoteQuic::accept_uni().upgrade(&mut bytes).err();
+    (code, bytes.len())
+}
+
+/// The bytes of a header, what refuses it, and what the row shows.
+const FAULTS: [(&[u8], ErrorCode, &str); 3] = [
+    (b"\x40\x54\x01", ErrorCode::Id, "no session"),
+    (b"\x40\x42", ErrorCode::StreamCreation, "an unknown type"),
+    (
+        b"\x80\x42\x42\x42",
+        ErrorCode::StreamCreation,
+        "an unknown type of four bytes",
+    ),
+];
+
 #[test]
 fn faults_of_the_header_are_named(rt: HostRuntime) {
-    let rows: [(&[u8], ErrorCode); 3] = [
-        (&[0x40, 0x54, 0x01], ErrorCode::Id),
-        (&[0x40, 0x42], ErrorCode::StreamCreation),
-        (&[0x80, 0x42, 0x42, 0x42], ErrorCode::StreamCreation),
-    ];
-    for (bytes, code) in rows {
-        let mut rest = bytes;
-        assert_eq!(rt;
-            StreamUniRemoteQuic::accept_uni().upgrade(&mut rest).err(),
-            Some(code)
-        );
-        assert!(rt; rest.is_empty());
+    for (bytes, code, shows) in FAULTS {
+        same(&rt, refused(bytes), (Some(code), 0), shows);
     }
 }
 
 #[test]
 fn it_becomes_a_stream_of_its_session(rt: HostRuntime) -> Result<(), Fail> {
-    let session = SessionId::try_from_session_stream(StreamId::new(VarInt::from_u32(4)))?;
     let stream = upgraded(&[0x40, 0x54, 0x04])?;
     if stream.kind() != StreamKind::WebTransport {
         return Err("a stream of a session")?;
     }
-    assert_eq!(rt; stream.upgrade().session_id(), session);
+    same(
+        &rt,
+        stream.upgrade().session_id(),
+        session_4()?,
+        "its session",
+    );
     Ok(())
 }
 
-/// Bytes of a frame, and the frame's type number or the fault that refuses it.
-const FRAMES: [(&[u8], Result<u64, ErrorCode>); 5] = [
-    (b"\x00\x01a", Err(ErrorCode::FrameUnexpected)),
-    (b"\x01\x01a", Err(ErrorCode::FrameUnexpected)),
-    (b"\x04\x00", Ok(0x04)),
-    (b"\x40\x41\x04", Err(ErrorCode::FrameUnexpected)),
-    (b"\x21\x01a", Ok(0x21)),
+/// What is read of a control stream.
+const FRAMES: [ReadRow; 5] = [
+    (b"\x00\x01a", Err(ErrorCode::FrameUnexpected), 0, "data"),
+    (b"\x01\x01a", Err(ErrorCode::FrameUnexpected), 0, "headers"),
+    (b"\x04\x00", Ok(Some((0x04, b""))), 2, "settings"),
+    (
+        b"\x40\x41\x04",
+        Err(ErrorCode::FrameUnexpected),
+        0,
+        "a session",
+    ),
+    (b"\x21\x01a", Ok(Some((0x21, b"a"))), 3, "exercise"),
 ];
 
 #[test]
 fn frames_are_read_by_the_rule(rt: HostRuntime) -> Result<(), Fail> {
     let mut stream = upgraded(&[0x00])?;
-    for (bytes, answer) in FRAMES {
-        let mut reader = BufferReader::new(bytes);
-        let mut rest = bytes;
-        if !stream.can_read() {
-            return Err("frames may be read")?;
-        }
-        match answer {
-            Ok(number) => {
-                let frame = stream
-                    .read_frame_from_buffer(&mut reader)?
-                    .ok_or("a frame")?;
-                assert_eq!(rt; frame.kind().id().into_inner(), number);
-                assert_eq!(rt; reader.offset(), bytes.len());
-                assert!(rt; stream.read_frame(&mut rest)?.is_some());
-            }
-            Err(code) => {
-                assert_eq!(rt;
-                    stream.read_frame_from_buffer(&mut reader).err(),
-                    Some(code)
-                );
-                assert_eq!(rt; reader.offset(), 0);
-                assert_eq!(rt; stream.read_frame(&mut rest).err(), Some(code));
-            }
-        }
-        assert!(rt; rest.is_empty());
-    }
+    same(&rt, stream.can_read(), true, "frames may be read");
+    check_reads(&rt, &mut stream, &FRAMES);
+    same(&rt, stream.can_read(), true, "frames may still be read");
     Ok(())
 }
 
 #[test]
 fn an_unknown_frame_between_settings_is_passed_over_whole(rt: HostRuntime) -> Result<(), Fail> {
     let mut stream = upgraded(&[0x00])?;
-    if !stream.can_read() {
-        return Err("frames may be read")?;
-    }
-    let mut reader = BufferReader::new(&[0x04, 0x00, 0x07, 0x01, 0x00, 0x04, 0x00]);
-    let settings = stream
-        .read_frame_from_buffer(&mut reader)?
-        .ok_or("settings")?;
-    assert_eq!(rt; settings.kind(), FrameKind::Settings);
-    assert_eq!(rt; reader.offset(), 2);
-    let settings = stream
-        .read_frame_from_buffer(&mut reader)?
-        .ok_or("settings")?;
-    assert_eq!(rt; settings.kind(), FrameKind::Settings);
-    assert_eq!(rt; reader.capacity(), 0);
-    assert!(rt; stream.read_frame_from_buffer(&mut reader)?.is_none());
+    let mut reader = BufferReader::new(b"\x04\x00\x07\x01\x00\x04\x00");
+    let settings = Ok(Some((0x04, b"".as_slice())));
+    check_buffer(&rt, &mut stream, &mut reader, settings, 2, "settings");
+    check_buffer(&rt, &mut stream, &mut reader, settings, 7, "settings again");
+    check_buffer(&rt, &mut stream, &mut reader, Ok(None), 7, "the end");
+    same(&rt, reader.capacity(), 0, "bytes left");
     Ok(())
 }

@@ -1,40 +1,121 @@
-//! Writing frames to streams, poll by poll.
+//! Writing frames to streams, poll by poll and in a loop. What each poll requires holds after the
+//! one before it, so a struct keeps it.
+ghost use Rattle.wtransport_proto.specs.StreamWriting.{WritesPlain};
+ghost use Rattle.wtransport_proto.specs.Streams.{CanWrite};
+
 use crate::session::opened;
 use std::borrow::CowSlice;
 use std::process::Abort;
 use std::test::Fail;
-use test_io::{Paced, stops_behind};
-use wtransport_proto::bytes::{IoWriteError, Polled, Stepped, WriteStep};
-use wtransport_proto::frame::Frame;
-use wtransport_proto::stream::bilocal::StreamBiLocalQuic;
-use wtransport_proto::stream::biremote::StreamBiRemoteQuic;
-use wtransport_proto::stream::unilocal::StreamUniLocalQuic;
+use test_io::{Paced, same, stops_behind};
+use wtransport_proto::bytes::{AsyncWrite, BufferWriter, IoWriteError, Polled, Stepped, WriteStep};
+use wtransport_proto::frame::{Frame, FrameWriting};
+use wtransport_proto::stream::bilocal::{StreamBiLocalH3, StreamBiLocalQuic};
+use wtransport_proto::stream::biremote::{StreamBiRemoteH3, StreamBiRemoteQuic};
+use wtransport_proto::stream::session::StreamSession;
+use wtransport_proto::stream::unilocal::{StreamUniLocalH3, StreamUniLocalQuic};
 use wtransport_proto::stream_header::StreamHeader;
 
-const DONE: Polled<Result<(), IoWriteError>> = Polled::Ready(Ok(()));
+/// The answer of one poll.
+type Sent = Polled<Result<(), IoWriteError>>;
+
+const DONE: Sent = Polled::Ready(Ok(()));
+
+/// A frame on its way to a stream, which writes it by its own call.
+trait Sends {
+    fn send<W: AsyncWrite>(&mut self, sink: &mut W) -> Sent;
+}
+
+/// A frame on its way to a stream in both directions that this end opened.
+#[derive(Drop)]
+struct ToBoth<'a> {
+    stream: StreamBiLocalH3,
+    writing: FrameWriting<'a>,
+    ghost plain: { WritesPlain writing },
+}
+
+impl Sends for ToBoth<'_> {
+    fn send<W: AsyncWrite>(&mut self, sink: &mut W) -> Sent {
+        self.stream.write_frame_async(&mut self.writing, sink)
+    }
+}
+
+/// A frame on its way to a stream in one direction.
+#[derive(Drop)]
+struct ToOne<'a> {
+    stream: StreamUniLocalH3,
+    writing: FrameWriting<'a>,
+    ghost writable: { CanWrite stream },
+}
+
+impl Sends for ToOne<'_> {
+    fn send<W: AsyncWrite>(&mut self, sink: &mut W) -> Sent {
+        self.stream.write_frame_async(&mut self.writing, sink)
+    }
+}
+
+/// A frame on its way to a stream in both directions that the peer opened.
+#[derive(Drop)]
+struct ToPeer<'a> {
+    stream: StreamBiRemoteH3,
+    writing: FrameWriting<'a>,
+}
+
+impl Sends for ToPeer<'_> {
+    fn send<W: AsyncWrite>(&mut self, sink: &mut W) -> Sent {
+        self.stream.write_frame_async(&mut self.writing, sink)
+    }
+}
+
+/// A frame on its way to the stream of a session.
+#[derive(Drop)]
+struct ToSession<'a> {
+    stream: StreamSession,
+    writing: FrameWriting<'a>,
+}
+
+impl Sends for ToSession<'_> {
+    fn send<W: AsyncWrite>(&mut self, sink: &mut W) -> Sent {
+        self.stream.write_frame_async(&mut self.writing, sink)
+    }
+}
+
+/// Sends the frame; where allocation failed, a second poll sends it on.
+fn send_again<K: Sends, W: AsyncWrite>(sending: &mut K, sink: &mut W) -> Sent {
+    match sending.send(sink) {
+        Polled::NoMemory => sending.send(sink),
+        answer => answer,
+    }
+}
+
+/// What is left of the frame goes to a vector, as these bytes.
+fn check_rest<R: Abort + AllocGlobal, K: Sends>(rt: &R, sending: &mut K, wire: &[u8]) {
+    let mut vector = Vec::new(rt.alloc());
+    let answer = send_again(sending, &mut vector);
+    same(rt, (answer, vector.as_slice()), (DONE, wire), "to a vector");
+}
 
 /// Of a data frame so many bytes go to a sink that stops, and the others elsewhere. The stream can
 /// be upgraded until all are sent.
 fn check_stop<R: Abort + AllocGlobal>(rt: &R, room: usize) {
     let wire = b"\x00\x03abc".as_slice();
     let frame = Frame::new_data(CowSlice::Borrowed(b"abc"));
-    let mut stream = StreamBiLocalQuic::open_bi().upgrade();
-    let mut writing = frame.write_async();
+    let mut sending = ToBoth {
+        stream: StreamBiLocalQuic::open_bi().upgrade(),
+        writing: frame.write_async(),
+    };
     let mut sink = Paced::new(rt.alloc(), stops_behind(room));
-    assert_eq!(rt;
-        stream.write_frame_async(&mut writing, &mut sink),
-        Polled::Ready(Err(IoWriteError::Stopped))
+    let answer = sending.send(&mut sink);
+    let stopped = Polled::Ready(Err(IoWriteError::Stopped));
+    same(
+        rt,
+        (answer, Some(sink.taken())),
+        (stopped, wire.get(..room)),
+        room,
     );
-    assert_eq!(rt; Some(sink.taken()), wire.get(..room));
-    assert!(rt; stream.can_upgrade());
-    let mut vector = Vec::new(rt.alloc());
-    let mut answer = stream.write_frame_async(&mut writing, &mut vector);
-    if let Polled::NoMemory = answer {
-        answer = stream.write_frame_async(&mut writing, &mut vector);
-    }
-    assert_eq!(rt; answer, DONE);
-    assert_eq!(rt; Some(vector.as_slice()), wire.get(room..));
-    assert!(rt; !stream.can_upgrade());
+    same(rt, sending.stream.can_upgrade(), true, room);
+    check_rest(rt, &mut sending, wire.get(room..).unwrap_or(&[]));
+    same(rt, sending.stream.can_upgrade(), false, room);
 }
 
 #[test]
@@ -43,6 +124,20 @@ fn a_frame_goes_on_elsewhere(rt: HostRuntime) {
         check_stop(&rt, room);
     }
 }
+
+/// What the polls answer over a sink that halts, whether the stream can be upgraded after each, and
+/// what the poll does.
+const HALTING: [(Sent, bool, &str); 5] = [
+    (Polled::Pending, true, "not ready"),
+    (Polled::Pending, true, "two bytes, and not ready"),
+    (
+        Polled::Ready(Err(IoWriteError::NotConnected)),
+        true,
+        "not connected",
+    ),
+    (DONE, false, "the last byte"),
+    (DONE, false, "all is sent"),
+];
 
 /// Once all is sent, the sink is not called any more.
 #[test]
@@ -56,86 +151,71 @@ fn a_frame_that_was_written_ends_upgrading(rt: HostRuntime) {
         WriteStep::Stopped,
     ];
     let frame = Frame::new_data(CowSlice::Borrowed(b"a"));
-    let mut stream = StreamBiLocalQuic::open_bi().upgrade();
-    let mut writing = frame.write_async();
+    let mut sending = ToBoth {
+        stream: StreamBiLocalQuic::open_bi().upgrade(),
+        writing: frame.write_async(),
+    };
     let mut sink = Paced::new(rt.alloc(), &steps);
-    assert_eq!(rt;
-        stream.write_frame_async(&mut writing, &mut sink),
-        Polled::Pending
+    for (answer, can_upgrade, shows) in HALTING {
+        let came = sending.send(&mut sink);
+        let upgradable = sending.stream.can_upgrade();
+        same(&rt, (came, upgradable), (answer, can_upgrade), shows);
+    }
+    same(
+        &rt,
+        (sink.left(), sink.taken()),
+        (1, b"\x00\x01a".as_slice()),
+        "the sink",
     );
-    assert_eq!(rt;
-        stream.write_frame_async(&mut writing, &mut sink),
-        Polled::Pending
-    );
-    assert_eq!(rt;
-        stream.write_frame_async(&mut writing, &mut sink),
-        Polled::Ready(Err(IoWriteError::NotConnected))
-    );
-    assert!(rt; stream.can_upgrade());
-    assert_eq!(rt; stream.write_frame_async(&mut writing, &mut sink), DONE);
-    assert!(rt; !stream.can_upgrade());
-    assert_eq!(rt; stream.write_frame_async(&mut writing, &mut sink), DONE);
-    assert_eq!(rt; sink.left(), 1);
-    assert_eq!(rt; sink.taken(), b"\x00\x01a".as_slice());
 }
 
 #[test]
 fn refused_memory_for_a_frame_is_asked_for_again(rt: HostRuntime) {
     let frame = Frame::new_data(CowSlice::Borrowed(b"abc"));
-    let mut stream = StreamBiLocalQuic::open_bi().upgrade();
-    let mut writing = frame.write_async();
+    let mut sending = ToBoth {
+        stream: StreamBiLocalQuic::open_bi().upgrade(),
+        writing: frame.write_async(),
+    };
     let mut vector = Vec::new(rt.alloc());
-    let mut answer = stream.write_frame_async(&mut writing, &mut vector);
+    let mut answer = sending.send(&mut vector);
     if let Polled::NoMemory = answer {
-        assert!(rt; stream.can_upgrade());
-        answer = stream.write_frame_async(&mut writing, &mut vector);
+        assert!(rt; sending.stream.can_upgrade());
+        answer = sending.send(&mut vector);
     }
-    assert_eq!(rt; answer, DONE);
-    assert_eq!(rt; vector.as_slice(), b"\x00\x03abc".as_slice());
-    assert!(rt; !stream.can_upgrade());
+    let wire = b"\x00\x03abc".as_slice();
+    same(&rt, (answer, vector.as_slice()), (DONE, wire), "data");
+    assert!(rt; !sending.stream.can_upgrade());
 }
 
 #[test]
 fn a_frame_is_written_whole(rt: HostRuntime) {
     let frame = Frame::new_data(CowSlice::Borrowed(b"a"));
-    let mut stream = StreamBiLocalQuic::open_bi().upgrade();
-    let mut writing = frame.write_async();
-    let mut vector = Vec::new(rt.alloc());
-    let mut answer = stream.write_frame_async(&mut writing, &mut vector);
-    if let Polled::NoMemory = answer {
-        answer = stream.write_frame_async(&mut writing, &mut vector);
-    }
-    assert_eq!(rt; answer, DONE);
-    assert_eq!(rt; vector.as_slice(), b"\x00\x01a".as_slice());
-    assert!(rt; !stream.can_upgrade());
+    let mut sending = ToBoth {
+        stream: StreamBiLocalQuic::open_bi().upgrade(),
+        writing: frame.write_async(),
+    };
+    check_rest(&rt, &mut sending, b"\x00\x01a");
+    same(&rt, sending.stream.can_upgrade(), false, "written whole");
 }
 
 #[test]
 fn a_stream_that_was_opened_there_is_written(rt: HostRuntime) {
     let frame = Frame::new_data(CowSlice::Borrowed(b"abc"));
-    let stream = StreamBiRemoteQuic::accept_bi().upgrade();
-    let mut writing = frame.write_async();
-    let mut vector = Vec::new(rt.alloc());
-    let mut answer = stream.write_frame_async(&mut writing, &mut vector);
-    if let Polled::NoMemory = answer {
-        answer = stream.write_frame_async(&mut writing, &mut vector);
-    }
-    assert_eq!(rt; answer, DONE);
-    assert_eq!(rt; vector.as_slice(), b"\x00\x03abc".as_slice());
+    let mut sending = ToPeer {
+        stream: StreamBiRemoteQuic::accept_bi().upgrade(),
+        writing: frame.write_async(),
+    };
+    check_rest(&rt, &mut sending, b"\x00\x03abc");
 }
 
 #[test]
 fn the_stream_of_a_session_is_written(rt: HostRuntime) -> Result<(), Fail> {
     let frame = Frame::new_headers(CowSlice::Borrowed(&[0x00, 0x00]));
-    let stream = opened(rt.alloc())?;
-    let mut writing = frame.write_async();
-    let mut vector = Vec::new(rt.alloc());
-    let mut answer = stream.write_frame_async(&mut writing, &mut vector);
-    if let Polled::NoMemory = answer {
-        answer = stream.write_frame_async(&mut writing, &mut vector);
-    }
-    assert_eq!(rt; answer, DONE);
-    assert_eq!(rt; vector.as_slice(), [0x01, 0x02, 0x00, 0x00].as_slice());
+    let mut sending = ToSession {
+        stream: opened(rt.alloc())?,
+        writing: frame.write_async(),
+    };
+    check_rest(&rt, &mut sending, &[0x01, 0x02, 0x00, 0x00]);
     Ok(())
 }
 
@@ -144,18 +224,73 @@ fn a_control_stream_is_written(rt: HostRuntime) -> Result<(), Fail> {
     let frame = Frame::new_settings(CowSlice::Borrowed(&[0x33, 0x01]));
     let mut vector = Vec::new(rt.alloc());
     let upgrading = StreamUniLocalQuic::open_uni().upgrade_async(StreamHeader::new_control());
-    let Stepped::Done(mut stream) = upgrading.poll(&mut vector) else {
+    let Stepped::Done(stream) = upgrading.poll(&mut vector) else {
         return Err("a control stream")?;
     };
-    let mut writing = frame.write_async();
-    let mut answer = stream.write_frame_async(&mut writing, &mut vector);
-    if let Polled::NoMemory = answer {
-        answer = stream.write_frame_async(&mut writing, &mut vector);
+    let mut sending = ToOne {
+        stream,
+        writing: frame.write_async(),
+    };
+    let answer = send_again(&mut sending, &mut vector);
+    let wire = [0x00, 0x04, 0x02, 0x33, 0x01].as_slice();
+    same(&rt, (answer, vector.as_slice()), (DONE, wire), "settings");
+    Ok(())
+}
+
+/// How often a sink may wait.
+const TURNS: usize = 20;
+
+/// A sink that waits twice.
+const WAITS: [WriteStep; 3] = [
+    WriteStep::NotReady,
+    WriteStep::Bytes(2),
+    WriteStep::NotReady,
+];
+
+/// Writes the frame, while the sink waits.
+fn write_on<K: Sends, W: AsyncWrite>(sending: &mut K, sink: &mut W) -> Sent {
+    for _turn in 0..TURNS {
+        match sending.send(sink) {
+            Polled::Pending | Polled::NoMemory => {}
+            answer => return answer,
+        }
     }
-    assert_eq!(rt; answer, DONE);
-    assert_eq!(rt;
-        vector.as_slice(),
-        [0x00, 0x04, 0x02, 0x33, 0x01].as_slice()
+    Polled::Pending
+}
+
+#[test]
+fn a_frame_is_written_in_a_loop(rt: HostRuntime) {
+    let frame = Frame::new_data(CowSlice::Borrowed(b"abc"));
+    let mut sink = Paced::new(rt.alloc(), &WAITS);
+    let mut sending = ToBoth {
+        stream: StreamBiLocalQuic::open_bi().upgrade(),
+        writing: frame.write_async(),
+    };
+    let answer = write_on(&mut sending, &mut sink);
+    same(
+        &rt,
+        (answer, sink.taken(), sending.stream.can_upgrade()),
+        (DONE, b"\x00\x03abc".as_slice(), false),
+        "data",
     );
+}
+
+#[test]
+fn settings_are_written_in_a_loop(rt: HostRuntime) -> Result<(), Fail> {
+    let frame = Frame::new_settings(CowSlice::Borrowed(&[0x33, 0x01]));
+    let mut room = [0x00; 1];
+    let mut writer = BufferWriter::new(&mut room);
+    let quic = StreamUniLocalQuic::open_uni();
+    let Ok(stream) = quic.upgrade(StreamHeader::new_control(), &mut writer) else {
+        return Err("a control stream")?;
+    };
+    let mut sink = Paced::new(rt.alloc(), &WAITS);
+    let mut sending = ToOne {
+        stream,
+        writing: frame.write_async(),
+    };
+    let answer = write_on(&mut sending, &mut sink);
+    let wire = [0x04, 0x02, 0x33, 0x01].as_slice();
+    same(&rt, (answer, sink.taken()), (DONE, wire), "settings");
     Ok(())
 }
