@@ -1,6 +1,7 @@
 //! Streams in both directions that this end opened.
 use crate::reads::{FRAMES_OF_BOTH, Wanted, check_buffer, check_reads};
 use std::borrow::CowSlice;
+use std::process::Abort;
 use std::test::Fail;
 use test_io::same;
 use wtransport_proto::bytes::{BufferReader, BufferWriter, EndOfBuffer, PutError};
@@ -37,32 +38,28 @@ fn too_few_bytes_and_faults_stay(rt: HostRuntime) {
     }
 }
 
-/// What writing a data frame of one byte answers.
-fn put(stream: &mut StreamBiLocalH3, writer: &mut BufferWriter<'_>) -> Result<(), PutError> {
-    stream.write_frame(Frame::new_data(CowSlice::Borrowed(b"a")), writer)
+/// A data frame of one byte is written to this room: the answer, what is written, and whether the
+/// stream can be upgraded.
+fn check_put<R: Abort>(
+    rt: &R,
+    stream: &mut StreamBiLocalH3,
+    room: &mut [u8],
+    wanted: (Result<(), PutError>, &[u8], bool),
+    shows: &str,
+) {
+    let mut writer = BufferWriter::new(room);
+    let answer = stream.write_frame(Frame::new_data(CowSlice::Borrowed(b"a")), &mut writer);
+    let came = (answer, writer.buffer_written(), stream.can_upgrade());
+    same(rt, came, wanted, shows);
 }
 
 #[test]
 fn a_frame_that_was_written_ends_upgrading(rt: HostRuntime) {
     let mut stream = StreamBiLocalQuic::open_bi().upgrade();
-    let mut buffer = [0; 2];
-    let mut writer = BufferWriter::new(&mut buffer);
-    let answer = put(&mut stream, &mut writer);
-    same(
-        &rt,
-        (answer, writer.buffer_written(), stream.can_upgrade()),
-        (Err(PutError::EndOfBuffer), [0x00, 0x01].as_slice(), true),
-        "too little room",
-    );
-    let mut buffer = [0; 3];
-    let mut writer = BufferWriter::new(&mut buffer);
-    let answer = put(&mut stream, &mut writer);
-    same(
-        &rt,
-        (answer, writer.buffer_written(), stream.can_upgrade()),
-        (Ok(()), b"\x00\x01a".as_slice(), false),
-        "room for all",
-    );
+    let wanted = (Err(PutError::EndOfBuffer), b"\x00\x01".as_slice(), true);
+    check_put(&rt, &mut stream, &mut [0; 2], wanted, "too little room");
+    let wanted = (Ok(()), b"\x00\x01a".as_slice(), false);
+    check_put(&rt, &mut stream, &mut [0; 3], wanted, "room for all");
 }
 
 /// What writing a data frame of one byte whole answers.

@@ -170,19 +170,19 @@ fn waits_lose_no_frame(rt: HostRuntime) {
     check_frames(&rt, &driving.out, &[(0x21, b"Payload")]);
 }
 
-/// How the drives over a cut source end.
-const CUT_SOURCE: [Driven; 3] = [
-    Driven::Waiting,
-    Driven::Waiting,
-    Driven::Ended(IoReadError::IO(Fault::Reset)),
+/// How the drives over a source of one byte and a reset end, and where they do.
+const CUT_SOURCE: [(Driven, &str); 3] = [
+    (Driven::Waiting, "before the byte"),
+    (Driven::Waiting, "before the end"),
+    (Driven::Ended(IoReadError::IO(Fault::Reset)), "at the end"),
 ];
 
 #[test]
 fn a_drive_goes_on_over_a_second_source(rt: HostRuntime) {
     let mut driving = Driving::new(rt.alloc());
     let mut source = Trickle::new(b"\x00", End::Reset);
-    for (turn, end) in CUT_SOURCE.into_iter().enumerate() {
-        same(&rt, driving.on(&mut source, 10), end, turn);
+    for (end, shows) in CUT_SOURCE {
+        same(&rt, driving.on(&mut source, 10), end, shows);
     }
     let mut bytes = b"\x01a".as_slice();
     driving.check(&rt, &mut bytes, 10, (FIN, 1, 0), "the second source");

@@ -95,11 +95,16 @@ fn check_steps<R: Abort + AllocGlobal>(
     check_polls(rt, &mut stream, &mut reading, &mut source, answers, word);
 }
 
+/// The polls answer by each row.
+fn check_rows<R: Abort + AllocGlobal>(rt: &R, rows: &[Row]) {
+    for (bytes, steps, answers, word) in rows {
+        check_steps(rt, bytes, steps, answers, word);
+    }
+}
+
 #[test]
 fn polls_answer_by_the_bytes(rt: HostRuntime) {
-    for (bytes, steps, answers, word) in ROWS {
-        check_steps(&rt, bytes, steps, answers, word);
-    }
+    check_rows(&rt, &ROWS);
 }
 
 /// The front of the bytes, after which come zeros, how many bytes there are in all, the answers of

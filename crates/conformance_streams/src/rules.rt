@@ -3,6 +3,7 @@ use crate::answers::{Answer, CUT, FIN};
 use crate::reads::{PollRow, check_source, check_sources};
 use crate::session::opened;
 use crate::uniremote::upgraded;
+use std::process::Abort;
 use std::test::Fail;
 use test_io::same;
 use wtransport_proto::error::ErrorCode;
@@ -54,12 +55,17 @@ const OPENED_THERE: [PollRow; 10] = [
     ),
 ];
 
+/// The polls of a new stream that the peer opened answer by each row.
+fn check_new<R: Abort + AllocGlobal>(rt: &R, rows: &[PollRow]) {
+    for (bytes, answers, word) in rows {
+        let mut stream = StreamBiRemoteQuic::accept_bi().upgrade();
+        check_source(rt, &mut stream, bytes, answers, word);
+    }
+}
+
 #[test]
 fn a_stream_opened_there_keeps_its_rule(rt: HostRuntime) {
-    for (bytes, answers, word) in OPENED_THERE {
-        let mut stream = StreamBiRemoteQuic::accept_bi().upgrade();
-        check_source(&rt, &mut stream, bytes, answers, word);
-    }
+    check_new(&rt, &OPENED_THERE);
 }
 
 /// A stream in both directions that was opened here, or that has its session.
