@@ -1,4 +1,5 @@
-//! Worked rows and tables of the protocol, as tests over the public crates. There is no product code here.
+//! Numbers, readers, writers, IDs, error codes, frames and datagrams, read and written whole; the way of a header map
+//! over streams; the first steps of a server. Tests over the public crates; there is no product code here.
 #![tactic(auto)]
 
 #[cfg(test)]

@@ -1,8 +1,8 @@
 //! What polls of streams are to answer.
+use crate::same::same;
 use std::alloc::{AllocError, Global};
 use std::process::Abort;
 use std::test::Fail;
-use test_io::same;
 use wtransport_proto::bytes::{IoReadError as Fault, Polled};
 use wtransport_proto::error::ErrorCode;
 use wtransport_proto::frame::{Frame, FrameOwned};

@@ -1,9 +1,9 @@
 //! Streams in both directions that this end opened.
 use crate::reads::{FRAMES_OF_BOTH, Wanted, check_buffer, check_reads};
+use crate::same::same;
 use std::borrow::CowSlice;
 use std::process::Abort;
 use std::test::Fail;
-use test_io::same;
 use wtransport_proto::bytes::{BufferReader, BufferWriter, EndOfBuffer, PutError};
 use wtransport_proto::error::ErrorCode;
 use wtransport_proto::frame::Frame;

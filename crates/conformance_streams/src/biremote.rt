@@ -1,8 +1,8 @@
 //! Streams in both directions that the peer opened.
 use crate::reads::{check_buffer, check_slice, check_sliced};
+use crate::same::same;
 use std::borrow::CowSlice;
 use std::test::Fail;
-use test_io::same;
 use wtransport_proto::bytes::{BufferReader, BufferWriter, EndOfBuffer};
 use wtransport_proto::error::ErrorCode;
 use wtransport_proto::frame::{Frame, FrameKind};

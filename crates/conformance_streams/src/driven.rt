@@ -1,11 +1,12 @@
 //! Driving streams.
 use crate::answers::{number_and_payload, padded};
+use crate::same::same;
 use crate::session::opened;
 use crate::uniremote::upgraded;
 use std::alloc::{AllocError, Global};
 use std::process::Abort;
 use std::test::Fail;
-use test_io::{End, Trickle, same};
+use test_io::{End, Trickle};
 use wtransport_proto::bytes::{AsyncRead, IoReadError as Fault};
 use wtransport_proto::error::ErrorCode;
 use wtransport_proto::frame::{Frame, FrameOwned, FrameReading};

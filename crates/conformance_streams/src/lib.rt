@@ -20,6 +20,8 @@ mod reads;
 #[cfg(test)]
 mod rules;
 #[cfg(test)]
+mod same;
+#[cfg(test)]
 mod session;
 #[cfg(test)]
 mod states;

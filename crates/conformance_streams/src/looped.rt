@@ -2,9 +2,10 @@
 ghost use Rattle.wtransport_proto.specs.Streams.{CanRead};
 
 use crate::answers::{Answer, Answered, check_answer};
+use crate::same::same;
 use crate::uniremote::upgraded;
 use std::test::Fail;
-use test_io::{End, Trickle, same};
+use test_io::{End, Trickle};
 use wtransport_proto::bytes::{AsyncRead, Polled};
 use wtransport_proto::frame::{Frame, FrameReading};
 use wtransport_proto::stream::uniremote::StreamUniRemoteH3;

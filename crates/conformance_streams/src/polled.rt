@@ -1,9 +1,10 @@
 //! Reading frames from streams, poll by poll.
 use crate::answers::{Answer, Answered, CUT, FIN, check_answer, padded};
 use crate::reads::{check_polls, check_source};
+use crate::same::same;
 use std::alloc::AllocError;
 use std::process::Abort;
-use test_io::{Answers, End, Trickle, same};
+use test_io::{Answers, End, Trickle};
 use wtransport_proto::bytes::{IoReadError as Fault, Polled, ReadStep};
 use wtransport_proto::error::ErrorCode;
 use wtransport_proto::frame::{Frame, FrameReading};

@@ -1,10 +1,10 @@
 //! What streams, upgrades and their answers print for debugging.
 use crate::answers::session_4;
+use crate::same::same;
 use std::alloc::AllocError;
 use std::fmt::Debug;
 use std::process::Abort;
 use std::test::Fail;
-use test_io::same;
 use wtransport_proto::bytes::Polled;
 use wtransport_proto::frame::{FrameOwned, FrameReading};
 use wtransport_proto::stream::IoReadError;

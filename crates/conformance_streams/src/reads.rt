@@ -1,7 +1,7 @@
 //! Reading frames from a stream of each kind, so that one check goes over all of them.
 use crate::answers::{Answer, Answered, check_answer, number_and_payload};
+use crate::same::same;
 use std::process::Abort;
-use test_io::same;
 use wtransport_proto::bytes::{AsyncRead, BufferReader, Polled};
 use wtransport_proto::error::ErrorCode;
 use wtransport_proto::frame::{Frame, FrameReading};

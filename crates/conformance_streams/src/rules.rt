@@ -1,11 +1,11 @@
 //! Reading frames by the rule of each state, poll by poll.
 use crate::answers::{Answer, CUT, FIN};
 use crate::reads::{PollRow, check_source, check_sources};
+use crate::same::same;
 use crate::session::opened;
 use crate::uniremote::upgraded;
 use std::process::Abort;
 use std::test::Fail;
-use test_io::same;
 use wtransport_proto::error::ErrorCode;
 use wtransport_proto::stream::IoReadError;
 use wtransport_proto::stream::bilocal::StreamBiLocalQuic;

@@ -1,9 +1,9 @@
 //! Streams that carry the request for a session.
 use crate::reads::{FRAMES_OF_BOTH, check_reads};
+use crate::same::same;
 use std::alloc::Global;
 use std::borrow::CowSlice;
 use std::test::Fail;
-use test_io::same;
 use wtransport_proto::bytes::{BufferWriter, EndOfBuffer, PutError};
 use wtransport_proto::frame::Frame;
 use wtransport_proto::session::{SessionRequest, UrlParseError};

@@ -2,13 +2,14 @@
 //! disconnect, and a writing state into a vector whose allocation fails.
 use crate::answers::Answered;
 use crate::reads::Reads;
+use crate::same::same;
 use crate::session::opened;
 use crate::uniremote::upgraded;
 use std::alloc::{AllocError, Global};
 use std::borrow::CowSlice;
 use std::process::Abort;
 use std::test::Fail;
-use test_io::{End, Trickle, same};
+use test_io::{End, Trickle};
 use wtransport_proto::bytes::{BufferWriter, IoReadError as Fault, Polled, PutError};
 use wtransport_proto::error::ErrorCode;
 use wtransport_proto::frame::Frame;

@@ -1,8 +1,9 @@
 //! Upgrading streams, poll by poll.
 use crate::answers::session_4;
+use crate::same::same;
 use std::process::Abort;
 use std::test::Fail;
-use test_io::{End, Paced, Trickle, same, stops_behind};
+use test_io::{End, Paced, Trickle, stops_behind};
 use wtransport_proto::bytes::{AsyncRead, IoReadError as Fault, IoWriteError, Stepped, WriteStep};
 use wtransport_proto::error::ErrorCode;
 use wtransport_proto::stream::bilocal::{StreamBiLocalQuic, StreamBiLocalWT};

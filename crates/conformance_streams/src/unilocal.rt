@@ -2,10 +2,10 @@
 ghost use Rattle.wtransport_proto.specs.Streams.{CanWrite};
 
 use crate::answers::session_4;
+use crate::same::same;
 use std::borrow::CowSlice;
 use std::process::Abort;
 use std::test::Fail;
-use test_io::same;
 use wtransport_proto::bytes::{BufferWriter, EndOfBuffer, PutError};
 use wtransport_proto::frame::Frame;
 use wtransport_proto::ids::{SessionId, StreamId};

@@ -1,9 +1,9 @@
 //! Streams in one direction that the peer opened.
 use crate::answers::session_4;
 use crate::reads::{ReadRow, check_buffer, check_reads};
+use crate::same::same;
 use std::process::Abort;
 use std::test::Fail;
-use test_io::same;
 use wtransport_proto::bytes::BufferReader;
 use wtransport_proto::error::ErrorCode;
 use wtransport_proto::ids::SessionId;

@@ -3,11 +3,12 @@
 ghost use Rattle.wtransport_proto.specs.StreamWriting.{WritesPlain};
 ghost use Rattle.wtransport_proto.specs.Streams.{CanWrite};
 
+use crate::same::same;
 use crate::session::opened;
 use std::borrow::CowSlice;
 use std::process::Abort;
 use std::test::Fail;
-use test_io::{Paced, same, stops_behind};
+use test_io::{Paced, stops_behind};
 use wtransport_proto::bytes::{AsyncWrite, BufferWriter, IoWriteError, Polled, Stepped, WriteStep};
 use wtransport_proto::frame::{Frame, FrameWriting};
 use wtransport_proto::stream::bilocal::{StreamBiLocalH3, StreamBiLocalQuic};
