@@ -70,12 +70,12 @@ pub(crate) fn assert_decoded<S: Copy + Display + Drop>(
 }
 
 /// Asserts that pairs are encoded to this section.
-pub(crate) fn assert_encoded<S: Copy + Display + Drop>(
+pub(crate) fn assert_encoded(
     rt: &impl Abort,
     alloc: Global,
     pairs: &[(&str, &str)],
     section: &[u8],
-    shows: S,
+    shows: &str,
 ) -> Result<(), AllocError> {
     same(rt, encoded(alloc, pairs)?.as_slice(), section, shows);
     Ok(())
@@ -150,7 +150,7 @@ static ENCODED: [(&str, &[(&str, &str)], &[u8]); 13] = [
 
 #[test]
 fn encoded_fields_past_refused_memory(rt: HostRuntime) -> Result<(), Fail> {
-    for (shows, pairs, section) in ENCODED {
+    for (shows, pairs, section) in &ENCODED {
         assert_encoded(&rt, rt.alloc(), pairs, section, shows)?;
     }
     Ok(())
@@ -229,10 +229,21 @@ static DECODED: [(&str, &[u8], &[(&str, &str)]); 13] = [
 
 #[test]
 fn decoded_sections_past_refused_memory(rt: HostRuntime) -> Result<(), Fail> {
-    for (shows, section, fields) in DECODED {
-        assert_decoded(&rt, rt.alloc(), section, fields, shows)?;
+    for (shows, section, fields) in &DECODED {
+        assert_decoded(&rt, rt.alloc(), section, fields, *shows)?;
     }
     Ok(())
+}
+
+/// Asserts what fault is found in a section.
+pub(crate) fn assert_fault(
+    rt: &impl Abort,
+    alloc: Global,
+    section: &[u8],
+    fault: Option<DecodingError>,
+    shows: &str,
+) {
+    same(rt, decoded(alloc, section).err(), fault, shows);
 }
 
 /// What a row shows, a section that is refused, and why.
@@ -353,8 +364,8 @@ static REFUSED: [(&str, &[u8], DecodingError); 24] = [
 
 #[test]
 fn refused_sections_past_refused_memory(rt: HostRuntime) {
-    for (shows, section, fault) in REFUSED {
-        same(&rt, decoded(rt.alloc(), section).err(), Some(fault), shows);
+    for (shows, section, fault) in &REFUSED {
+        assert_fault(&rt, rt.alloc(), section, Some(*fault), shows);
     }
 }
 
@@ -383,8 +394,8 @@ static SENT: [(&str, &[(&str, &str)], &[(&str, &str)]); 3] = [
 
 #[test]
 fn encoded_fields_come_back_past_refused_memory(rt: HostRuntime) -> Result<(), Fail> {
-    for (shows, pairs, fields) in SENT {
-        assert_come_back(&rt, rt.alloc(), pairs, fields, shows)?;
+    for (shows, pairs, fields) in &SENT {
+        assert_come_back(&rt, rt.alloc(), pairs, fields, *shows)?;
     }
     Ok(())
 }
@@ -437,6 +448,17 @@ fn shown(alloc: Global, error: DecodingError) -> Result<String, AllocError> {
     }
 }
 
+/// Asserts that an error has this text.
+fn assert_shown(
+    rt: &impl Abort,
+    alloc: Global,
+    error: DecodingError,
+    text: &str,
+) -> Result<(), AllocError> {
+    same(rt, shown(alloc, error)?.as_str(), text, text);
+    Ok(())
+}
+
 /// Errors and their texts.
 static ERRORS: [(DecodingError, &str); 6] = [
     (
@@ -458,8 +480,8 @@ static ERRORS: [(DecodingError, &str); 6] = [
 
 #[test]
 fn printed_errors_past_refused_memory(rt: HostRuntime) -> Result<(), Fail> {
-    for (error, text) in ERRORS {
-        same(&rt, shown(rt.alloc(), error)?.as_str(), text, text);
+    for (error, text) in &ERRORS {
+        assert_shown(&rt, rt.alloc(), *error, text)?;
     }
     Ok(())
 }

@@ -79,14 +79,28 @@ fn assert_form(
     same(rt, (first, came), (first, fault), form);
 }
 
+/// Asserts it of each first byte from the least to the greatest, and answers how many they are.
+fn assert_forms(
+    rt: &impl Abort,
+    alloc: Global,
+    (least, greatest): (u8, u8),
+    form: &str,
+    fault: Option<DecodingError>,
+) -> u32 {
+    let mut bytes = 0u32;
+    for first in least..=greatest {
+        assert_form(rt, alloc, first, form, fault);
+        bytes = bytes.wrapping_add(1);
+    }
+    bytes
+}
+
 #[test]
 fn first_bytes_past_refused_memory(rt: HostRuntime) {
     let mut bytes = 0u32;
-    for (form, least, greatest, fault) in FORMS {
-        for first in least..=greatest {
-            assert_form(&rt, rt.alloc(), first, form, fault);
-            bytes = bytes.wrapping_add(1);
-        }
+    for (form, least, greatest, fault) in &FORMS {
+        let few = assert_forms(&rt, rt.alloc(), (*least, *greatest), form, *fault);
+        bytes = bytes.wrapping_add(few);
     }
     same(&rt, bytes, 256, "each first byte");
 }

@@ -82,12 +82,24 @@ fn assert_sent(
     Ok(())
 }
 
+/// Asserts the same, and that the map of this payload has these fields and no other.
+fn assert_sent_and_read(
+    rt: &impl Abort,
+    alloc: Global,
+    pairs: &[(&str, &str)],
+    payload: &[u8],
+    shows: &str,
+) -> Result<(), Fail> {
+    assert_sent(rt, alloc, pairs, payload, shows)?;
+    let back = read(rt, alloc, payload)?;
+    assert_fields(rt, &back, pairs, shows);
+    Ok(())
+}
+
 #[test]
 fn payloads_past_refused_memory(rt: HostRuntime) -> Result<(), Fail> {
-    for (shows, pairs, payload) in PAYLOADS {
-        assert_sent(&rt, rt.alloc(), pairs, payload, shows)?;
-        let back = read(&rt, rt.alloc(), payload)?;
-        assert_fields(&rt, &back, pairs, shows);
+    for (shows, pairs, payload) in &PAYLOADS {
+        assert_sent_and_read(&rt, rt.alloc(), pairs, payload, shows)?;
     }
     Ok(())
 }
@@ -108,16 +120,21 @@ static REFUSED: [(&str, &[u8]); 6] = [
     ),
 ];
 
+/// Asserts that a payload is refused as no field section.
+fn assert_refused(rt: &impl Abort, alloc: Global, payload: &[u8], shows: &str) {
+    let fault = read(rt, alloc, payload).err();
+    same(
+        rt,
+        fault,
+        Some(Refused::Code(ErrorCode::Decompression)),
+        shows,
+    );
+}
+
 #[test]
 fn refused_sections_past_refused_memory(rt: HostRuntime) {
-    for (shows, payload) in REFUSED {
-        let fault = read(&rt, rt.alloc(), payload).err();
-        same(
-            &rt,
-            fault,
-            Some(Refused::Code(ErrorCode::Decompression)),
-            shows,
-        );
+    for (shows, payload) in &REFUSED {
+        assert_refused(&rt, rt.alloc(), payload, shows);
     }
 }
 

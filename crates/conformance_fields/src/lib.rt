@@ -1,5 +1,5 @@
-//! Huffman text, field sections, header maps and the messages of sessions, as tests over the public crates: of sections
-//! the first bytes of lines, prefixed integers and string literals, and the static table. There is no product code here.
+//! Field sections (the first bytes of lines, prefixed integers, string literals, the static table), header maps and the
+//! messages of sessions. Tests over the public crates; there is no product code here.
 #![tactic(auto)]
 
 #[cfg(test)]
@@ -8,8 +8,6 @@ mod field_sections;
 mod first_bytes;
 #[cfg(test)]
 mod header_maps;
-#[cfg(test)]
-mod huffman;
 #[cfg(test)]
 mod prefixed_integers;
 #[cfg(test)]

@@ -1,6 +1,6 @@
 //! Prefixed integers (RFC 7541, section 5.1) as the integers of sections, lengths and indices, and string literals whose
 //! lengths they are.
-use crate::field_sections::{assert_come_back, assert_decoded, decoded, encoded, joined};
+use crate::field_sections::{assert_come_back, assert_decoded, assert_fault, encoded, joined};
 use crate::same::same;
 use std::alloc::Global;
 use std::process::Abort;
@@ -112,12 +112,24 @@ fn assert_written(
     Ok(())
 }
 
+/// Asserts the same of a name and a value of letters, and that their field comes back.
+fn assert_written_and_read(
+    rt: &impl Abort,
+    alloc: Global,
+    [name, value]: [(u8, usize); 2],
+    (front, len): (&[u8], usize),
+    shows: &str,
+) -> Result<(), Fail> {
+    let field = (text_of(name.0, name.1)?, text_of(value.0, value.1)?);
+    assert_written(rt, alloc, field, (front, len), shows)?;
+    assert_come_back(rt, alloc, &[field], &[field], shows)?;
+    Ok(())
+}
+
 #[test]
 fn written_integers_past_refused_memory(rt: HostRuntime) -> Result<(), Fail> {
-    for (shows, name, value, front, len) in WRITTEN {
-        let field = (text_of(name.0, name.1)?, text_of(value.0, value.1)?);
-        assert_written(&rt, rt.alloc(), field, (front, len), shows)?;
-        assert_come_back(&rt, rt.alloc(), &[field], &[field], shows)?;
+    for (shows, name, value, front, len) in &WRITTEN {
+        assert_written_and_read(&rt, rt.alloc(), [*name, *value], (front, *len), shows)?;
     }
     Ok(())
 }
@@ -160,11 +172,11 @@ fn assert_read(
 #[test]
 fn integers_under_each_flag_past_refused_memory(rt: HostRuntime) -> Result<(), Fail> {
     let text = text_of(b'Z', 1337)?;
-    for (shows, front, byte) in NAMES_OF_1337 {
-        assert_read(&rt, rt.alloc(), (front, byte, b"\x00"), (text, ""), shows)?;
+    for (shows, front, byte) in &NAMES_OF_1337 {
+        assert_read(&rt, rt.alloc(), (front, *byte, b"\x00"), (text, ""), shows)?;
     }
-    for (shows, front, byte) in VALUES_OF_1337 {
-        assert_read(&rt, rt.alloc(), (front, byte, b""), ("", text), shows)?;
+    for (shows, front, byte) in &VALUES_OF_1337 {
+        assert_read(&rt, rt.alloc(), (front, *byte, b""), ("", text), shows)?;
     }
     Ok(())
 }
@@ -303,8 +315,8 @@ static ANSWERS: [(&str, &[u8], Option<DecodingError>); 27] = [
 
 #[test]
 fn cut_and_great_integers_past_refused_memory(rt: HostRuntime) {
-    for (shows, section, fault) in ANSWERS {
-        same(&rt, decoded(rt.alloc(), section).err(), fault, shows);
+    for (shows, section, fault) in &ANSWERS {
+        assert_fault(&rt, rt.alloc(), section, *fault, shows);
     }
 }
 
@@ -313,13 +325,23 @@ static LENGTHS: [usize; 18] = [
     0, 1, 6, 7, 8, 30, 31, 32, 126, 127, 128, 134, 135, 158, 159, 254, 255, 1023,
 ];
 
+/// Asserts that a name and a value of a letter so many times come back.
+fn assert_string(rt: &impl Abort, alloc: Global, letter: u8, len: usize) -> Result<(), Fail> {
+    let text = text_of(letter, len)?;
+    assert_come_back(rt, alloc, &[(text, text)], &[(text, text)], len)?;
+    Ok(())
+}
+
+/// Asserts it of either letter.
+fn assert_strings(rt: &impl Abort, alloc: Global, len: usize) -> Result<(), Fail> {
+    assert_string(rt, alloc, b'a', len)?;
+    assert_string(rt, alloc, b'Z', len)
+}
+
 #[test]
 fn strings_past_refused_memory(rt: HostRuntime) -> Result<(), Fail> {
-    for len in LENGTHS {
-        for letter in [b'a', b'Z'] {
-            let text = text_of(letter, len)?;
-            assert_come_back(&rt, rt.alloc(), &[(text, text)], &[(text, text)], len)?;
-        }
+    for len in &LENGTHS {
+        assert_strings(&rt, rt.alloc(), *len)?;
     }
     Ok(())
 }

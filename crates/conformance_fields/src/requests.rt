@@ -71,11 +71,23 @@ static URLS: [(&str, &str, &str, &str); 4] = [
     ),
 ];
 
+/// Asserts that the request for a URL has this authority and path.
+fn assert_requested(
+    rt: &impl Abort,
+    alloc: Global,
+    url: &str,
+    (authority, path): (&'static str, &'static str),
+    shows: &str,
+) -> Result<(), UrlParseError> {
+    let request = requested(alloc, url)?;
+    assert_request(rt, &request, authority, path, shows);
+    Ok(())
+}
+
 #[test]
 fn urls_past_refused_memory(rt: HostRuntime) -> Result<(), Fail> {
-    for (shows, url, authority, path) in URLS {
-        let request = requested(rt.alloc(), url)?;
-        assert_request(&rt, &request, authority, path, shows);
+    for (shows, url, authority, path) in &URLS {
+        assert_requested(&rt, rt.alloc(), url, (*authority, *path), shows)?;
     }
     Ok(())
 }
@@ -93,15 +105,15 @@ static REFUSED_URLS: [(&str, UrlParseError); 9] = [
     ("/foo/bar", UrlParseError::RelativeUrlWithoutBase),
 ];
 
+/// Asserts that there is no request for a URL, and why.
+fn assert_refused_url(rt: &impl Abort, alloc: Global, url: &str, fault: &UrlParseError) {
+    same(rt, requested(alloc, url).err().as_ref(), Some(fault), url);
+}
+
 #[test]
 fn refused_urls_past_refused_memory(rt: HostRuntime) {
     for (url, fault) in &REFUSED_URLS {
-        same(
-            &rt,
-            requested(rt.alloc(), url).err().as_ref(),
-            Some(fault),
-            *url,
-        );
+        assert_refused_url(&rt, rt.alloc(), url, fault);
     }
 }
 
@@ -145,10 +157,30 @@ static INSERTED: [(&str, &str, Option<&str>); 4] = [
 fn request_with_fields(rt: &impl Abort, alloc: Global) -> Result<SessionRequest, Fail> {
     let mut request = requested(alloc, "https://example.com/")?;
     assert_given(rt, &request, [None, None, None], "no field is inserted");
-    for (name, value, before) in INSERTED {
-        insert(rt, &mut request, name, value, before)?;
+    for (name, value, before) in &INSERTED {
+        insert(rt, &mut request, name, value, *before)?;
     }
     Ok(request)
+}
+
+/// The names of the fields that a request sets itself.
+static RESERVED: [&str; 5] = [":method", ":scheme", ":protocol", ":authority", ":path"];
+
+/// Asserts that a name is reserved, and that no field of it is inserted.
+fn assert_reserved(rt: &impl Abort, request: &mut SessionRequest, name: &'static str) {
+    same(
+        rt,
+        SessionRequest::RESERVED_HEADERS.contains(&name),
+        true,
+        name,
+    );
+    let outcome = request.insert(name, "example");
+    same(
+        rt,
+        outcome,
+        Err(InsertError::Reserved(ReservedHeader)),
+        name,
+    );
 }
 
 #[test]
@@ -162,20 +194,8 @@ fn fields_of_a_request_past_refused_memory(rt: HostRuntime) -> Result<(), Fail> 
         5,
         "reserved names",
     );
-    for name in [":method", ":scheme", ":protocol", ":authority", ":path"] {
-        same(
-            &rt,
-            SessionRequest::RESERVED_HEADERS.contains(&name),
-            true,
-            name,
-        );
-        let outcome = request.insert(name, "example");
-        same(
-            &rt,
-            outcome,
-            Err(InsertError::Reserved(ReservedHeader)),
-            name,
-        );
+    for name in &RESERVED {
+        assert_reserved(&rt, &mut request, name);
     }
     let came = (
         request.authority(),
@@ -276,15 +296,22 @@ static FAULTS: [(&str, &[(&str, &str)], Option<HeadersParseError>); 10] = [
     ("no field", &[], Some(HeadersParseError::MissingMethod)),
 ];
 
+/// Asserts what fault the request with these fields has.
+fn assert_fault(
+    rt: &impl Abort,
+    alloc: Global,
+    pairs: &[(&str, &str)],
+    first: Option<&HeadersParseError>,
+    shows: &str,
+) -> Result<(), AllocError> {
+    same(rt, fault(alloc, pairs)?.as_ref(), first, shows);
+    Ok(())
+}
+
 #[test]
 fn faults_of_requests_past_refused_memory(rt: HostRuntime) -> Result<(), Fail> {
     for (shows, pairs, first) in &FAULTS {
-        same(
-            &rt,
-            fault(rt.alloc(), pairs)?.as_ref(),
-            first.as_ref(),
-            *shows,
-        );
+        assert_fault(&rt, rt.alloc(), pairs, first.as_ref(), shows)?;
     }
     Ok(())
 }
@@ -343,6 +370,18 @@ fn assert_refused(rt: &impl Abort, alloc: Global, frame: &Frame<'_>, code: Error
     );
 }
 
+/// Asserts it of the HEADERS frame of a payload.
+fn assert_refused_payload(
+    rt: &impl Abort,
+    alloc: Global,
+    payload: &[u8],
+    code: ErrorCode,
+    shows: &str,
+) {
+    let frame = Frame::new_headers(CowSlice::Borrowed(payload));
+    assert_refused(rt, alloc, &frame, code, shows);
+}
+
 #[test]
 fn refused_frames_past_refused_memory(rt: HostRuntime) {
     let data = Frame::new_data(CowSlice::Borrowed(&[]));
@@ -353,8 +392,7 @@ fn refused_frames_past_refused_memory(rt: HostRuntime) {
         ErrorCode::FrameUnexpected,
         "another kind",
     );
-    for (shows, payload, code) in REFUSED_PAYLOADS {
-        let frame = Frame::new_headers(CowSlice::Borrowed(payload));
-        assert_refused(&rt, rt.alloc(), &frame, code, shows);
+    for (shows, payload, code) in &REFUSED_PAYLOADS {
+        assert_refused_payload(&rt, rt.alloc(), payload, *code, shows);
     }
 }

@@ -36,20 +36,34 @@ fn response(alloc: Global, call: Call) -> Result<SessionResponse, AllocError> {
     }
 }
 
+/// A call, and the status code and the payload of its response.
+static CALLS: [(Call, u16, &[u8]); 5] = [
+    (Call::WithStatusCode, 200, b"\x00\x00\x5f\x09\x82\x10\x01"),
+    (Call::Ok, 200, b"\x00\x00\x5f\x09\x82\x10\x01"),
+    (Call::Forbidden, 403, b"\x00\x00\x5f\x09\x03403"),
+    (Call::NotFound, 404, b"\x00\x00\x5f\x09\x03404"),
+    (Call::TooManyRequests, 429, b"\x00\x00\x5f\x09\x03429"),
+];
+
+/// Asserts that the response of a call has this status code and this payload.
+fn assert_response(
+    rt: &impl Abort,
+    alloc: Global,
+    call: Call,
+    code: u16,
+    payload: &[u8],
+) -> Result<(), Fail> {
+    let response = response(alloc, call)?;
+    let frame = framed(alloc, response.headers())?;
+    same(rt, response.code().into_inner(), code, code);
+    same(rt, frame.payload(), payload, code);
+    Ok(())
+}
+
 #[test]
 fn responses_past_refused_memory(rt: HostRuntime) -> Result<(), Fail> {
-    let rows: [(Call, u16, &[u8]); 5] = [
-        (Call::WithStatusCode, 200, b"\x00\x00\x5f\x09\x82\x10\x01"),
-        (Call::Ok, 200, b"\x00\x00\x5f\x09\x82\x10\x01"),
-        (Call::Forbidden, 403, b"\x00\x00\x5f\x09\x03403"),
-        (Call::NotFound, 404, b"\x00\x00\x5f\x09\x03404"),
-        (Call::TooManyRequests, 429, b"\x00\x00\x5f\x09\x03429"),
-    ];
-    for (call, code, payload) in rows {
-        let response = response(rt.alloc(), call)?;
-        let frame = framed(rt.alloc(), response.headers())?;
-        same(&rt, response.code().into_inner(), code, code);
-        same(&rt, frame.payload(), payload, code);
+    for (call, code, payload) in &CALLS {
+        assert_response(&rt, rt.alloc(), *call, *code, payload)?;
     }
     Ok(())
 }
@@ -76,13 +90,21 @@ fn add(
     }
 }
 
+/// Texts that are no status codes.
+static NO_CODES: [&str; 7] = ["abc", "", "+", "99", "600", "65736", "2 00"];
+
+/// Asserts that a text is not added as the status of a response, whose status code is 200 before and after.
+fn assert_no_code(rt: &impl Abort, response: &mut SessionResponse, text: &str) {
+    let outcome = response.add(":status", text);
+    same(rt, outcome, Err(AddError::InvalidStatusCode), text);
+    same(rt, response.code(), StatusCode::OK, text);
+}
+
 #[test]
 fn fields_of_a_response_past_refused_memory(rt: HostRuntime) -> Result<(), Fail> {
     let mut response = response(rt.alloc(), Call::Ok)?;
-    for text in ["abc", "", "+", "99", "600", "65736", "2 00"] {
-        let outcome = response.add(":status", text);
-        same(&rt, outcome, Err(AddError::InvalidStatusCode), text);
-        same(&rt, response.code(), StatusCode::OK, text);
+    for text in &NO_CODES {
+        assert_no_code(&rt, &mut response, text);
     }
     add(&rt, &mut response, "x", "y", None)?;
     add(&rt, &mut response, ":status", "0404", Some("200"))?;
@@ -136,19 +158,44 @@ static NO_RESPONSES: [(&str, &[(&str, &str)], HeadersParseError); 4] = [
     ),
 ];
 
+/// Asserts that there is no response with these fields, and why.
+fn assert_no_response(
+    rt: &impl Abort,
+    alloc: Global,
+    pairs: &[(&str, &str)],
+    fault: &HeadersParseError,
+    shows: &str,
+) {
+    same(
+        rt,
+        answered(alloc, pairs).err().as_ref(),
+        Some(fault),
+        shows,
+    );
+}
+
+/// A text of a status, and its digits in the response.
+static STATUSES: [(&str, &str); 3] = [("0200", "200"), ("+403", "403"), ("599", "599")];
+
+/// Asserts that the response of a map with this text as its status has these digits alone.
+fn assert_status(
+    rt: &impl Abort,
+    alloc: Global,
+    text: &str,
+    digits: &str,
+) -> Result<(), HeadersParseError> {
+    let response = answered(alloc, &[(":status", text), ("x", "y")])?;
+    assert_fields(rt, response.headers(), &[(":status", digits)], text);
+    Ok(())
+}
+
 #[test]
 fn responses_of_maps_past_refused_memory(rt: HostRuntime) -> Result<(), Fail> {
-    for (text, digits) in [("0200", "200"), ("+403", "403"), ("599", "599")] {
-        let response = answered(rt.alloc(), &[(":status", text), ("x", "y")])?;
-        assert_fields(&rt, response.headers(), &[(":status", digits)], text);
+    for (text, digits) in &STATUSES {
+        assert_status(&rt, rt.alloc(), text, digits)?;
     }
     for (shows, pairs, fault) in &NO_RESPONSES {
-        same(
-            &rt,
-            answered(rt.alloc(), pairs).err().as_ref(),
-            Some(fault),
-            *shows,
-        );
+        assert_no_response(&rt, rt.alloc(), pairs, fault, shows);
     }
     Ok(())
 }

@@ -120,22 +120,28 @@ fn printed_errors_of_urls_past_refused_memory(rt: HostRuntime) -> Result<(), Fai
     Ok(())
 }
 
+/// Errors of inserted fields, and their texts.
+static ERRORS_OF_INSERTS: [(InsertError, &str); 2] = [
+    (
+        InsertError::Reserved(ReservedHeader),
+        "used reserved header",
+    ),
+    (InsertError::Memory, "no memory"),
+];
+
+/// Errors of added fields, and their texts.
+static ERRORS_OF_ADDS: [(AddError, &str); 2] = [
+    (AddError::InvalidStatusCode, "invalid HTTP status code"),
+    (AddError::Memory, "no memory"),
+];
+
 #[test]
 fn printed_errors_of_fields_past_refused_memory(rt: HostRuntime) -> Result<(), Fail> {
-    for (error, text) in [
-        (
-            InsertError::Reserved(ReservedHeader),
-            "used reserved header",
-        ),
-        (InsertError::Memory, "no memory"),
-    ] {
-        assert_shown(&rt, rt.alloc(), &error, text)?;
+    for (error, text) in &ERRORS_OF_INSERTS {
+        assert_shown(&rt, rt.alloc(), error, text)?;
     }
-    for (error, text) in [
-        (AddError::InvalidStatusCode, "invalid HTTP status code"),
-        (AddError::Memory, "no memory"),
-    ] {
-        assert_shown(&rt, rt.alloc(), &error, text)?;
+    for (error, text) in &ERRORS_OF_ADDS {
+        assert_shown(&rt, rt.alloc(), error, text)?;
     }
     Ok(())
 }

@@ -191,16 +191,23 @@ fn whole_table_past_refused_memory(rt: HostRuntime) -> Result<(), Fail> {
     Ok(())
 }
 
+/// Asserts the same of the name of an entry, and answers whether the entry is the first of this name.
+fn assert_name(
+    rt: &impl Abort,
+    alloc: Global,
+    index: usize,
+    name: &str,
+) -> Result<bool, AllocError> {
+    let first = APPENDIX_A.iter().position(|e| e.0 == name).unwrap_or(index);
+    assert_first_entry(rt, alloc, first, name)?;
+    Ok(first == index)
+}
+
 #[test]
 fn names_past_refused_memory(rt: HostRuntime) -> Result<(), Fail> {
     let mut names = 0u8;
     for (index, (name, _)) in APPENDIX_A.iter().enumerate() {
-        let first = APPENDIX_A
-            .iter()
-            .position(|e| e.0 == *name)
-            .unwrap_or(index);
-        assert_first_entry(&rt, rt.alloc(), first, name)?;
-        if first == index {
+        if assert_name(&rt, rt.alloc(), index, name)? {
             names = names.wrapping_add(1);
         }
     }
@@ -217,7 +224,7 @@ static UNKNOWN: [(&str, &str, &[u8]); 3] = [
 
 #[test]
 fn names_of_no_entry_past_refused_memory(rt: HostRuntime) -> Result<(), Fail> {
-    for (shows, name, section) in UNKNOWN {
+    for (shows, name, section) in &UNKNOWN {
         assert_encoded(&rt, rt.alloc(), &[(name, "~")], section, shows)?;
     }
     Ok(())

@@ -1,8 +1,11 @@
-//! Capsules, settings and stream headers, as tests over the public crates. There is no product code here.
+//! Frames, read and written whole, capsules, settings and stream headers. Tests over the public crates; there is no
+//! product code here.
 #![tactic(auto)]
 
 #[cfg(test)]
 mod capsules;
+#[cfg(test)]
+mod frames;
 #[cfg(test)]
 mod printed;
 #[cfg(test)]

@@ -2,8 +2,8 @@
 use crate::readers::number;
 use crate::same::same;
 use crate::texts::{debugs, displays};
-use wtransport_proto::ids::StreamId;
-use wtransport_proto::varint::{VarInt, VarIntBoundsExceeded};
+use wtp_core::ids::StreamId;
+use wtp_core::varint::{VarInt, VarIntBoundsExceeded};
 
 const LARGEST: u64 = 4_611_686_018_427_387_903;
 

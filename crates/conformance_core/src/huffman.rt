@@ -3,7 +3,7 @@ use crate::same::same;
 use std::alloc::{AllocError, Global};
 use std::process::Abort;
 use std::test::Fail;
-use wtp_fields::huffman::{HuffmanError, decode, encode, encoded_len};
+use wtp_huffman::huffman::{HuffmanError, decode, encode, encoded_len};
 
 /// Encodes, and once more where memory was refused.
 fn encoded(alloc: Global, text: &[u8]) -> Result<Vec<u8>, AllocError> {
@@ -85,11 +85,22 @@ fn assert_coded(
     Ok(())
 }
 
+/// Asserts the same, and that the length of the string is known before.
+fn assert_measured(
+    rt: &impl Abort,
+    alloc: Global,
+    text: &[u8],
+    coded: &[u8],
+    shows: &str,
+) -> Result<(), Fail> {
+    same(rt, encoded_len(text), Some(coded.len()), shows);
+    assert_coded(rt, alloc, text, coded, shows)
+}
+
 #[test]
 fn texts_and_their_strings_past_refused_memory(rt: HostRuntime) -> Result<(), Fail> {
-    for (shows, text, coded) in TEXTS {
-        same(&rt, encoded_len(text), Some(coded.len()), shows);
-        assert_coded(&rt, rt.alloc(), text, coded, shows)?;
+    for (shows, text, coded) in &TEXTS {
+        assert_measured(&rt, rt.alloc(), text, coded, shows)?;
     }
     Ok(())
 }
@@ -104,15 +115,20 @@ static REFUSED: [(&str, &[u8]); 6] = [
     ("eight bits of a word of ten", b"\xfe"),
 ];
 
+/// Asserts that a string is refused.
+fn assert_refused(rt: &impl Abort, alloc: Global, coded: &[u8], shows: &str) {
+    same(
+        rt,
+        decoded(alloc, coded).err(),
+        Some(HuffmanError::Invalid),
+        shows,
+    );
+}
+
 #[test]
 fn refused_strings_past_refused_memory(rt: HostRuntime) {
-    for (shows, coded) in REFUSED {
-        same(
-            &rt,
-            decoded(rt.alloc(), coded).err(),
-            Some(HuffmanError::Invalid),
-            shows,
-        );
+    for (shows, coded) in &REFUSED {
+        assert_refused(&rt, rt.alloc(), coded, shows);
     }
 }
 
@@ -281,16 +297,28 @@ fn assert_word(
     Ok(())
 }
 
+/// Asserts that symbols have words of so many bits, one after another from the first, and answers how many they are.
+fn assert_words(
+    rt: &impl Abort,
+    alloc: Global,
+    row: &[u8],
+    bits: u32,
+    first: u32,
+) -> Result<u32, Fail> {
+    let mut symbols = 0u32;
+    for symbol in row {
+        assert_word(rt, alloc, *symbol, bits, first.wrapping_add(symbols))?;
+        symbols = symbols.wrapping_add(1);
+    }
+    Ok(symbols)
+}
+
 #[test]
 fn words_past_refused_memory(rt: HostRuntime) -> Result<(), Fail> {
     let mut symbols = 0u32;
-    for (bits, first, row) in LENGTHS {
-        let mut number = first;
-        for symbol in row {
-            assert_word(&rt, rt.alloc(), *symbol, bits, number)?;
-            number = number.wrapping_add(1);
-            symbols = symbols.wrapping_add(1);
-        }
+    for (bits, first, row) in &LENGTHS {
+        let few = assert_words(&rt, rt.alloc(), row, *bits, *first)?;
+        symbols = symbols.wrapping_add(few);
     }
     same(&rt, symbols, 256, "each symbol");
     Ok(())
@@ -316,13 +344,27 @@ fn shown(alloc: Global, error: HuffmanError) -> Result<String, AllocError> {
     }
 }
 
+/// Asserts that an error has this text.
+fn assert_shown(
+    rt: &impl Abort,
+    alloc: Global,
+    error: HuffmanError,
+    text: &str,
+) -> Result<(), AllocError> {
+    same(rt, shown(alloc, error)?.as_str(), text, "a message");
+    Ok(())
+}
+
+/// Errors and their texts.
+static ERRORS: [(HuffmanError, &str); 2] = [
+    (HuffmanError::Invalid, "invalid Huffman text"),
+    (HuffmanError::Memory, "no memory"),
+];
+
 #[test]
 fn messages_past_refused_memory(rt: HostRuntime) -> Result<(), Fail> {
-    for (error, text) in [
-        (HuffmanError::Invalid, "invalid Huffman text"),
-        (HuffmanError::Memory, "no memory"),
-    ] {
-        same(&rt, shown(rt.alloc(), error)?.as_str(), text, "a message");
+    for (error, text) in &ERRORS {
+        assert_shown(&rt, rt.alloc(), *error, text)?;
     }
     Ok(())
 }

@@ -3,8 +3,8 @@ use crate::same::same;
 use crate::texts::displays;
 use std::process::Abort;
 use std::test::Fail;
-use wtransport_proto::bytes::{BufferWriter, BytesWriter, PutError};
-use wtransport_proto::varint::{VarInt, VarIntBoundsExceeded};
+use wtp_core::bytes::{BufferWriter, BytesWriter, PutError};
+use wtp_core::varint::{VarInt, VarIntBoundsExceeded};
 
 /// A number, its shortest encoding, and the room that this leaves of nine bytes.
 const ROWS: [(u64, &[u8], usize); 6] = [

@@ -2,10 +2,8 @@
 use crate::same::same;
 use crate::texts::{debugs, displays};
 use std::process::Abort;
-use wtransport_proto::error::{
-    ErrorCode, Refused, h3_error_codes, qpack_error_codes, wt_error_codes,
-};
-use wtransport_proto::varint::VarInt;
+use wtp_core::error::{ErrorCode, Refused, h3_error_codes, qpack_error_codes, wt_error_codes};
+use wtp_core::varint::VarInt;
 
 /// A code, its constant, its number and its name: those of HTTP/3's streams, of its connections, and
 /// of QPACK and WebTransport.

@@ -2,7 +2,7 @@
 use crate::same::same;
 use crate::texts::{debugs, displays};
 use std::process::Abort;
-use wtransport_proto::bytes::{BufferReader, BytesReader, EndOfBuffer};
+use wtp_core::bytes::{BufferReader, BytesReader, EndOfBuffer};
 
 /// The numbers 37, 15293, 494878333 and 151288809941952652, and a text.
 const BYTES: [u8; 27] = [

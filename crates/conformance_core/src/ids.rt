@@ -4,11 +4,11 @@ use crate::texts::{debugs, displays};
 use std::process::Abort;
 use std::str::FromStr;
 use std::test::Fail;
-use wtransport_proto::ids::{
+use wtp_core::ids::{
     InvalidQStreamId, InvalidSessionId, InvalidStatusCode, QStreamId, SessionId, StatusCode,
     StreamId,
 };
-use wtransport_proto::varint::VarInt;
+use wtp_core::varint::VarInt;
 
 /// Who opened the stream and how it goes, by its two lowest bits.
 const KINDS: [(u32, bool, bool); 4] = [

@@ -1,0 +1,20 @@
+//! Numbers, readers, writers, IDs, error codes and Huffman text. Tests over the public crates; there is no product code
+//! here.
+#![tactic(auto)]
+
+#[cfg(test)]
+mod codes;
+#[cfg(test)]
+mod huffman;
+#[cfg(test)]
+mod ids;
+#[cfg(test)]
+mod readers;
+#[cfg(test)]
+mod same;
+#[cfg(test)]
+mod texts;
+#[cfg(test)]
+mod varints;
+#[cfg(test)]
+mod writers;
