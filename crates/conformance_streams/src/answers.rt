@@ -3,6 +3,7 @@ use crate::same::same;
 use std::alloc::{AllocError, Global};
 use std::process::Abort;
 use std::test::Fail;
+use test_io::End;
 use wtransport_proto::bytes::{IoReadError as Fault, Polled};
 use wtransport_proto::error::ErrorCode;
 use wtransport_proto::frame::{Frame, FrameOwned};
@@ -27,6 +28,9 @@ pub(crate) const FIN: Answer<'static> = Answer::Fault(IoReadError::IO(Fault::Imm
 
 /// The stream ends inside a frame, or a frame came too late.
 pub(crate) const CUT: Answer<'static> = Answer::Fault(IoReadError::H3(ErrorCode::Frame));
+
+/// Every ending of a source.
+pub(crate) static ENDS: [End; 3] = End::EACH;
 
 /// These bytes, and zeros after them, so many in all.
 pub(crate) fn padded(alloc: Global, front: &[u8], len: usize) -> Result<Vec<u8>, AllocError> {

@@ -19,7 +19,7 @@ fn frames_are_read_by_the_rule(rt: HostRuntime) {
 }
 
 /// Bytes, and what a read of them from a buffer answers, whose reader stays before them.
-const STAYS: [(&[u8], Wanted<'static>, &str); 3] = [
+static STAYS: [(&[u8], Wanted<'static>, &str); 3] = [
     (b"\x0a\x00\x00\x05a", Ok(None), "too few bytes"),
     (b"\x40\x41\x01", Err(ErrorCode::Id), "no session"),
     (
@@ -32,9 +32,9 @@ const STAYS: [(&[u8], Wanted<'static>, &str); 3] = [
 #[test]
 fn too_few_bytes_and_faults_stay(rt: HostRuntime) {
     let mut stream = StreamBiLocalQuic::open_bi().upgrade();
-    for (bytes, wanted, shows) in STAYS {
+    for (bytes, wanted, shows) in &STAYS {
         let mut reader = BufferReader::new(bytes);
-        check_buffer(&rt, &mut stream, &mut reader, wanted, 0, shows);
+        check_buffer(&rt, &mut stream, &mut reader, *wanted, 0, shows);
     }
 }
 

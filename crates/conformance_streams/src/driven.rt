@@ -78,17 +78,17 @@ impl Driving {
         rt: &R,
         bytes: &mut &[u8],
         polls: u32,
-        wanted: (Driven, usize, usize),
+        wanted: (&Driven, usize, usize),
         shows: &str,
     ) {
         let end = self.on(bytes, polls);
-        same(rt, (end, self.out.len(), bytes.len()), wanted, shows);
+        same(rt, (&end, self.out.len(), bytes.len()), wanted, shows);
     }
 }
 
 const TWO: &[u8] = b"\x00\x01a\x00\x01b";
 
-const TWO_FRAMES: [(u64, &[u8]); 2] = [(0x00, b"a"), (0x00, b"b")];
+static TWO_FRAMES: [(u64, &[u8]); 2] = [(0x00, b"a"), (0x00, b"b")];
 
 #[test]
 fn refused_memory_loses_no_frame(rt: HostRuntime) {
@@ -106,7 +106,7 @@ fn refused_memory_loses_no_frame(rt: HostRuntime) {
 }
 
 /// How a drive of one poll ends, how many frames were put out then, and how many bytes are left.
-const ONE_BY_ONE: [(Driven, usize, usize); 3] = [
+static ONE_BY_ONE: [(Driven, usize, usize); 3] = [
     (Driven::Spent, 1, 3),
     (Driven::Spent, 2, 0),
     (FIN, 2, 0),
@@ -116,7 +116,8 @@ const ONE_BY_ONE: [(Driven, usize, usize); 3] = [
 fn polls_are_spent_one_by_one(rt: HostRuntime) {
     let mut driving = Driving::new(rt.alloc());
     let mut bytes = TWO;
-    for wanted in ONE_BY_ONE {
+    for (end, frames, left) in &ONE_BY_ONE {
+        let wanted = (end, *frames, *left);
         driving.check(&rt, &mut bytes, 1, wanted, "one poll");
     }
     check_frames(&rt, &driving.out, &TWO_FRAMES);
@@ -126,7 +127,7 @@ fn polls_are_spent_one_by_one(rt: HostRuntime) {
 fn a_cut_unknown_frame_ends_it(rt: HostRuntime) {
     let mut driving = Driving::new(rt.alloc());
     let mut bytes = [0x0a, 0x0a, 0x00, 0x00].as_slice();
-    driving.check(&rt, &mut bytes, 2, (CUT, 0, 0), "a cut unknown frame");
+    driving.check(&rt, &mut bytes, 2, (&CUT, 0, 0), "a cut unknown frame");
 }
 
 /// An unknown frame of 8192 bytes and a data frame of none.
@@ -135,16 +136,16 @@ fn unknown_then_data(alloc: Global) -> Result<Vec<u8>, AllocError> {
 }
 
 /// How many polls are made, how many frames were put out then, and how many bytes are left.
-const PARTS: [(u32, usize, usize); 4] = [(0, 0, 8197), (1, 0, 4098), (1, 0, 2), (1, 1, 0)];
+static PARTS: [(u32, usize, usize); 4] = [(0, 0, 8197), (1, 0, 4098), (1, 0, 2), (1, 1, 0)];
 
 #[test]
 fn each_part_of_an_unknown_frame_is_a_poll(rt: HostRuntime) -> Result<(), AllocError> {
     let unknown = unknown_then_data(rt.alloc())?;
     let mut driving = Driving::new(rt.alloc());
     let mut bytes = unknown.as_slice();
-    for (polls, frames, left) in PARTS {
-        let wanted = (Driven::Spent, frames, left);
-        driving.check(&rt, &mut bytes, polls, wanted, "part");
+    for (polls, frames, left) in &PARTS {
+        let wanted = (&Driven::Spent, *frames, *left);
+        driving.check(&rt, &mut bytes, *polls, wanted, "part");
     }
     check_frames(&rt, &driving.out, &[(0x00, b"")]);
     Ok(())
@@ -155,7 +156,7 @@ fn three_polls_pass_an_unknown_frame(rt: HostRuntime) -> Result<(), AllocError> 
     let unknown = unknown_then_data(rt.alloc())?;
     let mut driving = Driving::new(rt.alloc());
     let mut bytes = unknown.as_slice();
-    driving.check(&rt, &mut bytes, 3, (Driven::Spent, 1, 0), "three polls");
+    driving.check(&rt, &mut bytes, 3, (&Driven::Spent, 1, 0), "three polls");
     check_frames(&rt, &driving.out, &[(0x00, b"")]);
     Ok(())
 }
@@ -172,7 +173,7 @@ fn waits_lose_no_frame(rt: HostRuntime) {
 }
 
 /// How the drives over a source of one byte and a reset end, and where they do.
-const CUT_SOURCE: [(Driven, &str); 3] = [
+static CUT_SOURCE: [(Driven, &str); 3] = [
     (Driven::Waiting, "before the byte"),
     (Driven::Waiting, "before the end"),
     (Driven::Ended(IoReadError::IO(Fault::Reset)), "at the end"),
@@ -182,11 +183,11 @@ const CUT_SOURCE: [(Driven, &str); 3] = [
 fn a_drive_goes_on_over_a_second_source(rt: HostRuntime) {
     let mut driving = Driving::new(rt.alloc());
     let mut source = Trickle::new(b"\x00", End::Reset);
-    for (end, shows) in CUT_SOURCE {
-        same(&rt, driving.on(&mut source, 10), end, shows);
+    for (end, shows) in &CUT_SOURCE {
+        same(&rt, &driving.on(&mut source, 10), end, shows);
     }
     let mut bytes = b"\x01a".as_slice();
-    driving.check(&rt, &mut bytes, 10, (FIN, 1, 0), "the second source");
+    driving.check(&rt, &mut bytes, 10, (&FIN, 1, 0), "the second source");
     check_frames(&rt, &driving.out, &[(0x00, b"a")]);
 }
 

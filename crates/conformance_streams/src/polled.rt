@@ -1,6 +1,6 @@
 //! Reading frames from streams, poll by poll.
-use crate::answers::{Answer, Answered, CUT, FIN, check_answer, padded};
-use crate::reads::{check_polls, check_source};
+use crate::answers::{Answer, Answered, CUT, ENDS, FIN, check_answer, padded};
+use crate::reads::{check_poll, check_polls, check_source};
 use crate::same::same;
 use std::alloc::AllocError;
 use std::process::Abort;
@@ -19,7 +19,7 @@ type Row = (
     &'static str,
 );
 
-const ROWS: [Row; 9] = [
+static ROWS: [Row; 9] = [
     (b"", &[], &[FIN], "nothing"),
     (b"\x00", &[], &[CUT], "a cut frame"),
     (
@@ -109,8 +109,11 @@ fn polls_answer_by_the_bytes(rt: HostRuntime) {
 }
 
 /// The front of the bytes, after which come zeros, how many bytes there are in all, the answers of
-/// the polls, and what the row shows. A data frame of no bytes is two zeros.
-const LONG: [([u8; 3], usize, &'static [Answer<'static>], &'static str); 4] = [
+/// the polls, and what the row shows.
+type LongRow = ([u8; 3], usize, &'static [Answer<'static>], &'static str);
+
+/// A data frame of no bytes is two zeros.
+static LONG: [LongRow; 4] = [
     (
         [0x0a, 0x50, 0x00],
         3 + 4096 + 2,
@@ -151,12 +154,17 @@ fn check_long<R: Abort + AllocGlobal>(
     Ok(())
 }
 
-#[test]
-fn long_unknown_frames_are_passed_in_parts(rt: HostRuntime) -> Result<(), AllocError> {
-    for (front, len, answers, word) in LONG {
-        check_long(&rt, &front, len, answers, word)?;
+/// The polls answer by each row of long bytes.
+fn check_longs<R: Abort + AllocGlobal>(rt: &R, rows: &[LongRow]) -> Result<(), AllocError> {
+    for (front, len, answers, word) in rows {
+        check_long(rt, front, *len, answers, word)?;
     }
     Ok(())
+}
+
+#[test]
+fn long_unknown_frames_are_passed_in_parts(rt: HostRuntime) -> Result<(), AllocError> {
+    check_longs(&rt, &LONG)
 }
 
 /// After so many waits, the next poll answers this.
@@ -166,29 +174,33 @@ fn check_late<R: Abort>(
     reading: &mut FrameReading,
     source: &mut Trickle<'_>,
     waits: usize,
-    answer: Answer<'_>,
+    answer: &Answer<'_>,
 ) {
     for _turn in 0..waits {
-        check_polls(rt, stream, reading, source, &[Answer::Pending], "late");
+        check_poll(rt, stream, reading, source, &Answer::Pending, ("late", 0));
     }
-    check_polls(rt, stream, reading, source, &[answer], "there");
+    check_poll(rt, stream, reading, source, answer, ("there", 0));
 }
 
 /// How often the source is not ready, and what the next poll answers.
-const LATE: [(usize, Answer<'static>); 3] = [
-    (9, Answer::Frame(0x21, b"Payload")),
-    (3, CUT),
-    (1, FIN),
-];
+type LateRow = (usize, Answer<'static>);
 
-#[test]
-fn each_byte_may_come_late(rt: HostRuntime) {
+static LATE: [LateRow; 3] = [(9, Answer::Frame(0x21, b"Payload")), (3, CUT), (1, FIN)];
+
+/// The polls of a stream that the peer opened answer by each row, one after the other, over bytes
+/// that each come late.
+fn check_lates<R: Abort + AllocGlobal>(rt: &R, rows: &[LateRow]) {
     let mut stream = StreamBiRemoteQuic::accept_bi().upgrade();
     let mut reading = Frame::read_async(rt.alloc());
     let mut source = Trickle::new(EXERCISE_THEN_SESSION, End::Fin);
-    for (waits, answer) in LATE {
-        check_late(&rt, &mut stream, &mut reading, &mut source, waits, answer);
+    for (waits, answer) in rows {
+        check_late(rt, &mut stream, &mut reading, &mut source, *waits, answer);
     }
+}
+
+#[test]
+fn each_byte_may_come_late(rt: HostRuntime) {
+    check_lates(&rt, &LATE);
 }
 
 #[test]
@@ -288,8 +300,8 @@ fn check_stop<R: Abort + AllocGlobal>(rt: &R, len: usize, end: End) {
 #[test]
 fn bytes_may_stop_at_each_place(rt: HostRuntime) {
     for len in 0..13usize {
-        for end in End::EACH {
-            check_stop(&rt, len, end);
+        for end in &ENDS {
+            check_stop(&rt, len, *end);
         }
     }
 }

@@ -153,7 +153,7 @@ pub(crate) fn check_reads<R: Abort, K: Reads>(rt: &R, stream: &mut K, rows: &[Re
 }
 
 /// What is read of a stream in both directions that was opened here, or that has its session.
-pub(crate) const FRAMES_OF_BOTH: [ReadRow; 5] = [
+pub(crate) static FRAMES_OF_BOTH: [ReadRow; 5] = [
     (b"\x00\x01a", Ok(Some((0x00, b"a"))), 3, "data"),
     (b"\x01\x01a", Ok(Some((0x01, b"a"))), 3, "headers"),
     (b"\x04\x00", Err(ErrorCode::FrameUnexpected), 0, "settings"),
@@ -166,8 +166,25 @@ pub(crate) const FRAMES_OF_BOTH: [ReadRow; 5] = [
     (b"\x21\x01a", Ok(Some((0x21, b"a"))), 3, "exercise"),
 ];
 
-/// The polls of the stream answer this, one after the other. Where allocation failed for a payload,
-/// the poll is made again.
+/// The next poll of the stream answers this. Where allocation failed for a payload, the poll is made
+/// again.
+pub(crate) fn check_poll<R: Abort, K: Reads, S: AsyncRead>(
+    rt: &R,
+    stream: &mut K,
+    reading: &mut FrameReading,
+    source: &mut S,
+    answer: &Answer<'_>,
+    place: (&str, usize),
+) {
+    let (word, turn) = place;
+    let mut answered = stream.poll(reading, source);
+    if let Polled::NoMemory = answered {
+        answered = stream.poll(reading, source);
+    }
+    check_answer(rt, &answered, answer, word, turn);
+}
+
+/// The polls of the stream answer this, one after the other.
 pub(crate) fn check_polls<R: Abort, K: Reads, S: AsyncRead>(
     rt: &R,
     stream: &mut K,
@@ -177,11 +194,7 @@ pub(crate) fn check_polls<R: Abort, K: Reads, S: AsyncRead>(
     word: &str,
 ) {
     for (place, answer) in answers.iter().enumerate() {
-        let mut answered = stream.poll(reading, source);
-        if let Polled::NoMemory = answered {
-            answered = stream.poll(reading, source);
-        }
-        check_answer(rt, &answered, answer, word, place);
+        check_poll(rt, stream, reading, source, answer, (word, place));
     }
 }
 

@@ -18,7 +18,7 @@ const BAD_SESSION: Answer<'static> = Answer::Fault(IoReadError::H3(ErrorCode::Id
 const TOO_BIG: Answer<'static> = Answer::Fault(IoReadError::H3(ErrorCode::ExcessiveLoad));
 
 /// A stream that the peer opened: a session may come first, and not after a frame that was read.
-const OPENED_THERE: [PollRow; 10] = [
+static OPENED_THERE: [PollRow; 10] = [
     (b"\x00\x01a", &[Answer::Frame(0x00, b"a"), FIN], "data"),
     (b"\x01\x01a", &[Answer::Frame(0x01, b"a"), FIN], "headers"),
     (b"\x04\x00", &[UNEXPECTED, FIN], "settings"),
@@ -69,7 +69,7 @@ fn a_stream_opened_there_keeps_its_rule(rt: HostRuntime) {
 }
 
 /// A stream in both directions that was opened here, or that has its session.
-const OPENED_HERE: [PollRow; 8] = [
+static OPENED_HERE: [PollRow; 8] = [
     (b"\x00\x01a", &[Answer::Frame(0x00, b"a"), FIN], "data"),
     (b"\x01\x01a", &[Answer::Frame(0x01, b"a"), FIN], "headers"),
     (b"\x04\x00", &[UNEXPECTED, FIN], "settings"),
@@ -98,7 +98,7 @@ fn the_stream_of_a_session_keeps_its_rule(rt: HostRuntime) -> Result<(), Fail> {
 }
 
 /// A control stream that the peer opened.
-const CONTROL: [PollRow; 8] = [
+static CONTROL: [PollRow; 8] = [
     (b"\x00\x01a", &[UNEXPECTED, FIN], "data"),
     (b"\x01\x01a", &[UNEXPECTED, FIN], "headers"),
     (

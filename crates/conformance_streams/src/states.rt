@@ -1,6 +1,6 @@
 //! What every state of a stream does: a reading state over sources that wait, end, are reset or
 //! disconnect, and a writing state into a vector whose allocation fails.
-use crate::answers::Answered;
+use crate::answers::{Answered, ENDS};
 use crate::reads::Reads;
 use crate::same::same;
 use crate::session::opened;
@@ -26,7 +26,7 @@ const BYTES: &[u8] = b"\x21\x01a\x0a\x01x\x21\x00";
 
 /// How many of the bytes come, what the polls answer until the end shows, and whether the bytes end
 /// with a whole frame. Each byte, and the end, is waited for once.
-const ROWS: [(usize, &str, bool); 9] = [
+static ROWS: [(usize, &str, bool); 9] = [
     (0, ".", true),
     (1, "..", false),
     (2, "...", false),
@@ -106,9 +106,9 @@ fn check_row<R: Abort + AllocGlobal, K: Reads>(
 
 /// The stream answers every row by the table, over each end.
 fn check_rows<R: Abort + AllocGlobal, K: Reads>(rt: &R, stream: &mut K) -> Result<(), AllocError> {
-    for row in ROWS {
-        for end in End::EACH {
-            check_row(rt, stream, row, end)?;
+    for row in &ROWS {
+        for end in &ENDS {
+            check_row(rt, stream, *row, *end)?;
         }
     }
     Ok(())

@@ -1,5 +1,5 @@
 //! Upgrading streams, poll by poll.
-use crate::answers::session_4;
+use crate::answers::{ENDS, session_4};
 use crate::same::same;
 use std::process::Abort;
 use std::test::Fail;
@@ -78,7 +78,7 @@ fn a_session_frame_goes_on_elsewhere(rt: HostRuntime) -> Result<(), Fail> {
 }
 
 /// Not ready, two bytes, not ready, a loss; then it takes all.
-const HALTS: [WriteStep; 4] = [
+static HALTS: [WriteStep; 4] = [
     WriteStep::NotReady,
     WriteStep::Bytes(2),
     WriteStep::NotReady,
@@ -222,7 +222,7 @@ fn fault_of(mut bytes: &[u8]) -> Result<(IoReadError, usize), Fail> {
 }
 
 /// The bytes of a header and an end, the fault that refuses them, and what the row shows.
-const FAULTS: [(&[u8], IoReadError, &str); 4] = [
+static FAULTS: [(&[u8], IoReadError, &str); 4] = [
     (b"", IoReadError::IO(Fault::ImmediateFin), "nothing"),
     (b"\x40\x54", IoReadError::H3(ErrorCode::Frame), "cut"),
     (
@@ -239,8 +239,9 @@ const FAULTS: [(&[u8], IoReadError, &str); 4] = [
 
 #[test]
 fn faults_of_the_header_hand_it_back(rt: HostRuntime) -> Result<(), Fail> {
-    for (bytes, fault, shows) in FAULTS {
-        same(&rt, fault_of(bytes)?, (fault, 0), shows);
+    for (bytes, fault, shows) in &FAULTS {
+        let (came, left) = fault_of(bytes)?;
+        same(&rt, (&came, left), (fault, 0), shows);
     }
     Ok(())
 }
@@ -313,8 +314,8 @@ fn check_header_stop<R: Abort>(rt: &R, len: usize, end: End) -> Result<(), Fail>
 #[test]
 fn a_header_may_stop_at_each_place(rt: HostRuntime) -> Result<(), Fail> {
     for len in 0..3usize {
-        for end in End::EACH {
-            check_header_stop(&rt, len, end)?;
+        for end in &ENDS {
+            check_header_stop(&rt, len, *end)?;
         }
     }
     Ok(())

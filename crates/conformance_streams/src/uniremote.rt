@@ -41,11 +41,22 @@ fn check_header<R: Abort>(
     Ok(())
 }
 
+/// The bytes of a header and some after it, what they make, what is left, and what the row shows.
+type HeaderRow = (&'static [u8], Shown, &'static [u8], &'static str);
+
+/// From the bytes of each row such a stream is made.
+fn check_headers<R: Abort>(rt: &R, rows: &[HeaderRow]) -> Result<(), Fail> {
+    for (bytes, wanted, left, shows) in rows {
+        check_header(rt, bytes, *wanted, left, shows)?;
+    }
+    Ok(())
+}
+
 #[test]
 fn headers_are_read(rt: HostRuntime) -> Result<(), Fail> {
     let session = StreamKind::WebTransport;
     let exercise = StreamKind::Exercise(VarInt::from_u32(33));
-    let rows: [(&[u8], Shown, &[u8], &str); 5] = [
+    let rows: [HeaderRow; 5] = [
         (
             b"\x00\x04",
             (StreamKind::Control, None, true),
@@ -72,10 +83,7 @@ fn headers_are_read(rt: HostRuntime) -> Result<(), Fail> {
         ),
         (b"\x21", (exercise, None, true), b"", "exercise"),
     ];
-    for (bytes, wanted, left, shows) in rows {
-        check_header(&rt, bytes, wanted, left, shows)?;
-    }
-    Ok(())
+    check_headers(&rt, &rows)
 }
 
 /// The stream, handed back since the bytes are too few for a header.
@@ -114,7 +122,7 @@ fn refused(mut bytes: &[u8]) -> (Option<ErrorCode>, usize) {
 }
 
 /// The bytes of a header, what refuses it, and what the row shows.
-const FAULTS: [(&[u8], ErrorCode, &str); 3] = [
+static FAULTS: [(&[u8], ErrorCode, &str); 3] = [
     (b"\x40\x54\x01", ErrorCode::Id, "no session"),
     (b"\x40\x42", ErrorCode::StreamCreation, "an unknown type"),
     (
@@ -126,8 +134,8 @@ const FAULTS: [(&[u8], ErrorCode, &str); 3] = [
 
 #[test]
 fn faults_of_the_header_are_named(rt: HostRuntime) {
-    for (bytes, code, shows) in FAULTS {
-        same(&rt, refused(bytes), (Some(code), 0), shows);
+    for (bytes, code, shows) in &FAULTS {
+        same(&rt, refused(bytes), (Some(*code), 0), shows);
     }
 }
 
@@ -147,7 +155,7 @@ fn it_becomes_a_stream_of_its_session(rt: HostRuntime) -> Result<(), Fail> {
 }
 
 /// What is read of a control stream.
-const FRAMES: [ReadRow; 5] = [
+static FRAMES: [ReadRow; 5] = [
     (b"\x00\x01a", Err(ErrorCode::FrameUnexpected), 0, "data"),
     (b"\x01\x01a", Err(ErrorCode::FrameUnexpected), 0, "headers"),
     (b"\x04\x00", Ok(Some((0x04, b""))), 2, "settings"),

@@ -128,7 +128,7 @@ fn a_frame_goes_on_elsewhere(rt: HostRuntime) {
 
 /// What the polls answer over a sink that halts, whether the stream can be upgraded after each, and
 /// what the poll does.
-const HALTING: [(Sent, bool, &str); 5] = [
+static HALTING: [(Sent, bool, &str); 5] = [
     (Polled::Pending, true, "not ready"),
     (Polled::Pending, true, "two bytes, and not ready"),
     (
@@ -157,10 +157,10 @@ fn a_frame_that_was_written_ends_upgrading(rt: HostRuntime) {
         writing: frame.write_async(),
     };
     let mut sink = Paced::new(rt.alloc(), &steps);
-    for (answer, can_upgrade, shows) in HALTING {
+    for (answer, can_upgrade, shows) in &HALTING {
         let came = sending.send(&mut sink);
         let upgradable = sending.stream.can_upgrade();
-        same(&rt, (came, upgradable), (answer, can_upgrade), shows);
+        same(&rt, (&came, upgradable), (answer, *can_upgrade), shows);
     }
     same(
         &rt,
@@ -242,7 +242,7 @@ fn a_control_stream_is_written(rt: HostRuntime) -> Result<(), Fail> {
 const TURNS: usize = 20;
 
 /// A sink that waits twice.
-const WAITS: [WriteStep; 3] = [
+static WAITS: [WriteStep; 3] = [
     WriteStep::NotReady,
     WriteStep::Bytes(2),
     WriteStep::NotReady,
