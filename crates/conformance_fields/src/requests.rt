@@ -378,6 +378,7 @@ fn assert_refused_payload(
     code: ErrorCode,
     shows: &str,
 ) {
+    assert!(rt; payload.len() < 2048);
     let frame = Frame::new_headers(CowSlice::Borrowed(payload));
     assert_refused(rt, alloc, &frame, code, shows);
 }
