@@ -3,6 +3,8 @@
 #![tactic(auto)]
 
 #[cfg(test)]
+mod code_numbers;
+#[cfg(test)]
 mod codes;
 #[cfg(test)]
 mod huffman;

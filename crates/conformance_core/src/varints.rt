@@ -36,7 +36,7 @@ const ENCODINGS: [(&[u8], Option<u64>, usize, &str); 9] = [
 ];
 
 #[test]
-fn spellings_are_read(rt: HostRuntime) {
+fn encodings_are_read(rt: HostRuntime) {
     for (bytes, wanted, left, word) in ENCODINGS {
         let mut reader = bytes;
         let came = number(&mut reader);

@@ -49,7 +49,7 @@ fn check_written<R: Abort + AllocGlobal>(rt: &R, number: u64, bytes: &[u8], left
 }
 
 #[test]
-fn the_shortest_spelling_is_written(rt: HostRuntime) {
+fn the_shortest_encoding_is_written(rt: HostRuntime) {
     for (number, bytes, left) in ROWS {
         check_written(&rt, number, bytes, left);
     }

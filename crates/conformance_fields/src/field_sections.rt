@@ -5,7 +5,7 @@ use std::collections::BTreeMap;
 use std::fmt::Display;
 use std::process::Abort;
 use std::test::Fail;
-use wtp_fields::laws::encoded_and_decoded;
+use wtp_fields::laws::encode_and_decode;
 use wtp_fields::qpack::{Decoder, DecodingError, Encoder};
 
 /// The fields of a section, decoded once more where memory was refused.
@@ -405,8 +405,8 @@ fn by_law(
     alloc: Global,
     pairs: &[(&str, &str)],
 ) -> Result<BTreeMap<String, String>, DecodingError> {
-    match encoded_and_decoded(alloc, pairs) {
-        Err(DecodingError::Memory) => encoded_and_decoded(alloc, pairs),
+    match encode_and_decode(alloc, pairs) {
+        Err(DecodingError::Memory) => encode_and_decode(alloc, pairs),
         outcome => outcome,
     }
 }

@@ -3,6 +3,10 @@
 #![tactic(auto)]
 
 #[cfg(test)]
+mod fault_codes;
+#[cfg(test)]
+mod field_lines;
+#[cfg(test)]
 mod field_sections;
 #[cfg(test)]
 mod first_bytes;
@@ -12,6 +16,8 @@ mod header_maps;
 mod prefixed_integers;
 #[cfg(test)]
 mod requests;
+#[cfg(test)]
+mod response_frames;
 #[cfg(test)]
 mod responses;
 #[cfg(test)]

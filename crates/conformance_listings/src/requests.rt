@@ -125,7 +125,7 @@ static AROUND: [(&[&[u8]], &str, &str); 5] = [
 ];
 
 #[test]
-fn fields_and_what_stands_behind(rt: HostRuntime) -> Result<(), Fail> {
+fn fields_and_what_stands_after(rt: HostRuntime) -> Result<(), Fail> {
     for (parts, end, word) in &AROUND {
         check_fields(&rt, parts, FIELDS, end, word)?;
     }

@@ -98,9 +98,9 @@ fn a_frame_has_56_bytes(rt: HostRuntime) {
 }
 
 /// The payload sizes, and how many bytes come after the frame.
-const SIZES: [u8; 12] = [0, 1, 2, 24, 25, 31, 32, 33, 34, 48, 64, 128];
+const SIZES: [u8; 15] = [0, 1, 2, 24, 25, 31, 32, 33, 34, 39, 40, 41, 48, 64, 128];
 
-const AFTER: [usize; 9] = [0, 1, 2, 29, 30, 31, 32, 33, 100];
+const AFTER: [usize; 13] = [0, 1, 2, 29, 30, 31, 32, 33, 38, 39, 40, 41, 100];
 
 /// The head of a DATA frame, whose length is set in the third byte, and bytes after it.
 const NUMBERED: [u8; 256] = [

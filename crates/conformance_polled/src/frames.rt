@@ -330,7 +330,7 @@ fn a_waiting_and_stopped_frame_is_written(rt: HostRuntime) {
         let came = writing.write_on(&mut sink);
         same(
             &rt,
-            (came, sink.taken()),
+            (came, sink.output()),
             (answer, taken),
             "the answer, what is taken",
         );

@@ -1,7 +1,7 @@
 //! What every writing does, whatever it writes, into vectors and into sinks that wait or stop.
 use crate::same::same;
 use std::process::Abort;
-use test_io::{BYTE_BY_BYTE, Paced, stops_behind};
+use test_io::{BYTE_BY_BYTE, Paced, stops_after};
 use wtp_core::bytes::{AsyncWrite, IoWriteError, Polled, PutBuffer, PutVarint};
 use wtp_wire::frame::FrameWriting;
 use wtp_wire::stream_header::HeaderWriting;
@@ -78,7 +78,7 @@ pub(crate) fn check_written<R: Abort + AllocGlobal, K: Writing>(
         (bytes, DONE),
         "byte by byte",
     );
-    same(rt, sink.taken(), bytes, "byte by byte");
+    same(rt, sink.output(), bytes, "byte by byte");
 }
 
 /// A writing into a sink that takes so many bytes, one a call, then stops, and is then lost; and the
@@ -89,12 +89,12 @@ pub(crate) fn check_stopped<R: Abort + AllocGlobal, K: Writing>(
     bytes: &[u8],
     sent: usize,
 ) {
-    let mut sink = Paced::new(rt.alloc(), stops_behind(sent));
+    let mut sink = Paced::new(rt.alloc(), stops_after(sent));
     for fault in [IoWriteError::Stopped, IoWriteError::NotConnected] {
         let came = writing.write_on(&mut sink);
         same(
             rt,
-            (bytes, came, Some(sink.taken())),
+            (bytes, came, Some(sink.output())),
             (bytes, Polled::Ready(Err(fault)), bytes.get(..sent)),
             sent,
         );

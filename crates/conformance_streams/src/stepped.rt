@@ -3,7 +3,7 @@ use crate::answers::{ENDS, session_4};
 use crate::same::same;
 use std::process::Abort;
 use std::test::Fail;
-use test_io::{End, Paced, Trickle, stops_behind};
+use test_io::{End, Paced, Trickle, stops_after};
 use wtransport_proto::bytes::{AsyncRead, IoReadError as Fault, IoWriteError, Stepped, WriteStep};
 use wtransport_proto::error::ErrorCode;
 use wtransport_proto::stream::bilocal::{StreamBiLocalQuic, StreamBiLocalWT};
@@ -49,12 +49,12 @@ fn check_bi_stop<R: Abort + AllocGlobal>(rt: &R, room: usize) -> Result<(), Fail
     let wire = [0x40, 0x41, 0x04];
     let session = session_4()?;
     let stream = StreamBiLocalQuic::open_bi().upgrade();
-    let mut sink = Paced::new(rt.alloc(), stops_behind(room));
+    let mut sink = Paced::new(rt.alloc(), stops_after(room));
     let (upgrading, fault) = failed(stream.upgrade_async(session).poll(&mut sink))?;
     let stopped = IoWriteError::Stopped;
     same(
         rt,
-        (fault, Some(sink.taken())),
+        (fault, Some(sink.output())),
         (stopped, wire.get(..room)),
         room,
     );
@@ -91,13 +91,13 @@ fn a_session_frame_waits_for_its_sink(rt: HostRuntime) -> Result<(), Fail> {
     let mut sink = Paced::new(rt.alloc(), &HALTS);
     let upgrading = pending(stream.upgrade_async(session_4()?).poll(&mut sink))?;
     let upgrading = pending(upgrading.poll(&mut sink))?;
-    same(&rt, sink.taken(), [0x40, 0x41].as_slice(), "two bytes");
+    same(&rt, sink.output(), [0x40, 0x41].as_slice(), "two bytes");
     let (upgrading, fault) = failed(upgrading.poll(&mut sink))?;
     same(&rt, fault, IoWriteError::NotConnected, "lost");
     let stream = done(upgrading.poll(&mut sink))?;
     same(
         &rt,
-        (sink.taken(), stream.session_id()),
+        (sink.output(), stream.session_id()),
         ([0x40, 0x41, 0x04].as_slice(), session_4()?),
         "done",
     );
@@ -132,12 +132,12 @@ fn check_uni_stop<R: Abort + AllocGlobal>(rt: &R, room: usize) -> Result<(), Fai
     let wire = [0x40, 0x54, 0x04];
     let header = StreamHeader::new_webtransport(session_4()?);
     let stream = StreamUniLocalQuic::open_uni();
-    let mut sink = Paced::new(rt.alloc(), stops_behind(room));
+    let mut sink = Paced::new(rt.alloc(), stops_after(room));
     let (upgrading, fault) = failed(stream.upgrade_async(header).poll(&mut sink))?;
     let stopped = IoWriteError::Stopped;
     same(
         rt,
-        (fault, Some(sink.taken())),
+        (fault, Some(sink.output())),
         (stopped, wire.get(..room)),
         room,
     );
@@ -167,13 +167,13 @@ fn a_header_waits_for_its_sink(rt: HostRuntime) -> Result<(), Fail> {
     let upgrading = StreamUniLocalQuic::open_uni().upgrade_async(header);
     let upgrading = pending(upgrading.poll(&mut sink))?;
     let upgrading = pending(upgrading.poll(&mut sink))?;
-    same(&rt, sink.taken(), [0x40, 0x54].as_slice(), "two bytes");
+    same(&rt, sink.output(), [0x40, 0x54].as_slice(), "two bytes");
     let (upgrading, fault) = failed(upgrading.poll(&mut sink))?;
     same(&rt, fault, IoWriteError::NotConnected, "lost");
     let stream = done(upgrading.poll(&mut sink))?;
     same(
         &rt,
-        (sink.taken(), stream.kind()),
+        (sink.output(), stream.kind()),
         ([0x40, 0x54, 0x04].as_slice(), StreamKind::WebTransport),
         "done",
     );

@@ -8,7 +8,7 @@ use crate::session::opened;
 use std::borrow::CowSlice;
 use std::process::Abort;
 use std::test::Fail;
-use test_io::{Paced, stops_behind};
+use test_io::{Paced, stops_after};
 use wtransport_proto::bytes::{AsyncWrite, BufferWriter, IoWriteError, Polled, Stepped, WriteStep};
 use wtransport_proto::frame::{Frame, FrameWriting};
 use wtransport_proto::stream::bilocal::{StreamBiLocalH3, StreamBiLocalQuic};
@@ -105,12 +105,12 @@ fn check_stop<R: Abort + AllocGlobal>(rt: &R, room: usize) {
         stream: StreamBiLocalQuic::open_bi().upgrade(),
         writing: frame.write_async(),
     };
-    let mut sink = Paced::new(rt.alloc(), stops_behind(room));
+    let mut sink = Paced::new(rt.alloc(), stops_after(room));
     let answer = sending.send(&mut sink);
     let stopped = Polled::Ready(Err(IoWriteError::Stopped));
     same(
         rt,
-        (answer, Some(sink.taken())),
+        (answer, Some(sink.output())),
         (stopped, wire.get(..room)),
         room,
     );
@@ -164,7 +164,7 @@ fn a_frame_that_was_written_ends_upgrading(rt: HostRuntime) {
     }
     same(
         &rt,
-        (sink.left(), sink.taken()),
+        (sink.left(), sink.output()),
         (1, b"\x00\x01a".as_slice()),
         "the sink",
     );
@@ -270,7 +270,7 @@ fn a_frame_is_written_in_a_loop(rt: HostRuntime) {
     let answer = write_on(&mut sending, &mut sink);
     same(
         &rt,
-        (answer, sink.taken(), sending.stream.can_upgrade()),
+        (answer, sink.output(), sending.stream.can_upgrade()),
         (DONE, b"\x00\x03abc".as_slice(), false),
         "data",
     );
@@ -292,6 +292,6 @@ fn settings_are_written_in_a_loop(rt: HostRuntime) -> Result<(), Fail> {
     };
     let answer = write_on(&mut sending, &mut sink);
     let wire = [0x04, 0x02, 0x33, 0x01].as_slice();
-    same(&rt, (answer, sink.taken()), (DONE, wire), "settings");
+    same(&rt, (answer, sink.output()), (DONE, wire), "settings");
     Ok(())
 }

@@ -9,8 +9,8 @@ ghost use Rattle.wtransport_proto.specs.CloseSession.{AnswersClose};
 ghost use Rattle.wtransport_proto.specs.Content.{kind_in, payload_in};
 ghost use Rattle.wtransport_proto.specs.FieldSection.{map_at};
 ghost use Rattle.wtransport_proto.specs.Front.{Begins, Framed, front};
-ghost use Rattle.wtransport_proto.specs.SessionResponse.{status_of};
-ghost use Rattle.wtransport_proto.specs.Settings.{value_of};
+ghost use Rattle.wtransport_proto.specs.SessionResponse.{status_value};
+ghost use Rattle.wtransport_proto.specs.Settings.{setting_value};
 
 use std::alloc::Global;
 use wtransport_proto::capsule::capsules::CloseWebTransportSession;
@@ -25,7 +25,7 @@ use wtransport_proto::varint::VarInt;
 
 /// Returns whether the peer supports datagrams.
 pub fn takes_datagrams(settings: &Settings) -> bool
-    ensures { IsTrue result ↔ (value_of settings.now SettingId.H3Datagram ≡ Some 1) }
+    ensures { IsTrue result ↔ (setting_value settings.now SettingId.H3Datagram ≡ Some 1) }
 {
     settings.get(SettingId::H3Datagram) == Some(VarInt::from_u32(1))
 }
@@ -70,7 +70,7 @@ pub fn closes_cleanly(alloc: Global, frame: &Frame<'_>) -> bool
 
 /// Returns the status of a response, which has one.
 pub fn status(response: &SessionResponse) -> StatusCode
-    ensures { status_of response.now ≢ None }
+    ensures { status_value response.now ≢ None }
 {
     response.code()
 }

@@ -13,7 +13,7 @@ use Rattle.wtransport_proto.specs.Rule.{Role, RemoteBi, rule}
 use Rattle.wtransport_proto.specs.Run.{Run, Tail, Ended, Ending, ends, follows, judged, next_run, run_within, run, past_unknown}
 use Rattle.wtransport_proto.specs.StreamPolling.{EndsSo}
 use Rattle.wtransport_proto.proofs.HeldRunLemmas.{run_new}
-use Rattle.wt_bench.specs.Counts.{count_at, count_of}
+use Rattle.wt_bench.specs.Frames.{count_at, count_of}
 
 -- this many frames of the whole run were counted, and this one is left
 pub record IsCounted (n : ℕ) (left whole : Run) : Type 0 where

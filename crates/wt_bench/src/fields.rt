@@ -2,7 +2,7 @@
 
 ghost use Rattle.std.specs.Prelude.{◌≡◌, ◌≢◌, ℕ, ◌<◌, ◌^◌, pos, negsuc, List, length, Ok};
 ghost use Rattle.wtp_fields.specs.Field.{Field};
-ghost use Rattle.wt_bench.specs.Fields.{given};
+ghost use Rattle.wt_bench.specs.Pair.{pair_fields};
 ghost use Rattle.wtp_fields.specs.FieldSection.{map_at, section_of};
 ghost use Rattle.wtp_wire.specs.Settings.{settings_in};
 
@@ -26,12 +26,12 @@ impl<'s, 'a> Iterator for Texts<'s, 'a> {
 
     ghost use Rattle.std.specs.Prelude.{drop};
     ghost use Rattle.std.specs.Iterator.{YieldsFirstBy, item_count};
-    ghost use Rattle.wtp_fields.specs.Field.{lent_field};
-    ghost use Rattle.wt_bench.specs.Fields.{given};
+    ghost use Rattle.wtp_fields.specs.Field.{field_of_texts};
+    ghost use Rattle.wt_bench.specs.Pair.{pair_fields};
 
-    ghost next_gives = { YieldsFirstBy lent_field (λ s. given (drop s.at s.pairs.now)) };
+    ghost next_gives = { YieldsFirstBy field_of_texts (λ s. pair_fields (drop s.at s.pairs.now)) };
 
-    ghost remaining = { item_count (λ s. given (drop s.at s.pairs.now)) };
+    ghost remaining = { item_count (λ s. pair_fields (drop s.at s.pairs.now)) };
 
     fn next(&mut self) -> Option<(&'a str, &'a str)> {
         let pair = self.pairs.get(self.at)?;
@@ -43,7 +43,8 @@ impl<'s, 'a> Iterator for Texts<'s, 'a> {
 /// Decodes a field section, and returns the number of pairs of its map.
 #[unsafe(no_mangle)]
 pub extern "C" fn wt_bench_qpack_decode(alloc: Global, section: &[u8]) -> i64
-    ensures { result ≢ negsuc 0 → (m : List Field) × (map_at section.now ≡ Ok m) × (result ≡ pos (length m)) }
+    ensures { result ≢ negsuc 0
+        → (m : List Field) × (map_at section.now ≡ Ok m) × (result ≡ pos (length m)) }
 {
     match Decoder::decode(alloc, section) {
         Ok(fields) => fields.len().cast_signed() as i64,
@@ -54,7 +55,7 @@ pub extern "C" fn wt_bench_qpack_decode(alloc: Global, section: &[u8]) -> i64
 /// Encodes pairs, and writes the bytes of their field section to `out`.
 #[unsafe(no_mangle)]
 pub extern "C" fn wt_bench_qpack_encode(alloc: Global, pairs: &[Pair<'_>], out: &mut [u8]) -> i64
-    ensures { result ≢ negsuc 0 → result ≡ pos (length (section_of (given pairs.now))) }
+    ensures { result ≢ negsuc 0 → result ≡ pos (length (section_of (pair_fields pairs.now))) }
 {
     match Encoder::encode(alloc, Texts { pairs, at: 0 }) {
         Ok(section) => put(section.as_slice(), out),

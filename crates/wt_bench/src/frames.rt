@@ -3,7 +3,7 @@
 ghost use Rattle.std.specs.Prelude.{◌≡◌, ◌≢◌, ◌<◌, ◌^◌, true, pos, negsuc};
 ghost use Rattle.wtransport_proto.specs.Rule.{RemoteBi};
 ghost use Rattle.wtransport_proto.specs.Run.{run, MayGoOn, Ended};
-ghost use Rattle.wt_bench.specs.Counts.{count_of};
+ghost use Rattle.wt_bench.specs.Frames.{count_of};
 
 use std::alloc::Global;
 use wtransport_proto::bytes;

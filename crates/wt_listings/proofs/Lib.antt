@@ -1,4 +1,4 @@
-pub mod ControlLemmas
+pub mod RecordedLemmas
 pub mod ListingLemmas
 pub mod RequestLemmas
 pub mod ProgramLemmas

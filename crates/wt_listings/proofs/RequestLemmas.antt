@@ -2,16 +2,16 @@
 use Rattle.std.proofs.Common.{◌≡◌, Bool, true, List, ℕ, [], length, Option, Some, None, Ok, Err, refl}
 use Rattle.wtransport_proto.specs.declared.error.ErrorCode.{ErrorCode}
 use Rattle.wtransport_proto.specs.Content.{Content}
-use Rattle.wtransport_proto.specs.Reading.{AnswersRun, StandsAfter}
+use Rattle.wtransport_proto.specs.Reading.{AnswersRun, ReaderIsAfter}
 use Rattle.wtransport_proto.specs.Rule.{RemoteBi}
 use Rattle.wtransport_proto.specs.Run.{Open, H3}
 use Rattle.wtransport_proto.specs.SessionRequest.{request_in}
-use Rattle.wt_listings.specs.Requests.{fields_listed, request_listed, request_listing}
+use Rattle.wt_listings.specs.Request.{fields_listing, result_listing, request_listing}
 
--- a frame, and the bytes that are left behind it
+-- a frame, and the bytes that are left after it
 pub listing_of_frame : (first next : Bool) (input old left : List ℕ) (o : Option Content) (f : Content) (rest : ℕ)
     → first ≡ true → old ≡ input → o ≡ Some f → rest ≡ length left
-    → AnswersRun RemoteBi first old (Ok o) next left → StandsAfter RemoteBi first old (Ok o) next left → request_listing input ≡ request_listed (request_in f) rest
+    → AnswersRun RemoteBi first old (Ok o) next left → ReaderIsAfter RemoteBi first old (Ok o) next left → request_listing input ≡ result_listing (request_in f) rest
 unfolding request_listing
 listing_of_frame first next input old left o f rest is whole some size answer stands =
     let found = rw (some, is, whole) at answer in
@@ -21,7 +21,7 @@ listing_of_frame first next input old left o f rest is whole some size answer st
 -- none, of bytes that may go on
 pub listing_of_none : (first next : Bool) (input old left : List ℕ) (o : Option Content) (rest : ℕ)
     → first ≡ true → old ≡ input → o ≡ None → rest ≡ length left
-    → AnswersRun RemoteBi first old (Ok o) next left → request_listing input ≡ fields_listed [] (Open rest)
+    → AnswersRun RemoteBi first old (Ok o) next left → request_listing input ≡ fields_listing [] (Open rest)
 unfolding request_listing
 listing_of_none first next input old left o rest is whole none size answer =
     let found = rw (none, is, whole) at answer in
@@ -30,7 +30,7 @@ listing_of_none first next input old left o rest is whole none size answer =
 -- a fault
 pub listing_of_fault : (first next : Bool) (input old left : List ℕ) (c : ErrorCode)
     → first ≡ true → old ≡ input
-    → AnswersRun RemoteBi first old (Err c) next left → request_listing input ≡ fields_listed [] (H3 c)
+    → AnswersRun RemoteBi first old (Err c) next left → request_listing input ≡ fields_listing [] (H3 c)
 unfolding request_listing
 listing_of_fault first next input old left c is whole answer =
     let found = rw (is, whole) at answer in

@@ -7,11 +7,11 @@ use Rattle.wtransport_proto.specs.declared.stream.polled.IoReadError.TheVariants
 use Rattle.wtransport_proto.specs.Content.{Content, kind_in}
 use Rattle.wtransport_proto.specs.Front.{Front, Framed, Unknown, BadId, TooBig, Short, front}
 use Rattle.wtransport_proto.specs.Rule.{Role, rule}
-use Rattle.wtransport_proto.specs.Run.{Run, Ending, Open, H3, ImmediateFin, Reset, NotConnected, Ended, judged, stop, next_run, run_within, past_unknown, run}
-use Rattle.wtransport_proto.specs.StreamPolling.{IsFault}
+use Rattle.wtransport_proto.specs.Run.{Run, Ending, Open, H3, ImmediateFin, Reset, NotConnected, Ended, judged, run_stop, next_run, run_within, past_unknown, run}
+use Rattle.wtransport_proto.specs.StreamPolling.{IsStreamFault}
 use Rattle.wt_listings.specs.Stepped.{ClosesStream}
 
--- a code, or an end behind the last frame
+-- a code, or an end after the last frame
 abbrev pub IsClosed : Ending → Type 0
 IsClosed (Open n) = ⊥
 IsClosed (H3 code) = Unit {0}
@@ -19,7 +19,7 @@ IsClosed ImmediateFin = Unit {0}
 IsClosed Reset = ⊥
 IsClosed NotConnected = ⊥
 
-stop_closed : (bytes rest : List ℕ) → IsClosed (stop bytes rest Ended)
+stop_closed : (bytes rest : List ℕ) → IsClosed (run_stop bytes rest Ended)
 stop_closed bytes [] = tt
 stop_closed bytes (b ∷ rest) = tt
 
@@ -42,7 +42,7 @@ pub run_closed : (role : Role) (first : Bool) (bytes : List ℕ) → IsClosed (r
 unfolding run
 run_closed role first bytes = within_closed (length bytes) role first bytes
 
-pub fault_closes : (x : IoReadError) (e known : Ending) → IsFault x e → e ≡ known → IsClosed known → ClosesStream x
+pub fault_closes : (x : IoReadError) (e known : Ending) → IsStreamFault x e → e ≡ known → IsClosed known → ClosesStream x
 fault_closes (stream.H3 code) e known h same closed = tt
 fault_closes (stream.IO io.ImmediateFin) e known h same closed = tt
 fault_closes (stream.IO io.UnexpectedFin) e known h same closed = h

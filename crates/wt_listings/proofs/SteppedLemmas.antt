@@ -16,12 +16,13 @@ use Rattle.wtransport_proto.specs.Held.{Held, new_held}
 use Rattle.wtransport_proto.specs.HeldRun.{run_of, size_of}
 use Rattle.wtransport_proto.specs.Rule.{Role, RemoteBi}
 use Rattle.wtransport_proto.specs.Run.{Run, Ending, Open, ImmediateFin, Ended, run}
-use Rattle.wtransport_proto.specs.StreamPolling.{IsFault, EndsSo}
+use Rattle.wtransport_proto.specs.StreamPolling.{IsStreamFault, EndsSo}
 use Rattle.wtransport_proto.proofs.HeldRunLemmas.{run_new}
 use Rattle.wt_listings.specs.declared.listing.Listing.{Listing}
-use Rattle.wt_listings.specs.CutSource.{told}
-use Rattle.wt_listings.specs.Lines.{line, last_line, listed, text_of, status_of, with_ending}
-use Rattle.wt_listings.specs.Listings.{Says, stepped}
+use Rattle.wt_listings.specs.CutSource.{source_of}
+use Rattle.wt_listings.specs.Lines.{line, last_line, run_listing, text_of, ending_status, with_ending}
+use Rattle.wt_listings.specs.Listing.{Says}
+use Rattle.wt_listings.specs.Stepped.{stepped_run}
 use Rattle.wt_listings.specs.Stepped.{ClosesStream}
 use Rattle.wt_listings.proofs.ListingLemmas.{IsBegun}
 
@@ -35,7 +36,7 @@ says_end E (Ok l) lines says = record {
 }
 says_end E (Err e) lines says = tt
 
-pub is_end : (x : IoReadError) (fault : bytes.IoReadError) (e : Ending) → x ≡ stream.IO fault → ClosesStream x → IsFault x e → e ≡ ImmediateFin
+pub is_end : (x : IoReadError) (fault : bytes.IoReadError) (e : Ending) → x ≡ stream.IO fault → ClosesStream x → IsStreamFault x e → e ≡ ImmediateFin
 is_end (stream.H3 code) fault e is closes h = absurd (cc)
 is_end (stream.IO io.ImmediateFin) fault e is closes h = h
 is_end (stream.IO io.UnexpectedFin) fault e is closes h = absurd closes
@@ -60,36 +61,36 @@ pub lines_of_all : (text items : List ℕ) (old new shown : List Content) → ol
 lines_of_all text items old new shown none same grown = rw (none, ← same) grown
 
 -- before the first drive the whole run is left
-pub begun_whole : (items : List ℕ) (first : Bool) (h : Held) (bytes : List ℕ) (left : ℕ) (input : List ℕ) → items ≡ [] → first ≡ true → h ≡ new_held → bytes ≡ input → IsBegun items (run_of RemoteBi first h (told bytes left)) (stepped input)
+pub begun_whole : (items : List ℕ) (first : Bool) (h : Held) (bytes : List ℕ) (left : ℕ) (input : List ℕ) → items ≡ [] → first ≡ true → h ≡ new_held → bytes ≡ input → IsBegun items (run_of RemoteBi first h (source_of bytes left)) (stepped_run input)
 begun_whole items first h bytes left input none is_first fresh same =
-    let is : run_of RemoteBi first h (told bytes left) ≡ run RemoteBi true input Ended = run_new RemoteBi first h (told bytes left) fresh ∙ rw (is_first, same) refl in
+    let is : run_of RemoteBi first h (source_of bytes left) ≡ run RemoteBi true input Ended = run_new RemoteBi first h (source_of bytes left) fresh ∙ rw (is_first, same) refl in
     rw (none, is) (record { lines = refl; ending = refl })
 
 -- after the last drive only the last line is left
 says_whole : (l : Listing) (text items : List ℕ) (fs : List Content) (x : IoReadError) (left whole : Run) → IsBegun text left whole → EndsSo left fs x → items ≡ text ++ flat_map line fs
-    → Says l (with_ending items left.ending) → Says l (listed whole)
+    → Says l (with_ending items left.ending) → Says l (run_listing whole)
 says_whole l text items fs x left whole begun ends grown says = record {
   text = says.text ∙ ap (λ (y : List ℕ). y ++ last_line left.ending) grown
       ∙ append_assoc text (flat_map line fs) (last_line left.ending)
       ∙ ap (λ (gs : List Content). text ++ (flat_map line gs ++ last_line left.ending)) (sym ends.frames)
       ∙ begun.lines;
-  status = says.status ∙ ap status_of begun.ending;
+  status = says.status ∙ ap ending_status begun.ending;
 }
 
 pub says_listed : (E : Type 0) (r : Result Listing E) (text items : List ℕ) (fs : List Content) (x : IoReadError) (left whole : Run) → IsBegun text left whole → EndsSo left fs x → items ≡ text ++ flat_map line fs
-    → IfOk r (λ l. Says l (with_ending items left.ending)) → IfOk r (λ l. Says l (listed whole))
+    → IfOk r (λ l. Says l (with_ending items left.ending)) → IfOk r (λ l. Says l (run_listing whole))
 says_listed E (Ok l) text items fs x left whole begun ends grown says = says_whole l text items fs x left whole begun ends grown says
 says_listed E (Err e) text items fs x left whole begun ends grown says = tt
 
 -- ---- what a drive did that has to be called again
 
 pub goes_on : (d : Driven) (role : Role) (first next : Bool) (old new : Held) (fs : List Content) (polls : ℕ) (xs ys : List ℕ) (m n : ℕ) → (d ≡ driven.Waiting) ⊎ (d ≡ driven.Spent)
-    → DriveDid role d first next old new fs polls (told xs m) (told ys n) → RunsOn role first next old new fs (told xs m) (told ys n)
+    → DriveDid role d first next old new fs polls (source_of xs m) (source_of ys n) → RunsOn role first next old new fs (source_of xs m) (source_of ys n)
 goes_on d role first next old new fs polls xs ys m n (inl e) did = let h = rw e at did in h.0
 goes_on d role first next old new fs polls xs ys m n (inr e) did = let h = rw e at did in h.0
 
 -- it waited, or took bytes
 pub less_left : (d : Driven) (role : Role) (first next : Bool) (old new : Held) (fs : List Content) (polls : ℕ) (xs ys : List ℕ) (m n : ℕ) → (d ≡ driven.Waiting) ⊎ (d ≡ driven.Spent) → 0 < polls → m < 2 ^ 64
-    → DriveDid role d first next old new fs polls (told xs m) (told ys n) → (n ≤ m) × (n + size_of new (told ys n) < m + size_of old (told xs m))
+    → DriveDid role d first next old new fs polls (source_of xs m) (source_of ys n) → (n ≤ m) × (n + size_of new (source_of ys n) < m + size_of old (source_of xs m))
 less_left d role first next old new fs polls xs ys m n (inl e) some fits did = let h = rw e at did in let waited = h.1 in let size = h.2.size in (omega arith, omega arith)
 less_left d role first next old new fs polls xs ys m n (inr e) some fits did = let h = rw e at did in let taken = h.1 in let waits = h.2.asks.waits in (omega arith, omega arith)

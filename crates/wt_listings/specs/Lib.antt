@@ -1,6 +1,7 @@
 pub mod CutSource
 pub mod Lines
-pub mod Listings
-pub mod Requests
-pub mod Program
+pub mod Listing
+pub mod Frames
 pub mod Stepped
+pub mod Request
+pub mod Program

@@ -1,16 +1,21 @@
 -- The arguments of the program, its faults and statuses, and what it writes.
-use Rattle.std.specs.Prelude.{◌≡◌, ◌⊎◌, ℕ, ◌≤◌, List, [], ◌∷◌, length, Option, IfSome, codes}
+use Rattle.std.specs.Prelude.{◌≡◌, ◌⊎◌, ℕ, ◌≤◌, List, [], ◌∷◌, length, map, Option, IfSome, codes}
+use Rattle.std.specs.Prelude.{String, string_bytes}
+use Rattle.std.specs.Global.{Global}
 use Rattle.std.specs.Io.KnownBytes.{Appends, IsAtEnd}
 use Rattle.std.specs.Str.Parse.{IsNumeral, digits_value}
 use Rattle.wt_listings.specs.declared.listing.ListKind.{ListKind}
 use Rattle.wt_listings.specs.declared.listing.ListKind.TheVariants.{BiRemote, BiLocal, Control}
 use Rattle.wt_listings.specs.declared.program.arguments.Command.{Command}
-use Rattle.wt_listings.specs.declared.program.arguments.Command.TheVariants.{Buffer, Stepped, Request}
+use Rattle.wt_listings.specs.declared.program.arguments.Command.TheVariants.{Buffer, Stepped}
+use Rattle.wt_listings.specs.declared.program.arguments.Command.TheVariants.{Request}
 use Rattle.wt_listings.specs.declared.program.Fault.{Fault}
-use Rattle.wt_listings.specs.declared.program.Fault.TheVariants.{Usage, InputTooLong, ReadFault, WriteFault, NoMemory}
-use Rattle.wt_listings.specs.Lines.{Listed, listed}
-use Rattle.wt_listings.specs.Listings.{recorded, stepped}
-use Rattle.wt_listings.specs.Requests.{request_listing}
+use Rattle.wt_listings.specs.declared.program.Fault.TheVariants.{Usage, InputTooLong, ReadFault}
+use Rattle.wt_listings.specs.declared.program.Fault.TheVariants.{WriteFault, NoMemory}
+use Rattle.wt_listings.specs.Lines.{ListingText, run_listing}
+use Rattle.wt_listings.specs.Frames.{recorded_run}
+use Rattle.wt_listings.specs.Stepped.{stepped_run}
+use Rattle.wt_listings.specs.Request.{request_listing}
 
 -- the status of a fault
 abbrev pub fault_status : Fault → ℕ
@@ -20,11 +25,15 @@ fault_status ReadFault = 3
 fault_status WriteFault = 3
 fault_status NoMemory = 4
 
+-- the arguments as texts
+abbrev pub texts_of : List (String Global) → List (List ℕ)
+texts_of arguments = map (λ argument. string_bytes argument) arguments
+
 -- the name of a listing
-abbrev pub name_of : ListKind → List ℕ
-name_of BiRemote = codes "bi-remote"
-name_of BiLocal = codes "bi-local"
-name_of Control = codes "control"
+abbrev pub kind_name : ListKind → List ℕ
+kind_name BiRemote = codes "bi-remote"
+kind_name BiLocal = codes "bi-local"
+kind_name Control = codes "control"
 
 -- the argument writes this number of bytes, from 1 to 1048576, in decimal digits and nothing else
 pub record WritesSize (argument : List ℕ) (k : ℕ) : Type 0 where
@@ -35,8 +44,11 @@ pub record WritesSize (argument : List ℕ) (k : ℕ) : Type 0 where
 
 -- the arguments name this command; none, and "buffer" alone, name the listing of BiRemote
 abbrev pub Names : List (List ℕ) → Command → Type 0
-Names arguments (Buffer kind) = (arguments ≡ codes "buffer" ∷ name_of kind ∷ []) ⊎ ((kind ≡ BiRemote) × ((arguments ≡ []) ⊎ (arguments ≡ codes "buffer" ∷ [])))
-Names arguments (Stepped k) = (size : List ℕ) × (arguments ≡ codes "stepped" ∷ size ∷ []) × WritesSize size k
+Names arguments (Buffer kind) =
+    (arguments ≡ codes "buffer" ∷ kind_name kind ∷ [])
+    ⊎ ((kind ≡ BiRemote) × ((arguments ≡ []) ⊎ (arguments ≡ codes "buffer" ∷ [])))
+Names arguments (Stepped k) =
+    (size : List ℕ) × (arguments ≡ codes "stepped" ∷ size ∷ []) × WritesSize size k
 Names arguments Request = arguments ≡ codes "request" ∷ []
 
 -- no command has these arguments
@@ -50,19 +62,31 @@ CanList (Stepped k) = 1 ≤ k
 CanList Request = Unit {0}
 
 -- what the command lists of this input
-abbrev pub listing_of : Command → List ℕ → Listed
-listing_of (Buffer kind) input = listed (recorded kind input)
-listing_of (Stepped k) input = listed (stepped input)
+abbrev pub listing_of : Command → List ℕ → ListingText
+listing_of (Buffer kind) input = run_listing (recorded_run kind input)
+listing_of (Stepped k) input = run_listing (stepped_run input)
 listing_of Request input = request_listing input
 
--- the listing of this input was written, and its status answered, as far as input and output tell their bytes
-abbrev pub Lists : Command → Option (List ℕ) → Option (List ℕ) → Option (List ℕ) → ℕ → Type 0
-Lists command input output written status = IfSome input (λ bytes. (status ≡ (listing_of command bytes).status) × (length bytes ≤ 1048576) × Appends output written (listing_of command bytes).text)
+-- the bytes of an input or an output, where they are known
+abbrev pub Known : Type 0
+Known = Option (List ℕ)
+
+-- the listing of this input was written, and its status returned, as far as the bytes of input and
+-- output are known
+abbrev pub Lists : Command → Known → Known → Known → ℕ → Type 0
+Lists command input output written status = IfSome input (λ bytes.
+    (status ≡ (listing_of command bytes).status)
+    × (length bytes ≤ 1048576)
+    × Appends output written (listing_of command bytes).text)
 
 -- what a run of the program without a fault did
-abbrev pub ListsArguments : List (List ℕ) → Option (List ℕ) → Option (List ℕ) → Option (List ℕ) → ℕ → Type 0
-ListsArguments arguments input output written status = (command : Command) × Names arguments command × Lists command input output written status
+abbrev pub ListsArguments : List (List ℕ) → Known → Known → Known → ℕ → Type 0
+ListsArguments arguments input output written status =
+    (command : Command) × Names arguments command × Lists command input output written status
 
 -- the arguments name a command, and all of the input was read and is short enough to be listed
-abbrev pub ReadsWhole : List (List ℕ) → Option (List ℕ) → Option (List ℕ) → Type 0
-ReadsWhole arguments input left = (command : Command) × Names arguments command × IfSome input (λ bytes. length bytes ≤ 1048576) × IsAtEnd left
+abbrev pub ReadsWhole : List (List ℕ) → Known → Known → Type 0
+ReadsWhole arguments input left =
+    (command : Command) × Names arguments command
+    × IfSome input (λ bytes. length bytes ≤ 1048576)
+    × IsAtEnd left

@@ -1,9 +1,16 @@
--- How a listing that is read poll by poll ends.
+-- The run of a stream that is read poll by poll, and how its listing ends.
+use Rattle.std.specs.Prelude.{true, List, ℕ}
 use Rattle.wtransport_proto.specs.declared.bytes.polled.IoReadError.TheVariants as io
 use Rattle.wtransport_proto.specs.declared.stream.polled.IoReadError.{IoReadError}
 use Rattle.wtransport_proto.specs.declared.stream.polled.IoReadError.TheVariants as stream
+use Rattle.wtransport_proto.specs.Rule.{RemoteBi}
+use Rattle.wtransport_proto.specs.Run.{Run, run, Ended}
 
--- the faults of a stream whose source ends: a code, or an end behind its last frame
+-- the run of a stream in both directions that the peer opened, from its start to its end
+abbrev pub stepped_run : List ℕ → Run
+stepped_run input = run RemoteBi true input Ended
+
+-- the faults of a stream whose source ends: a code, or an end after its last frame
 abbrev pub ClosesStream : IoReadError → Type 0
 ClosesStream (stream.H3 c) = Unit {0}
 ClosesStream (stream.IO io.ImmediateFin) = Unit {0}

@@ -1,8 +1,10 @@
 //! The program: its arguments, its input and output, and its statuses.
-ghost use Rattle.std.specs.Prelude.{◌≡◌, ◌≢◌, ◌≤◌, ◌<◌, ◌⊎◌, map, length, Err, IfOk, IfErr, IfSome, OnOk, vec_len, string_bytes};
+ghost use Rattle.std.specs.Prelude.{◌≡◌, ◌≢◌, ◌≤◌, ◌<◌, ◌⊎◌, length, Err};
+ghost use Rattle.std.specs.Prelude.{IfOk, IfErr, IfSome, OnOk, vec_len};
 ghost use Rattle.std.specs.Io.KnownBytes.{Appends, IsAtEnd};
-ghost use Rattle.wt_listings.specs.Listings.{Says};
-ghost use Rattle.wt_listings.specs.Program.{fault_status, CanList, listing_of, NamesNone, ListsArguments, ReadsWhole};
+ghost use Rattle.wt_listings.specs.Listing.{Says};
+ghost use Rattle.wt_listings.specs.Program.{fault_status, texts_of, listing_of, CanList};
+ghost use Rattle.wt_listings.specs.Program.{NamesNone, ListsArguments, ReadsWhole};
 
 mod arguments;
 
@@ -15,7 +17,7 @@ use arguments::named_command;
 use std::alloc::{AllocError, Global};
 use std::io::{Read, Write};
 
-/// How many bytes of input are listed at most.
+/// The greatest number of bytes of input that are listed.
 const MAX_INPUT: usize = 1_048_576;
 
 /// Why there is no listing.
@@ -33,7 +35,7 @@ pub enum Fault {
     /// The listing could not be written.
     #[error("wt_frames: write fault")]
     WriteFault,
-    /// No memory.
+    /// Allocation failed.
     #[error("wt_frames: no memory")]
     NoMemory,
 }
@@ -51,19 +53,19 @@ impl Fault {
     }
 }
 
-/// Lists the input as the arguments say, and answers the status with which the program ends.
+/// Lists the input as the arguments say, and returns the status with which the program ends.
 ///
 /// - `buffer bi-remote`, `buffer bi-local`, `buffer control`: the frames, by [`list_frames`];
 ///   `buffer` or no argument for the first.
-/// - `stepped k`: the frames, by [`list_stepped`]; `k` is written in decimal digits alone, leading
-///   zeros among them, and from 1 to 1048576.
+/// - `stepped k`: the frames, by [`list_stepped`]; `k` is from 1 to 1048576, written in decimal
+///   digits only, with leading zeros or without.
 /// - `request`: the fields of the request, by [`list_request`].
 ///
-/// The status is that of the listing; 1 for other arguments, before anything is read or written; 3 for
-/// more than 1048576 bytes of input, a failed read and a failed write; 4 if allocation fails. With 1, 3
-/// and 4 one line is written to `errors`, and a fault of that line is ignored. Nothing is written to
-/// `output` before the whole listing is made: with 1 and 4 `output` is unchanged, and with 3 too unless
-/// the listing could not be written, of which it may then hold a part.
+/// The status is that of the listing; 1 for other arguments, before anything is read or written; 3
+/// for more than 1048576 bytes of input, a failed read and a failed write; 4 if allocation fails.
+/// With 1, 3 and 4 one line is written to `errors`, and a fault of that line is ignored. Nothing is
+/// written to `output` before the whole listing is made: with 1 and 4 `output` is unchanged, and
+/// with 3 too unless the listing could not be written, of which it may then contain a part.
 pub fn run_program<R: Read, W: Write, E: Write>(
     alloc: Global,
     arguments: &[String],
@@ -71,15 +73,20 @@ pub fn run_program<R: Read, W: Write, E: Write>(
     output: &mut W,
     errors: &mut E,
 ) -> u8
-    // Other arguments are answered before anything is read or written.
-    ensures usage { NamesNone (map (λ w. string_bytes w) arguments.now) → (result ≡ 1) × (input.new ≡ input.old) × (output.new ≡ output.old) }
-    ensures no_usage { result ≡ 1 → NamesNone (map (λ w. string_bytes w) arguments.now) }
+    // With other arguments nothing is read or written.
+    ensures usage { NamesNone (texts_of arguments.now)
+        → (result ≡ 1) × (input.new ≡ input.old) × (output.new ≡ output.old) }
+    ensures no_usage { result ≡ 1 → NamesNone (texts_of arguments.now) }
     // Status 0 and 2 come with the whole listing of the whole input.
-    ensures lists { (result ≡ 0) ⊎ (result ≡ 2) → ListsArguments (map (λ w. string_bytes w) arguments.now) (R.remaining input.old) (W.contents output.old) (W.contents output.new) result }
+    ensures lists { (result ≡ 0) ⊎ (result ≡ 2)
+        → ListsArguments (texts_of arguments.now) (R.remaining input.old)
+        (W.contents output.old) (W.contents output.new) result }
     // Status 1 and 4 come with nothing written.
     ensures quiet { (result ≡ 1) ⊎ (result ≡ 4) → output.new ≡ output.old }
-    // With status 3 nothing was written, unless the whole input was read and its listing was being written.
-    ensures refused { result ≡ 3 → (output.new ≡ output.old) ⊎ ReadsWhole (map (λ w. string_bytes w) arguments.now) (R.remaining input.old) (R.remaining input.new) }
+    // With status 3 nothing was written, unless the whole input was read and its listing was being
+    // written.
+    ensures refused { result ≡ 3 → (output.new ≡ output.old)
+        ⊎ ReadsWhole (texts_of arguments.now) (R.remaining input.old) (R.remaining input.new) }
     ensures statuses { result ≤ 4 }
 {
     match try_run(alloc, arguments, input, output) {
@@ -91,19 +98,22 @@ pub fn run_program<R: Read, W: Write, E: Write>(
     }
 }
 
-/// The same, with the fault in place of its line.
+/// The same, but returns a fault in place of its line and status.
 fn try_run<R: Read, W: Write>(
     alloc: Global,
     arguments: &[String],
     input: &mut R,
     output: &mut W,
 ) -> Result<u8, Fault>
-    ensures usage { NamesNone (map (λ w. string_bytes w) arguments.now) → (result ≡ Err Fault.Usage) × (input.new ≡ input.old) }
-    ensures no_usage { result ≡ Err Fault.Usage → NamesNone (map (λ w. string_bytes w) arguments.now) }
-    ensures lists { IfOk result (ListsArguments (map (λ w. string_bytes w) arguments.now) (R.remaining input.old) (W.contents output.old) (W.contents output.new)) }
+    ensures usage { NamesNone (texts_of arguments.now)
+        → (result ≡ Err Fault.Usage) × (input.new ≡ input.old) }
+    ensures no_usage { result ≡ Err Fault.Usage → NamesNone (texts_of arguments.now) }
+    ensures lists { IfOk result (ListsArguments (texts_of arguments.now) (R.remaining input.old)
+        (W.contents output.old) (W.contents output.new)) }
     ensures status { IfOk result (λ s. (s ≡ 0) ⊎ (s ≡ 2)) }
     ensures quiet { IfErr result (λ e. e ≢ Fault.WriteFault → output.new ≡ output.old) }
-    ensures unwritten { result ≡ Err Fault.WriteFault → ReadsWhole (map (λ w. string_bytes w) arguments.now) (R.remaining input.old) (R.remaining input.new) }
+    ensures unwritten { result ≡ Err Fault.WriteFault
+        → ReadsWhole (texts_of arguments.now) (R.remaining input.old) (R.remaining input.new) }
 {
     let command = named_command(arguments).ok_or(Fault::Usage)?;
     let bytes = read_input(alloc, input)?;
@@ -112,7 +122,7 @@ fn try_run<R: Read, W: Write>(
     Ok(listing.status)
 }
 
-/// The listing of a command.
+/// Returns the listing of a command.
 fn list(alloc: Global, command: Command, input: &[u8]) -> Result<Listing, AllocError>
     requires { CanList command }
     ensures listing { IfOk result (λ l. Says l (listing_of command input.now)) }
@@ -125,17 +135,18 @@ fn list(alloc: Global, command: Command, input: &[u8]) -> Result<Listing, AllocE
     }
 }
 
-/// All of the input.
+/// Returns all of the input.
 fn read_input<R: Read>(alloc: Global, input: &mut R) -> Result<Vec<u8>, Fault>
     ensures whole { IfOk result (λ bytes. IfSome (R.remaining input.old) (λ xs. bytes.items ≡ xs)) }
     ensures short { IfOk result (λ bytes. vec_len bytes ≤ 1048576) }
     ensures ended { IfOk result (λ _. IsAtEnd (R.remaining input.new)) }
-    ensures too_long { result ≡ Err Fault.InputTooLong → IfSome (R.remaining input.old) (λ xs. 1048576 < length xs) }
+    ensures too_long { result ≡ Err Fault.InputTooLong
+        → IfSome (R.remaining input.old) (λ xs. 1048576 < length xs) }
     ensures faults { IfErr result (λ e. (e ≢ Fault.Usage) × (e ≢ Fault.WriteFault)) }
 {
     let mut bytes = Vec::new(alloc);
     let mut chunk = [0; 4096];
-    // Each turn but the last takes in at least one byte, so no input goes on past the limit.
+    // Each turn but the last adds at least one byte, so the turns end at the limit.
     'turns: loop {
         let count = input.read(&mut chunk).map_err(|_| Fault::ReadFault)?;
         if count == 0 {

@@ -1,8 +1,11 @@
 -- Steps of one fill add up.
-use Rattle.std.proofs.Common.{◌≡◌, ℕ, ◌+◌, ◌<◌, ◌≤◌, List, ◌++◌, length, take, drop, sym, ap, ◌∙◌, arith, append_assoc, length-append, take-add, length-take}
-use Rattle.std.proofs.lemmas.List.{take-take, take-append-le, take-append-drop}
+use Rattle.std.proofs.Common.{◌≡◌, ℕ, ◌+◌, ◌<◌, ◌≤◌, List, ◌++◌, length, take, drop, sym, ap, ◌∙◌, arith, append_assoc, length-append, take-add, length-take, Option, Some, None, Result, Err}
+use Rattle.std.proofs.lemmas.List.{take-take, take-append-le, take-append-drop, take_at, drop_at}
 use Rattle.wtp_core.specs.Source.{Source, AsksOnce}
-use Rattle.wtp_core.specs.Fill.{Gains, HaltIsTrue}
+use Rattle.wtp_core.specs.Fill.{Gains, HaltIsTrue, HaltsAs, halted_poll}
+use Rattle.wtp_core.specs.declared.bytes.polled.Polled.{Polled}
+use Rattle.wtp_core.specs.declared.bytes.polled.Polled.TheVariants.{Ready}
+use Rattle.wtp_core.specs.declared.bytes.polled.IoReadError.{IoReadError}
 use Rattle.wtp_core.specs.declared.polling.fill.Halt.{Halt}
 use Rattle.wtp_core.specs.declared.polling.fill.Halt.TheVariants as halt
 
@@ -18,21 +21,17 @@ gains_more held xs ys a b c g asks moved waits some = record {
   waits = let before = g.waits in omega arith;
 }
 
--- the same buffer after a call that moved n bytes to after the first `at` bytes
-pub gains_bytes : (held buf new : List ℕ) (at n : ℕ) (a b c : Source) → Gains held (take at buf) a b 0 → take at new ≡ take at buf → n ≤ length (drop at new) → 0 < n → AsksOnce b c → b.ahead ≡ take n (drop at new) ++ c.ahead → c.waits ≡ b.waits → Gains held (take (at + n) new) a c 0
-gains_bytes held buf new at n a b c g same fits some asks moved waits =
-    let shape : take (at + n) new ≡ take at buf ++ take n (drop at new) = take-add at n new ∙ ap (λ l. l ++ take n (drop at new)) same in
-    let counted : length (take n (drop at new)) ≡ n = omega (arith, length-take n (drop at new)) in
-    rw shape (gains_more held (take at buf) (take n (drop at new)) a b c g asks moved (omega arith) (omega arith))
+-- the bytes held stay at the start of a buffer whose bytes after them are read anew
+pub front_stays : (at : ℕ) (buf rest : List ℕ) → at ≤ length buf → take at (take at buf ++ rest) ≡ take at buf
+front_stays at buf rest l = take_at (take at buf) rest at (omega (arith, length-take at buf))
 
-pub gains_none : (held buf new : List ℕ) (at : ℕ) (a b c : Source) → Gains held (take at buf) a b 0 → take at new ≡ take at buf → AsksOnce b c → c.ahead ≡ b.ahead → b.waits ≤ c.waits → Gains held (take at new) a c 1
-gains_none held buf new at a b c g same asks moved waits = record {
-  kept = g.kept ∙ ap (λ l. take at buf ++ l) (sym moved) ∙ ap (λ l. l ++ c.ahead) (sym same);
-  ending = asks.ending ∙ g.ending;
-  asked = let one = asks.asked in let before = g.asked in omega (arith, ap length same);
-  no_less = let one = asks.no_less in let before = g.no_less in omega arith;
-  waits = let before = g.waits in omega arith;
-}
+-- a call moved n bytes to after the first `at` bytes of a buffer
+pub gains_bytes : (held buf part rest : List ℕ) (at n : ℕ) (a b c : Source) → Gains held (take at buf) a b 0 → at ≤ length buf → n ≤ length part → 0 < n → AsksOnce b c → b.ahead ≡ take n part ++ c.ahead → c.waits ≡ b.waits → Gains held (take (at + n) (take at buf ++ (part ++ rest))) a c 0
+gains_bytes held buf part rest at n a b c g within fits some asks moved waits =
+    let new = take at buf ++ (part ++ rest) in
+    let behind : take n (drop at new) ≡ take n part = ap (λ l. take n l) (drop_at (take at buf) (part ++ rest) at (omega (arith, length-take at buf))) ∙ take-append-le n part rest fits in
+    let shape : take (at + n) new ≡ take at buf ++ take n part = take-add at n new ∙ ap (λ l. l ++ take n (drop at new)) (front_stays at buf (part ++ rest) within) ∙ ap (λ l. take at buf ++ l) behind in
+    rw shape (gains_more held (take at buf) (take n part) a b c g asks moved (omega arith) (omega (arith, length-take n part)))
 
 pub gains_then : (x y y' z z' : List ℕ) (a b c : Source) (extra : ℕ) → Gains x y a b 0 → Gains y' z b c extra → y' ≡ y → z' ≡ z → Gains x z' a c extra
 gains_then x y y' z z' a b c extra p q same shown = record {
@@ -76,3 +75,7 @@ halt_then halt.NotReady a b c e w p = omega arith
 halt_then halt.Fin a b c e w p = (p.0, sym e ∙ p.1)
 halt_then halt.Reset a b c e w p = (p.0, sym e ∙ p.1)
 halt_then halt.NotConnected a b c e w p = (p.0, sym e ∙ p.1)
+
+pub halted_as : {T E : Type 0} (wrap : IoReadError → E) (fault : Option IoReadError) (r : Polled (Result T E)) → HaltsAs (λ f e. e ≡ wrap f) fault r → r ≡ halted_poll wrap fault
+halted_as wrap None r h = h
+halted_as {E = E} wrap (Some fault) r (e, is, gave) = gave ∙ ap (λ (x : E). Ready (Err x)) is

@@ -1,32 +1,41 @@
 -- The result of one poll of a number, or of a buffer.
-use Rattle.std.proofs.Common.{◌≡◌, ℕ, ◌<◌, List, [], ◌++◌, length, take, drop, Option, Some, Ok, refl, sym, ap, ◌∙◌, append-nil}
+use Rattle.std.proofs.Common.{◌≡◌, ℕ, ◌<◌, List, [], ◌++◌, length, take, drop, Option, Some, Result, Ok, refl, sym, ap, ◌∙◌, append-nil}
 use Rattle.wtp_core.specs.declared.bytes.polled.Polled.TheVariants.{Ready}
 use Rattle.wtp_core.specs.declared.polling.fill.Halt.{Halt}
 use Rattle.wtp_core.specs.declared.polling.fill.Halt.TheVariants as halt
 use Rattle.wtp_core.specs.Varint.{number_at}
-use Rattle.wtp_core.specs.VarintNeed.{varint_need, IsCut}
+use Rattle.wtp_core.specs.VarintNeed.{varint_need, IsCutNumber}
 use Rattle.wtp_core.specs.Source.{Source, Telling}
-use Rattle.wtp_core.specs.Fill.{Gains, HaltIsTrue, halted_poll}
-use Rattle.wtp_core.specs.Getting.{VarintPolled, VarintGiven, BufferGiven}
+use Rattle.wtp_core.specs.declared.bytes.polled.Polled.{Polled}
+use Rattle.wtp_core.specs.declared.bytes.polled.IoReadError.{IoReadError}
+use Rattle.wtp_core.specs.Fill.{Gains, HaltIsTrue, halt_fault, HaltsAs, halted_poll}
+use Rattle.wtp_core.specs.Get.{VarintPolled, VarintGiven, BufferGiven}
 use Rattle.wtp_core.proofs.TellingLemmas.{telling_map}
-use Rattle.wtp_core.proofs.FillLemmas.{begins}
-use Rattle.wtp_core.proofs.SpellingLemmas.{number_at-more}
+use Rattle.wtp_core.proofs.FillLemmas.{begins, halted_as}
+use Rattle.wtp_core.proofs.EncodingLemmas.{number_at-more}
 use Rattle.wtp_core.proofs.NeedLemmas.{number_at-cut, number_at-whole}
+
+-- the result of a poll that stopped after n bytes
+abbrev pub halted_at : {T : Type 0} → Halt → ℕ → Polled (Result T IoReadError)
+halted_at x n = halted_poll (λ f. f) (halt_fault x n)
+
+pub halted_plain : {T : Type 0} (x : Halt) (n : ℕ) (r : Polled (Result T IoReadError)) → HaltsAs (λ f e. e ≡ f) (halt_fault x n) r → r ≡ halted_at x n
+halted_plain x n r h = halted_as (λ f. f) (halt_fault x n) r h
 
 -- nothing is ahead any more
 pub dry : (old new : List ℕ) (a b : Source) (e : ℕ) → Gains old new a b e → b.ahead ≡ [] → new ≡ old ++ a.ahead
 dry old new a b e g none = sym (g.kept ∙ ap (λ l. new ++ l) none ∙ append-nil new)
 
-halted_varint : (x : Halt) (old new : List ℕ) (a b : Source) → IsCut new → Gains old new a b 1 → HaltIsTrue x a b → VarintPolled (halted_poll x (length new)) old new a b
+halted_varint : (x : Halt) (old new : List ℕ) (a b : Source) → IsCutNumber new → Gains old new a b 1 → HaltIsTrue x a b → VarintPolled (halted_at x (length new)) old new a b
 halted_varint halt.NotReady old new a b cut g t = record { waited = t; kept = sym g.kept }
 halted_varint halt.Fin old new a b cut g t = let e = dry old new a b 1 g t.0 in (rw (← e) (number_at-cut new cut), record { none_ahead = t.0; held = e; why = rw t.1 refl })
 halted_varint halt.Reset old new a b cut g t = let e = dry old new a b 1 g t.0 in (rw (← e) (number_at-cut new cut), record { none_ahead = t.0; held = e; why = rw t.1 refl })
 halted_varint halt.NotConnected old new a b cut g t = let e = dry old new a b 1 g t.0 in (rw (← e) (number_at-cut new cut), record { none_ahead = t.0; held = e; why = rw t.1 refl })
 
-pub halted_varint_told : (s t : Option Source) (x : Halt) (n : ℕ) (old new : List ℕ) → n ≡ length new → IsCut new → Telling s t (λ a b. Gains old new a b 1 × HaltIsTrue x a b) → Telling s t (VarintPolled (halted_poll x n) old new)
-halted_varint_told s t x n old new is cut p = telling_map s t _ (VarintPolled (halted_poll x n) old new) (λ a b q. rw is (halted_varint x old new a b cut q.0 q.1)) p
+pub halted_varint_told : (s t : Option Source) (x : Halt) (n : ℕ) (old new : List ℕ) → n ≡ length new → IsCutNumber new → Telling s t (λ a b. Gains old new a b 1 × HaltIsTrue x a b) → Telling s t (VarintPolled (halted_at x n) old new)
+halted_varint_told s t x n old new is cut p = telling_map s t _ (VarintPolled (halted_at x n) old new) (λ a b q. rw is (halted_varint x old new a b cut q.0 q.1)) p
 
-pub halted_varint_given : (x : Halt) (n m : ℕ) (old new : List ℕ) → take m new ≡ old → VarintGiven (halted_poll x n) old new
+pub halted_varint_given : (x : Halt) (n m : ℕ) (old new : List ℕ) → take m new ≡ old → VarintGiven (halted_at x n) old new
 halted_varint_given halt.NotReady n m old new e = begins m old new e
 halted_varint_given halt.Fin n m old new e = begins m old new e
 halted_varint_given halt.Reset n m old new e = begins m old new e
@@ -45,7 +54,7 @@ whole_varint_told s t v k old h w e p = telling_map s t _ (VarintPolled (Ready (
 pub whole_varint_given : (v k m : ℕ) (old h : List ℕ) → take m h ≡ old → varint_need h ≡ length h → number_at h ≡ Some (v, drop k h) → VarintGiven (Ready (Ok v)) old []
 whole_varint_given v k m old h front w e = let (more, is) = begins m old h front in (refl, (more, ap number_at (sym is) ∙ read_whole v k h w e))
 
-pub halted_buffer_given : (U : Type 0) (x : Halt) (n m room : ℕ) (old new : List ℕ) → length new < room → take m new ≡ old → BufferGiven {U = U} (halted_poll x n) room old new
+pub halted_buffer_given : (U : Type 0) (x : Halt) (n m room : ℕ) (old new : List ℕ) → length new < room → take m new ≡ old → BufferGiven {U = U} (halted_at x n) room old new
 halted_buffer_given U halt.NotReady n m room old new l e = (l, begins m old new e)
 halted_buffer_given U halt.Fin n m room old new l e = (l, begins m old new e)
 halted_buffer_given U halt.Reset n m room old new l e = (l, begins m old new e)

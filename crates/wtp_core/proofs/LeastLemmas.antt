@@ -3,8 +3,8 @@ use Rattle.std.proofs.Common.{◌≡◌, ℕ, ◌+◌, ◌-◌, ◌*◌, ◌^◌
 use Rattle.std.specs.Int.{Width, w8, w16, w32, w64, w128, byte_len, to_be_bytes}
 use Rattle.std.proofs.lemmas.Bool.{cases_lt, lt-ltb, le-ltb}
 use Rattle.std.proofs.lemmas.Nat.{be_bytes_2, be_bytes_4, be_bytes_8}
-use Rattle.wtp_core.specs.Varint.{Spells, width_of, value_of, shortest}
-use Rattle.wtp_core.proofs.ShortLemmas.{shortest-spells}
+use Rattle.wtp_core.specs.Varint.{Encodes, width_of, value_of, shortest}
+use Rattle.wtp_core.proofs.ShortLemmas.{shortest-encodes}
 
 -- the size of the shortest encoding, by the value
 pub length-shortest : (v : ℕ) → (v < 2 ^ 6 → length (shortest v) ≡ 1) × (2 ^ 6 ≤ v → v < 2 ^ 14 → length (shortest v) ≡ 2) × (2 ^ 14 ≤ v → v < 2 ^ 30 → length (shortest v) ≡ 4) × (2 ^ 30 ≤ v → length (shortest v) ≡ 8)
@@ -34,7 +34,7 @@ record As (w : Width) (v : ℕ) (s : List ℕ) : Type 0 where
   size : length s ≡ byte_len w
   value : v ≡ value_of w s
 
-as_width : (w : Width) (v : ℕ) (s : List ℕ) (h : Spells v s) → width_of (get_or s 0 0) ≡ w → As w v s
+as_width : (w : Width) (v : ℕ) (s : List ℕ) (h : Encodes v s) → width_of (get_or s 0 0) ≡ w → As w v s
 as_width w v s h e = record { size = h.size ∙ ap (λ (x : Width). byte_len x) e; value = h.value ∙ ap (λ (x : Width). value_of x s) e }
 
 below8 : (v : ℕ) (s : List ℕ) (h : As w8 v s) → v < 2 ^ 6
@@ -73,7 +73,7 @@ at_most_8 v = elim (cases_lt v (2 ^ 30)) [
 ]
 
 -- no encoding is shorter
-pub shortest-least : (v : ℕ) (s : List ℕ) (h : Spells v s) → length (shortest v) ≤ length s
+pub shortest-least : (v : ℕ) (s : List ℕ) (h : Encodes v s) → length (shortest v) ≤ length s
 shortest-least v s h = elim (width-cases (get_or s 0 0)) [
   | inl (e, b) ↦ let a = as_width w8 v s h e in omega (arith, a.size, (length-shortest v).0 (below8 v s a))
   | inr (inl (e, l, b)) ↦ let a = as_width w16 v s h e in omega (arith, a.size, at_most_2 v (below16 v s a))
@@ -121,7 +121,7 @@ one_byte v (x ∷ []) h b = let e = h.value in let same : x ≡ v = omega arith 
 one_byte v (x ∷ y ∷ s) h b = absurd (omega (arith, h.size))
 
 -- no other encoding is as short
-pub shortest-only : (v : ℕ) (s : List ℕ) (h : Spells v s) → ((i : ℕ) → get_or s i 0 < 256) → length s ≡ length (shortest v) → s ≡ shortest v
+pub shortest-only : (v : ℕ) (s : List ℕ) (h : Encodes v s) → ((i : ℕ) → get_or s i 0 < 256) → length s ≡ length (shortest v) → s ≡ shortest v
 shortest-only v s h bytes same = elim (width-cases (get_or s 0 0)) [
   | inl (e, b) ↦ let a = as_width w8 v s h e in one_byte v s a b ∙ sym (shortest8 v (below8 v s a))
   | inr (inl (e, l, b)) ↦
@@ -143,7 +143,7 @@ shortest-only v s h bytes same = elim (width-cases (get_or s 0 0)) [
 -- ---- the size of the shortest encoding
 
 pub size-first : (v : ℕ) → v < 2 ^ 62 → byte_len (width_of (get_or (shortest v) 0 0)) ≡ length (shortest v)
-size-first v h = let s = shortest-spells v h in sym s.size
+size-first v h = let s = shortest-encodes v h in sym s.size
 
 pub size-holds : (v : ℕ) → v < 2 ^ 62 → v < 2 ^ (8 * length (shortest v) - 2)
 size-holds v h = elim (cases_lt v (2 ^ 6)) [

@@ -1,4 +1,4 @@
-pub mod SpellingLemmas
+pub mod EncodingLemmas
 pub mod ShortLemmas
 pub mod LeastLemmas
 pub mod RestLemmas
@@ -9,3 +9,4 @@ pub mod PassLemmas
 pub mod NeedLemmas
 pub mod GetLemmas
 pub mod DrainLemmas
+pub mod CodeLemmas

@@ -2,9 +2,9 @@
 use Rattle.std.proofs.Common.{◌≡◌, ℕ, ◌≤◌, List, [], ◌∷◌, length, take, drop, Some, None, slice_index, refl, ap, ◌∙◌, arith, length-drop}
 use Rattle.std.proofs.lemmas.Bool.{lt-ltb, le-ltb}
 use Rattle.wtp_core.specs.Varint.{number_at, width_of, value_of}
-use Rattle.wtp_core.specs.VarintNeed.{varint_need, IsCut}
+use Rattle.wtp_core.specs.VarintNeed.{varint_need, IsCutNumber}
 
-pub number_at-cut : (bytes : List ℕ) → IsCut bytes → number_at bytes ≡ None
+pub number_at-cut : (bytes : List ℕ) → IsCutNumber bytes → number_at bytes ≡ None
 unfolding number_at
 number_at-cut bytes l = rw (lt-ltb (length bytes) (varint_need bytes) l) refl
 

@@ -3,7 +3,7 @@ use Rattle.std.proofs.Common.{◌≡◌, ℕ, ◌+◌, ◌*◌, ◌^◌, ◌<◌
 use Rattle.std.specs.Int.{Width, w8, w16, w32, w64, byte_len, to_be_bytes}
 use Rattle.std.proofs.lemmas.Bool.{cases_lt, lt-ltb, le-ltb}
 use Rattle.std.proofs.lemmas.Nat.{from_be_bytes-to_be_bytes_2, from_be_bytes-to_be_bytes_4, from_be_bytes-to_be_bytes_8}
-use Rattle.wtp_core.specs.Varint.{Spells, width_of, value_of, shortest}
+use Rattle.wtp_core.specs.Varint.{Encodes, width_of, value_of, shortest}
 
 width8 : (b : ℕ) → b < 64 → width_of b ≡ w8
 width8 b h = rw (lt-ltb b 64 h) refl
@@ -18,8 +18,8 @@ width64 : (b : ℕ) → 192 ≤ b → width_of b ≡ w64
 width64 b l = rw (le-ltb b 64 (omega arith), le-ltb b 128 (omega arith), le-ltb b 192 l) refl
 
 -- bytes whose first one has this width, and whose length is that width, are an encoding
-spelled : (w : Width) (v : ℕ) (s : List ℕ) → width_of (get_or s 0 0) ≡ w → length s ≡ byte_len w → v ≡ value_of w s → Spells v s
-spelled w v s first size value = record { size = rw first size; value = rw first value }
+encoded : (w : Width) (v : ℕ) (s : List ℕ) → width_of (get_or s 0 0) ≡ w → length s ≡ byte_len w → v ≡ value_of w s → Encodes v s
+encoded w v s first size value = record { size = rw first size; value = rw first value }
 
 value8 : (v : ℕ) → v < 64 → v ≡ value_of w8 (v ∷ [])
 unfolding value_of
@@ -37,15 +37,15 @@ value64 : (v : ℕ) → v < 2 ^ 62 → v ≡ value_of w64 (to_be_bytes w64 (3 * 
 unfolding value_of
 value64 v h = rw (from_be_bytes-to_be_bytes_8 (3 * 2 ^ 62 + v) (omega arith)) (omega arith)
 
-pub shortest-spells : (v : ℕ) → v < 2 ^ 62 → Spells v (shortest v)
+pub shortest-encodes : (v : ℕ) → v < 2 ^ 62 → Encodes v (shortest v)
 unfolding shortest
-shortest-spells v fits = elim (cases_lt v (2 ^ 6)) [
-  | inl h ↦ rw (lt-ltb v (2 ^ 6) h) (spelled w8 v (v ∷ []) (width8 v h) refl (value8 v h))
+shortest-encodes v fits = elim (cases_lt v (2 ^ 6)) [
+  | inl h ↦ rw (lt-ltb v (2 ^ 6) h) (encoded w8 v (v ∷ []) (width8 v h) refl (value8 v h))
   | inr h6 ↦ elim (cases_lt v (2 ^ 14)) [
-    | inl h ↦ rw (le-ltb v (2 ^ 6) h6, lt-ltb v (2 ^ 14) h) (spelled w16 v (to_be_bytes w16 (2 ^ 14 + v)) (width16 (get_or (to_be_bytes w16 (2 ^ 14 + v)) 0 0) (omega arith) (omega arith)) refl (value16 v h))
+    | inl h ↦ rw (le-ltb v (2 ^ 6) h6, lt-ltb v (2 ^ 14) h) (encoded w16 v (to_be_bytes w16 (2 ^ 14 + v)) (width16 (get_or (to_be_bytes w16 (2 ^ 14 + v)) 0 0) (omega arith) (omega arith)) refl (value16 v h))
     | inr h14 ↦ elim (cases_lt v (2 ^ 30)) [
-      | inl h ↦ rw (le-ltb v (2 ^ 6) h6, le-ltb v (2 ^ 14) h14, lt-ltb v (2 ^ 30) h) (spelled w32 v (to_be_bytes w32 (2 * 2 ^ 30 + v)) (width32 (get_or (to_be_bytes w32 (2 * 2 ^ 30 + v)) 0 0) (omega arith) (omega arith)) refl (value32 v h))
-      | inr h30 ↦ rw (le-ltb v (2 ^ 6) h6, le-ltb v (2 ^ 14) h14, le-ltb v (2 ^ 30) h30) (spelled w64 v (to_be_bytes w64 (3 * 2 ^ 62 + v)) (width64 (get_or (to_be_bytes w64 (3 * 2 ^ 62 + v)) 0 0) (omega arith)) refl (value64 v fits))
+      | inl h ↦ rw (le-ltb v (2 ^ 6) h6, le-ltb v (2 ^ 14) h14, lt-ltb v (2 ^ 30) h) (encoded w32 v (to_be_bytes w32 (2 * 2 ^ 30 + v)) (width32 (get_or (to_be_bytes w32 (2 * 2 ^ 30 + v)) 0 0) (omega arith) (omega arith)) refl (value32 v h))
+      | inr h30 ↦ rw (le-ltb v (2 ^ 6) h6, le-ltb v (2 ^ 14) h14, le-ltb v (2 ^ 30) h30) (encoded w64 v (to_be_bytes w64 (3 * 2 ^ 62 + v)) (width64 (get_or (to_be_bytes w64 (3 * 2 ^ 62 + v)) 0 0) (omega arith)) refl (value64 v fits))
     ]
   ]
 ]

@@ -5,22 +5,22 @@ use Rattle.wtp_core.specs.declared.error.ErrorCode.{ErrorCode}
 use Rattle.wtp_core.specs.declared.error.ErrorCode.TheVariants.{Datagram, NoError, StreamCreation, ClosedCriticalStream, FrameUnexpected, Frame, ExcessiveLoad, Id, Settings, MissingSettings, RequestRejected, Message, Decompression, BufferedStreamRejected, SessionGone}
 
 -- its number
-abbrev pub number_of : ErrorCode → ℕ
-number_of Datagram = 0x33
-number_of NoError = 0x0100
-number_of StreamCreation = 0x0103
-number_of ClosedCriticalStream = 0x0104
-number_of FrameUnexpected = 0x0105
-number_of Frame = 0x0106
-number_of ExcessiveLoad = 0x0107
-number_of Id = 0x0108
-number_of Settings = 0x0109
-number_of MissingSettings = 0x010a
-number_of RequestRejected = 0x010b
-number_of Message = 0x010e
-number_of Decompression = 0x0200
-number_of BufferedStreamRejected = 0x3994bd84
-number_of SessionGone = 0x170d7b68
+abbrev pub code_number : ErrorCode → ℕ
+code_number Datagram = 0x33
+code_number NoError = 0x0100
+code_number StreamCreation = 0x0103
+code_number ClosedCriticalStream = 0x0104
+code_number FrameUnexpected = 0x0105
+code_number Frame = 0x0106
+code_number ExcessiveLoad = 0x0107
+code_number Id = 0x0108
+code_number Settings = 0x0109
+code_number MissingSettings = 0x010a
+code_number RequestRejected = 0x010b
+code_number Message = 0x010e
+code_number Decompression = 0x0200
+code_number BufferedStreamRejected = 0x3994bd84
+code_number SessionGone = 0x170d7b68
 
 -- what Display prints
 abbrev pub name_of : ErrorCode → List ℕ
@@ -42,4 +42,4 @@ name_of SessionGone = codes "SessionGone"
 
 -- what Debug prints
 abbrev pub debug_text_of : ErrorCode → List ℕ
-debug_text_of code = name_of code ++ codes " (code: " ++ decimal (number_of code) ++ codes ")"
+debug_text_of code = name_of code ++ codes " (code: " ++ decimal (code_number code) ++ codes ")"

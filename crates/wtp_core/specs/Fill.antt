@@ -1,5 +1,5 @@
 -- What filling a buffer does to a source.
-use Rattle.std.specs.Prelude.{◌≡◌, ℕ, ◌+◌, ◌<◌, ◌≤◌, List, [], ◌++◌, length, take, Option, Result, Ok, Err}
+use Rattle.std.specs.Prelude.{◌≡◌, ℕ, ◌+◌, ◌<◌, ◌≤◌, List, [], ◌++◌, length, Option, Some, None, Result, Ok, Err}
 use Rattle.wtp_core.specs.declared.polling.fill.Halt.{Halt}
 use Rattle.wtp_core.specs.declared.polling.fill.Halt.TheVariants as halt
 use Rattle.wtp_core.specs.declared.bytes.polled.Polled.{Polled}
@@ -35,14 +35,19 @@ FillMoves (Err h) held new a b = Gains held new a b 1 × HaltIsTrue h a b
 abbrev pub FillTells : {U : Type 0} → Result U Halt → List ℕ → List ℕ → Option Source → Option Source → Type 0
 FillTells r held new old now = Telling old now (λ a b. FillMoves r held new a b)
 
--- the same of one call, into a buffer that held nothing
-abbrev pub BeginMoves : Result ℕ Halt → List ℕ → Source → Source → Type 0
-BeginMoves (Ok n) buf a b = Gains [] (take n buf) a b 0
-BeginMoves (Err h) buf a b = Gains [] [] a b 1 × HaltIsTrue h a b
+-- the error of a reading that stopped after this many bytes were taken, if the source gives no more
+abbrev pub halt_fault : Halt → ℕ → Option IoReadError
+halt_fault halt.NotReady taken = None
+halt_fault halt.Fin taken = Some (stop taken AtEnd)
+halt_fault halt.Reset taken = Some (stop taken AtReset)
+halt_fault halt.NotConnected taken = Some (stop taken AtDisconnection)
 
--- the result of a poll whose reading stopped after this many bytes were taken
-abbrev pub halted_poll : {T : Type 0} → Halt → ℕ → Polled (Result T IoReadError)
-halted_poll halt.NotReady taken = Pending
-halted_poll halt.Fin taken = Ready (Err (stop taken AtEnd))
-halted_poll halt.Reset taken = Ready (Err (stop taken AtReset))
-halted_poll halt.NotConnected taken = Ready (Err (stop taken AtDisconnection))
+-- the result of a poll that stopped with this fault, or with none; `gives` says which errors a fault becomes
+abbrev pub HaltsAs : {T E : Type 0} → (IoReadError → E → Type 0) → Option IoReadError → Polled (Result T E) → Type 0
+HaltsAs gives None result = result ≡ Pending
+HaltsAs {E = E} gives (Some fault) result = (e : E) × gives fault e × (result ≡ Ready (Err e))
+
+-- the same where `wrap` makes the error of the fault
+abbrev pub halted_poll : {T E : Type 0} → (IoReadError → E) → Option IoReadError → Polled (Result T E)
+halted_poll wrap None = Pending
+halted_poll wrap (Some fault) = Ready (Err (wrap fault))

@@ -5,13 +5,14 @@ pub mod Writer
 pub mod BufferWriter
 pub mod Ids
 pub mod ErrorCodes
+pub mod ErrorScope
+pub mod ApplicationCodes
 pub mod VarintNeed
 pub mod Source
 pub mod Polled
 pub mod Fill
 pub mod Passing
-pub mod Getting
+pub mod Get
 pub mod GetBuffer
 pub mod Sink
-pub mod Drain
-pub mod Writing
+pub mod Put

@@ -6,6 +6,10 @@ use Rattle.wtp_core.specs.declared.bytes.source.ReadStep.TheVariants.{Bytes, Not
 use Rattle.wtp_core.specs.Source.{Source, AtEnd, AtReset, AtDisconnection, AsksOnce, Telling}
 use Rattle.wtp_core.specs.Fill.{HaltIsTrue}
 
+-- the most bytes that one poll skips
+abbrev pub max_passed : ℕ
+max_passed = 4096
+
 -- this many bytes were skipped, in at most as many calls and `extra` more
 pub record Passed (gone : ℕ) (a b : Source) (extra : ℕ) : Type 0 where
   pub there : gone ≤ length a.ahead

@@ -6,10 +6,10 @@ use Rattle.wtp_core.specs.declared.bytes.polled.IoReadError.{IoReadError}
 use Rattle.wtp_core.specs.declared.bytes.polled.IoReadError.TheVariants as read
 use Rattle.wtp_core.specs.declared.bytes.polled.IoWriteError.{IoWriteError}
 use Rattle.wtp_core.specs.declared.bytes.polled.IoWriteError.TheVariants as write
-use Rattle.wtp_core.specs.Source.{Source, Ending, AtEnd, AtReset, AtDisconnection}
+use Rattle.wtp_core.specs.Source.{Source, SourceEnding, AtEnd, AtReset, AtDisconnection}
 
 -- the error of a reading at this ending, if this many bytes were taken of what is read
-abbrev pub stop : ℕ → Ending → IoReadError
+abbrev pub stop : ℕ → SourceEnding → IoReadError
 stop taken AtEnd = if taken == 0 then read.ImmediateFin else read.UnexpectedFin
 stop taken AtReset = read.Reset
 stop taken AtDisconnection = read.NotConnected

@@ -4,16 +4,16 @@ use Rattle.wtp_core.specs.declared.bytes.source.ReadStep.{ReadStep}
 use Rattle.wtp_core.specs.declared.bytes.source.ReadStep.TheVariants.{Bytes, NotReady, Reset, NotConnected}
 
 -- how a source ends, once all that is ahead is taken
-pub data Ending : Type 0 where
-  AtEnd : Ending
-  AtReset : Ending
-  AtDisconnection : Ending
+pub data SourceEnding : Type 0 where
+  AtEnd : SourceEnding
+  AtReset : SourceEnding
+  AtDisconnection : SourceEnding
 
 -- the model of a source: the bytes ahead, how they end, a count that a call raises by at most one, and how often it was
 -- not ready so far
 pub record Source : Type 0 where
   pub ahead : List ℕ
-  pub ending : Ending
+  pub ending : SourceEnding
   pub asked : ℕ
   pub waits : ℕ
 
@@ -44,7 +44,7 @@ pub record AsksOnce (a b : Source) : Type 0 where
   pub no_less : a.asked ≤ b.asked
 
 -- nothing is ahead, before and after, and this is how the source ends
-pub record IsOver (a b : Source) (ending : Ending) : Type 0 where
+pub record IsOver (a b : Source) (ending : SourceEnding) : Type 0 where
   pub before : a.ahead ≡ []
   pub after : b.ahead ≡ []
   pub how : a.ending ≡ ending

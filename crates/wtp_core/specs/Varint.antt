@@ -11,7 +11,7 @@ unfoldable pub value_of : Width → List ℕ → ℕ
 value_of w bytes = from_be_bytes w bytes % 2 ^ (8 * byte_len w - 2)
 
 -- s is an encoding of v: its size is given by the two top bits of its first byte, and its other bits are v
-pub record Spells (v : ℕ) (s : List ℕ) : Type 0 where
+pub record Encodes (v : ℕ) (s : List ℕ) : Type 0 where
   pub size : length s ≡ byte_len (width_of (slice_index s 0))
   pub value : v ≡ value_of (width_of (slice_index s 0)) s
 

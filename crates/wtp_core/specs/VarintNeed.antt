@@ -9,8 +9,8 @@ abbrev pub varint_need : List ℕ → ℕ
 varint_need bytes = byte_len (width_of (slice_index bytes 0))
 
 -- the bytes are a proper prefix of a number's encoding
-abbrev pub IsCut : List ℕ → Type 0
-IsCut bytes = length bytes < varint_need bytes
+abbrev pub IsCutNumber : List ℕ → Type 0
+IsCutNumber bytes = length bytes < varint_need bytes
 
 -- ---- what readers that continue from these bytes rely on
 

@@ -1,7 +1,13 @@
 //! Error codes of HTTP/3 (RFC 9114, section 8.1), QPACK and WebTransport.
 ghost use Rattle.std.specs.Prelude.{◌≡◌};
 
+pub mod application_codes;
+mod number;
+mod scope;
+
 use crate::varint::VarInt;
+pub use number::UnknownErrorCode;
+pub use scope::ErrorScope;
 use std::fmt;
 
 /// HTTP/3 error codes.
@@ -100,11 +106,11 @@ pub enum ErrorCode {
 }
 
 impl ErrorCode {
-    ghost use Rattle.wtp_core.specs.ErrorCodes.{number_of, name_of};
+    ghost use Rattle.wtp_core.specs.ErrorCodes.{code_number, name_of};
 
     /// Returns the number on the wire.
     pub fn to_code(self) -> VarInt
-        ensures { result ≡ number_of self }
+        ensures { result ≡ code_number self }
     {
         match self {
             ErrorCode::Datagram => h3_error_codes::H3_DATAGRAM_ERROR,
@@ -163,7 +169,7 @@ impl fmt::Display for ErrorCode {
 
 impl fmt::Debug for ErrorCode {
     ghost use Rattle.std.specs.Prelude.{Some};
-    ghost use Rattle.wtp_core.specs.ErrorCodes.{name_of, number_of, debug_text_of};
+    ghost use Rattle.wtp_core.specs.ErrorCodes.{name_of, code_number, debug_text_of};
 
     ghost debug_output = { λ code. Some (debug_text_of code) };
 

@@ -4,29 +4,32 @@ ghost use Rattle.std.specs.Prelude.{◌≡◌, ℕ, ◌+◌, ◌-◌, ◌*◌, �
 ghost use Rattle.std.specs.Int.{Width, byte_len};
 ghost use Rattle.std.specs.Ordering.{nat_cmp};
 ghost use Rattle.std.specs.Hash as hashed;
-ghost use Rattle.wtp_core.specs.Varint.{Spells, width_of, number_at, shortest};
+ghost use Rattle.wtp_core.specs.Varint.{Encodes, width_of, number_at, shortest};
+
+mod codes;
 
 use crate::bytes::{BytesReader, EndOfBuffer, ParentReader};
 use crate::ids::{QStreamId, SessionId, StatusCode, StreamId};
 use crate::varint::VarInt;
+pub use codes::{application_and_back, application_codes, code_and_back, codes_have_numbers};
 use std::cmp::Ordering;
 use std::hash::{Hash, Hasher};
 
 /// An encoding at the start is read as its number, whatever follows.
-pub fn spelling_is_read()
-    ensures { (v : ℕ) (s rest : List ℕ) → Spells v s → number_at (s ++ rest) ≡ Some (v, rest) }
+pub fn encoding_is_read()
+    ensures { (v : ℕ) (s rest : List ℕ) → Encodes v s → number_at (s ++ rest) ≡ Some (v, rest) }
 {}
 
 /// What is read as a number is an encoding of it.
-pub fn read_is_spelling()
-    ensures { (v : ℕ) (bytes rest : List ℕ) → number_at bytes ≡ Some (v, rest) → (s : List ℕ) × Spells v s × (bytes ≡ s ++ rest) }
+pub fn read_is_encoding()
+    ensures { (v : ℕ) (bytes rest : List ℕ) → number_at bytes ≡ Some (v, rest) → (s : List ℕ) × Encodes v s × (bytes ≡ s ++ rest) }
 {}
 
 /// The shortest encoding is an encoding: none is shorter, and no other one is as short.
-pub fn shortest_is_spelling()
-    ensures spelling { (v : ℕ) → v < 2 ^ 62 → Spells v (shortest v) }
-    ensures least { (v : ℕ) (s : List ℕ) → Spells v s → length (shortest v) ≤ length s }
-    ensures only { (v : ℕ) (s : List ℕ) → Spells v s → ((i : ℕ) → slice_index s i < 256) → length s ≡ length (shortest v) → s ≡ shortest v }
+pub fn shortest_is_encoding()
+    ensures encoding { (v : ℕ) → v < 2 ^ 62 → Encodes v (shortest v) }
+    ensures least { (v : ℕ) (s : List ℕ) → Encodes v s → length (shortest v) ≤ length s }
+    ensures only { (v : ℕ) (s : List ℕ) → Encodes v s → ((i : ℕ) → slice_index s i < 256) → length s ≡ length (shortest v) → s ≡ shortest v }
 {}
 
 /// The size of an encoding is given by its first byte, and holds the number: 1, 2, 4 or 8 bytes,

@@ -1,7 +1,7 @@
 -- The result of a chain of readings.
 use Rattle.std.proofs.Common.{◌≡◌, ◌⊎◌, inl, inr, refl, List, ℕ, ap, Result, Ok, Err}
 use Rattle.wtp_fields.specs.declared.qpack.DecodingError.{DecodingError}
-use Rattle.wtp_fields.specs.Reading.{◌>>=◌}
+use Rattle.wtp_fields.specs.Qpack.{◌>>=◌}
 
 pub bind_ok : {A B : Type 0} (r : Result A DecodingError) (f : A → Result B DecodingError) (y : B) → (r >>= f) ≡ Ok y → (x : A) × (r ≡ Ok x) × (f x ≡ Ok y)
 bind_ok (Ok x) f y e = (x, refl, e)

@@ -9,7 +9,7 @@ use Rattle.std.specs.Cmp.Lexicographic.{slice_cmp}
 use Rattle.std.specs.Ordering.{nat_cmp, ordering_reverse}
 use Rattle.std.specs.declared.cmp.Ordering.{Ordering}
 use Rattle.std.specs.declared.cmp.Ordering.TheVariants.{Less, Equal, Greater}
-use Rattle.wtp_fields.specs.Field.{Field, IsMap, put, field_map, value_of, or_else, last_value}
+use Rattle.wtp_fields.specs.Field.{Field, IsMap, put, field_map, field_value, or_else, last_value}
 use Rattle.wtp_fields.proofs.StaticLemmas.{same_bytes}
 
 -- ---- the order of a map
@@ -78,7 +78,7 @@ map_ordered lines = ascends_to (fold put [] lines) (ascends_fold lines [] tt)
 
 -- ---- the values of a map
 
-pub value_put : (name : List ℕ) (x : Field) (es : List Field) → value_of name (put es x) ≡ cond (bytes_eq x.0 name) (Some x.1) (value_of name es)
+pub value_put : (name : List ℕ) (x : Field) (es : List Field) → field_value name (put es x) ≡ cond (bytes_eq x.0 name) (Some x.1) (field_value name es)
 value_put name x [] = refl
 value_put name x (e ∷ es) = by_cases (slice_cmp nat_cmp x.0 e.0) refl (value_put name x es)
   where
@@ -88,7 +88,7 @@ value_put name x (e ∷ es) = by_cases (slice_cmp nat_cmp x.0 e.0) refl (value_p
 
     -- of two names that differ at most one is the name
     apart : (b c : Bool) → bytes_eq e.0 name ≡ b → bytes_eq x.0 name ≡ c → slice_cmp nat_cmp x.0 e.0 ≡ Greater
-        → cond b (Some e.1) (cond c (Some x.1) (value_of name es)) ≡ cond c (Some x.1) (cond b (Some e.1) (value_of name es))
+        → cond b (Some e.1) (cond c (Some x.1) (field_value name es)) ≡ cond c (Some x.1) (cond b (Some e.1) (field_value name es))
     apart true true p q o =
         let same : x.0 ≡ e.0 = same_bytes x.0 name q ∙ sym (same_bytes e.0 name p) in
         cc (o, ap (λ z. slice_cmp nat_cmp z e.0) same, tied_itself nat_list_cmp_total e.0)
@@ -96,25 +96,25 @@ value_put name x (e ∷ es) = by_cases (slice_cmp nat_cmp x.0 e.0) refl (value_p
     apart false true p q o = refl
     apart false false p q o = refl
 
-    by_cases : (o : Ordering) → slice_cmp nat_cmp x.0 e.0 ≡ o → value_of name (put es x) ≡ cond (bytes_eq x.0 name) (Some x.1) (value_of name es)
-        → value_of name (put (e ∷ es) x) ≡ cond (bytes_eq x.0 name) (Some x.1) (value_of name (e ∷ es))
+    by_cases : (o : Ordering) → slice_cmp nat_cmp x.0 e.0 ≡ o → field_value name (put es x) ≡ cond (bytes_eq x.0 name) (Some x.1) (field_value name es)
+        → field_value name (put (e ∷ es) x) ≡ cond (bytes_eq x.0 name) (Some x.1) (field_value name (e ∷ es))
     by_cases Less o later = rw o refl
     by_cases Equal o later =
         let same : x.0 ≡ e.0 = exact_bytes x.0 e.0 o in
-        rw (o, same) (twice (bytes_eq e.0 name) (Some x.1) (Some e.1) (value_of name es))
+        rw (o, same) (twice (bytes_eq e.0 name) (Some x.1) (Some e.1) (field_value name es))
     by_cases Greater o later = rw (o, later) (apart (bytes_eq e.0 name) (bytes_eq x.0 name) refl refl o)
 
-value_fold : (name : List ℕ) (lines es : List Field) → value_of name (fold put es lines) ≡ or_else (last_value name lines) (value_of name es)
+value_fold : (name : List ℕ) (lines es : List Field) → field_value name (fold put es lines) ≡ or_else (last_value name lines) (field_value name es)
 value_fold name [] es = refl
 value_fold name (x ∷ lines) es =
     value_fold name lines (put es x) ∙ ap (or_else (last_value name lines)) (value_put name x es) ∙ joined (last_value name lines) (bytes_eq x.0 name)
   where
-    joined : (o : Option (List ℕ)) (b : Bool) → or_else o (cond b (Some x.1) (value_of name es)) ≡ or_else (or_else o (cond b (Some x.1) None)) (value_of name es)
+    joined : (o : Option (List ℕ)) (b : Bool) → or_else o (cond b (Some x.1) (field_value name es)) ≡ or_else (or_else o (cond b (Some x.1) None)) (field_value name es)
     joined (Some v) b = refl
     joined None true = refl
     joined None false = refl
 
-pub map_last : (lines : List Field) (name : List ℕ) → value_of name (field_map lines) ≡ last_value name lines
+pub map_last : (lines : List Field) (name : List ℕ) → field_value name (field_map lines) ≡ last_value name lines
 unfolding field_map
 map_last lines name = value_fold name lines [] ∙ nothing (last_value name lines)
   where
@@ -128,16 +128,16 @@ pub put_first : (x : Field) (es : List Field) → Below x.0 es → put es x ≡ 
 put_first x [] h = refl
 put_first x (e ∷ es) h = rw h.0 refl
 
-pub put_behind : (x y : Field) (es : List Field) → slice_cmp nat_cmp x.0 y.0 ≡ Less → put (x ∷ es) y ≡ x ∷ put es y
-put_behind x y es h = rw (reversed x.0 y.0 Less h) refl
+pub put_after : (x y : Field) (es : List Field) → slice_cmp nat_cmp x.0 y.0 ≡ Less → put (x ∷ es) y ≡ x ∷ put es y
+put_after x y es h = rw (reversed x.0 y.0 Less h) refl
 
-pub fold_behind : (x : Field) (es ys : List Field) → Below x.0 ys → fold put (x ∷ es) ys ≡ x ∷ fold put es ys
-fold_behind x es [] h = refl
-fold_behind x es (y ∷ ys) h = ap (λ z. fold put z ys) (put_behind x y es h.0) ∙ fold_behind x (put es y) ys h.1
+pub fold_after : (x : Field) (es ys : List Field) → Below x.0 ys → fold put (x ∷ es) ys ≡ x ∷ fold put es ys
+fold_after x es [] h = refl
+fold_after x es (y ∷ ys) h = ap (λ z. fold put z ys) (put_after x y es h.0) ∙ fold_after x (put es y) ys h.1
 
 pub built : (m : List Field) → Ascends m → fold put [] m ≡ m
 built [] h = refl
-built (x ∷ m) h = fold_behind x [] m h.0 ∙ ap (λ z. x ∷ z) (built m h.1)
+built (x ∷ m) h = fold_after x [] m h.0 ∙ ap (λ z. x ∷ z) (built m h.1)
 
 pub map_kept : (m : List Field) → IsMap m → field_map m ≡ m
 unfolding field_map

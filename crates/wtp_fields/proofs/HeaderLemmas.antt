@@ -7,7 +7,7 @@ use Rattle.std.proofs.lemmas.Str.{IsUtf8-string_bytes}
 use Rattle.std.specs.Borrow.{Bor}
 use Rattle.std.specs.BTreeMap.{is_at}
 use Rattle.std.specs.Cmp.Lexicographic.{slice_cmp}
-use Rattle.std.specs.List.{AllByRecursion}
+use Rattle.std.specs.List.{AllByRecursion, AllZip}
 use Rattle.std.specs.List.Sorted.{IsStrictlySortedBy}
 use Rattle.std.specs.Map.{lookup}
 use Rattle.std.specs.Ordering.{nat_cmp, is_eq, ordering_reverse}
@@ -15,7 +15,7 @@ use Rattle.std.specs.Str.{bytes_eq}
 use Rattle.std.specs.String.{string_cmp}
 use Rattle.std.specs.declared.cmp.Ordering.{Ordering}
 use Rattle.std.specs.declared.cmp.Ordering.TheVariants.{Less, Equal, Greater}
-use Rattle.wtp_fields.specs.Field.{Field, IsText, AreTexts, IsMap, held_field, lent, put, field_map, value_of}
+use Rattle.wtp_fields.specs.Field.{Field, IsText, AreTexts, IsMap, field_of, fields_of_texts, put, field_map, field_value}
 use Rattle.wtp_fields.proofs.SectionReading.{map_push}
 
 -- ---- the value of a name
@@ -34,7 +34,7 @@ chosen f false x r = refl
 
 -- the value at a text among the entries is the value of the name
 pub value_found : (name : List ℕ) (es : List (String Global × String Global))
-    → option_map string_bytes (lookup (is_at (λ k. slice_cmp nat_cmp name (string_bytes k))) es) ≡ value_of name (map held_field es)
+    → option_map string_bytes (lookup (is_at (λ k. slice_cmp nat_cmp name (string_bytes k))) es) ≡ field_value name (map field_of es)
 value_found name [] = refl
 value_found name (e ∷ es) =
     chosen string_bytes (is_at (λ k. slice_cmp nat_cmp name (string_bytes k)) e.0) e.1 (lookup (is_at (λ k. slice_cmp nat_cmp name (string_bytes k))) es)
@@ -43,11 +43,11 @@ value_found name (e ∷ es) =
 -- ---- what holds of each map
 
 below : (k : String Global) (es : List (String Global × String Global)) → AllByRecursion (λ y. string_cmp k y ≡ Less) (map (λ (e : String Global × String Global). e.0) es)
-    → AllByRecursion (λ y. slice_cmp nat_cmp (string_bytes k) y ≡ Less) (map (λ (field : Field). field.0) (map held_field es))
+    → AllByRecursion (λ y. slice_cmp nat_cmp (string_bytes k) y ≡ Less) (map (λ (field : Field). field.0) (map field_of es))
 below k [] h = tt
 below k (e ∷ es) h = (h.0, below k es h.1)
 
-pub held_ordered : (es : List (String Global × String Global)) → IsStrictlySortedBy string_cmp (map (λ (e : String Global × String Global). e.0) es) → IsMap (map held_field es)
+pub held_ordered : (es : List (String Global × String Global)) → IsStrictlySortedBy string_cmp (map (λ (e : String Global × String Global). e.0) es) → IsMap (map field_of es)
 unfolding IsStrictlySortedBy
 held_ordered [] h = h
 held_ordered (e ∷ es) h = (below e.0 es h.0, held_ordered es h.1)
@@ -55,11 +55,19 @@ held_ordered (e ∷ es) h = (below e.0 es h.0, held_ordered es h.1)
 is_text : (s : String Global) → IsText (string_bytes s)
 is_text s = record { utf8 = IsUtf8-string_bytes s; few = omega (arith, s.bytes.small, s.bytes.ok) }
 
-pub held_texts : (es : List (String Global × String Global)) → AreTexts (map held_field es)
+pub held_texts : (es : List (String Global × String Global)) → AreTexts (map field_of es)
 held_texts [] = tt
 held_texts (e ∷ es) = (is_text e.0, is_text e.1, held_texts es)
 
 -- ---- one more pair
 
-pub lent_push : (ps : List (Bor (List ℕ) × Bor (List ℕ))) (p : Bor (List ℕ) × Bor (List ℕ)) → field_map (lent (ps ++ p ∷ [])) ≡ put (field_map (lent ps)) (p.0.now, p.1.now)
-lent_push ps p = ap field_map (map-append (λ (e : Bor (List ℕ) × Bor (List ℕ)). (e.0.now, e.1.now)) ps (p ∷ [])) ∙ map_push (lent ps) (p.0.now, p.1.now)
+pub lent_push : (ps : List (Bor (List ℕ) × Bor (List ℕ))) (p : Bor (List ℕ) × Bor (List ℕ)) → field_map (fields_of_texts (ps ++ p ∷ [])) ≡ put (field_map (fields_of_texts ps)) (p.0.now, p.1.now)
+lent_push ps p = ap field_map (map-append (λ (e : Bor (List ℕ) × Bor (List ℕ)). (e.0.now, e.1.now)) ps (p ∷ [])) ∙ map_push (fields_of_texts ps) (p.0.now, p.1.now)
+
+-- the copy of a map has the same fields
+pub held_clone : (xs ys : List (String Global × String Global))
+    → AllZip (λ p q. (string_bytes q.0 ≡ string_bytes p.0) × (string_bytes q.1 ≡ string_bytes p.1)) xs ys → map field_of ys ≡ map field_of xs
+held_clone [] [] all = refl
+held_clone [] (y ∷ ys) all = absurd all
+held_clone (x ∷ xs) [] all = absurd all
+held_clone (x ∷ xs) (y ∷ ys) all = rw (all.0.0, all.0.1, held_clone xs ys all.1) refl

@@ -4,7 +4,7 @@ use Rattle.std.proofs.lemmas.Bool.{cases_lt, cases_eq, lt-leb, le-leb, lt-ltb, l
 use Rattle.std.proofs.lemmas.Nat.{pow-add, pow_pos, mod_low}
 use Rattle.wtp_fields.specs.declared.qpack.DecodingError.{DecodingError}
 use Rattle.wtp_fields.specs.declared.qpack.DecodingError.TheVariants.{UnexpectedFin, IntegerOverflow}
-use Rattle.wtp_fields.specs.Integer.{AreOpen, AreClosed, groups_value, IsInt, IsOverflow, IsCut, groups_at, integer_at, shortest_groups, shortest_int}
+use Rattle.wtp_fields.specs.Integer.{AreOpen, AreClosed, groups_value, IsInt, IsOverflow, IsCutInteger, groups_at, integer_at, shortest_groups, shortest_int}
 use Rattle.wtp_fields.proofs.IntegerWriting.{power}
 
 -- one group and those after it
@@ -57,7 +57,7 @@ pub record Whole (bytes : List ℕ) (sum k : ℕ) : Type 0 where
   pub groups : List ℕ
   pub rest : List ℕ
   pub closed : AreClosed groups
-  pub spelled : bytes ≡ groups ++ rest
+  pub parts : bytes ≡ groups ++ rest
   pub fits : sum + groups_value groups * 2 ^ (7 * k) < 2 ^ 64
 
 pub record Over (bytes : List ℕ) (sum k : ℕ) : Type 0 where
@@ -65,7 +65,7 @@ pub record Over (bytes : List ℕ) (sum k : ℕ) : Type 0 where
   pub last : ℕ
   pub rest : List ℕ
   pub open_groups : AreOpen groups
-  pub spelled : bytes ≡ (groups ++ last ∷ []) ++ rest
+  pub parts : bytes ≡ (groups ++ last ∷ []) ++ rest
   pub within : sum + groups_value groups * 2 ^ (7 * k) < 2 ^ 64
   pub past : 2 ^ 64 ≤ sum + groups_value (groups ++ last ∷ []) * 2 ^ (7 * k)
 
@@ -82,17 +82,17 @@ one_of [] sum k small = inr (inr (record { open_groups = tt; within = omega arit
 one_of (g ∷ gs) sum k small = elim (cases_lt (sum + g % 128 * 2 ^ (7 * k)) (2 ^ 64)) [
   | inr past ↦
       let low : g % 128 + 128 * 0 ≡ g % 128 = omega arith in
-      inr (inl (record { groups = []; last = g; rest = gs; open_groups = tt; spelled = refl; within = omega arith; past = rw low past }))
+      inr (inl (record { groups = []; last = g; rest = gs; open_groups = tt; parts = refl; within = omega arith; past = rw low past }))
   | inl fits ↦ elim (cases_lt g 128) [
     | inl last ↦
         let low : g % 128 + 128 * 0 ≡ g % 128 = omega arith in
-        inl (record { groups = g ∷ []; rest = gs; closed = last; spelled = refl; fits = rw low fits })
+        inl (record { groups = g ∷ []; rest = gs; closed = last; parts = refl; fits = rw low fits })
     | inr on ↦ elim (one_of gs (sum + g % 128 * 2 ^ (7 * k)) (suc k) fits) [
       | inl whole ↦ inl (record {
         groups = g ∷ whole.groups;
         rest = whole.rest;
         closed = closed_more g whole.groups on whole.closed;
-        spelled = ap (λ z. g ∷ z) whole.spelled;
+        parts = ap (λ z. g ∷ z) whole.parts;
         fits = rw (split sum k g (groups_value whole.groups)) whole.fits;
       })
       | inr other ↦ elim other [
@@ -101,7 +101,7 @@ one_of (g ∷ gs) sum k small = elim (cases_lt (sum + g % 128 * 2 ^ (7 * k)) (2 
           last = over.last;
           rest = over.rest;
           open_groups = (on, over.open_groups);
-          spelled = ap (λ z. g ∷ z) over.spelled;
+          parts = ap (λ z. g ∷ z) over.parts;
           within = rw (split sum k g (groups_value over.groups)) over.within;
           past = rw (split sum k g (groups_value (over.groups ++ over.last ∷ []))) over.past;
         }))
@@ -134,11 +134,11 @@ int_read n v (b ∷ g ∷ gs) rest (ones, closed, value, small) =
 
 pub overflow_read : (n : ℕ) (s rest : List ℕ) → IsOverflow n s → integer_at n (s ++ rest) ≡ Err IntegerOverflow
 overflow_read n s rest h =
-    ap (λ z. integer_at n (z ++ rest)) h.spelled
+    ap (λ z. integer_at n (z ++ rest)) h.parts
     ∙ ones_first n h.first ((h.groups ++ h.last ∷ []) ++ rest) h.ones
     ∙ groups_over h.groups h.last rest (2 ^ n - 1) 0 h.open_groups (rw (once (2 ^ n - 1) (groups_value h.groups)) h.within) (rw (once (2 ^ n - 1) (groups_value (h.groups ++ h.last ∷ []))) h.past)
 
-pub cut_read : (n : ℕ) (s : List ℕ) → IsCut n s → integer_at n s ≡ Err UnexpectedFin
+pub cut_read : (n : ℕ) (s : List ℕ) → IsCutInteger n s → integer_at n s ≡ Err UnexpectedFin
 unfolding integer_at
 cut_read n [] h = refl
 cut_read n (b ∷ gs) (ones, open_groups, within) = ones_first n b gs ones ∙ groups_cut gs (2 ^ n - 1) 0 open_groups (rw (once (2 ^ n - 1) (groups_value gs)) within)
@@ -146,50 +146,50 @@ cut_read n (b ∷ gs) (ones, open_groups, within) = ones_first n b gs ones ∙ g
 -- what a prefix of the bytes is
 pub record Front (n : ℕ) (bytes : List ℕ) : Type 0 where
   pub value : ℕ
-  pub spelling : List ℕ
+  pub encoding : List ℕ
   pub rest : List ℕ
-  pub is_int : IsInt n value spelling
-  pub spelled : bytes ≡ spelling ++ rest
+  pub is_int : IsInt n value encoding
+  pub parts : bytes ≡ encoding ++ rest
 
 pub record Passed (n : ℕ) (bytes : List ℕ) : Type 0 where
-  pub spelling : List ℕ
+  pub encoding : List ℕ
   pub rest : List ℕ
-  pub is_overflow : IsOverflow n spelling
-  pub spelled : bytes ≡ spelling ++ rest
+  pub is_overflow : IsOverflow n encoding
+  pub parts : bytes ≡ encoding ++ rest
 
 long_int : (n b : ℕ) (gs : List ℕ) → b % 2 ^ n ≡ 2 ^ n - 1 → AreClosed gs → 2 ^ n - 1 + groups_value gs < 2 ^ 64 → IsInt n (2 ^ n - 1 + groups_value gs) (b ∷ gs)
 long_int n b [] ones h small = absurd h
 long_int n b (g ∷ gs) ones h small = (ones, h, refl, small)
 
-pub int_cases : (n : ℕ) (bytes : List ℕ) → n ≤ 8 → Front n bytes ⊎ (Passed n bytes ⊎ IsCut n bytes)
+pub int_cases : (n : ℕ) (bytes : List ℕ) → n ≤ 8 → Front n bytes ⊎ (Passed n bytes ⊎ IsCutInteger n bytes)
 int_cases n [] few = inr (inr tt)
 int_cases n (b ∷ bs) few = elim (cases_eq (b % 2 ^ n) (2 ^ n - 1)) [
   | inr other ↦
       let below : b % 2 ^ n < 2 ^ n - 1 = omega (arith, pow_pos n, other) in
-      inl (record { value = b % 2 ^ n; spelling = b ∷ []; rest = bs; is_int = (refl, below); spelled = refl })
+      inl (record { value = b % 2 ^ n; encoding = b ∷ []; rest = bs; is_int = (refl, below); parts = refl })
   | inl ones ↦ elim (one_of bs (2 ^ n - 1) 0 (small n few)) [
     | inl whole ↦ inl (record {
       value = 2 ^ n - 1 + groups_value whole.groups;
-      spelling = b ∷ whole.groups;
+      encoding = b ∷ whole.groups;
       rest = whole.rest;
       is_int = long_int n b whole.groups ones whole.closed (rw (once (2 ^ n - 1) (groups_value whole.groups)) at whole.fits);
-      spelled = ap (λ z. b ∷ z) whole.spelled;
+      parts = ap (λ z. b ∷ z) whole.parts;
     })
     | inr other ↦ elim other [
       | inl over ↦ inr (inl (record {
-        spelling = b ∷ (over.groups ++ over.last ∷ []);
+        encoding = b ∷ (over.groups ++ over.last ∷ []);
         rest = over.rest;
         is_overflow = record {
           first = b;
           groups = over.groups;
           last = over.last;
-          spelled = refl;
+          parts = refl;
           ones = ones;
           open_groups = over.open_groups;
           within = rw (once (2 ^ n - 1) (groups_value over.groups)) at over.within;
           past = rw (once (2 ^ n - 1) (groups_value (over.groups ++ over.last ∷ []))) at over.past;
         };
-        spelled = ap (λ z. b ∷ z) over.spelled;
+        parts = ap (λ z. b ∷ z) over.parts;
       }))
       | inr ends ↦ inr (inr (ones, ends.open_groups, rw (once (2 ^ n - 1) (groups_value bs)) at ends.within))
     ]
@@ -206,40 +206,40 @@ int_cases n (b ∷ bs) few = elim (cases_eq (b % 2 ^ n) (2 ^ n - 1)) [
 pub int_found : (n v : ℕ) (bytes rest : List ℕ) → n ≤ 8 → integer_at n bytes ≡ Ok (v, rest) → (s : List ℕ) × IsInt n v s × (bytes ≡ s ++ rest)
 int_found n v bytes rest few e = elim (int_cases n bytes few) [
   | inl front ↦
-      let read : integer_at n bytes ≡ Ok (front.value, front.rest) = ap (integer_at n) front.spelled ∙ int_read n front.value front.spelling front.rest front.is_int in
+      let read : integer_at n bytes ≡ Ok (front.value, front.rest) = ap (integer_at n) front.parts ∙ int_read n front.value front.encoding front.rest front.is_int in
       let pair : ◌≡◌ {A = ℕ × List ℕ} (front.value, front.rest) (v, rest) = cc (read, e) in
       let value : front.value ≡ v = ap (λ (p : ℕ × List ℕ). p.0) pair in
       let behind : front.rest ≡ rest = ap (λ (p : ℕ × List ℕ). p.1) pair in
-      (front.spelling, subst (λ z. IsInt n z front.spelling) value front.is_int, front.spelled ∙ ap (λ z. front.spelling ++ z) behind)
+      (front.encoding, subst (λ z. IsInt n z front.encoding) value front.is_int, front.parts ∙ ap (λ z. front.encoding ++ z) behind)
   | inr other ↦ elim other [
-    | inl passed ↦ cc (ap (integer_at n) passed.spelled ∙ overflow_read n passed.spelling passed.rest passed.is_overflow, e)
+    | inl passed ↦ cc (ap (integer_at n) passed.parts ∙ overflow_read n passed.encoding passed.rest passed.is_overflow, e)
     | inr cut ↦ cc (cut_read n bytes cut, e)
   ]
 ]
 
 pub overflow_found : (n : ℕ) (bytes : List ℕ) → n ≤ 8 → integer_at n bytes ≡ Err IntegerOverflow → (s : List ℕ) × (rest : List ℕ) × IsOverflow n s × (bytes ≡ s ++ rest)
 overflow_found n bytes few e = elim (int_cases n bytes few) [
-  | inl front ↦ cc (ap (integer_at n) front.spelled ∙ int_read n front.value front.spelling front.rest front.is_int, e)
+  | inl front ↦ cc (ap (integer_at n) front.parts ∙ int_read n front.value front.encoding front.rest front.is_int, e)
   | inr other ↦ elim other [
-    | inl passed ↦ (passed.spelling, passed.rest, passed.is_overflow, passed.spelled)
+    | inl passed ↦ (passed.encoding, passed.rest, passed.is_overflow, passed.parts)
     | inr cut ↦ cc (cut_read n bytes cut, e)
   ]
 ]
 
-pub cut_found : (n : ℕ) (bytes : List ℕ) → n ≤ 8 → integer_at n bytes ≡ Err UnexpectedFin → IsCut n bytes
+pub cut_found : (n : ℕ) (bytes : List ℕ) → n ≤ 8 → integer_at n bytes ≡ Err UnexpectedFin → IsCutInteger n bytes
 cut_found n bytes few e = elim (int_cases n bytes few) [
-  | inl front ↦ cc (ap (integer_at n) front.spelled ∙ int_read n front.value front.spelling front.rest front.is_int, e)
+  | inl front ↦ cc (ap (integer_at n) front.parts ∙ int_read n front.value front.encoding front.rest front.is_int, e)
   | inr other ↦ elim other [
-    | inl passed ↦ cc (ap (integer_at n) passed.spelled ∙ overflow_read n passed.spelling passed.rest passed.is_overflow, e)
+    | inl passed ↦ cc (ap (integer_at n) passed.parts ∙ overflow_read n passed.encoding passed.rest passed.is_overflow, e)
     | inr cut ↦ cut
   ]
 ]
 
 pub int_faults : (n : ℕ) (bytes : List ℕ) (e : DecodingError) → n ≤ 8 → integer_at n bytes ≡ Err e → (e ≡ UnexpectedFin) ⊎ (e ≡ IntegerOverflow)
 int_faults n bytes f few e = elim (int_cases n bytes few) [
-  | inl front ↦ cc (ap (integer_at n) front.spelled ∙ int_read n front.value front.spelling front.rest front.is_int, e)
+  | inl front ↦ cc (ap (integer_at n) front.parts ∙ int_read n front.value front.encoding front.rest front.is_int, e)
   | inr other ↦ elim other [
-    | inl passed ↦ inr (cc (ap (integer_at n) passed.spelled ∙ overflow_read n passed.spelling passed.rest passed.is_overflow, e))
+    | inl passed ↦ inr (cc (ap (integer_at n) passed.parts ∙ overflow_read n passed.encoding passed.rest passed.is_overflow, e))
     | inr cut ↦ inl (cc (cut_read n bytes cut, e))
   ]
 ]

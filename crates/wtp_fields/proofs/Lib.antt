@@ -7,6 +7,7 @@ pub mod StringBits
 pub mod StringReading
 pub mod StringWriting
 pub mod LineReading
+pub mod LineTexts
 pub mod SectionReading
 pub mod SectionWriting
 pub mod FieldMaps

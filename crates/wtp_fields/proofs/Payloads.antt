@@ -6,7 +6,7 @@ use Rattle.wtp_fields.specs.Field.{Field, AreTexts, IsMap, put, field_map}
 use Rattle.wtp_fields.specs.FieldLine.{encoded_line}
 use Rattle.wtp_fields.specs.FieldSection.{map_at, section_of}
 use Rattle.wtp_fields.specs.Headers.{is_pseudo, sent_order, payload, group_lines}
-use Rattle.wtp_fields.proofs.FieldMaps.{Below, Ascends, ascends_from, put_first, fold_behind, built}
+use Rattle.wtp_fields.proofs.FieldMaps.{Below, Ascends, ascends_from, put_first, fold_after, built}
 use Rattle.wtp_fields.proofs.RoundTrip.{section_again}
 
 -- an empty prefix and the two groups are the payload
@@ -40,8 +40,8 @@ merged p (x ∷ m) (low, ascends) =
     let back : List Field = filter (λ x. not (p x)) m in
     let behind : Below x.0 back = below_filter x.0 (λ x. not (p x)) m low in
     elim (p x) as (λ b. fold put (cond b (x ∷ front) front) (cond (not b) (x ∷ back) back) ≡ x ∷ m) [
-      | true ↦ fold_behind x front back behind ∙ ap (λ z. x ∷ z) (merged p m ascends)
-      | false ↦ ap (λ z. fold put z back) (put_first x front (below_filter x.0 p m low)) ∙ fold_behind x front back behind ∙ ap (λ z. x ∷ z) (merged p m ascends)
+      | true ↦ fold_after x front back behind ∙ ap (λ z. x ∷ z) (merged p m ascends)
+      | false ↦ ap (λ z. fold put z back) (put_first x front (below_filter x.0 p m low)) ∙ fold_after x front back behind ∙ ap (λ z. x ∷ z) (merged p m ascends)
     ]
 
 pub order_back : (m : List Field) → IsMap m → field_map (sent_order m) ≡ m

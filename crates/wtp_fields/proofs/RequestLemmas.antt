@@ -9,8 +9,8 @@ use Rattle.url.specs.Parts.{Parts, text_between}
 use Rattle.url.specs.declared.slicing.Position.TheVariants.{BeforeUsername, AfterPort}
 use Rattle.wtp_fields.specs.declared.session.HeadersParseError.{HeadersParseError}
 use Rattle.wtp_fields.specs.declared.session.HeadersParseError.TheVariants.{MissingMethod, MethodNotConnect, MissingScheme, SchemeNotHttps, MissingProtocol, ProtocolNotWebTransport, MissingAuthority, MissingPath}
-use Rattle.wtp_fields.specs.Field.{Field, put, value_of}
-use Rattle.wtp_fields.specs.SessionRequest.{reserved_names, is_reserved, fault_unless, fault_without, first_fault, fault_of, authority_of, five_fields}
+use Rattle.wtp_fields.specs.Field.{Field, put, field_value}
+use Rattle.wtp_fields.specs.SessionRequest.{reserved_names, is_reserved_name, fault_unless, fault_without, first_fault, fault_of, authority_of, five_fields}
 use Rattle.wtp_fields.proofs.FieldMaps.{map_last, value_put}
 use Rattle.wtp_fields.proofs.HeaderLemmas.{eq_turned}
 
@@ -26,18 +26,18 @@ has_value missing (Some value) e = refl
 
 -- the two fields whose values are free
 pub record HasFields (m : List Field) : Type 0 where
-  pub authority : IsSome (value_of (codes ":authority") m)
-  pub path : IsSome (value_of (codes ":path") m)
+  pub authority : IsSome (field_value (codes ":authority") m)
+  pub path : IsSome (field_value (codes ":path") m)
 
 pub faultless_has : (m : List Field) → fault_of m ≡ None → HasFields m
 unfolding fault_of
 faultless_has m e =
-    let scheme = first_none (fault_unless (codes "CONNECT") MissingMethod MethodNotConnect (value_of (codes ":method") m)) _ e in
-    let protocol = first_none (fault_unless (codes "https") MissingScheme SchemeNotHttps (value_of (codes ":scheme") m)) _ scheme.1 in
-    let authority = first_none (fault_unless (codes "webtransport") MissingProtocol ProtocolNotWebTransport (value_of (codes ":protocol") m)) _ protocol.1 in
-    let path = first_none (fault_without MissingAuthority (value_of (codes ":authority") m)) _ authority.1 in
-    let last = first_none (fault_without MissingPath (value_of (codes ":path") m)) _ path.1 in
-    record { authority = has_value MissingAuthority (value_of (codes ":authority") m) path.0; path = has_value MissingPath (value_of (codes ":path") m) last.0 }
+    let scheme = first_none (fault_unless (codes "CONNECT") MissingMethod MethodNotConnect (field_value (codes ":method") m)) _ e in
+    let protocol = first_none (fault_unless (codes "https") MissingScheme SchemeNotHttps (field_value (codes ":scheme") m)) _ scheme.1 in
+    let authority = first_none (fault_unless (codes "webtransport") MissingProtocol ProtocolNotWebTransport (field_value (codes ":protocol") m)) _ protocol.1 in
+    let path = first_none (fault_without MissingAuthority (field_value (codes ":authority") m)) _ authority.1 in
+    let last = first_none (fault_without MissingPath (field_value (codes ":path") m)) _ path.1 in
+    record { authority = has_value MissingAuthority (field_value (codes ":authority") m) path.0; path = has_value MissingPath (field_value (codes ":path") m) last.0 }
 
 -- what is borrowed of a value is there if the value is
 pub lent_some : (o : Option (Bor (List ℕ))) (value : Option (List ℕ)) → option_copied o ≡ value → IsSome value → IsSome o
@@ -58,8 +58,8 @@ or_right : (a b : Bool) → (a || b) ≡ false → b ≡ false
 or_right true b e = cc e
 or_right false b e = e
 
-other_value : (m : List Field) (field : Field) (name : List ℕ) → bytes_eq name field.0 ≡ false → value_of name (put m field) ≡ value_of name m
-other_value m field name other = value_put name field m ∙ ap (λ b. cond b (Some field.1) (value_of name m)) (eq_sym field.0 name ∙ other)
+other_value : (m : List Field) (field : Field) (name : List ℕ) → bytes_eq name field.0 ≡ false → field_value name (put m field) ≡ field_value name m
+other_value m field name other = value_put name field m ∙ ap (λ b. cond b (Some field.1) (field_value name m)) (eq_sym field.0 name ∙ other)
 
 -- the tests of a name among names, each in turn
 first_other : (name reserved : List ℕ) (names : List (List ℕ)) → list_any (λ reserved. bytes_eq reserved name) (reserved ∷ names) ≡ false
@@ -67,7 +67,7 @@ first_other : (name reserved : List ℕ) (names : List (List ℕ)) → list_any 
 first_other name reserved names e =
     (or_left (bytes_eq reserved name) (list_any (λ reserved. bytes_eq reserved name) names) e, or_right (bytes_eq reserved name) (list_any (λ reserved. bytes_eq reserved name) names) e)
 
-pub fault_kept : (m : List Field) (field : Field) → is_reserved field.0 ≡ false → fault_of (put m field) ≡ fault_of m
+pub fault_kept : (m : List Field) (field : Field) → is_reserved_name field.0 ≡ false → fault_of (put m field) ≡ fault_of m
 unfolding fault_of
 fault_kept m field other =
     let method = first_other field.0 (codes ":method") (drop 1 reserved_names) other in

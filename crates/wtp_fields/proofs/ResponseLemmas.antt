@@ -6,7 +6,7 @@ use Rattle.std.specs.Str.{bytes_eq}
 use Rattle.std.specs.Str.Parse.{without_leading_plus}
 use Rattle.wtp_core.specs.Ids.{IsStatus, IsStatusText, status_in}
 use Rattle.wtp_fields.specs.Field.{Field, put}
-use Rattle.wtp_fields.specs.SessionResponse.{status_of, HasStatus}
+use Rattle.wtp_fields.specs.SessionResponse.{status_value, HasStatus}
 use Rattle.wtp_fields.proofs.FieldMaps.{value_put}
 
 -- ---- the status of a map
@@ -14,26 +14,26 @@ use Rattle.wtp_fields.proofs.FieldMaps.{value_put}
 -- the text of a status
 pub record StatusText (m : List Field) : Type 0 where
   pub text : List ℕ
-  pub there : status_of m ≡ Some text
+  pub there : status_value m ≡ Some text
   pub good : IsStatusText text
 
 pub status_text : (m : List Field) → HasStatus m → StatusText m
 unfolding HasStatus
-status_text m has = by_value (status_of m) refl has
+status_text m has = by_value (status_value m) refl has
   where
-    by_value : (o : Option (List ℕ)) → status_of m ≡ o → IsSomeAnd o IsStatusText → StatusText m
+    by_value : (o : Option (List ℕ)) → status_value m ≡ o → IsSomeAnd o IsStatusText → StatusText m
     by_value (Some text) e good = record { text = text; there = e; good = good }
     by_value None e good = absurd good
 
-pub has_status : (m : List Field) (text : List ℕ) → status_of m ≡ Some text → IsStatusText text → HasStatus m
+pub has_status : (m : List Field) (text : List ℕ) → status_value m ≡ Some text → IsStatusText text → HasStatus m
 unfolding HasStatus
 has_status m text there good = subst (λ o. IsSomeAnd o IsStatusText) (sym there) good
 
-pub status_there : (m : List Field) → HasStatus m → IsSome (status_of m)
+pub status_there : (m : List Field) → HasStatus m → IsSome (status_value m)
 status_there m has = ap is_some (status_text m has).there
 
 -- the text of a status is that of a code
-pub status_good : (m : List Field) (text : List ℕ) → HasStatus m → status_of m ≡ Some text → IsStatusText text
+pub status_good : (m : List Field) (text : List ℕ) → HasStatus m → status_value m ≡ Some text → IsStatusText text
 status_good m text has there =
     let status = status_text m has in
     let both : ◌≡◌ {A = Option (List ℕ)} (Some status.text) (Some text) = sym status.there ∙ there in
@@ -54,11 +54,11 @@ parsed_good (Err f) value given e = cc e
 pub status_kept : (m : List Field) (field : Field) → HasStatus m → bytes_eq field.0 (codes ":status") ≡ false → HasStatus (put m field)
 status_kept m field has other =
     let status = status_text m has in
-    has_status (put m field) status.text (value_put (codes ":status") field m ∙ ap (λ b. cond b (Some field.1) (status_of m)) other ∙ status.there) status.good
+    has_status (put m field) status.text (value_put (codes ":status") field m ∙ ap (λ b. cond b (Some field.1) (status_value m)) other ∙ status.there) status.good
 
 pub status_put : (m : List Field) (field : Field) → bytes_eq field.0 (codes ":status") ≡ true → IsStatusText field.1 → HasStatus (put m field)
 status_put m field same good =
-    has_status (put m field) field.1 (value_put (codes ":status") field m ∙ ap (λ b. cond b (Some field.1) (status_of m)) same) good
+    has_status (put m field) field.1 (value_put (codes ":status") field m ∙ ap (λ b. cond b (Some field.1) (status_value m)) same) good
 
 -- ---- a code in decimal digits
 
@@ -68,3 +68,17 @@ status_written code range =
     let first : 48 < get_or (decimal code) 0 0 = first_decimal code (omega arith) (omega arith) in
     let no_plus : without_leading_plus (decimal code) ≡ decimal code = rw (ne_eqb (slice_index (decimal code) 0) 43 (omega arith)) refl in
     rw no_plus ((numeral.0, rw numeral.1 range), numeral.1)
+
+-- ---- no status
+
+pub no_status : (m : List Field) → status_value m ≡ None → ¬ HasStatus m
+unfolding HasStatus
+no_status m none has = absurd (subst (λ o. IsSomeAnd o IsStatusText) none has)
+
+pub bad_status : (m : List Field) (text : List ℕ) → status_value m ≡ Some text → ¬ IsStatusText text → ¬ HasStatus m
+bad_status m text there bad has = bad (status_good m text has there)
+
+-- a text that is not parsed is not valid
+pub parsed_bad : {T E : Type 0} {P : Type 0} (r : Result T E) (value : T) → OkIff r P value → is_err r ≡ true → ¬ P
+parsed_bad (Ok x) value given e = cc e
+parsed_bad (Err f) value given e = given

@@ -14,9 +14,9 @@ use Rattle.wtp_fields.specs.declared.qpack.field_line.Representation.TheVariants
 use Rattle.wtp_fields.specs.Field.{Field, IsText, AreTexts, field_map}
 use Rattle.wtp_fields.specs.Integer.{integer_at, shortest_groups, shortest_int}
 use Rattle.wtp_fields.specs.StaticTable.{entry_at, first_entry}
-use Rattle.wtp_fields.specs.StringLiteral.{flag_above, content, utf8_text, string_at, huffman_bytes, encoded_string}
+use Rattle.wtp_fields.specs.StringLiteral.{flag_above, body_text, utf8_text, string_at, huffman_bytes, encoded_string}
 use Rattle.wtp_fields.specs.FieldLine.{representation_of, indexed_at, name_reference_at, literal_name_at, line_by, line_at, encoded_line}
-use Rattle.wtp_fields.specs.FieldSection.{lines_behind, AreLines, section_at, map_at, section_of}
+use Rattle.wtp_fields.specs.FieldSection.{after_prefix, AreLines, section_at, map_at, section_of}
 use Rattle.wtp_fields.proofs.IntegerLaws.{int_read, short_int}
 use Rattle.wtp_fields.proofs.StaticLemmas.{same_bytes, first_found}
 use Rattle.wtp_fields.proofs.StringBits.{huffman_only}
@@ -42,7 +42,7 @@ flag_of n f h v more small =
     let bit : (f * 2 + h) % 2 ≡ h = omega arith in
     rw (head.3, top, bit) refl
 
-string_again : (n f h : ℕ) (body t rest : List ℕ) → h < 2 → length body < 2 ^ 64 → content (h == 1) body ≡ Ok t → string_at n ((shortest_int n (f * 2 + h) (length body) ++ body) ++ rest) ≡ Ok (t, rest)
+string_again : (n f h : ℕ) (body t rest : List ℕ) → h < 2 → length body < 2 ^ 64 → body_text (h == 1) body ≡ Ok t → string_at n ((shortest_int n (f * 2 + h) (length body) ++ body) ++ rest) ≡ Ok (t, rest)
 unfolding string_at
 string_again n f h body t rest small fits given =
     let s : List ℕ = shortest_int n (f * 2 + h) (length body) in
@@ -51,12 +51,12 @@ string_again n f h body t rest small fits given =
     let enough : nat_lt (length (body ++ rest)) (length body) ≡ false = le-ltb (length (body ++ rest)) (length body) (omega (arith, length-append body rest)) in
     rw (grouped, size, enough, flag_of n f h (length body) (body ++ rest) small, take-append_seam body rest, given, drop-append_seam body rest) refl
 
-raw_again : (t : List ℕ) → IsUtf8 t → content false t ≡ Ok t
-unfolding content utf8_text
+raw_again : (t : List ℕ) → IsUtf8 t → body_text false t ≡ Ok t
+unfolding body_text utf8_text
 raw_again t h = rw (is_utf8-from_IsUtf8 t h) refl
 
-coded_again : (t : List ℕ) → IsBytes t → IsUtf8 t → content true (huffman_bytes t) ≡ Ok t
-unfolding content utf8_text
+coded_again : (t : List ℕ) → IsBytes t → IsUtf8 t → body_text true (huffman_bytes t) ≡ Ok t
+unfolding body_text utf8_text
 coded_again t are h = rw (huffman_only t (huffman_bytes t) (huffman_is t are), is_utf8-from_IsUtf8 t h) refl
 
 pub text_again : (n f : ℕ) (t rest : List ℕ) → IsText t → string_at n (encoded_string n f t ++ rest) ≡ Ok (t, rest)
@@ -148,7 +148,7 @@ lines_again [] h = refl
 lines_again (field ∷ fields) (name, value, others) = (flat_map encoded_line fields, line_again field (flat_map encoded_line fields) name value, lines_again fields others)
 
 pub section_again : (fields : List Field) → AreTexts fields → section_at (section_of fields) ≡ Ok fields
-unfolding section_at section_of lines_behind integer_at
+unfolding section_at section_of after_prefix integer_at
 section_again fields h = lines_read fields (length (flat_map encoded_line fields)) (flat_map encoded_line fields) (omega arith) (lines_again fields h)
 
 pub map_again : (fields : List Field) → AreTexts fields → map_at (section_of fields) ≡ Ok (field_map fields)

@@ -2,9 +2,9 @@
 use Rattle.std.proofs.Common.{◌≡◌, ℕ, zero, suc, ◌<◌, ◌≤◌, ◌⊎◌, inl, inr, List, [], ◌∷◌, length, refl, subst, arith, Ok, Err}
 use Rattle.wtp_fields.specs.declared.qpack.DecodingError.{DecodingError}
 use Rattle.wtp_fields.specs.Field.{Field}
-use Rattle.wtp_fields.specs.Reading.{◌>>=◌}
+use Rattle.wtp_fields.specs.Qpack.{◌>>=◌}
 use Rattle.wtp_fields.specs.FieldLine.{line_at}
-use Rattle.wtp_fields.specs.FieldSection.{lines_behind, AreLines, ReachesLine, lines_at, section_at}
+use Rattle.wtp_fields.specs.FieldSection.{after_prefix, AreLines, ReachesLine, lines_at, section_at}
 use Rattle.wtp_fields.proofs.Chosen.{bind_ok, bind_err}
 use Rattle.wtp_fields.proofs.SectionReading.{line_shorter, lines_read, lines_fault}
 
@@ -44,17 +44,17 @@ faulty (suc n) (b ∷ bs) f few e = elim (bind_err (line_at (b ∷ bs)) (λ (lin
   ]
 ]
 
-pub section_read : (bytes lines : List ℕ) (fields : List Field) → lines_behind bytes ≡ Ok lines → AreLines lines fields [] → section_at bytes ≡ Ok fields
+pub section_read : (bytes lines : List ℕ) (fields : List Field) → after_prefix bytes ≡ Ok lines → AreLines lines fields [] → section_at bytes ≡ Ok fields
 unfolding section_at
 section_read bytes lines fields e are = rw e (lines_read fields (length lines) lines (omega arith) are)
 
-pub section_found : (bytes : List ℕ) (fields : List Field) → section_at bytes ≡ Ok fields → (lines : List ℕ) × (lines_behind bytes ≡ Ok lines) × AreLines lines fields []
+pub section_found : (bytes : List ℕ) (fields : List Field) → section_at bytes ≡ Ok fields → (lines : List ℕ) × (after_prefix bytes ≡ Ok lines) × AreLines lines fields []
 unfolding section_at
 section_found bytes fields e =
-    let behind = bind_ok (lines_behind bytes) (λ (lines : List ℕ). lines_at (length lines) lines) fields e in
+    let behind = bind_ok (after_prefix bytes) (λ (lines : List ℕ). lines_at (length lines) lines) fields e in
     (behind.0, behind.1, are_lines (length behind.0) behind.0 fields (omega arith) behind.2)
 
-pub section_cut : (bytes : List ℕ) (e : DecodingError) → lines_behind bytes ≡ Err e → section_at bytes ≡ Err e
+pub section_cut : (bytes : List ℕ) (e : DecodingError) → after_prefix bytes ≡ Err e → section_at bytes ≡ Err e
 unfolding section_at
 section_cut bytes f e = rw e refl
 
@@ -62,9 +62,9 @@ pub section_fault : (bytes : List ℕ) (e : DecodingError) (reached : ReachesLin
 unfolding section_at
 section_fault bytes f reached fault = rw (reached.prefix, lines_fault reached.fields (length reached.lines) reached.lines reached.rest f (omega arith) reached.good reached.some fault) refl
 
-pub fault_found : (bytes : List ℕ) (e : DecodingError) → section_at bytes ≡ Err e → (lines_behind bytes ≡ Err e) ⊎ ((reached : ReachesLine bytes) × (line_at reached.rest ≡ Err e))
+pub fault_found : (bytes : List ℕ) (e : DecodingError) → section_at bytes ≡ Err e → (after_prefix bytes ≡ Err e) ⊎ ((reached : ReachesLine bytes) × (line_at reached.rest ≡ Err e))
 unfolding section_at
-fault_found bytes f e = elim (bind_err (lines_behind bytes) (λ (lines : List ℕ). lines_at (length lines) lines) f e) [
+fault_found bytes f e = elim (bind_err (after_prefix bytes) (λ (lines : List ℕ). lines_at (length lines) lines) f e) [
   | inl cut ↦ inl cut
   | inr behind ↦
       let there = faulty (length behind.0) behind.0 f (omega arith) behind.2 in

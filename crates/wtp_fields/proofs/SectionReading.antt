@@ -11,13 +11,13 @@ use Rattle.wtp_fields.specs.declared.qpack.DecodingError.TheVariants.{Memory}
 use Rattle.wtp_fields.specs.declared.qpack.field_line.Table.TheVariants.{Static, Dynamic}
 use Rattle.wtp_fields.specs.declared.qpack.field_line.Representation.{Representation}
 use Rattle.wtp_fields.specs.declared.qpack.field_line.Representation.TheVariants.{Indexed, IndexedPostBase, NameReference, PostBaseNameReference, LiteralName}
-use Rattle.wtp_fields.specs.Field.{Field, held_field, put, field_map}
-use Rattle.wtp_fields.specs.Reading.{GivesUnlessMemory, ◌>>=◌}
+use Rattle.wtp_fields.specs.Field.{Field, field_of, put, field_map}
+use Rattle.wtp_fields.specs.Qpack.{GivesUnlessMemory, ◌>>=◌}
 use Rattle.wtp_fields.specs.Integer.{integer_at}
 use Rattle.wtp_fields.specs.StaticTable.{entry_at}
 use Rattle.wtp_fields.specs.StringLiteral.{string_at}
 use Rattle.wtp_fields.specs.FieldLine.{representation_of, or_not_found, indexed_at, name_reference_at, literal_name_at, line_by, line_at}
-use Rattle.wtp_fields.specs.FieldSection.{lines_behind, AreLines, lines_at, section_at, map_at}
+use Rattle.wtp_fields.specs.FieldSection.{after_prefix, AreLines, lines_at, section_at, map_at}
 use Rattle.wtp_fields.proofs.Chosen.{bind_ok, bind_err, same_rest}
 use Rattle.wtp_fields.proofs.StringReading.{int_shorter, string_shorter, int_not_memory}
 
@@ -29,11 +29,11 @@ map_chosen f Equal a b c = refl
 map_chosen f Greater a b c = refl
 
 pub put_entry : (es : List (String Global × String Global)) (k v : String Global)
-    → map held_field (insert_entry string_cmp es k v) ≡ put (map held_field es) (string_bytes k, string_bytes v)
+    → map field_of (insert_entry string_cmp es k v) ≡ put (map field_of es) (string_bytes k, string_bytes v)
 put_entry [] k v = refl
 put_entry (e ∷ es) k v =
-    map_chosen held_field (string_cmp k e.0) ((k, v) ∷ e ∷ es) ((e.0, v) ∷ es) (e ∷ insert_entry string_cmp es k v)
-    ∙ ap (λ z. match_ordering (string_cmp k e.0) ((string_bytes k, string_bytes v) ∷ held_field e ∷ map held_field es) ((string_bytes e.0, string_bytes v) ∷ map held_field es) (held_field e ∷ z)) (put_entry es k v)
+    map_chosen field_of (string_cmp k e.0) ((k, v) ∷ e ∷ es) ((e.0, v) ∷ es) (e ∷ insert_entry string_cmp es k v)
+    ∙ ap (λ z. match_ordering (string_cmp k e.0) ((string_bytes k, string_bytes v) ∷ field_of e ∷ map field_of es) ((string_bytes e.0, string_bytes v) ∷ map field_of es) (field_of e ∷ z)) (put_entry es k v)
 
 -- ---- a line is shorter than the bytes that start with it
 
@@ -108,16 +108,16 @@ lines_fault [] (suc n) (b ∷ bs) rest f few same some e =
 lines_fault (l ∷ ls) (suc n) (b ∷ bs) rest f few (middle, first, more) some e =
     rw (first, lines_fault ls n middle rest f (omega (arith, line_shorter (b ∷ bs) l middle first)) more some e) refl
 
-pub map_found : (bytes body : List ℕ) (ls : List Field) → lines_behind bytes ≡ Ok body → AreLines body ls [] → map_at bytes ≡ Ok (field_map ls)
+pub map_found : (bytes body : List ℕ) (ls : List Field) → after_prefix bytes ≡ Ok body → AreLines body ls [] → map_at bytes ≡ Ok (field_map ls)
 unfolding map_at section_at
 map_found bytes body ls e run = rw (e, lines_read ls (length body) body (omega arith) run) refl
 
-pub map_fault : (bytes body : List ℕ) (ls : List Field) (rest : List ℕ) (f : DecodingError) → lines_behind bytes ≡ Ok body → AreLines body ls rest → 0 < length rest → line_at rest ≡ Err f → map_at bytes ≡ Err f
+pub map_fault : (bytes body : List ℕ) (ls : List Field) (rest : List ℕ) (f : DecodingError) → after_prefix bytes ≡ Ok body → AreLines body ls rest → 0 < length rest → line_at rest ≡ Err f → map_at bytes ≡ Err f
 unfolding map_at section_at
 map_fault bytes body ls rest f e run some fault = rw (e, lines_fault ls (length body) body rest f (omega arith) run some fault) refl
 
-pub prefix_not_memory : (bytes : List ℕ) → lines_behind bytes ≡ Err Memory → ⊥
-unfolding lines_behind
+pub prefix_not_memory : (bytes : List ℕ) → after_prefix bytes ≡ Err Memory → ⊥
+unfolding after_prefix
 prefix_not_memory bytes e = elim (bind_err (integer_at 8 bytes) (λ (count : ℕ × List ℕ). integer_at 7 count.1 >>= λ base. Ok base.1) Memory e) [
   | inl bad ↦ int_not_memory 8 bytes bad
   | inr first ↦ elim (bind_err (integer_at 7 first.0.1) (λ (base : ℕ × List ℕ). Ok base.1) Memory first.2) [
@@ -126,12 +126,12 @@ prefix_not_memory bytes e = elim (bind_err (integer_at 8 bytes) (λ (count : ℕ
   ]
 ]
 
-pub map_no_lines : (bytes : List ℕ) (f : DecodingError) → lines_behind bytes ≡ Err f → map_at bytes ≡ Err f
+pub map_no_lines : (bytes : List ℕ) (f : DecodingError) → after_prefix bytes ≡ Err f → map_at bytes ≡ Err f
 unfolding map_at section_at
 map_no_lines bytes f e = rw e refl
 
 -- the result of the lines is the result of the section
-pub section_given : {M : Type 0} (view : M → List Field) (r : Result M DecodingError) (bytes body : List ℕ) → lines_behind bytes ≡ Ok body
+pub section_given : {M : Type 0} (view : M → List Field) (r : Result M DecodingError) (bytes body : List ℕ) → after_prefix bytes ≡ Ok body
     → IfOk r (λ m. (ls : List Field) × AreLines body ls [] × (view m ≡ field_map ls))
     → IfErr r (λ e. (ls : List Field) × (rest : List ℕ) × AreLines body ls rest × (0 < length rest) × (e ≢ Memory → line_at rest ≡ Err e))
     → GivesUnlessMemory view r (map_at bytes)

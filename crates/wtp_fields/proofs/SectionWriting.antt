@@ -4,7 +4,7 @@ use Rattle.std.proofs.lemmas.List.{map-append}
 use Rattle.std.specs.List.{flat_map}
 use Rattle.wtp_fields.specs.declared.qpack.DecodingError.{DecodingError}
 use Rattle.wtp_fields.specs.declared.qpack.DecodingError.TheVariants.{UnexpectedFin, IntegerOverflow, InvalidString, DynamicNotSupported, IndexNotfound, Memory}
-use Rattle.wtp_fields.specs.Reading.{GivesUnlessMemory}
+use Rattle.wtp_fields.specs.Qpack.{GivesUnlessMemory}
 use Rattle.wtp_fields.specs.Field.{Field, IsText, AreTexts}
 use Rattle.wtp_fields.specs.FieldLine.{encoded_line}
 use Rattle.wtp_fields.specs.FieldSection.{section_of}

@@ -24,7 +24,7 @@ use Rattle.std.specs.List.{slice_get}
 use Rattle.std.proofs.lemmas.Option.{slice_get-get_or, slice_get_past}
 use Rattle.wtp_fields.specs.Field.{Field}
 use Rattle.wtp_fields.specs.StaticTable.{static_table, entry_at, first_entry}
-use Rattle.wtp_fields.specs.StaticNames.{Numbered, lent_name, numbered, AreOrdered, static_names, static_names_of, begins_with}
+use Rattle.wtp_fields.specs.StaticNames.{NameIndex, name_index_of, name_indices, AreOrdered, static_names, static_names_of, begins_with}
 
 -- ---- a binary search among ordered names
 
@@ -47,35 +47,35 @@ rises a b x less = by_cases (slice_cmp nat_cmp b x) refl
 
 module _ (names : List (Bor (List ℕ) × ℕ)) (x : List ℕ) where
   -- the comparisons with a name rise along ordered names, as a binary search requires
-  pub names_rise : AreOrdered (numbered names) → IsNonDecreasingBy (λ y. ordering_index (slice_cmp nat_cmp y.0.now x)) names
+  pub names_rise : AreOrdered (name_indices names) → IsNonDecreasingBy (λ y. ordering_index (slice_cmp nat_cmp y.0.now x)) names
   names_rise ordered i j d le within = elim (cases_eq i j) [
     | inl same ↦ rw same (omega arith)
     | inr other ↦
-        let size : length (map (λ (e : Numbered). e.0) (numbered names)) ≡ length names = length-map (numbered names) (λ (e : Numbered). e.0) ∙ length-map names lent_name in
-        let less = Less-from_sorted (slice_cmp nat_cmp) (map (λ (e : Numbered). e.0) (numbered names)) i j d.0.now ordered (omega arith) (omega arith) in
-        rises (get_or names i d).0.now (get_or names j d).0.now x (subst (λ z. slice_cmp nat_cmp z (get_or names j d).0.now ≡ Less) (at i d) (subst (λ z. slice_cmp nat_cmp (get_or (map (λ (e : Numbered). e.0) (numbered names)) i d.0.now) z ≡ Less) (at j d) less))
+        let size : length (map (λ (e : NameIndex). e.0) (name_indices names)) ≡ length names = length-map (name_indices names) (λ (e : NameIndex). e.0) ∙ length-map names name_index_of in
+        let less = Less-from_sorted (slice_cmp nat_cmp) (map (λ (e : NameIndex). e.0) (name_indices names)) i j d.0.now ordered (omega arith) (omega arith) in
+        rises (get_or names i d).0.now (get_or names j d).0.now x (subst (λ z. slice_cmp nat_cmp z (get_or names j d).0.now ≡ Less) (at i d) (subst (λ z. slice_cmp nat_cmp (get_or (map (λ (e : NameIndex). e.0) (name_indices names)) i d.0.now) z ≡ Less) (at j d) less))
   ]
     where
-      at : (k : ℕ) (d : Bor (List ℕ) × ℕ) → get_or (map (λ (e : Numbered). e.0) (numbered names)) k d.0.now ≡ (get_or names k d).0.now
-      at k d = get_or-map (λ (e : Numbered). e.0) (numbered names) k (d.0.now, d.1) ∙ ap (λ (e : Numbered). e.0) (get_or-map lent_name names k d)
+      at : (k : ℕ) (d : Bor (List ℕ) × ℕ) → get_or (map (λ (e : NameIndex). e.0) (name_indices names)) k d.0.now ≡ (get_or names k d).0.now
+      at k d = get_or-map (λ (e : NameIndex). e.0) (name_indices names) k (d.0.now, d.1) ∙ ap (λ (e : NameIndex). e.0) (get_or-map name_index_of names k d)
 
-  numbered_at : (k : ℕ) (d : Bor (List ℕ) × ℕ) (e : Numbered) → k < length names → get_or (numbered names) k e ≡ ((get_or names k d).0.now, (get_or names k d).1)
-  numbered_at k d e within = get_or_in lent_name names k d e within
+  numbered_at : (k : ℕ) (d : Bor (List ℕ) × ℕ) (e : NameIndex) → k < length names → get_or (name_indices names) k e ≡ ((get_or names k d).0.now, (get_or names k d).1)
+  numbered_at k d e within = get_or_in name_index_of names k d e within
 
   -- a name that compares as equal is there with its index
   pub stands : (place : ℕ) (d : Bor (List ℕ) × ℕ) → place < length names → HoldsAt (λ y. slice_cmp nat_cmp y.0.now x ≡ Equal) names place
-      → Contains (numbered names) (x, (get_or names place d).1)
+      → Contains (name_indices names) (x, (get_or names place d).1)
   stands place d within equal =
       let same : (get_or names place d).0.now ≡ x = exact_bytes (get_or names place d).0.now x (equal d) in
-      (place, rw (length-map names lent_name) within, numbered_at place d (x, (get_or names place d).1) within ∙ ap (λ z. (z, (get_or names place d).1)) same)
+      (place, rw (length-map names name_index_of) within, numbered_at place d (x, (get_or names place d).1) within ∙ ap (λ z. (z, (get_or names place d).1)) same)
 
   -- if each name is below or above, none is equal
-  pub is_absent : (i : ℕ) → IsPartitionPoint (λ y. slice_cmp nat_cmp y.0.now x ≡ Less) (λ y. slice_cmp nat_cmp y.0.now x ≡ Greater) names i → (k : ℕ) → Contains (numbered names) (x, k) → ⊥
+  pub is_absent : (i : ℕ) → IsPartitionPoint (λ y. slice_cmp nat_cmp y.0.now x ≡ Less) (λ y. slice_cmp nat_cmp y.0.now x ≡ Greater) names i → (k : ℕ) → Contains (name_indices names) (x, k) → ⊥
   is_absent i parted k (place, within, e) =
       let d : Bor (List ℕ) × ℕ = (record { ref_ptr = (0, 0); now = [] }, 0) in
-      let inside : place < length names = omega (arith, length-map names lent_name) in
-      let pair : ◌≡◌ {A = Numbered} ((get_or names place d).0.now, (get_or names place d).1) (x, k) = sym (numbered_at place d (x, k) inside) ∙ e in
-      let name : (get_or names place d).0.now ≡ x = ap (λ (p : Numbered). p.0) pair in
+      let inside : place < length names = omega (arith, length-map names name_index_of) in
+      let pair : ◌≡◌ {A = NameIndex} ((get_or names place d).0.now, (get_or names place d).1) (x, k) = sym (numbered_at place d (x, k) inside) ∙ e in
+      let name : (get_or names place d).0.now ≡ x = ap (λ (p : NameIndex). p.0) pair in
       let equal : slice_cmp nat_cmp (get_or names place d).0.now x ≡ Equal = ap (λ z. slice_cmp nat_cmp z x) name ∙ tied_itself nat_list_cmp_total x in
       elim (cases_lt place i) [
         | inl before ↦ cc (parted.0 place d (omega arith) before, equal)
@@ -94,14 +94,14 @@ is_some_of None k = false
 is_some_of (Some j) k = j == k
 
 -- the index of a name is that of its first entry
-has_first : Numbered → Bool
+has_first : NameIndex → Bool
 has_first e = is_some_of (first_entry e.0) e.1
 
 -- an entry's name is among the names
 is_listed : Field → Bool
-is_listed e = list_any (λ (n : Numbered). bytes_eq n.0 e.0) static_names
+is_listed e = list_any (λ (n : NameIndex). bytes_eq n.0 e.0) static_names
 
-names_ascend : ascends (map (λ (e : Numbered). e.0) static_names) ≡ true
+names_ascend : ascends (map (λ (e : NameIndex). e.0) static_names) ≡ true
 unfolding ascends static_names
 names_ascend = refl
 
@@ -132,7 +132,7 @@ sorted_from (x ∷ xs) e =
     (all_less x xs parts.0, sorted_from xs parts.1)
 
 names_ordered : AreOrdered static_names
-names_ordered = sorted_from (map (λ (e : Numbered). e.0) static_names) names_ascend
+names_ordered = sorted_from (map (λ (e : NameIndex). e.0) static_names) names_ascend
 
 some_of : (o : Option ℕ) (k : ℕ) → is_some_of o k ≡ true → o ≡ Some k
 unfolding is_some_of
@@ -155,8 +155,8 @@ same_bytes xs ys e = (bytes_eq-Decides xs ys).0 e
 listed : (e : Field) → is_listed e ≡ true → (k : ℕ) × Contains static_names (e.0, k)
 unfolding is_listed
 listed e h =
-    let found = any_at (λ (n : Numbered). bytes_eq n.0 e.0) static_names h in
-    let n : Numbered = get_or static_names found.0 (e.0, 0) in
+    let found = any_at (λ (n : NameIndex). bytes_eq n.0 e.0) static_names h in
+    let n : NameIndex = get_or static_names found.0 (e.0, 0) in
     let name : n.0 ≡ e.0 = same_bytes n.0 e.0 (found.2 (e.0, 0)) in
     (n.1, (found.0, found.1, get_or_default static_names found.0 (e.0, n.1) (e.0, 0) found.1 ∙ ap (λ z. (z, n.1)) name))
 
@@ -165,7 +165,7 @@ pub first_by_name : (name : List ℕ) (o : Option ℕ) → IfSome o (λ k. Conta
 unfolding has_first
 first_by_name name (Some k) (place, within, e) absent =
     let tested = AllPass-from_list_all has_first static_names names_have_first place (name, k) within in
-    sym (some_of (first_entry name) k (subst (λ (n : Numbered). is_some_of (first_entry n.0) n.1 ≡ true) e tested))
+    sym (some_of (first_entry name) k (subst (λ (n : NameIndex). is_some_of (first_entry n.0) n.1 ≡ true) e tested))
 first_by_name name None found absent = by_cases (first_entry name) refl
   where
     by_cases : (o : Option ℕ) → first_entry name ≡ o → None ≡ o
@@ -203,7 +203,7 @@ no_names b h58 h97 h99 h100 h101 h102 h105 h108 h111 h112 h114 h115 h116 h117 h1
     let n117 = other 117 h117 in
     let n118 = other 118 h118 in
     let n120 = other 120 h120 in
-    none_pass (λ (e : Numbered). begins_with b e.0) static_names
+    none_pass (λ (e : NameIndex). begins_with b e.0) static_names
     (n58, (n58, (n58, (n58, (n58, (n97, (n97, (n97, (n97, (n97, (n97, (n97, (n97, (n97, (n97, (n97, (n97, (n97, (n97, (n99, (n99, (n99, (n99, (n99, (n99, (n99, (n100, (n101, (n101, (n101, (n102, (n105, (n105, (n105, (n108, (n108, (n108, (n111, (n112, (n114, (n114, (n115, (n115, (n115, (n116, (n117, (n117, (n118, (n120, (n120, (n120, (n120, tt))))))))))))))))))))))))))))))))))))))))))))))))))))
   where
     other : (k : ℕ) → (b ≡ k → ⊥) → (k == b) ≡ false
@@ -232,22 +232,22 @@ in_filtered {X} p (x ∷ xs) y (suc k, within, e) passes = by_cases (in_filtered
     by_cases more true = behind x (filter p xs) y more
     by_cases more false = more
 
-names_filtered : (first : ℕ) (names : List Numbered)
-    → map (λ (e : Numbered). e.0) (filter (λ (e : Numbered). begins_with first e.0) names) ≡ filter (begins_with first) (map (λ (e : Numbered). e.0) names)
+names_filtered : (first : ℕ) (names : List NameIndex)
+    → map (λ (e : NameIndex). e.0) (filter (λ (e : NameIndex). begins_with first e.0) names) ≡ filter (begins_with first) (map (λ (e : NameIndex). e.0) names)
 names_filtered first [] = refl
 names_filtered first (e ∷ es) = by_cases (names_filtered first es) (begins_with first e.0)
   where
-    chosen : List Numbered
-    chosen = filter (λ (e : Numbered). begins_with first e.0) es
+    chosen : List NameIndex
+    chosen = filter (λ (e : NameIndex). begins_with first e.0) es
 
-    by_cases : map (λ (e : Numbered). e.0) chosen ≡ filter (begins_with first) (map (λ (e : Numbered). e.0) es)
-        → (b : Bool) → map (λ (e : Numbered). e.0) (cond b (e ∷ chosen) chosen) ≡ cond b (e.0 ∷ filter (begins_with first) (map (λ (e : Numbered). e.0) es)) (filter (begins_with first) (map (λ (e : Numbered). e.0) es))
+    by_cases : map (λ (e : NameIndex). e.0) chosen ≡ filter (begins_with first) (map (λ (e : NameIndex). e.0) es)
+        → (b : Bool) → map (λ (e : NameIndex). e.0) (cond b (e ∷ chosen) chosen) ≡ cond b (e.0 ∷ filter (begins_with first) (map (λ (e : NameIndex). e.0) es)) (filter (begins_with first) (map (λ (e : NameIndex). e.0) es))
     by_cases more true = ap (λ z. e.0 ∷ z) more
     by_cases more false = more
 
 part_ordered : (first : ℕ) → AreOrdered (static_names_of first)
 unfolding static_names_of
-part_ordered first = rw (names_filtered first static_names) (IsStrictlySortedBy-filter (slice_cmp nat_cmp) (begins_with first) (map (λ (e : Numbered). e.0) static_names) names_ordered)
+part_ordered first = rw (names_filtered first static_names) (IsStrictlySortedBy-filter (slice_cmp nat_cmp) (begins_with first) (map (λ (e : NameIndex). e.0) static_names) names_ordered)
 
 begins : (name : List ℕ) (first : ℕ) → Some first ≡ slice_get name 0 → begins_with first name ≡ true
 begins [] first is = cc
@@ -262,9 +262,9 @@ pub first_by_start : (name : List ℕ) (first : ℕ) (o : Option ℕ) → Some f
     → o ≡ first_entry name
 unfolding static_names_of
 first_by_start name first (Some k) is found absent =
-    first_by_name name (Some k) (filtered_in (λ (e : Numbered). begins_with first e.0) static_names (name, k) found) (λ ordered. tt)
+    first_by_name name (Some k) (filtered_in (λ (e : NameIndex). begins_with first e.0) static_names (name, k) found) (λ ordered. tt)
 first_by_start name first None is found absent =
-    first_by_name name None tt (λ ordered k there. absent (part_ordered first) k (in_filtered (λ (e : Numbered). begins_with first e.0) static_names (name, k) there (begins name first is)))
+    first_by_name name None tt (λ ordered k there. absent (part_ordered first) k (in_filtered (λ (e : NameIndex). begins_with first e.0) static_names (name, k) there (begins name first is)))
 
 -- the empty name has no entry
 pub no_name : (name : List ℕ) → None ≡ slice_get name 0 → first_entry name ≡ None

@@ -3,10 +3,10 @@ use Rattle.std.proofs.Common.{◌≡◌, ◌≢◌, ℕ, zero, suc, ◌+◌, ◌
 use Rattle.std.proofs.lemmas.Bool.{cases_lt, lt-ltb, ltb-true, ne_eqb}
 use Rattle.std.proofs.lemmas.List.{length-append, append_cancel_left}
 use Rattle.std.proofs.Math.Seq.{take-append_seam, take-append-add}
-use Rattle.wtp_huffman.specs.Huffman.{code, coded, bits_of, AllOnes, IsCoded, IsHuffman}
-use Rattle.wtp_huffman.specs.HuffmanTables.{front}
+use Rattle.wtp_huffman.specs.Huffman.{code, text_code, bits_of, AllOnes, IsCoded, IsHuffman}
+use Rattle.wtp_huffman.specs.HuffmanDecoding.{window_of}
 use Rattle.wtp_fields.specs.StringLiteral.{same_bits, all_ones, symbol_below, by_word, text_of_bits, huffman_text}
-use Rattle.wtp_huffman.proofs.HuffmanBits.{front_below}
+use Rattle.wtp_huffman.proofs.HuffmanBits.{window_below}
 use Rattle.wtp_huffman.proofs.HuffmanWords.{only_word}
 use Rattle.wtp_huffman.proofs.HuffmanLaws.{row_exists, ones_long}
 use Rattle.wtp_huffman.proofs.Chosen.{chosen}
@@ -63,7 +63,7 @@ found_or (suc n) w = elim (chosen (same_bits (code n) w) true false (same_bits (
 -- two words at the start of the same bits are equal
 same_word : (x y : ℕ) (more behind : List Bool) → x < 257 → y < 257 → code x ++ more ≡ code y ++ behind → x ≡ y
 same_word x y more behind hx hy e =
-    let there = row_exists (front 30 (code x ++ more)) (front_below 30 (code x ++ more)) in
+    let there = row_exists (window_of 30 (code x ++ more)) (window_below 30 (code x ++ more)) in
     (only_word (code x ++ more) more there.0 x there.1 hx refl).0 ∙ sym (only_word (code x ++ more) behind there.0 y there.1 hy e).0
 
 ones_front : (a b : List Bool) → AllOnes (a ++ b) → AllOnes a
@@ -72,14 +72,14 @@ ones_front (x ∷ a) b h = (h.0, ones_front a b h.1)
 
 -- a coded text whose first word is known
 coded_first : (t : List ℕ) (x : ℕ) (rest : List Bool) → x < 257 → IsCoded t (code x ++ rest) → (u : List ℕ) × (t ≡ x ∷ u) × (x < 256) × IsCoded u rest
-unfolding coded
+unfolding text_code
 coded_first [] x rest h (small, pad, p, e) =
     let ones : AllOnes (code x ++ rest) = rw e p.1 in
     absurd (omega (arith, ones_long x h (ones_front (code x) rest ones), ap length e, length-append (code x) rest, p.0))
 coded_first (y ∷ u) x rest h (small, pad, p, e) =
-    let split : code x ++ rest ≡ code y ++ (coded u ++ pad) = e ∙ append_assoc (code y) (coded u) pad in
-    let same : x ≡ y = same_word x y rest (coded u ++ pad) h (omega (arith, small.0)) split in
-    let dropped : rest ≡ coded u ++ pad = append_cancel_left (code x) rest (coded u ++ pad) (split ∙ ap (λ z. code z ++ (coded u ++ pad)) (sym same)) in
+    let split : code x ++ rest ≡ code y ++ (text_code u ++ pad) = e ∙ append_assoc (code y) (text_code u) pad in
+    let same : x ≡ y = same_word x y rest (text_code u ++ pad) h (omega (arith, small.0)) split in
+    let dropped : rest ≡ text_code u ++ pad = append_cancel_left (code x) rest (text_code u ++ pad) (split ∙ ap (λ z. code z ++ (text_code u ++ pad)) (sym same)) in
     (u, ap (λ z. z ∷ u) (sym same), rw same small.0, (small.1, pad, p, dropped))
 
 -- no word is at the start of these bits
@@ -134,7 +134,7 @@ by_word_some (Some x) on behind t e = elim (chosen (x == 256) None (option_map (
     mapped (Some u) e other = (x, u, refl, other, refl, cc e)
 
 pub from_found : (seen bs : List Bool) (t : List ℕ) → text_of_bits seen bs ≡ Some t → IsCoded t (seen ++ bs)
-unfolding text_of_bits coded
+unfolding text_of_bits text_code
 from_found seen [] t e = elim (chosen (nat_lt (length seen) 8 && all_ones seen) (Some []) None (Some t) e) [
   | inl good ↦
       let parts = both (nat_lt (length seen) 8) (all_ones seen) good.0 in
@@ -156,18 +156,18 @@ from_found seen (b ∷ bs) t e = elim (by_word_some (symbol_below 257 (seen ++ b
         let small : x < 256 = omega (arith, there.2, word.3) in
         let eq : code x ≡ seen ++ b ∷ [] = ap code (sym same) ∙ there.3 in
         let later = from_found [] bs u word.4 in
-        let whole : seen ++ (b ∷ bs) ≡ (code x ++ coded u) ++ later.1 = sym (append_assoc seen (b ∷ []) bs) ∙ ap (λ z. z ++ bs) (sym eq) ∙ ap (λ z. code x ++ z) later.3 ∙ sym (append_assoc (code x) (coded u) later.1) in
+        let whole : seen ++ (b ∷ bs) ≡ (code x ++ text_code u) ++ later.1 = sym (append_assoc seen (b ∷ []) bs) ∙ ap (λ z. z ++ bs) (sym eq) ∙ ap (λ z. code x ++ z) later.3 ∙ sym (append_assoc (code x) (text_code u) later.1) in
         let P : List ℕ → Type 0 = λ z. IsCoded z (seen ++ (b ∷ bs)) in
         subst P (sym word.5) ((small, later.0), later.1, later.2, whole)
   ]
 ]
 
 pub from_only : (seen bs : List Bool) (t : List ℕ) → HasNoWord seen → IsCoded t (seen ++ bs) → text_of_bits seen bs ≡ Some t
-unfolding text_of_bits coded
+unfolding text_of_bits text_code
 from_only seen [] [] none (small, pad, p, e) =
     let same : pad ≡ seen = sym e ∙ append-nil seen in
     rw (lt-ltb (length seen) 8 (omega (arith, ap length same, p.0)), ones_test seen (subst (λ z. AllOnes z) same p.1)) refl
-from_only seen [] (y ∷ u) none (small, pad, p, e) = absurd (none y (coded u ++ pad) (omega (arith, small.0)) (sym (append-nil seen) ∙ e ∙ append_assoc (code y) (coded u) pad))
+from_only seen [] (y ∷ u) none (small, pad, p, e) = absurd (none y (text_code u ++ pad) (omega (arith, small.0)) (sym (append-nil seen) ∙ e ∙ append_assoc (code y) (text_code u) pad))
 from_only seen (b ∷ bs) t none h = elim (found_or 257 (seen ++ b ∷ [])) [
   | inr other ↦
       let P : List Bool → Type 0 = λ z. IsCoded t z in

@@ -1,5 +1,6 @@
 -- Fields: a name and a value, as bytes; and the map of them.
-use Rattle.std.specs.Prelude.{ℕ, ◌<◌, ◌^◌, List, [], ◌∷◌, map, length, Option, Some, None, if◌then◌else◌, string_bytes, String, IsUtf8}
+use Rattle.std.specs.Prelude.{ℕ, ◌<◌, ◌^◌, List, [], ◌∷◌, map, length, Option, Some, None}
+use Rattle.std.specs.Prelude.{if◌then◌else◌, string_bytes, String, IsUtf8}
 use Rattle.std.specs.Borrow.{Bor}
 use Rattle.std.specs.List.{fold}
 use Rattle.std.specs.List.Sorted.{IsStrictlySortedBy}
@@ -14,12 +15,12 @@ abbrev pub Field : Type 0
 Field = List ℕ × List ℕ
 
 -- a pair of borrowed texts
-abbrev pub lent_field : Bor (List ℕ) × Bor (List ℕ) → Field
-lent_field e = (e.0.now, e.1.now)
+abbrev pub field_of_texts : Bor (List ℕ) × Bor (List ℕ) → Field
+field_of_texts e = (e.0.now, e.1.now)
 
 -- pairs of borrowed texts
-abbrev pub lent : List (Bor (List ℕ) × Bor (List ℕ)) → List Field
-lent = map lent_field
+abbrev pub fields_of_texts : List (Bor (List ℕ) × Bor (List ℕ)) → List Field
+fields_of_texts = map field_of_texts
 
 -- a text of fewer than 2^64 bytes
 pub record IsText (t : List ℕ) : Type 0 where
@@ -32,12 +33,12 @@ AreTexts (field ∷ fields) = IsText field.0 × IsText field.1 × AreTexts field
 
 -- ---- maps
 
-abbrev pub held_field : String Global × String Global → Field
-held_field e = (string_bytes e.0, string_bytes e.1)
+abbrev pub field_of : String Global × String Global → Field
+field_of e = (string_bytes e.0, string_bytes e.1)
 
 -- the contents of a map, by the bytes of the names
-abbrev pub held : BTreeMap (String Global) (String Global) → List Field
-held m = map held_field m.entries
+abbrev pub fields_of : BTreeMap (String Global) (String Global) → List Field
+fields_of m = map field_of m.entries
 
 -- each name once, in byte order
 abbrev pub IsMap : List Field → Type 0
@@ -52,9 +53,10 @@ unfoldable pub field_map : List Field → List Field
 field_map = fold put []
 
 -- the value of the first field of a name
-abbrev pub value_of : List ℕ → List Field → Option (List ℕ)
-value_of name [] = None
-value_of name (field ∷ fields) = if bytes_eq field.0 name then Some field.1 else value_of name fields
+abbrev pub field_value : List ℕ → List Field → Option (List ℕ)
+field_value name [] = None
+field_value name (field ∷ fields) =
+    if bytes_eq field.0 name then Some field.1 else field_value name fields
 
 abbrev pub or_else : Option (List ℕ) → Option (List ℕ) → Option (List ℕ)
 or_else (Some value) other = Some value
@@ -63,4 +65,5 @@ or_else None other = other
 -- the value of the last line of a name
 abbrev pub last_value : List ℕ → List Field → Option (List ℕ)
 last_value name [] = None
-last_value name (line ∷ lines) = or_else (last_value name lines) (if bytes_eq line.0 name then Some line.1 else None)
+last_value name (line ∷ lines) =
+    or_else (last_value name lines) (if bytes_eq line.0 name then Some line.1 else None)

@@ -3,14 +3,14 @@ use Rattle.std.specs.Prelude.{◌≡◌, ℕ, ◌<◌, zero, suc, List, [], ◌�
 use Rattle.std.specs.List.{flat_map}
 use Rattle.wtp_fields.specs.declared.qpack.DecodingError.{DecodingError}
 use Rattle.wtp_fields.specs.Field.{Field, field_map}
-use Rattle.wtp_fields.specs.Reading.{◌>>=◌}
+use Rattle.wtp_fields.specs.Qpack.{◌>>=◌}
 use Rattle.wtp_fields.specs.Integer.{integer_at}
 use Rattle.wtp_fields.specs.FieldLine.{line_at, encoded_line}
 
--- The bytes after the prefix of a section (section 4.5.1): the Required Insert Count, an integer with prefix 8, and the
--- Delta Base, one with prefix 7. Both are ignored.
-unfoldable pub lines_behind : List ℕ → Result (List ℕ) DecodingError
-lines_behind bytes = do
+-- The bytes after the prefix of a section (section 4.5.1): the Required Insert Count, an integer
+-- with prefix 8, and the Delta Base, one with prefix 7. Both are ignored.
+unfoldable pub after_prefix : List ℕ → Result (List ℕ) DecodingError
+after_prefix bytes = do
   count ← integer_at 8 bytes
   base ← integer_at 7 count.1
   Ok base.1
@@ -18,14 +18,15 @@ lines_behind bytes = do
 -- the bytes start with these lines, one after the other, followed by the rest
 abbrev pub AreLines : List ℕ → List Field → List ℕ → Type 0
 AreLines bytes [] rest = bytes ≡ rest
-AreLines bytes (line ∷ lines) rest = (behind : List ℕ) × (line_at bytes ≡ Ok (line, behind)) × AreLines behind lines rest
+AreLines bytes (line ∷ lines) rest =
+    (others : List ℕ) × (line_at bytes ≡ Ok (line, others)) × AreLines others lines rest
 
 -- a line begins after the prefix and valid lines
 pub record ReachesLine (section : List ℕ) : Type 0 where
   pub lines : List ℕ
   pub fields : List Field
   pub rest : List ℕ
-  pub prefix : lines_behind section ≡ Ok lines
+  pub prefix : after_prefix section ≡ Ok lines
   pub good : AreLines lines fields rest
   pub some : 0 < length rest
 
@@ -43,7 +44,7 @@ lines_at (suc n) (b ∷ bs) = do
 -- the lines of a section, or its first fault
 unfoldable pub section_at : List ℕ → Result (List Field) DecodingError
 section_at bytes = do
-  lines ← lines_behind bytes
+  lines ← after_prefix bytes
   lines_at (length lines) lines
 
 -- the map of a section's lines

@@ -1,5 +1,6 @@
 -- Header maps as the payload of a HEADERS frame (RFC 9114, sections 4.1 and 7.2.2), and back.
-use Rattle.std.specs.Prelude.{◌≡◌, ◌≢◌, ℕ, ◌<◌, ◌==◌, Bool, true, false, not, List, [], ◌∷◌, ◌++◌, length, filter, MatchResult, Result, Ok, Err}
+use Rattle.std.specs.Prelude.{◌≡◌, ◌≢◌, ℕ, ◌<◌, ◌==◌, Bool, true, false, not, List, [], ◌∷◌, ◌++◌}
+use Rattle.std.specs.Prelude.{length, filter, MatchResult, Result, Ok, Err}
 use Rattle.std.specs.List.{flat_map}
 use Rattle.wtp_core.specs.declared.error.ErrorCode.TheVariants.{Decompression}
 use Rattle.wtp_core.specs.declared.error.Refused.{Refused}
@@ -7,7 +8,7 @@ use Rattle.wtp_core.specs.declared.error.Refused.TheVariants.{Code, Memory}
 use Rattle.wtp_fields.specs.declared.qpack.DecodingError.{DecodingError}
 use Rattle.wtp_fields.specs.Field.{Field}
 use Rattle.wtp_fields.specs.FieldLine.{encoded_line}
-use Rattle.wtp_fields.specs.FieldSection.{lines_behind, AreLines, map_at, section_of}
+use Rattle.wtp_fields.specs.FieldSection.{after_prefix, AreLines, map_at, section_of}
 
 abbrev pub begins_with_colon : List ℕ → Bool
 begins_with_colon [] = false
@@ -17,8 +18,8 @@ begins_with_colon (b ∷ bs) = b == 58
 abbrev pub is_pseudo : Field → Bool
 is_pseudo field = begins_with_colon field.0
 
--- the fields of a map in the order in which they are sent: pseudo-header fields come before the others (RFC 9114,
--- section 4.3), and each group is in the map's order
+-- the fields of a map in the order in which they are sent: pseudo-header fields come before the
+-- others (RFC 9114, section 4.3), and each group is in the map's order
 unfoldable pub sent_order : List Field → List Field
 sent_order m = filter is_pseudo m ++ filter (λ field. not (is_pseudo field)) m
 
@@ -38,11 +39,14 @@ headers_at bytes = or_decompression (map_at bytes)
 
 -- the call returned what is read, unless allocation failed
 abbrev pub GivesUnlessRefused : Result (List Field) Refused → Result (List Field) Refused → Type 0
-GivesUnlessRefused result read = MatchResult result (λ m. read ≡ Ok m) (λ e. e ≢ Memory → read ≡ Err e)
+GivesUnlessRefused result read =
+    MatchResult result (λ m. read ≡ Ok m) (λ e. e ≢ Memory → read ≡ Err e)
 
 -- a line begins after the prefix of the section and valid lines
 abbrev pub BeginsLine : List ℕ → Type 0
-BeginsLine bytes = (lines : List ℕ) × (fields : List Field) × (rest : List ℕ) × (lines_behind bytes ≡ Ok lines) × AreLines lines fields rest × (0 < length rest)
+BeginsLine bytes =
+    (lines : List ℕ) × (fields : List Field) × (rest : List ℕ) × (after_prefix bytes ≡ Ok lines)
+    × AreLines lines fields rest × (0 < length rest)
 
 -- ---- the two groups, as they are written
 

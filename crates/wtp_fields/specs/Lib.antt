@@ -1,4 +1,4 @@
-pub mod Reading
+pub mod Qpack
 pub mod Integer
 pub mod Field
 pub mod StaticTable
@@ -9,3 +9,6 @@ pub mod FieldSection
 pub mod Headers
 pub mod SessionRequest
 pub mod SessionResponse
+pub mod ResponseFrame
+pub mod FieldCodes
+pub mod FieldLines

@@ -1,6 +1,7 @@
--- The request for a session: an extended CONNECT request (RFC 9220, section 3; WebTransport over HTTP/3, "Creating a New
--- Session"), as a header map.
-use Rattle.std.specs.Prelude.{ℕ, ◌++◌, if◌then◌else◌, Bool, List, [], ◌∷◌, codes, Option, Some, None, Result, Ok, Err, not, is_some, unwrap_or, option_map, decimal}
+-- The request for a session: an extended CONNECT request (RFC 9220, section 3; WebTransport over
+-- HTTP/3, "Creating a New Session"), as a header map.
+use Rattle.std.specs.Prelude.{ℕ, ◌++◌, if◌then◌else◌, Bool, List, [], ◌∷◌, codes, Option, Some}
+use Rattle.std.specs.Prelude.{None, Result, Ok, Err, not, is_some, unwrap_or, option_map, decimal}
 use Rattle.std.specs.List.{list_any}
 use Rattle.std.specs.Str.{bytes_eq}
 use Rattle.url.specs.Parts.{Parts, has_credentials, host_or_empty}
@@ -12,25 +13,35 @@ use Rattle.url.specs.declared.error.ParseError.TheVariants as parsing
 use Rattle.wtp_core.specs.declared.error.ErrorCode.TheVariants.{FrameUnexpected, Message}
 use Rattle.wtp_core.specs.declared.error.Refused.{Refused}
 use Rattle.wtp_core.specs.declared.error.Refused.TheVariants.{Code}
-use Rattle.wtp_wire.specs.Content.{Content, DataOf, HeadersOf, SettingsOf, WebTransportOf, ExerciseOf}
+use Rattle.wtp_wire.specs.declared.frame.kind.FrameKind.TheVariants.{Headers}
+use Rattle.wtp_wire.specs.Content.{Content, PlainOf}
 use Rattle.wtp_fields.specs.declared.session.HeadersParseError.{HeadersParseError}
-use Rattle.wtp_fields.specs.declared.session.HeadersParseError.TheVariants.{MissingMethod, MethodNotConnect, MissingScheme, SchemeNotHttps, MissingProtocol, ProtocolNotWebTransport, MissingAuthority, MissingPath}
+use Rattle.wtp_fields.specs.declared.session.HeadersParseError.TheVariants.{MissingMethod}
+use Rattle.wtp_fields.specs.declared.session.HeadersParseError.TheVariants.{MethodNotConnect}
+use Rattle.wtp_fields.specs.declared.session.HeadersParseError.TheVariants.{MissingScheme}
+use Rattle.wtp_fields.specs.declared.session.HeadersParseError.TheVariants.{SchemeNotHttps}
+use Rattle.wtp_fields.specs.declared.session.HeadersParseError.TheVariants.{MissingProtocol}
+use Rattle.wtp_fields.specs.declared.session.HeadersParseError.TheVariants.{ProtocolNotWebTransport}
+use Rattle.wtp_fields.specs.declared.session.HeadersParseError.TheVariants.{MissingAuthority}
+use Rattle.wtp_fields.specs.declared.session.HeadersParseError.TheVariants.{MissingPath}
 use Rattle.wtp_fields.specs.declared.session.request.UrlParseError.{UrlParseError}
 use Rattle.wtp_fields.specs.declared.session.request.UrlParseError.TheVariants as answered
-use Rattle.wtp_fields.specs.Field.{Field, field_map, value_of}
+use Rattle.wtp_fields.specs.Field.{Field, field_map, field_value}
 use Rattle.wtp_fields.specs.Headers.{headers_at}
 
 -- ---- the fields that a request must have
 
 abbrev pub reserved_names : List (List ℕ)
-reserved_names = codes ":method" ∷ codes ":scheme" ∷ codes ":protocol" ∷ codes ":authority" ∷ codes ":path" ∷ []
+reserved_names =
+    codes ":method" ∷ codes ":scheme" ∷ codes ":protocol" ∷ codes ":authority" ∷ codes ":path" ∷ []
 
 -- the name is that of one of the five
-abbrev pub is_reserved : List ℕ → Bool
-is_reserved name = list_any (λ reserved. bytes_eq reserved name) reserved_names
+abbrev pub is_reserved_name : List ℕ → Bool
+is_reserved_name name = list_any (λ reserved. bytes_eq reserved name) reserved_names
 
 -- the fault of a field that must have this value
-abbrev pub fault_unless : List ℕ → HeadersParseError → HeadersParseError → Option (List ℕ) → Option HeadersParseError
+abbrev pub fault_unless : List ℕ → HeadersParseError → HeadersParseError → Option (List ℕ)
+    → Option HeadersParseError
 fault_unless text missing other None = Some missing
 fault_unless text missing other (Some value) = if bytes_eq value text then None else Some other
 
@@ -47,18 +58,25 @@ first_fault (None ∷ faults) = first_fault faults
 -- the first fault of the fields of a request, in this order
 unfoldable pub fault_of : List Field → Option HeadersParseError
 fault_of m = first_fault (
-    fault_unless (codes "CONNECT") MissingMethod MethodNotConnect (value_of (codes ":method") m)
-    ∷ fault_unless (codes "https") MissingScheme SchemeNotHttps (value_of (codes ":scheme") m)
-    ∷ fault_unless (codes "webtransport") MissingProtocol ProtocolNotWebTransport (value_of (codes ":protocol") m)
-    ∷ fault_without MissingAuthority (value_of (codes ":authority") m)
-    ∷ fault_without MissingPath (value_of (codes ":path") m)
+    fault_unless (codes "CONNECT") MissingMethod MethodNotConnect
+    (field_value (codes ":method") m)
+    ∷ fault_unless (codes "https") MissingScheme SchemeNotHttps
+    (field_value (codes ":scheme") m)
+    ∷ fault_unless (codes "webtransport") MissingProtocol ProtocolNotWebTransport
+    (field_value (codes ":protocol") m)
+    ∷ fault_without MissingAuthority (field_value (codes ":authority") m)
+    ∷ fault_without MissingPath (field_value (codes ":path") m)
     ∷ [])
 
 -- ---- the request for a URL
 
--- the user part: user name and password, and what separates them from the host (RFC 3986, section 3.2.1)
+-- the user part: user name and password, and what separates them from the host (RFC 3986, section
+-- 3.2.1)
 abbrev pub user_part : Parts → List ℕ
-user_part url = url.username ++ (when (not (is_empty url.password)) (codes ":") ++ (url.password ++ when (has_credentials url) (codes "@")))
+user_part url =
+    url.username
+    ++ (when (not (is_empty url.password)) (codes ":")
+    ++ (url.password ++ when (has_credentials url) (codes "@")))
 
 -- the port, if the URL has one: it is never the default of its scheme
 abbrev pub port_part : Parts → List ℕ
@@ -85,26 +103,29 @@ five_fields authority path = field_map (
 
 -- the request for a URL
 unfoldable pub request_for : Parts → Result (List Field) UrlParseError
-request_for url = if bytes_eq url.scheme (codes "https") then Ok (five_fields (authority_of url) (with_query url.path url.query)) else Err answered.SchemeNotHttps
+request_for url =
+    if bytes_eq url.scheme (codes "https")
+    then Ok (five_fields (authority_of url) (with_query url.path url.query))
+    else Err answered.SchemeNotHttps
 
 -- the error of the same name
-abbrev pub renamed : ParseError → UrlParseError
-renamed parsing.EmptyHost = answered.EmptyHost
-renamed parsing.IdnaError = answered.IdnaError
-renamed parsing.InvalidPort = answered.InvalidPort
-renamed parsing.InvalidIpv4Address = answered.InvalidIpv4Address
-renamed parsing.InvalidIpv6Address = answered.InvalidIpv6Address
-renamed parsing.InvalidDomainCharacter = answered.InvalidDomainCharacter
-renamed parsing.RelativeUrlWithoutBase = answered.RelativeUrlWithoutBase
-renamed parsing.RelativeUrlWithCannotBeABaseBase = answered.RelativeUrlWithCannotBeABaseBase
-renamed parsing.SetHostOnCannotBeABaseUrl = answered.SetHostOnCannotBeABaseUrl
-renamed parsing.Overflow = answered.Overflow
-renamed parsing.CannotSet = answered.Unknown
-renamed parsing.OutOfMemory = answered.Memory
+abbrev pub url_error_of : ParseError → UrlParseError
+url_error_of parsing.EmptyHost = answered.EmptyHost
+url_error_of parsing.IdnaError = answered.IdnaError
+url_error_of parsing.InvalidPort = answered.InvalidPort
+url_error_of parsing.InvalidIpv4Address = answered.InvalidIpv4Address
+url_error_of parsing.InvalidIpv6Address = answered.InvalidIpv6Address
+url_error_of parsing.InvalidDomainCharacter = answered.InvalidDomainCharacter
+url_error_of parsing.RelativeUrlWithoutBase = answered.RelativeUrlWithoutBase
+url_error_of parsing.RelativeUrlWithCannotBeABaseBase = answered.RelativeUrlWithCannotBeABaseBase
+url_error_of parsing.SetHostOnCannotBeABaseUrl = answered.SetHostOnCannotBeABaseUrl
+url_error_of parsing.Overflow = answered.Overflow
+url_error_of parsing.CannotSet = answered.Unknown
+url_error_of parsing.OutOfMemory = answered.Memory
 
 -- the request for a URL that was read from a text, or why there is none
 abbrev pub request_at : Parsed Parts → Result (List Field) UrlParseError
-request_at (Err fault) = Err (renamed fault)
+request_at (Err fault) = Err (url_error_of fault)
 request_at (Ok url) = request_for url
 
 -- ---- the request in a frame
@@ -114,14 +135,11 @@ abbrev pub or_message : Option HeadersParseError → List Field → Result (List
 or_message None m = Ok m
 or_message (Some fault) m = Err (Code Message)
 
-abbrev pub request_of : Result (List Field) Refused → Result (List Field) Refused
-request_of (Ok m) = or_message (fault_of m) m
-request_of (Err refused) = Err refused
+abbrev pub request_by : Result (List Field) Refused → Result (List Field) Refused
+request_by (Ok m) = or_message (fault_of m) m
+request_by (Err refused) = Err refused
 
 -- the request in a frame, or the error code if there is none
 abbrev pub request_in : Content → Result (List Field) Refused
-request_in (HeadersOf payload) = request_of (headers_at payload)
-request_in (DataOf payload) = Err (Code FrameUnexpected)
-request_in (SettingsOf payload) = Err (Code FrameUnexpected)
-request_in (WebTransportOf id) = Err (Code FrameUnexpected)
-request_in (ExerciseOf number payload) = Err (Code FrameUnexpected)
+request_in (PlainOf Headers payload) = request_by (headers_at payload)
+request_in f = Err (Code FrameUnexpected)

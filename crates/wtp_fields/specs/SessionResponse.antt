@@ -1,17 +1,20 @@
 -- The response to the request for a session, as a header map (RFC 9114, section 4.3.2).
-use Rattle.std.specs.Prelude.{◌≡◌, ◌⊎◌, ℕ, List, [], ◌∷◌, codes, decimal, Option, Some, None, IsSomeAnd, Result, Err, MatchResult}
+use Rattle.std.specs.Prelude.{◌≡◌, ◌⊎◌, ℕ, List, [], ◌∷◌, codes, decimal, Option, Some, None}
+use Rattle.std.specs.Prelude.{IsSomeAnd, Result, Err, MatchResult}
 use Rattle.wtp_core.specs.Ids.{IsStatusText, status_in}
 use Rattle.wtp_fields.specs.declared.session.HeadersParseError.{HeadersParseError}
-use Rattle.wtp_fields.specs.declared.session.HeadersParseError.TheVariants.{MissingStatusCode, InvalidStatusCode, Memory}
-use Rattle.wtp_fields.specs.Field.{Field, value_of}
+use Rattle.wtp_fields.specs.declared.session.HeadersParseError.TheVariants.{MissingStatusCode}
+use Rattle.wtp_fields.specs.declared.session.HeadersParseError.TheVariants.{InvalidStatusCode}
+use Rattle.wtp_fields.specs.declared.session.HeadersParseError.TheVariants.{Memory}
+use Rattle.wtp_fields.specs.Field.{Field, field_value}
 
 -- the text of the status, if there is one
-abbrev pub status_of : List Field → Option (List ℕ)
-status_of m = value_of (codes ":status") m
+abbrev pub status_value : List Field → Option (List ℕ)
+status_value m = field_value (codes ":status") m
 
 -- the map has a status, and its text is that of a status code
 unfoldable pub HasStatus : List Field → Type 0
-HasStatus m = IsSomeAnd (status_of m) IsStatusText
+HasStatus m = IsSomeAnd (status_value m) IsStatusText
 
 -- the map of a status only, in its shortest digits
 abbrev pub status_alone : ℕ → List Field
@@ -20,5 +23,6 @@ status_alone code = (codes ":status", decimal code) ∷ []
 -- the response with the status of a map: its code only, or why there is none
 abbrev pub ByStatus : Option (List ℕ) → Result (List Field) HeadersParseError → Type 0
 ByStatus None result = result ≡ Err MissingStatusCode
-ByStatus (Some text) result = MatchResult result (λ response. IsStatusText text × (response ≡ status_alone (status_in text)))
+ByStatus (Some text) result =
+    MatchResult result (λ response. IsStatusText text × (response ≡ status_alone (status_in text)))
     (λ e. ((e ≡ InvalidStatusCode) × ¬ IsStatusText text) ⊎ ((e ≡ Memory) × IsStatusText text))

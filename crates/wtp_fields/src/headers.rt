@@ -1,11 +1,14 @@
 //! Header maps, and the HEADERS frames that contain them (RFC 9114, section 7.2.2).
-ghost use Rattle.std.specs.Prelude.{◌≡◌, ℕ, ◌≤◌, ◌^◌, ◌++◌, List, [], length, OnOk, OnErr, IfOk, Err, map};
+ghost use Rattle.std.specs.Prelude.{◌≡◌, ℕ, ◌≤◌, ◌^◌, ◌++◌, List, [], length, OnOk, OnErr, IfOk};
+ghost use Rattle.std.specs.Prelude.{Err, map};
 ghost use Rattle.std.specs.Borrow.{Bor};
 ghost use Rattle.std.specs.Option.{option_copied};
 ghost use Rattle.std.specs.Iterator.{IsFinite, Drains};
 ghost use Rattle.wtp_wire.specs.Content.{payload_in, kind_in, HeadersOf};
-ghost use Rattle.wtp_fields.specs.Field.{IsMap, AreTexts, put, field_map, value_of, held, lent};
-ghost use Rattle.wtp_fields.specs.Headers.{payload, headers_at, GivesUnlessRefused, BeginsLine, begins_with_colon, group_lines};
+ghost use Rattle.wtp_fields.specs.Field.{IsMap, AreTexts, put, field_map, field_value, fields_of};
+ghost use Rattle.wtp_fields.specs.Field.{fields_of_texts};
+ghost use Rattle.wtp_fields.specs.Headers.{payload, headers_at, GivesUnlessRefused, BeginsLine};
+ghost use Rattle.wtp_fields.specs.Headers.{begins_with_colon, group_lines};
 
 use crate::qpack::{Decoder, DecodingError, field_line, field_section};
 use std::alloc::{AllocError, Global};
@@ -27,16 +30,16 @@ pub struct Headers {
 // Contracts treat a map as its fields, names and values as bytes, in the byte order of the names.
 impl Model for Headers {
     ghost use Rattle.std.specs.Prelude.{List};
-    ghost use Rattle.wtp_fields.specs.Field.{Field, held};
+    ghost use Rattle.wtp_fields.specs.Field.{Field, fields_of};
 
     ghost Value = { List Field };
 
-    ghost view = { λ h. held h.fields };
+    ghost view = { λ h. fields_of h.fields };
 }
 
 impl Headers {
-    /// Creates the empty map.
-    pub(crate) fn new(alloc: Global) -> Self
+    /// Creates the empty map. Nothing is allocated. Not in the Rust crate.
+    pub fn new(alloc: Global) -> Self
         ensures { result ≡ [] }
     {
         Headers {
@@ -75,9 +78,10 @@ impl Headers {
     /// if the payload has 2^62 bytes or more. The map is unchanged.
     pub fn generate_frame(&self, alloc: Global) -> Result<FrameOwned, GenerateError>
         ensures frame { IfOk result (λ frame. frame ≡ HeadersOf (payload self.now)) }
-        ensures too_long { result ≡ Err GenerateError.PayloadTooLong → 2 ^ 62 ≤ length (payload self.now) }
+        ensures too_long { result ≡ Err GenerateError.PayloadTooLong
+            → 2 ^ 62 ≤ length (payload self.now) }
     {
-        let Ok(payload) = written(alloc, &self.fields) else {
+        let Ok(payload) = encode_payload(alloc, &self.fields) else {
             return Err(GenerateError::Memory);
         };
         if payload.len() as u64 > VarInt::MAX.into_inner() {
@@ -88,7 +92,7 @@ impl Headers {
 
     /// Returns the value of a name.
     pub fn get(&self, name: &str) -> Option<&str>
-        ensures { option_copied result ≡ value_of name.now self.now }
+        ensures { option_copied result ≡ field_value name.now self.now }
     {
         match self.fields.get(name) {
             Some(value) => Some(value.as_str()),
@@ -116,7 +120,8 @@ impl Headers {
     ) -> Result<Self, AllocError>
         requires can { I.can_next pairs }
         requires finite { IsFinite (I.remaining pairs) }
-        ensures { IfOk result (λ headers. (ps : List (Bor (List ℕ) × Bor (List ℕ))) × Drains I.next_gives pairs ps × (headers ≡ field_map (lent ps))) }
+        ensures { IfOk result (λ headers. (ps : List (Bor (List ℕ) × Bor (List ℕ)))
+            × Drains I.next_gives pairs ps × (headers ≡ field_map (fields_of_texts ps))) }
     {
         let mut headers = Headers::new(alloc);
         for (name, value) in pairs {
@@ -127,13 +132,26 @@ impl Headers {
 
     /// Returns the fields by their names.
     pub fn as_ref(&self) -> &BTreeMap<String, String>
-        ensures fields { held result.now ≡ self.now }
+        ensures fields { fields_of result.now ≡ self.now }
         ensures ordered { IsMap self.now }
         ensures texts { AreTexts self.now }
     {
         // The contract of `len` states that each name is in the map once, in order.
         let _len = self.fields.len();
         &self.fields
+    }
+}
+
+impl Clone for Headers {
+    ghost is_clone = { λ map copy. copy ≡ map };
+
+    /// Returns a copy of the map, or [`AllocError`] if allocation fails.
+    fn clone(&self) -> Result<Headers, AllocError> {
+        let fields = self.fields.clone()?;
+        Ok(Headers {
+            fields,
+            alloc: self.alloc,
+        })
     }
 }
 
@@ -150,7 +168,8 @@ fn write_group(
     fields: &BTreeMap<String, String>,
     pseudo: bool,
 ) -> Result<(), AllocError>
-    ensures { OnOk result (out.new.items ≡ out.old.items ++ group_lines pseudo (held fields.now)) }
+    ensures { OnOk result (out.new.items
+        ≡ out.old.items ++ group_lines pseudo (fields_of fields.now)) }
 {
     for (name, value) in fields {
         if is_pseudo(name.as_str()) == pseudo {
@@ -162,10 +181,10 @@ fn write_group(
 
 /// Returns the payload of a map.
 #[tactic(auto, unfolding(crate::specs::Headers::payload))]
-fn written(alloc: Global, fields: &BTreeMap<String, String>) -> Result<Vec<u8>, AllocError>
-    ensures { IfOk result (λ v. v.items ≡ payload (held fields.now)) }
+fn encode_payload(alloc: Global, fields: &BTreeMap<String, String>) -> Result<Vec<u8>, AllocError>
+    ensures { IfOk result (λ v. v.items ≡ payload (fields_of fields.now)) }
 {
-    let mut out = field_section::begun(alloc)?;
+    let mut out = field_section::empty_prefix(alloc)?;
     write_group(&mut out, fields, true)?;
     write_group(&mut out, fields, false)?;
     Ok(out)

@@ -2,11 +2,12 @@
 //! do nothing.
 
 mod headers;
+mod lines;
 mod qpack;
 
 pub use headers::{header_maps, header_payloads};
+pub use lines::{lines_of_texts, maps_of_lines};
 pub use qpack::{
-    encoded_and_decoded, field_lines, field_maps, field_sections, prefixed_integers,
-    string_literals,
+    encode_and_decode, field_lines, field_maps, field_sections, prefixed_integers, string_literals,
 };
 pub use wtp_huffman::laws::{huffman_texts, huffman_words};

@@ -7,16 +7,18 @@ ghost use Rattle.std.specs.Prelude.{◌≡◌, ℕ, List, IfOk, IfErr};
 ghost use Rattle.std.specs.Borrow.{Bor};
 ghost use Rattle.std.specs.Iterator.{IsFinite, Drains};
 ghost use Rattle.wtp_fields.specs.declared.qpack.DecodingError.TheVariants.{Memory};
-ghost use Rattle.wtp_fields.specs.Field.{AreTexts, held, lent};
-ghost use Rattle.wtp_fields.specs.Reading.{GivesUnlessMemory};
+ghost use Rattle.wtp_fields.specs.Field.{AreTexts, fields_of, fields_of_texts};
+ghost use Rattle.wtp_fields.specs.Qpack.{GivesUnlessMemory};
 ghost use Rattle.wtp_fields.specs.FieldSection.{ReachesLine, map_at, section_of};
 
 pub(crate) mod field_line;
+mod field_lines;
 pub(crate) mod field_section;
 mod integer;
 mod static_table;
 mod string_literal;
 
+pub use field_lines::{FieldLine, FieldLines, FieldRoom};
 use std::alloc::{AllocError, AllocFailed, Global};
 use std::collections::BTreeMap;
 use thiserror::Error;
@@ -72,7 +74,7 @@ impl Decoder {
     /// [`DecodingError::Memory`] only if allocation failed at a line, all lines before which are
     /// valid. So a section without a line never returns it.
     pub fn decode(alloc: Global, section: &[u8]) -> Result<BTreeMap<String, String>, DecodingError>
-        ensures read { GivesUnlessMemory (λ m. held m) result (map_at section.now) }
+        ensures read { GivesUnlessMemory (λ m. fields_of m) result (map_at section.now) }
         // Allocation fails only at a line that begins after the prefix and valid lines.
         ensures memory { IfErr result (λ e. e ≡ Memory → ReachesLine section.now) }
     {
@@ -102,9 +104,10 @@ impl Encoder {
         requires can { I.can_next pairs }
         requires finite { IsFinite (I.remaining pairs) }
         ensures { IfOk result (λ v. (ps : List (Bor (List ℕ) × Bor (List ℕ)))
-            × Drains I.next_gives pairs ps × AreTexts (lent ps) × (v.items ≡ section_of (lent ps))) }
+            × Drains I.next_gives pairs ps × AreTexts (fields_of_texts ps)
+            × (v.items ≡ section_of (fields_of_texts ps))) }
     {
-        let mut out = field_section::begun(alloc)?;
+        let mut out = field_section::empty_prefix(alloc)?;
         for (name, value) in pairs {
             field_line::write(&mut out, name, value)?;
         }

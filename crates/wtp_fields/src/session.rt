@@ -9,7 +9,7 @@ mod response;
 
 use crate::headers::Headers;
 pub use request::{InsertError, ReservedHeader, SessionRequest, UrlParseError};
-pub use response::{AddError, SessionResponse};
+pub use response::{AddError, SessionResponse, response_of_frame};
 use std::alloc::{AllocError, Global};
 use thiserror::Error;
 use wtp_core::error::{ErrorCode, Refused};
@@ -74,7 +74,8 @@ impl From<AllocError> for HeadersParseError {
 /// again.
 pub fn request_of_frame(alloc: Global, frame: &Frame<'_>) -> Result<SessionRequest, Refused>
     ensures read { GivesUnlessRefused result (request_in frame.now) }
-    ensures memory { result ≡ Err Refused.Memory → (kind_in frame.now ≡ FrameKind.Headers) × BeginsLine (payload_in frame.now) }
+    ensures memory { result ≡ Err Refused.Memory
+        → (kind_in frame.now ≡ FrameKind.Headers) × BeginsLine (payload_in frame.now) }
 {
     let FrameKind::Headers = frame.kind() else {
         return Err(Refused::Code(ErrorCode::FrameUnexpected));

@@ -3,8 +3,8 @@ use Rattle.std.proofs.Common.{◌≡◌, ℕ, zero, suc, ◌/◌, ◌%◌, ◌<�
 use Rattle.std.proofs.lemmas.Bool.{and_parts, cases_lt, le-ltb, lt-ltb, ltb-true}
 use Rattle.std.specs.Prelude.{slice_index}
 use Rattle.std.specs.Str.{IsAscii, IsNotAscii}
-use Rattle.wtp_huffman.specs.HuffmanSteps.{TellsAscii}
-use Rattle.wtp_huffman.specs.HuffmanTables.{pair_first_at, pair_second_at}
+use Rattle.wtp_huffman.specs.HuffmanPairs.{pair_first_at, pair_second_at}
+use Rattle.wtp_huffman.specs.HuffmanDecoding.{TellsAscii}
 use Rattle.wtp_huffman.specs.declared.huffman.pairs.TheConstants.{PAIRS}
 use Rattle.wtp_huffman.proofs.HuffmanPairs.{pairs_length}
 
@@ -18,9 +18,9 @@ other_in_front [] more i high = absurd (omega (arith, high))
 other_in_front (x ∷ t) more zero high = (zero, high)
 other_in_front (x ∷ t) more (suc i) high = let next = other_in_front t more i high in (suc next.0, next.1)
 
-other_behind : (t more : List ℕ) → IsNotAscii more → IsNotAscii (t ++ more)
-other_behind [] more high = high
-other_behind (x ∷ t) more high = let next = other_behind t more high in (suc next.0, next.1)
+other_after : (t more : List ℕ) → IsNotAscii more → IsNotAscii (t ++ more)
+other_after [] more high = high
+other_after (x ∷ t) more high = let next = other_after t more high in (suc next.0, next.1)
 
 pub none_ascii : IsAscii []
 none_ascii = λ i. omega arith
@@ -38,7 +38,7 @@ one_byte x small (suc i) = omega arith
 pub pushed : (x : ℕ) (t : List ℕ) → IsAscii t → TellsAscii (nat_lt x 128) (t ++ x ∷ [])
 pushed x t told = elim (cases_lt x 128) [
   | inl small ↦ rw (lt-ltb x 128 small) (joined_ascii t (x ∷ []) told (one_byte x small))
-  | inr high ↦ rw (le-ltb x 128 high) (other_behind t (x ∷ []) (zero, high))
+  | inr high ↦ rw (le-ltb x 128 high) (other_after t (x ∷ []) (zero, high))
 ]
 
 -- ---- the bytes of pairs

@@ -8,23 +8,23 @@ use Rattle.std.proofs.lemmas.Nat.{be_bytes_4, mod_below, pow-add, pow_pos, shr_b
 use Rattle.std.proofs.lemmas.Nat.Bits.{bit_at_cat_high, bit_at_cat_low}
 use Rattle.std.specs.Int.{from_be_bytes, to_be_bytes, w32, w64}
 use Rattle.wtp_huffman.specs.Huffman.{AllOnes, bits_of, low_bits}
-use Rattle.wtp_huffman.specs.HuffmanTables.{front}
+use Rattle.wtp_huffman.specs.HuffmanDecoding.{window_of}
 
-pub front_below : (n : ℕ) (bs : List Bool) → front n bs < 2 ^ n
-unfolding front
-front_below zero bs = omega arith
-front_below (suc n) [] = omega (arith, front_below n [], two-pow-succ n)
-front_below (suc n) (true ∷ bs) = omega (arith, front_below n bs, two-pow-succ n)
-front_below (suc n) (false ∷ bs) = omega (arith, front_below n bs, two-pow-succ n)
+pub window_below : (n : ℕ) (bs : List Bool) → window_of n bs < 2 ^ n
+unfolding window_of
+window_below zero bs = omega arith
+window_below (suc n) [] = omega (arith, window_below n [], two-pow-succ n)
+window_below (suc n) (true ∷ bs) = omega (arith, window_below n bs, two-pow-succ n)
+window_below (suc n) (false ∷ bs) = omega (arith, window_below n bs, two-pow-succ n)
 
-pub front_split : (a m : ℕ) (bs : List Bool) → front (a + m) bs ≡ front a bs * 2 ^ m + front m (drop a bs)
-unfolding front
-front_split zero m bs = grind arith
-front_split (suc a) m [] =
-    let e : front m (drop a []) ≡ front m [] = ap (front m) (drop-nil a) in
-    rw (suc-add a m, pow-add 2 a m) (omega (arith, front_split a m []))
-front_split (suc a) m (true ∷ bs) = rw (suc-add a m, pow-add 2 a m) (omega (arith, front_split a m bs))
-front_split (suc a) m (false ∷ bs) = rw (suc-add a m) (omega (arith, front_split a m bs))
+pub window_split : (a m : ℕ) (bs : List Bool) → window_of (a + m) bs ≡ window_of a bs * 2 ^ m + window_of m (drop a bs)
+unfolding window_of
+window_split zero m bs = grind arith
+window_split (suc a) m [] =
+    let e : window_of m (drop a []) ≡ window_of m [] = ap (window_of m) (drop-nil a) in
+    rw (suc-add a m, pow-add 2 a m) (omega (arith, window_split a m []))
+window_split (suc a) m (true ∷ bs) = rw (suc-add a m, pow-add 2 a m) (omega (arith, window_split a m bs))
+window_split (suc a) m (false ∷ bs) = rw (suc-add a m) (omega (arith, window_split a m bs))
 
 pub low_bits_cat : (a k b j : ℕ) → j ≤ k → low_bits j (a * 2 ^ k + b) ≡ low_bits j b
 unfolding low_bits
@@ -48,15 +48,15 @@ top_bit l (suc zero) r w h e = omega arith
 top_bit l (suc (suc q)) r w h e = absurd (omega arith)
 
 -- a number's bits, read again
-pub front_low_bits : (l w : ℕ) (rest : List Bool) → w < 2 ^ l → front l (low_bits l w ++ rest) ≡ w
-unfolding front low_bits
-front_low_bits zero w rest h = omega arith
-front_low_bits (suc l) w rest h =
+pub window_low_bits : (l w : ℕ) (rest : List Bool) → w < 2 ^ l → window_of l (low_bits l w ++ rest) ≡ w
+unfolding window_of low_bits
+window_low_bits zero w rest h = omega arith
+window_low_bits (suc l) w rest h =
     let whole : w / 2 ^ l * 2 ^ l + w % 2 ^ l ≡ w = shr_split w l in
     let small : w % 2 ^ l < 2 ^ l = mod_below w (2 ^ l) (pow_pos l) in
     let same : low_bits l w ≡ low_bits l (w % 2 ^ l) = ap (low_bits l) (sym whole) ∙ low_bits_cat (w / 2 ^ l) l (w % 2 ^ l) l (omega arith) in
     let few : w / 2 ^ l < 2 = shr_below w 1 l (rw (one-add l) h) in
-    rw (same, front_low_bits l (w % 2 ^ l) rest small) (top_bit l (w / 2 ^ l) (w % 2 ^ l) w few whole)
+    rw (same, window_low_bits l (w % 2 ^ l) rest small) (top_bit l (w / 2 ^ l) (w % 2 ^ l) w few whole)
 
 set_bit : (l f : ℕ) → f < 2 ^ l → ((2 ^ l + f) / 2 ^ l % 2 == 1) ≡ true
 set_bit l f h =
@@ -74,14 +74,14 @@ set_rest l f =
     rw e (low_bits_cat 1 l f l (omega arith))
 
 -- bits, and the number of the first of them
-pub low_bits_front : (l : ℕ) (bs : List Bool) → l ≤ length bs → low_bits l (front l bs) ++ drop l bs ≡ bs
-unfolding front low_bits
-low_bits_front zero bs h = refl
-low_bits_front (suc l) [] h = absurd (omega arith)
-low_bits_front (suc l) (true ∷ bs) h =
-    rw (set_bit l (front l bs) (front_below l bs), set_rest l (front l bs), low_bits_front l bs (omega arith)) refl
-low_bits_front (suc l) (false ∷ bs) h =
-    rw (clear_bit l (front l bs) (front_below l bs), zero-add (front l bs), low_bits_front l bs (omega arith)) refl
+pub low_bits_window : (l : ℕ) (bs : List Bool) → l ≤ length bs → low_bits l (window_of l bs) ++ drop l bs ≡ bs
+unfolding window_of low_bits
+low_bits_window zero bs h = refl
+low_bits_window (suc l) [] h = absurd (omega arith)
+low_bits_window (suc l) (true ∷ bs) h =
+    rw (set_bit l (window_of l bs) (window_below l bs), set_rest l (window_of l bs), low_bits_window l bs (omega arith)) refl
+low_bits_window (suc l) (false ∷ bs) h =
+    rw (clear_bit l (window_of l bs) (window_below l bs), zero-add (window_of l bs), low_bits_window l bs (omega arith)) refl
 
 pub low_bits_append : (a b w u : ℕ) → u < 2 ^ b → low_bits (a + b) (w * 2 ^ b + u) ≡ low_bits a w ++ low_bits b u
 unfolding low_bits

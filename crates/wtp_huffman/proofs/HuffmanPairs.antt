@@ -1,4 +1,4 @@
--- The one or two short words at the front of twelve bits.
+-- The one or two short words that twelve bits begin with.
 use Rattle.std.proofs.Common.{Bool, List, [], ap, append-nil, append_assoc, arith, cond, drop, inl, inr, length, nat_le, nat_lt, refl, subst, suc, sym, take, true, zero, ℕ, ◌&&◌, ◌%◌, ◌*◌, ◌++◌, ◌+◌, ◌-◌, ◌/◌, ◌<◌, ◌==◌, ◌^◌, ◌∙◌, ◌∷◌, ◌≡◌, ◌≤◌, ◌⊎◌}
 use Rattle.std.proofs.Math.Nat.{div-div-eq-div-mul, mul-div_cancel, mul-le-mul_right, zero-add}
 use Rattle.std.proofs.lemmas.Bool.{and_parts, eqb-true, leb-true, ltb-true}
@@ -6,20 +6,22 @@ use Rattle.std.proofs.lemmas.List.{drop-drop, length-append, length-drop}
 use Rattle.std.proofs.lemmas.Nat.{div_below, le-div, mod_below, pow-add, pow_pos, shr_high, shr_split}
 use Rattle.std.specs.Prelude.{slice_index}
 use Rattle.wtp_huffman.specs.Huffman.{low_bits}
-use Rattle.wtp_huffman.specs.HuffmanSteps.{Reads, Takes, waiting_bits, IsClear}
-use Rattle.wtp_huffman.specs.HuffmanTables.{IsWord, front, pair_bits_at, pair_count_at, pair_first_at, pair_second_at, room, row_at, short_bits_at, short_byte_at, symbol_at}
+use Rattle.wtp_huffman.specs.HuffmanRows.{row_at, symbol_at}
+use Rattle.wtp_huffman.specs.HuffmanShort.{short_bits_at, short_byte_at}
+use Rattle.wtp_huffman.specs.HuffmanPairs.{pair_bits_at, pair_count_at, pair_first_at, pair_second_at}
+use Rattle.wtp_huffman.specs.HuffmanDecoding.{Reads, Decodes, waiting_bits, IsClear, IsWord, window_of, room}
 use Rattle.wtp_huffman.specs.declared.huffman.pairs.TheConstants.{PAIRS}
 use Rattle.wtp_huffman.proofs.Chosen.{chosen}
-use Rattle.wtp_huffman.proofs.HuffmanBits.{front_below, front_low_bits, front_split, low_bits_append, low_bits_length}
-use Rattle.wtp_huffman.proofs.HuffmanReading.{drop_held, reads_more}
+use Rattle.wtp_huffman.proofs.HuffmanBits.{window_below, window_low_bits, window_split, low_bits_append, low_bits_length}
+use Rattle.wtp_huffman.proofs.HuffmanDecoding.{drop_held, reads_more}
 use Rattle.wtp_huffman.proofs.HuffmanTable.{row_facts, top_of}
 use Rattle.wtp_huffman.proofs.HuffmanWindows.{moved_on, short_found}
 
 -- ---- the table, entry by entry
 
--- the eight bits behind a word of l bits, as far as twelve bits tell, and zeros behind them
-abbrev pub behind_word : ℕ → ℕ → ℕ
-behind_word i l = i % 2 ^ (12 - l) * 2 ^ l / 16
+-- the eight bits after a word of l bits, as far as twelve bits have them, and zeros after these
+abbrev pub after_word : ℕ → ℕ → ℕ
+after_word i l = i % 2 ^ (12 - l) * 2 ^ l / 16
 
 second_ok : ℕ → ℕ → ℕ → ℕ → Bool
 second_ok j bits l second = nat_lt j 254 && ((bits == l + short_bits_at j) && (second == short_byte_at j))
@@ -27,7 +29,7 @@ second_ok j bits l second = nat_lt j 254 && ((bits == l + short_bits_at j) && (s
 pair_ok : ℕ → ℕ → ℕ → ℕ → Bool
 pair_ok i bits count second =
     let l = short_bits_at (i / 16) in
-    nat_le bits 12 && cond (count == 1) (bits == l) ((count == 2) && second_ok (behind_word i l) bits l second)
+    nat_le bits 12 && cond (count == 1) (bits == l) ((count == 2) && second_ok (after_word i l) bits l second)
 
 entry_ok : ℕ → ℕ → Bool
 entry_ok i e = (e / 256 % 256 == short_byte_at (i / 16)) && pair_ok i (e % 256) (2 - e / 16777216) (e / 65536 % 256)
@@ -52,7 +54,7 @@ pairs_ok_at i (suc k) (e ∷ es) h lt =
     rw same at next
 pairs_ok_at i k [] h lt = absurd (omega arith)
 
--- ---- a word that lies within the first m bits of a window is that of each window with these bits
+-- ---- a word within the first m bits of a window is that of each window with these bits
 
 pub same_word : (u v m bits symbol : ℕ) → IsWord v bits symbol → bits ≤ m → m ≤ 30 → u / 2 ^ (30 - m) ≡ v / 2 ^ (30 - m) → IsWord u bits symbol
 same_word u v m bits symbol w few most same =
@@ -81,16 +83,16 @@ same_word u v m bits symbol w few most same =
 
 -- ---- what an entry says
 
--- the second word within twelve bits, behind one of l bits
+-- the second word within twelve bits, after one of l bits
 pub record Second (i l bits second : ℕ) : Type 0 where
-  pub place : behind_word i l < 254
-  pub both : bits ≡ l + short_bits_at (behind_word i l)
-  pub byte : second ≡ short_byte_at (behind_word i l)
+  pub place : after_word i l < 254
+  pub both : bits ≡ l + short_bits_at (after_word i l)
+  pub byte : second ≡ short_byte_at (after_word i l)
 
-second_facts : (i l bits second : ℕ) → second_ok (behind_word i l) bits l second ≡ true → Second i l bits second
+second_facts : (i l bits second : ℕ) → second_ok (after_word i l) bits l second ≡ true → Second i l bits second
 unfolding second_ok
 second_facts i l bits second h =
-    let j : ℕ = behind_word i l in
+    let j : ℕ = after_word i l in
     let p = and_parts (nat_lt j 254) ((bits == l + short_bits_at j) && (second == short_byte_at j)) h in
     let q = and_parts (bits == l + short_bits_at j) (second == short_byte_at j) p.1 in
     record { place = ltb-true j 254 p.0; both = eqb-true bits (l + short_bits_at j) q.0; byte = eqb-true second (short_byte_at j) q.1 }
@@ -103,14 +105,14 @@ entry_facts : (i bits count second : ℕ) → pair_ok i bits count second ≡ tr
 unfolding pair_ok
 entry_facts i bits count second h =
     let l : ℕ = short_bits_at (i / 16) in
-    let two : Bool = (count == 2) && second_ok (behind_word i l) bits l second in
+    let two : Bool = (count == 2) && second_ok (after_word i l) bits l second in
     let p = and_parts (nat_le bits 12) (cond (count == 1) (bits == l) two) h in
     record {
       most = leb-true bits 12 p.0;
       words = elim (chosen (count == 1) (bits == l) two true p.1) [
         | inl one ↦ inl (eqb-true count 1 one.0, eqb-true bits l one.1)
         | inr more ↦
-            let q = and_parts (count == 2) (second_ok (behind_word i l) bits l second) more.1 in
+            let q = and_parts (count == 2) (second_ok (after_word i l) bits l second) more.1 in
             inr (eqb-true count 2 q.0, second_facts i l bits second q.1)
       ];
     }
@@ -135,32 +137,32 @@ top_part a k b small =
     let whole : (a * 2 ^ k + b) / 2 ^ k * 2 ^ k + (a * 2 ^ k + b) % 2 ^ k ≡ a * 2 ^ k + b = shr_split (a * 2 ^ k + b) k in
     omega (arith, rw (shr_high a k b small) at whole)
 
-first_word : (bits : List Bool) (i : ℕ) → front 12 bits ≡ i → i < 4064 → IsWord (front 30 bits) (short_bits_at (i / 16)) (short_byte_at (i / 16))
+first_word : (bits : List Bool) (i : ℕ) → window_of 12 bits ≡ i → i < 4064 → IsWord (window_of 30 bits) (short_bits_at (i / 16)) (short_byte_at (i / 16))
 first_word bits i e h =
-    let v : ℕ = front 30 bits in
-    let behind : ℕ = front 18 (drop 12 bits) in
-    let split : v ≡ i * 262144 + behind = front_split 12 18 bits ∙ ap (λ n. n * 262144 + behind) e in
-    let small : behind < 262144 = front_below 18 (drop 12 bits) in
+    let v : ℕ = window_of 30 bits in
+    let behind : ℕ = window_of 18 (drop 12 bits) in
+    let split : v ≡ i * 262144 + behind = window_split 12 18 bits ∙ ap (λ n. n * 262144 + behind) e in
+    let small : behind < 262144 = window_below 18 (drop 12 bits) in
     let place : v / 4194304 ≡ i / 16 = omega (arith, split, small) in
     rw place at (short_found v (omega (arith, split, small)))
 
-second_word : (bits : List Bool) (i l : ℕ) → front 12 bits ≡ i → l ≤ 12 → behind_word i l < 254 → l + short_bits_at (behind_word i l) ≤ 12
-    → IsWord (front 30 (drop l bits)) (short_bits_at (behind_word i l)) (short_byte_at (behind_word i l))
+second_word : (bits : List Bool) (i l : ℕ) → window_of 12 bits ≡ i → l ≤ 12 → after_word i l < 254 → l + short_bits_at (after_word i l) ≤ 12
+    → IsWord (window_of 30 (drop l bits)) (short_bits_at (after_word i l)) (short_byte_at (after_word i l))
 second_word bits i l e few place fits =
     let m : ℕ = 12 - l in
-    let u : ℕ = front 30 (drop l bits) in
+    let u : ℕ = window_of 30 (drop l bits) in
     let r : ℕ = i % 2 ^ m in
-    let j : ℕ = behind_word i l in
+    let j : ℕ = after_word i l in
     let v : ℕ = r * 2 ^ (18 + l) in
     let all : l + m ≡ 12 = omega arith in
-    let cut : i ≡ front l bits * 2 ^ m + front m (drop l bits) = sym e ∙ ap (λ k. front k bits) (sym all) ∙ front_split l m bits in
-    let known : r ≡ front m (drop l bits) = ap (λ z. z % 2 ^ m) cut ∙ top_part (front l bits) m (front m (drop l bits)) (front_below m (drop l bits)) in
+    let cut : i ≡ window_of l bits * 2 ^ m + window_of m (drop l bits) = sym e ∙ ap (λ k. window_of k bits) (sym all) ∙ window_split l m bits in
+    let known : r ≡ window_of m (drop l bits) = ap (λ z. z % 2 ^ m) cut ∙ top_part (window_of l bits) m (window_of m (drop l bits)) (window_below m (drop l bits)) in
     let window : m + (18 + l) ≡ 30 = omega arith in
-    let split : u ≡ r * 2 ^ (18 + l) + front (18 + l) (drop m (drop l bits)) =
-    ap (λ k. front k (drop l bits)) (sym window) ∙ front_split m (18 + l) (drop l bits) ∙ ap (λ z. z * 2 ^ (18 + l) + front (18 + l) (drop m (drop l bits))) (sym known) in
+    let split : u ≡ r * 2 ^ (18 + l) + window_of (18 + l) (drop m (drop l bits)) =
+    ap (λ k. window_of k (drop l bits)) (sym window) ∙ window_split m (18 + l) (drop l bits) ∙ ap (λ z. z * 2 ^ (18 + l) + window_of (18 + l) (drop m (drop l bits))) (sym known) in
     let behind : 30 - m ≡ 18 + l = omega arith in
     let same : u / 2 ^ (18 + l) ≡ v / 2 ^ (18 + l) = ap (λ z. z / 2 ^ (18 + l)) split
-    ∙ shr_high r (18 + l) (front (18 + l) (drop m (drop l bits))) (front_below (18 + l) (drop m (drop l bits))) ∙ sym (mul-div_cancel r (pow_pos (18 + l))) in
+    ∙ shr_high r (18 + l) (window_of (18 + l) (drop m (drop l bits))) (window_below (18 + l) (drop m (drop l bits))) ∙ sym (mul-div_cancel r (pow_pos (18 + l))) in
     let parts : v ≡ r * 2 ^ l * 262144 = ap (λ d. r * d) (pow-add 2 18 l) ∙ grind arith in
     let at_j : v / 4194304 ≡ j = omega (arith, parts) in
     let word : IsWord v (short_bits_at j) (short_byte_at j) = rw at_j at (short_found v (omega (arith, at_j, place))) in
@@ -176,9 +178,9 @@ pub record Limits (i : ℕ) : Type 0 where
   pub each : 5 * pair_count_at i ≤ pair_bits_at i
   pub first : pair_first_at i ≡ short_byte_at (i / 16)
 
-second_least : (i l bits second : ℕ) → Second i l bits second → 5 ≤ short_bits_at (behind_word i l)
+second_least : (i l bits second : ℕ) → Second i l bits second → 5 ≤ short_bits_at (after_word i l)
 second_least i l bits second s =
-    let j : ℕ = behind_word i l in
+    let j : ℕ = after_word i l in
     let v : ℕ = j * 4194304 in
     let place : v / 4194304 ≡ j = mul-div_cancel j (omega arith) in
     let word = rw place at (short_found v (omega (arith, s.place))) in
@@ -205,7 +207,7 @@ limits i h =
           }
     ]
 
-pub reads_pair : (text out : List ℕ) (bits : List Bool) (i : ℕ) → Reads text out bits → front 12 bits ≡ i → i < 4064 → 12 ≤ length bits
+pub reads_pair : (text out : List ℕ) (bits : List Bool) (i : ℕ) → Reads text out bits → window_of 12 bits ≡ i → i < 4064 → 12 ≤ length bits
     → short_byte_at (i / 16) < 256 → pair_second_at i < 256
     → Reads text (out ++ take (pair_count_at i) (short_byte_at (i / 16) ∷ pair_second_at i ∷ [])) (drop (pair_bits_at i) bits)
 reads_pair text out bits i d e h long small small2 =
@@ -220,7 +222,7 @@ reads_pair text out bits i d e h long small small2 =
           let next : Reads text (out ++ x ∷ []) (drop l bits) = reads_more text out bits l x d first (omega (arith, one.1, entry.most)) small in
           rw (one.0, one.1) next
       | inr two ↦
-          let j : ℕ = behind_word i l in
+          let j : ℕ = after_word i l in
           let fits : l + short_bits_at j ≤ 12 = omega (arith, two.1.both, entry.most) in
           let second = second_word bits i l e (omega (arith, fits)) two.1.place fits in
           let next : Reads text (out ++ x ∷ []) (drop l bits) = reads_more text out bits l x d first (omega (arith, fits)) small in
@@ -231,8 +233,8 @@ reads_pair text out bits i d e h long small small2 =
     ]
 
 -- the first twelve of the bits that wait
-pub front_bits : (held w : ℕ) (behind : List Bool) → 12 ≤ held → held ≤ 64 → w < 2 ^ 64 → front 12 (waiting_bits held w ++ behind) ≡ w / 4503599627370496
-front_bits held w behind h most small =
+pub pair_window : (held w : ℕ) (behind : List Bool) → 12 ≤ held → held ≤ 64 → w < 2 ^ 64 → window_of 12 (waiting_bits held w ++ behind) ≡ w / 4503599627370496
+pair_window held w behind h most small =
     let v : ℕ = w / 2 ^ (64 - held) in
     let m : ℕ = held - 12 in
     let x : ℕ = v / 2 ^ m in
@@ -242,11 +244,11 @@ front_bits held w behind h most small =
     let places : (64 - held) + m ≡ 52 = omega arith in
     let top : x ≡ w / 4503599627370496 = div-div-eq-div-mul w (2 ^ (64 - held)) (2 ^ m) ∙ ap (λ d. w / d) (sym (pow-add 2 (64 - held) m) ∙ ap (λ n. 2 ^ n) places) in
     let fits : x < 4096 = omega (arith, top) in
-    rw (cut, append_assoc (low_bits 12 x) (low_bits m (v % 2 ^ m)) behind) (front_low_bits 12 x (low_bits m (v % 2 ^ m) ++ behind) fits ∙ top)
+    rw (cut, append_assoc (low_bits 12 x) (low_bits m (v % 2 ^ m)) behind) (window_low_bits 12 x (low_bits m (v % 2 ^ m) ++ behind) fits ∙ top)
 
 pub takes_pair : (out : List ℕ) (held w i : ℕ) → 12 ≤ held → held < 64 → w < 18302628885633695744 → IsClear held w → w / 4503599627370496 ≡ i
     → short_byte_at (i / 16) < 256 → pair_second_at i < 256
-    → Takes out held w (out ++ take (pair_count_at i) (short_byte_at (i / 16) ∷ pair_second_at i ∷ [])) (held - pair_bits_at i) (w * 2 ^ pair_bits_at i % 18446744073709551616)
+    → Decodes out held w (out ++ take (pair_count_at i) (short_byte_at (i / 16) ∷ pair_second_at i ∷ [])) (held - pair_bits_at i) (w * 2 ^ pair_bits_at i % 18446744073709551616)
 takes_pair out held w i enough few short clear e small small2 =
     let h : i < 4064 = omega (arith, e) in
     let limit = limits i h in
@@ -257,17 +259,17 @@ takes_pair out held w i enough few short clear e small small2 =
       reads = λ text behind d.
           let bits : List Bool = waiting_bits held w ++ behind in
           let long : 12 ≤ length bits = omega (arith, length-append (waiting_bits held w) behind, low_bits_length held v) in
-          let next = reads_pair text out bits i d (front_bits held w behind enough (omega arith) (omega arith) ∙ e) h long small small2 in
+          let next = reads_pair text out bits i d (pair_window held w behind enough (omega arith) (omega arith) ∙ e) h long small small2 in
           let place : drop (pair_bits_at i) bits ≡ low_bits (held - pair_bits_at i) v ++ behind = drop_held (pair_bits_at i) held v behind fits in
           subst (λ b. Reads text (out ++ take (pair_count_at i) (short_byte_at (i / 16) ∷ pair_second_at i ∷ [])) b) (place ∙ ap (λ b. b ++ behind) (sym moved.0)) next;
       clear = moved.1;
       fewer = omega (arith, limit.least);
     }
 
-pub takes_both : {a b c : List ℕ} {held w held2 w2 left rest : ℕ} → Takes a held w b held2 w2 → Takes b held2 w2 c left rest → Takes a held w c left rest
+pub takes_both : {a b c : List ℕ} {held w held2 w2 left rest : ℕ} → Decodes a held w b held2 w2 → Decodes b held2 w2 c left rest → Decodes a held w c left rest
 takes_both one two = record { reads = λ text behind d. two.reads text behind (one.reads text behind d); clear = two.clear; fewer = omega (arith, one.fewer, two.fewer) }
 
--- the same, where nothing is behind the bits that wait
-pub takes_last : {old new : List ℕ} {held w left rest : ℕ} (text : List ℕ) → Takes old held w new left rest → Reads text old (waiting_bits held w) → Reads text new (waiting_bits left rest)
+-- the same, where no bits come after those that wait
+pub takes_last : {old new : List ℕ} {held w left rest : ℕ} (text : List ℕ) → Decodes old held w new left rest → Reads text old (waiting_bits held w) → Reads text new (waiting_bits left rest)
 takes_last {old} {new} {held} {w} {left} {rest} text step d =
     subst (λ b. Reads text new b) (append-nil (waiting_bits left rest)) (step.reads text [] (subst (λ b. Reads text old b) (sym (append-nil (waiting_bits held w))) d))

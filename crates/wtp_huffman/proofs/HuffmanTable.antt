@@ -5,7 +5,8 @@ use Rattle.std.proofs.lemmas.Nat.{div_below, le-div, pow_pos}
 use Rattle.std.specs.Prelude.{slice_index_or}
 use Rattle.wtp_huffman.specs.Huffman.{Word, word_of}
 use Rattle.wtp_huffman.specs.HuffmanRows.{rows}
-use Rattle.wtp_huffman.specs.HuffmanTables.{InRow, IsWord, room, row_at, symbol_at, symbol_in}
+use Rattle.wtp_huffman.specs.HuffmanRows.{row_at, symbol_at}
+use Rattle.wtp_huffman.specs.HuffmanDecoding.{InRow, IsWord, room, symbol_in}
 use Rattle.wtp_huffman.specs.declared.huffman.codes.TheConstants.{CODES}
 use Rattle.wtp_huffman.specs.declared.huffman.rows.Row.{Row}
 use Rattle.wtp_huffman.specs.declared.huffman.rows.TheConstants.{ROWS}
@@ -39,7 +40,7 @@ all_places : all_below places_ok 21 ≡ true
 unfolding row_at symbol_at word_of rows place_ok places_ok
 all_places = refl
 
--- ---- each symbol lies in a row
+-- ---- each symbol is in a row
 
 row_with : ℕ → ℕ → List Row → ℕ
 row_with bits at [] = at
@@ -82,7 +83,7 @@ row_facts k h =
     let q = and_parts (nat_le (row_at k).bits 30) ((row_at k).limit == top_of k * 2 ^ room k) p.1 in
     record { least = leb-true 5 (row_at k).bits p.0; most = leb-true (row_at k).bits 30 q.0; ends = eqb-true (row_at k).limit (top_of k * 2 ^ room k) q.1 }
 
--- what stands at rank r of row k
+-- the symbol at rank r of row k
 pub record PlaceFacts (k r : ℕ) : Type 0 where
   pub bits : (word_of (symbol_at ((row_at k).skipped + r))).bits ≡ (row_at k).bits
   pub number : (word_of (symbol_at ((row_at k).skipped + r))).number ≡ (row_at k).first + r
@@ -150,7 +151,7 @@ symbol_facts x h =
       },
     )
 
--- no window lies in two rows
+-- no window is in two rows
 pub one_row : (v j k : ℕ) → InRow v j → InRow v k → j ≡ k
 unfolding apart
 one_row v j k a b = elim (cases_order j k) [

@@ -4,10 +4,11 @@ use Rattle.std.proofs.Math.Nat.{div-div-eq-div-mul, mod-add-div', mul-div_cancel
 use Rattle.std.proofs.lemmas.Bool.{and_parts, eqb-true, leb-true, ltb-true}
 use Rattle.std.proofs.lemmas.Nat.{div_below, mod-pow-add, mod_below, pow-add, pow_pos, shr_split}
 use Rattle.wtp_huffman.specs.Huffman.{AllOnes, IsPadding, low_bits}
-use Rattle.wtp_huffman.specs.HuffmanSteps.{waiting_bits}
-use Rattle.wtp_huffman.specs.HuffmanTables.{InRow, IsWord, front, room, row_at, symbol_at, short_bits_at, short_byte_at}
-use Rattle.wtp_huffman.proofs.HuffmanBits.{drop_low_bits, front_below, front_low_bits, front_split, low_bits_append, low_bits_mod}
-use Rattle.wtp_huffman.proofs.HuffmanWords.{front_of_ones}
+use Rattle.wtp_huffman.specs.HuffmanRows.{row_at, symbol_at}
+use Rattle.wtp_huffman.specs.HuffmanShort.{short_bits_at, short_byte_at}
+use Rattle.wtp_huffman.specs.HuffmanDecoding.{waiting_bits, InRow, IsWord, window_of, room}
+use Rattle.wtp_huffman.proofs.HuffmanBits.{drop_low_bits, window_below, window_low_bits, window_split, low_bits_append, low_bits_mod}
+use Rattle.wtp_huffman.proofs.HuffmanWords.{window_of_ones}
 use Rattle.wtp_huffman.proofs.Tables.{all_below, all_below_at}
 
 -- ---- the first row whose limit is above a window
@@ -87,21 +88,21 @@ short_found v h =
 -- ---- the next bits that wait
 
 -- the window of a few bits
-pub few_window : (bits number : ℕ) → bits ≤ 30 → number < 2 ^ bits → front 30 (low_bits bits number) + 1 ≡ (number + 1) * 2 ^ (30 - bits)
+pub few_window : (bits number : ℕ) → bits ≤ 30 → number < 2 ^ bits → window_of 30 (low_bits bits number) + 1 ≡ (number + 1) * 2 ^ (30 - bits)
 few_window bits number few fits =
     let m : ℕ = 30 - bits in
     let total : bits + m ≡ 30 = omega arith in
-    let split : front 30 (low_bits bits number ++ []) ≡ front bits (low_bits bits number ++ []) * 2 ^ m + front m (drop bits (low_bits bits number ++ [])) =
-    ap (λ n. front n (low_bits bits number ++ [])) (sym total) ∙ front_split bits m (low_bits bits number ++ []) in
+    let split : window_of 30 (low_bits bits number ++ []) ≡ window_of bits (low_bits bits number ++ []) * 2 ^ m + window_of m (drop bits (low_bits bits number ++ [])) =
+    ap (λ n. window_of n (low_bits bits number ++ [])) (sym total) ∙ window_split bits m (low_bits bits number ++ []) in
     let e : low_bits bits number ++ [] ≡ low_bits bits number = append-nil (low_bits bits number) in
-    let read : front bits (low_bits bits number ++ []) ≡ number = front_low_bits bits number [] fits in
-    let gone : front m (drop bits (low_bits bits number ++ [])) + 1 ≡ 2 ^ m = rw (drop_low_bits bits number []) (front_of_ones m [] tt) in
+    let read : window_of bits (low_bits bits number ++ []) ≡ number = window_low_bits bits number [] fits in
+    let gone : window_of m (drop bits (low_bits bits number ++ [])) + 1 ≡ 2 ^ m = rw (drop_low_bits bits number []) (window_of_ones m [] tt) in
     let joined = rw read at split in
-    let whole : front 30 (low_bits bits number ++ []) + 1 ≡ (number + 1) * 2 ^ m = omega arith in
-    let P : List Bool → Type 0 = λ z. front 30 z + 1 ≡ (number + 1) * 2 ^ m in
+    let whole : window_of 30 (low_bits bits number ++ []) + 1 ≡ (number + 1) * 2 ^ m = omega arith in
+    let P : List Bool → Type 0 = λ z. window_of 30 z + 1 ≡ (number + 1) * 2 ^ m in
     subst P e whole
 
-window_full : (held w : ℕ) (behind : List Bool) → 30 ≤ held → w / 2 ^ (held - 30) % 1073741824 ≡ front 30 (low_bits held w ++ behind)
+window_full : (held w : ℕ) (behind : List Bool) → 30 ≤ held → w / 2 ^ (held - 30) % 1073741824 ≡ window_of 30 (low_bits held w ++ behind)
 window_full held w behind h =
     let m : ℕ = held - 30 in
     let x : ℕ = w / 2 ^ m in
@@ -109,7 +110,7 @@ window_full held w behind h =
     let cut : low_bits held w ≡ low_bits 30 x ++ low_bits m (w % 2 ^ m) =
     ap (λ n. low_bits n w) (sym total) ∙ ap (low_bits (30 + m)) (sym (shr_split w m)) ∙ low_bits_append 30 m x (w % 2 ^ m) (mod_below w (2 ^ m) (pow_pos m)) in
     let r : List Bool = low_bits m (w % 2 ^ m) ++ behind in
-    rw (cut, append_assoc (low_bits 30 x) (low_bits m (w % 2 ^ m)) behind, low_bits_mod 30 x) (sym (front_low_bits 30 (x % 2 ^ 30) r (mod_below x (2 ^ 30) (pow_pos 30))))
+    rw (cut, append_assoc (low_bits 30 x) (low_bits m (w % 2 ^ m)) behind, low_bits_mod 30 x) (sym (window_low_bits 30 (x % 2 ^ 30) r (mod_below x (2 ^ 30) (pow_pos 30))))
 
 -- the highest bits of a number of 64 are few enough
 pub top_below : (held w : ℕ) → held ≤ 64 → w < 2 ^ 64 → w / 2 ^ (64 - held) < 2 ^ held
@@ -117,13 +118,13 @@ top_below held w h small =
     let whole : 2 ^ held * 2 ^ (64 - held) ≡ 2 ^ 64 = sym (pow-add 2 held (64 - held)) ∙ ap (λ n. 2 ^ n) (let e : held + (64 - held) ≡ 64 = omega arith in e) in
     div_below w (2 ^ (64 - held)) (2 ^ held) (pow_pos (64 - held)) (rw whole small)
 
--- a number with zeros behind its highest bits
+-- a number with zeros after its highest bits
 clear_whole : (w m : ℕ) → w % m ≡ 0 → w ≡ w / m * m
 clear_whole w m clear = omega (arith, mod-add-div' w m, clear)
 
 -- the next window
 pub whole_window : (held w : ℕ) (behind : List Bool) → 30 ≤ held → held ≤ 64 → w < 2 ^ 64
-    → (w / 17179869184 ≡ front 30 (waiting_bits held w ++ behind)) × (w / 17179869184 < 1073741824)
+    → (w / 17179869184 ≡ window_of 30 (waiting_bits held w ++ behind)) × (w / 17179869184 < 1073741824)
 whole_window held w behind h most small =
     let m : ℕ = 64 - held in
     let total : m + (held - 30) ≡ 34 = omega arith in
@@ -133,7 +134,7 @@ whole_window held w behind h most small =
 
 -- the last window, filled with ones
 pub filled_window : (held w : ℕ) → held < 30 → w < 2 ^ 64 → w % 2 ^ (64 - held) ≡ 0
-    → w / 17179869184 + 2 ^ (30 - held) ≡ front 30 (waiting_bits held w) + 1
+    → w / 17179869184 + 2 ^ (30 - held) ≡ window_of 30 (waiting_bits held w) + 1
 filled_window held w h small clear =
     let m : ℕ = 64 - held in
     let v : ℕ = w / 2 ^ m in
@@ -142,10 +143,10 @@ filled_window held w h small clear =
     let parts : 2 ^ m ≡ q * 17179869184 = ap (λ n. 2 ^ n) (sym total) ∙ pow-add 2 (30 - held) 34 in
     let whole : w ≡ (v * q) * 17179869184 = clear_whole w (2 ^ m) clear ∙ ap (λ d. v * d) parts ∙ sym (mul_assoc v q 17179869184) in
     let top : w / 17179869184 ≡ v * q = ap (λ n. n / 17179869184) whole ∙ mul-div_cancel (v * q) (let p : 0 < 17179869184 = omega arith in p) in
-    let filled : front 30 (low_bits held v) + 1 ≡ (v + 1) * q = few_window held v (omega arith) (top_below held w (omega arith) small) in
+    let filled : window_of 30 (low_bits held v) + 1 ≡ (v + 1) * q = few_window held v (omega arith) (top_below held w (omega arith) small) in
     omega (arith, top, filled)
 
--- bits taken in behind those that wait
+-- bits added after those that wait
 taken_in : (held b w n : ℕ) → held + b ≤ 64 → w < 2 ^ 64 → w % 2 ^ (64 - held) ≡ 0 → n < 2 ^ b
     → (w + n * 2 ^ (64 - (held + b)) < 2 ^ 64) × ((w + n * 2 ^ (64 - (held + b))) % 2 ^ (64 - (held + b)) ≡ 0)
     × (waiting_bits (held + b) (w + n * 2 ^ (64 - (held + b))) ≡ waiting_bits held w ++ low_bits b n)
@@ -205,16 +206,16 @@ moved_on bits held w h most clear =
 
 -- ---- padding
 
-ones_from_front : (n : ℕ) (bits : List Bool) → length bits ≤ n → front n bits + 1 ≡ 2 ^ n → AllOnes bits
-unfolding front
+ones_from_front : (n : ℕ) (bits : List Bool) → length bits ≤ n → window_of n bits + 1 ≡ 2 ^ n → AllOnes bits
+unfolding window_of
 ones_from_front zero [] h e = tt
 ones_from_front zero (b ∷ bits) h e = absurd (omega arith)
 ones_from_front (suc n) [] h e = tt
 ones_from_front (suc n) (true ∷ bits) h e = (refl, ones_from_front n bits (omega arith) (omega (arith, two-pow-succ n)))
-ones_from_front (suc n) (false ∷ bits) h e = absurd (omega (arith, two-pow-succ n, front_below n bits))
+ones_from_front (suc n) (false ∷ bits) h e = absurd (omega (arith, two-pow-succ n, window_below n bits))
 
-pub padding_from : (bits : List Bool) → length bits < 8 → front 30 bits ≡ 1073741823 → IsPadding bits
+pub padding_from : (bits : List Bool) → length bits < 8 → window_of 30 bits ≡ 1073741823 → IsPadding bits
 padding_from bits few e = (few, ones_from_front 30 bits (omega arith) (omega arith))
 
-pub padding_window : (bits : List Bool) → IsPadding bits → front 30 bits ≡ 1073741823
-padding_window bits p = omega (arith, front_of_ones 30 bits p.1)
+pub padding_window : (bits : List Bool) → IsPadding bits → window_of 30 bits ≡ 1073741823
+padding_window bits p = omega (arith, window_of_ones 30 bits p.1)

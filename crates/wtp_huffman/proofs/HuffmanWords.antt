@@ -1,23 +1,24 @@
--- What the row of a window says of the code words at the front of bits.
+-- What the row of a window says of the code word at the start of bits.
 use Rattle.std.proofs.Common.{lit<, lit≤, Bool, List, [], ap, append_assoc, arith, drop, false, length, refl, subst, suc, sym, true, zero, ℕ, ◌*◌, ◌++◌, ◌+◌, ◌/◌, ◌<◌, ◌^◌, ◌∙◌, ◌∷◌, ◌≡◌, ◌≤◌}
 use Rattle.std.proofs.Math.Nat.{mul-le-mul_right, two-pow-succ}
 use Rattle.std.proofs.Math.Seq.{drop-append_seam}
 use Rattle.std.proofs.lemmas.List.{length-append}
 use Rattle.std.proofs.lemmas.Nat.{shr_high}
-use Rattle.wtp_huffman.specs.Huffman.{AllOnes, IsCoded, IsPadding, code, coded, word_of}
-use Rattle.wtp_huffman.specs.HuffmanTables.{InRow, front, room, row_at, symbol_in}
-use Rattle.wtp_huffman.proofs.HuffmanBits.{front_below, front_low_bits, front_split, low_bits_front, low_bits_length}
+use Rattle.wtp_huffman.specs.Huffman.{AllOnes, IsCoded, IsPadding, code, text_code, word_of}
+use Rattle.wtp_huffman.specs.HuffmanRows.{row_at}
+use Rattle.wtp_huffman.specs.HuffmanDecoding.{InRow, window_of, room, symbol_in}
+use Rattle.wtp_huffman.proofs.HuffmanBits.{window_below, window_low_bits, window_split, low_bits_window, low_bits_length}
 use Rattle.wtp_huffman.proofs.HuffmanTable.{SymbolFacts, found, one_row, row_facts, symbol_facts, top_of}
 
 -- the window of bits
 abbrev window : List Bool → ℕ
-window bits = front 30 bits
+window bits = window_of 30 bits
 
 -- the first l bits of a window
-front_of_window : (l m : ℕ) (bits : List Bool) → l + m ≡ 30 → window bits ≡ front l bits * 2 ^ m + front m (drop l bits)
-front_of_window l m bits e = ap (λ n. front n bits) (sym e) ∙ front_split l m bits
+window_parts : (l m : ℕ) (bits : List Bool) → l + m ≡ 30 → window bits ≡ window_of l bits * 2 ^ m + window_of m (drop l bits)
+window_parts l m bits e = ap (λ n. window_of n bits) (sym e) ∙ window_split l m bits
 
--- Where enough bits are left, the symbol of the window's row stands in front of them.
+-- If enough bits are left, they begin with the word of the window's row.
 pub word_in_front : (bits : List Bool) (k : ℕ) → InRow (window bits) k → (row_at k).bits ≤ length bits
     → bits ≡ code (symbol_in (window bits) k) ++ drop (row_at k).bits bits
 unfolding code
@@ -25,12 +26,12 @@ word_in_front bits k h enough =
     let f = row_facts k h.below in
     let l : ℕ = (row_at k).bits in
     let fits : l + room k ≡ 30 = omega (arith, f.most) in
-    let split : window bits ≡ front l bits * 2 ^ room k + front (room k) (drop l bits) = front_of_window l (room k) bits fits in
-    let number : window bits / 2 ^ room k ≡ front l bits = rw split (shr_high (front l bits) (room k) (front (room k) (drop l bits)) (front_below (room k) (drop l bits))) in
+    let split : window bits ≡ window_of l bits * 2 ^ room k + window_of (room k) (drop l bits) = window_parts l (room k) bits fits in
+    let number : window bits / 2 ^ room k ≡ window_of l bits = rw split (shr_high (window_of l bits) (room k) (window_of (room k) (drop l bits)) (window_below (room k) (drop l bits))) in
     let there = found (window bits) k h in
-    rw (there.bits, there.number, number) (sym (low_bits_front l bits enough))
+    rw (there.bits, there.number, number) (sym (low_bits_window l bits enough))
 
--- A symbol that stands in front of bits is that of the window's row.
+-- A word that bits begin with is that of the window's row.
 pub only_word : (bits more : List Bool) (k y : ℕ) → InRow (window bits) k → y < 257 → bits ≡ code y ++ more
     → (y ≡ symbol_in (window bits) k) × ((word_of y).bits ≡ (row_at k).bits)
 unfolding code
@@ -43,16 +44,16 @@ only_word bits more k y h small e =
     let r : ℕ = room j in
     let n : ℕ = (word_of y).number in
     let fits : l + r ≡ 30 = omega (arith, f.most) in
-    let split : window bits ≡ front l bits * 2 ^ r + front r (drop l bits) = front_of_window l r bits fits in
-    let rest : front r (drop l bits) < 2 ^ r = front_below r (drop l bits) in
-    let read : front (word_of y).bits bits ≡ n = rw e (front_low_bits (word_of y).bits n more s.fits) in
-    let number : front l bits ≡ n = rw s.bits at read in
-    let whole : window bits ≡ n * 2 ^ r + front r (drop l bits) = rw number at split in
+    let split : window bits ≡ window_of l bits * 2 ^ r + window_of r (drop l bits) = window_parts l r bits fits in
+    let rest : window_of r (drop l bits) < 2 ^ r = window_below r (drop l bits) in
+    let read : window_of (word_of y).bits bits ≡ n = rw e (window_low_bits (word_of y).bits n more s.fits) in
+    let number : window_of l bits ≡ n = rw s.bits at read in
+    let whole : window bits ≡ n * 2 ^ r + window_of r (drop l bits) = rw number at split in
     let low : (row_at j).first * 2 ^ r ≤ n * 2 ^ r = mul-le-mul_right (2 ^ r) s.low in
     let high : (n + 1) * 2 ^ r ≤ top_of j * 2 ^ r = mul-le-mul_right (2 ^ r) (omega (arith, s.high)) in
     let in_j : InRow (window bits) j = record { below = s.below; low = omega arith; high = omega (arith, f.ends) } in
     let same : j ≡ k = one_row (window bits) j k in_j h in
-    let quotient : window bits / 2 ^ r ≡ n = rw whole (shr_high n r (front r (drop l bits)) rest) in
+    let quotient : window bits / 2 ^ r ≡ n = rw whole (shr_high n r (window_of r (drop l bits)) rest) in
     let P : ℕ → Type 0 = λ i. (y ≡ symbol_in (window bits) i) × ((word_of y).bits ≡ (row_at i).bits) in
     let at_j : P j = (rw quotient (sym s.symbol), s.bits) in
     subst P same at_j
@@ -61,18 +62,18 @@ pub length_code : (x : ℕ) → length (code x) ≡ (word_of x).bits
 unfolding code
 length_code x = low_bits_length (word_of x).bits (word_of x).number
 
--- No word stands in front of fewer bits than the row asks for.
+-- Fewer bits than the row has begin with no word.
 pub no_word : (bits more : List Bool) (k y : ℕ) → InRow (window bits) k → y < 257 → length bits < (row_at k).bits → bits ≡ code y ++ more → ⊥
 no_word bits more k y h small few e =
     let only = only_word bits more k y h small e in
     omega (arith, ap length e, length-append (code y) more, length_code y, only.1)
 
-pub front_of_ones : (n : ℕ) (bits : List Bool) → AllOnes bits → front n bits + 1 ≡ 2 ^ n
-unfolding front
-front_of_ones zero bits h = omega arith
-front_of_ones (suc n) [] h = omega (arith, front_of_ones n [] tt, two-pow-succ n)
-front_of_ones (suc n) (true ∷ bits) h = omega (arith, front_of_ones n bits h.1, two-pow-succ n)
-front_of_ones (suc n) (false ∷ bits) h = cc
+pub window_of_ones : (n : ℕ) (bits : List Bool) → AllOnes bits → window_of n bits + 1 ≡ 2 ^ n
+unfolding window_of
+window_of_ones zero bits h = omega arith
+window_of_ones (suc n) [] h = omega (arith, window_of_ones n [] tt, two-pow-succ n)
+window_of_ones (suc n) (true ∷ bits) h = omega (arith, window_of_ones n bits h.1, two-pow-succ n)
+window_of_ones (suc n) (false ∷ bits) h = cc
 
 last_row : InRow 1073741823 20
 unfolding row_at
@@ -85,7 +86,7 @@ last_bits = refl
 -- A window of ones is that of the longest words.
 pub ones_row : (bits : List Bool) (k : ℕ) → InRow (window bits) k → AllOnes bits → (row_at k).bits ≡ 30
 ones_row bits k h ones =
-    let e : window bits ≡ 1073741823 = omega (arith, front_of_ones 30 bits ones) in
+    let e : window bits ≡ 1073741823 = omega (arith, window_of_ones 30 bits ones) in
     let last : InRow (window bits) 20 = rw e last_row in
     let same : k ≡ 20 = one_row (window bits) k 20 h last in
     rw same last_bits
@@ -94,22 +95,22 @@ ones_row bits k h ones =
 
 pub coded_word : (u : List ℕ) (bits : List Bool) (k : ℕ) → InRow (window bits) k → (row_at k).bits ≤ length bits → IsCoded u bits
     → (v : List ℕ) × (u ≡ symbol_in (window bits) k ∷ v) × (symbol_in (window bits) k < 256) × IsCoded v (drop (row_at k).bits bits)
-unfolding coded
+unfolding text_code
 coded_word [] bits k h enough (small, pad, p, e) =
     let ones : AllOnes bits = rw e p.1 in
     let few : length bits < 8 = rw e p.0 in
     absurd (omega (arith, ones_row bits k h ones))
 coded_word (y ∷ v) bits k h enough (small, pad, p, e) =
-    let split : bits ≡ code y ++ (coded v ++ pad) = e ∙ append_assoc (code y) (coded v) pad in
-    let only = only_word bits (coded v ++ pad) k y h (omega (arith, small.0)) split in
+    let split : bits ≡ code y ++ (text_code v ++ pad) = e ∙ append_assoc (code y) (text_code v) pad in
+    let only = only_word bits (text_code v ++ pad) k y h (omega (arith, small.0)) split in
     let len : length (code y) ≡ (row_at k).bits = length_code y ∙ only.1 in
-    let rest : drop (row_at k).bits bits ≡ coded v ++ pad = rw (split, ← len) (drop-append_seam (code y) (coded v ++ pad)) in
+    let rest : drop (row_at k).bits bits ≡ text_code v ++ pad = rw (split, ← len) (drop-append_seam (code y) (text_code v ++ pad)) in
     (v, ap (λ z. z ∷ v) only.0, rw (← only.0) small.0, (small.1, pad, p, rest))
 
 pub coded_end : (u : List ℕ) (bits : List Bool) (k : ℕ) → InRow (window bits) k → length bits < (row_at k).bits → IsCoded u bits
     → (u ≡ []) × IsPadding bits
-unfolding coded
+unfolding text_code
 coded_end [] bits k h few (small, pad, p, e) = (refl, rw e p)
 coded_end (y ∷ v) bits k h few (small, pad, p, e) =
-    let split : bits ≡ code y ++ (coded v ++ pad) = e ∙ append_assoc (code y) (coded v) pad in
-    absurd (no_word bits (coded v ++ pad) k y h (omega (arith, small.0)) few split)
+    let split : bits ≡ code y ++ (text_code v ++ pad) = e ∙ append_assoc (code y) (text_code v) pad in
+    absurd (no_word bits (text_code v ++ pad) k y h (omega (arith, small.0)) few split)

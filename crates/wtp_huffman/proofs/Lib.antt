@@ -5,8 +5,8 @@ pub mod HuffmanBits
 pub mod HuffmanTable
 pub mod HuffmanWords
 pub mod HuffmanWindows
-pub mod HuffmanReading
+pub mod HuffmanDecoding
 pub mod HuffmanPairs
-pub mod HuffmanWriting
+pub mod HuffmanEncoding
 pub mod HuffmanLengths
 pub mod HuffmanLaws

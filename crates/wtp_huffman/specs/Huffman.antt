@@ -1,27 +1,29 @@
 -- The Huffman code of header text (RFC 7541, section 5.2 and Appendix B).
-use Rattle.std.specs.Prelude.{◌≡◌, ℕ, zero, suc, ◌+◌, ◌-◌, ◌*◌, ◌/◌, ◌%◌, ◌^◌, ◌<◌, ◌==◌, Bool, true, if◌then◌else◌, List, [], ◌∷◌, ◌++◌, length}
+use Rattle.std.specs.Prelude.{◌≡◌, ℕ, zero, suc, ◌+◌, ◌-◌, ◌*◌, ◌/◌, ◌%◌, ◌^◌, ◌<◌, ◌==◌, Bool}
+use Rattle.std.specs.Prelude.{true, if◌then◌else◌, List, [], ◌∷◌, ◌++◌, length}
 use Rattle.wtp_huffman.specs.HuffmanRows.{TableRow, rows}
 
 -- ---- the code (Appendix B)
 
--- a code word: how many bits it has, and the number that they spell
+-- a code word: how many bits it has, and their number
 pub record Word : Type 0 where
   pub bits : ℕ
   pub number : ℕ
 
--- how many symbols stand before x in a row; all of them where x is not there
+-- how many symbols are before x in a row; all of them if x is not in it
 abbrev pub rank : ℕ → List ℕ → ℕ
 rank x [] = 0
 rank x (y ∷ ys) = if x == y then 0 else suc (rank x ys)
 
--- The code is canonical: the first word is 0, and each next one is the word before plus one, with zeros behind it up
--- to its own length. Here next is one past the last word of the rows before, which has that many bits.
+-- The code is canonical: the first word is 0, and each next one is the previous word plus one, with
+-- zeros after it up to its own length. Here `next` is one more than the last word of the previous
+-- rows, which has this many bits.
 abbrev pub word_in : ℕ → ℕ → ℕ → List TableRow → Word
 word_in x bits next [] = record { bits = 0; number = 0 }
-word_in x bits next (row ∷ behind) =
+word_in x bits next (row ∷ others) =
     let first = next * 2 ^ (row.bits - bits) in
     if rank x row.symbols == length row.symbols
-    then word_in x row.bits (first + length row.symbols) behind
+    then word_in x row.bits (first + length row.symbols) others
     else record { bits = row.bits; number = first + rank x row.symbols }
 
 -- the word of a symbol
@@ -39,10 +41,10 @@ code x = low_bits (word_of x).bits (word_of x).number
 
 -- ---- texts (section 5.2)
 
--- the code words of a text's bytes, joined
-unfoldable pub coded : List ℕ → List Bool
-coded [] = []
-coded (x ∷ xs) = code x ++ coded xs
+-- the code of a text: the code words of its bytes, joined
+unfoldable pub text_code : List ℕ → List Bool
+text_code [] = []
+text_code (x ∷ xs) = code x ++ text_code xs
 
 -- the bits of bytes, most significant first
 unfoldable pub bits_of : List ℕ → List Bool
@@ -53,8 +55,8 @@ abbrev pub AllOnes : List Bool → Type 0
 AllOnes [] = Unit {0}
 AllOnes (b ∷ bs) = (b ≡ true) × AllOnes bs
 
--- Fewer than eight bits, all ones, as the word of the end of the string begins. Longer padding and padding of other
--- bits are errors.
+-- Fewer than eight bits, all ones, which begin the word of the end of the string. Longer padding
+-- and padding of other bits are errors.
 abbrev pub IsPadding : List Bool → Type 0
 IsPadding pad = (length pad < 8) × AllOnes pad
 
@@ -62,14 +64,15 @@ abbrev pub IsBytes : List ℕ → Type 0
 IsBytes [] = Unit {0}
 IsBytes (x ∷ xs) = (x < 256) × IsBytes xs
 
--- these bits are the code words of the text, and padding
+-- these bits are the code of the text, and padding
 abbrev pub IsCoded : List ℕ → List Bool → Type 0
-IsCoded t bits = IsBytes t × (pad : List Bool) × IsPadding pad × (bits ≡ coded t ++ pad)
+IsCoded t bits = IsBytes t × (pad : List Bool) × IsPadding pad × (bits ≡ text_code t ++ pad)
 
--- The bytes s are the text t in the Huffman code. The end of the string has a word, but no text holds it.
+-- The bytes s are the text t in the Huffman code. The end of the string has a word, but no text
+-- contains it.
 abbrev pub IsHuffman : List ℕ → List ℕ → Type 0
 IsHuffman t s = IsCoded t (bits_of s)
 
--- how many bytes the code words of a text fill, the last perhaps in part
+-- the number of bytes of a text's code, the last perhaps in part
 abbrev pub coded_len : List ℕ → ℕ
-coded_len t = (length (coded t) + 7) / 8
+coded_len t = (length (text_code t) + 7) / 8

@@ -1,4 +1,6 @@
 pub mod HuffmanRows
 pub mod Huffman
-pub mod HuffmanTables
-pub mod HuffmanSteps
+pub mod HuffmanShort
+pub mod HuffmanPairs
+pub mod HuffmanDecoding
+pub mod HuffmanEncoding

@@ -1,7 +1,8 @@
 //! The Huffman code of header text (RFC 7541, section 5.2 and Appendix B).
 //!
-//! A coded text is the code words of its bytes, joined, and ones up to a whole byte. [`decode`] refuses everything
-//! else: other padding, eight or more bits of it, and the word of the end of the string.
+//! A Huffman text is the code words of the text's bytes, joined, and ones up to a whole byte.
+//! [`decode`] refuses everything else: other padding, eight or more bits of padding, and the word
+//! of the end of the string.
 ghost use Rattle.std.specs.Prelude.{◌≡◌};
 ghost use Rattle.wtp_huffman.specs.declared.huffman.HuffmanError.TheVariants.{Memory};
 
@@ -17,13 +18,13 @@ mod short;
 pub use decoding::{decode, decode_into};
 pub use encoding::{append, encode, encoded_len};
 
-/// Why a text was not decoded.
+/// The reason a text was not decoded.
 #[derive(Clone, Copy, Debug, PartialEq, Eq, thiserror::Error)]
 pub enum HuffmanError {
-    /// It is not code words and fewer than eight ones.
+    /// The bytes are not code words followed by fewer than eight ones.
     #[error("invalid Huffman text")]
     Invalid,
-    /// There was no memory for the decoded text.
+    /// Memory allocation failed.
     #[error("no memory")]
     Memory,
 }

@@ -1,22 +1,22 @@
 -- What the first two numbers of a frame say, and what follows them.
 use Rattle.std.proofs.Common.{◌≡◌, ◌≢◌, ℕ, ◌+◌, ◌%◌, ◌==◌, ◌<◌, ◌≤◌, nat_lt, List, [], ◌++◌, length, drop, Option, Some, None, refl, sym, ap, subst, ◌∙◌, arith, inl, inr, true, false, length-append, length-drop, append_assoc, append-nil}
 use Rattle.std.proofs.lemmas.Bool.{cases_lt, ltb-false, cases_Bool}
-use Rattle.wtp_core.specs.Varint.{Spells, number_at}
+use Rattle.wtp_core.specs.Varint.{Encodes, number_at}
 use Rattle.wtp_core.specs.VarintNeed.{varint_need}
 use Rattle.wtp_core.proofs.NeedLemmas.{number_at-cut, number_at-full, number_at-whole}
-use Rattle.wtp_core.proofs.SpellingLemmas.{number_at-more, number_at-spells}
+use Rattle.wtp_core.proofs.EncodingLemmas.{number_at-more, number_at-encodes}
 use Rattle.wtp_core.specs.Source.{Source}
-use Rattle.wtp_wire.specs.declared.frame.FrameKind.{FrameKind}
-use Rattle.wtp_wire.specs.declared.frame.FrameKind.TheVariants.{Data, Headers, Settings, WebTransport, Exercise}
+use Rattle.wtp_wire.specs.declared.frame.kind.FrameKind.{FrameKind}
+use Rattle.wtp_wire.specs.declared.frame.kind.FrameKind.TheVariants.{WebTransport}
 use Rattle.wtp_wire.specs.declared.frame.head.Said.{Said}
 use Rattle.wtp_wire.specs.declared.frame.head.Said.TheVariants as said-is
-use Rattle.wtp_wire.specs.Kind.{IsKind, IsKnown, is_exercise, kind_of}
-use Rattle.wtp_wire.specs.Front.{Short, Spelled, IsUnknown, front, typed_front, session_front, plain_front, unknown_front}
-use Rattle.wtp_wire.specs.FrameHead.{said, said_second, head_at, front_behind}
+use Rattle.wtp_wire.specs.Kind.{IsKnown, kind_of}
+use Rattle.wtp_wire.specs.Front.{Short, EncodesPair, IsUnknown, front_after, front}
+use Rattle.wtp_wire.specs.FrameHead.{head_says, second_says}
 use Rattle.wtp_wire.specs.FrameNeed.{frame_need, frame_need_is, frame_need_least}
 use Rattle.wtp_wire.specs.Held.{Held, IsUnknownHead, IsPayloadHead, Skips}
-use Rattle.wtp_wire.proofs.KindLemmas.{is-kind_of, kind_of-is, exercise_test}
-use Rattle.wtp_wire.proofs.FrontLemmas.{front-typed}
+use Rattle.wtp_wire.proofs.KindLemmas.{is-kind_of, kind_of-is, is_kind-known}
+use Rattle.wtp_wire.proofs.FrontLemmas.{head_at-numbers, front-head, front-none, front-cut}
 
 -- the two numbers of a complete head
 pub record Parts (h : List ℕ) : Type 0 where
@@ -34,15 +34,11 @@ parts_of h w =
     let two = number_at-whole r (omega (arith, frame_need_is h, length-drop (varint_need h) h)) in
     record { id = one.0; n = two.0; behind = r; first = one.1; second = two.1 }
 
-head_of : (bytes r rest : List ℕ) (id n : ℕ) → number_at bytes ≡ Some (id, r) → number_at r ≡ Some (n, rest) → head_at bytes ≡ Some (said_second (kind_of id) n, rest)
-unfolding head_at
-head_of bytes r rest id n e f = rw (e, f) refl
+pub said_of : (bytes r rest : List ℕ) (id n : ℕ) → number_at bytes ≡ Some (id, r) → number_at r ≡ Some (n, rest) → head_says bytes ≡ second_says (kind_of id) n
+unfolding head_says
+said_of bytes r rest id n e f = rw (head_at-numbers bytes r rest id n e f) refl
 
-pub said_of : (bytes r rest : List ℕ) (id n : ℕ) → number_at bytes ≡ Some (id, r) → number_at r ≡ Some (n, rest) → said bytes ≡ said_second (kind_of id) n
-unfolding said
-said_of bytes r rest id n e f = rw (head_of bytes r rest id n e f) refl
-
-pub said_more : (h xs : List ℕ) → frame_need h ≡ length h → said (h ++ xs) ≡ said h
+pub said_more : (h xs : List ℕ) → frame_need h ≡ length h → head_says (h ++ xs) ≡ head_says h
 said_more h xs w =
     let p = parts_of h w in
     said_of (h ++ xs) (p.behind ++ xs) xs p.id p.n (number_at-more p.id h p.behind xs p.first) (number_at-more p.n p.behind [] xs p.second)
@@ -50,57 +46,31 @@ said_more h xs w =
 
 -- ---- the first frame
 
-front_none : (bytes : List ℕ) → number_at bytes ≡ None → front bytes ≡ Short
-unfolding front
-front_none bytes e = rw e refl
-
-typed_none : (k : Option FrameKind) (r : List ℕ) → number_at r ≡ None → typed_front k r ≡ Short
-unfolding session_front plain_front unknown_front
-typed_none None r e = rw e refl
-typed_none (Some Data) r e = rw e refl
-typed_none (Some Headers) r e = rw e refl
-typed_none (Some Settings) r e = rw e refl
-typed_none (Some WebTransport) r e = rw e refl
-typed_none (Some (Exercise number)) r e = rw e refl
-
-typed_said : (k : Option FrameKind) (r rest : List ℕ) (n : ℕ) → number_at r ≡ Some (n, rest) → typed_front k r ≡ front_behind (said_second k n) rest
-unfolding session_front plain_front unknown_front
-typed_said None r rest n e = rw e refl
-typed_said (Some Data) r rest n e = elim (cases_Bool (nat_lt 4096 n)) [ inl t ↦ rw (e, t) refl | inr t ↦ rw (e, t) refl ]
-typed_said (Some Headers) r rest n e = elim (cases_Bool (nat_lt 4096 n)) [ inl t ↦ rw (e, t) refl | inr t ↦ rw (e, t) refl ]
-typed_said (Some Settings) r rest n e = elim (cases_Bool (nat_lt 4096 n)) [ inl t ↦ rw (e, t) refl | inr t ↦ rw (e, t) refl ]
-typed_said (Some WebTransport) r rest n e = elim (cases_Bool (n % 4 == 0)) [ inl t ↦ rw (e, t) refl | inr t ↦ rw (e, t) refl ]
-typed_said (Some (Exercise number)) r rest n e = elim (cases_Bool (nat_lt 4096 n)) [ inl t ↦ rw (e, t) refl | inr t ↦ rw (e, t) refl ]
-
 -- after a complete head
-pub front_said : (h xs : List ℕ) → frame_need h ≡ length h → front (h ++ xs) ≡ front_behind (said h) xs
+pub front_said : (h xs : List ℕ) → frame_need h ≡ length h → front (h ++ xs) ≡ front_after (head_says h) xs
 front_said h xs w =
     let p = parts_of h w in
-    front-typed (h ++ xs) (p.behind ++ xs) p.id (number_at-more p.id h p.behind xs p.first)
-    ∙ typed_said (kind_of p.id) (p.behind ++ xs) xs p.n (number_at-more p.n p.behind [] xs p.second)
-    ∙ ap (λ (s : Said). front_behind s xs) (sym (said_of h p.behind [] p.id p.n p.first p.second))
+    front-head (h ++ xs) xs (second_says (kind_of p.id) p.n) (head_at-numbers (h ++ xs) (p.behind ++ xs) xs p.id p.n (number_at-more p.id h p.behind xs p.first) (number_at-more p.n p.behind [] xs p.second))
+    ∙ ap (λ (s : Said). front_after s xs) (sym (said_of h p.behind [] p.id p.n p.first p.second))
 
 pub front_part : (h : List ℕ) → length h < frame_need h → front h ≡ Short
 front_part h f = elim (cases_lt (length h) (varint_need h)) [
-  | inl l ↦ front_none h (number_at-cut h l)
+  | inl l ↦ front-none h (number_at-cut h l)
   | inr l ↦
       let r = drop (varint_need h) h in
       let one = number_at-full h l in
       let cut : length r < varint_need r = omega (arith, frame_need_is h, length-drop (varint_need h) h) in
-      front-typed h r one.0 one.1 ∙ typed_none (kind_of one.0) r (number_at-cut r cut)
+      front-cut h r one.0 one.1 (number_at-cut r cut)
 ]
 
 -- ---- what the numbers say
 
-second_whole : (k : Option FrameKind) (n : ℕ) → said_second k n ≡ said-is.Unfinished → ⊥
+second_whole : (k : Option FrameKind) (n : ℕ) → second_says k n ≡ said-is.Unfinished → ⊥
 second_whole None n e = cc
 second_whole (Some WebTransport) n e = elim (cases_Bool (n % 4 == 0)) [ inl t ↦ cc (rw t at e) | inr t ↦ cc (rw t at e) ]
-second_whole (Some Data) n e = elim (cases_Bool (nat_lt 4096 n)) [ inl t ↦ cc (rw t at e) | inr t ↦ cc (rw t at e) ]
-second_whole (Some Headers) n e = elim (cases_Bool (nat_lt 4096 n)) [ inl t ↦ cc (rw t at e) | inr t ↦ cc (rw t at e) ]
-second_whole (Some Settings) n e = elim (cases_Bool (nat_lt 4096 n)) [ inl t ↦ cc (rw t at e) | inr t ↦ cc (rw t at e) ]
-second_whole (Some (Exercise id)) n e = elim (cases_Bool (nat_lt 4096 n)) [ inl t ↦ cc (rw t at e) | inr t ↦ cc (rw t at e) ]
+second_whole (Some kind) n e = elim (cases_Bool (nat_lt 4096 n)) [ inl t ↦ cc (rw t at e) | inr t ↦ cc (rw t at e) ]
 
-pub said_whole : (h : List ℕ) → frame_need h ≡ length h → said h ≡ said-is.Unfinished → ⊥
+pub said_whole : (h : List ℕ) → frame_need h ≡ length h → head_says h ≡ said-is.Unfinished → ⊥
 said_whole h w e = let p = parts_of h w in second_whole (kind_of p.id) p.n (sym (said_of h p.behind [] p.id p.n p.first p.second) ∙ e)
 
 -- a payload has one of these kinds, and at most 4096 bytes
@@ -118,73 +88,60 @@ small o k n m plain t e = let same : o ≡ k = cc in let size : n ≡ m = cc in 
   bound = omega (arith, ltb-false 4096 n t);
 }
 
-second_payload : (o : Option FrameKind) (k : FrameKind) (n m : ℕ) → said_second o n ≡ said-is.Payload k m → SecondIs o k n m
+second_payload : (o : Option FrameKind) (k : FrameKind) (n m : ℕ) → second_says o n ≡ said-is.Payload k m → SecondIs o k n m
 second_payload None k n m e = absurd (cc)
 second_payload (Some WebTransport) k n m e = elim (cases_Bool (n % 4 == 0)) [ inl t ↦ absurd (cc (rw t at e)) | inr t ↦ absurd (cc (rw t at e)) ]
-second_payload (Some Data) k n m e = elim (cases_Bool (nat_lt 4096 n)) [ inl t ↦ absurd (cc (rw t at e)) | inr t ↦ small Data k n m (λ w. cc) t (rw t at e) ]
-second_payload (Some Headers) k n m e = elim (cases_Bool (nat_lt 4096 n)) [ inl t ↦ absurd (cc (rw t at e)) | inr t ↦ small Headers k n m (λ w. cc) t (rw t at e) ]
-second_payload (Some Settings) k n m e = elim (cases_Bool (nat_lt 4096 n)) [ inl t ↦ absurd (cc (rw t at e)) | inr t ↦ small Settings k n m (λ w. cc) t (rw t at e) ]
-second_payload (Some (Exercise id)) k n m e = elim (cases_Bool (nat_lt 4096 n)) [ inl t ↦ absurd (cc (rw t at e)) | inr t ↦ small (Exercise id) k n m (λ w. cc) t (rw t at e) ]
+second_payload (Some kind) k n m e = elim (cases_Bool (nat_lt 4096 n)) [ inl t ↦ absurd (cc (rw t at e)) | inr t ↦ small kind k n m (λ w. cc) t (rw t at e) ]
 
-known : (k : FrameKind) (id : ℕ) → IsKind k id → IsKnown k
-known Data id h = tt
-known Headers id h = tt
-known Settings id h = tt
-known WebTransport id h = tt
-known (Exercise number) id h = let e : is_exercise number ≡ true = ap is_exercise h.0 ∙ exercise_test id h.1 in rw e refl
-
-pub said_payload : (h : List ℕ) (k : FrameKind) (m : ℕ) → frame_need h ≡ length h → said h ≡ said-is.Payload k m → (m ≤ 4096) × IsKnown k × (k ≢ WebTransport)
+pub said_payload : (h : List ℕ) (k : FrameKind) (m : ℕ) → frame_need h ≡ length h → head_says h ≡ said-is.Payload k m → (m ≤ 4096) × IsKnown k × (k ≢ WebTransport)
 said_payload h k m w e =
     let p = parts_of h w in
     let s = second_payload (kind_of p.id) k p.n m (sym (said_of h p.behind [] p.id p.n p.first p.second) ∙ e) in
-    (s.bound, known k p.id (is-kind_of k p.id s.kind), s.plain)
+    (s.bound, is_kind-known k p.id (is-kind_of k p.id s.kind), s.plain)
 
-pub payload_head : (h : List ℕ) (k : FrameKind) (m : ℕ) → frame_need h ≡ length h → said h ≡ said-is.Payload k m → IsPayloadHead k m h
+pub payload_head : (h : List ℕ) (k : FrameKind) (m : ℕ) → frame_need h ≡ length h → head_says h ≡ said-is.Payload k m → IsPayloadHead k m h
 payload_head h k m w e =
     let p = parts_of h w in
     let s = second_payload (kind_of p.id) k p.n m (sym (said_of h p.behind [] p.id p.n p.first p.second) ∙ e) in
-    let (first, typed, parts) = number_at-spells p.id h p.behind p.first in
-    let (second, number, more) = number_at-spells p.n p.behind [] p.second in
+    let (first, typed, parts) = number_at-encodes p.id h p.behind p.first in
+    let (second, number, more) = number_at-encodes p.n p.behind [] p.second in
     record {
       id = p.id;
       is_kind = is-kind_of k p.id s.kind;
       plain = s.plain;
-      spelled = record {
+      encoded = record {
         first = first;
         second = second;
         parts = parts ∙ ap (λ (x : List ℕ). first ++ x) (more ∙ append-nil second);
         type_number = typed;
-        number = subst (λ (k : ℕ). Spells k second) s.size number;
+        number = subst (λ (k : ℕ). Encodes k second) s.size number;
       };
       bound = s.bound;
     }
 
-second_skip : (o : Option FrameKind) (n m : ℕ) → said_second o n ≡ said-is.Skip m → (o ≡ None) × (n ≡ m)
+second_skip : (o : Option FrameKind) (n m : ℕ) → second_says o n ≡ said-is.Skip m → (o ≡ None) × (n ≡ m)
 second_skip None n m e = (refl, cc)
 second_skip (Some WebTransport) n m e = elim (cases_Bool (n % 4 == 0)) [ inl t ↦ absurd (cc (rw t at e)) | inr t ↦ absurd (cc (rw t at e)) ]
-second_skip (Some Data) n m e = elim (cases_Bool (nat_lt 4096 n)) [ inl t ↦ absurd (cc (rw t at e)) | inr t ↦ absurd (cc (rw t at e)) ]
-second_skip (Some Headers) n m e = elim (cases_Bool (nat_lt 4096 n)) [ inl t ↦ absurd (cc (rw t at e)) | inr t ↦ absurd (cc (rw t at e)) ]
-second_skip (Some Settings) n m e = elim (cases_Bool (nat_lt 4096 n)) [ inl t ↦ absurd (cc (rw t at e)) | inr t ↦ absurd (cc (rw t at e)) ]
-second_skip (Some (Exercise id)) n m e = elim (cases_Bool (nat_lt 4096 n)) [ inl t ↦ absurd (cc (rw t at e)) | inr t ↦ absurd (cc (rw t at e)) ]
+second_skip (Some kind) n m e = elim (cases_Bool (nat_lt 4096 n)) [ inl t ↦ absurd (cc (rw t at e)) | inr t ↦ absurd (cc (rw t at e)) ]
 
 none_some : (k : FrameKind) (o : Option FrameKind) → o ≡ None → o ≡ Some k → ⊥
 none_some k o e f = cc
 
-pub said_skip : (h : List ℕ) (m : ℕ) → frame_need h ≡ length h → said h ≡ said-is.Skip m → IsUnknownHead m h
+pub said_skip : (h : List ℕ) (m : ℕ) → frame_need h ≡ length h → head_says h ≡ said-is.Skip m → IsUnknownHead m h
 said_skip h m w e =
     let p = parts_of h w in
     let s = second_skip (kind_of p.id) p.n m (sym (said_of h p.behind [] p.id p.n p.first p.second) ∙ e) in
-    let (first, typed, parts) = number_at-spells p.id h p.behind p.first in
-    let (second, number, more) = number_at-spells p.n p.behind [] p.second in
+    let (first, typed, parts) = number_at-encodes p.id h p.behind p.first in
+    let (second, number, more) = number_at-encodes p.n p.behind [] p.second in
     record {
       id = p.id;
       no_kind = λ kind is. none_some kind (kind_of p.id) s.0 (kind_of-is kind p.id is);
-      spelled = record {
+      encoded = record {
         first = first;
         second = second;
         parts = parts ∙ ap (λ (x : List ℕ). first ++ x) (more ∙ append-nil second);
         type_number = typed;
-        number = subst (λ (k : ℕ). Spells k second) s.1 number;
+        number = subst (λ (k : ℕ). Encodes k second) s.1 number;
       };
     }
 
@@ -192,6 +149,6 @@ said_skip h m w e =
 pub passed_unknown : (old new : Held) (a b : Source) (s : Skips old new a b) (z : List ℕ) → length z ≡ new.due → (old.due ≡ 0 → IsUnknown ((s.head ++ s.payload) ++ z)) × (0 < old.due → length ((s.head ++ s.payload) ++ z) ≡ old.due)
 passed_unknown old new a b s z e = (
   λ d. let h = s.begun d in let size : length s.payload + new.due ≡ length (s.payload ++ z) = omega (arith, length-append s.payload z) in
-      (h.id, s.head, s.payload ++ z, h.no_kind, subst (λ (n : ℕ). Spelled h.id n s.head) size h.spelled, append_assoc s.head s.payload z),
+      (h.id, s.head, s.payload ++ z, h.no_kind, subst (λ (n : ℕ). EncodesPair h.id n s.head) size h.encoded, append_assoc s.head s.payload z),
   λ l. let w = s.going l in let whole = w.1 in omega (arith, length-append (s.head ++ s.payload) z, length-append s.head s.payload, ap length w.0),
 )

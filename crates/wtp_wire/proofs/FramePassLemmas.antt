@@ -1,10 +1,10 @@
 -- The result of one poll of a reading of a frame that skips bytes of an unknown frame.
-use Rattle.std.proofs.Common.{◌≡◌, ℕ, ◌+◌, ◌-◌, ◌<◌, ◌≤◌, List, [], ◌++◌, length, take, drop, refl, sym, ap, subst, ◌∙◌, arith, append_assoc, append-nil, length-append, length-take, length-drop, inl, inr, Option, None, Result, Ok, Err}
+use Rattle.std.proofs.Common.{◌≡◌, ℕ, ◌+◌, ◌-◌, ◌<◌, ◌≤◌, List, [], ◌++◌, length, take, drop, refl, sym, ap, subst, ◌∙◌, arith, append_assoc, append-nil, length-append, length-take, length-drop, inl, inr, Option, Result, Ok, Err}
 use Rattle.std.proofs.lemmas.Bool.{cases_lt, lt-ltb, le-ltb, ne_eqb}
 use Rattle.std.proofs.lemmas.List.{drop-drop, take-append-drop}
 use Rattle.wtp_core.specs.declared.bytes.polled.Polled.{Polled}
 use Rattle.wtp_core.specs.declared.bytes.polled.Polled.TheVariants.{Ready, Pending, Again, NoMemory}
-use Rattle.wtp_core.specs.Source.{Source, Ending, AtEnd, AtReset, AtDisconnection, Telling}
+use Rattle.wtp_core.specs.Source.{Source, SourceEnding, AtEnd, AtReset, AtDisconnection, Telling}
 use Rattle.wtp_core.specs.Polled.{stop, Asks}
 use Rattle.wtp_core.specs.Fill.{Gains}
 use Rattle.wtp_core.specs.Varint.{bytes_at}
@@ -13,21 +13,25 @@ use Rattle.wtp_core.proofs.TellingLemmas.{telling_map, telling_same, telling_the
 use Rattle.wtp_wire.specs.declared.frame.ParseError.TheVariants as parse
 use Rattle.wtp_wire.specs.declared.frame.reading.IoReadError.{IoReadError}
 use Rattle.wtp_wire.specs.declared.frame.reading.IoReadError.TheVariants.{Parse, IO}
-use Rattle.wtp_wire.specs.declared.frame.reading.Next.TheVariants as next
+use Rattle.wtp_wire.specs.declared.frame.head.Said.TheVariants as said-is
 use Rattle.wtp_wire.specs.Content.{Content}
 use Rattle.wtp_wire.specs.Front.{Unknown, front}
 use Rattle.wtp_wire.specs.FrameNeed.{frame_need_most, frame_need_some}
+use Rattle.wtp_core.specs.Passing.{max_passed}
+use Rattle.wtp_wire.specs.Limits.{max_head, max_calls}
 use Rattle.wtp_wire.specs.Held.{Held, skip_front, front_held, IsUnknownHead, Skips, Leaves}
-use Rattle.wtp_wire.specs.FramePolling.{FramePolled, FrameGiven, Keeps, Answered}
-use Rattle.wtp_wire.specs.FrameSteps.{HasDecided, Skipped, PassedOn, PassedPlain, Begins, BeginsPlain, Started, Grew}
+use Rattle.wtp_wire.specs.FramePolling.{FramePolled, FrameGiven, KeepsHeld, Answered}
+use Rattle.wtp_wire.specs.FramePart.{Part, bytes_in, IsReading}
+use Rattle.wtp_wire.specs.FrameSteps.{HasSaid, Skipped, PassedOn, PassedPlain, BeginsFrame, BeginsPlain, Grew}
 use Rattle.wtp_wire.proofs.FrameHeadLemmas.{front_said, said_skip}
 use Rattle.wtp_core.specs.declared.bytes.polled.IoReadError as bytes-is
 use Rattle.std.specs.Prelude.{replicate}
 use Rattle.std.proofs.lemmas.List.{length-replicate}
-use Rattle.wtp_wire.proofs.FramePollLemmas.{hold, front_none, front_due, skip_empty}
+use Rattle.wtp_wire.proofs.FrameReadingLemmas.{no_items}
+use Rattle.wtp_wire.proofs.FramePollLemmas.{Polls, hold, front_none, front_due, skip_empty, due_unfinished, reading_unfinished, none_taken}
 
-pub due_told : (s : Option Source) (t : List ℕ) (d : ℕ) → 0 < d → t ≡ [] → Telling s s (Started None (hold t d) (hold t d))
-due_told s t d l e = telling_same s (Begins (hold t d) (hold t d)) (λ a. record {
+due_begins : (s : Option Source) (t : List ℕ) (d : ℕ) → 0 < d → t ≡ [] → Telling s s (BeginsFrame (hold t d) (hold t d))
+due_begins s t d l e = telling_same s (BeginsFrame (hold t d) (hold t d)) (λ a. record {
   head = [];
   parts = rw e refl;
   begun = λ z. absurd (omega arith);
@@ -35,22 +39,23 @@ due_told s t d l e = telling_same s (Begins (hold t d) (hold t d)) (λ a. record
   asks = record { asked = omega arith; no_less = omega arith; ending = refl; waits = omega arith };
 })
 
-no_bytes : (n : ℕ) (l : List ℕ) → n ≡ 0 → take n l ≡ []
-no_bytes n l e = rw e refl
+-- the head of an unknown frame is all that is held
+bare : (m : ℕ) (p : Part) → HasSaid (said-is.Skip m) p → bytes_in p ≡ p.head
+bare m p w = ap (λ (l : List ℕ). p.head ++ l) (no_items p.payload w.size) ∙ append-nil p.head
 
-pub skip_told : (s t : Option Source) (m : ℕ) (h items old : List ℕ) (room filled d : ℕ) → d ≡ 0 → HasDecided (next.Skip m) h room filled
-    → Telling s t (λ a c. Gains old (h ++ take filled items) a c 0)
-    → Telling s t (Started None (hold old d) (hold [] m))
-skip_told s t m h items old room filled d z w p = telling_map s t _ (Begins (hold old d) (hold [] m))
+skip_begins : (s t : Option Source) (m : ℕ) (p : Part) (old : List ℕ) (d : ℕ) → d ≡ 0 → HasSaid (said-is.Skip m) p
+    → Telling s t (λ a c. Gains old (bytes_in p) a c 0)
+    → Telling s t (BeginsFrame (hold old d) (hold [] m))
+skip_begins s t m p old d z w q = telling_map s t _ (BeginsFrame (hold old d) (hold [] m))
     (λ a c g.
-    let shape : h ++ take filled items ≡ h = ap (λ (l : List ℕ). h ++ l) (no_bytes filled items w.says.1) ∙ append-nil h in
+    let shape = bare m p w in
     record {
-      head = h;
+      head = p.head;
       parts = g.kept ∙ ap (λ (l : List ℕ). l ++ c.ahead) shape;
-      begun = λ _. (w.says.0, w.whole);
+      begun = λ _. (w.says, w.whole);
       going = λ l. absurd (omega arith);
-      asks = record { asked = let one = g.asked in let two = w.whole in omega (arith, frame_need_most h, ap length shape); no_less = g.no_less; ending = g.ending; waits = g.waits };
-    }) p
+      asks = record { asked = let one = g.asked in let two = w.whole in omega (arith, frame_need_most p.head, ap length shape); no_less = g.no_less; ending = g.ending; waits = g.waits };
+    }) q
 
 -- n of the bytes still to be skipped are skipped
 skip_step : (m d n : ℕ) (xs : List ℕ) → m ≡ n + d → n ≤ length xs → skip_front m xs ≡ skip_front d (drop n xs)
@@ -65,7 +70,7 @@ unfolding bytes_at
 skip_none d xs z = rw (z, le-ltb (length xs) 0 (omega arith)) refl
 
 -- what a begun poll starts with
-begun_front : (old mid : Held) (a b : Source) → Begins old mid a b → front_held old a.ahead ≡ skip_front mid.due b.ahead
+begun_front : (old mid : Held) (a b : Source) → BeginsFrame old mid a b → front_held old a.ahead ≡ skip_front mid.due b.ahead
 begun_front old mid a b g = elim (cases_lt 0 old.due) [
   | inl l ↦ let w = g.going l in front_due old.taken old.due a.ahead l ∙ rw (w.1, w.2) refl
   | inr l ↦
@@ -74,12 +79,12 @@ begun_front old mid a b g = elim (cases_lt 0 old.due) [
       front_none old.taken old.due a.ahead z ∙ ap front g.parts ∙ front_said g.head b.ahead w.1 ∙ rw w.0 refl
 ]
 
-skip_on : (old mid : Held) (d : ℕ) (a b c : Source) → Begins old mid a b → Skipped mid.due d b c → front_held old a.ahead ≡ skip_front d c.ahead
+skip_on : (old mid : Held) (d : ℕ) (a b c : Source) → BeginsFrame old mid a b → Skipped mid.due d b c → front_held old a.ahead ≡ skip_front d c.ahead
 skip_on old mid d a b c g p =
     let few = p.fewer in
     begun_front old mid a b g ∙ skip_step mid.due d (mid.due - d) b.ahead (omega arith) p.there ∙ ap (λ (l : List ℕ). skip_front d l) (sym p.rest)
 
-skips : (old mid : Held) (t : List ℕ) (d : ℕ) (a b c : Source) → t ≡ [] → Begins old mid a b → Skipped mid.due d b c → (s : Skips old (hold t d) a c) × (length s.payload ≡ mid.due - d)
+skips : (old mid : Held) (t : List ℕ) (d : ℕ) (a b c : Source) → t ≡ [] → BeginsFrame old mid a b → Skipped mid.due d b c → (s : Skips old (hold t d) a c) × (length s.payload ≡ mid.due - d)
 skips old mid t d a b c e g p =
     let few = p.fewer in
     let gone = take (mid.due - d) b.ahead in
@@ -97,28 +102,28 @@ skips old mid t d a b c e g p =
       size,
     )
 
-asks_on : (a b c : Source) → Asks 16 a b → Asks 4096 b c → Asks 4112 a c
+asks_on : (a b c : Source) → Asks max_head a b → Asks max_passed b c → Asks max_calls a c
 asks_on a b c p q = record { asked = let one = p.asked in let two = q.asked in omega arith; no_less = let one = p.no_less in let two = q.no_less in omega arith; ending = q.ending ∙ p.ending; waits = let one = p.waits in let two = q.waits in omega arith }
 
-left_due : (old mid : Held) (t : List ℕ) (d : ℕ) (a b c : Source) → t ≡ [] → 0 < d → mid.due < d + 4096 → Begins old mid a b → Skipped mid.due d b c → Leaves old (hold t d) a c
+left_due : (old mid : Held) (t : List ℕ) (d : ℕ) (a b c : Source) → t ≡ [] → 0 < d → mid.due < d + max_passed → BeginsFrame old mid a b → Skipped mid.due d b c → Leaves old (hold t d) a c
 left_due old mid t d a b c e l f g p = record {
   same = front_due t d c.ahead l ∙ sym (skip_on old mid d a b c g p);
   kept = λ z. absurd (omega arith);
   skips = λ _. let s = skips old mid t d a b c e g p in let size = s.1 in let few = p.fewer in (s.0, omega arith);
 }
 
-stop_some : (n : ℕ) (e : Ending) → 0 < n → stop 1 e ≡ stop n e
+stop_some : (n : ℕ) (e : SourceEnding) → 0 < n → stop 1 e ≡ stop n e
 stop_some n AtEnd l = rw (ne_eqb n 0 (λ z. omega arith)) refl
 stop_some n AtReset l = refl
 stop_some n AtDisconnection l = refl
 
-some_held : (old mid : Held) (a b : Source) → Begins old mid a b → 0 < old.due + length (old.taken ++ a.ahead)
+some_held : (old mid : Held) (a b : Source) → BeginsFrame old mid a b → 0 < old.due + length (old.taken ++ a.ahead)
 some_held old mid a b g = elim (cases_lt 0 old.due) [
   | inl l ↦ omega arith
   | inr l ↦ let w = g.begun (omega arith) in let whole = w.1 in omega (arith, ap length g.parts, length-append g.head b.ahead, frame_need_some g.head)
 ]
 
-pub passed_polled : (r : Polled (Result Content IoReadError)) (old mid : Held) (t : List ℕ) (d : ℕ) (a b c : Source) → t ≡ [] → Begins old mid a b → PassedOn r mid.due d b c → FramePolled r old (hold t d) a c × Asks 4112 a c
+passed_polled : (r : Polled (Result Content IoReadError)) (old mid : Held) (t : List ℕ) (d : ℕ) (a b c : Source) → t ≡ [] → BeginsFrame old mid a b → PassedOn r mid.due d b c → FramePolled r old (hold t d) a c × Asks max_calls a c
 passed_polled (Ready (Ok f)) old mid t d a b c e g p = absurd p
 passed_polled (Ready (Err (Parse parse.UnknownFrame))) old mid t d a b c e g p = (
   (record { front = skip_on old mid d a b c g p.0 ∙ skip_none d c.ahead p.1; empty = rw (e, p.1) refl }, (skips old mid t d a b c e g p.0).0),
@@ -131,7 +136,7 @@ passed_polled (Ready (Err (IO x))) old mid t d a b c e g p = (
     leaves = left_due old mid t d a b c e p.1 p.2 g p.0;
     short = skip_on old mid d a b c g p.0 ∙ ap (λ (l : List ℕ). skip_front d l) p.3 ∙ skip_empty d p.1;
     none_ahead = p.3;
-    why = ap (λ (x : bytes-is.IoReadError). IO x) (p.4 ∙ ap (λ (k : Ending). stop 1 k) g.asks.ending ∙ stop_some (old.due + length (old.taken ++ a.ahead)) a.ending (some_held old mid a b g));
+    why = ap (λ (x : bytes-is.IoReadError). IO x) (p.4 ∙ ap (λ (k : SourceEnding). stop 1 k) g.asks.ending ∙ stop_some (old.due + length (old.taken ++ a.ahead)) a.ending (some_held old mid a b g));
   },
   asks_on a b c g.asks p.0.asks,
 )
@@ -147,13 +152,13 @@ passed_polled Again old mid t d a b c e g p = (
 )
 passed_polled NoMemory old mid t d a b c e g p = absurd p
 
-pub passed_told : (s t u : Option Source) (r : Polled (Result Content IoReadError)) (old mid : Held) (l : List ℕ) (d : ℕ) → l ≡ []
-    → Telling s t (Begins old mid) → Telling t u (PassedOn r mid.due d) → Telling s u (FramePolled r old (hold l d))
-passed_told s t u r old mid l d e p q = telling_then s t u (Begins old mid) (PassedOn r mid.due d) (FramePolled r old (hold l d)) (λ a b c g k. (passed_polled r old mid l d a b c e g k).0) p q
+passed_told : (s t u : Option Source) (r : Polled (Result Content IoReadError)) (old mid : Held) (l : List ℕ) (d : ℕ) → l ≡ []
+    → Telling s t (BeginsFrame old mid) → Telling t u (PassedOn r mid.due d) → Telling s u (FramePolled r old (hold l d))
+passed_told s t u r old mid l d e p q = telling_then s t u (BeginsFrame old mid) (PassedOn r mid.due d) (FramePolled r old (hold l d)) (λ a b c g k. (passed_polled r old mid l d a b c e g k).0) p q
 
-pub passed_asks : (s t u : Option Source) (r : Polled (Result Content IoReadError)) (old mid : Held) (d : ℕ)
-    → Telling s t (Begins old mid) → Telling t u (PassedOn r mid.due d) → Telling s u (Asks 4112)
-passed_asks s t u r old mid d p q = telling_then s t u (Begins old mid) (PassedOn r mid.due d) (Asks 4112) (λ a b c g k. (passed_polled r old mid [] d a b c refl g k).1) p q
+passed_asks : (s t u : Option Source) (r : Polled (Result Content IoReadError)) (old mid : Held) (d : ℕ)
+    → Telling s t (BeginsFrame old mid) → Telling t u (PassedOn r mid.due d) → Telling s u (Asks max_calls)
+passed_asks s t u r old mid d p q = telling_then s t u (BeginsFrame old mid) (PassedOn r mid.due d) (Asks max_calls) (λ a b c g k. (passed_polled r old mid [] d a b c refl g k).1) p q
 
 -- ---- what holds of every source
 
@@ -187,7 +192,7 @@ answered_unknown old mid t d e z g = elim (cases_lt 0 old.due) [
       }
 ]
 
-keeps_due : (old mid : Held) (t : List ℕ) (d : ℕ) → 0 < d → d ≤ mid.due → BeginsPlain old mid → Keeps old (hold t d)
+keeps_due : (old mid : Held) (t : List ℕ) (d : ℕ) → 0 < d → d ≤ mid.due → BeginsPlain old mid → KeepsHeld old (hold t d)
 keeps_due old mid t d some few g = record {
   kept = λ z. absurd (omega arith);
   begun = λ z _.
@@ -197,7 +202,7 @@ keeps_due old mid t d some few g = record {
   going = λ l. let same = g.going l in (some, omega arith);
 }
 
-pub passed_given : (r : Polled (Result Content IoReadError)) (old mid : Held) (t : List ℕ) (d : ℕ) → t ≡ [] → BeginsPlain old mid → PassedPlain r mid.due d → FrameGiven r old (hold t d)
+passed_given : (r : Polled (Result Content IoReadError)) (old mid : Held) (t : List ℕ) (d : ℕ) → t ≡ [] → BeginsPlain old mid → PassedPlain r mid.due d → FrameGiven r old (hold t d)
 passed_given (Ready (Ok f)) old mid t d e g p = absurd p
 passed_given (Ready (Err (Parse parse.UnknownFrame))) old mid t d e g p = answered_unknown old mid t d e p g
 passed_given (Ready (Err (Parse parse.InvalidSessionId))) old mid t d e g p = absurd p
@@ -208,15 +213,43 @@ passed_given Again old mid t d e g p = (keeps_due old mid t d p.0 p.1 g, p.0)
 passed_given NoMemory old mid t d e g p = absurd p
 
 -- bytes were still to be skipped before
-pub due_plain : (t : List ℕ) (d : ℕ) → 0 < d → t ≡ [] → BeginsPlain (hold t d) (hold t d)
+due_plain : (t : List ℕ) (d : ℕ) → 0 < d → t ≡ [] → BeginsPlain (hold t d) (hold t d)
 due_plain t d l e = record { empty = e; begun = λ z. absurd (omega arith); going = λ _. refl }
 
 -- the head of an unknown frame is taken
-pub skip_plain : (m : ℕ) (h items old : List ℕ) (room filled d : ℕ) → d ≡ 0 → HasDecided (next.Skip m) h room filled → Grew old (h ++ take filled items) → BeginsPlain (hold old d) (hold [] m)
-skip_plain m h items old room filled d z w (given, is) =
-    let shape : h ++ take filled items ≡ h = ap (λ (l : List ℕ). h ++ l) (no_bytes filled items w.says.1) ∙ append-nil h in
+skip_plain : (m : ℕ) (p : Part) (old : List ℕ) (d : ℕ) → d ≡ 0 → HasSaid (said-is.Skip m) p → Grew old (bytes_in p) → BeginsPlain (hold old d) (hold [] m)
+skip_plain m p old d z w (given, is) = record {
+  empty = refl;
+  begun = λ _. (p.head, (given, sym (bare m p w) ∙ is), w.says, w.whole);
+  going = λ l. absurd (omega arith);
+}
+
+-- ---- all clauses of a poll
+
+-- of one before which bytes were still to be skipped
+pub due_polls : (s t : Option Source) (r : Polled (Result Content IoReadError)) (p : Part) (d d' : ℕ) → 0 < d → IsReading p → p.head ≡ [] → PassedPlain r d d' → Telling s t (PassedOn r d d')
+    → Polls r (hold (bytes_in p) d) (hold (bytes_in p) d') s t
+due_polls s t r p d d' l i none plain q =
+    let e = none_taken p i none in
+    let begins = due_begins s (bytes_in p) d l e in
     record {
-      empty = refl;
-      begun = λ _. (h, (given, sym shape ∙ is), w.says.0, w.whole);
-      going = λ l. absurd (omega arith);
+      was_unfinished = due_unfinished (bytes_in p) d e;
+      unfinished = due_unfinished (bytes_in p) d' e;
+      given = passed_given r (hold (bytes_in p) d) (hold (bytes_in p) d) (bytes_in p) d' e (due_plain (bytes_in p) d l e) plain;
+      polled = passed_told s s t r (hold (bytes_in p) d) (hold (bytes_in p) d) (bytes_in p) d' e begins q;
+      asks = passed_asks s s t r (hold (bytes_in p) d) (hold (bytes_in p) d) d' begins q;
+    }
+
+-- of one that read the head of an unknown frame
+pub skip_polls : (s t u : Option Source) (r : Polled (Result Content IoReadError)) (old new : Part) (m d d' : ℕ) → d ≡ 0 → IsReading old → HasSaid (said-is.Skip m) new → Grew (bytes_in old) (bytes_in new)
+    → Telling s t (λ a c. Gains (bytes_in old) (bytes_in new) a c 0) → PassedPlain r m d' → Telling t u (PassedOn r m d')
+    → Polls r (hold (bytes_in old) d) (hold [] d') s u
+skip_polls s t u r old new m d d' z was w grew g plain q =
+    let begins = skip_begins s t m new (bytes_in old) d z w g in
+    record {
+      was_unfinished = reading_unfinished old d z was;
+      unfinished = due_unfinished [] d' refl;
+      given = passed_given r (hold (bytes_in old) d) (hold [] m) [] d' refl (skip_plain m new (bytes_in old) d z w grew) plain;
+      polled = passed_told s t u r (hold (bytes_in old) d) (hold [] m) [] d' refl begins q;
+      asks = passed_asks s t u r (hold (bytes_in old) d) (hold [] m) d' begins q;
     }

@@ -1,14 +1,21 @@
 -- What a reading holds, poll by poll.
-use Rattle.std.proofs.Common.{◌≡◌, ℕ, ◌≤◌, ◌⊎◌, List, [], ◌++◌, length, take, refl, sym, ap, ◌∙◌, arith, append_assoc, append-nil, length-append, inl, inr}
-use Rattle.std.proofs.lemmas.List.{append_cancel_left, take-take}
-use Rattle.wtp_core.specs.Source.{Source}
-use Rattle.wtp_core.specs.Fill.{Gains}
-use Rattle.std.proofs.Common.{Err}
+use Rattle.std.proofs.Common.{◌≡◌, ℕ, ◌≤◌, ◌⊎◌, ◌<◌, List, [], ◌∷◌, ◌++◌, length, take, Option, refl, sym, ap, subst, ◌∙◌, arith, append_assoc, append-nil, length-append, length-take, inl, inr}
+use Rattle.std.proofs.lemmas.List.{append_cancel_left, take-take, take-append-le}
+use Rattle.wtp_core.specs.Source.{Source, Telling}
+use Rattle.wtp_core.proofs.TellingLemmas.{telling_then}
+use Rattle.wtp_core.specs.declared.polling.fill.Halt.{Halt}
+use Rattle.wtp_core.specs.Fill.{Gains, FillKeepsLengths}
+use Rattle.std.proofs.Common.{Result, Ok, Err}
 use Rattle.std.proofs.lemmas.Bool.{cases_lt}
 use Rattle.wtp_wire.specs.FrameNeed.{frame_need}
-use Rattle.wtp_wire.specs.FrameSteps.{IsReading, PayloadMoves, Grew}
-use Rattle.wtp_wire.specs.declared.frame.reading.PayloadHalt.{PayloadHalt}
-use Rattle.wtp_wire.specs.declared.frame.reading.PayloadHalt.TheVariants as payload-halt
+use Rattle.wtp_wire.specs.FrameHead.{head_says}
+use Rattle.wtp_wire.specs.FramePart.{Part, bytes_in, IsReading}
+use Rattle.wtp_wire.specs.FrameSteps.{HasSaid, StopMoves, PayloadKeeps, AdvanceKeeps, Grew, payload_size}
+use Rattle.wtp_wire.specs.declared.frame.kind.FrameKind.{FrameKind}
+use Rattle.wtp_wire.specs.declared.frame.head.Said.{Said}
+use Rattle.wtp_wire.specs.declared.frame.head.Said.TheVariants as said-is
+use Rattle.wtp_wire.specs.declared.frame.reading.part.Stop.{Stop}
+use Rattle.wtp_wire.specs.declared.frame.reading.part.Stop.TheVariants as stopped
 use Rattle.wtp_core.proofs.FillLemmas.{gains_then, halt_then, begins}
 
 pub gains_front : (h p p' : List ℕ) (a b : Source) (e : ℕ) → Gains p p' a b e → Gains (h ++ p) (h ++ p') a b e
@@ -20,37 +27,41 @@ gains_front h p p' a b e g = record {
   waits = g.waits;
 }
 
-kept_behind : (h h' p : List ℕ) (a b : Source) (e : ℕ) → ((p ≡ []) ⊎ (h' ≡ h)) → Gains h h' a b e → h ++ (p ++ a.ahead) ≡ h' ++ (p ++ b.ahead)
-kept_behind h h' p a b e c g = elim c [
+kept_after : (h h' p : List ℕ) (a b : Source) (e : ℕ) → ((p ≡ []) ⊎ (h' ≡ h)) → Gains h h' a b e → h ++ (p ++ a.ahead) ≡ h' ++ (p ++ b.ahead)
+kept_after h h' p a b e c g = elim c [
   | inl none ↦ rw none g.kept
   | inr same ↦
       let ahead : a.ahead ≡ b.ahead = append_cancel_left h a.ahead b.ahead (g.kept ∙ ap (λ l. l ++ b.ahead) same) in
       rw (same, ahead) refl
 ]
 
-pub gains_behind : (h h' p : List ℕ) (a b : Source) (e : ℕ) → ((p ≡ []) ⊎ (h' ≡ h)) → Gains h h' a b e → Gains (h ++ p) (h' ++ p) a b e
-gains_behind h h' p a b e c g =
+pub gains_after : (h h' p : List ℕ) (a b : Source) (e : ℕ) → ((p ≡ []) ⊎ (h' ≡ h)) → Gains h h' a b e → Gains (h ++ p) (h' ++ p) a b e
+gains_after h h' p a b e c g =
     record {
-      kept = append_assoc h p a.ahead ∙ kept_behind h h' p a b e c g ∙ sym (append_assoc h' p b.ahead);
+      kept = append_assoc h p a.ahead ∙ kept_after h h' p a b e c g ∙ sym (append_assoc h' p b.ahead);
       ending = g.ending;
       asked = let one = g.asked in omega (arith, length-append h p, length-append h' p);
       no_less = g.no_less;
       waits = g.waits;
     }
 
--- nothing of a payload is held, or the bytes before it stay
-pub which : (hd hd' items : List ℕ) (len room filled : ℕ) → IsReading hd room filled → length hd ≡ len → (frame_need hd ≡ len → hd' ≡ hd) → (take filled items ≡ []) ⊎ (hd' ≡ hd)
-which hd hd' items len room filled r is stays = elim (cases_lt (length hd) (frame_need hd)) [
-  | inl l ↦ let empty = r.nothing l in let part = r.part in let none : filled ≡ 0 = omega arith in inl (rw none refl)
+pub no_items : (xs : List ℕ) → length xs ≡ 0 → xs ≡ []
+no_items [] e = refl
+no_items (x ∷ xs) e = absurd (omega arith)
+
+-- nothing of a payload is held, or the head stays
+pub which : (p : Part) (h : List ℕ) → IsReading p → (frame_need p.head ≡ length p.head → h ≡ p.head) → (p.payload ≡ []) ⊎ (h ≡ p.head)
+which p h r stays = elim (cases_lt (length p.head) (frame_need p.head)) [
+  | inl l ↦ let empty = r.nothing l in let part = r.part in inl (no_items p.payload (omega arith))
   | inr l ↦ let most = r.within in inr (stays (omega arith))
 ]
 
 pub read_on : (hd hd' p p' : List ℕ) (a b c : Source) (e : ℕ) → ((p ≡ []) ⊎ (hd' ≡ hd)) → Gains hd hd' a b 0 → Gains p p' b c e → Gains (hd ++ p) (hd' ++ p') a c e
-read_on hd hd' p p' a b c e w g q = gains_then (hd ++ p) (hd' ++ p) (hd' ++ p) (hd' ++ p') (hd' ++ p') a b c e (gains_behind hd hd' p a b 0 w g) (gains_front hd' p p' b c e q) refl refl
+read_on hd hd' p p' a b c e w g q = gains_then (hd ++ p) (hd' ++ p) (hd' ++ p) (hd' ++ p') (hd' ++ p') a b c e (gains_after hd hd' p a b 0 w g) (gains_front hd' p p' b c e q) refl refl
 
-pub halted_on : (U V : Type 0) (x : PayloadHalt) (hd hd' p p' : List ℕ) (a b c : Source) → ((p ≡ []) ⊎ (hd' ≡ hd)) → Gains hd hd' a b 0 → PayloadMoves {U = U} (Err x) p p' b c → PayloadMoves {U = V} (Err x) (hd ++ p) (hd' ++ p') a c
-halted_on U V (payload-halt.Source h) hd hd' p p' a b c w g q = (read_on hd hd' p p' a b c 1 w g q.0, halt_then h a b c g.ending g.waits q.1)
-halted_on U V payload-halt.NoMemory hd hd' p p' a b c w g q = read_on hd hd' p p' a b c 0 w g q
+pub halted_on : (U V : Type 0) (x : Stop) (hd hd' p p' : List ℕ) (a b c : Source) → ((p ≡ []) ⊎ (hd' ≡ hd)) → Gains hd hd' a b 0 → StopMoves {U = U} (Err x) p p' b c → StopMoves {U = V} (Err x) (hd ++ p) (hd' ++ p') a c
+halted_on U V (stopped.Source h) hd hd' p p' a b c w g q = (read_on hd hd' p p' a b c 1 w g q.0, halt_then h a b c g.ending g.waits q.1)
+halted_on U V stopped.NoMemory hd hd' p p' a b c w g q = read_on hd hd' p p' a b c 0 w g q
 
 -- what is held still starts with what was held
 pub grew_on : (hd hd' p p' : List ℕ) → ((p ≡ []) ⊎ (hd' ≡ hd)) → Grew hd hd' → Grew p p' → Grew (hd ++ p) (hd' ++ p')
@@ -64,3 +75,105 @@ grew_none old = ([], sym (append-nil old))
 
 pub grew_take : (m n : ℕ) (xs ys : List ℕ) → m ≤ n → take m ys ≡ take m xs → Grew (take m xs) (take n ys)
 grew_take m n xs ys l e = begins m (take m xs) (take n ys) (take-take m n ys l ∙ e)
+
+pub fill_within : {U : Type 0} (r : Result U Halt) (at room : ℕ) → FillKeepsLengths r at room → at ≤ room
+fill_within (Ok u) at room e = omega arith
+fill_within (Err x) at room l = omega arith
+
+-- the bytes held after a fill of the first len bytes of a vector
+pub filled_grew : (held buf rest : List ℕ) (len filled at : ℕ) → filled ≤ at → at ≤ length buf → at ≤ len → take filled buf ≡ held → Grew held (take at (take len (buf ++ rest)))
+filled_grew held buf rest len filled at f l m e =
+    let shape : take at (take len (buf ++ rest)) ≡ take at buf = take-take at len (buf ++ rest) m ∙ take-append-le at buf rest l in
+    rw shape (begins filled held (take at buf) (take-take filled at buf f ∙ e))
+
+-- ---- the head that a reading goes on with
+
+pub record HeadGoesOn (p : Part) (h : List ℕ) : Type 0 where
+  pub stays : frame_need p.head ≡ length p.head → h ≡ p.head
+  pub grew : Grew p.head h
+
+pub head_goes_on : (p : Part) (len len' : ℕ) (head head' : List ℕ) → take len head ≡ p.head → len ≤ length head → len ≤ len' → take len head' ≡ take len head
+    → (frame_need (take len head) ≡ len → (len' ≡ len) × (head' ≡ head)) → HeadGoesOn p (take len' head')
+head_goes_on p len len' head head' e l forward front stays = record {
+  stays = λ w. let s = stays (ap frame_need e ∙ w ∙ omega (arith, ap length e, length-take len head)) in rw (s.0, s.1) e;
+  grew = subst (λ (x : List ℕ). Grew x (take len' head')) e (grew_take len len' head head' forward front);
+}
+
+pub part_grew : (old new : Part) (h p : List ℕ) → IsReading old → HeadGoesOn old h → p ≡ old.payload → new.head ≡ h → Grew p new.payload → Grew (bytes_in old) (bytes_in new)
+part_grew old new h p r g e i q = rw i (grew_on old.head h old.payload new.payload (which old h r g.stays) g.grew (subst (λ (l : List ℕ). Grew l new.payload) e q))
+
+pub part_moves : (s t u : Option Source) (old new : Part) (h hd p : List ℕ) → IsReading old → HeadGoesOn old h → hd ≡ old.head → p ≡ old.payload → new.head ≡ h
+    → Telling s t (λ a b. Gains hd h a b 0) → Telling t u (λ a b. Gains p new.payload a b 0)
+    → Telling s u (λ a b. Gains (bytes_in old) (bytes_in new) a b 0)
+part_moves s t u old new h hd p r g e e' i m q = telling_then s t u _ _ (λ a b. Gains (bytes_in old) (bytes_in new) a b 0)
+    (λ x y z k j. rw i (read_on old.head h old.payload new.payload x y z 0 (which old h r g.stays) (subst (λ (l : List ℕ). Gains l h x y 0) e k) (subst (λ (l : List ℕ). Gains l new.payload y z 0) e' j))) m q
+
+pub part_halts : (U V : Type 0) (x : Stop) (s t u : Option Source) (old new : Part) (h hd p : List ℕ) → IsReading old → HeadGoesOn old h → hd ≡ old.head → p ≡ old.payload → new.head ≡ h
+    → Telling s t (λ a b. Gains hd h a b 0) → Telling t u (λ a b. StopMoves {U = U} (Err x) p new.payload a b)
+    → Telling s u (λ a b. StopMoves {U = V} (Err x) (bytes_in old) (bytes_in new) a b)
+part_halts U V x s t u old new h hd p r g e e' i m q = telling_then s t u _ _ (λ a b. StopMoves {U = V} (Err x) (bytes_in old) (bytes_in new) a b)
+    (λ a b c k j. rw i (halted_on U V x old.head h old.payload new.payload a b c (which old h r g.stays) (subst (λ (l : List ℕ). Gains l h a b 0) e k) (subst (λ (l : List ℕ). StopMoves {U = U} (Err x) l new.payload b c) e' j))) m q
+
+-- Before the head was complete there was no room; a complete head stays, and says that a payload of the room's size
+-- follows.
+room_said : (p : Part) (h : List ℕ) (s : Said) → IsReading p → HeadGoesOn p h → head_says h ≡ s
+    → (p.room ≡ 0) ⊎ ((k : FrameKind) × (m : ℕ) × (s ≡ said-is.Payload k m) × (length p.payload < m) × (0 < p.room → p.room ≡ m))
+room_said p h s r g says = elim (cases_lt (length p.head) (frame_need p.head)) [
+  | inl l ↦ inl (r.nothing l)
+  | inr l ↦
+      let most = r.within in
+      let same : h ≡ p.head = g.stays (omega arith) in
+      let w = r.whole l in
+      inr (w.0, w.1, sym says ∙ ap head_says same ∙ w.2, w.3, w.4)
+]
+
+-- the result of a reading that read a payload in part, or had no room for it
+pub stopped_keeps : (U : Type 0) (x : Stop) (old mid new : Part) (k : FrameKind) (m : ℕ) → IsReading old → HeadGoesOn old mid.head → mid.room ≡ old.room → frame_need mid.head ≡ length mid.head → head_says mid.head ≡ said-is.Payload k m
+    → new.head ≡ mid.head → PayloadKeeps {U = U} (Err x) m mid new → AdvanceKeeps (Err x) old new
+stopped_keeps U (stopped.Source y) old mid new k m r g e w says i q = record {
+  within = omega (arith, ap length i, ap frame_need i);
+  part = omega (arith, q.0, q.1);
+  nothing = λ l. absurd (omega (arith, ap length i, ap frame_need i));
+  whole = λ l. (k, m, ap head_says i ∙ says, q.1, λ _. q.0);
+}
+stopped_keeps U stopped.NoMemory old mid new k m r g e w says i q =
+    let part = r.part in
+    let before = q.before in (
+      record {
+        within = omega (arith, ap length i, ap frame_need i);
+        part = omega (arith, ap length q.none);
+        nothing = λ l. q.after;
+        whole = λ l. (k, m, ap head_says i ∙ says, let some = q.some in omega (arith, ap length q.none), λ l'. absurd (omega (arith, q.after)));
+      },
+      record {
+        none = no_items old.payload (omega arith);
+        forward = let (given, is) = g.grew in omega (arith, ap length i, ap length is, length-append old.head given);
+        whole = omega (arith, ap length i, ap frame_need i);
+        kind = k;
+        size = m;
+        says = ap head_says i ∙ says;
+        some = q.some;
+        empty = q.none;
+      },
+    )
+
+none_said : (s : Said) → ((k : FrameKind) (m : ℕ) → s ≡ said-is.Payload k m → ⊥) → payload_size s ≡ 0
+none_said said-is.Unfinished not = refl
+none_said (said-is.Payload k m) not = absurd (not k m refl)
+none_said (said-is.Session id) not = refl
+none_said (said-is.Skip m) not = refl
+none_said said-is.BadSession not = refl
+none_said said-is.TooLong not = refl
+
+-- the head says that no payload follows
+pub said_bare : (s : Said) (old new : Part) → IsReading old → HeadGoesOn old new.head → new.room ≡ old.room → new.payload ≡ old.payload → frame_need new.head ≡ length new.head → head_says new.head ≡ s
+    → ((k : FrameKind) (m : ℕ) → s ≡ said-is.Payload k m → ⊥) → HasSaid s new
+said_bare s old new r g e e' w says not = elim (room_said old new.head s r g says) [
+  | inl none ↦
+      let part = r.part in
+      record { whole = w; says = says; size = omega (arith, ap length e', none_said s not); all = omega (arith, ap length e') }
+  | inr (k, m, is, less, whole) ↦ absurd (not k m is)
+]
+
+pub same_gains : (held : List ℕ) (a : Source) → Gains held held a a 0
+same_gains held a = record { kept = refl; ending = refl; asked = omega arith; no_less = omega arith; waits = omega arith }

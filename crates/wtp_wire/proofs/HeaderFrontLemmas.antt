@@ -1,18 +1,19 @@
 -- The computed header of a stream is the header of the grammar.
-use Rattle.std.proofs.Common.{◌≡◌, ◌≢◌, ℕ, ◌^◌, ◌<◌, ◌%◌, List, [], ◌++◌, Option, Some, None, refl, sym, ap, subst, ◌∙◌, append_assoc, append-nil, lit<, inl, inr, ◌⊎◌}
-use Rattle.std.proofs.lemmas.Bool.{cases_eq, eq-eqb, ne_eqb}
-use Rattle.wtp_core.specs.Varint.{Spells, number_at, shortest}
-use Rattle.wtp_core.proofs.SpellingLemmas.{number_at-spelling, number_at-spells}
-use Rattle.wtp_core.proofs.ShortLemmas.{shortest-spells}
+use Rattle.std.proofs.Common.{◌≡◌, ◌≢◌, ℕ, ◌^◌, ◌<◌, ◌%◌, List, [], ◌++◌, false, Option, Some, None, refl, sym, ap, subst, ◌∙◌, append_assoc, append-nil, lit<, inl, inr, ◌⊎◌}
+use Rattle.std.proofs.lemmas.Bool.{cases_Bool, cases_eq, eq-eqb, ne_eqb}
+use Rattle.wtp_core.specs.Varint.{Encodes, number_at, shortest}
+use Rattle.wtp_core.proofs.EncodingLemmas.{number_at-encoding, number_at-encodes}
+use Rattle.wtp_core.proofs.ShortLemmas.{shortest-encodes}
 use Rattle.wtp_wire.specs.declared.stream_header.StreamKind.{StreamKind}
-use Rattle.wtp_wire.specs.declared.stream_header.StreamKind.TheVariants.{Control, QPackEncoder, QPackDecoder, WebTransport, Exercise}
-use Rattle.wtp_wire.specs.StreamKind.{IsStreamKind, stream_kind_of}
-use Rattle.wtp_wire.specs.Front.{Spelled}
-use Rattle.wtp_wire.specs.Header.{Header, ControlHeader, EncoderHeader, DecoderHeader, WebTransportHeader, ExerciseHeader}
+use Rattle.wtp_wire.specs.declared.stream_header.StreamKind.TheVariants.{WebTransport, Exercise}
+use Rattle.wtp_wire.specs.StreamKind.{IsStreamKind, IsKnownStream, has_session, stream_number_of, stream_kind_of}
+use Rattle.wtp_wire.specs.Front.{EncodesPair}
+use Rattle.wtp_wire.specs.Header.{Header, PlainHeader, WebTransportHeader}
 use Rattle.wtp_wire.specs.HeaderFront.{HeaderFront, Headed, Unknown, BadId, Short, IsHeader, StreamBegins, header_extended, session_header_front, kind_header_front, typed_header_front, header_front}
 use Rattle.wtp_wire.specs.HeaderWire.{header_wire, IsReadableHeader}
 use Rattle.wtp_wire.proofs.KindLemmas.{test_exercise}
 use Rattle.wtp_wire.proofs.FrontLemmas.{found}
+use Rattle.wtp_wire.proofs.HeaderLemmas.{has_session-true}
 use Rattle.wtp_wire.proofs.StreamKindLemmas.{stream_kind_of-is, is-stream_kind_of, stream_kind_of-none}
 
 -- ---- what starts with a case is computed as that case
@@ -21,8 +22,8 @@ header_front-typed : (bytes rest : List ℕ) (id : ℕ) → number_at bytes ≡ 
 unfolding header_front
 header_front-typed bytes rest id e = rw e refl
 
-header_front-spelled : (bytes s rest : List ℕ) (id : ℕ) → Spells id s → bytes ≡ s ++ rest → header_front bytes ≡ typed_header_front (stream_kind_of id) rest
-header_front-spelled bytes s rest id h parts = header_front-typed bytes rest id (rw parts (number_at-spelling id s rest h))
+header_front-encoded : (bytes s rest : List ℕ) (id : ℕ) → Encodes id s → bytes ≡ s ++ rest → header_front bytes ≡ typed_header_front (stream_kind_of id) rest
+header_front-encoded bytes s rest id h parts = header_front-typed bytes rest id (rw parts (number_at-encoding id s rest h))
 
 session_header_front-id : (bytes rest : List ℕ) (id : ℕ) → number_at bytes ≡ Some (id, rest) → id % 4 ≡ 0 → session_header_front bytes ≡ Headed (WebTransportHeader id) rest
 unfolding session_header_front
@@ -33,29 +34,29 @@ unfolding session_header_front
 session_header_front-bad bytes rest id e h = rw (e, ne_eqb (id % 4) 0 h) refl
 
 -- a type of this kind
-header_front-kind : (kind : StreamKind) (bytes s rest : List ℕ) (id : ℕ) → IsStreamKind kind id → Spells id s → bytes ≡ s ++ rest → header_front bytes ≡ kind_header_front kind rest
-header_front-kind kind bytes s rest id is_kind h parts = header_front-spelled bytes s rest id h parts ∙ ap (λ (k : Option StreamKind). typed_header_front k rest) (stream_kind_of-is kind id is_kind)
+header_front-kind : (kind : StreamKind) (bytes s rest : List ℕ) (id : ℕ) → IsStreamKind kind id → Encodes id s → bytes ≡ s ++ rest → header_front bytes ≡ kind_header_front kind rest
+header_front-kind kind bytes s rest id is_kind h parts = header_front-encoded bytes s rest id h parts ∙ ap (λ (k : Option StreamKind). typed_header_front k rest) (stream_kind_of-is kind id is_kind)
+
+plain_front : (kind : StreamKind) (rest : List ℕ) → has_session kind ≡ false → kind_header_front kind rest ≡ Headed (PlainHeader kind) rest
+plain_front kind rest plain = rw plain refl
 
 -- the WebTransport type, and a number after it
-header_front-session : (bytes s rest : List ℕ) (id : ℕ) (h : Spelled 84 id s) → bytes ≡ s ++ rest → (header_front bytes ≡ session_header_front (h.second ++ rest)) × (number_at (h.second ++ rest) ≡ Some (id, rest))
+header_front-session : (bytes s rest : List ℕ) (id : ℕ) (h : EncodesPair 84 id s) → bytes ≡ s ++ rest → (header_front bytes ≡ session_header_front (h.second ++ rest)) × (number_at (h.second ++ rest) ≡ Some (id, rest))
 header_front-session bytes s rest id h parts = (
   header_front-kind WebTransport bytes h.first (h.second ++ rest) 84 refl h.type_number (parts ∙ ap (λ (x : List ℕ). x ++ rest) h.parts ∙ append_assoc h.first h.second rest),
-  number_at-spelling id h.second rest h.number,
+  number_at-encoding id h.second rest h.number,
 )
 
 pub header_front-begins : (bytes : List ℕ) (c : HeaderFront) → StreamBegins bytes c → header_front bytes ≡ c
 header_front-begins bytes Short h = absurd h
-header_front-begins bytes (Unknown rest) (s, (id, none, spelled), parts) = header_front-spelled bytes s rest id spelled parts ∙ ap (λ (k : Option StreamKind). typed_header_front k rest) (stream_kind_of-none id none)
-header_front-begins bytes (BadId rest) (s, (id, spelled, odd), parts) =
-    let (to_session, number) = header_front-session bytes s rest id spelled parts in
-    to_session ∙ session_header_front-bad (spelled.second ++ rest) rest id number odd
-header_front-begins bytes (Headed ControlHeader rest) (s, h, parts) = header_front-kind Control bytes s rest 0 refl h parts
-header_front-begins bytes (Headed EncoderHeader rest) (s, h, parts) = header_front-kind QPackEncoder bytes s rest 2 refl h parts
-header_front-begins bytes (Headed DecoderHeader rest) (s, h, parts) = header_front-kind QPackDecoder bytes s rest 3 refl h parts
-header_front-begins bytes (Headed (WebTransportHeader id) rest) (s, (spelled, even), parts) =
-    let (to_session, number) = header_front-session bytes s rest id spelled parts in
-    to_session ∙ session_header_front-id (spelled.second ++ rest) rest id number even
-header_front-begins bytes (Headed (ExerciseHeader number) rest) (s, (spelled, reserved), parts) = header_front-kind (Exercise number) bytes s rest number (refl, reserved) spelled parts
+header_front-begins bytes (Unknown rest) (s, (id, none, encoded), parts) = header_front-encoded bytes s rest id encoded parts ∙ ap (λ (k : Option StreamKind). typed_header_front k rest) (stream_kind_of-none id none)
+header_front-begins bytes (BadId rest) (s, (id, encoded, odd), parts) =
+    let (to_session, number) = header_front-session bytes s rest id encoded parts in
+    to_session ∙ session_header_front-bad (encoded.second ++ rest) rest id number odd
+header_front-begins bytes (Headed (PlainHeader kind) rest) (s, (id, is_kind, plain, encoded), parts) = header_front-kind kind bytes s rest id is_kind encoded parts ∙ plain_front kind rest plain
+header_front-begins bytes (Headed (WebTransportHeader id) rest) (s, (encoded, even), parts) =
+    let (to_session, number) = header_front-session bytes s rest id encoded parts in
+    to_session ∙ session_header_front-id (encoded.second ++ rest) rest id number even
 
 -- ---- what is computed is what the bytes start with
 
@@ -70,12 +71,12 @@ session_header_front-none : (bytes : List ℕ) → number_at bytes ≡ None → 
 unfolding session_header_front
 session_header_front-none bytes e = rw e refl
 
-session_holds : (bytes first rest : List ℕ) → Spells 84 first → bytes ≡ first ++ rest → Holds bytes (session_header_front rest)
+session_holds : (bytes first rest : List ℕ) → Encodes 84 first → bytes ≡ first ++ rest → Holds bytes (session_header_front rest)
 session_holds bytes first rest typed parts = elim (found (number_at rest)) [
   | inl none ↦ inl (session_header_front-none rest none)
   | inr ((id, behind), e) ↦
-      let (second, number, more) = number_at-spells id rest behind e in
-      let head : Spelled 84 id (first ++ second) = record { first = first; second = second; parts = refl; type_number = typed; number = number } in
+      let (second, number, more) = number_at-encodes id rest behind e in
+      let head : EncodesPair 84 id (first ++ second) = record { first = first; second = second; parts = refl; type_number = typed; number = number } in
       let whole : bytes ≡ (first ++ second) ++ behind = parts ∙ ap (λ (x : List ℕ). first ++ x) more ∙ sym (append_assoc first second behind) in
       elim (cases_eq (id % 4) 0) [
         | inl even ↦ holds-along bytes (session_header_front rest) (Headed (WebTransportHeader id) behind) (session_header_front-id rest behind id e even) (inr (first ++ second, (head, even), whole))
@@ -83,14 +84,16 @@ session_holds bytes first rest typed parts = elim (found (number_at rest)) [
       ]
 ]
 
-kind_holds : (kind : StreamKind) (id : ℕ) (bytes first rest : List ℕ) → IsStreamKind kind id → Spells id first → bytes ≡ first ++ rest → Holds bytes (kind_header_front kind rest)
-kind_holds Control id bytes first rest h typed parts = inr (first, subst (λ (n : ℕ). Spells n first) h typed, parts)
-kind_holds QPackEncoder id bytes first rest h typed parts = inr (first, subst (λ (n : ℕ). Spells n first) h typed, parts)
-kind_holds QPackDecoder id bytes first rest h typed parts = inr (first, subst (λ (n : ℕ). Spells n first) h typed, parts)
-kind_holds WebTransport id bytes first rest h typed parts = session_holds bytes first rest (subst (λ (n : ℕ). Spells n first) h typed) parts
-kind_holds (Exercise number) id bytes first rest h typed parts = inr (first, (rw h.0 typed, rw h.0 h.1), parts)
+kind_holds : (kind : StreamKind) (id : ℕ) (bytes first rest : List ℕ) → IsStreamKind kind id → Encodes id first → bytes ≡ first ++ rest → Holds bytes (kind_header_front kind rest)
+kind_holds kind id bytes first rest h typed parts = elim (cases_Bool (has_session kind)) [
+  | inl opens ↦
+      let k : kind ≡ WebTransport = has_session-true kind opens in
+      let number : id ≡ stream_number_of WebTransport = rw k at h in
+      rw k (session_holds bytes first rest (rw number at typed) parts)
+  | inr plain ↦ holds-along bytes (kind_header_front kind rest) (Headed (PlainHeader kind) rest) (plain_front kind rest plain) (inr (first, (id, h, plain, typed), parts))
+]
 
-typed_holds : (o : Option StreamKind) (id : ℕ) (bytes first rest : List ℕ) → stream_kind_of id ≡ o → Spells id first → bytes ≡ first ++ rest → Holds bytes (typed_header_front o rest)
+typed_holds : (o : Option StreamKind) (id : ℕ) (bytes first rest : List ℕ) → stream_kind_of id ≡ o → Encodes id first → bytes ≡ first ++ rest → Holds bytes (typed_header_front o rest)
 typed_holds None id bytes first rest e typed parts = inr (first, (id, λ kind h. none_some kind (stream_kind_of-is kind id h), typed), parts)
   where
     none_some : (kind : StreamKind) → stream_kind_of id ≡ Some kind → ⊥
@@ -105,7 +108,7 @@ pub header_front_holds : (bytes : List ℕ) → Holds bytes (header_front bytes)
 header_front_holds bytes = elim (found (number_at bytes)) [
   | inl none ↦ inl (header_front-none bytes none)
   | inr ((id, rest), e) ↦
-      let (first, typed, parts) = number_at-spells id bytes rest e in
+      let (first, typed, parts) = number_at-encodes id bytes rest e in
       holds-along bytes (header_front bytes) (typed_header_front (stream_kind_of id) rest) (header_front-typed bytes rest id e) (typed_holds (stream_kind_of id) id bytes first rest refl typed parts)
 ]
 
@@ -130,15 +133,16 @@ header_front-more bytes more whole = elim (header_front_holds bytes) [
 
 -- ---- what is written is read again
 
-spells-wire : (n : ℕ) → n < 2 ^ 62 → Spells n (shortest n ++ [])
-spells-wire n fits = rw (append-nil (shortest n)) (shortest-spells n fits)
+encodes-wire : (n : ℕ) → n < 2 ^ 62 → Encodes n (shortest n ++ [])
+encodes-wire n fits = rw (append-nil (shortest n)) (shortest-encodes n fits)
+
+number_is_kind : (kind : StreamKind) → IsKnownStream kind → IsStreamKind kind (stream_number_of kind)
+number_is_kind (Exercise number) known = (refl, test_exercise number known)
+number_is_kind kind known = refl
 
 header_wire_is_header : (h : Header) → IsReadableHeader h → IsHeader h (header_wire h)
-header_wire_is_header ControlHeader r = spells-wire 0 (lit< tt)
-header_wire_is_header EncoderHeader r = spells-wire 2 (lit< tt)
-header_wire_is_header DecoderHeader r = spells-wire 3 (lit< tt)
-header_wire_is_header (WebTransportHeader id) r = (record { first = shortest 84; second = shortest id ++ []; parts = refl; type_number = shortest-spells 84 (lit< tt); number = spells-wire id r.0 }, r.1)
-header_wire_is_header (ExerciseHeader number) r = (spells-wire number r.0, test_exercise number r.1)
+header_wire_is_header (PlainHeader kind) (known, plain, fits) = (stream_number_of kind, number_is_kind kind known, plain, encodes-wire (stream_number_of kind) fits)
+header_wire_is_header (WebTransportHeader id) r = (record { first = shortest 84; second = shortest id ++ []; parts = refl; type_number = shortest-encodes 84 (lit< tt); number = encodes-wire id r.0 }, r.1)
 
 pub header_front-wire : (h : Header) (rest : List ℕ) → IsReadableHeader h → header_front (header_wire h ++ rest) ≡ Headed h rest
 header_front-wire h rest r = header_front-begins (header_wire h ++ rest) (Headed h rest) (header_wire h, header_wire_is_header h r, refl)

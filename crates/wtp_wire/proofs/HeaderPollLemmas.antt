@@ -8,23 +8,24 @@ use Rattle.wtp_core.specs.Varint.{number_at}
 use Rattle.wtp_core.specs.VarintNeed.{varint_need}
 use Rattle.wtp_core.specs.Source.{Source, Telling}
 use Rattle.wtp_core.specs.Polled.{Asks}
-use Rattle.wtp_core.specs.Fill.{Gains, HaltIsTrue}
+use Rattle.wtp_core.specs.Fill.{Gains, HaltIsTrue, HaltsAs, halt_fault, halted_poll}
+use Rattle.wtp_core.specs.declared.bytes.polled.Polled.{Polled}
+use Rattle.wtp_core.specs.declared.bytes.polled.IoReadError as bytes-is
 use Rattle.wtp_core.proofs.TellingLemmas.{telling_map}
-use Rattle.wtp_core.proofs.FillLemmas.{begins}
+use Rattle.wtp_core.proofs.FillLemmas.{begins, halted_as}
 use Rattle.wtp_core.proofs.GetLemmas.{dry}
 use Rattle.wtp_core.proofs.NeedLemmas.{number_at-cut, number_at-full, number_at-whole}
 use Rattle.wtp_wire.specs.declared.stream_header.StreamKind.{StreamKind}
-use Rattle.wtp_wire.specs.declared.stream_header.StreamKind.TheVariants.{Control, QPackEncoder, QPackDecoder, WebTransport, Exercise}
 use Rattle.wtp_wire.specs.declared.stream_header.ParseError.{ParseError}
 use Rattle.wtp_wire.specs.declared.stream_header.ParseError.TheVariants as parse
 use Rattle.wtp_wire.specs.declared.stream_header.polled.IoReadError.{IoReadError}
 use Rattle.wtp_wire.specs.declared.stream_header.polled.IoReadError.TheVariants.{Parse, IO}
-use Rattle.wtp_wire.specs.StreamKind.{stream_kind_of}
+use Rattle.wtp_wire.specs.StreamKind.{has_session, stream_kind_of}
 use Rattle.wtp_wire.specs.Header.{Header}
 use Rattle.wtp_wire.specs.HeaderFront.{HeaderFront, Headed, Unknown, BadId, Short, header_front, session_header_front, typed_header_front, header_extended}
 use Rattle.wtp_wire.specs.HeaderReading.{AnswersHeader}
-use Rattle.wtp_wire.specs.HeaderNeed.{header_need, header_need_is, header_need_most, need_behind, second_need}
-use Rattle.wtp_wire.specs.HeaderPolling.{HeaderPolled, HeaderGiven, HeaderDecided, HeaderAnswered, IsWhole, halted_header}
+use Rattle.wtp_wire.specs.HeaderNeed.{header_need, header_need_is, header_need_most, need_after, second_need}
+use Rattle.wtp_wire.specs.HeaderPolling.{HeaderPolled, HeaderGiven, HeaderDecided, HeaderAnswered, IsWhole}
 use Rattle.wtp_wire.proofs.HeaderFrontLemmas.{header_front-more}
 
 header_typed : (h r : List ℕ) (id : ℕ) → number_at h ≡ Some (id, r) → header_front h ≡ typed_header_front (stream_kind_of id) r
@@ -39,17 +40,16 @@ need_known : (h r : List ℕ) (id : ℕ) → number_at h ≡ Some (id, r) → he
 need_known h r id e = header_need_is h ∙ rw e refl
 
 need_none : (h : List ℕ) → number_at h ≡ None → header_need h ≡ varint_need h
-need_none h e = omega (arith, header_need_is h, ap need_behind e)
+need_none h e = omega (arith, header_need_is h, ap need_after e)
 
 -- fewer bytes than are needed are too few
 typed_cut : (k : Option StreamKind) (r : List ℕ) → length r < second_need k r → typed_header_front k r ≡ Short
 unfolding session_header_front
 typed_cut None r l = absurd (omega arith)
-typed_cut (Some Control) r l = absurd (omega arith)
-typed_cut (Some QPackEncoder) r l = absurd (omega arith)
-typed_cut (Some QPackDecoder) r l = absurd (omega arith)
-typed_cut (Some WebTransport) r l = rw (number_at-cut r l) refl
-typed_cut (Some (Exercise number)) r l = absurd (omega arith)
+typed_cut (Some kind) r l = elim (cases_Bool (has_session kind)) [
+  | inl opens ↦ rw (opens, number_at-cut r (rw opens at l)) refl
+  | inr plain ↦ let none : length r < 0 = rw plain at l in absurd (omega arith)
+]
 
 pub header_cut : (h : List ℕ) → length h < header_need h → header_front h ≡ Short
 header_cut h f = elim (cases_lt (length h) (varint_need h)) [
@@ -79,11 +79,10 @@ no_bytes (b ∷ r) e = absurd (omega arith)
 
 typed_whole : (k : Option StreamKind) (r : List ℕ) → second_need k r ≡ length r → LeavesNothing (typed_header_front k r)
 typed_whole None r w = no_bytes r (omega arith)
-typed_whole (Some Control) r w = no_bytes r (omega arith)
-typed_whole (Some QPackEncoder) r w = no_bytes r (omega arith)
-typed_whole (Some QPackDecoder) r w = no_bytes r (omega arith)
-typed_whole (Some WebTransport) r w = session_whole r w
-typed_whole (Some (Exercise number)) r w = no_bytes r (omega arith)
+typed_whole (Some kind) r w = elim (cases_Bool (has_session kind)) [
+  | inl opens ↦ rw opens (session_whole r (rw opens at w))
+  | inr plain ↦ let none : 0 ≡ length r = rw plain at w in rw plain (no_bytes r (omega arith))
+]
 
 -- as many bytes as are needed are a case, and none follow it
 pub header_whole : (h : List ℕ) → header_need h ≡ length h → LeavesNothing (header_front h)
@@ -141,16 +140,23 @@ whole_given (Err (Parse parse.UnknownStream)) m old h front w = answered m old h
 whole_given (Err (Parse parse.InvalidSessionId)) m old h front w = answered m old h BadId front w
 whole_given (Err (IO e)) m old h front w = absurd w
 
-halted_polled : (x : Halt) (old new : List ℕ) (a b : Source) → length new < header_need new → Gains old new a b 1 → HaltIsTrue x a b → HeaderPolled (halted_header x (length new)) old new a b
+-- the result of a poll whose reading stopped after n bytes
+abbrev pub halted_at : {T : Type 0} → Halt → ℕ → Polled (Result T IoReadError)
+halted_at x n = halted_poll (λ (f : bytes-is.IoReadError). IO f) (halt_fault x n)
+
+pub halted_header : {T : Type 0} (x : Halt) (n : ℕ) (r : Polled (Result T IoReadError)) → HaltsAs (λ f e. e ≡ IO f) (halt_fault x n) r → r ≡ halted_at x n
+halted_header x n r h = halted_as (λ (f : bytes-is.IoReadError). IO f) (halt_fault x n) r h
+
+halted_polled : (x : Halt) (old new : List ℕ) (a b : Source) → length new < header_need new → Gains old new a b 1 → HaltIsTrue x a b → HeaderPolled (halted_at x (length new)) old new a b
 halted_polled halt.NotReady old new a b cut g t = record { waited = t; kept = sym g.kept }
 halted_polled halt.Fin old new a b cut g t = let e = dry old new a b 1 g t.0 in (rw (← e) (header_cut new cut), record { none_ahead = t.0; held = e; why = rw t.1 refl })
 halted_polled halt.Reset old new a b cut g t = let e = dry old new a b 1 g t.0 in (rw (← e) (header_cut new cut), record { none_ahead = t.0; held = e; why = rw t.1 refl })
 halted_polled halt.NotConnected old new a b cut g t = let e = dry old new a b 1 g t.0 in (rw (← e) (header_cut new cut), record { none_ahead = t.0; held = e; why = rw t.1 refl })
 
-pub halted_told : (s t : Option Source) (x : Halt) (n : ℕ) (old new : List ℕ) → n ≡ length new → length new < header_need new → Telling s t (λ a b. Gains old new a b 1 × HaltIsTrue x a b) → Telling s t (HeaderPolled (halted_header x n) old new)
-halted_told s t x n old new is cut p = telling_map s t _ (HeaderPolled (halted_header x n) old new) (λ a b q. rw is (halted_polled x old new a b cut q.0 q.1)) p
+pub halted_told : (s t : Option Source) (x : Halt) (n : ℕ) (old new : List ℕ) → n ≡ length new → length new < header_need new → Telling s t (λ a b. Gains old new a b 1 × HaltIsTrue x a b) → Telling s t (HeaderPolled (halted_at x n) old new)
+halted_told s t x n old new is cut p = telling_map s t _ (HeaderPolled (halted_at x n) old new) (λ a b q. rw is (halted_polled x old new a b cut q.0 q.1)) p
 
-pub halted_given : (x : Halt) (n m : ℕ) (old new : List ℕ) → take m new ≡ old → HeaderGiven (halted_header x n) old new
+pub halted_given : (x : Halt) (n m : ℕ) (old new : List ℕ) → take m new ≡ old → HeaderGiven (halted_at x n) old new
 halted_given halt.NotReady n m old new e = begins m old new e
 halted_given halt.Fin n m old new e = begins m old new e
 halted_given halt.Reset n m old new e = begins m old new e

@@ -1,9 +1,8 @@
-mod TakeHeadLemmas
 pub mod ContentLemmas
 pub mod KindLemmas
+pub mod NamedLemmas
 pub mod FrontLemmas
 pub mod WireLemmas
-pub mod ReadLemmas
 pub mod FrameHeadLemmas
 pub mod FrameReadingLemmas
 pub mod WholeLemmas
@@ -21,7 +20,11 @@ pub mod ValueLemmas
 pub mod KeptLemmas
 pub mod PayloadLemmas
 pub mod CloseLemmas
+pub mod CloseWireLemmas
 pub mod CapsuleLemmas
+pub mod CapsuleFrontLemmas
+pub mod CapsuleStreamLemmas
+pub mod CapsuleReadingLemmas
 pub mod WritingLemmas
 pub mod HeaderPollLemmas
 pub mod DatagramLemmas

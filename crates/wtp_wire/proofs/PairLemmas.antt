@@ -8,9 +8,9 @@ use Rattle.wtp_core.specs.declared.error.ErrorCode.TheVariants.{Frame}
 use Rattle.wtp_core.specs.declared.error.Refused.{Refused}
 use Rattle.wtp_core.specs.declared.error.Refused.TheVariants.{Code, Memory}
 use Rattle.wtp_core.specs.Varint.{number_at}
-use Rattle.wtp_core.proofs.SpellingLemmas.{number_at-spelling, number_at-spells}
-use Rattle.wtp_wire.specs.Front.{Spelled}
-use Rattle.wtp_wire.specs.Settings.{pair_at, kept_with, settings_from, settings_in, or_fault, with_setting, StartsWithSettings, Keeps, AnswersSettings}
+use Rattle.wtp_core.proofs.EncodingLemmas.{number_at-encoding, number_at-encodes}
+use Rattle.wtp_wire.specs.Front.{EncodesPair}
+use Rattle.wtp_wire.specs.Settings.{pair_at, kept_with, settings_from, settings_in, or_fault, with_setting, StartsWithSettings, KeepsSetting, AnswersSettings}
 use Rattle.wtp_wire.proofs.FrontLemmas.{found, head_not_empty}
 
 -- ---- one pair
@@ -27,23 +27,23 @@ pub pair_at-no_value : (bytes mid : List ℕ) (n : ℕ) → number_at bytes ≡ 
 unfolding pair_at
 pair_at-no_value bytes mid n first second = rw (first, second) refl
 
-pub pair_at-spelled : (n v : ℕ) (s more : List ℕ) → Spelled n v s → pair_at (s ++ more) ≡ Some ((n, v), more)
-pair_at-spelled n v s more h =
-    pair_at-some (s ++ more) (h.second ++ more) more n v (rw (h.parts, append_assoc h.first h.second more) (number_at-spelling n h.first (h.second ++ more) h.type_number)) (number_at-spelling v h.second more h.number)
+pub pair_at-encoded : (n v : ℕ) (s more : List ℕ) → EncodesPair n v s → pair_at (s ++ more) ≡ Some ((n, v), more)
+pair_at-encoded n v s more h =
+    pair_at-some (s ++ more) (h.second ++ more) more n v (rw (h.parts, append_assoc h.first h.second more) (number_at-encoding n h.first (h.second ++ more) h.type_number)) (number_at-encoding v h.second more h.number)
 
 -- the bytes start with the encoding of a pair
 pub record BeginsWithPair (bytes : List ℕ) (n v : ℕ) (more : List ℕ) : Type 0 where
   pub s : List ℕ
-  pub spelled : Spelled n v s
+  pub encoded : EncodesPair n v s
   pub parts : bytes ≡ s ++ more
 
 pair_of_two : (bytes mid more : List ℕ) (n v : ℕ) → number_at bytes ≡ Some (n, mid) → number_at mid ≡ Some (v, more) → BeginsWithPair bytes n v more
 pair_of_two bytes mid more n v first second =
-    let (s, spelled, parts) = number_at-spells n bytes mid first in
-    let (t, value, behind) = number_at-spells v mid more second in
+    let (s, encoded, parts) = number_at-encodes n bytes mid first in
+    let (t, value, behind) = number_at-encodes v mid more second in
     record {
       s = s ++ t;
-      spelled = record { first = s; second = t; parts = refl; type_number = spelled; number = value };
+      encoded = record { first = s; second = t; parts = refl; type_number = encoded; number = value };
       parts = parts ∙ ap (λ (x : List ℕ). s ++ x) behind ∙ sym (append_assoc s t more);
     }
 
@@ -67,12 +67,12 @@ pair_at-begins bytes more n v e = elim (found (number_at bytes)) [
 pub pair_at-shorter : (bytes more : List ℕ) (n v : ℕ) → pair_at bytes ≡ Some ((n, v), more) → length more < length bytes
 pair_at-shorter bytes more n v e =
     let h = pair_at-begins bytes more n v e in
-    omega (arith, ap length h.parts ∙ length-append h.s more, head_not_empty n v h.s h.spelled)
+    omega (arith, ap length h.parts ∙ length-append h.s more, head_not_empty n v h.s h.encoded)
 
 pub pair_at-more : (bytes more rest : List ℕ) (n v : ℕ) → pair_at bytes ≡ Some ((n, v), more) → pair_at (bytes ++ rest) ≡ Some ((n, v), more ++ rest)
 pair_at-more bytes more rest n v e =
     let h = pair_at-begins bytes more n v e in
-    rw (h.parts, append_assoc h.s more rest) (pair_at-spelled n v h.s (more ++ rest) h.spelled)
+    rw (h.parts, append_assoc h.s more rest) (pair_at-encoded n v h.s (more ++ rest) h.encoded)
 
 -- ---- all pairs
 
@@ -129,15 +129,15 @@ ok_is : (x y : List (ℕ × ℕ)) (r : Result (List (ℕ × ℕ)) ErrorCode) →
 ok_is x y r d e = cc
 
 -- what follows a prefix without a fault
-read_behind : (n : ℕ) (j m : List (ℕ × ℕ)) (front rest : List ℕ) → length front ≤ n → read_from j front ≡ Ok m → read_from j (front ++ rest) ≡ read_from m rest
-read_behind n j m [] rest h e = ap (λ (x : List (ℕ × ℕ)). read_from x rest) (ok_is j m (read_from j []) (read_from-nil j) e)
-read_behind zero j m (b ∷ bs) rest h e = absurd (omega arith)
-read_behind (suc n) j m (b ∷ bs) rest h e = elim (found (pair_at (b ∷ bs))) [
+read_after : (n : ℕ) (j m : List (ℕ × ℕ)) (front rest : List ℕ) → length front ≤ n → read_from j front ≡ Ok m → read_from j (front ++ rest) ≡ read_from m rest
+read_after n j m [] rest h e = ap (λ (x : List (ℕ × ℕ)). read_from x rest) (ok_is j m (read_from j []) (read_from-nil j) e)
+read_after zero j m (b ∷ bs) rest h e = absurd (omega arith)
+read_after (suc n) j m (b ∷ bs) rest h e = elim (found (pair_at (b ∷ bs))) [
   | inl none ↦ absurd (not_ok (sym (from-none (length bs) j b bs none) ∙ e))
   | inr ((p, more), read) ↦
       let short : length more < length (b ∷ bs) = pair_at-shorter (b ∷ bs) more p.0 p.1 read in
       let (k, kept, left) = or_fault-ok (kept_with j p) (λ kept. read_from kept more) m (sym (read_from-pair j (b ∷ bs) more p.0 p.1 read) ∙ e) in
-      read_from-pair j ((b ∷ bs) ++ rest) (more ++ rest) p.0 p.1 (pair_at-more (b ∷ bs) more rest p.0 p.1 read) ∙ ap (λ (r : Result (List (ℕ × ℕ)) ErrorCode). or_fault r (λ kept. read_from kept (more ++ rest))) kept ∙ read_behind n k m more rest (omega arith) left
+      read_from-pair j ((b ∷ bs) ++ rest) (more ++ rest) p.0 p.1 (pair_at-more (b ∷ bs) more rest p.0 p.1 read) ∙ ap (λ (r : Result (List (ℕ × ℕ)) ErrorCode). or_fault r (λ kept. read_from kept (more ++ rest))) kept ∙ read_after n k m more rest (omega arith) left
 ]
   where
     not_ok : Err Frame ≡ Ok m → ⊥
@@ -156,7 +156,7 @@ unfolding settings_in
 settings_in-from bytes = refl
 
 settings_in-rest : (payload rest : List ℕ) (m : List (ℕ × ℕ)) (h : ReadSoFar payload rest m) → settings_in payload ≡ read_from m rest
-settings_in-rest payload rest m h = settings_in-from payload ∙ ap (λ (x : List ℕ). read_from [] x) h.parts ∙ read_behind (length h.front) [] m h.front rest (omega arith) (sym (settings_in-from h.front) ∙ h.read)
+settings_in-rest payload rest m h = settings_in-from payload ∙ ap (λ (x : List ℕ). read_from [] x) h.parts ∙ read_after (length h.front) [] m h.front rest (omega arith) (sym (settings_in-from h.front) ∙ h.read)
 
 pub so_far-none : (payload : List ℕ) → ReadSoFar payload payload []
 so_far-none payload = record { front = []; parts = refl; read = settings_in-from [] ∙ read_from-nil [] }
@@ -173,7 +173,7 @@ so_far-fault payload rest more m n v code h e fault = settings_in-rest payload r
 pub so_far-pair : (payload rest more : List ℕ) (m k : List (ℕ × ℕ)) (n v : ℕ) (h : ReadSoFar payload rest m) → pair_at rest ≡ Some ((n, v), more) → kept_with m (n, v) ≡ Ok k → ReadSoFar payload more k
 so_far-pair payload rest more m k n v h e kept =
     let p = pair_at-begins rest more n v e in
-    let alone : pair_at p.s ≡ Some ((n, v), []) = rw append-nil at (pair_at-spelled n v p.s [] p.spelled) in
+    let alone : pair_at p.s ≡ Some ((n, v), []) = rw append-nil at (pair_at-encoded n v p.s [] p.encoded) in
     record {
       front = h.front ++ p.s;
       parts = h.parts ∙ ap (λ (x : List ℕ). h.front ++ x) p.parts ∙ sym (append_assoc h.front p.s more);
@@ -196,6 +196,6 @@ so_far-memory payload rest more m n v h e kept =
     record { front = s.front; rest = more; m = with_setting m n v; parts = s.parts; read = s.read; some = with_setting-some m n v }
 
 -- a pair was not stored
-pub so_far-refused : (payload rest more : List ℕ) (m k : List (ℕ × ℕ)) (n v : ℕ) (e : Refused) (h : ReadSoFar payload rest m) → pair_at rest ≡ Some ((n, v), more) → Keeps m (n, v) (Err e) k → AnswersSettings payload (Err e)
+pub so_far-refused : (payload rest more : List ℕ) (m k : List (ℕ × ℕ)) (n v : ℕ) (e : Refused) (h : ReadSoFar payload rest m) → pair_at rest ≡ Some ((n, v), more) → KeepsSetting m (n, v) (Err e) k → AnswersSettings payload (Err e)
 so_far-refused payload rest more m k n v (Code code) h e fault = so_far-fault payload rest more m n v code h e fault
 so_far-refused payload rest more m k n v Memory h e kept = so_far-memory payload rest more m n v h e kept

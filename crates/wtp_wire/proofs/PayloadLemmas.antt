@@ -10,15 +10,15 @@ use Rattle.std.proofs.lemmas.Map.Keys.{sorted_head, sorted_tail}
 use Rattle.wtp_core.specs.declared.error.ErrorCode.{ErrorCode}
 use Rattle.wtp_core.specs.declared.error.ErrorCode.TheVariants.{Frame, Settings}
 use Rattle.wtp_core.specs.Varint.{shortest}
-use Rattle.wtp_core.proofs.ShortLemmas.{shortest-spells}
+use Rattle.wtp_core.proofs.ShortLemmas.{shortest-encodes}
 use Rattle.wtp_wire.specs.SettingId.{IsSetting, IsReserved, is_setting}
-use Rattle.wtp_wire.specs.Front.{Spelled}
-use Rattle.wtp_wire.specs.Settings.{IsSettings, value_at, ArePairs, AreFaultless, IsPayload, IsCut, IsFault, pair_at, kept_with, settings_in, or_fault, with_setting, settings_wire}
+use Rattle.wtp_wire.specs.Front.{EncodesPair}
+use Rattle.wtp_wire.specs.Settings.{IsSettings, value_at, ArePairs, AreFaultless, IsPayload, IsCutSetting, IsSettingsFault, pair_at, kept_with, settings_in, or_fault, with_setting, settings_wire}
 use Rattle.wtp_wire.proofs.SettingIdLemmas.{setting-is_setting, setting_not_reserved}
 use Rattle.wtp_wire.proofs.SettingsLemmas.{nat_cmp-less}
 use Rattle.wtp_wire.proofs.ValueLemmas.{all_contains, contains_key, contains_number, value_contained, contained_value}
 use Rattle.wtp_wire.proofs.FrontLemmas.{found}
-use Rattle.wtp_wire.proofs.PairLemmas.{pair_at-spelled, pair_at-begins, pair_at-shorter, read_from, read_from-nil, read_from-pair, read_from-cut, settings_in-from}
+use Rattle.wtp_wire.proofs.PairLemmas.{pair_at-encoded, pair_at-begins, pair_at-shorter, read_from, read_from-nil, read_from-pair, read_from-cut, settings_in-from}
 use Rattle.wtp_wire.proofs.KeptLemmas.{Refuses, kept, kept_with-cases, kept-all, kept-faultless, kept-are_kept, kept-is, or_fault-same, or_fault-chain, kept-append}
 
 -- ---- what the grammar says is computed
@@ -26,10 +26,10 @@ use Rattle.wtp_wire.proofs.KeptLemmas.{Refuses, kept, kept_with-cases, kept-all,
 -- the pairs at the start are stored one after the other
 read_from-pairs : (ps m : List (ℕ × ℕ)) (s rest : List ℕ) → ArePairs ps s → read_from m (s ++ rest) ≡ or_fault (kept m ps) (λ k. read_from k rest)
 read_from-pairs [] m s rest h = ap (λ (x : List ℕ). read_from m (x ++ rest)) h
-read_from-pairs (p ∷ ps) m s rest (first, more, spelled, pairs, parts) =
+read_from-pairs (p ∷ ps) m s rest (first, more, encoded, pairs, parts) =
     ap (λ (x : List ℕ). read_from m (x ++ rest)) parts
     ∙ ap (λ (x : List ℕ). read_from m x) (append_assoc first more rest)
-    ∙ read_from-pair m (first ++ (more ++ rest)) (more ++ rest) p.0 p.1 (pair_at-spelled p.0 p.1 first (more ++ rest) spelled)
+    ∙ read_from-pair m (first ++ (more ++ rest)) (more ++ rest) p.0 p.1 (pair_at-encoded p.0 p.1 first (more ++ rest) encoded)
     ∙ or_fault-same (kept_with m p) (λ k. read_from k (more ++ rest)) (λ k. or_fault (kept k ps) (λ j. read_from j rest)) (λ k. read_from-pairs ps k more rest pairs)
     ∙ sym (or_fault-chain m p ps (λ j. read_from j rest))
 
@@ -42,10 +42,10 @@ settings_in-payload m s (ps, pairs, faultless, are) = ap settings_in (sym (appen
 not_none : (x : (ℕ × ℕ) × List ℕ) (o : Option ((ℕ × ℕ) × List ℕ)) → o ≡ None → o ≡ Some x → ⊥
 not_none x o d e = cc
 
-cut-none : (rest : List ℕ) → IsCut rest → pair_at rest ≡ None
+cut-none : (rest : List ℕ) → IsCutSetting rest → pair_at rest ≡ None
 cut-none rest (some, none) = elim (found (pair_at rest)) [
   | inl e ↦ e
-  | inr ((p, more), e) ↦ let h = pair_at-begins rest more p.0 p.1 e in absurd (none p.0 p.1 h.s more h.spelled h.parts)
+  | inr ((p, more), e) ↦ let h = pair_at-begins rest more p.0 p.1 e in absurd (none p.0 p.1 h.s more h.encoded h.parts)
 ]
 
 -- a pair that is not permitted after the settings m
@@ -56,8 +56,8 @@ none_some : (v : ℕ) (o : Option ℕ) → o ≡ Some v → o ≡ None → ⊥
 none_some v o d e = cc
 
 -- a reserved or repeated identifier after the pairs ps, whose settings are m
-refused_behind : (ps m : List (ℕ × ℕ)) (id value : ℕ) → kept [] ps ≡ Ok m → IsReserved id ⊎ (IsSetting id × Contains (keys_of ps) id) → Refuses m (id, value)
-refused_behind ps m id value e cause = elim (kept_with-cases m (id, value)) [
+refused_after : (ps m : List (ℕ × ℕ)) (id value : ℕ) → kept [] ps ≡ Ok m → IsReserved id ⊎ (IsSetting id × Contains (keys_of ps) id) → Refuses m (id, value)
+refused_after ps m id value e cause = elim (kept_with-cases m (id, value)) [
   | inl r ↦ r
   | inr o ↦ elim o [
     | inl i ↦ absurd (elim cause [ inl reserved ↦ i.free reserved | inr again ↦ i.unknown again.0 ])
@@ -68,26 +68,26 @@ refused_behind ps m id value e cause = elim (kept_with-cases m (id, value)) [
   ]
 ]
 
-pub settings_in-fault : (code : ErrorCode) (s : List ℕ) → IsFault code s → settings_in s ≡ Err code
+pub settings_in-fault : (code : ErrorCode) (s : List ℕ) → IsSettingsFault code s → settings_in s ≡ Err code
 settings_in-fault code s (ps, front, rest, pairs, faultless, parts, fault) =
     let (m, e) = kept-faultless ps [] faultless (λ id value c known. refl) in
     ap settings_in parts ∙ settings_in-pairs ps m front rest pairs e ∙ elim fault [
       | inl cut ↦ read_from-cut m rest cut.1.0 (cut-none rest cut.1) ∙ ap (λ (c : ErrorCode). Err c) (sym cut.0)
       | inr bad ↦
-          let (id, value, t, more, spelled, behind, cause) = bad.1 in
-          let at : pair_at rest ≡ Some ((id, value), more) = rw behind (pair_at-spelled id value t more spelled) in
-          refused-fault m (id, value) rest more at (refused_behind ps m id value e cause) ∙ ap (λ (c : ErrorCode). Err c) (sym bad.0)
+          let (id, value, t, more, encoded, behind, cause) = bad.1 in
+          let at : pair_at rest ≡ Some ((id, value), more) = rw behind (pair_at-encoded id value t more encoded) in
+          refused-fault m (id, value) rest more at (refused_after ps m id value e cause) ∙ ap (λ (c : ErrorCode). Err c) (sym bad.0)
     ]
 
 -- ---- what is computed is what the grammar says
 
-pairs-push : (ps : List (ℕ × ℕ)) (id value : ℕ) (front s : List ℕ) → ArePairs ps front → Spelled id value s → ArePairs (ps ++ (id, value) ∷ []) (front ++ s)
-pairs-push [] id value front s h spelled = (s, [], spelled, refl, ap (λ (x : List ℕ). x ++ s) h ∙ sym (append-nil s))
-pairs-push (p ∷ ps) id value front s (first, more, one, pairs, parts) spelled = (first, more ++ s, one, pairs-push ps id value more s pairs spelled, ap (λ (x : List ℕ). x ++ s) parts ∙ append_assoc first more s)
+pairs-push : (ps : List (ℕ × ℕ)) (id value : ℕ) (front s : List ℕ) → ArePairs ps front → EncodesPair id value s → ArePairs (ps ++ (id, value) ∷ []) (front ++ s)
+pairs-push [] id value front s h encoded = (s, [], encoded, refl, ap (λ (x : List ℕ). x ++ s) h ∙ sym (append-nil s))
+pairs-push (p ∷ ps) id value front s (first, more, one, pairs, parts) encoded = (first, more ++ s, one, pairs-push ps id value more s pairs encoded, ap (λ (x : List ℕ). x ++ s) parts ∙ append_assoc first more s)
 
 -- the payload contains settings, or has a fault
 abbrev Judged : List ℕ → Type 0
-Judged s = ((m : List (ℕ × ℕ)) × IsPayload m s) ⊎ ((code : ErrorCode) × IsFault code s)
+Judged s = ((m : List (ℕ × ℕ)) × IsPayload m s) ⊎ ((code : ErrorCode) × IsSettingsFault code s)
 
 refused_cause : (ps m : List (ℕ × ℕ)) (p : ℕ × ℕ) → kept [] ps ≡ Ok m → Refuses m p → IsReserved p.0 ⊎ (IsSetting p.0 × Contains (keys_of ps) p.0)
 refused_cause ps m p e r = elim r.cause [
@@ -103,9 +103,9 @@ pair_judged : (ps m : List (ℕ × ℕ)) (p : ℕ × ℕ) (front rest more : Lis
 pair_judged ps m p front rest more pairs e at next =
     let h = pair_at-begins rest more p.0 p.1 at in
     let whole : front ++ rest ≡ (front ++ h.s) ++ more = ap (λ (x : List ℕ). front ++ x) h.parts ∙ sym (append_assoc front h.s more) in
-    let longer = pairs-push ps p.0 p.1 front h.s pairs h.spelled in
+    let longer = pairs-push ps p.0 p.1 front h.s pairs h.encoded in
     elim (kept_with-cases m p) [
-      | inl r ↦ inr (Settings, (ps, front, rest, pairs, (kept-all ps [] m e).faultless, refl, inr (refl, (p.0, p.1, h.s, more, h.spelled, h.parts, refused_cause ps m p e r))))
+      | inl r ↦ inr (Settings, (ps, front, rest, pairs, (kept-all ps [] m e).faultless, refl, inr (refl, (p.0, p.1, h.s, more, h.encoded, h.parts, refused_cause ps m p e r))))
       | inr o ↦ elim o [
         | inl i ↦ rw whole (next m h.s longer (one_more ps m m p e i.is))
         | inr k ↦ rw whole (next (with_setting m p.0 p.1) h.s longer (one_more ps m (with_setting m p.0 p.1) p e k.is))
@@ -116,7 +116,7 @@ judged : (n : ℕ) (ps m : List (ℕ × ℕ)) (front rest : List ℕ) → length
 judged n ps m front [] h pairs e = inl (m, (ps, rw (append-nil front) pairs, (kept-all ps [] m e).faultless, kept-are_kept ps m e))
 judged zero ps m front (b ∷ bs) h pairs e = absurd (omega arith)
 judged (suc n) ps m front (b ∷ bs) h pairs e = elim (found (pair_at (b ∷ bs))) [
-  | inl none ↦ inr (Frame, (ps, front, b ∷ bs, pairs, (kept-all ps [] m e).faultless, refl, inl (refl, (λ nil. absurd (cc), λ id value s more spelled parts. not_none ((id, value), more) (pair_at (b ∷ bs)) none (rw parts (pair_at-spelled id value s more spelled))))))
+  | inl none ↦ inr (Frame, (ps, front, b ∷ bs, pairs, (kept-all ps [] m e).faultless, refl, inl (refl, (λ nil. absurd (cc), λ id value s more encoded parts. not_none ((id, value), more) (pair_at (b ∷ bs)) none (rw parts (pair_at-encoded id value s more encoded))))))
   | inr ((p, more), at) ↦
       let short : length more < length (b ∷ bs) = pair_at-shorter (b ∷ bs) more p.0 p.1 at in
       pair_judged ps m p front (b ∷ bs) more pairs e at (λ k s longer kept. judged n (ps ++ p ∷ []) k (front ++ s) more (omega arith) longer kept)
@@ -132,7 +132,7 @@ pairs-wire [] h k = refl
 pairs-wire (p ∷ m) h k = (
   shortest p.0 ++ shortest p.1,
   settings_wire m,
-  record { first = shortest p.0; second = shortest p.1; parts = refl; type_number = shortest-spells p.0 h.0; number = shortest-spells p.1 k.0 },
+  record { first = shortest p.0; second = shortest p.1; parts = refl; type_number = shortest-encodes p.0 h.0; number = shortest-encodes p.1 k.0 },
   pairs-wire m h.1 k.1,
   sym (append_assoc (shortest p.0) (shortest p.1) (settings_wire m)),
 )

@@ -1,60 +1,31 @@
 -- The computed setting of a number is its setting.
-use Rattle.std.proofs.Common.{◌≡◌, ℕ, true, eqb, leb, ◌&&◌, Option, Some, None, is_some, refl, ap, arith, inl, inr}
-use Rattle.std.proofs.lemmas.Bool.{ne_eqb, eqb-true, eq-eqb, le-leb, leb-true, and_from, and_parts, or_left, or_right, or_cases}
+use Rattle.std.proofs.Common.{◌≡◌, ℕ, Bool, true, false, eqb, leb, ◌&&◌, Option, Some, None, is_some, refl, ap, arith, inl, inr}
+use Rattle.std.proofs.lemmas.Bool.{eqb-true, eq-eqb, le-leb, leb-true, and_from, and_parts, or_left, or_right, or_cases}
 use Rattle.wtp_wire.specs.declared.settings.SettingId.{SettingId}
-use Rattle.wtp_wire.specs.declared.settings.SettingId.TheVariants.{QPackMaxTableCapacity, MaxFieldSectionSize, QPackBlockedStreams, EnableConnectProtocol, H3Datagram, EnableWebTransport, WebTransportMaxSessions, Exercise}
-use Rattle.wtp_wire.specs.Kind.{is_exercise}
-use Rattle.wtp_wire.specs.SettingId.{IsSettingId, IsSetting, IsReserved, setting_id_of, is_setting, is_reserved}
-use Rattle.wtp_wire.proofs.KindLemmas.{exercise_test, test_exercise, which}
+use Rattle.wtp_wire.specs.declared.settings.SettingId.TheVariants.{Exercise}
+use Rattle.wtp_wire.specs.SettingId.{IsSettingId, IsSetting, IsReserved, named_settings, setting_number_of, setting_id_of, is_setting, is_reserved}
+use Rattle.wtp_wire.proofs.KindLemmas.{exercise_test, test_exercise}
+use Rattle.wtp_wire.proofs.NamedLemmas.{kind_by-exercise, is-kind_by}
 
 pub setting_id_of-is : (setting : SettingId) (id : ℕ) → IsSettingId setting id → setting_id_of id ≡ Some setting
 unfolding setting_id_of
-setting_id_of-is QPackMaxTableCapacity id h = rw h refl
-setting_id_of-is MaxFieldSectionSize id h = rw h refl
-setting_id_of-is QPackBlockedStreams id h = rw h refl
-setting_id_of-is EnableConnectProtocol id h = rw h refl
-setting_id_of-is H3Datagram id h = rw h refl
-setting_id_of-is EnableWebTransport id h = rw h refl
-setting_id_of-is WebTransportMaxSessions id h = rw h refl
 setting_id_of-is (Exercise number) id h =
     let e : number ≡ id = h.0 in
-    let (n, far) = h.1 in
-    rw (ne_eqb id 1 (λ z. omega arith), ne_eqb id 6 (λ z. omega arith), ne_eqb id 7 (λ z. omega arith), ne_eqb id 8 (λ z. omega arith), ne_eqb id 51 (λ z. omega arith), ne_eqb id 727725890 (λ z. omega arith), ne_eqb id 3329323114 (λ z. omega arith), exercise_test id h.1, e) refl
+    rw e (kind_by-exercise setting_number_of (λ n. Exercise n) named_settings id refl (exercise_test id h.1))
+setting_id_of-is setting id h = rw h refl
 
-some_is : (x y : SettingId) → Some x ≡ Some y → x ≡ y
-some_is x y e = cc
+is_named : SettingId → Bool
+is_named (Exercise number) = false
+is_named setting = true
 
--- the test of a number led to its setting
-tested : (setting s : SettingId) (id n : ℕ) → IsSettingId s n → eqb id n ≡ true → Some s ≡ Some setting → IsSettingId setting id
-tested setting s id n h t e = rw (← some_is s setting e, eqb-true id n t) h
+named_is : (setting : SettingId) (id : ℕ) → is_named setting ≡ true → id ≡ setting_number_of setting → IsSettingId setting id
+unfolding is_named
+named_is (Exercise number) id t e = absurd cc
+named_is setting id t e = e
 
 pub is-setting_id_of : (setting : SettingId) (id : ℕ) → setting_id_of id ≡ Some setting → IsSettingId setting id
-unfolding setting_id_of
-is-setting_id_of setting id e = elim (which (eqb id 1) (Some QPackMaxTableCapacity) _ (Some setting) e) [
-  | inl p ↦ tested setting QPackMaxTableCapacity id 1 refl p.0 p.1
-  | inr p ↦ elim (which (eqb id 6) (Some MaxFieldSectionSize) _ (Some setting) p.1) [
-    | inl q ↦ tested setting MaxFieldSectionSize id 6 refl q.0 q.1
-    | inr q ↦ elim (which (eqb id 7) (Some QPackBlockedStreams) _ (Some setting) q.1) [
-      | inl r ↦ tested setting QPackBlockedStreams id 7 refl r.0 r.1
-      | inr r ↦ elim (which (eqb id 8) (Some EnableConnectProtocol) _ (Some setting) r.1) [
-        | inl s ↦ tested setting EnableConnectProtocol id 8 refl s.0 s.1
-        | inr s ↦ elim (which (eqb id 51) (Some H3Datagram) _ (Some setting) s.1) [
-          | inl t ↦ tested setting H3Datagram id 51 refl t.0 t.1
-          | inr t ↦ elim (which (eqb id 727725890) (Some EnableWebTransport) _ (Some setting) t.1) [
-            | inl u ↦ tested setting EnableWebTransport id 727725890 refl u.0 u.1
-            | inr u ↦ elim (which (eqb id 3329323114) (Some WebTransportMaxSessions) _ (Some setting) u.1) [
-              | inl v ↦ tested setting WebTransportMaxSessions id 3329323114 refl v.0 v.1
-              | inr v ↦ elim (which (is_exercise id) (Some (Exercise id)) None (Some setting) v.1) [
-                | inl w ↦ rw (← some_is (Exercise id) setting w.1) (refl, test_exercise id w.0)
-                | inr w ↦ absurd cc
-              ]
-            ]
-          ]
-        ]
-      ]
-    ]
-  ]
-]
+unfolding setting_id_of is_named
+is-setting_id_of setting id e = is-kind_by setting_number_of (λ n. Exercise n) IsSettingId is_named named_is (λ n t. (refl, test_exercise n t)) named_settings refl setting id e
 
 -- ---- the tests
 
@@ -79,14 +50,8 @@ reserved-is_reserved id t = elim (or_cases (eqb id 0) (leb 2 id && leb id 5) t) 
 ]
 
 setting_number_not_reserved : (setting : SettingId) (id : ℕ) → IsSettingId setting id → IsReserved id → ⊥
-setting_number_not_reserved QPackMaxTableCapacity id h r = omega arith
-setting_number_not_reserved MaxFieldSectionSize id h r = omega arith
-setting_number_not_reserved QPackBlockedStreams id h r = omega arith
-setting_number_not_reserved EnableConnectProtocol id h r = omega arith
-setting_number_not_reserved H3Datagram id h r = omega arith
-setting_number_not_reserved EnableWebTransport id h r = omega arith
-setting_number_not_reserved WebTransportMaxSessions id h r = omega arith
 setting_number_not_reserved (Exercise number) id (e, (n, far)) r = omega arith
+setting_number_not_reserved setting id h r = omega arith
 
 pub setting_not_reserved : (id : ℕ) → IsSetting id → IsReserved id → ⊥
 setting_not_reserved id (setting, h) r = setting_number_not_reserved setting id h r

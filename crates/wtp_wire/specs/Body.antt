@@ -1,5 +1,5 @@
 -- The part of a frame after its type, however it is stored.
-use Rattle.std.specs.Prelude.{ℕ, List, [], Option, Some, None}
+use Rattle.std.specs.Prelude.{ℕ, List, [], take, Option, Some, None}
 use Rattle.wtp_wire.specs.declared.frame.body.Body.{Body}
 use Rattle.wtp_wire.specs.declared.frame.body.Body.TheVariants as body
 
@@ -7,11 +7,11 @@ use Rattle.wtp_wire.specs.declared.frame.body.Body.TheVariants as body
 abbrev pub payload_of : Body → List ℕ
 payload_of (body.Borrowed bytes) = bytes.now
 payload_of (body.Owned bytes) = bytes.items
-payload_of (body.Short short) = short
+payload_of (body.Short len room) = take len room
 payload_of (body.Session id) = []
 
 abbrev pub session_of : Body → Option ℕ
 session_of (body.Borrowed bytes) = None
 session_of (body.Owned bytes) = None
-session_of (body.Short short) = None
+session_of (body.Short len room) = None
 session_of (body.Session id) = Some id

@@ -1,10 +1,14 @@
 -- The payload of a capsule that closes a session (WebTransport over HTTP/3, session termination).
-use Rattle.std.specs.Prelude.{◌≡◌, ◌≢◌, ℕ, ◌≤◌, List, [], ◌++◌, length, take, drop, nat_lt, Bool, ◌||◌, not, Option, Some, None, Result, Ok, Err, if◌then◌else◌, IsUtf8}
-use Rattle.std.specs.Int.{w32, from_be_bytes}
+use Rattle.std.specs.Prelude.{◌≡◌, ◌≢◌, ℕ, ◌+◌, ◌^◌, ◌<◌, ◌≤◌, List, [], ◌∷◌, ◌++◌, length, take, drop, nat_lt, Bool, ◌||◌, not, Option, Some, None, Result, Ok, Err, if◌then◌else◌, IsUtf8}
+use Rattle.std.specs.Int.{w32, from_be_bytes, to_be_bytes}
 use Rattle.std.specs.Str.{is_utf8}
 use Rattle.wtp_core.specs.declared.error.ErrorCode.TheVariants.{Datagram}
 use Rattle.wtp_core.specs.declared.error.Refused.{Refused}
 use Rattle.wtp_core.specs.declared.error.Refused.TheVariants.{Code, Memory}
+use Rattle.wtp_core.specs.Varint.{shortest}
+use Rattle.wtp_core.specs.Writer.{joined}
+use Rattle.wtp_wire.specs.declared.capsule.CapsuleError.{CapsuleError}
+use Rattle.wtp_wire.specs.declared.capsule.CapsuleError.TheVariants as error-is
 
 -- the payload is an application error code of four bytes, most significant first, and then a reason in UTF-8 of at most 1024 bytes
 pub record IsClose (code : ℕ) (reason payload : List ℕ) : Type 0 where
@@ -29,3 +33,29 @@ abbrev pub AnswersClose : List ℕ → Result (ℕ × List ℕ) Refused → Type
 AnswersClose payload (Ok close) = close_in payload ≡ Some close
 AnswersClose payload (Err (Code code)) = (close_in payload ≡ None) × (code ≡ Datagram)
 AnswersClose payload (Err Memory) = (close : ℕ × List ℕ) × (close_in payload ≡ Some close) × (close.1 ≢ [])
+
+-- ---- written
+
+-- the payload
+abbrev pub close_value : ℕ × List ℕ → List ℕ
+close_value c = to_be_bytes w32 c.0 ++ c.1
+
+-- the parts of the capsule, in order: type, length, code and reason
+abbrev pub close_parts : ℕ × List ℕ → List (List ℕ)
+close_parts c = shortest 0x2843 ∷ shortest (4 + length c.1) ∷ to_be_bytes w32 c.0 ∷ c.1 ∷ []
+
+-- the bytes of the capsule: each number in its shortest encoding
+abbrev pub close_wire : ℕ × List ℕ → List ℕ
+close_wire c = joined (close_parts c)
+
+-- the result of making one; only a reason that is not empty is allocated, so only then may allocation fail
+abbrev pub MakesClose : ℕ → List ℕ → Result (ℕ × List ℕ) CapsuleError → Type 0
+MakesClose code reason (Ok close) = (close ≡ (code, reason)) × (length reason ≤ 1024)
+MakesClose code reason (Err error-is.TooLong) = 1024 < length reason
+MakesClose code reason (Err error-is.Memory) = (length reason ≤ 1024) × (reason ≢ [])
+
+-- a code of four bytes and a reason that may be read again
+pub record IsWritableClose (close : ℕ × List ℕ) : Type 0 where
+  pub code : close.0 < 2 ^ 32
+  pub short : length close.1 ≤ 1024
+  pub text : IsUtf8 close.1

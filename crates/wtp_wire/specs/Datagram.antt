@@ -1,11 +1,11 @@
 -- HTTP datagrams (RFC 9297, section 2.1).
 use Rattle.std.specs.Prelude.{◌≡◌, ℕ, ◌^◌, ◌<◌, List, ◌++◌, nat_lt, if◌then◌else◌, Option, Some, None}
-use Rattle.wtp_core.specs.Varint.{Spells, shortest, number_at}
+use Rattle.wtp_core.specs.Varint.{Encodes, shortest, number_at}
 
 -- s is a quarter stream ID below 2^60, and then the payload
 pub record IsDatagram (id : ℕ) (payload s : List ℕ) : Type 0 where
   pub head : List ℕ
-  pub spelled : Spells id head
+  pub encoded : Encodes id head
   pub quarter : id < 2 ^ 60
   pub parts : s ≡ head ++ payload
 

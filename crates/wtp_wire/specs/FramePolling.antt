@@ -4,7 +4,8 @@ use Rattle.wtp_core.specs.declared.bytes.polled.Polled.{Polled}
 use Rattle.wtp_core.specs.declared.bytes.polled.Polled.TheVariants.{Ready, Pending, Again, NoMemory}
 use Rattle.wtp_core.specs.Source.{Source}
 use Rattle.wtp_core.specs.Polled.{stop}
-use Rattle.wtp_wire.specs.declared.frame.FrameKind.{FrameKind}
+use Rattle.wtp_core.specs.Passing.{max_passed}
+use Rattle.wtp_wire.specs.declared.frame.kind.FrameKind.{FrameKind}
 use Rattle.wtp_wire.specs.declared.frame.ParseError.TheVariants.{UnknownFrame, InvalidSessionId, PayloadTooBig}
 use Rattle.wtp_wire.specs.declared.frame.reading.IoReadError.{IoReadError}
 use Rattle.wtp_wire.specs.declared.frame.reading.IoReadError.TheVariants.{Parse, IO}
@@ -31,7 +32,7 @@ pub record PassesMost (old new : Held) (a b : Source) : Type 0 where
   pub same : front_held new b.ahead ≡ front_held old a.ahead
   pub due : 0 < new.due
   pub skips : Skips old new a b
-  pub most : length skips.payload ≡ 4096
+  pub most : length skips.payload ≡ max_passed
 
 -- the type of a kind and a length above 0 precede a payload that may be read; none of its bytes was held
 pub record WantsPayload (whole : List ℕ) (held : ℕ) : Type 0 where
@@ -59,7 +60,7 @@ FramePolled NoMemory old new a b = Leaves old new a b × (old.due ≡ 0) × (new
 
 -- More bytes were given after those held, and none was lost; or they are the head of an unknown frame; or fewer bytes
 -- of one are still to be skipped.
-pub record Keeps (old new : Held) : Type 0 where
+pub record KeepsHeld (old new : Held) : Type 0 where
   pub kept : new.due ≡ 0 → (old.due ≡ 0) × ((given : List ℕ) × (new.taken ≡ old.taken ++ given))
   pub begun : old.due ≡ 0 → 0 < new.due → (given : List ℕ) × (passed : ℕ) × IsUnknownHead (passed + new.due) (old.taken ++ given)
   pub going : 0 < old.due → (0 < new.due) × (new.due ≤ old.due)
@@ -82,7 +83,7 @@ FrameGiven (Ready (Ok f)) old new = Answered old new (Framed f)
 FrameGiven (Ready (Err (Parse UnknownFrame))) old new = Answered old new Unknown
 FrameGiven (Ready (Err (Parse InvalidSessionId))) old new = Answered old new BadId
 FrameGiven (Ready (Err (Parse PayloadTooBig))) old new = Answered old new TooBig
-FrameGiven (Ready (Err (IO e))) old new = Keeps old new
-FrameGiven Pending old new = Keeps old new
-FrameGiven Again old new = Keeps old new × (0 < new.due)
-FrameGiven NoMemory old new = Keeps old new × (new.due ≡ 0) × HoldsHead new.taken
+FrameGiven (Ready (Err (IO e))) old new = KeepsHeld old new
+FrameGiven Pending old new = KeepsHeld old new
+FrameGiven Again old new = KeepsHeld old new × (0 < new.due)
+FrameGiven NoMemory old new = KeepsHeld old new × (new.due ≡ 0) × HoldsHead new.taken

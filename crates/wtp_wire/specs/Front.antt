@@ -1,10 +1,14 @@
 -- The first frame of a list of bytes (RFC 9114, sections 7.1 and 9).
-use Rattle.std.specs.Prelude.{◌≡◌, ◌≢◌, ℕ, ◌%◌, ◌<◌, ◌≤◌, List, ◌++◌, Option, Some, None, length, nat_lt, ◌==◌, if◌then◌else◌}
-use Rattle.wtp_core.specs.Varint.{Spells, number_at, bytes_at}
-use Rattle.wtp_wire.specs.declared.frame.FrameKind.{FrameKind}
-use Rattle.wtp_wire.specs.declared.frame.FrameKind.TheVariants.{Data, Headers, Settings, WebTransport, Exercise}
-use Rattle.wtp_wire.specs.Kind.{IsKind, kind_of}
-use Rattle.wtp_wire.specs.Content.{Content, DataOf, HeadersOf, SettingsOf, WebTransportOf, ExerciseOf, content}
+use Rattle.std.specs.Prelude.{◌≡◌, ◌≢◌, ℕ, ◌%◌, ◌<◌, ◌≤◌, List, ◌++◌, Option, Some, None, length}
+use Rattle.wtp_core.specs.Varint.{Encodes, bytes_at}
+use Rattle.wtp_wire.specs.Limits.{max_payload}
+use Rattle.wtp_wire.specs.declared.frame.kind.FrameKind.{FrameKind}
+use Rattle.wtp_wire.specs.declared.frame.kind.FrameKind.TheVariants.{WebTransport}
+use Rattle.wtp_wire.specs.declared.frame.head.Said.{Said}
+use Rattle.wtp_wire.specs.declared.frame.head.Said.TheVariants as said-is
+use Rattle.wtp_wire.specs.Kind.{frame_type_of, IsKind}
+use Rattle.wtp_wire.specs.Content.{Content, PlainOf, WebTransportOf}
+use Rattle.wtp_wire.specs.FrameHead.{head_at}
 
 -- What the bytes start with, and the bytes after it. Short means that more bytes have to come.
 pub data Front : Type 0 where
@@ -17,41 +21,39 @@ pub data Front : Type 0 where
 -- ---- the wire grammar
 
 -- s is an encoding of a type, and then an encoding of n
-pub record Spelled (id n : ℕ) (s : List ℕ) : Type 0 where
+pub record EncodesPair (id n : ℕ) (s : List ℕ) : Type 0 where
   pub first : List ℕ
   pub second : List ℕ
   pub parts : s ≡ first ++ second
-  pub type_number : Spells id first
-  pub number : Spells n second
+  pub type_number : Encodes id first
+  pub number : Encodes n second
 
--- s is a type of this kind, a length of at most 4096, and a payload of that length
-pub record IsPlain (kind : FrameKind) (payload s : List ℕ) : Type 0 where
+-- s is a type of this kind, which is not WebTransport, a length of at most 4096, and a payload of that length
+pub record IsPlainFrame (kind : FrameKind) (payload s : List ℕ) : Type 0 where
   pub id : ℕ
   pub head : List ℕ
   pub is_kind : IsKind kind id
-  pub spelled : Spelled id (length payload) head
-  pub small : length payload ≤ 4096
+  pub plain : kind ≢ WebTransport
+  pub encoded : EncodesPair id (length payload) head
+  pub small : length payload ≤ max_payload
   pub parts : s ≡ head ++ payload
 
 -- s is this frame; a WebTransport frame has a session ID in place of the length, and no payload
 abbrev pub IsFrame : Content → List ℕ → Type 0
-IsFrame (DataOf payload) s = IsPlain Data payload s
-IsFrame (HeadersOf payload) s = IsPlain Headers payload s
-IsFrame (SettingsOf payload) s = IsPlain Settings payload s
-IsFrame (WebTransportOf id) s = Spelled 0x41 id s × (id % 4 ≡ 0)
-IsFrame (ExerciseOf number payload) s = IsPlain (Exercise number) payload s
+IsFrame (PlainOf kind payload) s = IsPlainFrame kind payload s
+IsFrame (WebTransportOf id) s = EncodesPair (frame_type_of WebTransport) id s × (id % 4 ≡ 0)
 
 -- s is a frame of an unknown type, of any length: it has to be ignored
 abbrev pub IsUnknown : List ℕ → Type 0
-IsUnknown s = (id : ℕ) × (head payload : List ℕ) × ((kind : FrameKind) → IsKind kind id → ⊥) × Spelled id (length payload) head × (s ≡ head ++ payload)
+IsUnknown s = (id : ℕ) × (head payload : List ℕ) × ((kind : FrameKind) → IsKind kind id → ⊥) × EncodesPair id (length payload) head × (s ≡ head ++ payload)
 
 -- s is the WebTransport type and an invalid session ID
 abbrev pub IsBadId : List ℕ → Type 0
-IsBadId s = (id : ℕ) × Spelled 0x41 id s × (id % 4 ≢ 0)
+IsBadId s = (id : ℕ) × EncodesPair (frame_type_of WebTransport) id s × (id % 4 ≢ 0)
 
 -- s is a type of another kind and a length above 4096
 abbrev pub IsTooBig : List ℕ → Type 0
-IsTooBig s = (kind : FrameKind) × (id len : ℕ) × IsKind kind id × (kind ≢ WebTransport) × (4096 < len) × Spelled id len s
+IsTooBig s = (kind : FrameKind) × (id len : ℕ) × IsKind kind id × (kind ≢ WebTransport) × (max_payload < len) × EncodesPair id len s
 
 -- the bytes start with this case
 abbrev pub Begins : List ℕ → Front → Type 0
@@ -75,30 +77,15 @@ abbrev pub or_short : {A : Type 0} → Option A → (A → Front) → Front
 or_short None next = Short
 or_short (Some x) next = next x
 
--- after the WebTransport type
-unfoldable pub session_front : List ℕ → Front
-session_front bytes = or_short (number_at bytes) (λ id. if id.0 % 4 == 0 then Framed (WebTransportOf id.0) id.1 else BadId id.1)
-
--- after the type of another kind
-unfoldable pub plain_front : FrameKind → List ℕ → Front
-plain_front kind bytes = or_short (number_at bytes) (λ len. if nat_lt 4096 len.0 then TooBig len.1 else or_short (bytes_at len.0 len.1) (λ payload. Framed (content kind payload.0 None) payload.1))
-
--- after the type of a kind
-abbrev pub kind_front : FrameKind → List ℕ → Front
-kind_front Data bytes = plain_front Data bytes
-kind_front Headers bytes = plain_front Headers bytes
-kind_front Settings bytes = plain_front Settings bytes
-kind_front WebTransport bytes = session_front bytes
-kind_front (Exercise number) bytes = plain_front (Exercise number) bytes
-
--- after an unknown type
-unfoldable pub unknown_front : List ℕ → Front
-unknown_front bytes = or_short (number_at bytes) (λ len. or_short (bytes_at len.0 len.1) (λ payload. Unknown payload.1))
-
-abbrev pub typed_front : Option FrameKind → List ℕ → Front
-typed_front None bytes = unknown_front bytes
-typed_front (Some kind) bytes = kind_front kind bytes
+-- the case of all the bytes, given what the first two numbers say and the bytes after them
+abbrev pub front_after : Said → List ℕ → Front
+front_after said-is.Unfinished rest = Short
+front_after (said-is.Payload kind n) rest = or_short (bytes_at n rest) (λ payload. Framed (PlainOf kind payload.0) payload.1)
+front_after (said-is.Session id) rest = Framed (WebTransportOf id) rest
+front_after (said-is.Skip n) rest = or_short (bytes_at n rest) (λ payload. Unknown payload.1)
+front_after said-is.BadSession rest = BadId rest
+front_after said-is.TooLong rest = TooBig rest
 
 -- the first frame of the bytes, or the case in its place
 unfoldable pub front : List ℕ → Front
-front bytes = or_short (number_at bytes) (λ id. typed_front (kind_of id.0) id.1)
+front bytes = or_short (head_at bytes) (λ head. front_after head.0 head.1)

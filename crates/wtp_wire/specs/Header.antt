@@ -1,46 +1,42 @@
 -- The content of the header of a unidirectional stream (RFC 9114, section 6.2).
-use Rattle.std.specs.Prelude.{◌≡◌, ℕ, Option, Some, None, IsSome, ◌↔◌}
+use Rattle.std.specs.Prelude.{◌≡◌, ℕ, Option, Some, None, is_some}
 use Rattle.wtp_wire.specs.declared.stream_header.StreamKind.{StreamKind}
 use Rattle.wtp_wire.specs.declared.stream_header.StreamKind.TheVariants.{Control, QPackEncoder, QPackDecoder, WebTransport, Exercise}
-use Rattle.wtp_wire.specs.StreamKind.{IsKnownStream}
+use Rattle.wtp_wire.specs.StreamKind.{IsKnownStream, has_session}
 
--- a header: its kind; the session of a WebTransport header; the type of an exercise stream
+-- a header: the kind of a stream without a session, or the session of a WebTransport stream
 pub data Header : Type 0 where
-  ControlHeader : Header
-  EncoderHeader : Header
-  DecoderHeader : Header
+  PlainHeader : StreamKind → Header
   WebTransportHeader : ℕ → Header
-  ExerciseHeader : ℕ → Header
+
+abbrev pub ControlHeader : Header
+ControlHeader = PlainHeader Control
+
+abbrev pub EncoderHeader : Header
+EncoderHeader = PlainHeader QPackEncoder
+
+abbrev pub DecoderHeader : Header
+DecoderHeader = PlainHeader QPackDecoder
+
+abbrev pub ExerciseHeader : ℕ → Header
+ExerciseHeader number = PlainHeader (Exercise number)
 
 abbrev pub header_kind : Header → StreamKind
-header_kind ControlHeader = Control
-header_kind EncoderHeader = QPackEncoder
-header_kind DecoderHeader = QPackDecoder
+header_kind (PlainHeader kind) = kind
 header_kind (WebTransportHeader id) = WebTransport
-header_kind (ExerciseHeader number) = Exercise number
 
 abbrev pub header_session : Header → Option ℕ
-header_session ControlHeader = None
-header_session EncoderHeader = None
-header_session DecoderHeader = None
+header_session (PlainHeader kind) = None
 header_session (WebTransportHeader id) = Some id
-header_session (ExerciseHeader number) = None
 
 -- ---- the fields of a header
 
-abbrev pub session_header : Option ℕ → Header
-session_header (Some id) = WebTransportHeader id
-session_header None = WebTransportHeader 0
-
 -- the header given by the fields
 abbrev pub header : StreamKind → Option ℕ → Header
-header Control session = ControlHeader
-header QPackEncoder session = EncoderHeader
-header QPackDecoder session = DecoderHeader
-header WebTransport session = session_header session
-header (Exercise number) session = ExerciseHeader number
+header kind None = PlainHeader kind
+header kind (Some id) = WebTransportHeader id
 
--- the fields are consistent: there is a session with the WebTransport kind only
+-- the fields are consistent: there is a session if the kind has one
 pub record IsProperHeader (kind : StreamKind) (session : Option ℕ) : Type 0 where
   pub known : IsKnownStream kind
-  pub opens : IsSome session ↔ (kind ≡ WebTransport)
+  pub opens : is_some session ≡ has_session kind

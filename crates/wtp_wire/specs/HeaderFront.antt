@@ -1,12 +1,11 @@
 -- The header at the start of a unidirectional stream (RFC 9114, section 6.2).
-use Rattle.std.specs.Prelude.{◌≡◌, ◌≢◌, ℕ, ◌%◌, List, ◌++◌, Option, Some, None, ◌==◌, if◌then◌else◌}
-use Rattle.wtp_core.specs.Varint.{Spells, number_at}
+use Rattle.std.specs.Prelude.{◌≡◌, ◌≢◌, ℕ, ◌%◌, List, ◌++◌, Option, Some, None, false, ◌==◌, if◌then◌else◌}
+use Rattle.wtp_core.specs.Varint.{Encodes, number_at}
 use Rattle.wtp_wire.specs.declared.stream_header.StreamKind.{StreamKind}
-use Rattle.wtp_wire.specs.declared.stream_header.StreamKind.TheVariants.{Control, QPackEncoder, QPackDecoder, WebTransport, Exercise}
-use Rattle.wtp_wire.specs.Kind.{IsExercise}
-use Rattle.wtp_wire.specs.Front.{Spelled}
-use Rattle.wtp_wire.specs.StreamKind.{IsStreamKind, stream_kind_of}
-use Rattle.wtp_wire.specs.Header.{Header, ControlHeader, EncoderHeader, DecoderHeader, WebTransportHeader, ExerciseHeader}
+use Rattle.wtp_wire.specs.declared.stream_header.StreamKind.TheVariants.{WebTransport}
+use Rattle.wtp_wire.specs.Front.{EncodesPair}
+use Rattle.wtp_wire.specs.StreamKind.{IsStreamKind, has_session, stream_number_of, stream_kind_of}
+use Rattle.wtp_wire.specs.Header.{Header, PlainHeader, WebTransportHeader}
 
 -- What the bytes start with, and the bytes after it. Short means that more bytes have to come.
 pub data HeaderFront : Type 0 where
@@ -19,19 +18,16 @@ pub data HeaderFront : Type 0 where
 
 -- s is this header: a type, followed by a session ID after the WebTransport type
 abbrev pub IsHeader : Header → List ℕ → Type 0
-IsHeader ControlHeader s = Spells 0x00 s
-IsHeader EncoderHeader s = Spells 0x02 s
-IsHeader DecoderHeader s = Spells 0x03 s
-IsHeader (WebTransportHeader id) s = Spelled 0x54 id s × (id % 4 ≡ 0)
-IsHeader (ExerciseHeader number) s = Spells number s × IsExercise number
+IsHeader (PlainHeader kind) s = (id : ℕ) × IsStreamKind kind id × (has_session kind ≡ false) × Encodes id s
+IsHeader (WebTransportHeader id) s = EncodesPair (stream_number_of WebTransport) id s × (id % 4 ≡ 0)
 
 -- s is an unknown type (RFC 9114, section 6.2: the stream has to be ignored or refused)
 abbrev pub IsUnknownHeader : List ℕ → Type 0
-IsUnknownHeader s = (id : ℕ) × ((kind : StreamKind) → IsStreamKind kind id → ⊥) × Spells id s
+IsUnknownHeader s = (id : ℕ) × ((kind : StreamKind) → IsStreamKind kind id → ⊥) × Encodes id s
 
 -- s is the WebTransport type and an invalid session ID
 abbrev pub IsBadHeader : List ℕ → Type 0
-IsBadHeader s = (id : ℕ) × Spelled 0x54 id s × (id % 4 ≢ 0)
+IsBadHeader s = (id : ℕ) × EncodesPair (stream_number_of WebTransport) id s × (id % 4 ≢ 0)
 
 -- the stream's bytes start with this case
 abbrev pub StreamBegins : List ℕ → HeaderFront → Type 0
@@ -49,21 +45,17 @@ header_extended Short more = Short
 
 -- ---- the same, computed
 
-abbrev pub or_short : {A : Type 0} → Option A → (A → HeaderFront) → HeaderFront
-or_short None next = Short
-or_short (Some x) next = next x
+abbrev pub or_short_header : {A : Type 0} → Option A → (A → HeaderFront) → HeaderFront
+or_short_header None next = Short
+or_short_header (Some x) next = next x
 
 -- after the WebTransport type
 unfoldable pub session_header_front : List ℕ → HeaderFront
-session_header_front bytes = or_short (number_at bytes) (λ id. if id.0 % 4 == 0 then Headed (WebTransportHeader id.0) id.1 else BadId id.1)
+session_header_front bytes = or_short_header (number_at bytes) (λ id. if id.0 % 4 == 0 then Headed (WebTransportHeader id.0) id.1 else BadId id.1)
 
 -- after the type of a kind
 abbrev pub kind_header_front : StreamKind → List ℕ → HeaderFront
-kind_header_front Control bytes = Headed ControlHeader bytes
-kind_header_front QPackEncoder bytes = Headed EncoderHeader bytes
-kind_header_front QPackDecoder bytes = Headed DecoderHeader bytes
-kind_header_front WebTransport bytes = session_header_front bytes
-kind_header_front (Exercise number) bytes = Headed (ExerciseHeader number) bytes
+kind_header_front kind bytes = if has_session kind then session_header_front bytes else Headed (PlainHeader kind) bytes
 
 abbrev pub typed_header_front : Option StreamKind → List ℕ → HeaderFront
 typed_header_front None bytes = Unknown bytes
@@ -71,4 +63,4 @@ typed_header_front (Some kind) bytes = kind_header_front kind bytes
 
 -- the header of the bytes, or the case in its place
 unfoldable pub header_front : List ℕ → HeaderFront
-header_front bytes = or_short (number_at bytes) (λ id. typed_header_front (stream_kind_of id.0) id.1)
+header_front bytes = or_short_header (number_at bytes) (λ id. typed_header_front (stream_kind_of id.0) id.1)

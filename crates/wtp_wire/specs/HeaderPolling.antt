@@ -2,11 +2,8 @@
 use Rattle.std.specs.Prelude.{◌≡◌, ℕ, List, [], ◌++◌, Result, Ok, Err}
 use Rattle.wtp_core.specs.declared.bytes.polled.Polled.{Polled}
 use Rattle.wtp_core.specs.declared.bytes.polled.Polled.TheVariants.{Ready, Pending, Again, NoMemory}
-use Rattle.wtp_core.specs.declared.polling.fill.Halt.{Halt}
-use Rattle.wtp_core.specs.declared.polling.fill.Halt.TheVariants as halt
-use Rattle.wtp_core.specs.Source.{Source, AtEnd, AtReset, AtDisconnection}
-use Rattle.wtp_core.specs.Polled.{stop}
-use Rattle.wtp_core.specs.Getting.{Stops, Waits}
+use Rattle.wtp_core.specs.Source.{Source}
+use Rattle.wtp_core.specs.Get.{Stops, Waits}
 use Rattle.wtp_wire.specs.declared.stream_header.ParseError.TheVariants.{UnknownStream, InvalidSessionId}
 use Rattle.wtp_wire.specs.declared.stream_header.polled.IoReadError.{IoReadError}
 use Rattle.wtp_wire.specs.declared.stream_header.polled.IoReadError.TheVariants.{Parse, IO}
@@ -47,13 +44,6 @@ HeaderGiven Again old new = ⊥
 HeaderGiven NoMemory old new = ⊥
 
 -- ---- its parts
-
--- the result of a poll whose reading stopped after this many bytes were taken
-abbrev pub halted_header : {T : Type 0} → Halt → ℕ → Polled (Result T IoReadError)
-halted_header halt.NotReady taken = Pending
-halted_header halt.Fin taken = Ready (Err (IO (stop taken AtEnd)))
-halted_header halt.Reset taken = Ready (Err (IO (stop taken AtReset)))
-halted_header halt.NotConnected taken = Ready (Err (IO (stop taken AtDisconnection)))
 
 -- the result of complete bytes
 abbrev pub IsWhole : Result Header IoReadError → List ℕ → Type 0

@@ -1,17 +1,15 @@
 -- The bytes of a stream header that is written: each number in its shortest encoding (RFC 9114, section 6.2).
-use Rattle.std.specs.Prelude.{◌≡◌, ℕ, ◌%◌, ◌^◌, ◌<◌, List, [], ◌∷◌, IsTrue}
+use Rattle.std.specs.Prelude.{◌≡◌, ℕ, ◌%◌, ◌^◌, ◌<◌, List, [], ◌∷◌, false}
 use Rattle.wtp_core.specs.Varint.{shortest}
 use Rattle.wtp_core.specs.Writer.{joined}
-use Rattle.wtp_wire.specs.Kind.{is_exercise}
-use Rattle.wtp_wire.specs.Header.{Header, ControlHeader, EncoderHeader, DecoderHeader, WebTransportHeader, ExerciseHeader}
+use Rattle.wtp_wire.specs.declared.stream_header.StreamKind.TheVariants.{WebTransport}
+use Rattle.wtp_wire.specs.StreamKind.{IsKnownStream, has_session, stream_number_of}
+use Rattle.wtp_wire.specs.Header.{Header, PlainHeader, WebTransportHeader}
 
 -- the parts of a header, in order
 abbrev pub header_parts : Header → List (List ℕ)
-header_parts ControlHeader = shortest 0x00 ∷ []
-header_parts EncoderHeader = shortest 0x02 ∷ []
-header_parts DecoderHeader = shortest 0x03 ∷ []
-header_parts (WebTransportHeader id) = shortest 0x54 ∷ shortest id ∷ []
-header_parts (ExerciseHeader number) = shortest number ∷ []
+header_parts (PlainHeader kind) = shortest (stream_number_of kind) ∷ []
+header_parts (WebTransportHeader id) = shortest (stream_number_of WebTransport) ∷ shortest id ∷ []
 
 -- the bytes of a header
 abbrev pub header_wire : Header → List ℕ
@@ -19,8 +17,5 @@ header_wire h = joined (header_parts h)
 
 -- the numbers of h are those of its kind
 abbrev pub IsReadableHeader : Header → Type 0
-IsReadableHeader ControlHeader = Unit {0}
-IsReadableHeader EncoderHeader = Unit {0}
-IsReadableHeader DecoderHeader = Unit {0}
+IsReadableHeader (PlainHeader kind) = IsKnownStream kind × (has_session kind ≡ false) × (stream_number_of kind < 2 ^ 62)
 IsReadableHeader (WebTransportHeader id) = (id < 2 ^ 62) × (id % 4 ≡ 0)
-IsReadableHeader (ExerciseHeader number) = (number < 2 ^ 62) × IsTrue (is_exercise number)

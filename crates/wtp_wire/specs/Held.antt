@@ -1,11 +1,13 @@
 -- What a reading of a frame holds between polls.
 use Rattle.std.specs.Prelude.{◌≡◌, ◌≢◌, ℕ, ◌+◌, ◌<◌, ◌≤◌, ◌==◌, List, [], ◌++◌, length, if◌then◌else◌}
-use Rattle.wtp_core.specs.Varint.{bytes_at}
 use Rattle.wtp_core.specs.Source.{Source}
-use Rattle.wtp_wire.specs.declared.frame.FrameKind.{FrameKind}
-use Rattle.wtp_wire.specs.declared.frame.FrameKind.TheVariants.{WebTransport}
+use Rattle.wtp_core.specs.Passing.{max_passed}
+use Rattle.wtp_wire.specs.declared.frame.kind.FrameKind.{FrameKind}
+use Rattle.wtp_wire.specs.declared.frame.kind.FrameKind.TheVariants.{WebTransport}
 use Rattle.wtp_wire.specs.Kind.{IsKind}
-use Rattle.wtp_wire.specs.Front.{Front, Unknown, Short, Spelled, or_short, front}
+use Rattle.wtp_wire.specs.Limits.{max_payload}
+use Rattle.wtp_wire.specs.declared.frame.head.Said.TheVariants as said-is
+use Rattle.wtp_wire.specs.Front.{Front, Short, EncodesPair, front_after, front}
 
 -- the bytes held; or in their place the number of payload bytes of an unknown frame still to be skipped
 pub record Held : Type 0 where
@@ -18,7 +20,7 @@ new_held = record { taken = []; due = 0 }
 
 -- after the first two numbers of an unknown frame, if n bytes of its payload are still to be skipped
 abbrev pub skip_front : ℕ → List ℕ → Front
-skip_front n bytes = or_short (bytes_at n bytes) (λ payload. Unknown payload.1)
+skip_front n bytes = front_after (said-is.Skip n) bytes
 
 -- the case of the bytes held and ahead: the first frame of both; or if bytes are still to be skipped, an unknown frame
 -- once all of those are there
@@ -34,15 +36,15 @@ pub record IsUnfinished (h : Held) : Type 0 where
 pub record IsUnknownHead (n : ℕ) (s : List ℕ) : Type 0 where
   pub id : ℕ
   pub no_kind : (kind : FrameKind) → IsKind kind id → ⊥
-  pub spelled : Spelled id n s
+  pub encoded : EncodesPair id n s
 
 -- s is the type and the length of a frame of another kind than WebTransport whose payload of n bytes may be read
 pub record IsPayloadHead (kind : FrameKind) (n : ℕ) (s : List ℕ) : Type 0 where
   pub id : ℕ
   pub is_kind : IsKind kind id
   pub plain : kind ≢ WebTransport
-  pub spelled : Spelled id n s
-  pub bound : n ≤ 4096
+  pub encoded : EncodesPair id n s
+  pub bound : n ≤ max_payload
 
 -- ---- what one poll did; old and new are what is held before and after
 
@@ -54,12 +56,12 @@ pub record Skips (old new : Held) (a b : Source) : Type 0 where
   pub parts : old.taken ++ a.ahead ≡ (head ++ payload) ++ b.ahead
   pub begun : old.due ≡ 0 → IsUnknownHead (length payload + new.due) head
   pub going : 0 < old.due → (head ≡ []) × (old.due ≡ length payload + new.due)
-  pub most : length payload ≤ 4096
+  pub most : length payload ≤ max_passed
   pub empty : new.taken ≡ []
 
--- Nothing was lost: what is held and ahead is the same, except for fewer than 4096 skipped bytes of an unknown frame of
--- which some are still to be skipped.
+-- Nothing was lost: what is held and ahead is the same, except for fewer skipped bytes than one poll may skip, of an
+-- unknown frame of which some are still to be skipped.
 pub record Leaves (old new : Held) (a b : Source) : Type 0 where
   pub same : front_held new b.ahead ≡ front_held old a.ahead
   pub kept : new.due ≡ 0 → (old.due ≡ 0) × (new.taken ++ b.ahead ≡ old.taken ++ a.ahead)
-  pub skips : 0 < new.due → (s : Skips old new a b) × (length s.payload < 4096)
+  pub skips : 0 < new.due → (s : Skips old new a b) × (length s.payload < max_passed)

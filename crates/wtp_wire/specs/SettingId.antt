@@ -1,32 +1,16 @@
 -- Setting identifiers (RFC 9114, section 7.2.4.1; RFC 9204, section 5; RFC 9220, section 3; RFC 9297, section 2.1.1;
 -- WebTransport over HTTP/3).
-use Rattle.std.specs.Prelude.{◌≡◌, ℕ, ◌≤◌, ◌⊎◌, Bool, ◌||◌, ◌&&◌, nat_le, ◌==◌, if◌then◌else◌, Option, Some, None, is_some}
+use Rattle.std.specs.Prelude.{◌≡◌, ℕ, List, [], ◌∷◌, ◌≤◌, ◌⊎◌, Bool, ◌||◌, ◌&&◌, nat_le, ◌==◌, if◌then◌else◌, Option, Some, None, is_some}
 use Rattle.wtp_wire.specs.declared.settings.SettingId.{SettingId}
 use Rattle.wtp_wire.specs.declared.settings.SettingId.TheVariants.{QPackMaxTableCapacity, MaxFieldSectionSize, QPackBlockedStreams, EnableConnectProtocol, H3Datagram, EnableWebTransport, WebTransportMaxSessions, Exercise}
 use Rattle.wtp_wire.specs.Kind.{IsExercise, is_exercise}
+use Rattle.wtp_wire.specs.Named.{kind_by}
 
--- the identifier of this setting is this number; the exercise identifiers are the exercise types of frames (RFC 9114,
--- section 7.2.4.1)
-abbrev pub IsSettingId : SettingId → ℕ → Type 0
-IsSettingId QPackMaxTableCapacity id = id ≡ 0x01
-IsSettingId MaxFieldSectionSize id = id ≡ 0x06
-IsSettingId QPackBlockedStreams id = id ≡ 0x07
-IsSettingId EnableConnectProtocol id = id ≡ 0x08
-IsSettingId H3Datagram id = id ≡ 0x33
-IsSettingId EnableWebTransport id = id ≡ 0x2b603742
-IsSettingId WebTransportMaxSessions id = id ≡ 0xc671706a
-IsSettingId (Exercise number) id = (number ≡ id) × IsExercise id
+-- ---- the table: the settings with a name, and the number of each
 
--- the number identifies a setting that is stored: others are unknown and ignored
-abbrev pub IsSetting : ℕ → Type 0
-IsSetting id = (setting : SettingId) × IsSettingId setting id
+abbrev pub named_settings : List SettingId
+named_settings = QPackMaxTableCapacity ∷ MaxFieldSectionSize ∷ QPackBlockedStreams ∷ EnableConnectProtocol ∷ H3Datagram ∷ EnableWebTransport ∷ WebTransportMaxSessions ∷ []
 
--- the number identified a setting of HTTP/2 that HTTP/3 does not have: it must not be received (RFC 9114, section
--- 7.2.4.1)
-abbrev pub IsReserved : ℕ → Type 0
-IsReserved id = (id ≡ 0x00) ⊎ ((0x02 ≤ id) × (id ≤ 0x05))
-
--- the number of a setting
 abbrev pub setting_number_of : SettingId → ℕ
 setting_number_of QPackMaxTableCapacity = 0x01
 setting_number_of MaxFieldSectionSize = 0x06
@@ -37,22 +21,33 @@ setting_number_of EnableWebTransport = 0x2b603742
 setting_number_of WebTransportMaxSessions = 0xc671706a
 setting_number_of (Exercise number) = number
 
+-- the number identified a setting of HTTP/2 that HTTP/3 does not have: it must not be received (RFC 9114, section
+-- 7.2.4.1)
+abbrev pub IsReserved : ℕ → Type 0
+IsReserved id = (id ≡ 0x00) ⊎ ((0x02 ≤ id) × (id ≤ 0x05))
+
+-- ---- what follows from it
+
+-- the identifier of this setting is this number; the exercise identifiers are the exercise types of frames (RFC 9114,
+-- section 7.2.4.1)
+abbrev pub IsSettingId : SettingId → ℕ → Type 0
+IsSettingId (Exercise number) id = (number ≡ id) × IsExercise id
+IsSettingId setting id = id ≡ setting_number_of setting
+
+-- the number identifies a setting that is stored: others are unknown and ignored
+abbrev pub IsSetting : ℕ → Type 0
+IsSetting id = (setting : SettingId) × IsSettingId setting id
+
 -- ---- the same, computed
 
 -- the number, except for an exercise setting whose number is not reserved for exercise
 abbrev pub known_number_of : SettingId → Option ℕ
-known_number_of QPackMaxTableCapacity = Some 0x01
-known_number_of MaxFieldSectionSize = Some 0x06
-known_number_of QPackBlockedStreams = Some 0x07
-known_number_of EnableConnectProtocol = Some 0x08
-known_number_of H3Datagram = Some 0x33
-known_number_of EnableWebTransport = Some 0x2b603742
-known_number_of WebTransportMaxSessions = Some 0xc671706a
 known_number_of (Exercise number) = if is_exercise number then Some number else None
+known_number_of setting = Some (setting_number_of setting)
 
 -- the setting of a number, if it has one
 unfoldable pub setting_id_of : ℕ → Option SettingId
-setting_id_of id = if id == 1 then Some QPackMaxTableCapacity else (if id == 6 then Some MaxFieldSectionSize else (if id == 7 then Some QPackBlockedStreams else (if id == 8 then Some EnableConnectProtocol else (if id == 51 then Some H3Datagram else (if id == 727725890 then Some EnableWebTransport else (if id == 3329323114 then Some WebTransportMaxSessions else (if is_exercise id then Some (Exercise id) else None)))))))
+setting_id_of id = kind_by setting_number_of (λ n. Exercise n) named_settings id
 
 abbrev pub is_setting : ℕ → Bool
 is_setting id = is_some (setting_id_of id)

@@ -12,7 +12,7 @@ use Rattle.wtp_core.specs.declared.error.Refused.TheVariants.{Code, Memory}
 use Rattle.wtp_core.specs.Varint.{number_at, shortest}
 use Rattle.wtp_core.specs.Writer.{joined}
 use Rattle.wtp_wire.specs.declared.settings.SettingId.{SettingId}
-use Rattle.wtp_wire.specs.Front.{Spelled}
+use Rattle.wtp_wire.specs.Front.{EncodesPair}
 use Rattle.wtp_wire.specs.SettingId.{IsSetting, IsReserved, is_setting, is_reserved, known_number_of}
 
 -- ---- settings are numbers and their values, in ascending order of the numbers
@@ -32,8 +32,8 @@ value_at_some m None = None
 value_at_some m (Some id) = value_at m id
 
 -- the value of a setting
-abbrev pub value_of : List (ℕ × ℕ) → SettingId → Option ℕ
-value_of m setting = value_at_some m (known_number_of setting)
+abbrev pub setting_value : List (ℕ × ℕ) → SettingId → Option ℕ
+setting_value m setting = value_at_some m (known_number_of setting)
 
 -- m with this value of a number: in place of the previous one, or else at the position of the number
 abbrev pub with_setting : List (ℕ × ℕ) → ℕ → ℕ → List (ℕ × ℕ)
@@ -44,7 +44,7 @@ with_setting m id value = insert_entry nat_cmp m id value
 -- s is these pairs one after the other: of each an encoding of its identifier, and then one of its value
 abbrev pub ArePairs : List (ℕ × ℕ) → List ℕ → Type 0
 ArePairs [] s = s ≡ []
-ArePairs (p ∷ ps) s = (first rest : List ℕ) × Spelled p.0 p.1 first × ArePairs ps rest × (s ≡ first ++ rest)
+ArePairs (p ∷ ps) s = (first rest : List ℕ) × EncodesPair p.0 p.1 first × ArePairs ps rest × (s ≡ first ++ rest)
 
 -- no identifier is one of HTTP/2's, and none that is stored occurs twice
 abbrev pub AreFaultless : List (ℕ × ℕ) → Type 0
@@ -61,16 +61,16 @@ abbrev pub IsPayload : List (ℕ × ℕ) → List ℕ → Type 0
 IsPayload m s = (ps : List (ℕ × ℕ)) × ArePairs ps s × AreFaultless ps × AreKept m ps
 
 -- after these pairs, the rest starts with an identifier or a value that is truncated
-abbrev pub IsCut : List ℕ → Type 0
-IsCut rest = (rest ≢ []) × ((id value : ℕ) (s more : List ℕ) → Spelled id value s → rest ≡ s ++ more → ⊥)
+abbrev pub IsCutSetting : List ℕ → Type 0
+IsCutSetting rest = (rest ≢ []) × ((id value : ℕ) (s more : List ℕ) → EncodesPair id value s → rest ≡ s ++ more → ⊥)
 
 -- after these pairs, the rest starts with a pair that is not permitted there
 abbrev pub IsRefused : List (ℕ × ℕ) → List ℕ → Type 0
-IsRefused ps rest = (id value : ℕ) × (s more : List ℕ) × Spelled id value s × (rest ≡ s ++ more) × (IsReserved id ⊎ (IsSetting id × Contains (keys_of ps) id))
+IsRefused ps rest = (id value : ℕ) × (s more : List ℕ) × EncodesPair id value s × (rest ≡ s ++ more) × (IsReserved id ⊎ (IsSetting id × Contains (keys_of ps) id))
 
 -- the first fault of the payload, in byte order
-abbrev pub IsFault : ErrorCode → List ℕ → Type 0
-IsFault code s = (ps : List (ℕ × ℕ)) × (front rest : List ℕ) × ArePairs ps front × AreFaultless ps × (s ≡ front ++ rest) × (((code ≡ Frame) × IsCut rest) ⊎ ((code ≡ Settings) × IsRefused ps rest))
+abbrev pub IsSettingsFault : ErrorCode → List ℕ → Type 0
+IsSettingsFault code s = (ps : List (ℕ × ℕ)) × (front rest : List ℕ) × ArePairs ps front × AreFaultless ps × (s ≡ front ++ rest) × (((code ≡ Frame) × IsCutSetting rest) ⊎ ((code ≡ Settings) × IsRefused ps rest))
 
 -- ---- the same, computed
 
@@ -103,10 +103,10 @@ settings_in bytes = settings_from (length bytes) [] bytes
 -- ---- reading and writing
 
 -- the result of storing one more pair; allocation may fail only for one that is stored
-abbrev pub Keeps : List (ℕ × ℕ) → ℕ × ℕ → Result (Unit {0}) Refused → List (ℕ × ℕ) → Type 0
-Keeps old p (Ok u) new = kept_with old p ≡ Ok new
-Keeps old p (Err (Code code)) new = kept_with old p ≡ Err code
-Keeps old p (Err Memory) new = kept_with old p ≡ Ok (with_setting old p.0 p.1)
+abbrev pub KeepsSetting : List (ℕ × ℕ) → ℕ × ℕ → Result (Unit {0}) Refused → List (ℕ × ℕ) → Type 0
+KeepsSetting old p (Ok u) new = kept_with old p ≡ Ok new
+KeepsSetting old p (Err (Code code)) new = kept_with old p ≡ Err code
+KeepsSetting old p (Err Memory) new = kept_with old p ≡ Ok (with_setting old p.0 p.1)
 
 -- a prefix of the payload contains settings, and at least one
 pub record StartsWithSettings (payload : List ℕ) : Type 0 where

@@ -2,8 +2,10 @@
 use Rattle.std.specs.Prelude.{◌≡◌, ℕ, ◌%◌, ◌^◌, ◌<◌, ◌≤◌, List, [], ◌∷◌, length, IsTrue}
 use Rattle.wtp_core.specs.Varint.{shortest}
 use Rattle.wtp_core.specs.Writer.{joined}
-use Rattle.wtp_wire.specs.Kind.{is_exercise}
-use Rattle.wtp_wire.specs.Content.{Content, DataOf, HeadersOf, SettingsOf, WebTransportOf, ExerciseOf}
+use Rattle.wtp_wire.specs.Limits.{max_payload}
+use Rattle.wtp_wire.specs.declared.frame.kind.FrameKind.TheVariants.{WebTransport, Exercise}
+use Rattle.wtp_wire.specs.Kind.{frame_type_of, is_exercise}
+use Rattle.wtp_wire.specs.Content.{Content, PlainOf, WebTransportOf}
 
 -- type, length and payload
 abbrev pub plain_parts : ℕ → List ℕ → List (List ℕ)
@@ -11,11 +13,8 @@ plain_parts number payload = shortest number ∷ shortest (length payload) ∷ p
 
 -- the parts of a frame, in order
 abbrev pub parts_of : Content → List (List ℕ)
-parts_of (DataOf payload) = plain_parts 0x00 payload
-parts_of (HeadersOf payload) = plain_parts 0x01 payload
-parts_of (SettingsOf payload) = plain_parts 0x04 payload
-parts_of (WebTransportOf id) = shortest 0x41 ∷ shortest id ∷ []
-parts_of (ExerciseOf number payload) = plain_parts number payload
+parts_of (PlainOf kind payload) = plain_parts (frame_type_of kind) payload
+parts_of (WebTransportOf id) = shortest (frame_type_of WebTransport) ∷ shortest id ∷ []
 
 -- the bytes of a frame
 abbrev pub wire : Content → List ℕ
@@ -23,8 +22,7 @@ wire f = joined (parts_of f)
 
 -- the numbers of f are those of its kind, and its payload may be read: at most 4096 bytes
 abbrev pub IsReadable : Content → Type 0
-IsReadable (DataOf payload) = length payload ≤ 4096
-IsReadable (HeadersOf payload) = length payload ≤ 4096
-IsReadable (SettingsOf payload) = length payload ≤ 4096
+IsReadable (PlainOf WebTransport payload) = ⊥
+IsReadable (PlainOf (Exercise number) payload) = (number < 2 ^ 62) × IsTrue (is_exercise number) × (length payload ≤ max_payload)
+IsReadable (PlainOf kind payload) = length payload ≤ max_payload
 IsReadable (WebTransportOf id) = (id < 2 ^ 62) × (id % 4 ≡ 0)
-IsReadable (ExerciseOf number payload) = (number < 2 ^ 62) × IsTrue (is_exercise number) × (length payload ≤ 4096)

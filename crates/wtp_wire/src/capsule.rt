@@ -2,8 +2,11 @@
 ghost use Rattle.std.specs.Prelude.{◌≡◌};
 
 pub mod capsules;
+mod reading;
 
+pub use crate::capsule::reading::{CapsuleReading, CutCapsule};
 use crate::frame::{Frame, FrameKind};
+use std::borrow::CowSlice;
 use std::marker::Model;
 use wtp_core::bytes::BytesReader;
 pub use wtp_core::numbers::capsule_types;
@@ -19,6 +22,18 @@ pub enum CapsuleKind {
 
 impl CapsuleKind {
     ghost use Rattle.wtp_wire.specs.Capsule.{capsule_kind_of};
+    ghost use Rattle.wtp_wire.specs.CapsuleFront.{longest_value};
+
+    /// Returns the length of the longest value that is read from a stream's data, in bytes: for a
+    /// capsule that closes a session 1028, a code of 4 and a reason of at most 1024. Not in the
+    /// Rust crate.
+    pub fn longest_value(self) -> usize
+        ensures { result ≡ longest_value self }
+    {
+        match self {
+            CapsuleKind::CloseWebTransportSession => 1028,
+        }
+    }
 
     /// Returns the kind of this type, or `None` if the type is unknown.
     fn parse(id: VarInt) -> Option<Self>
@@ -32,20 +47,35 @@ impl CapsuleKind {
     }
 }
 
+/// The reason a capsule was not read or not made. Not in the Rust crate.
+#[derive(Debug, Drop, PartialEq, Eq, thiserror::Error)]
+pub enum CapsuleError {
+    /// Its value is longer than those of its kind may be.
+    #[error("capsule is too long")]
+    TooLong,
+    /// Memory allocation failed.
+    #[error("no memory")]
+    Memory,
+}
+
 /// A capsule: its kind, and its payload.
 #[derive(Debug, Drop)]
 pub struct Capsule<'a> {
     kind: CapsuleKind,
-    payload: &'a [u8],
+    payload: CowSlice<'a, u8>,
 }
+
+/// A capsule that owns its payload. Not in the Rust crate.
+pub type CapsuleOwned = Capsule<'static>;
 
 impl<'a> Model for Capsule<'a> {
     ghost use Rattle.std.specs.Prelude.{ℕ, List};
+    ghost use Rattle.std.specs.Cow.{cow_slice_items};
     ghost use Rattle.wtp_wire.specs.declared.capsule.CapsuleKind.{CapsuleKind};
 
     ghost Value = { CapsuleKind × List ℕ };
 
-    ghost view = { λ c. (c.kind, c.payload.now) };
+    ghost view = { λ c. (c.kind, cow_slice_items c.payload) };
 }
 
 impl<'a> Capsule<'a> {
@@ -55,7 +85,7 @@ impl<'a> Capsule<'a> {
     /// Returns the capsule at the start of a DATA frame's payload. Returns `None` if the payload
     /// does not start with a complete capsule of a known kind. The bytes after the capsule are not
     /// read.
-    #[tactic(auto, unfolding(crate::specs::Capsule::capsule_in, crate::specs::Capsule::payload_behind))]
+    #[tactic(auto, unfolding(crate::specs::Capsule::capsule_in, crate::specs::Capsule::payload_after))]
     pub fn with_frame(frame: &'a Frame<'_>) -> Option<Self>
         requires { kind_in frame.now ≡ FrameKind.Data }
         ensures { result ≡ capsule_in (payload_in frame.now) }
@@ -64,7 +94,10 @@ impl<'a> Capsule<'a> {
         let kind = CapsuleKind::parse(rest.get_varint()?)?;
         let len = rest.get_varint()?;
         let payload = rest.get_bytes(len.into_inner() as usize)?;
-        Some(Capsule { kind, payload })
+        Some(Capsule {
+            kind,
+            payload: CowSlice::Borrowed(payload),
+        })
     }
 
     /// Returns the kind.
@@ -78,6 +111,9 @@ impl<'a> Capsule<'a> {
     pub fn payload(&self) -> &[u8]
         ensures { result.now ≡ self.now.1 }
     {
-        self.payload
+        match &self.payload {
+            CowSlice::Borrowed(bytes) => bytes,
+            CowSlice::Owned(bytes) => bytes.as_slice(),
+        }
     }
 }

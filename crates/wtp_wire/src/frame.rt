@@ -1,5 +1,5 @@
 //! Frames of HTTP/3 (RFC 9114, section 7), read and written whole or poll by poll.
-ghost use Rattle.std.specs.Prelude.{◌≡◌, ◌%◌, ◌≢◌, ◌<◌, ◌≤◌, ◌^◌, ◌+◌, length, IsTrue, IfSome, IsOk, OnOk, OnErr, Err, Some, None, ◌↔◌};
+ghost use Rattle.std.specs.Prelude.{◌≡◌, ◌%◌, ◌≢◌, ◌<◌, ◌≤◌, ◌^◌, ◌+◌, length, IsTrue, IsSome, IsOk, OnOk, OnErr, Err, Some, None, ◌↔◌};
 ghost use Rattle.wtp_core.specs.Writer.{LacksRoom, PutsParts};
 ghost use Rattle.wtp_core.specs.Reader.{IsRest};
 ghost use Rattle.wtp_core.specs.Cursor.{left_of, whole_of};
@@ -14,6 +14,8 @@ mod whole;
 pub mod writing;
 
 use crate::frame::body::Body;
+use crate::frame::head::{Said, classify_second};
+pub use crate::frame::kind::FrameKind;
 use crate::frame::kind::KindNumber;
 pub use reading::{FrameReading, IoReadError};
 use std::borrow::CowSlice;
@@ -53,64 +55,6 @@ pub enum GenerateError {
     Memory,
 }
 
-/// The kind of a frame.
-#[derive(Clone, Copy, Debug, PartialEq, Eq)]
-pub enum FrameKind {
-    /// DATA (RFC 9114, section 7.2.1).
-    Data,
-    /// HEADERS (RFC 9114, section 7.2.2).
-    Headers,
-    /// SETTINGS (RFC 9114, section 7.2.4).
-    Settings,
-    /// The frame that associates its stream with a WebTransport session: type 0x41
-    /// (draft-ietf-webtrans-http3-02, section 4.2).
-    WebTransport,
-    /// A type that is reserved to exercise the requirement to ignore unknown types (RFC 9114,
-    /// section 7.2.8).
-    Exercise(VarInt),
-}
-
-impl FrameKind {
-    ghost use Rattle.wtp_wire.specs.Kind.{is_exercise, kind_of, number_of, IsKnown};
-
-    /// Returns whether the type is one of those reserved for exercise, `0x21 + 0x1f * n`.
-    pub fn is_id_exercise(id: VarInt) -> bool
-        ensures { result ≡ is_exercise id }
-    {
-        id.into_inner() >= 0x21 && (id.into_inner() - 0x21) % 0x1f == 0
-    }
-
-    /// Returns the type.
-    pub fn id(self) -> VarInt
-        ensures { result ≡ number_of self }
-    {
-        match self {
-            FrameKind::Data => frame_kind_ids::DATA,
-            FrameKind::Headers => frame_kind_ids::HEADERS,
-            FrameKind::Settings => frame_kind_ids::SETTINGS,
-            FrameKind::WebTransport => frame_kind_ids::WEBTRANSPORT_STREAM,
-            FrameKind::Exercise(id) => id,
-        }
-    }
-
-    /// Returns the kind of this type, or `None` if the type is unknown.
-    #[inline(always)]
-    #[tactic(auto, unfolding(crate::specs::Kind::kind_of))]
-    pub fn parse(id: VarInt) -> Option<Self>
-        ensures kind { result ≡ kind_of id }
-        ensures known { IfSome result IsKnown }
-    {
-        match id.into_inner() {
-            0x00 => Some(FrameKind::Data),
-            0x01 => Some(FrameKind::Headers),
-            0x04 => Some(FrameKind::Settings),
-            0x41 => Some(FrameKind::WebTransport),
-            _ if FrameKind::is_id_exercise(id) => Some(FrameKind::Exercise(id)),
-            _ => None,
-        }
-    }
-}
-
 /// A frame whose payload is borrowed or owned. A short payload may be stored in the frame itself.
 #[derive(Drop)]
 pub struct Frame<'a> {
@@ -147,12 +91,9 @@ impl<'a> Frame<'a> {
     ghost use Rattle.std.specs.Cow.{cow_slice_items};
     ghost use Rattle.wtp_wire.specs.Content.{kind_in, payload_in, session_in, DataOf, HeadersOf, SettingsOf, WebTransportOf, ExerciseOf};
     ghost use Rattle.wtp_wire.specs.Kind.{IsKnown, is_exercise};
-    ghost use Rattle.wtp_wire.specs.Front.{front, session_front, plain_front, unknown_front};
-    ghost use Rattle.wtp_wire.specs.Reading.{Answers, AnswersWhole};
+    ghost use Rattle.wtp_wire.specs.Front.{front};
+    ghost use Rattle.wtp_wire.specs.FrameReading.{Answers, AnswersWhole};
     ghost use Rattle.wtp_wire.specs.Wire.{parts_of, wire, IsReadable};
-
-    // The longest payload that is read, in bytes.
-    const MAX_PARSE_PAYLOAD_ALLOWED: u64 = 4096;
 
     /// Creates a HEADERS frame with this payload, an encoded field section (RFC 9114, section
     /// 7.2.2). Requires that the payload has fewer than 2^62 bytes.
@@ -219,6 +160,7 @@ impl<'a> Frame<'a> {
     pub fn kind(&self) -> FrameKind
         ensures kind { result ≡ kind_in self.now }
         ensures known { IsKnown result }
+        ensures opens { IsSome (session_in self.now) ↔ (result ≡ FrameKind.WebTransport) }
     {
         self.kind.kind()
     }
@@ -249,68 +191,6 @@ impl<'a> Frame<'a> {
         self.body.session()
     }
 
-    /// Reads the session ID after the WebTransport type.
-    #[inline(always)]
-    #[tactic(auto, using(wtp_core::proofs::RestLemmas::rests), unfolding(crate::specs::Front::session_front))]
-    fn read_session<R: BytesReader<'a>>(reader: &mut R) -> Result<Option<Self>, ParseError>
-        ensures answer { Answers (session_front (R.left reader.old)) result (R.left reader.new) }
-        ensures rest { IsRest (R.left reader.new) (R.left reader.old) }
-        ensures kept { R.kept reader.new ≡ R.kept reader.old }
-    {
-        let Some(number) = reader.get_varint() else {
-            return Ok(None);
-        };
-        match SessionId::try_from_varint(number) {
-            Ok(session_id) => Ok(Some(Frame::new_webtransport(session_id))),
-            Err(_) => Err(ParseError::InvalidSessionId),
-        }
-    }
-
-    /// Reads the length and the payload after the type of another kind.
-    #[inline(always)]
-    #[tactic(auto, using(wtp_core::proofs::RestLemmas::rests), unfolding(crate::specs::Front::plain_front))]
-    fn read_plain<R: BytesReader<'a>>(
-        kind: KindNumber,
-        reader: &mut R,
-    ) -> Result<Option<Self>, ParseError>
-        requires known { IsKnown kind }
-        requires plain { kind ≢ FrameKind.WebTransport }
-        ensures answer { Answers (plain_front kind (R.left reader.old)) result (R.left reader.new) }
-        ensures rest { IsRest (R.left reader.new) (R.left reader.old) }
-        ensures kept { R.kept reader.new ≡ R.kept reader.old }
-    {
-        let Some(len) = reader.get_varint() else {
-            return Ok(None);
-        };
-        if len.into_inner() > Self::MAX_PARSE_PAYLOAD_ALLOWED {
-            return Err(ParseError::PayloadTooBig);
-        }
-        let Some(payload) = reader.get_bytes(len.into_inner() as usize) else {
-            return Ok(None);
-        };
-        Ok(Some(Frame {
-            kind,
-            body: Body::Borrowed(payload),
-        }))
-    }
-
-    /// Reads the length and the payload after an unknown type.
-    #[inline(always)]
-    #[tactic(auto, using(wtp_core::proofs::RestLemmas::rests), unfolding(crate::specs::Front::unknown_front))]
-    fn read_unknown<R: BytesReader<'a>>(reader: &mut R) -> Result<Option<Self>, ParseError>
-        ensures answer { Answers (unknown_front (R.left reader.old)) result (R.left reader.new) }
-        ensures rest { IsRest (R.left reader.new) (R.left reader.old) }
-        ensures kept { R.kept reader.new ≡ R.kept reader.old }
-    {
-        let Some(len) = reader.get_varint() else {
-            return Ok(None);
-        };
-        match reader.get_bytes(len.into_inner() as usize) {
-            Some(_) => Err(ParseError::UnknownFrame),
-            None => Ok(None),
-        }
-    }
-
     /// Reads the first frame of the input. It does not allocate.
     ///
     /// Returns `None` if there are too few bytes; complete numbers at the start may have been read
@@ -321,7 +201,7 @@ impl<'a> Frame<'a> {
     /// - `PayloadTooBig`: another type and a length above 4096 were read; the payload is not looked
     ///   for.
     #[inline(always)]
-    #[tactic(auto, using(wtp_core::proofs::RestLemmas::rests), unfolding(crate::specs::Front::front))]
+    #[tactic(auto, using(wtp_core::proofs::RestLemmas::rests), unfolding(crate::specs::Front::front, crate::specs::FrameHead::head_at))]
     pub fn read<R: BytesReader<'a>>(reader: &mut R) -> Result<Option<Self>, ParseError>
         ensures answer { Answers (front (R.left reader.old)) result (R.left reader.new) }
         ensures rest { IsRest (R.left reader.new) (R.left reader.old) }
@@ -330,12 +210,27 @@ impl<'a> Frame<'a> {
         let Some(id) = reader.get_varint() else {
             return Ok(None);
         };
-        let Some(kind) = KindNumber::parse(id) else {
-            return Self::read_unknown(reader);
+        let Some(number) = reader.get_varint() else {
+            return Ok(None);
         };
-        match kind.kind() {
-            FrameKind::WebTransport => Self::read_session(reader),
-            _ => Self::read_plain(kind, reader),
+        match classify_second(FrameKind::parse(id), number) {
+            Said::Payload(kind, size) => {
+                let Some(payload) = reader.get_bytes(size as usize) else {
+                    return Ok(None);
+                };
+                Ok(Some(Frame {
+                    kind: KindNumber::with_number(id, kind),
+                    body: Body::Borrowed(payload),
+                }))
+            }
+            Said::Session(session_id) => Ok(Some(Frame::new_webtransport(session_id))),
+            Said::Skip(size) => match reader.get_bytes(size as usize) {
+                Some(_) => Err(ParseError::UnknownFrame),
+                None => Ok(None),
+            },
+            Said::BadSession => Err(ParseError::InvalidSessionId),
+            Said::TooLong => Err(ParseError::PayloadTooBig),
+            Said::Unfinished => Ok(None),
         }
     }
 

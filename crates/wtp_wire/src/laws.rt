@@ -5,7 +5,7 @@ ghost use Rattle.wtp_wire.specs.Kind.{IsKind, kind_of};
 ghost use Rattle.wtp_wire.specs.Front.{Front, Framed, Short, Begins, extended, front};
 ghost use Rattle.wtp_wire.specs.Content.{Content};
 ghost use Rattle.wtp_wire.specs.Wire.{wire, IsReadable};
-ghost use Rattle.wtp_wire.specs.declared.frame.FrameKind.{FrameKind};
+ghost use Rattle.wtp_wire.specs.declared.frame.kind.FrameKind.{FrameKind};
 
 pub mod capsule;
 pub mod datagram;

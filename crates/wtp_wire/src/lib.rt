@@ -3,6 +3,7 @@
 #![tactic(auto)]
 
 pub mod capsule;
+mod codes;
 pub mod datagram;
 pub mod frame;
 pub mod laws;

@@ -63,14 +63,18 @@ impl SettingId {
     fn parse(id: VarInt) -> Option<Self>
         ensures { result ≡ setting_id_of id }
     {
-        match id.into_inner() {
-            0x01 => Some(SettingId::QPackMaxTableCapacity),
-            0x06 => Some(SettingId::MaxFieldSectionSize),
-            0x07 => Some(SettingId::QPackBlockedStreams),
-            0x08 => Some(SettingId::EnableConnectProtocol),
-            0x33 => Some(SettingId::H3Datagram),
-            0x2b60_3742 => Some(SettingId::EnableWebTransport),
-            0xc671_706a => Some(SettingId::WebTransportMaxSessions),
+        match id {
+            setting_ids::SETTINGS_QPACK_MAX_TABLE_CAPACITY => {
+                Some(SettingId::QPackMaxTableCapacity)
+            }
+            setting_ids::SETTINGS_MAX_FIELD_SECTION_SIZE => Some(SettingId::MaxFieldSectionSize),
+            setting_ids::SETTINGS_QPACK_BLOCKED_STREAMS => Some(SettingId::QPackBlockedStreams),
+            setting_ids::SETTINGS_ENABLE_CONNECT_PROTOCOL => Some(SettingId::EnableConnectProtocol),
+            setting_ids::SETTINGS_H3_DATAGRAM => Some(SettingId::H3Datagram),
+            setting_ids::SETTINGS_ENABLE_WEBTRANSPORT => Some(SettingId::EnableWebTransport),
+            setting_ids::SETTINGS_WEBTRANSPORT_MAX_SESSIONS => {
+                Some(SettingId::WebTransportMaxSessions)
+            }
             _ if SettingId::is_exercise(id) => Some(SettingId::Exercise(id)),
             _ => None,
         }
@@ -122,7 +126,7 @@ impl Model for Settings {
 impl Settings {
     ghost use Rattle.wtp_wire.specs.Content.{kind_in, payload_in, SettingsOf};
     ghost use Rattle.wtp_wire.specs.SettingId.{is_setting};
-    ghost use Rattle.wtp_wire.specs.Settings.{IsSettings, value_of, value_at, with_setting, settings_parts, settings_wire, overwritten, Keeps, AnswersSettings};
+    ghost use Rattle.wtp_wire.specs.Settings.{IsSettings, setting_value, value_at, with_setting, settings_parts, settings_wire, overwritten, KeepsSetting, AnswersSettings};
 
     /// Returns a builder in which nothing is set. Only its steps allocate.
     pub fn builder(alloc: Global) -> SettingsBuilder
@@ -168,7 +172,7 @@ impl Settings {
     /// Stores one pair of a payload, if its number is known or reserved for exercise.
     #[tactic(auto, unfolding(crate::specs::Settings::kept_with))]
     fn keep(&mut self, number: VarInt, value: VarInt) -> Result<(), Refused>
-        ensures { Keeps self.old (number, value) result self.new }
+        ensures { KeepsSetting self.old (number, value) result self.new }
     {
         if SettingId::is_reserved(number) {
             return Err(Refused::Code(ErrorCode::Settings));
@@ -288,7 +292,7 @@ impl Settings {
     /// Returns the value of a setting, if it is set. An exercise setting has none if its number is
     /// not reserved for exercise.
     pub fn get(&self, id: SettingId) -> Option<VarInt>
-        ensures { result ≡ value_of self.now id }
+        ensures { result ≡ setting_value self.now id }
     {
         let number = id.known_number()?;
         self.values.get(&number).copied()

@@ -1,6 +1,6 @@
 //! Headers of unidirectional streams (RFC 9114, section 6.2), read and written whole or poll by
 //! poll.
-ghost use Rattle.std.specs.Prelude.{◌≡◌, ◌≤◌, length, IfSome, IsOk, OnOk, OnErr, Err, Some, None, ◌↔◌};
+ghost use Rattle.std.specs.Prelude.{◌≡◌, ◌≤◌, length, is_some, IfSome, IsOk, OnOk, OnErr, Err, Some, None, ◌↔◌};
 ghost use Rattle.wtp_core.specs.Writer.{LacksRoom, PutsParts};
 ghost use Rattle.wtp_core.specs.Reader.{IsRest};
 ghost use Rattle.wtp_core.specs.Cursor.{left_of, whole_of};
@@ -47,7 +47,7 @@ pub enum StreamKind {
 
 impl StreamKind {
     ghost use Rattle.wtp_wire.specs.Kind.{is_exercise};
-    ghost use Rattle.wtp_wire.specs.StreamKind.{stream_kind_of, stream_number_of, IsKnownStream};
+    ghost use Rattle.wtp_wire.specs.StreamKind.{has_session, stream_kind_of, stream_number_of, IsKnownStream};
 
     /// Returns whether the type is one of those reserved for exercise, `0x21 + 0x1f * n`.
     pub fn is_id_exercise(id: VarInt) -> bool
@@ -75,14 +75,21 @@ impl StreamKind {
         ensures kind { result ≡ stream_kind_of id }
         ensures known { IfSome result IsKnownStream }
     {
-        match id.into_inner() {
-            0x00 => Some(StreamKind::Control),
-            0x02 => Some(StreamKind::QPackEncoder),
-            0x03 => Some(StreamKind::QPackDecoder),
-            0x54 => Some(StreamKind::WebTransport),
+        match id {
+            stream_type_ids::CONTROL_STREAM => Some(StreamKind::Control),
+            stream_type_ids::QPACK_ENCODER_STREAM => Some(StreamKind::QPackEncoder),
+            stream_type_ids::QPACK_DECODER_STREAM => Some(StreamKind::QPackDecoder),
+            stream_type_ids::WEBTRANSPORT_STREAM => Some(StreamKind::WebTransport),
             _ if StreamKind::is_id_exercise(id) => Some(StreamKind::Exercise(id)),
             _ => None,
         }
+    }
+
+    /// Returns whether a session ID follows the type.
+    fn has_session(self) -> bool
+        ensures { result ≡ has_session self }
+    {
+        matches!(self, StreamKind::WebTransport)
     }
 }
 
@@ -107,7 +114,7 @@ impl Model for StreamHeader {
 
 impl StreamHeader {
     ghost use Rattle.wtp_wire.specs.Header.{header_kind, header_session, ControlHeader, WebTransportHeader};
-    ghost use Rattle.wtp_wire.specs.StreamKind.{IsKnownStream};
+    ghost use Rattle.wtp_wire.specs.StreamKind.{IsKnownStream, has_session};
     ghost use Rattle.wtp_wire.specs.HeaderFront.{header_front, session_header_front};
     ghost use Rattle.wtp_wire.specs.HeaderReading.{AnswersHeader, AnswersHeaderWhole};
     ghost use Rattle.wtp_wire.specs.HeaderWire.{header_parts, header_wire, IsReadableHeader};
@@ -147,7 +154,8 @@ impl StreamHeader {
     /// Returns the session, if the kind is WebTransport.
     #[tactic(auto, using(crate::proofs::HeaderLemmas::header_fields))]
     pub fn session_id(&self) -> Option<SessionId>
-        ensures { result ≡ header_session self.now }
+        ensures session { result ≡ header_session self.now }
+        ensures opens { is_some result ≡ has_session (header_kind self.now) }
     {
         self.session_id
     }
@@ -183,15 +191,13 @@ impl StreamHeader {
         let Some(id) = reader.get_varint() else {
             return Ok(None);
         };
-        let Some(kind) = StreamKind::parse(id) else {
-            return Err(ParseError::UnknownStream);
-        };
-        match kind {
-            StreamKind::WebTransport => Self::read_session(reader),
-            _ => Ok(Some(StreamHeader {
+        match StreamKind::parse(id) {
+            Some(kind) if kind.has_session() => Self::read_session(reader),
+            Some(kind) => Ok(Some(StreamHeader {
                 kind,
                 session_id: None,
             })),
+            None => Err(ParseError::UnknownStream),
         }
     }
 

@@ -13,7 +13,7 @@ use Rattle.wtransport_proto.specs.declared.stream.driving.Driven.TheVariants as 
 use Rattle.wtransport_proto.specs.Rule.{Role}
 use Rattle.wtransport_proto.specs.Run.{Run}
 use Rattle.wtransport_proto.specs.HeldRun.{run_of, size_of}
-use Rattle.wtransport_proto.specs.StreamPolling.{EndsSo, Faults, TakesFrame, PassesUnknown, StreamPolled}
+use Rattle.wtransport_proto.specs.StreamPolling.{EndsSo, Faults, StreamTakesFrame, PassesUnknown, StreamPolled}
 use Rattle.wtransport_proto.specs.Place.{Place, place_of, StopsAt}
 use Rattle.wtransport_proto.specs.Driving.{ChangesFirst, after, RunsOn, KeepsPlace, DriveKeeps, DriveDid, Drove}
 use Rattle.wtransport_proto.proofs.PlaceLemmas.{same_refl, same_then, leaves_place, unknown_place, frame_place, fault_place}
@@ -85,7 +85,7 @@ drove_start role first h fs a none = record {
   asks = record { asked = omega arith; no_less = omega arith; ending = refl; waits = omega arith };
 }
 
-drove_frame : (role : Role) (f0 f1 f2 : Bool) (old mid new : Held) (fs fs' : List Content) (f : Content) (n : ℕ) (a b c : Source) → fs' ≡ fs ++ f ∷ [] → Drove role f0 f1 old mid fs n a b → TakesFrame role f1 f2 mid new f b c → Asks 4112 b c → Drove role f0 f2 old new fs' (n + 1) a c
+drove_frame : (role : Role) (f0 f1 f2 : Bool) (old mid new : Held) (fs fs' : List Content) (f : Content) (n : ℕ) (a b c : Source) → fs' ≡ fs ++ f ∷ [] → Drove role f0 f1 old mid fs n a b → StreamTakesFrame role f1 f2 mid new f b c → Asks 4112 b c → Drove role f0 f2 old new fs' (n + 1) a c
 drove_frame role f0 f1 f2 old mid new fs fs' f n a b c is g t k = record {
   run = g.run ∙ ap (after fs) (frame_run role f1 f2 mid new f b c t k.ending) ∙ after_more fs f (run_of role f2 new c) ∙ ap (λ (l : List Content). after l (run_of role f2 new c)) (sym is);
   place = same_then (place_of role f0 old a) (place_of role f1 mid b) (place_of role f2 new c) g.place (frame_place role f1 f2 mid new f b c t);
@@ -181,9 +181,9 @@ pub told_frame : (s t u : Option Source) (role : Role) (f0 f1 f2 : Bool) (r0 r1 
     → Telling t u (StreamPolled role (Ready (Ok f)) f1 f2 r1 r2) → Telling t u (Asks 4112)
     → Telling s u (Drove role f0 f2 r0 r2 fs' (n + 1))
 told_frame s t u role f0 f1 f2 r0 r1 r2 fs fs' f n is p q k =
-    telling_then s t u (Drove role f0 f1 r0 r1 fs n) (λ b c. TakesFrame role f1 f2 r1 r2 f b c × Asks 4112 b c) (Drove role f0 f2 r0 r2 fs' (n + 1))
+    telling_then s t u (Drove role f0 f1 r0 r1 fs n) (λ b c. StreamTakesFrame role f1 f2 r1 r2 f b c × Asks 4112 b c) (Drove role f0 f2 r0 r2 fs' (n + 1))
     (λ a b c g h. drove_frame role f0 f1 f2 r0 r1 r2 fs fs' f n a b c is g h.0 h.1)
-    p (telling_both t u (TakesFrame role f1 f2 r1 r2 f) (Asks 4112) q k)
+    p (telling_both t u (StreamTakesFrame role f1 f2 r1 r2 f) (Asks 4112) q k)
 
 pub told_unknown : (s t u : Option Source) (role : Role) (f0 f1 f2 : Bool) (r0 r1 r2 : Held) (fs : List Content) (n : ℕ) → IsUnfinished r1
     → Telling s t (Drove role f0 f1 r0 r1 fs n)

@@ -15,7 +15,7 @@ use Rattle.wtransport_proto.specs.Rule.{Role, rule}
 use Rattle.wtransport_proto.specs.Run.{Run, Tail, MayGoOn, Ended, WasReset, Lost, Ending, H3, ends, follows, run}
 use Rattle.wtransport_proto.specs.Run as stopping
 use Rattle.wtransport_proto.specs.HeldRun.{tail_of, stop_of, run_by, count_held, run_held, run_of, size_of}
-use Rattle.wtransport_proto.specs.StreamPolling.{TakesFrame, PassesUnknown}
+use Rattle.wtransport_proto.specs.StreamPolling.{StreamTakesFrame, PassesUnknown}
 use Rattle.wtransport_proto.proofs.RunLemmas.{run-step, past_unknown-framed, past_unknown-bad, past_unknown-big, past_unknown-short}
 use Rattle.wtransport_proto.proofs.ReadingLemmas.{run-unknown}
 
@@ -78,7 +78,7 @@ skips_size old new a b s = omega (arith, ap length s.parts, length-append (s.hea
 
 -- an unknown frame that is begun has a byte
 head_some : (old new : Held) (a b : Source) (s : Skips old new a b) → old.due ≡ 0 → 0 < length s.head
-head_some old new a b s z = let h = s.begun z in head_not_empty h.id (length s.payload + new.due) s.head h.spelled
+head_some old new a b s z = let h = s.begun z in head_not_empty h.id (length s.payload + new.due) s.head h.encoded
 
 skips_some : (old new : Held) (a b : Source) → Skips old new a b → 0 < count_held old a.ahead
 skips_some old new a b s = elim (cases_lt 0 old.due) [
@@ -115,18 +115,18 @@ pub run_case : (role : Role) (first : Bool) (h : Held) (xs : List ℕ) (tail : T
 unfolding run_held
 run_case role first h xs tail c e = rw e refl
 
-stop_is : (bytes : List ℕ) (tail : Tail) → stopping.stop bytes bytes tail ≡ stop_of (length bytes) tail
+stop_is : (bytes : List ℕ) (tail : Tail) → stopping.run_stop bytes bytes tail ≡ stop_of (length bytes) tail
 stop_is bytes MayGoOn = refl
 stop_is [] Ended = refl
 stop_is (b ∷ bytes) Ended = rw (ne_eqb (length (b ∷ bytes)) 0 (λ z. omega arith)) refl
 stop_is bytes WasReset = stop_reset bytes
   where
-    stop_reset : (l : List ℕ) → stopping.stop l l WasReset ≡ stop_of (length l) WasReset
+    stop_reset : (l : List ℕ) → stopping.run_stop l l WasReset ≡ stop_of (length l) WasReset
     stop_reset [] = refl
     stop_reset (b ∷ l) = refl
 stop_is bytes Lost = stop_lost bytes
   where
-    stop_lost : (l : List ℕ) → stopping.stop l l Lost ≡ stop_of (length l) Lost
+    stop_lost : (l : List ℕ) → stopping.run_stop l l Lost ≡ stop_of (length l) Lost
     stop_lost [] = refl
     stop_lost (b ∷ l) = refl
 
@@ -146,7 +146,7 @@ run_held-run role first h xs tail t z =
     ∙ ap (λ (k : ℕ). run_by role first tail k (front (h.taken ++ xs))) n
     ∙ run_by_front role first tail (h.taken ++ xs) (front (h.taken ++ xs)) t refl
 
-closed : (e : source.Ending) → tail_of e ≢ MayGoOn
+closed : (e : source.SourceEnding) → tail_of e ≢ MayGoOn
 closed AtEnd = λ h. cc
 closed AtReset = λ h. cc
 closed AtDisconnection = λ h. cc
@@ -156,7 +156,7 @@ run_new role first new b e = rw e (run_held-run role first new_held b.ahead (tai
 
 -- ---- polls continue the run
 
-stop_some : (e : source.Ending) (n m : ℕ) → 0 < n → 0 < m → stop_of n (tail_of e) ≡ stop_of m (tail_of e)
+stop_some : (e : source.SourceEnding) (n m : ℕ) → 0 < n → 0 < m → stop_of n (tail_of e) ≡ stop_of m (tail_of e)
 stop_some AtEnd n m l k = rw (ne_eqb n 0 (λ z. omega arith), ne_eqb m 0 (λ z. omega arith)) refl
 stop_some AtReset n m l k = refl
 stop_some AtDisconnection n m l k = refl
@@ -173,7 +173,7 @@ run_same role first old new a b same ending e =
     run_case role first old a.ahead (tail_of a.ending) (front_held old a.ahead) refl
     ∙ by_same role first (tail_of a.ending) (count_held old a.ahead) (count_held new b.ahead) (front_held old a.ahead) e
     ∙ sym (run_case role first new b.ahead (tail_of a.ending) (front_held old a.ahead) same)
-    ∙ ap (λ (x : source.Ending). run_held role first new b.ahead (tail_of x)) (sym ending)
+    ∙ ap (λ (x : source.SourceEnding). run_held role first new b.ahead (tail_of x)) (sym ending)
 
 pub leaves_run : (role : Role) (first : Bool) (old new : Held) (a b : Source) → Leaves old new a b → b.ending ≡ a.ending → run_of role first old a ≡ run_of role first new b
 leaves_run role first old new a b v ending = elim (cases_lt 0 new.due) [
@@ -186,14 +186,14 @@ unknown_run role first next old new a b p ending = rw p.flag (elim (cases_lt 0 n
   | inl l ↦ let w = p.part l in run_same role first old new a b w.0 ending (stop_some a.ending (count_held old a.ahead) (count_held new b.ahead) (skips_some old new a b p.skips) (omega arith))
   | inr l ↦ let d = p.whole (omega arith) in
       run_case role first old a.ahead (tail_of a.ending) (Unknown b.ahead) d.front
-      ∙ ap (λ (x : source.Ending). run role first b.ahead (tail_of x)) (sym ending)
+      ∙ ap (λ (x : source.SourceEnding). run role first b.ahead (tail_of x)) (sym ending)
       ∙ sym (run_new role first new b d.empty)
 ])
 
-pub frame_run : (role : Role) (first next : Bool) (old new : Held) (f : Content) (a b : Source) → TakesFrame role first next old new f a b → b.ending ≡ a.ending → run_of role first old a ≡ follows f (run_of role next new b)
+pub frame_run : (role : Role) (first next : Bool) (old new : Held) (f : Content) (a b : Source) → StreamTakesFrame role first next old new f a b → b.ending ≡ a.ending → run_of role first old a ≡ follows f (run_of role next new b)
 frame_run role first next old new f a b t ending =
     run_framed role first old a.ahead b.ahead (tail_of a.ending) f t.decided.front t.allowed
-    ∙ ap (λ (x : source.Ending). follows f (run role false b.ahead (tail_of x))) (sym ending)
+    ∙ ap (λ (x : source.SourceEnding). follows f (run role false b.ahead (tail_of x))) (sym ending)
     ∙ ap (λ (r : Run). follows f r) (sym (run_new role false new b t.decided.empty) ∙ ap (λ (x : Bool). run_of role x new b) (sym t.flag))
 
 -- ---- if payload bytes of an unknown frame are still to be skipped

@@ -5,11 +5,11 @@ use Rattle.wtp_core.specs.declared.bytes.polled.Polled.TheVariants.{Pending, Aga
 use Rattle.wtp_core.specs.Source.{Source, Telling}
 use Rattle.wtp_core.specs.Polled.{Asks}
 use Rattle.wtp_core.proofs.TellingLemmas.{telling_map, telling_same, telling_then, telling_both}
-use Rattle.wtp_wire.specs.declared.frame.FrameKind.{FrameKind}
-use Rattle.wtp_wire.specs.declared.frame.FrameKind.TheVariants.{Headers}
+use Rattle.wtp_wire.specs.declared.frame.kind.FrameKind.{FrameKind}
+use Rattle.wtp_wire.specs.declared.frame.kind.FrameKind.TheVariants.{Headers}
 use Rattle.wtp_core.specs.declared.error.Refused.{Refused}
 use Rattle.wtp_core.specs.declared.error.Refused.TheVariants as refused
-use Rattle.wtp_wire.specs.Content.{Content, DataOf, HeadersOf, SettingsOf, WebTransportOf, ExerciseOf, kind_in, payload_in}
+use Rattle.wtp_wire.specs.Content.{Content, PlainOf, HeadersOf, WebTransportOf, kind_in, payload_in}
 use Rattle.wtp_wire.specs.Front.{Front, Framed, Unknown, BadId, TooBig, Short, front}
 use Rattle.wtp_wire.specs.Held.{Held, new_held, front_held, Leaves}
 use Rattle.wtp_wire.specs.Wire.{wire}
@@ -24,7 +24,7 @@ use Rattle.wtransport_proto.specs.Rule.{Role, RemoteBi, LocalBi, RemoteUni, InSe
 use Rattle.wtransport_proto.specs.Run.{Run, Tail, past_unknown, run, follows}
 use Rattle.wtransport_proto.specs.HeldRun.{tail_of, run_of}
 use Rattle.wtransport_proto.specs.StreamPolling.{PassesUnknown, LacksMemory, StreamPolled}
-use Rattle.wtransport_proto.specs.Journey.{past_front, Kept, Turned, Takes, FrameDid, MapDid, CameBack, ReadsBack}
+use Rattle.wtransport_proto.specs.Journey.{past_front, KeptPlace, Turned, Takes, FrameDid, MapDid, CameBack, ReadsBack}
 use Rattle.wtransport_proto.proofs.RunLemmas.{past_unknown-unknown, past_unknown-framed, past_unknown-bad, past_unknown-big, past_unknown-short}
 use Rattle.wtransport_proto.proofs.RunLaws.{run-allowed}
 use Rattle.wtransport_proto.proofs.HeldRunLemmas.{skip_not_read, leaves_run, leaves_size, unknown_run, unknown_size, run_new}
@@ -55,17 +55,17 @@ past_new new bytes e = rw e (ap past_front (front_none [] 0 bytes refl) ∙ past
 
 -- ---- turns of a reading
 
-kept_start : (role : Role) (first : Bool) (h : Held) (a : Source) → h ≡ new_held → Kept role first first h a a
+kept_start : (role : Role) (first : Bool) (h : Held) (a : Source) → h ≡ new_held → KeptPlace role first first h a a
 kept_start role first h a e = record { run = sym (run_new role first h a e); known = past_new h a.ahead e; flag = refl }
 
-kept_still : (role : Role) (f0 f1 f2 : Bool) (mid new : Held) (a b c : Source) → Kept role f0 f1 mid a b → Leaves mid new b c → f2 ≡ f1 → c.ending ≡ b.ending → Kept role f0 f2 new a c
+kept_still : (role : Role) (f0 f1 f2 : Bool) (mid new : Held) (a b c : Source) → KeptPlace role f0 f1 mid a b → Leaves mid new b c → f2 ≡ f1 → c.ending ≡ b.ending → KeptPlace role f0 f2 new a c
 kept_still role f0 f1 f2 mid new a b c g v e ending = record {
   run = g.run ∙ leaves_run role f1 mid new b c v ending ∙ ap (λ (x : Bool). run_of role x new c) (sym e);
   known = ap past_front v.same ∙ g.known;
   flag = e ∙ g.flag;
 }
 
-kept_unknown : (role : Role) (f0 f1 f2 : Bool) (mid new : Held) (a b c : Source) → Kept role f0 f1 mid a b → PassesUnknown f1 f2 mid new b c → c.ending ≡ b.ending → Kept role f0 f2 new a c
+kept_unknown : (role : Role) (f0 f1 f2 : Bool) (mid new : Held) (a b c : Source) → KeptPlace role f0 f1 mid a b → PassesUnknown f1 f2 mid new b c → c.ending ≡ b.ending → KeptPlace role f0 f2 new a c
 kept_unknown role f0 f1 f2 mid new a b c g p ending = record {
   run = g.run ∙ unknown_run role f1 f2 mid new b c p ending;
   known = elim (cases_lt 0 new.due) [
@@ -142,11 +142,8 @@ asks_end s t u n turns l p k = telling_then s t u (Asks (4112 * n)) (Asks 4112) 
 -- ---- the map comes back
 
 pub is_headers : (f : Content) → kind_in f ≡ Headers → f ≡ HeadersOf (payload_in f)
-is_headers (DataOf p) e = absurd (cc)
-is_headers (HeadersOf p) e = refl
-is_headers (SettingsOf p) e = absurd (cc)
+is_headers (PlainOf kind p) e = ap (λ (k : FrameKind). PlainOf k p) e
 is_headers (WebTransportOf id) e = absurd (cc)
-is_headers (ExerciseOf number p) e = absurd (cc)
 
 -- the frame that was taken is the first frame of the input
 found : (role : Role) (first next : Bool) (f g : Content) (rest : List ℕ) (a b : Source) → front a.ahead ≡ Framed g rest → Takes role first next f a b → (f ≡ g) × (b.ahead ≡ rest)

@@ -9,3 +9,4 @@ pub mod DriveLemmas
 pub mod AgreeLemmas
 pub mod SendLemmas
 pub mod JourneyLemmas
+pub mod RuleLemmas

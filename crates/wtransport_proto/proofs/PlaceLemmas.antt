@@ -12,7 +12,7 @@ use Rattle.wtransport_proto.specs.Rule.{Role, rule}
 use Rattle.wtransport_proto.specs.Run.{Run, past_unknown, follows}
 use Rattle.wtransport_proto.specs.HeldRun.{tail_of, run_of}
 use Rattle.wtransport_proto.specs.Reading.{FirstAfter}
-use Rattle.wtransport_proto.specs.StreamPolling.{Faults, TakesFrame, PassesUnknown, StandsBehind}
+use Rattle.wtransport_proto.specs.StreamPolling.{Faults, StreamTakesFrame, PassesUnknown, SourceIsAfter}
 use Rattle.wtransport_proto.specs.Place.{Place, if_allowed, next_remainder, remainder, place_after, place_by, place_held, place_of, BeginsUnknown, ComesDue, Remains, SamePlace, LeftAfter, StopsAt}
 use Rattle.wtransport_proto.proofs.RunLemmas.{past_unknown-framed, past_unknown-bad, past_unknown-big, past_unknown-short}
 use Rattle.wtransport_proto.proofs.RemainderLemmas.{after-unknown, after-known}
@@ -175,7 +175,7 @@ unknown_place role first next old new a b u p = rw p.flag (elim (cases_lt 0 new.
   | inr l ↦ let d = p.whole (omega arith) in same_of (place_of role first old a) (place_of role first new b) (place-unknown role first old a.ahead b.ahead d.front ∙ ap (λ (h : Held). place_held role first h b.ahead) (sym d.empty))
 ])
 
-pub frame_place : (role : Role) (first next : Bool) (old new : Held) (f : Content) (a b : Source) → TakesFrame role first next old new f a b → SamePlace (place_of role first old a) (place_of role next new b)
+pub frame_place : (role : Role) (first next : Bool) (old new : Held) (f : Content) (a b : Source) → StreamTakesFrame role first next old new f a b → SamePlace (place_of role first old a) (place_of role next new b)
 frame_place role first next old new f a b t = same_of (place_of role first old a) (place_of role next new b)
     (place-allowed role first old a.ahead b.ahead f t.decided.front t.allowed
     ∙ ap (λ (h : Held). place_held role false h b.ahead) (sym t.decided.empty)
@@ -201,7 +201,7 @@ fault_here role first next old new x a b (BadId rest) e t = place_case role firs
 fault_here role first next old new x a b (TooBig rest) e t = place_case role first old a.ahead (TooBig rest) e
 fault_here role first next old new x a b Short e t = place_case role first old a.ahead Short e
 
-left_after : (p : Place) (old new : Held) (a b : Source) (c : Front) → IsUnfinished old → Remains p.held old p.ahead a.ahead → StandsBehind c old new a b → LeftAfter p c new b.ahead
+left_after : (p : Place) (old new : Held) (a b : Source) (c : Front) → IsUnfinished old → Remains p.held old p.ahead a.ahead → SourceIsAfter c old new a b → LeftAfter p c new b.ahead
 left_after p old new a b (Framed f rest) u r s = (s.0, sym s.1)
 left_after p old new a b (Unknown rest) u r s = s
 left_after p old new a b (BadId rest) u r s = (s.0, sym s.1)

@@ -5,14 +5,13 @@ use Rattle.wtp_core.specs.declared.error.ErrorCode.TheVariants.{Id, ExcessiveLoa
 use Rattle.wtp_wire.specs.declared.frame.ParseError.TheVariants.{InvalidSessionId, PayloadTooBig}
 use Rattle.wtp_wire.specs.Content.{Content, kind_in}
 use Rattle.wtp_wire.specs.Front.{Front, Framed, Unknown, BadId, TooBig, Short, front}
-use Rattle.wtp_wire.specs.Reading.{Answers}
+use Rattle.wtp_wire.specs.FrameReading.{Answers}
 use Rattle.wtp_core.specs.Reader.{IsRest}
 use Rattle.wtp_core.proofs.RestLemmas.{rest-same, rest-rest}
-use Rattle.wtransport_proto.specs.Run.{past_unknown, run, Run, next_run, follows, ends, stop, Tail, MayGoOn, Ended, WasReset, Lost, Open, H3}
+use Rattle.wtransport_proto.specs.Run.{past_unknown, run, Run, next_run, follows, ends, run_stop, Tail, MayGoOn, Ended, WasReset, Lost, Open, H3}
 use Rattle.wtransport_proto.specs.Rule.{Role, RemoteBi, LocalBi, RemoteUni, InSession, rule}
-use Rattle.wtp_wire.specs.declared.frame.FrameKind.{FrameKind}
-use Rattle.wtp_wire.specs.declared.frame.FrameKind.TheVariants.{Data, Headers, Settings, WebTransport, Exercise}
-use Rattle.wtransport_proto.specs.Reading.{AnswersKnown, AnswersFrame, FirstAfter, StandsAfter, verdict}
+use Rattle.wtp_wire.specs.declared.frame.kind.FrameKind.{FrameKind}
+use Rattle.wtransport_proto.specs.Reading.{AnswersKnown, AnswersFrame, FirstAfter, ReaderIsAfter, verdict}
 use Rattle.wtransport_proto.proofs.RunLemmas.{past_unknown-unknown, past_unknown-framed, past_unknown-bad, past_unknown-big, past_unknown-short, run-step}
 
 -- only unknown frames were skipped between old and cur
@@ -105,7 +104,7 @@ some_place role first next left f (BadId rest) (answer, later, there) = absurd c
 some_place role first next left f (TooBig rest) (answer, later, there) = absurd cc
 some_place role first next left f Short (answer, later) = absurd cc
 
-pub place_some : (role : Role) (first next : Bool) (old ahead left new : List ℕ) (o : Option Content) (f : Content) → ahead ≡ old → o ≡ Some f → new ≡ left → AnswersFrame role first (front (past_unknown ahead)) (Ok o) next left → StandsAfter role first old (Ok (Some f)) next new
+pub place_some : (role : Role) (first next : Bool) (old ahead left new : List ℕ) (o : Option Content) (f : Content) → ahead ≡ old → o ≡ Some f → new ≡ left → AnswersFrame role first (front (past_unknown ahead)) (Ok o) next left → ReaderIsAfter role first old (Ok (Some f)) next new
 place_some role first next old ahead left new o f e is n h = rw (← e, n) (some_place role first next left f (front (past_unknown ahead)) (rw is at h))
 
 none_place : (role : Role) (first next : Bool) (left : List ℕ) (c : Front) → AnswersFrame role first c (Ok None) next left → (c ≡ Short) × (next ≡ first)
@@ -119,7 +118,7 @@ none_place role first next left (BadId rest) (answer, later, there) = absurd cc
 none_place role first next left (TooBig rest) (answer, later, there) = absurd cc
 none_place role first next left Short (answer, later) = (refl, later)
 
-pub place_none : (role : Role) (first next : Bool) (old ahead left new : List ℕ) (o : Option Content) → ahead ≡ old → o ≡ None → new ≡ old → AnswersFrame role first (front (past_unknown ahead)) (Ok o) next left → StandsAfter role first old (Ok None) next new
+pub place_none : (role : Role) (first next : Bool) (old ahead left new : List ℕ) (o : Option Content) → ahead ≡ old → o ≡ None → new ≡ old → AnswersFrame role first (front (past_unknown ahead)) (Ok o) next left → ReaderIsAfter role first old (Ok None) next new
 place_none role first next old ahead left new o e is n h =
     let (short, same) = none_place role first next left (front (past_unknown ahead)) (rw is at h) in
     (rw (← e) short, same, n)
@@ -131,11 +130,11 @@ err_place role first next left d (BadId rest) (answer, later, there) = later
 err_place role first next left d (TooBig rest) (answer, later, there) = later
 err_place role first next left d Short (answer, later) = later
 
-pub place_err : (role : Role) (first next : Bool) (old ahead left new : List ℕ) (d : ErrorCode) → ahead ≡ old → new ≡ old → AnswersFrame role first (front (past_unknown ahead)) (Err d) next left → StandsAfter role first old (Err d) next new
+pub place_err : (role : Role) (first next : Bool) (old ahead left new : List ℕ) (d : ErrorCode) → ahead ≡ old → new ≡ old → AnswersFrame role first (front (past_unknown ahead)) (Err d) next left → ReaderIsAfter role first old (Err d) next new
 place_err role first next old ahead left new d e n h = (rw (← e) (err_place role first next left d (front (past_unknown ahead)) h), n)
 
 -- unknown frames are skipped, if the bytes end
-same_stop : (bytes other rest : List ℕ) (tail : Tail) → tail ≢ MayGoOn → stop bytes rest tail ≡ stop other rest tail
+same_stop : (bytes other rest : List ℕ) (tail : Tail) → tail ≢ MayGoOn → run_stop bytes rest tail ≡ run_stop other rest tail
 same_stop bytes other rest MayGoOn h = absurd (h refl)
 same_stop bytes other [] Ended h = refl
 same_stop bytes other (b ∷ rest) Ended h = refl
@@ -158,20 +157,8 @@ run-unknown role first bytes rest tail closed e =
 
 pub rule_first : (role : Role) (f g : Bool) (kind : FrameKind) → role ≢ RemoteBi → rule role f kind ≡ rule role g kind
 rule_first RemoteBi f g kind h = absurd (h refl)
-rule_first LocalBi f g Data h = refl
-rule_first LocalBi f g Headers h = refl
-rule_first LocalBi f g Settings h = refl
-rule_first LocalBi f g WebTransport h = refl
-rule_first LocalBi f g (Exercise number) h = refl
-rule_first RemoteUni f g Data h = refl
-rule_first RemoteUni f g Headers h = refl
-rule_first RemoteUni f g Settings h = refl
-rule_first RemoteUni f g WebTransport h = refl
-rule_first RemoteUni f g (Exercise number) h = refl
-rule_first InSession f g Data h = refl
-rule_first InSession f g Headers h = refl
-rule_first InSession f g Settings h = refl
-rule_first InSession f g WebTransport h = refl
-rule_first InSession f g (Exercise number) h = refl
+rule_first LocalBi f g kind h = refl
+rule_first RemoteUni f g kind h = refl
+rule_first InSession f g kind h = refl
 
 pub ruleset run_answers = (run_some, run_none, run_err, place_some, place_none, place_err)

@@ -5,7 +5,7 @@ use Rattle.wtp_core.specs.declared.error.ErrorCode.TheVariants.{Id, ExcessiveLoa
 use Rattle.wtp_wire.specs.Content.{Content, kind_in}
 use Rattle.wtp_wire.specs.Front.{Front, Framed, Unknown, BadId, TooBig, Short, front}
 use Rattle.wtransport_proto.specs.Rule.{Role, RemoteBi, rule}
-use Rattle.wtransport_proto.specs.Run.{Run, Tail, MayGoOn, H3, past_unknown, run, next_run, judged, ends, follows, stop, counted}
+use Rattle.wtransport_proto.specs.Run.{Run, Tail, MayGoOn, H3, past_unknown, run, next_run, judged, ends, follows, run_stop, counted}
 use Rattle.wtransport_proto.proofs.RunLemmas.{past_unknown-unknown, past_unknown-framed, past_unknown-bad, past_unknown-big, past_unknown-short, run-step}
 use Rattle.wtransport_proto.proofs.ReadingLemmas.{rule_first}
 
@@ -30,7 +30,7 @@ run-bad_id role first bytes rest tail e = run_at role first bytes tail (BadId re
 pub run-too_big : (role : Role) (first : Bool) (bytes rest : List ℕ) (tail : Tail) → front bytes ≡ TooBig rest → run role first bytes tail ≡ ends (H3 ExcessiveLoad)
 run-too_big role first bytes rest tail e = run_at role first bytes tail (TooBig rest) (past_unknown-big bytes rest e) e
 
-pub run-short : (role : Role) (first : Bool) (bytes : List ℕ) (tail : Tail) → front bytes ≡ Short → run role first bytes tail ≡ ends (stop bytes bytes tail)
+pub run-short : (role : Role) (first : Bool) (bytes : List ℕ) (tail : Tail) → front bytes ≡ Short → run role first bytes tail ≡ ends (run_stop bytes bytes tail)
 run-short role first bytes tail e = run_at role first bytes tail Short (past_unknown-short bytes e) e
 
 -- ---- unknown frames, if the bytes may go on

@@ -4,7 +4,7 @@ use Rattle.wtp_wire.specs.Content.{Content, kind_in}
 use Rattle.wtp_wire.specs.Front.{Front, Framed, Unknown, BadId, TooBig, Short, front}
 use Rattle.wtp_wire.proofs.FrontLemmas.{framed-shorter, unknown-shorter, front-empty}
 use Rattle.wtransport_proto.specs.Rule.{Role, rule}
-use Rattle.wtransport_proto.specs.Run.{Run, Tail, passed, past_within, past_unknown, ends, judged, next_run, run_within, run, stop}
+use Rattle.wtransport_proto.specs.Run.{Run, Tail, passed, past_within, past_unknown, ends, judged, next_run, run_within, run, run_stop}
 
 passed_same : (c : Front) (f g : List ℕ → List ℕ) (bytes : List ℕ) → ((rest : List ℕ) → c ≡ Unknown rest → f rest ≡ g rest) → passed f bytes c ≡ passed g bytes c
 passed_same (Framed x rest) f g bytes h = refl
@@ -74,7 +74,7 @@ next_same (BadId behind) f g role first bytes rest tail h = refl
 next_same (TooBig behind) f g role first bytes rest tail h = refl
 next_same Short f g role first bytes rest tail h = refl
 
-run_empty : (m : ℕ) (role : Role) (tail : Tail) (first : Bool) → run_within m role tail first [] ≡ ends (stop [] [] tail)
+run_empty : (m : ℕ) (role : Role) (tail : Tail) (first : Bool) → run_within m role tail first [] ≡ ends (run_stop [] [] tail)
 run_empty zero role tail first = refl
 run_empty (suc m) role tail first =
     ap (λ (b : List ℕ). next_run (λ f r. run_within m role tail f r) role first [] b tail (front b)) past_unknown-empty ∙ ap (λ (c : Front). next_run (λ f r. run_within m role tail f r) role first [] [] tail c) front-empty

@@ -8,11 +8,13 @@ use Rattle.wtp_core.specs.declared.bytes.polled.IoWriteError.TheVariants as faul
 use Rattle.wtp_core.specs.Varint.{shortest}
 use Rattle.wtp_core.specs.Source.{Telling}
 use Rattle.wtp_core.specs.Sink.{Sink, Took}
-use Rattle.wtp_core.specs.Writing.{Writing, WritePolled, between}
+use Rattle.wtp_core.specs.Put.{Writing, WritePolled, between}
 use Rattle.wtp_core.specs.Writer.{joined}
 use Rattle.wtp_core.proofs.LeastLemmas.{length-shortest}
 use Rattle.wtp_core.proofs.TellingLemmas.{telling_same, telling_then}
-use Rattle.wtp_wire.specs.Content.{Content, DataOf, HeadersOf, SettingsOf, WebTransportOf, ExerciseOf}
+use Rattle.wtp_wire.specs.declared.frame.kind.FrameKind.TheVariants.{WebTransport}
+use Rattle.wtp_wire.specs.Kind.{frame_type_of}
+use Rattle.wtp_wire.specs.Content.{Content, PlainOf, WebTransportOf}
 use Rattle.wtp_wire.specs.Wire.{wire}
 use Rattle.wtransport_proto.specs.declared.journey.SendError.{SendError}
 use Rattle.wtransport_proto.specs.declared.journey.SendError.TheVariants as send
@@ -35,11 +37,8 @@ first_some : (v : ℕ) (parts : List (List ℕ)) → 0 < length (shortest v ++ j
 first_some v parts = omega (arith, shortest_some v, length-append (shortest v) (joined parts))
 
 pub wire_some : (f : Content) → 0 < length (wire f)
-wire_some (DataOf p) = first_some 0x00 (shortest (length p) ∷ p ∷ [])
-wire_some (HeadersOf p) = first_some 0x01 (shortest (length p) ∷ p ∷ [])
-wire_some (SettingsOf p) = first_some 0x04 (shortest (length p) ∷ p ∷ [])
-wire_some (WebTransportOf id) = first_some 0x41 (shortest id ∷ [])
-wire_some (ExerciseOf number p) = first_some number (shortest (length p) ∷ p ∷ [])
+wire_some (PlainOf kind p) = first_some (frame_type_of kind) (shortest (length p) ∷ p ∷ [])
+wire_some (WebTransportOf id) = first_some (frame_type_of WebTransport) (shortest id ∷ [])
 
 -- in this many turns, each of which waited, the sink took this many bytes
 abbrev pub Waited : List ℕ → ℕ → ℕ → Sink → Sink → Type 0

@@ -22,7 +22,7 @@ use Rattle.wtransport_proto.specs.declared.stream.polled.IoReadError.TheVariants
 use Rattle.wtransport_proto.specs.Rule.{Role, rule}
 use Rattle.wtransport_proto.specs.Run.{Run, H3, ends}
 use Rattle.wtransport_proto.specs.HeldRun.{tail_of, stop_of, count_held, run_of}
-use Rattle.wtransport_proto.specs.StreamPolling.{IsFault, IsDry, stream_fault, EndsSo, Faults, PassesUnknown, StreamPolled}
+use Rattle.wtransport_proto.specs.StreamPolling.{IsStreamFault, IsDry, stream_fault, EndsSo, Faults, PassesUnknown, StreamPolled}
 use Rattle.wtransport_proto.proofs.HeldRunLemmas.{read_front, framed_size, bad_size, big_size, size_new, leaves_size, run_refused, run_case}
 
 -- ---- faults
@@ -57,7 +57,7 @@ big_ends role first old new a b d = record {
   dry = tt;
 }
 
-fault_at : (e : source.Ending) (n : ℕ) → IsFault (stream_fault (stop n e)) (stop_of n (tail_of e))
+fault_at : (e : source.SourceEnding) (n : ℕ) → IsStreamFault (stream_fault (stop n e)) (stop_of n (tail_of e))
 fault_at AtEnd n = elim (cases_lt 0 n) [ inl l ↦ rw (ne_eqb n 0 (λ z. omega arith)) refl | inr l ↦ let z : n ≡ 0 = omega arith in rw z refl ]
 fault_at AtReset n = refl
 fault_at AtDisconnection n = refl

@@ -6,7 +6,7 @@ use Rattle.wtp_core.specs.Reader.{IsRest}
 use Rattle.wtp_wire.specs.Content.{kind_in}
 use Rattle.wtp_wire.specs.Front.{Front, Framed, Unknown, BadId, TooBig, Short, front}
 use Rattle.wtransport_proto.specs.Rule.{Role, rule}
-use Rattle.wtransport_proto.specs.Run.{Run, Tail, MayGoOn, Ending, H3, past_unknown, stop, run}
+use Rattle.wtransport_proto.specs.Run.{Run, Tail, MayGoOn, Ending, H3, past_unknown, run_stop, run}
 use Rattle.wtransport_proto.specs.Place.{Remainder, remainder}
 
 -- The ending, by the first frame among the bytes left that is not unknown: the code of a frame that the stream refuses,
@@ -16,7 +16,7 @@ EndsBy role tail left (Framed f rest) ending = (code : ErrorCode) × (rule role 
 EndsBy role tail left (Unknown rest) ending = ⊥
 EndsBy role tail left (BadId rest) ending = ending ≡ H3 Id
 EndsBy role tail left (TooBig rest) ending = ending ≡ H3 ExcessiveLoad
-EndsBy role tail left Short ending = ending ≡ stop left.bytes (past_unknown left.bytes) tail
+EndsBy role tail left Short ending = ending ≡ run_stop left.bytes (past_unknown left.bytes) tail
 
 -- the same for what a run leaves
 abbrev pub EndsAfter : Role → Tail → Remainder → Ending → Type 0

@@ -13,7 +13,7 @@ use Rattle.wtransport_proto.specs.Rule.{Role, rule}
 use Rattle.wtransport_proto.specs.Run.{Run, Tail, MayGoOn, Ended, WasReset, Lost, Ending, Open, H3, ImmediateFin, Reset, NotConnected, ends, judged, run}
 
 -- how the bytes of a source end
-abbrev pub tail_of : source.Ending → Tail
+abbrev pub tail_of : source.SourceEnding → Tail
 tail_of AtEnd = Ended
 tail_of AtReset = WasReset
 tail_of AtDisconnection = Lost

@@ -4,7 +4,7 @@ use Rattle.wtp_core.specs.declared.bytes.polled.IoWriteError.TheVariants as faul
 use Rattle.wtp_core.specs.declared.error.Refused.TheVariants as refused
 use Rattle.wtp_core.specs.Source.{Source}
 use Rattle.wtp_core.specs.Sink.{Sink, Took}
-use Rattle.wtp_wire.specs.declared.frame.FrameKind.TheVariants.{Headers}
+use Rattle.wtp_wire.specs.declared.frame.kind.FrameKind.TheVariants.{Headers}
 use Rattle.wtp_wire.specs.Content.{Content, HeadersOf, kind_in}
 use Rattle.wtp_wire.specs.Front.{Front, Framed, Unknown, BadId, TooBig, Short, front}
 use Rattle.wtp_wire.specs.Held.{Held, front_held}
@@ -64,7 +64,7 @@ past_front (TooBig rest) = TooBig rest
 past_front Short = Short
 
 -- No frame was read, and this is held of one. Nothing was lost but unknown frames.
-pub record Kept (role : Role) (first next : Bool) (held : Held) (a b : Source) : Type 0 where
+pub record KeptPlace (role : Role) (first next : Bool) (held : Held) (a b : Source) : Type 0 where
   pub run : run role first a.ahead (tail_of a.ending) ≡ run_of role next held b
   pub known : past_front (front_held held b.ahead) ≡ front (past_unknown a.ahead)
   pub flag : next ≡ first
@@ -72,7 +72,7 @@ pub record Kept (role : Role) (first next : Bool) (held : Held) (a b : Source) :
 -- Each of this many turns waited or took some of an unknown frame; if the input starts with a frame, it still does, and
 -- each waited.
 pub record Turned (role : Role) (first next : Bool) (turns : ℕ) (held : Held) (a b : Source) : Type 0 where
-  pub kept : Kept role first next held a b
+  pub kept : KeptPlace role first next held a b
   pub moved : size_of held b + a.waits + turns ≤ length a.ahead + b.waits
   pub waited : (f : Content) (rest : List ℕ) → front a.ahead ≡ Framed f rest → (front_held held b.ahead ≡ Framed f rest) × (a.waits + turns ≤ b.waits)
 
@@ -83,18 +83,18 @@ pub record Takes (role : Role) (first next : Bool) (f : Content) (a b : Source) 
   pub flag : next ≡ false
 
 -- what decided is taken completely, and no byte after it; if the bytes are too few, nothing is ahead
-abbrev pub Behind : Front → List ℕ → Type 0
-Behind (Framed f rest) left = left ≡ rest
-Behind (Unknown rest) left = ⊥
-Behind (BadId rest) left = left ≡ rest
-Behind (TooBig rest) left = left ≡ rest
-Behind Short left = left ≡ []
+abbrev pub LeftIsAfter : Front → List ℕ → Type 0
+LeftIsAfter (Framed f rest) left = left ≡ rest
+LeftIsAfter (Unknown rest) left = ⊥
+LeftIsAfter (BadId rest) left = left ≡ rest
+LeftIsAfter (TooBig rest) left = left ≡ rest
+LeftIsAfter Short left = left ≡ []
 
 -- the stream gives no more frames, and ends with this fault
 pub record Breaks (role : Role) (first next : Bool) (x : IoReadError) (a b : Source) : Type 0 where
   pub ends : EndsSo (run role first a.ahead (tail_of a.ending)) [] x
   pub flag : FirstAfter role first (front (past_unknown a.ahead)) next
-  pub place : Behind (front (past_unknown a.ahead)) b.ahead
+  pub place : LeftIsAfter (front (past_unknown a.ahead)) b.ahead
   pub dry : IsDry x b
 
 -- what reading a frame did
@@ -104,7 +104,7 @@ FrameDid role first next turns (Err receive.Waiting) a b = (held : Held) × Turn
 FrameDid role first next turns (Err (receive.Stream x)) a b = Breaks role first next x a b
 FrameDid role first next turns (Err (receive.OtherKind kind)) a b = ⊥
 FrameDid role first next turns (Err (receive.Section e)) a b = ⊥
-FrameDid role first next turns (Err receive.Memory) a b = (held : Held) × Kept role first next held a b
+FrameDid role first next turns (Err receive.Memory) a b = (held : Held) × KeptPlace role first next held a b
 
 -- what reading the map of a frame did
 abbrev pub MapDid : Role → Bool → Bool → ℕ → Result (List Field) ReceiveError → Source → Source → Type 0

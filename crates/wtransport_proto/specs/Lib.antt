@@ -20,20 +20,23 @@ pub use Rattle.wtp_core.specs.Ids
 pub use Rattle.wtp_core.specs.Source
 pub use Rattle.wtp_core.specs.Polled
 pub use Rattle.wtp_core.specs.VarintNeed
-pub use Rattle.wtp_core.specs.Getting
+pub use Rattle.wtp_core.specs.Get
 pub use Rattle.wtp_core.specs.GetBuffer
 pub use Rattle.wtp_core.specs.Fill
 pub use Rattle.wtp_core.specs.Passing
 pub use Rattle.wtp_core.specs.Sink
-pub use Rattle.wtp_core.specs.Drain
-pub use Rattle.wtp_core.specs.Writing
+pub use Rattle.wtp_core.specs.Put
 pub use Rattle.wtp_core.specs.ErrorCodes
+pub use Rattle.wtp_core.specs.ErrorScope
+pub use Rattle.wtp_core.specs.ApplicationCodes
 pub use Rattle.wtp_wire.specs.Kind
 pub use Rattle.wtp_wire.specs.Content
 pub use Rattle.wtp_wire.specs.Front
-pub use Rattle.wtp_wire.specs.Reading as FrameReading
+pub use Rattle.wtp_wire.specs.FrameReading
 pub use Rattle.wtp_wire.specs.Held
 pub use Rattle.wtp_wire.specs.FrameNeed
+pub use Rattle.wtp_wire.specs.FrameHead
+pub use Rattle.wtp_wire.specs.Limits
 pub use Rattle.wtp_wire.specs.FrameSteps
 pub use Rattle.wtp_wire.specs.FramePolling
 pub use Rattle.wtp_wire.specs.Wire
@@ -49,9 +52,12 @@ pub use Rattle.wtp_wire.specs.SettingId
 pub use Rattle.wtp_wire.specs.Settings
 pub use Rattle.wtp_wire.specs.Capsule
 pub use Rattle.wtp_wire.specs.CloseSession
+pub use Rattle.wtp_wire.specs.Codes as WireCodes
+pub use Rattle.wtp_wire.specs.CapsuleFront
+pub use Rattle.wtp_wire.specs.CapsuleStream
 pub use Rattle.wtp_huffman.specs.HuffmanRows
 pub use Rattle.wtp_huffman.specs.Huffman
-pub use Rattle.wtp_fields.specs.Reading as FieldReading
+pub use Rattle.wtp_fields.specs.Qpack
 pub use Rattle.wtp_fields.specs.Integer
 pub use Rattle.wtp_fields.specs.StringLiteral
 pub use Rattle.wtp_fields.specs.StaticTable
@@ -60,4 +66,7 @@ pub use Rattle.wtp_fields.specs.Field
 pub use Rattle.wtp_fields.specs.FieldSection
 pub use Rattle.wtp_fields.specs.SessionRequest
 pub use Rattle.wtp_fields.specs.SessionResponse
+pub use Rattle.wtp_fields.specs.ResponseFrame
+pub use Rattle.wtp_fields.specs.FieldCodes
+pub use Rattle.wtp_fields.specs.FieldLines
 pub use Rattle.wtp_fields.specs.Headers

@@ -42,7 +42,7 @@ AnswersRun role first old (Ok None) next new = (run role first old MayGoOn ≡ e
 AnswersRun role first old (Err c) next new = (run role first old MayGoOn ≡ ends (H3 c)) × (new ≡ old)
 
 -- the same by the first known frame: whether a next one would be the first, and the bytes left
-abbrev pub StandsAfter : Role → Bool → List ℕ → Result (Option Content) ErrorCode → Bool → List ℕ → Type 0
-StandsAfter role first old (Ok (Some f)) next new = (front (past_unknown old) ≡ Framed f new) × (rule role first (kind_in f) ≡ None) × (next ≡ false)
-StandsAfter role first old (Ok None) next new = (front (past_unknown old) ≡ Short) × (next ≡ first) × (new ≡ old)
-StandsAfter role first old (Err c) next new = FirstAfter role first (front (past_unknown old)) next × (new ≡ old)
+abbrev pub ReaderIsAfter : Role → Bool → List ℕ → Result (Option Content) ErrorCode → Bool → List ℕ → Type 0
+ReaderIsAfter role first old (Ok (Some f)) next new = (front (past_unknown old) ≡ Framed f new) × (rule role first (kind_in f) ≡ None) × (next ≡ false)
+ReaderIsAfter role first old (Ok None) next new = (front (past_unknown old) ≡ Short) × (next ≡ first) × (new ≡ old)
+ReaderIsAfter role first old (Err c) next new = FirstAfter role first (front (past_unknown old)) next × (new ≡ old)

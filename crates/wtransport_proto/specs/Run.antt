@@ -58,12 +58,12 @@ past_unknown bytes = past_within (length bytes) bytes
 -- ---- the run
 
 -- rest starts with no frame, and bytes are all those after the last frame
-abbrev pub stop : List ℕ → List ℕ → Tail → Ending
-stop bytes rest MayGoOn = Open (length bytes)
-stop bytes [] Ended = ImmediateFin
-stop bytes (b ∷ rest) Ended = H3 code.Frame
-stop bytes rest WasReset = Reset
-stop bytes rest Lost = NotConnected
+abbrev pub run_stop : List ℕ → List ℕ → Tail → Ending
+run_stop bytes rest MayGoOn = Open (length bytes)
+run_stop bytes [] Ended = ImmediateFin
+run_stop bytes (b ∷ rest) Ended = H3 code.Frame
+run_stop bytes rest WasReset = Reset
+run_stop bytes rest Lost = NotConnected
 
 -- a frame that the rule allows, and the run of what follows; or the fault
 abbrev pub judged : Option ErrorCode → Content → Run → Run
@@ -72,14 +72,14 @@ judged (Some c) f r = ends (H3 c)
 
 abbrev pub next_run : (Bool → List ℕ → Run) → Role → Bool → List ℕ → List ℕ → Tail → Front → Run
 next_run more role first bytes rest tail (Framed f behind) = judged (rule role first (kind_in f)) f (more false behind)
-next_run more role first bytes rest tail (Unknown behind) = ends (stop bytes rest tail)
+next_run more role first bytes rest tail (Unknown behind) = ends (run_stop bytes rest tail)
 next_run more role first bytes rest tail (BadId behind) = ends (H3 Id)
 next_run more role first bytes rest tail (TooBig behind) = ends (H3 ExcessiveLoad)
-next_run more role first bytes rest tail Short = ends (stop bytes rest tail)
+next_run more role first bytes rest tail Short = ends (run_stop bytes rest tail)
 
 -- the run of bytes with at most n frames
 abbrev pub run_within : ℕ → Role → Tail → Bool → List ℕ → Run
-run_within zero role tail first bytes = ends (stop bytes bytes tail)
+run_within zero role tail first bytes = ends (run_stop bytes bytes tail)
 run_within (suc n) role tail first bytes = next_run (λ f rest. run_within n role tail f rest) role first bytes (past_unknown bytes) tail (front (past_unknown bytes))
 
 unfoldable pub run : Role → Bool → List ℕ → Tail → Run

@@ -10,7 +10,7 @@ use Rattle.wtp_core.specs.Source.{Source}
 use Rattle.wtp_wire.specs.Content.{Content, kind_in}
 use Rattle.wtp_wire.specs.Front.{Front, Framed, Unknown, BadId, TooBig, Short}
 use Rattle.wtp_wire.specs.Held.{Held, new_held, front_held, Skips, Leaves}
-use Rattle.wtp_wire.specs.FramePolling.{Decided, WantsPayload, Keeps, Answered, HoldsHead}
+use Rattle.wtp_wire.specs.FramePolling.{Decided, WantsPayload, KeepsHeld, Answered, HoldsHead}
 use Rattle.wtransport_proto.specs.declared.stream.polled.IoReadError.{IoReadError}
 use Rattle.wtransport_proto.specs.declared.stream.polled.IoReadError.TheVariants as stream
 use Rattle.wtransport_proto.specs.Rule.{Role, rule}
@@ -22,12 +22,12 @@ use Rattle.wtransport_proto.specs.HeldRun.{run_of, size_of}
 -- next frame would be the first of its stream.
 
 -- a stream's fault at this ending of a run
-abbrev pub IsFault : IoReadError → Ending → Type 0
-IsFault (stream.H3 c) e = e ≡ H3 c
-IsFault (stream.IO io.ImmediateFin) e = e ≡ ImmediateFin
-IsFault (stream.IO io.UnexpectedFin) e = ⊥
-IsFault (stream.IO io.Reset) e = e ≡ Reset
-IsFault (stream.IO io.NotConnected) e = e ≡ NotConnected
+abbrev pub IsStreamFault : IoReadError → Ending → Type 0
+IsStreamFault (stream.H3 c) e = e ≡ H3 c
+IsStreamFault (stream.IO io.ImmediateFin) e = e ≡ ImmediateFin
+IsStreamFault (stream.IO io.UnexpectedFin) e = ⊥
+IsStreamFault (stream.IO io.Reset) e = e ≡ Reset
+IsStreamFault (stream.IO io.NotConnected) e = e ≡ NotConnected
 
 -- a stream's fault for one of a source: an end inside a frame is a fault of the frame
 abbrev pub stream_fault : bytes.IoReadError → IoReadError
@@ -39,7 +39,7 @@ stream_fault io.NotConnected = stream.IO io.NotConnected
 -- the run is these frames and this fault
 pub record EndsSo (r : Run) (fs : List Content) (x : IoReadError) : Type 0 where
   pub frames : r.frames ≡ fs
-  pub fault : IsFault x r.ending
+  pub fault : IsStreamFault x r.ending
 
 -- a fault of the source follows all bytes ahead
 abbrev pub IsDry : IoReadError → Source → Type 0
@@ -49,26 +49,26 @@ IsDry (stream.IO e) b = b.ahead ≡ []
 -- ---- what one poll did to a source with a model
 
 -- this frame was taken, and no byte after it
-pub record TakesFrame (role : Role) (first next : Bool) (old new : Held) (f : Content) (a b : Source) : Type 0 where
+pub record StreamTakesFrame (role : Role) (first next : Bool) (old new : Held) (f : Content) (a b : Source) : Type 0 where
   pub decided : Decided old new a b (Framed f)
   pub allowed : rule role first (kind_in f) ≡ None
   pub flag : next ≡ false
 
 -- What a fault leaves. What decided is taken completely, and no byte after it; if the bytes are too few, nothing is
 -- ahead, and nothing was lost.
-abbrev pub StandsBehind : Front → Held → Held → Source → Source → Type 0
-StandsBehind (Framed f rest) old new a b = (new ≡ new_held) × (rest ≡ b.ahead)
-StandsBehind (Unknown rest) old new a b = ⊥
-StandsBehind (BadId rest) old new a b = (new ≡ new_held) × (rest ≡ b.ahead)
-StandsBehind (TooBig rest) old new a b = (new ≡ new_held) × (rest ≡ b.ahead)
-StandsBehind Short old new a b = Leaves old new a b × (b.ahead ≡ [])
+abbrev pub SourceIsAfter : Front → Held → Held → Source → Source → Type 0
+SourceIsAfter (Framed f rest) old new a b = (new ≡ new_held) × (rest ≡ b.ahead)
+SourceIsAfter (Unknown rest) old new a b = ⊥
+SourceIsAfter (BadId rest) old new a b = (new ≡ new_held) × (rest ≡ b.ahead)
+SourceIsAfter (TooBig rest) old new a b = (new ≡ new_held) × (rest ≡ b.ahead)
+SourceIsAfter Short old new a b = Leaves old new a b × (b.ahead ≡ [])
 
 -- the run has no more frames, and ends with this fault
 pub record Faults (role : Role) (first next : Bool) (old new : Held) (x : IoReadError) (a b : Source) : Type 0 where
   pub ends : EndsSo (run_of role first old a) [] x
   pub size : size_of new b ≤ size_of old a
   pub flag : FirstAfter role first (front_held old a.ahead) next
-  pub place : StandsBehind (front_held old a.ahead) old new a b
+  pub place : SourceIsAfter (front_held old a.ahead) old new a b
   pub dry : IsDry x b
 
 -- an unknown frame was skipped; or 4096 bytes of its payload, and some are still to be skipped
@@ -87,7 +87,7 @@ pub record LacksMemory (first next : Bool) (old new : Held) (a b : Source) : Typ
   pub flag : next ≡ first
 
 abbrev pub StreamPolled : Role → Polled (Result Content IoReadError) → Bool → Bool → Held → Held → Source → Source → Type 0
-StreamPolled role (Ready (Ok f)) first next old new a b = TakesFrame role first next old new f a b
+StreamPolled role (Ready (Ok f)) first next old new a b = StreamTakesFrame role first next old new f a b
 StreamPolled role (Ready (Err x)) first next old new a b = Faults role first next old new x a b
 StreamPolled role Pending first next old new a b = Leaves old new a b × (next ≡ first) × (a.waits < b.waits)
 StreamPolled role Again first next old new a b = PassesUnknown first next old new a b
@@ -102,16 +102,16 @@ CodeGiven role first next old new c =
     ((f : Content) × Answered old new (Framed f) × (rule role first (kind_in f) ≡ Some c) × (next ≡ false))
     ⊎ ((c ≡ Id) × Answered old new BadId × (next ≡ first))
     ⊎ ((c ≡ ExcessiveLoad) × Answered old new TooBig × (next ≡ first))
-    ⊎ ((c ≡ Frame) × Keeps old new × (next ≡ first))
+    ⊎ ((c ≡ Frame) × KeepsHeld old new × (next ≡ first))
 
 -- an unknown frame was given completely, or a part of its payload
 abbrev pub PassGiven : Held → Held → Type 0
-PassGiven old new = Answered old new Unknown ⊎ (Keeps old new × (0 < new.due))
+PassGiven old new = Answered old new Unknown ⊎ (KeepsHeld old new × (0 < new.due))
 
 abbrev pub StreamGiven : Role → Polled (Result Content IoReadError) → Bool → Bool → Held → Held → Type 0
 StreamGiven role (Ready (Ok f)) first next old new = Answered old new (Framed f) × (rule role first (kind_in f) ≡ None) × (next ≡ false)
 StreamGiven role (Ready (Err (stream.H3 c))) first next old new = CodeGiven role first next old new c
-StreamGiven role (Ready (Err (stream.IO e))) first next old new = Keeps old new × (next ≡ first) × (e ≢ io.UnexpectedFin)
-StreamGiven role Pending first next old new = Keeps old new × (next ≡ first)
+StreamGiven role (Ready (Err (stream.IO e))) first next old new = KeepsHeld old new × (next ≡ first) × (e ≢ io.UnexpectedFin)
+StreamGiven role Pending first next old new = KeepsHeld old new × (next ≡ first)
 StreamGiven role Again first next old new = PassGiven old new × (next ≡ first)
-StreamGiven role NoMemory first next old new = Keeps old new × (new.due ≡ 0) × HoldsHead new.taken × (next ≡ first)
+StreamGiven role NoMemory first next old new = KeepsHeld old new × (new.due ≡ 0) × HoldsHead new.taken × (next ≡ first)

@@ -3,8 +3,8 @@ use Rattle.std.specs.Prelude.{◌≡◌, ◌≢◌, ℕ, List, false, Result, Ok
 use Rattle.wtp_core.specs.declared.bytes.polled.Polled.{Polled}
 use Rattle.wtp_core.specs.declared.bytes.polled.Polled.TheVariants.{Ready, Pending, Again, NoMemory}
 use Rattle.wtp_core.specs.declared.bytes.polled.IoWriteError.{IoWriteError}
-use Rattle.wtp_core.specs.Writing.{Writing}
-use Rattle.wtp_wire.specs.declared.frame.FrameKind.TheVariants.{WebTransport}
+use Rattle.wtp_core.specs.Put.{Writing}
+use Rattle.wtp_wire.specs.declared.frame.kind.FrameKind.TheVariants.{WebTransport}
 use Rattle.wtp_wire.specs.Kind.{IsKnown}
 use Rattle.wtp_wire.specs.Content.{Content, kind_in}
 use Rattle.wtp_wire.specs.Wire.{wire}
@@ -15,7 +15,7 @@ use Rattle.wtransport_proto.specs.Streams.{can_upgrade}
 
 -- s is a frame that can exist, of another kind than WebTransport; the type of an exercise frame is one of those that
 -- are reserved
-pub record IsPlain (s : List ℕ) : Type 0 where
+pub record IsPlainWire (s : List ℕ) : Type 0 where
   pub frame : Content
   pub known : IsKnown (kind_in frame)
   pub plain : kind_in frame ≢ WebTransport
@@ -23,7 +23,7 @@ pub record IsPlain (s : List ℕ) : Type 0 where
 
 -- It writes such a frame. That there is one is a fact with one proof, so that a struct may keep it for a loop of polls.
 abbrev pub WritesPlain : Writing → Type 0
-WritesPlain w = ∥ IsPlain w.bytes ∥₁
+WritesPlain w = ∥ IsPlainWire w.bytes ∥₁
 
 -- a stream to which a complete frame was written cannot be upgraded any more; no other result changes it
 abbrev pub Begun : {U : Type 0} → Polled (Result U IoWriteError) → Stream BiLocal (H3 (Unit {0})) → Stream BiLocal (H3 (Unit {0})) → Type 0

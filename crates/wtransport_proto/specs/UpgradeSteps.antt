@@ -9,8 +9,9 @@ use Rattle.wtp_core.specs.declared.error.ErrorCode.{ErrorCode}
 use Rattle.wtp_core.specs.declared.error.ErrorCode.TheVariants.{StreamCreation, Id, Frame}
 use Rattle.wtp_core.specs.Source.{Source}
 use Rattle.wtp_core.specs.Sink.{Sink, Took}
-use Rattle.wtp_core.specs.Getting.{Stops, Waits}
-use Rattle.wtp_core.specs.Writing.{Writing, GoesOn, between}
+use Rattle.wtp_core.specs.Get.{Stops, Waits}
+use Rattle.wtp_core.specs.Put.{Writing, GoesOn, between}
+use Rattle.wtp_wire.specs.FrameSteps.{Grew}
 use Rattle.wtp_wire.specs.HeaderFront.{Headed, Unknown, BadId, Short, header_front}
 use Rattle.wtp_wire.specs.HeaderPolling.{HeaderDecided, HeaderAnswered}
 use Rattle.wtransport_proto.specs.declared.stream.Stream.{Stream}
@@ -90,9 +91,6 @@ AcceptPolled (Pending p) old a b = Waits old p.reading a b
 AcceptPolled (NoMemory p) old a b = ⊥
 AcceptPolled (Failed p (stream.H3 c)) old a b = HeaderFault c old p.reading a b
 AcceptPolled (Failed p (stream.IO e)) old a b = (e ≢ read.UnexpectedFin) × (header_front (old ++ a.ahead) ≡ Short) × Stops old p.reading e a b
-
-abbrev pub Grew : List ℕ → List ℕ → Type 0
-Grew old new = (given : List ℕ) × (new ≡ old ++ given)
 
 abbrev pub HeaderFaultGiven : ErrorCode → List ℕ → List ℕ → Type 0
 HeaderFaultGiven c old new =

@@ -10,11 +10,11 @@ ghost use Rattle.wtp_wire.specs.Content.{Content, HeadersOf, kind_in};
 ghost use Rattle.wtp_wire.specs.Front.{Framed, Unknown, BadId, TooBig, Short, front};
 ghost use Rattle.wtp_wire.specs.Held.{Held};
 ghost use Rattle.wtp_wire.specs.Wire.{wire};
-ghost use Rattle.wtp_wire.specs.declared.frame.FrameKind.{FrameKind};
+ghost use Rattle.wtp_wire.specs.declared.frame.kind.FrameKind.{FrameKind};
 ghost use Rattle.wtransport_proto.specs.Agreeing.{Agrees};
 ghost use Rattle.wtransport_proto.specs.HeldRun.{run_held, stop_of, count_held};
 ghost use Rattle.wtransport_proto.specs.Rule.{Role, RemoteBi, RemoteUni, rule};
-ghost use Rattle.wtransport_proto.specs.Run.{Tail, MayGoOn, H3, past_unknown, run, ends, follows, stop, counted};
+ghost use Rattle.wtransport_proto.specs.Run.{Tail, MayGoOn, H3, past_unknown, run, ends, follows, run_stop, counted};
 
 pub use wtp_core::laws as base;
 pub use wtp_fields::laws as fields;
@@ -28,7 +28,7 @@ pub fn run_goes_by_front()
     ensures refused { (role : Role) (first : Bool) (bytes rest : List ℕ) (tail : Tail) (f : Content) (code : ErrorCode) → front bytes ≡ Framed f rest → rule role first (kind_in f) ≡ Some code → run role first bytes tail ≡ ends (H3 code) }
     ensures bad_id { (role : Role) (first : Bool) (bytes rest : List ℕ) (tail : Tail) → front bytes ≡ BadId rest → run role first bytes tail ≡ ends (H3 Id) }
     ensures too_big { (role : Role) (first : Bool) (bytes rest : List ℕ) (tail : Tail) → front bytes ≡ TooBig rest → run role first bytes tail ≡ ends (H3 ExcessiveLoad) }
-    ensures short { (role : Role) (first : Bool) (bytes : List ℕ) (tail : Tail) → front bytes ≡ Short → run role first bytes tail ≡ ends (stop bytes bytes tail) }
+    ensures short { (role : Role) (first : Bool) (bytes : List ℕ) (tail : Tail) → front bytes ≡ Short → run role first bytes tail ≡ ends (run_stop bytes bytes tail) }
 {}
 
 /// An unknown frame is skipped: the run is that of the bytes after it. If the bytes may go on, its

@@ -2,8 +2,9 @@
 //!
 //! A stream holds no bytes: it is given a reader or a writer, and reports what may be received on
 //! it.
-ghost use Rattle.std.specs.Prelude.{◌≡◌};
+ghost use Rattle.std.specs.Prelude.{◌≡◌, is_some};
 ghost use Rattle.wtp_wire.specs.Header.{header_kind, header_session, WebTransportHeader};
+ghost use Rattle.wtp_wire.specs.StreamKind.{has_session};
 ghost use Rattle.wtransport_proto.specs.Streams.{header_of, session_of};
 
 use crate::stream::types::{H3, WT};
@@ -16,6 +17,7 @@ pub mod biremote;
 mod driving;
 mod polled;
 mod reading;
+mod rules;
 pub mod session;
 pub mod types;
 pub mod unilocal;
@@ -45,7 +47,8 @@ impl<K> Stream<K, H3<StreamHeader>> {
 
     /// Returns the session, if the kind is WebTransport.
     pub fn session_id(&self) -> Option<SessionId>
-        ensures { result ≡ header_session (header_of self.now) }
+        ensures session { result ≡ header_session (header_of self.now) }
+        ensures opens { is_some result ≡ has_session (header_kind (header_of self.now)) }
     {
         self.stage.header.session_id()
     }

@@ -1,14 +1,14 @@
-//! Recorded bytes as a source that gives few at a time and has to be waited for.
+//! Recorded bytes as a source that gives few at a time and is not always ready.
 ghost use Rattle.std.specs.Prelude.{◌≡◌, ◌+◌, ◌^◌, ◌<◌, ◌≤◌, length, Some, false, if◌then◌else◌};
 ghost use Rattle.wtransport_proto.specs.Source.{StepKeepsLengths, StepTells};
-ghost use Rattle.wt_listings.specs.CutSource.{told, Cuts};
+ghost use Rattle.wt_listings.specs.CutSource.{source_of, Cuts};
 
 use wtransport_proto::bytes::{AsyncRead, ReadStep};
 
-/// A stream that was recorded whole: its bytes, at most so many a call, and then an end.
+/// A stream that was recorded whole: its bytes, at most this many per call, and then an end.
 ///
-/// It is not ready once before each call that moves bytes, and once before its first end, and never
-/// else. So it waits at most once more than it has bytes.
+/// It is not ready once before each call that gives bytes, and once before its first end, and at no
+/// other time. So it waits at most once more than it has bytes.
 #[derive(Drop)]
 pub(crate) struct CutSource<'a> {
     rest: &'a [u8],
@@ -20,7 +20,7 @@ pub(crate) struct CutSource<'a> {
 }
 
 impl<'a> CutSource<'a> {
-    /// The source of these bytes, at most `most` a call, which is at least 1.
+    /// Creates the source of these bytes, at most `most` per call, which is at least 1.
     pub(crate) fn new(bytes: &'a [u8], most: usize) -> Self
         requires { 0 < most }
         ensures bytes { result.rest.now ≡ bytes.now }
@@ -39,12 +39,15 @@ impl<'a> CutSource<'a> {
 }
 
 impl AsyncRead for CutSource<'_> {
-    ghost tells = { λ s. Some (told s.rest.now s.waits_left) };
+    ghost tells = { λ s. Some (source_of s.rest.now s.waits_left) };
 
     fn poll_read(&mut self, buf: &mut [u8]) -> ReadStep
         ensures lengths { StepKeepsLengths result (length buf.new) }
-        ensures tells { StepTells result buf.new (Some (told self.old.rest.now self.old.waits_left)) (Some (told self.new.rest.now self.new.waits_left)) }
-        ensures cuts { Cuts result (length buf.new) self.old.most self.old.is_ready self.new.is_ready }
+        ensures tells { StepTells result buf.new
+            (Some (source_of self.old.rest.now self.old.waits_left))
+            (Some (source_of self.new.rest.now self.new.waits_left)) }
+        ensures cuts { Cuts result (length buf.new)
+            self.old.most self.old.is_ready self.new.is_ready }
         ensures most { self.new.most ≡ self.old.most }
     {
         if buf.is_empty() {

@@ -1,8 +1,9 @@
 //! The listing of frames that are read from a buffer.
 ghost use Rattle.std.specs.Prelude.{◌≡◌, ◌⊎◌, IfOk};
 ghost use Rattle.wtransport_proto.specs.Run.{run, MayGoOn};
-ghost use Rattle.wt_listings.specs.Lines.{listed};
-ghost use Rattle.wt_listings.specs.Listings.{Says, recorded};
+ghost use Rattle.wt_listings.specs.Lines.{run_listing};
+ghost use Rattle.wt_listings.specs.Frames.{recorded_run};
+ghost use Rattle.wt_listings.specs.Listing.{Says};
 
 use crate::listing::lines::Lines;
 use crate::listing::recorded::{RecordedStream, control_stream};
@@ -17,7 +18,7 @@ use wtransport_proto::stream::biremote::StreamBiRemoteQuic;
 ///
 /// Returns [`AllocError`] if allocation fails.
 pub fn list_frames(alloc: Global, kind: ListKind, input: &[u8]) -> Result<Listing, AllocError>
-    ensures listing { IfOk result (λ l. Says l (listed (recorded kind input.now))) }
+    ensures listing { IfOk result (λ l. Says l (run_listing (recorded_run kind input.now))) }
     ensures status { IfOk result (λ l. (l.status ≡ 0) ⊎ (l.status ≡ 2)) }
 {
     match kind {
@@ -27,14 +28,15 @@ pub fn list_frames(alloc: Global, kind: ListKind, input: &[u8]) -> Result<Listin
     }
 }
 
-/// The listing of a stream of which these bytes were recorded.
+/// Returns the listing of a stream of which these bytes were recorded.
 fn list_stream<S: RecordedStream>(
     alloc: Global,
     mut stream: S,
     input: &[u8],
 ) -> Result<Listing, AllocError>
     requires { S.can_read stream }
-    ensures listing { IfOk result (λ l. Says l (listed (run S.role (S.first stream) input.now MayGoOn))) }
+    ensures listing { IfOk result (λ l.
+        Says l (run_listing (run S.role (S.first stream) input.now MayGoOn))) }
     ensures status { IfOk result (λ l. (l.status ≡ 0) ⊎ (l.status ≡ 2)) }
 {
     let mut reader = BufferReader::new(input);

@@ -1,8 +1,8 @@
 //! Making a listing line by line.
 ghost use Rattle.std.specs.Prelude.{◌≡◌, ℕ, List, [], ◌++◌, IfOk, string_bytes};
 ghost use Rattle.wt_listings.specs.Lines.{line, with_ending};
-ghost use Rattle.wt_listings.specs.Listings.{Says};
-ghost use Rattle.wt_listings.specs.Requests.{field_line};
+ghost use Rattle.wt_listings.specs.Listing.{Says};
+ghost use Rattle.wt_listings.specs.Request.{field_line};
 ghost use Rattle.wtransport_proto.specs.Run.{Open, H3};
 
 use crate::listing::Listing;
@@ -28,7 +28,7 @@ impl Model for Lines {
 }
 
 impl Lines {
-    /// No lines.
+    /// Creates a listing without lines.
     pub(crate) fn new(alloc: Global) -> Self
         ensures { result ≡ [] }
     {

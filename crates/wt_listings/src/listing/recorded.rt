@@ -24,13 +24,14 @@ pub(crate) trait RecordedStream: Drop {
     // Whether frames may be read.
     ghost can_read: { Self → Type 0 };
 
-    /// Reads the next frame, and moves past it alone.
+    /// Reads the next frame, and moves past it and no further.
     fn next_frame<'a>(
         &mut self,
         reader: &mut BufferReader<'a>,
     ) -> Result<Option<Frame<'a>>, ErrorCode>
         requires { can_read self.old }
-        ensures run { AnswersRun role (first self.old) (left_of reader.old) result (first self.new) (left_of reader.new) }
+        ensures run { AnswersRun role (first self.old) (left_of reader.old) result
+            (first self.new) (left_of reader.new) }
         ensures can_read { can_read self.new };
 }
 
@@ -89,7 +90,7 @@ impl RecordedStream for StreamUniRemoteH3 {
     }
 }
 
-/// A control stream of the peer, whose type number was read.
+/// Returns a control stream of the peer, whose type number was read.
 pub(crate) fn control_stream() -> StreamUniRemoteH3
     ensures { header_of result ≡ ControlHeader }
 {

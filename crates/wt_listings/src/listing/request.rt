@@ -1,8 +1,8 @@
 //! The listing of the request for a session.
 ghost use Rattle.std.specs.Prelude.{◌≡◌, ◌⊎◌, IfOk};
-ghost use Rattle.wt_listings.specs.Listings.{Says};
-ghost use Rattle.wt_listings.specs.Requests.{fields_listed, request_listed, request_listing};
-ghost use Rattle.wtransport_proto.specs.Field.{held};
+ghost use Rattle.wt_listings.specs.Listing.{Says};
+ghost use Rattle.wt_listings.specs.Request.{fields_listing, result_listing, request_listing};
+ghost use Rattle.wtransport_proto.specs.Field.{fields_of};
 ghost use Rattle.wtransport_proto.specs.Run.{Open};
 ghost use Rattle.wtransport_proto.specs.SessionRequest.{request_in};
 
@@ -16,9 +16,9 @@ use wtransport_proto::frame::Frame;
 use wtransport_proto::session::request_of_frame;
 use wtransport_proto::stream::biremote::StreamBiRemoteQuic;
 
-/// Returns the listing of the fields of the request for a session that is the first frame of a stream
-/// that the peer opened, in the order of their names' bytes. The last line says how many bytes come
-/// after that frame, how many bytes there are if there is no frame, or which fault there is.
+/// Returns the listing of the fields of the request for a session that is the first frame of a
+/// stream that the peer opened, in the byte order of their names. The last line says how many bytes
+/// come after that frame, how many bytes there are if there is no frame, or which fault there is.
 ///
 /// Returns [`AllocError`] if allocation fails.
 pub fn list_request(alloc: Global, input: &[u8]) -> Result<Listing, AllocError>
@@ -34,9 +34,9 @@ pub fn list_request(alloc: Global, input: &[u8]) -> Result<Listing, AllocError>
     }
 }
 
-/// The listing of the request that a frame says, with so many bytes after it.
+/// Returns the listing of the request in a frame, with this many bytes after it.
 fn list_frame(alloc: Global, frame: &Frame<'_>, rest: usize) -> Result<Listing, AllocError>
-    ensures listing { IfOk result (λ l. Says l (request_listed (request_in frame.now) rest)) }
+    ensures listing { IfOk result (λ l. Says l (result_listing (request_in frame.now) rest)) }
     ensures status { IfOk result (λ l. (l.status ≡ 0) ⊎ (l.status ≡ 2)) }
 {
     match request_of_frame(alloc, frame) {
@@ -46,13 +46,13 @@ fn list_frame(alloc: Global, frame: &Frame<'_>, rest: usize) -> Result<Listing, 
     }
 }
 
-/// The lines of a header map, and the last line.
+/// Returns the listing of a header map, with this many bytes after its frame.
 fn list_fields(
     alloc: Global,
     fields: &BTreeMap<String, String>,
     rest: usize,
 ) -> Result<Listing, AllocError>
-    ensures { IfOk result (λ l. Says l (fields_listed (held fields.now) (Open rest))) }
+    ensures { IfOk result (λ l. Says l (fields_listing (fields_of fields.now) (Open rest))) }
 {
     let mut lines = Lines::new(alloc);
     for (name, value) in fields {

@@ -2,9 +2,10 @@
 ghost use Rattle.std.specs.Prelude.{◌≡◌, ◌⊎◌, ◌++◌, ◌<◌, IfOk};
 ghost use Rattle.std.specs.List.{flat_map};
 ghost use Rattle.wtransport_proto.specs.Run.{Ending};
-ghost use Rattle.wtransport_proto.specs.StreamPolling.{IsFault};
-ghost use Rattle.wt_listings.specs.Lines.{line, listed, with_ending};
-ghost use Rattle.wt_listings.specs.Listings.{Says, stepped};
+ghost use Rattle.wtransport_proto.specs.StreamPolling.{IsStreamFault};
+ghost use Rattle.wt_listings.specs.Lines.{line, run_listing, with_ending};
+ghost use Rattle.wt_listings.specs.Listing.{Says};
+ghost use Rattle.wt_listings.specs.Stepped.{stepped_run};
 ghost use Rattle.wt_listings.specs.Stepped.{ClosesStream};
 
 use crate::listing::Listing;
@@ -16,20 +17,20 @@ use wtransport_proto::frame::{FrameOwned, FrameReading};
 use wtransport_proto::stream::biremote::StreamBiRemoteQuic;
 use wtransport_proto::stream::{Driven, IoReadError, drive};
 
-/// How often a stream is polled by one drive.
+/// The number of polls of one drive.
 const POLLS: u32 = 1024;
 
-/// Returns the listing of the frames of a stream in both directions that the peer opened, recorded from
-/// its start to its end. They are read poll by poll from a source that gives at most `k` bytes a call,
-/// and is not ready once before each of these calls and once before its end. The listing is the same
-/// for each `k`, which is at least 1; the program tests it.
+/// Returns the listing of the frames of a stream in both directions that the peer opened, recorded
+/// from its start to its end. They are read poll by poll from a source that gives at most `k` bytes
+/// per call, and is not ready once before each of these calls and once before its end. The listing
+/// is the same for each `k`, which is at least 1.
 ///
 /// The last line says that the stream ends after a frame, or which fault ends it.
 ///
 /// Returns [`AllocError`] if allocation fails.
 pub fn list_stepped(alloc: Global, k: usize, input: &[u8]) -> Result<Listing, AllocError>
     requires { 0 < k }
-    ensures listing { IfOk result (λ l. Says l (listed (stepped input.now))) }
+    ensures listing { IfOk result (λ l. Says l (run_listing (stepped_run input.now))) }
     ensures status { IfOk result (λ l. (l.status ≡ 0) ⊎ (l.status ≡ 2)) }
 {
     let mut stream = StreamBiRemoteQuic::accept_bi().upgrade();
@@ -60,10 +61,11 @@ fn add_lines(lines: &mut Lines, frames: &[FrameOwned]) -> Result<(), AllocError>
     Ok(())
 }
 
-/// The listing whose last line says how the stream ended: by an end after a frame, or by a code.
+/// Returns the listing whose last line says how the stream ended: after a frame, or with a code.
 fn close(lines: Lines, fault: IoReadError) -> Result<Listing, AllocError>
     requires { ClosesStream fault }
-    ensures listing { (e : Ending) → IsFault fault e → IfOk result (λ l. Says l (with_ending lines e)) }
+    ensures listing { (e : Ending) → IsStreamFault fault e
+        → IfOk result (λ l. Says l (with_ending lines e)) }
     ensures status { IfOk result (λ l. (l.status ≡ 0) ⊎ (l.status ≡ 2)) }
 {
     match fault {

@@ -1,11 +1,11 @@
 //! The arguments of the program, and what they name.
-ghost use Rattle.std.specs.Prelude.{◌≡◌, ◌≢◌, ℕ, [], ◌∷◌, map, IfSome, IfNone, string_bytes};
-ghost use Rattle.wt_listings.specs.Program.{name_of, Names, NamesNone, WritesSize};
+ghost use Rattle.std.specs.Prelude.{◌≡◌, ◌≢◌, ℕ, [], ◌∷◌, IfSome, IfNone};
+ghost use Rattle.wt_listings.specs.Program.{kind_name, texts_of, Names, NamesNone, WritesSize};
 ghost use Rattle.wt_listings.specs.declared.listing.ListKind.{ListKind};
 
 use crate::listing::ListKind;
 
-/// The greatest number of bytes a call.
+/// The greatest number of bytes per call.
 const MAX_SIZE: usize = 1_048_576;
 
 /// What the program lists.
@@ -13,16 +13,16 @@ const MAX_SIZE: usize = 1_048_576;
 pub enum Command {
     /// The frames of a recorded stream.
     Buffer(ListKind),
-    /// The frames of a stream that gives at most so many bytes a call: from 1 to 1048576.
+    /// The frames of a stream that gives at most this many bytes per call: from 1 to 1048576.
     Stepped(usize),
     /// The request for a session.
     Request,
 }
 
-/// What the arguments name, where they name something.
+/// Returns the command that the arguments name, if they name one.
 pub(crate) fn named_command(arguments: &[String]) -> Option<Command>
-    ensures named { IfSome result (Names (map (λ w. string_bytes w) arguments.now)) }
-    ensures none { IfNone result (NamesNone (map (λ w. string_bytes w) arguments.now)) }
+    ensures named { IfSome result (Names (texts_of arguments.now)) }
+    ensures none { IfNone result (NamesNone (texts_of arguments.now)) }
 {
     match arguments {
         [] => Some(Command::Buffer(ListKind::BiRemote)),
@@ -32,7 +32,7 @@ pub(crate) fn named_command(arguments: &[String]) -> Option<Command>
     }
 }
 
-/// What a single argument names.
+/// Returns the command that a single argument names.
 fn plain_command(name: &str) -> Option<Command>
     ensures named { IfSome result (Names (name.now ∷ [])) }
     ensures none { IfNone result (NamesNone (name.now ∷ [])) }
@@ -44,7 +44,7 @@ fn plain_command(name: &str) -> Option<Command>
     }
 }
 
-/// What two arguments name.
+/// Returns the command that two arguments name.
 fn detailed_command(name: &str, detail: &str) -> Option<Command>
     ensures named { IfSome result (Names (name.now ∷ detail.now ∷ [])) }
     ensures none { IfNone result (NamesNone (name.now ∷ detail.now ∷ [])) }
@@ -56,10 +56,10 @@ fn detailed_command(name: &str, detail: &str) -> Option<Command>
     }
 }
 
-/// The stream of this name.
+/// Returns the stream of this name.
 fn named_kind(name: &str) -> Option<ListKind>
-    ensures named { IfSome result (λ kind. name.now ≡ name_of kind) }
-    ensures none { IfNone result ((kind : ListKind) → name.now ≢ name_of kind) }
+    ensures named { IfSome result (λ kind. name.now ≡ kind_name kind) }
+    ensures none { IfNone result ((kind : ListKind) → name.now ≢ kind_name kind) }
 {
     match name {
         "bi-remote" => Some(ListKind::BiRemote),
@@ -69,12 +69,12 @@ fn named_kind(name: &str) -> Option<ListKind>
     }
 }
 
-/// The number of bytes that the digits write.
+/// Returns the number of bytes that the digits are.
 fn written_size(digits: &str) -> Option<usize>
     ensures named { IfSome result (WritesSize digits.now) }
     ensures none { IfNone result ((k : ℕ) → ¬ WritesSize digits.now k) }
 {
-    // A plus is no digit, though `parse` takes one.
+    // A plus sign is not a digit, but `parse` accepts one.
     if digits.starts_with('+') {
         return None;
     }

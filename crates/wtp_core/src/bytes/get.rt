@@ -3,8 +3,8 @@ ghost use Rattle.std.specs.Prelude.{◌≡◌, ℕ, ◌<◌, ◌≤◌, List, []
 ghost use Rattle.wtp_core.specs.Source.{Telling};
 ghost use Rattle.wtp_core.specs.Polled.{Asks};
 ghost use Rattle.wtp_core.specs.Varint.{number_at};
-ghost use Rattle.wtp_core.specs.VarintNeed.{varint_need, IsCut, varint_need_most, varint_need_grows};
-ghost use Rattle.wtp_core.specs.Getting.{VarintPolled, VarintGiven, BufferPolled, BufferGiven};
+ghost use Rattle.wtp_core.specs.VarintNeed.{varint_need, IsCutNumber, varint_need_most, varint_need_grows};
+ghost use Rattle.wtp_core.specs.Get.{VarintPolled, VarintGiven, BufferPolled, BufferGiven};
 
 use crate::bytes::polled::{IoReadError, Polled};
 use crate::bytes::source::AsyncRead;
@@ -56,7 +56,7 @@ impl Model for GetVarint {
 
     ghost view = { λ s. take s.len s.bytes };
 
-    ghost invariant = { λ s. (s.len < 8) × IsCut (take s.len s.bytes) };
+    ghost invariant = { λ s. (s.len < 8) × IsCutNumber (take s.len s.bytes) };
 }
 
 impl GetVarint {

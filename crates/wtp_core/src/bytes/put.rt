@@ -1,14 +1,13 @@
 //! Writing a number, or a buffer, poll by poll.
-ghost use Rattle.std.specs.Prelude.{◌≡◌, ◌≤◌, ◌++◌, length, take, drop, Ok};
+ghost use Rattle.std.specs.Prelude.{◌≡◌, ◌≤◌, length, Ok};
 ghost use Rattle.wtp_core.specs.Source.{Telling};
 ghost use Rattle.wtp_core.specs.Varint.{shortest};
-ghost use Rattle.wtp_core.specs.Writing.{Writing, unsent, GoesOn, IsSent, WritePolled};
+ghost use Rattle.wtp_core.specs.Put.{Writing, unsent, GoesOn, IsSent, WritePolled};
 
-use crate::bytes::buffer_writer::BufferWriter;
 use crate::bytes::polled::{IoWriteError, Polled};
 use crate::bytes::sink::AsyncWrite;
-use crate::bytes::writer::BytesWriter;
-use crate::polling::drain::{drain, write_halted};
+use crate::polling::drain::drain;
+use crate::polling::encoded::Encoded;
 use crate::varint::VarInt;
 use std::marker::Model;
 
@@ -17,17 +16,13 @@ use std::marker::Model;
 /// It counts the bytes sent, and sends none of them twice.
 #[derive(Debug, Drop)]
 pub struct PutVarint {
-    bytes: [u8; 8],
-    len: usize,
-    sent: usize,
+    encoded: Encoded,
 }
 
 impl Model for PutVarint {
     ghost Value = { Writing };
 
-    ghost view = { λ s. record { bytes = take s.len s.bytes; sent = s.sent } };
-
-    ghost invariant = { λ s. (s.len ≤ 8) × (s.sent ≤ s.len) };
+    ghost view = { λ s. s.encoded };
 }
 
 impl PutVarint {
@@ -35,12 +30,8 @@ impl PutVarint {
     pub fn new(varint: VarInt) -> Self
         ensures { result ≡ unsent (shortest varint) }
     {
-        let mut bytes = [0; 8];
-        let len = spell(varint, &mut bytes);
         PutVarint {
-            bytes,
-            len,
-            sent: 0,
+            encoded: Encoded::one(varint),
         }
     }
 
@@ -55,29 +46,8 @@ impl PutVarint {
         ensures polled { Telling (W.tells sink.old) (W.tells sink.new) (WritePolled result self.old self.new) }
         ensures finished { self.old.sent ≡ length self.old.bytes → (sink.new ≡ sink.old) × (result ≡ Polled.Ready (Ok tt)) }
     {
-        if self.sent == self.len {
-            return Polled::Ready(Ok(()));
-        }
-        match drain(sink, &self.bytes[..self.len], &mut self.sent) {
-            Ok(()) => Polled::Ready(Ok(())),
-            Err(halt) => write_halted(halt),
-        }
+        self.encoded.poll(sink)
     }
-}
-
-/// Writes the shortest encoding to the start of the buffer, and returns its size in bytes. Not in
-/// the Rust crate.
-pub fn spell(varint: VarInt, buffer: &mut [u8]) -> usize
-    requires { 8 ≤ length buffer.old }
-    ensures bytes { buffer.new ≡ shortest varint ++ drop result buffer.old }
-    ensures size { result ≡ length (shortest varint) }
-    ensures most { result ≤ 8 }
-{
-    let size = varint.size();
-    let mut writer = BufferWriter::new(buffer);
-    let put = writer.put_varint(varint);
-    prove!(put.is_ok());
-    size
 }
 
 /// Writes a buffer, poll by poll.
@@ -116,13 +86,7 @@ impl<'a> PutBuffer<'a> {
         ensures polled { Telling (W.tells sink.old) (W.tells sink.new) (WritePolled result self.old self.new) }
         ensures finished { self.old.sent ≡ length self.old.bytes → (sink.new ≡ sink.old) × (result ≡ Polled.Ready (Ok tt)) }
     {
-        if self.sent == self.bytes.len() {
-            return Polled::Ready(Ok(()));
-        }
-        match drain(sink, self.bytes, &mut self.sent) {
-            Ok(()) => Polled::Ready(Ok(())),
-            Err(halt) => write_halted(halt),
-        }
+        drain(sink, self.bytes, &mut self.sent)
     }
 }
 

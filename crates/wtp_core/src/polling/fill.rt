@@ -1,7 +1,6 @@
 //! Reading from a source into a buffer, as far as the source goes.
-ghost use Rattle.std.specs.Prelude.{◌≡◌, ◌<◌, ◌≤◌, length, take, drop, IfOk};
-ghost use Rattle.wtp_core.specs.Source.{StepKeepsLengths, StepTells, Telling};
-ghost use Rattle.wtp_core.specs.Fill.{BeginMoves, FillKeepsLengths, FillTells, halted_poll};
+ghost use Rattle.std.specs.Prelude.{◌≡◌, ◌≤◌, length, take};
+ghost use Rattle.wtp_core.specs.Fill.{FillKeepsLengths, FillTells, halt_fault, HaltsAs};
 
 use crate::bytes::polled::{IoReadError, Polled};
 use crate::bytes::source::{AsyncRead, ReadStep};
@@ -36,7 +35,7 @@ pub fn fill<S: AsyncRead>(source: &mut S, buf: &mut [u8], at: &mut usize) -> Res
     ensures tells { FillTells result (take at.old buf.old) (take at.new buf.new) (S.tells source.old) (S.tells source.new) }
 {
     while *at < buf.len() {
-        match read_at(source, buf, *at) {
+        match source.poll_read(&mut buf[*at..]) {
             ReadStep::Bytes(0) => return Err(Halt::Fin),
             ReadStep::Bytes(n) => *at += n,
             ReadStep::NotReady => return Err(Halt::NotReady),
@@ -47,50 +46,30 @@ pub fn fill<S: AsyncRead>(source: &mut S, buf: &mut [u8], at: &mut usize) -> Res
     Ok(())
 }
 
-// One call, into `buf[at..]`.
-#[inline(always)]
-fn read_at<S: AsyncRead>(source: &mut S, buf: &mut [u8], at: usize) -> ReadStep
-    requires { at ≤ length buf.old }
-    ensures front { take at buf.new ≡ take at buf.old }
-    ensures lengths { StepKeepsLengths result (length (drop at buf.new)) }
-    ensures tells { StepTells result (drop at buf.new) (S.tells source.old) (S.tells source.new) }
-{
-    source.poll_read(&mut buf[at..])
-}
-
-/// Calls the source once, into an empty buffer, and returns the number of bytes received, at least
-/// one. They are at the start of `buf`.
-///
-/// On an error no byte was taken from the source. The errors are those of `fill`.
-#[inline(always)]
-pub fn begin<S: AsyncRead>(source: &mut S, buf: &mut [u8]) -> Result<usize, Halt>
-    requires { 0 < length buf.old }
-    ensures some { IfOk result (λ n. (0 < n) × (n ≤ length buf.new)) }
-    ensures tells { Telling (S.tells source.old) (S.tells source.new) (BeginMoves result buf.new) }
-{
-    match source.poll_read(buf) {
-        ReadStep::Bytes(0) => Err(Halt::Fin),
-        ReadStep::Bytes(n) => Ok(n),
-        ReadStep::NotReady => Err(Halt::NotReady),
-        ReadStep::Reset => Err(Halt::Reset),
-        ReadStep::NotConnected => Err(Halt::NotConnected),
+impl Halt {
+    /// Returns the error of a reading that stopped after `taken` bytes, or `None` if the source was
+    /// not ready: `Fin` is `ImmediateFin` if no byte was taken and `UnexpectedFin` otherwise, and
+    /// the others are the errors of the same names.
+    pub fn fault(self, taken: usize) -> Option<IoReadError>
+        ensures { result ≡ halt_fault self taken }
+    {
+        match self {
+            Halt::NotReady => None,
+            Halt::Fin if taken == 0 => Some(IoReadError::ImmediateFin),
+            Halt::Fin => Some(IoReadError::UnexpectedFin),
+            Halt::Reset => Some(IoReadError::Reset),
+            Halt::NotConnected => Some(IoReadError::NotConnected),
+        }
     }
 }
 
-/// Returns the result of a poll whose reading stopped after `taken` bytes: `NotReady` is `Pending`,
-/// `Fin` is `ImmediateFin` if no byte was taken and `UnexpectedFin` otherwise, and the others are
-/// the errors of the same names.
-pub fn halted<T>(halt: Halt, taken: usize) -> Polled<Result<T, IoReadError>>
-    ensures { result ≡ halted_poll halt taken }
+/// Returns the result of a poll whose reading stopped after `taken` bytes: `Pending` if the source
+/// was not ready, and the error that `Halt::fault` returns otherwise.
+pub fn halted<T, E: From<IoReadError>>(halt: Halt, taken: usize) -> Polled<Result<T, E>>
+    ensures { HaltsAs E.from_gives (halt_fault halt taken) result }
 {
-    match halt {
-        Halt::NotReady => Polled::Pending,
-        Halt::Fin => Polled::Ready(Err(if taken == 0 {
-            IoReadError::ImmediateFin
-        } else {
-            IoReadError::UnexpectedFin
-        })),
-        Halt::Reset => Polled::Ready(Err(IoReadError::Reset)),
-        Halt::NotConnected => Polled::Ready(Err(IoReadError::NotConnected)),
+    match halt.fault(taken) {
+        None => Polled::Pending,
+        Some(fault) => Polled::Ready(Err(E::from(fault))),
     }
 }

@@ -1,9 +1,12 @@
 //! Skipping bytes of a source.
 ghost use Rattle.std.specs.Prelude.{◌≡◌, ◌+◌, ◌-◌, ◌<◌, ◌≤◌, OnOk, OnErr};
-ghost use Rattle.wtp_core.specs.Passing.{PassTells, CountFits, StepPasses};
+ghost use Rattle.wtp_core.specs.Passing.{max_passed, PassTells, CountFits, StepPasses};
 
 use crate::bytes::source::{AsyncRead, ReadStep};
 use crate::polling::fill::Halt;
+
+// The most bytes that one call skips.
+const MAX_PASSED: u64 = 4096;
 
 /// Skips the `due` bytes that are still to be skipped, at most 4096 of them, and lowers `due` by as
 /// many. Returns `Ok` once none is left to skip, or once 4096 were skipped.
@@ -13,13 +16,13 @@ use crate::polling::fill::Halt;
 /// of `fill`.
 pub fn pass<S: AsyncRead>(source: &mut S, due: &mut u64) -> Result<(), Halt>
     ensures fewer { due.new ≤ due.old }
-    ensures most { due.old ≤ due.new + 4096 }
-    ensures whole { OnOk result (0 < due.new → due.new + 4096 ≡ due.old) }
+    ensures most { due.old ≤ due.new + max_passed }
+    ensures whole { OnOk result (0 < due.new → due.new + max_passed ≡ due.old) }
     ensures part { OnErr result (0 < due.new) }
-    ensures some { OnErr result (due.old < due.new + 4096) }
+    ensures some { OnErr result (due.old < due.new + max_passed) }
     ensures tells { PassTells result (due.old - due.new) (S.tells source.old) (S.tells source.new) }
 {
-    let mut room = 4096;
+    let mut room = MAX_PASSED;
     let mut scratch = [0; 64];
     while *due > 0 && room > 0 {
         let want = (*due).min(room).min(64);

@@ -2,13 +2,15 @@
 ghost use Rattle.std.specs.Prelude.{◌≡◌, ◌↔◌, ℕ, List, Some, Ok, if◌then◌else◌};
 ghost use Rattle.std.specs.Str.{bytes_eq};
 ghost use Rattle.wtp_wire.specs.Content.{payload_in, HeadersOf};
-ghost use Rattle.wtp_fields.specs.Field.{Field, IsMap, AreTexts, put, value_of};
+ghost use Rattle.wtp_fields.specs.Field.{Field, IsMap, AreTexts, put, field_value};
 ghost use Rattle.wtp_fields.specs.FieldSection.{map_at};
 ghost use Rattle.wtp_fields.specs.Headers.{payload, headers_at};
 
 /// Putting a field into a map sets the value of its name, and leaves the values of all other names.
 pub fn header_maps()
-    ensures value { (m : List Field) (field : Field) (name : List ℕ) → value_of name (put m field) ≡ (if bytes_eq field.0 name then Some field.1 else value_of name m) }
+    ensures value { (m : List Field) (field : Field) (name : List ℕ)
+        → field_value name (put m field)
+        ≡ (if bytes_eq field.0 name then Some field.1 else field_value name m) }
     ensures ordered { (m : List Field) (field : Field) → IsMap m → IsMap (put m field) }
 {}
 
@@ -16,6 +18,8 @@ pub fn header_maps()
 /// and two maps are equal exactly if their payloads are. So the frame of a map is read as that map.
 pub fn header_payloads()
     ensures again { (m : List Field) → IsMap m → AreTexts m → map_at (payload m) ≡ Ok m }
-    ensures same { (m n : List Field) → IsMap m → AreTexts m → IsMap n → AreTexts n → (m ≡ n) ↔ (payload m ≡ payload n) }
-    ensures frame { (m : List Field) → IsMap m → AreTexts m → headers_at (payload_in (HeadersOf (payload m))) ≡ Ok m }
+    ensures same { (m n : List Field) → IsMap m → AreTexts m → IsMap n → AreTexts n
+        → (m ≡ n) ↔ (payload m ≡ payload n) }
+    ensures frame { (m : List Field) → IsMap m → AreTexts m
+        → headers_at (payload_in (HeadersOf (payload m))) ≡ Ok m }
 {}

@@ -2,9 +2,12 @@
 
 ghost use Rattle.std.specs.Prelude.{◌≡◌, ◌++◌, ◌<◌, OnOk};
 ghost use Rattle.wtp_fields.specs.Field.{IsText};
-ghost use Rattle.wtp_fields.specs.Reading.{Gives, GivesUnlessMemory};
+ghost use Rattle.wtp_fields.specs.Qpack.{Gives, GivesUnlessMemory};
 ghost use Rattle.wtp_fields.specs.StaticTable.{entry_at};
-ghost use Rattle.wtp_fields.specs.FieldLine.{bit, table_of, representation_of, seen, or_not_found, indexed_at, name_reference_at, literal_name_at, line_by, line_at, has_value, encoded_line};
+ghost use Rattle.wtp_fields.specs.FieldLine.{bit, table_of, representation_of, line_view};
+ghost use Rattle.wtp_fields.specs.FieldLine.{or_not_found, indexed_at, name_reference_at};
+ghost use Rattle.wtp_fields.specs.FieldLine.{literal_name_at, line_by, line_at, has_value};
+ghost use Rattle.wtp_fields.specs.FieldLine.{encoded_line};
 
 use super::{DecodingError, integer, static_table, string_literal};
 use std::alloc::{AllocError, Global};
@@ -83,7 +86,7 @@ pub fn representation_of(first: u8) -> Representation
 }
 
 /// Returns the static entry of an index.
-fn entry(index: u64) -> Result<(&'static str, &'static str), DecodingError>
+pub fn entry(index: u64) -> Result<(&'static str, &'static str), DecodingError>
     ensures { Gives (λ e. (e.0.now, e.1.now)) result (or_not_found (entry_at index)) }
 {
     match static_table::entry(index) {
@@ -94,8 +97,8 @@ fn entry(index: u64) -> Result<(&'static str, &'static str), DecodingError>
 
 /// Reads the field of a static entry.
 #[tactic(auto, unfolding(crate::specs::FieldLine::indexed_at))]
-fn indexed(alloc: Global, bytes: &[u8]) -> Result<Line<'_>, DecodingError>
-    ensures { GivesUnlessMemory seen result (indexed_at bytes.now) }
+fn read_indexed(alloc: Global, bytes: &[u8]) -> Result<Line<'_>, DecodingError>
+    ensures { GivesUnlessMemory line_view result (indexed_at bytes.now) }
 {
     let (index, rest) = integer::read::<6>(bytes)?;
     let (name, value) = entry(index)?;
@@ -108,12 +111,12 @@ fn indexed(alloc: Global, bytes: &[u8]) -> Result<Line<'_>, DecodingError>
 
 /// Reads the name of a static entry, and a value.
 #[tactic(auto, unfolding(crate::specs::FieldLine::name_reference_at))]
-fn name_reference<'a>(
+fn read_name_reference<'a>(
     alloc: Global,
     scratch: &mut Vec<u8>,
     bytes: &'a [u8],
 ) -> Result<Line<'a>, DecodingError>
-    ensures { GivesUnlessMemory seen result (name_reference_at bytes.now) }
+    ensures { GivesUnlessMemory line_view result (name_reference_at bytes.now) }
 {
     let (index, rest) = integer::read::<4>(bytes)?;
     let (name, _) = entry(index)?;
@@ -124,12 +127,12 @@ fn name_reference<'a>(
 
 /// Reads a name and a value.
 #[tactic(auto, unfolding(crate::specs::FieldLine::literal_name_at))]
-fn literal_name<'a>(
+fn read_literal_name<'a>(
     alloc: Global,
     scratch: &mut Vec<u8>,
     bytes: &'a [u8],
 ) -> Result<Line<'a>, DecodingError>
-    ensures { GivesUnlessMemory seen result (literal_name_at bytes.now) }
+    ensures { GivesUnlessMemory line_view result (literal_name_at bytes.now) }
 {
     let (name, rest) = string_literal::read::<3>(alloc, scratch, bytes)?;
     let (value, rest) = string_literal::read::<7>(alloc, scratch, rest)?;
@@ -144,12 +147,12 @@ fn read_as<'a>(
     representation: Representation,
     bytes: &'a [u8],
 ) -> Result<Line<'a>, DecodingError>
-    ensures { GivesUnlessMemory seen result (line_by representation bytes.now) }
+    ensures { GivesUnlessMemory line_view result (line_by representation bytes.now) }
 {
     match representation {
-        Representation::Indexed(Table::Static) => indexed(alloc, bytes),
-        Representation::NameReference(Table::Static) => name_reference(alloc, scratch, bytes),
-        Representation::LiteralName => literal_name(alloc, scratch, bytes),
+        Representation::Indexed(Table::Static) => read_indexed(alloc, bytes),
+        Representation::NameReference(Table::Static) => read_name_reference(alloc, scratch, bytes),
+        Representation::LiteralName => read_literal_name(alloc, scratch, bytes),
         Representation::Indexed(Table::Dynamic)
         | Representation::NameReference(Table::Dynamic)
         | Representation::IndexedPostBase
@@ -163,7 +166,7 @@ pub fn read<'a>(
     scratch: &mut Vec<u8>,
     bytes: &'a [u8],
 ) -> Result<Line<'a>, DecodingError>
-    ensures { GivesUnlessMemory seen result (line_at bytes.now) }
+    ensures { GivesUnlessMemory line_view result (line_at bytes.now) }
 {
     match bytes {
         [] => Err(DecodingError::UnexpectedFin),

@@ -2,10 +2,10 @@
 
 ghost use Rattle.std.specs.Prelude.{◌≡◌, ◌≢◌, ℕ, ◌<◌, List, [], ◌∷◌, length, IfOk, IfErr, Ok, Err};
 ghost use Rattle.wtp_fields.specs.declared.qpack.DecodingError.TheVariants.{Memory};
-ghost use Rattle.wtp_fields.specs.Field.{Field, held, field_map};
-ghost use Rattle.wtp_fields.specs.Reading.{Gives};
+ghost use Rattle.wtp_fields.specs.Field.{Field, fields_of, field_map};
+ghost use Rattle.wtp_fields.specs.Qpack.{Gives};
 ghost use Rattle.wtp_fields.specs.FieldLine.{line_at};
-ghost use Rattle.wtp_fields.specs.FieldSection.{lines_behind, AreLines};
+ghost use Rattle.wtp_fields.specs.FieldSection.{after_prefix, AreLines};
 
 use super::{DecodingError, field_line, integer};
 use std::alloc::{AllocError, Global};
@@ -15,7 +15,7 @@ use std::collections::BTreeMap;
 const ROOM: usize = 512;
 
 /// Returns the empty prefix, with room for lines after it.
-pub fn begun(alloc: Global) -> Result<Vec<u8>, AllocError>
+pub fn empty_prefix(alloc: Global) -> Result<Vec<u8>, AllocError>
     ensures { IfOk result (λ v. v.items ≡ 0 ∷ 0 ∷ []) }
 {
     let mut out = Vec::with_capacity(alloc, ROOM)?;
@@ -25,9 +25,9 @@ pub fn begun(alloc: Global) -> Result<Vec<u8>, AllocError>
 
 /// Returns the bytes after the two integers that precede the lines. The values of the integers are
 /// ignored.
-#[tactic(auto, unfolding(crate::specs::FieldSection::lines_behind))]
+#[tactic(auto, unfolding(crate::specs::FieldSection::after_prefix))]
 pub fn skip_prefix(bytes: &[u8]) -> Result<&[u8], DecodingError>
-    ensures { Gives (λ x. x.now) result (lines_behind bytes.now) }
+    ensures { Gives (λ x. x.now) result (after_prefix bytes.now) }
 {
     let (_, rest) = integer::read::<8>(bytes)?;
     let (_, rest) = integer::read::<7>(rest)?;
@@ -36,8 +36,10 @@ pub fn skip_prefix(bytes: &[u8]) -> Result<&[u8], DecodingError>
 
 /// Returns the map of the lines.
 pub fn read_lines(alloc: Global, lines: &[u8]) -> Result<BTreeMap<String, String>, DecodingError>
-    ensures found { IfOk result (λ m. (ls : List Field) × AreLines lines.now ls [] × (held m ≡ field_map ls)) }
-    ensures fault { IfErr result (λ e. (ls : List Field) × (rest : List ℕ) × AreLines lines.now ls rest
+    ensures found { IfOk result (λ m.
+        (ls : List Field) × AreLines lines.now ls [] × (fields_of m ≡ field_map ls)) }
+    ensures fault { IfErr result (λ e.
+        (ls : List Field) × (rest : List ℕ) × AreLines lines.now ls rest
         × (0 < length rest) × (e ≢ Memory → line_at rest ≡ Err e)) }
 {
     let mut fields = BTreeMap::new(alloc);

@@ -1,14 +1,15 @@
 //! Integers with a prefix of `N` bits (RFC 7541, section 5.1; RFC 9204, section 4.1.1).
 
-ghost use Rattle.std.specs.Prelude.{◌≡◌, ◌+◌, ◌-◌, ◌*◌, ◌^◌, ◌<◌, ◌≤◌, [], ◌∷◌, ◌++◌, OnOk, SomeIff};
+ghost use Rattle.std.specs.Prelude.{◌≡◌, ◌+◌, ◌-◌, ◌*◌, ◌^◌, ◌<◌, ◌≤◌, [], ◌∷◌, ◌++◌, OnOk};
+ghost use Rattle.std.specs.Prelude.{SomeIff};
 ghost use Rattle.wtp_fields.specs.Integer.{integer_at, groups_at, shortest_int};
-ghost use Rattle.wtp_fields.specs.Reading.{Gives};
+ghost use Rattle.wtp_fields.specs.Qpack.{Gives};
 
 use super::DecodingError;
 use std::alloc::AllocError;
 
 /// Returns `value + low * 2 ^ shift`, if that is less than 2^64.
-fn grown(value: u64, low: u64, shift: u32) -> Option<u64>
+fn add_group(value: u64, low: u64, shift: u32) -> Option<u64>
     requires { low < 128 }
     ensures { SomeIff result (value + low * 2 ^ shift < 2 ^ 64) (value + low * 2 ^ shift) }
 {
@@ -38,7 +39,7 @@ fn read_groups(prefix: u64, bytes: &[u8]) -> Result<(u64, &[u8]), DecodingError>
     // Groups of zeros may follow without limit, so the shift stops once no bit fits any more.
     let mut shift = 0u32;
     for (k, group) in bytes.iter().enumerate() {
-        match grown(value, u64::from(*group % 128), shift) {
+        match add_group(value, u64::from(*group % 128), shift) {
             None => return Err(DecodingError::IntegerOverflow),
             Some(more) => value = more,
         }

@@ -1,9 +1,9 @@
 //! The static table (RFC 9204, section 3.1 and Appendix A), and its names in byte order.
 
 ghost use Rattle.std.specs.Prelude.{◌≡◌, ℕ, option_map, slice_get, IfSome, IfNone, Contains};
-ghost use Rattle.wtp_fields.specs.Field.{lent, lent_field};
+ghost use Rattle.wtp_fields.specs.Field.{fields_of_texts, field_of_texts};
 ghost use Rattle.wtp_fields.specs.StaticTable.{static_table, entry_at, first_entry};
-ghost use Rattle.wtp_fields.specs.StaticNames.{numbered, static_names_of, AreOrdered};
+ghost use Rattle.wtp_fields.specs.StaticNames.{name_indices, static_names_of, AreOrdered};
 
 /// Names and values, by index.
 pub static ENTRIES: [(&str, &str); 99] = [
@@ -175,28 +175,28 @@ pub static NAMES: [(&str, usize); 52] = [
 
 /// Returns the whole table.
 fn table() -> &'static [(&'static str, &'static str)]
-    ensures { lent result.now ≡ static_table }
+    ensures { fields_of_texts result.now ≡ static_table }
 {
     &ENTRIES
 }
 
 /// Returns the entry of an index in a table.
 fn entry_in<'a>(table: &[(&'a str, &'a str)], index: u64) -> Option<(&'a str, &'a str)>
-    ensures { option_map lent_field result ≡ slice_get (lent table.now) index }
+    ensures { option_map field_of_texts result ≡ slice_get (fields_of_texts table.now) index }
 {
     table.get(index as usize).copied()
 }
 
 /// Returns the entry of an index.
 pub fn entry(index: u64) -> Option<(&'static str, &'static str)>
-    ensures { option_map lent_field result ≡ entry_at index }
+    ensures { option_map field_of_texts result ≡ entry_at index }
 {
     entry_in(table(), index)
 }
 
 /// Returns the names that start with a byte, in byte order.
 fn names_of(first: u8) -> &'static [(&'static str, usize)]
-    ensures { numbered result.now ≡ static_names_of first }
+    ensures { name_indices result.now ≡ static_names_of first }
 {
     match first {
         b':' => &NAMES[..5],
@@ -221,8 +221,9 @@ fn names_of(first: u8) -> &'static [(&'static str, usize)]
 
 /// Returns the index of a name, by binary search.
 fn index_in(names: &[(&str, usize)], name: &str) -> Option<usize>
-    ensures found { IfSome result (λ k. Contains (numbered names.now) (name.now, k)) }
-    ensures absent { AreOrdered (numbered names.now) → IfNone result ((k : ℕ) → ¬ Contains (numbered names.now) (name.now, k)) }
+    ensures found { IfSome result (λ k. Contains (name_indices names.now) (name.now, k)) }
+    ensures absent { AreOrdered (name_indices names.now)
+        → IfNone result ((k : ℕ) → ¬ Contains (name_indices names.now) (name.now, k)) }
 {
     match names.binary_search_by_key(&name, |known| known.0) {
         Ok(place) => Some(names[place].1),

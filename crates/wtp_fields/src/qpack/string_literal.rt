@@ -1,11 +1,13 @@
 //! String literals (RFC 7541, section 5.2; RFC 9204, section 4.1.2).
 
-ghost use Rattle.std.specs.Prelude.{◌≡◌, ◌+◌, ◌-◌, ◌*◌, ◌^◌, ◌<◌, ◌≤◌, ◌++◌, length, string_bytes, IfOk, OnOk, SomeIff};
+ghost use Rattle.std.specs.Prelude.{◌≡◌, ◌+◌, ◌-◌, ◌*◌, ◌^◌, ◌<◌, ◌≤◌, ◌++◌, length, string_bytes};
+ghost use Rattle.std.specs.Prelude.{IfOk, OnOk, SomeIff};
 ghost use Rattle.wtp_huffman.specs.Huffman.{coded_len};
-ghost use Rattle.wtp_huffman.specs.HuffmanSteps.{TellsAscii};
+ghost use Rattle.wtp_huffman.specs.HuffmanDecoding.{TellsAscii};
 ghost use Rattle.wtp_fields.specs.Integer.{shortest_int};
-ghost use Rattle.wtp_fields.specs.Reading.{Gives, GivesUnlessMemory};
-ghost use Rattle.wtp_fields.specs.StringLiteral.{flag_above, or_invalid, huffman_text, utf8_text, content, string_at, encoded_string};
+ghost use Rattle.wtp_fields.specs.Qpack.{Gives, GivesUnlessMemory};
+ghost use Rattle.wtp_fields.specs.StringLiteral.{flag_above, or_invalid, huffman_text, utf8_text};
+ghost use Rattle.wtp_fields.specs.StringLiteral.{body_text, string_at, encoded_string};
 
 use super::{DecodingError, integer};
 use std::alloc::{AllocError, Global};
@@ -17,7 +19,7 @@ const ROOM: usize = 256;
 /// Returns the bytes as a text, if they are UTF-8.
 #[cold]
 #[inline(never)]
-fn tested(bytes: &[u8]) -> Result<&str, DecodingError>
+fn validate(bytes: &[u8]) -> Result<&str, DecodingError>
     ensures { Gives (λ t. t.now) result (utf8_text bytes.now) }
 {
     match str::from_utf8(bytes) {
@@ -35,14 +37,15 @@ fn text_by(bytes: &[u8], is_ascii: bool) -> Result<&str, DecodingError>
     if is_ascii {
         Ok(unsafe { str::from_utf8_unchecked(bytes) })
     } else {
-        tested(bytes)
+        validate(bytes)
     }
 }
 
 /// Replaces the contents of `scratch` by the decoded bytes of a Huffman text, and returns whether
 /// they are ASCII.
-fn decoded(scratch: &mut Vec<u8>, bytes: &[u8]) -> Result<bool, DecodingError>
-    ensures bytes { GivesUnlessMemory (λ _. scratch.new.items) result (or_invalid (huffman_text bytes.now)) }
+pub fn decode(scratch: &mut Vec<u8>, bytes: &[u8]) -> Result<bool, DecodingError>
+    ensures bytes { GivesUnlessMemory (λ _. scratch.new.items) result
+        (or_invalid (huffman_text bytes.now)) }
     ensures ascii { IfOk result (λ is_ascii. TellsAscii is_ascii scratch.new.items) }
 {
     if scratch.capacity() == 0 {
@@ -57,24 +60,24 @@ fn decoded(scratch: &mut Vec<u8>, bytes: &[u8]) -> Result<bool, DecodingError>
 
 /// Returns the text of a string's bytes. Huffman text is decoded in `scratch`.
 #[inline(always)]
-#[tactic(auto, unfolding(crate::specs::StringLiteral::content))]
-fn content<'a>(
+#[tactic(auto, unfolding(crate::specs::StringLiteral::body_text))]
+fn body_text<'a>(
     scratch: &'a mut Vec<u8>,
     is_huffman: bool,
     body: &'a [u8],
 ) -> Result<&'a str, DecodingError>
-    ensures { GivesUnlessMemory (λ t. t.now) result (content is_huffman body.now) }
+    ensures { GivesUnlessMemory (λ t. t.now) result (body_text is_huffman body.now) }
 {
     if !is_huffman {
         return text_by(body, body.is_ascii());
     }
-    let is_ascii = decoded(scratch, body)?;
+    let is_ascii = decode(scratch, body)?;
     text_by(scratch.as_slice(), is_ascii)
 }
 
 /// Returns the flag H, the bit above the prefix.
 #[tactic(auto, unfolding(crate::specs::StringLiteral::flag_above))]
-fn has_flag<const N: u32>(bytes: &[u8]) -> bool
+pub fn has_flag<const N: u32>(bytes: &[u8]) -> bool
     requires some { 1 ≤ N }
     requires few { N ≤ 7 }
     requires byte { 0 < length bytes.now }
@@ -100,9 +103,9 @@ pub fn read<'a, const N: u32>(
     if size > rest.len() as u64 {
         return Err(DecodingError::UnexpectedFin);
     }
-    let (body, behind) = rest.split_at(size as usize);
-    let text = content(scratch, has_flag::<N>(bytes), body)?;
-    Ok((String::from_str(alloc, text)?, behind))
+    let (body, others) = rest.split_at(size as usize);
+    let text = body_text(scratch, has_flag::<N>(bytes), body)?;
+    Ok((String::from_str(alloc, text)?, others))
 }
 
 /// Returns the length of the text in the Huffman code, if that is strictly shorter.
@@ -173,7 +176,8 @@ fn write_plain<const N: u32>(out: &mut Vec<u8>, flags: u8, text: &[u8]) -> Resul
     requires few { N ≤ 7 }
     requires small { flags < 64 }
     requires above { flags * 2 + 1 < 2 ^ (8 - N) }
-    ensures { OnOk result (out.new.items ≡ out.old.items ++ (shortest_int N (flags * 2) (length text.now) ++ text.now)) }
+    ensures { OnOk result (out.new.items
+        ≡ out.old.items ++ (shortest_int N (flags * 2) (length text.now) ++ text.now)) }
 {
     integer::write::<N>(out, flags * 2, text.len() as u64)?;
     out.extend_from_slice(text)

@@ -1,9 +1,14 @@
 //! The request for a session.
-ghost use Rattle.std.specs.Prelude.{◌≡◌, ◌≢◌, ◌⊎◌, ◌↔◌, MatchResult, None, Some, Ok, Err, OnOk, OnErr, IfOk, IfErr, IsTrue, IsErrOf, codes, string_bytes, length, ◌≤◌};
+ghost use Rattle.std.specs.Prelude.{◌≡◌, ◌≢◌, ◌⊎◌, ◌↔◌, MatchResult, None, Some, Ok, Err, OnOk};
+ghost use Rattle.std.specs.Prelude.{OnErr, IfOk, IfErr, IsTrue, IsErrOf, codes, string_bytes};
+ghost use Rattle.std.specs.Prelude.{length, ◌≤◌};
 ghost use Rattle.std.specs.Option.{option_copied};
 ghost use Rattle.url.specs.Parser.{parse_url};
-ghost use Rattle.wtp_fields.specs.Field.{put, value_of};
-ghost use Rattle.wtp_fields.specs.SessionRequest.{is_reserved, fault_of, fault_unless, fault_without, authority_of, with_query, five_fields, request_for, request_at, renamed};
+ghost use Rattle.wtp_fields.specs.Field.{put, field_value};
+ghost use Rattle.wtp_fields.specs.SessionRequest.{is_reserved_name, fault_of, fault_unless};
+ghost use Rattle.wtp_fields.specs.SessionRequest.{fault_without, authority_of, with_query};
+ghost use Rattle.wtp_fields.specs.SessionRequest.{five_fields, request_for, request_at};
+ghost use Rattle.wtp_fields.specs.SessionRequest.{url_error_of};
 ghost use Rattle.wtp_fields.specs.declared.session.request.UrlParseError.TheVariants as answered;
 
 use super::HeadersParseError;
@@ -67,7 +72,7 @@ impl From<AllocError> for UrlParseError {
 }
 
 impl From<ParseError> for UrlParseError {
-    ghost from_gives = { λ fault e. e ≡ renamed fault };
+    ghost from_gives = { λ fault e. e ≡ url_error_of fault };
 
     fn from(fault: ParseError) -> UrlParseError {
         match fault {
@@ -149,17 +154,21 @@ impl SessionRequest {
         ":path",
     ];
 
-    /// Returns the request for the session at a URL, whose scheme is `https` (RFC 9220, section 3; RFC 9114, section
-    /// 4.3.1).
+    /// Returns the request for the session at a URL, whose scheme is `https` (RFC 9220, section 3;
+    /// RFC 9114, section 4.3.1).
     ///
-    /// `:authority` is the URL's user part, host, and port if it is not the default, and `:path` its path and query.
+    /// `:authority` is the URL's user part, host, and port if it is not the default, and `:path`
+    /// its path and query.
     ///
-    /// Returns the error of the same name for a fault of the URL, [`UrlParseError::SchemeNotHttps`] for a URL of another
-    /// scheme, and [`UrlParseError::Memory`] if allocation fails. [`UrlParseError::Overflow`] is returned only for a text
-    /// of 16 MiB (2^24 bytes) or more whose URL would be 4 GB or longer.
+    /// Returns the error of the same name for a fault of the URL, [`UrlParseError::SchemeNotHttps`]
+    /// for a URL of another scheme, and [`UrlParseError::Memory`] if allocation fails.
+    /// [`UrlParseError::Overflow`] is returned only for a text of 16 MiB (2^24 bytes) or more whose
+    /// URL would be 4 GB or longer.
     pub fn new(alloc: Global, url: &str) -> Result<Self, UrlParseError>
-        ensures request { MatchResult result (λ request. request_at (parse_url None url.now) ≡ Ok request)
-            (λ e. (request_at (parse_url None url.now) ≡ Err e) ⊎ ((e ≡ answered.Memory) ⊎ (e ≡ answered.Overflow))) }
+        ensures request { MatchResult result
+            (λ request. request_at (parse_url None url.now) ≡ Ok request)
+            (λ e. (request_at (parse_url None url.now) ≡ Err e)
+            ⊎ ((e ≡ answered.Memory) ⊎ (e ≡ answered.Overflow))) }
         ensures overflow { result ≡ Err answered.Overflow → LONG_TEXT ≤ length url.now }
     {
         let parsed = match Url::parse(alloc, url) {
@@ -175,7 +184,8 @@ impl SessionRequest {
     /// Returns the request for the session at a URL.
     #[tactic(auto, unfolding(crate::specs::SessionRequest::request_for))]
     fn for_url(alloc: Global, url: &Url) -> Result<Self, UrlParseError>
-        ensures request { MatchResult result (λ request. request_for url.now ≡ Ok request) (λ e. e ≢ answered.Memory → request_for url.now ≡ Err e) }
+        ensures request { MatchResult result (λ request. request_for url.now ≡ Ok request)
+            (λ e. e ≢ answered.Memory → request_for url.now ≡ Err e) }
         ensures no_overflow { IfErr result (λ e. e ≢ answered.Overflow) }
     {
         if url.scheme() != "https" {
@@ -188,35 +198,35 @@ impl SessionRequest {
 
     /// Returns the field `:authority`.
     pub fn authority(&self) -> &str
-        ensures { value_of (codes ":authority") self.now ≡ Some result.now }
+        ensures { field_value (codes ":authority") self.now ≡ Some result.now }
     {
         self.headers.get(":authority").unwrap()
     }
 
     /// Returns the field `:path`.
     pub fn path(&self) -> &str
-        ensures { value_of (codes ":path") self.now ≡ Some result.now }
+        ensures { field_value (codes ":path") self.now ≡ Some result.now }
     {
         self.headers.get(":path").unwrap()
     }
 
     /// Returns the field `origin`.
     pub fn origin(&self) -> Option<&str>
-        ensures { option_copied result ≡ value_of (codes "origin") self.now }
+        ensures { option_copied result ≡ field_value (codes "origin") self.now }
     {
         self.headers.get("origin")
     }
 
     /// Returns the field `user-agent`.
     pub fn user_agent(&self) -> Option<&str>
-        ensures { option_copied result ≡ value_of (codes "user-agent") self.now }
+        ensures { option_copied result ≡ field_value (codes "user-agent") self.now }
     {
         self.headers.get("user-agent")
     }
 
     /// Returns the value of a field.
     pub fn get(&self, name: &str) -> Option<&str>
-        ensures { option_copied result ≡ value_of name.now self.now }
+        ensures { option_copied result ≡ field_value name.now self.now }
     {
         self.headers.get(name)
     }
@@ -226,7 +236,8 @@ impl SessionRequest {
     /// The names of [`Self::RESERVED_HEADERS`] are refused, before anything is allocated.
     pub fn insert(&mut self, name: &str, value: &str) -> Result<(), InsertError>
         ensures ok { OnOk result (self.new ≡ put self.old (name.now, value.now)) }
-        ensures reserved { IsErrOf result (InsertError.Reserved (record {})) ↔ IsTrue (is_reserved name.now) }
+        ensures reserved { IsErrOf result (InsertError.Reserved (record {}))
+            ↔ IsTrue (is_reserved_name name.now) }
         ensures err { OnErr result (self.new ≡ self.old) }
     {
         if Self::RESERVED_HEADERS.contains(&name) {
@@ -248,7 +259,9 @@ impl SessionRequest {
 impl TryFrom<Headers> for SessionRequest {
     type Error = HeadersParseError;
 
-    ghost try_from_gives = { λ headers result. MatchResult result (λ request. (fault_of headers ≡ None) × (request ≡ headers)) (λ fault. fault_of headers ≡ Some fault) };
+    ghost try_from_gives = { λ headers result. MatchResult result
+        (λ request. (fault_of headers ≡ None) × (request ≡ headers))
+        (λ fault. fault_of headers ≡ Some fault) };
 
     /// Returns the request of a header map that has the fields of one (RFC 9114, section 4.3.1; RFC
     /// 9220, section 3). It keeps all other fields.
@@ -269,7 +282,10 @@ fn expect_value(
     missing: HeadersParseError,
     other: HeadersParseError,
 ) -> Result<(), HeadersParseError>
-    ensures { MatchResult result (λ _. fault_unless text.now missing other (value_of name.now headers.now) ≡ None) (λ fault. fault_unless text.now missing other (value_of name.now headers.now) ≡ Some fault) }
+    ensures { MatchResult result
+        (λ _. fault_unless text.now missing other (field_value name.now headers.now) ≡ None)
+        (λ fault.
+        fault_unless text.now missing other (field_value name.now headers.now) ≡ Some fault) }
 {
     match headers.get(name) {
         None => Err(missing),
@@ -284,7 +300,9 @@ fn expect_field(
     name: &str,
     missing: HeadersParseError,
 ) -> Result<(), HeadersParseError>
-    ensures { MatchResult result (λ _. fault_without missing (value_of name.now headers.now) ≡ None) (λ fault. fault_without missing (value_of name.now headers.now) ≡ Some fault) }
+    ensures { MatchResult result
+        (λ _. fault_without missing (field_value name.now headers.now) ≡ None)
+        (λ fault. fault_without missing (field_value name.now headers.now) ≡ Some fault) }
 {
     match headers.get(name) {
         None => Err(missing),
@@ -295,7 +313,9 @@ fn expect_field(
 /// Returns the first fault of a request's fields.
 #[tactic(auto, unfolding(crate::specs::SessionRequest::fault_of))]
 fn check(headers: &Headers) -> Result<(), HeadersParseError>
-    ensures { MatchResult result (λ _. fault_of headers.now ≡ None) (λ fault. fault_of headers.now ≡ Some fault) }
+    ensures { MatchResult result
+        (λ _. fault_of headers.now ≡ None)
+        (λ fault. fault_of headers.now ≡ Some fault) }
 {
     expect_value(
         headers,
@@ -331,7 +351,8 @@ fn authority(url: &Url) -> &str
 
 /// Returns the path, followed by the query.
 fn path_with_query(alloc: Global, path: &str, query: Option<&str>) -> Result<String, AllocError>
-    ensures { IfOk result (λ text. string_bytes text ≡ with_query path.now (option_copied query.entry)) }
+    ensures { IfOk result (λ text. string_bytes text
+        ≡ with_query path.now (option_copied query.entry)) }
 {
     let mut text = String::from_str(alloc, path)?;
     if let Some(query) = query {

@@ -1,15 +1,21 @@
 //! The response to the request for a session.
-ghost use Rattle.std.specs.Prelude.{◌≡◌, ◌↔◌, Some, OnOk, OnErr, IfOk, IsErrOf, codes, option_map};
+ghost use Rattle.std.specs.Prelude.{◌≡◌, ◌↔◌, Some, Err, MatchOption, OnOk, OnErr, IfOk, IsErrOf, codes, option_map};
+ghost use Rattle.wtp_wire.specs.Content.{kind_in, payload_in};
 ghost use Rattle.wtp_core.specs.Ids.{IsStatus, IsStatusText, status_in};
-ghost use Rattle.wtp_fields.specs.Field.{put};
-ghost use Rattle.wtp_fields.specs.SessionResponse.{status_of, HasStatus, status_alone, ByStatus};
+ghost use Rattle.std.specs.Option.{option_copied};
+ghost use Rattle.wtp_fields.specs.Field.{put, field_value};
+ghost use Rattle.wtp_fields.specs.Headers.{BeginsLine};
+ghost use Rattle.wtp_fields.specs.ResponseFrame.{ResponseIn};
+ghost use Rattle.wtp_fields.specs.SessionResponse.{status_value, HasStatus, status_alone, ByStatus};
 
 use super::HeadersParseError;
 use crate::headers::Headers;
 use std::alloc::{AllocError, Global};
 use std::marker::Model;
 use thiserror::Error;
+use wtp_core::error::{ErrorCode, Refused};
 use wtp_core::ids::StatusCode;
+use wtp_wire::frame::{Frame, FrameKind};
 
 /// The reason a field was not put into a response.
 #[derive(Debug, Drop, PartialEq, Eq, Error)]
@@ -104,10 +110,29 @@ impl SessionResponse {
 
     /// Returns the status code.
     pub fn code(&self) -> StatusCode
-        ensures { option_map status_in (status_of self.now) ≡ Some result }
+        ensures { option_map status_in (status_value self.now) ≡ Some result }
     {
         let text = self.headers.get(":status").unwrap();
         text.parse::<StatusCode>().unwrap()
+    }
+
+    /// Returns the value of a field. Not in the Rust crate.
+    pub fn get(&self, name: &str) -> Option<&str>
+        ensures { option_copied result ≡ field_value name.now self.now }
+    {
+        self.headers.get(name)
+    }
+
+    /// Returns the response of a header map that has a status code, with all of its fields.
+    fn of_map(headers: Headers) -> Option<Self>
+        ensures { MatchOption result (¬ HasStatus headers)
+            (λ response. HasStatus headers × (response ≡ headers)) }
+    {
+        let text = headers.get(":status")?;
+        if text.parse::<StatusCode>().is_err() {
+            return None;
+        }
+        Some(SessionResponse { headers })
     }
 
     /// Sets the value of a field, in place of its previous value. On an error nothing changes.
@@ -116,7 +141,8 @@ impl SessionResponse {
     /// is stored as it is written.
     pub fn add(&mut self, name: &str, value: &str) -> Result<(), AddError>
         ensures ok { OnOk result (self.new ≡ put self.old (name.now, value.now)) }
-        ensures invalid { IsErrOf result AddError.InvalidStatusCode ↔ ((name.now ≡ codes ":status") × ¬ IsStatusText value.now) }
+        ensures invalid { IsErrOf result AddError.InvalidStatusCode
+            ↔ ((name.now ≡ codes ":status") × ¬ IsStatusText value.now) }
         ensures err { OnErr result (self.new ≡ self.old) }
     {
         if name == ":status" && value.parse::<StatusCode>().is_err() {
@@ -138,7 +164,7 @@ impl SessionResponse {
 impl TryFrom<Headers> for SessionResponse {
     type Error = HeadersParseError;
 
-    ghost try_from_gives = { λ headers result. ByStatus (status_of headers) result };
+    ghost try_from_gives = { λ headers result. ByStatus (status_value headers) result };
 
     /// Returns the response with the status code of a header map, and no other field (RFC 9114,
     /// section 4.3.2).
@@ -155,5 +181,27 @@ impl TryFrom<Headers> for SessionResponse {
         };
         let response = SessionResponse::with_status_code(headers.allocator(), status_code)?;
         Ok(response)
+    }
+}
+
+/// Returns the response in a HEADERS frame, with all of its fields (RFC 9114, sections 4.1.2 and
+/// 4.3.2). Not in the Rust crate.
+///
+/// Returns [`Refused::Code`] with [`ErrorCode::FrameUnexpected`] for a frame of another kind, with
+/// [`ErrorCode::Decompression`] for a payload that is not a field section, and with
+/// [`ErrorCode::Message`] for a header map without a status code from 100 to 599. Returns
+/// [`Refused::Memory`] if allocation fails, which happens only at a field line after valid ones:
+/// the frame can be read again.
+pub fn response_of_frame(alloc: Global, frame: &Frame<'_>) -> Result<SessionResponse, Refused>
+    ensures read { ResponseIn frame.now result }
+    ensures memory { result ≡ Err Refused.Memory → (kind_in frame.now ≡ FrameKind.Headers) × BeginsLine (payload_in frame.now) }
+{
+    let FrameKind::Headers = frame.kind() else {
+        return Err(Refused::Code(ErrorCode::FrameUnexpected));
+    };
+    let headers = Headers::with_frame(alloc, frame)?;
+    match SessionResponse::of_map(headers) {
+        Some(response) => Ok(response),
+        None => Err(Refused::Code(ErrorCode::Message)),
     }
 }

@@ -3,14 +3,14 @@ ghost use Rattle.std.specs.Prelude.{◌≡◌, ◌<◌, ◌≤◌, ◌^◌};
 ghost use Rattle.wtp_huffman.specs.Huffman.{word_of};
 ghost use Rattle.wtp_huffman.specs.declared.huffman.rows.TheConstants.{LONGEST};
 
-/// A code word: how many bits it has, and the number that they spell.
+/// A code word: how many bits it has, and their number.
 #[derive(Clone, Copy)]
 pub struct Code {
     pub bits: u32,
     pub number: u32,
 }
 
-/// The code word of a byte.
+/// Returns the code word of a byte.
 pub fn code_of(byte: u8) -> Code
     ensures bits { result.bits ≡ (word_of byte).bits }
     ensures number { result.number ≡ (word_of byte).number }

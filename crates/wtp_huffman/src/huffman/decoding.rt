@@ -1,9 +1,11 @@
-//! From code words to a text.
-ghost use Rattle.std.specs.Prelude.{◌≡◌, ℕ, Bool, ◌+◌, ◌-◌, ◌*◌, ◌<◌, ◌≤◌, ◌^◌, List, [], ◌∷◌, ◌++◌, length, take, IfOk, OnOk, OnErr, MatchResult, IsOk, IsTrue, ◌↔◌};
+//! Decoding: from code words to a text.
+ghost use Rattle.std.specs.Prelude.{◌≡◌, ℕ, Bool, ◌+◌, ◌-◌, ◌*◌, ◌<◌, ◌≤◌, ◌^◌, List, [], ◌∷◌};
+ghost use Rattle.std.specs.Prelude.{◌++◌, length, take, IfOk, OnOk, OnErr, MatchResult, IsOk};
+ghost use Rattle.std.specs.Prelude.{IsTrue, ◌↔◌};
 ghost use Rattle.std.specs.Vec.{vec_len, vec_capacity};
 ghost use Rattle.wtp_huffman.specs.Huffman.{bits_of, low_bits, IsHuffman};
-ghost use Rattle.wtp_huffman.specs.HuffmanSteps.{waiting_bits, IsClear, IsCodedOn, Takes, TellsAscii};
-ghost use Rattle.wtp_huffman.specs.HuffmanTables.{front, InRow, IsWord};
+ghost use Rattle.wtp_huffman.specs.HuffmanDecoding.{waiting_bits, IsClear, IsCodedOn, Decodes};
+ghost use Rattle.wtp_huffman.specs.HuffmanDecoding.{TellsAscii, window_of, InRow, IsWord};
 ghost use Rattle.wtp_huffman.specs.declared.huffman.HuffmanError.TheVariants.{Invalid, Memory};
 
 use super::HuffmanError;
@@ -13,53 +15,54 @@ use super::short::{LONGEST_SHORT, SHORT_LIMIT, short_entry};
 use std::alloc::Global;
 use std::mem::replace;
 
-/// The symbol that ends a string (EOS in RFC 7541), which no text holds.
+/// The symbol that ends a string (EOS in RFC 7541), which no text contains.
 const END: u16 = 256;
 
-/// How many of 64 bits come after a window.
+/// The number of bits after a window, of 64.
 const AFTER_WINDOW: u32 = u64::BITS - WINDOW;
 
-/// How many of 64 bits come after those by which one or two short words are looked up.
+/// The number of bits after those by which one or two short words are looked up, of 64.
 const AFTER_PAIR: u32 = u64::BITS - PAIR_BITS;
 
-/// How many of 64 bits come after four bytes.
+/// The number of bits after four bytes, of 64.
 const AFTER_FOUR: u32 = u64::BITS - u32::BITS;
 
-/// How many of 64 bits come after a byte.
+/// The number of bits after a byte, of 64.
 const AFTER_BYTE: u32 = u64::BITS - u8::BITS;
 
-/// How many bits of a window come after its first eight, by which a short word is looked up.
+/// The number of bits of a window after its first eight, by which a short word is looked up.
 const AFTER_SHORT: u32 = WINDOW - LONGEST_SHORT;
 
-/// Bits that wait begin with a short word where their number is below this.
+/// Waiting bits below this begin with a short word.
 const SHORT_END: u64 = (SHORT_LIMIT as u64) << AFTER_WINDOW;
 
-/// The window of ones: padding, and the word of the end of a string.
+/// The window of ones only: padding, or the word of the end of a string.
 const ONES: u32 = (1 << WINDOW) - 1;
 
-/// A symbol, and how many bits its word has.
+/// A symbol, and the number of bits of its word.
 #[derive(Clone, Copy)]
 struct Found {
     bits: u32,
     symbol: u16,
 }
 
-/// The text that is coded so.
+/// Decodes a Huffman text.
 ///
-/// The bytes are code words and then fewer than eight ones (RFC 7541, section 5.2). Memory is taken at once, a byte
-/// for each five bits, since no word is shorter.
+/// Its bytes are code words, followed by fewer than eight ones (RFC 7541, section 5.2). Allocates
+/// once, a byte for every five bits, because no word is shorter.
 ///
-/// Returns [`HuffmanError::Invalid`] for any other bytes, and [`HuffmanError::Memory`] if allocation fails. An empty
-/// text allocates nothing and never fails.
+/// Returns [`HuffmanError::Invalid`] for other bytes, and [`HuffmanError::Memory`] if allocation
+/// fails. An empty text allocates nothing and never fails.
 pub fn decode(alloc: Global, text: &[u8]) -> Result<Vec<u8>, HuffmanError>
     ensures found { IfOk result (λ t. IsHuffman t.items text.now) }
-    ensures only { (t : List ℕ) → IsHuffman t text.now → MatchResult result (λ v. v.items ≡ t) (λ e. e ≡ Memory) }
+    ensures only { (t : List ℕ) → IsHuffman t text.now
+        → MatchResult result (λ v. v.items ≡ t) (λ e. e ≡ Memory) }
     ensures empty { length text.now ≡ 0 → IsOk result }
 {
-    Ok(decoded_in(Vec::with_capacity(alloc, most_bytes(text))?, text)?.0)
+    Ok(decode_to(Vec::with_capacity(alloc, most_bytes(text))?, text)?.0)
 }
 
-/// The most bytes that a coded text stands for: one for each five bits.
+/// Returns the greatest number of bytes that a Huffman text may have: one for every five bits.
 fn most_bytes(text: &[u8]) -> usize
     ensures enough { 8 * length text.now < SHORTEST * result + SHORTEST }
     ensures none { length text.now ≡ 0 → result ≡ 0 }
@@ -67,15 +70,18 @@ fn most_bytes(text: &[u8]) -> usize
     text.len() / SHORTEST * 8 + text.len() % SHORTEST * 8 / SHORTEST
 }
 
-/// Replaces what `out` holds by the text that is coded so, and returns whether the text is ASCII. Few bytes are tested
-/// for that, since all short words stand for ASCII. If `out` has too little room, memory is taken at
-/// once, twice the code's length, which is more than enough and soon computed.
+/// Replaces the contents of `out` by the decoded text, and returns whether the text is ASCII. Few
+/// bytes are tested for that, because every short word is that of an ASCII byte. If `out` has too
+/// little room, it allocates once, twice the length of the code: that is more than enough, and
+/// quickly computed.
 ///
-/// Returns [`HuffmanError::Invalid`] if the bytes are not code words and then fewer than eight ones (RFC 7541, section
-/// 5.2), and [`HuffmanError::Memory`] if allocation fails. `out` is then empty. An empty text never fails.
+/// Returns [`HuffmanError::Invalid`] if the bytes are not code words followed by fewer than eight
+/// ones (RFC 7541, section 5.2), and [`HuffmanError::Memory`] if allocation fails. `out` is then
+/// empty. An empty text never fails.
 pub fn decode_into(out: &mut Vec<u8>, text: &[u8]) -> Result<bool, HuffmanError>
     ensures found { OnOk result (IsHuffman out.new.items text.now) }
-    ensures only { (t : List ℕ) → IsHuffman t text.now → MatchResult result (λ _. out.new.items ≡ t) (λ e. e ≡ Memory) }
+    ensures only { (t : List ℕ) → IsHuffman t text.now
+        → MatchResult result (λ _. out.new.items ≡ t) (λ e. e ≡ Memory) }
     ensures ascii { IfOk result (λ is_ascii. TellsAscii is_ascii out.new.items) }
     ensures err { OnErr result (out.new.items ≡ []) }
     ensures empty { length text.now ≡ 0 → IsOk result }
@@ -83,20 +89,22 @@ pub fn decode_into(out: &mut Vec<u8>, text: &[u8]) -> Result<bool, HuffmanError>
     out.clear();
     out.reserve(text.len() * 2)?;
     let none = Vec::new(*out.allocator());
-    let (decoded, is_ascii) = decoded_in(replace(out, none), text)?;
+    let (decoded, is_ascii) = decode_to(replace(out, none), text)?;
     *out = decoded;
     Ok(is_ascii)
 }
 
-/// The text that is coded so, put into an empty vector that has room for a byte for each five bits, and whether it is
-/// ASCII. The vector comes and goes by value, so that the compiler keeps its length in a register.
+/// Decodes a Huffman text into an empty vector that has room for a byte for every five bits.
+/// Returns the vector, and whether the text is ASCII. The vector is passed by value, so that the
+/// compiler keeps its length in a register.
 #[inline(always)]
-fn decoded_in(mut out: Vec<u8>, text: &[u8]) -> Result<(Vec<u8>, bool), HuffmanError>
+fn decode_to(mut out: Vec<u8>, text: &[u8]) -> Result<(Vec<u8>, bool), HuffmanError>
     requires none { out.items ≡ [] }
     requires len { vec_len out ≡ 0 }
     requires room { 8 * length text.now < SHORTEST * vec_capacity out + SHORTEST }
     ensures found { IfOk result (λ r. IsHuffman r.0.items text.now) }
-    ensures only { (t : List ℕ) → IsHuffman t text.now → MatchResult result (λ r. r.0.items ≡ t) (λ e. e ≡ Memory) }
+    ensures only { (t : List ℕ) → IsHuffman t text.now
+        → MatchResult result (λ r. r.0.items ≡ t) (λ e. e ≡ Memory) }
     ensures ascii { IfOk result (λ r. TellsAscii r.1 r.0.items) }
     ensures empty { length text.now ≡ 0 → IsOk result }
 {
@@ -105,15 +113,15 @@ fn decoded_in(mut out: Vec<u8>, text: &[u8]) -> Result<(Vec<u8>, bool), HuffmanE
     let mut held = 0;
     let mut is_ascii = true;
     'windows: loop {
-        (rest, waiting, held) = refilled(rest, waiting, held);
+        (rest, waiting, held) = refill(rest, waiting, held);
         if held < WINDOW {
             break;
         }
-        (waiting, held, is_ascii) = words_taken(&mut out, waiting, held, is_ascii)?;
+        (waiting, held, is_ascii) = take_words(&mut out, waiting, held, is_ascii)?;
     }
     'last: loop {
         if held >= PAIR_BITS && waiting < SHORT_END {
-            (waiting, held) = short_taken(&mut out, waiting, held);
+            (waiting, held) = take_short(&mut out, waiting, held);
             continue;
         }
         let window = last_window(waiting, held);
@@ -130,10 +138,10 @@ fn decoded_in(mut out: Vec<u8>, text: &[u8]) -> Result<(Vec<u8>, bool), HuffmanE
     }
 }
 
-/// Takes one word or a few from the front of the bits that wait, and answers what still waits. There is room for a byte
-/// for each five of the bits.
+/// Decodes one word or a few at the start of the waiting bits, and returns what still waits. There
+/// is room for a byte for every five of the bits.
 #[inline(always)]
-fn words_taken(
+fn take_words(
     out: &mut Vec<u8>,
     waiting: u64,
     held: u32,
@@ -143,26 +151,28 @@ fn words_taken(
     requires few { held < 64 }
     requires clear { IsClear held waiting }
     requires room { SHORTEST * vec_len out.old + held < SHORTEST * vec_capacity out.old + SHORTEST }
-    ensures taken { IfOk result (λ r. Takes out.old.items held waiting out.new.items r.1 r.0) }
+    ensures taken { IfOk result (λ r. Decodes out.old.items held waiting out.new.items r.1 r.0) }
     ensures fails { IsCodedOn out.old.items held waiting → IsOk result }
-    ensures room { IfOk result (λ r. SHORTEST * vec_len out.new + r.1 ≤ SHORTEST * vec_len out.old + held) }
+    ensures room { IfOk result (λ r.
+        SHORTEST * vec_len out.new + r.1 ≤ SHORTEST * vec_len out.old + held) }
     ensures same { vec_capacity out.new ≡ vec_capacity out.old }
-    ensures ascii { IfOk result (λ r. TellsAscii is_ascii out.old.items → TellsAscii r.2 out.new.items) }
+    ensures ascii { IfOk result (λ r.
+        TellsAscii is_ascii out.old.items → TellsAscii r.2 out.new.items) }
 {
     if waiting >= SHORT_END {
-        return word_taken(out, waiting, held, is_ascii);
+        return take_word(out, waiting, held, is_ascii);
     }
-    let (waiting, held) = short_taken(out, waiting, held);
+    let (waiting, held) = take_short(out, waiting, held);
     if waiting >= SHORT_END {
         return Ok((waiting, held, is_ascii));
     }
-    let (waiting, held) = short_taken(out, waiting, held);
+    let (waiting, held) = take_short(out, waiting, held);
     Ok((waiting, held, is_ascii))
 }
 
-/// Takes the word at the front of the bits that wait.
+/// Decodes the word at the start of the waiting bits.
 #[inline(always)]
-fn word_taken(
+fn take_word(
     out: &mut Vec<u8>,
     waiting: u64,
     held: u32,
@@ -172,18 +182,20 @@ fn word_taken(
     requires few { held < 64 }
     requires clear { IsClear held waiting }
     requires room { vec_len out.old < vec_capacity out.old }
-    ensures taken { IfOk result (λ r. Takes out.old.items held waiting out.new.items r.1 r.0) }
+    ensures taken { IfOk result (λ r. Decodes out.old.items held waiting out.new.items r.1 r.0) }
     ensures fails { IsCodedOn out.old.items held waiting → IsOk result }
-    ensures room { IfOk result (λ r. SHORTEST * vec_len out.new + r.1 ≤ SHORTEST * vec_len out.old + held) }
+    ensures room { IfOk result (λ r.
+        SHORTEST * vec_len out.new + r.1 ≤ SHORTEST * vec_len out.old + held) }
     ensures same { vec_capacity out.new ≡ vec_capacity out.old }
-    ensures ascii { IfOk result (λ r. TellsAscii is_ascii out.old.items → TellsAscii r.2 out.new.items) }
+    ensures ascii { IfOk result (λ r.
+        TellsAscii is_ascii out.old.items → TellsAscii r.2 out.new.items) }
 {
     let word = word_at((waiting >> AFTER_WINDOW) as u32);
     let is_ascii = push_any(out, byte_of(word)?, is_ascii);
     Ok((waiting << word.bits, held - word.bits, is_ascii))
 }
 
-/// Appends a byte, and answers whether the text is ASCII, as it was or was not without it.
+/// Appends a byte, and returns whether the text is still ASCII.
 #[inline(always)]
 fn push_any(out: &mut Vec<u8>, byte: u8, is_ascii: bool) -> bool
     requires room { vec_len out.old < vec_capacity out.old }
@@ -196,27 +208,28 @@ fn push_any(out: &mut Vec<u8>, byte: u8, is_ascii: bool) -> bool
     is_ascii && byte < 128
 }
 
-/// Takes the one or two short words that lie within the first twelve of the bits that wait. They stand for ASCII.
+/// Decodes the one or two short words within the first twelve waiting bits, to ASCII bytes.
 #[inline(always)]
-fn short_taken(out: &mut Vec<u8>, waiting: u64, held: u32) -> (u64, u32)
+fn take_short(out: &mut Vec<u8>, waiting: u64, held: u32) -> (u64, u32)
     requires enough { PAIR_BITS ≤ held }
     requires few { held < 64 }
     requires short { waiting < SHORT_END }
     requires clear { IsClear held waiting }
     requires room { vec_len out.old + 2 ≤ vec_capacity out.old }
-    ensures taken { Takes out.old.items held waiting out.new.items result.1 result.0 }
+    ensures taken { Decodes out.old.items held waiting out.new.items result.1 result.0 }
     ensures most { held ≤ result.1 + PAIR_BITS }
     ensures room { SHORTEST * vec_len out.new + result.1 ≤ SHORTEST * vec_len out.old + held }
     ensures same { vec_capacity out.new ≡ vec_capacity out.old }
-    ensures ascii { (is_ascii : Bool) → TellsAscii is_ascii out.old.items → TellsAscii is_ascii out.new.items }
+    ensures ascii { (is_ascii : Bool) → TellsAscii is_ascii out.old.items
+        → TellsAscii is_ascii out.new.items }
 {
     let (bits, spare, first, second) = pair_entry((waiting >> AFTER_PAIR) as usize);
     push_some(out, first, second, spare as usize);
     (waiting << bits, held - u32::from(bits))
 }
 
-/// Appends two bytes without the last `spare`. The length is taken down by `saturating_sub`, since the compiler then
-/// needs no branch on the count.
+/// Appends two bytes without the last `spare`. The new length is computed by `saturating_sub`,
+/// because the compiler then needs no branch on the count.
 #[inline(always)]
 fn push_some(out: &mut Vec<u8>, first: u8, second: u8, spare: usize)
     requires few { spare ≤ 2 }
@@ -230,12 +243,13 @@ fn push_some(out: &mut Vec<u8>, first: u8, second: u8, spare: usize)
     out.truncate(out.len().saturating_sub(spare));
 }
 
-/// Takes bytes from the front of `rest` until a window waits or no byte is left. The highest `held` bits of `waiting`
-/// wait, and zeros come after them.
-fn refilled(mut rest: &[u8], mut waiting: u64, mut held: u32) -> (&[u8], u64, u32)
+/// Takes bytes from the start of `rest` until a window waits or no byte is left. The highest `held`
+/// bits of `waiting` wait, and the others are zeros.
+fn refill(mut rest: &[u8], mut waiting: u64, mut held: u32) -> (&[u8], u64, u32)
     requires few { held < 64 }
     requires clear { IsClear held waiting }
-    ensures same { waiting_bits result.2 result.1 ++ bits_of result.0.now ≡ waiting_bits held waiting ++ bits_of rest.now }
+    ensures same { waiting_bits result.2 result.1 ++ bits_of result.0.now
+        ≡ waiting_bits held waiting ++ bits_of rest.now }
     ensures clear { IsClear result.2 result.1 }
     ensures few { result.2 < 64 }
     ensures enough { result.2 < WINDOW → length result.0.now ≡ 0 }
@@ -249,10 +263,10 @@ fn refilled(mut rest: &[u8], mut waiting: u64, mut held: u32) -> (&[u8], u64, u3
                 rest = rest.split_at(4).1;
             }
             None => match rest.split_first() {
-                Some((byte, behind)) => {
+                Some((byte, others)) => {
                     waiting += u64::from(*byte) << (AFTER_BYTE - held);
                     held += u8::BITS;
-                    rest = behind;
+                    rest = others;
                 }
                 None => return (rest, waiting, held),
             },
@@ -261,27 +275,29 @@ fn refilled(mut rest: &[u8], mut waiting: u64, mut held: u32) -> (&[u8], u64, u3
     (rest, waiting, held)
 }
 
-/// The number of four bytes.
+/// Returns the number of four bytes, the first of which is the highest.
 fn number_of(four: &[u8; 4]) -> u32
     ensures { bits_of four.now ≡ low_bits 32 result }
 {
     u32::from_be_bytes(*four)
 }
 
-/// The window of the last bits that wait, with ones after them.
+/// Returns the window of the last waiting bits, with ones after them.
 fn last_window(waiting: u64, held: u32) -> u32
     requires few { held < WINDOW }
     requires clear { IsClear held waiting }
-    ensures value { result ≡ front WINDOW (waiting_bits held waiting) }
+    ensures value { result ≡ window_of WINDOW (waiting_bits held waiting) }
     ensures small { result < 2 ^ WINDOW }
 {
     (waiting >> AFTER_WINDOW) as u32 + ((1 << (WINDOW - held)) - 1)
 }
 
-/// The byte of a word. The end of a string is none.
+/// Returns the byte of a word. The word of the end of a string is invalid.
 fn byte_of(word: Found) -> Result<u8, HuffmanError>
     requires { word.symbol < 257 }
-    ensures { MatchResult result (λ byte. (byte ≡ word.symbol) × (byte < 256)) (λ e. (e ≡ Invalid) × (word.symbol ≡ END)) }
+    ensures { MatchResult result
+        (λ byte. (byte ≡ word.symbol) × (byte < 256))
+        (λ e. (e ≡ Invalid) × (word.symbol ≡ END)) }
 {
     if word.symbol == END {
         return Err(HuffmanError::Invalid);
@@ -289,7 +305,7 @@ fn byte_of(word: Found) -> Result<u8, HuffmanError>
     Ok(word.symbol as u8)
 }
 
-/// Whether the bits that are left, fewer than a window, are padding.
+/// Returns whether the bits that are left, fewer than a window, are padding.
 fn is_padding(window: u32, held: u32) -> bool
     ensures { IsTrue result ↔ ((held < 8) × (window ≡ ONES)) }
 {
@@ -299,7 +315,7 @@ fn is_padding(window: u32, held: u32) -> bool
     window == ONES
 }
 
-/// The word at the front of a window.
+/// Returns the word at the start of a window.
 fn word_at(window: u32) -> Found
     requires { window < 2 ^ WINDOW }
     ensures { IsWord window result.bits result.symbol }
@@ -311,7 +327,7 @@ fn word_at(window: u32) -> Found
     }
 }
 
-/// The word at the front of a window in row k.
+/// Returns the word at the start of a window in row k.
 fn word_in(window: u32, k: usize) -> Found
     requires row { InRow window k }
     ensures { IsWord window result.bits result.symbol }
@@ -324,7 +340,7 @@ fn word_in(window: u32, k: usize) -> Found
     }
 }
 
-/// The word at the front of a window that begins with a short one.
+/// Returns the word at the start of a window that begins with a short word.
 fn short_word(window: u32) -> Found
     requires { window < SHORT_LIMIT }
     ensures { IsWord window result.bits result.symbol }
@@ -336,7 +352,7 @@ fn short_word(window: u32) -> Found
     }
 }
 
-/// The row of a window: the first whose limit is above it.
+/// Returns the row of a window: the first whose limit is above it.
 fn any_row(window: u32) -> usize
     requires { window < 2 ^ WINDOW }
     ensures { InRow window result }

@@ -1,28 +1,34 @@
-//! From a text to code words.
-ghost use Rattle.std.specs.Prelude.{◌≡◌, ℕ, ◌*◌, ◌+◌, ◌%◌, ◌<◌, ◌≤◌, ◌^◌, ◌++◌, Bool, List, length, IfOk, OnOk, IsOk, MatchOption, SomeIff};
-ghost use Rattle.wtp_huffman.specs.Huffman.{bits_of, low_bits, code, coded, coded_len, IsBytes, IsHuffman, IsPadding};
+//! Encoding: from a text to code words.
+ghost use Rattle.std.specs.Prelude.{◌≡◌, ℕ, ◌*◌, ◌+◌, ◌%◌, ◌<◌, ◌≤◌, ◌^◌, ◌++◌, Bool, List, length};
+ghost use Rattle.std.specs.Prelude.{IfOk, OnOk, IsOk, MatchOption, SomeIff};
+ghost use Rattle.wtp_huffman.specs.Huffman.{bits_of, low_bits, code, text_code, coded_len, IsBytes};
+ghost use Rattle.wtp_huffman.specs.Huffman.{IsHuffman, IsPadding};
 ghost use Rattle.wtp_huffman.specs.declared.huffman.rows.TheConstants.{LONGEST};
-ghost use Rattle.wtp_huffman.specs.HuffmanSteps.{Adds, AppendsHuffman, BeginsWith, IsNumberOf, Keeps};
+ghost use Rattle.wtp_huffman.specs.HuffmanEncoding.{Adds, AppendsHuffman, BeginsWith, IsNumberOf};
+ghost use Rattle.wtp_huffman.specs.HuffmanEncoding.{GivesOut};
 
 use super::codes::code_of;
 use std::alloc::{AllocError, Global};
 
-/// How many bytes of a text are counted at a time: a `u64` holds the bits of their words.
+/// The number of bytes of a text that are counted at a time: a `u64` can count the bits of their
+/// words.
 const PART: usize = 1 << 32;
 
-/// The most bits that join up to seven that wait: fewer than 64 together.
+/// The greatest number of bits that can be joined to up to seven waiting ones: together fewer than
+/// 64.
 const MOST: u32 = u64::BITS - u8::BITS;
 
-/// So many bits: the lowest of a number. What stands above them says nothing.
+/// This many bits: the lowest of a number. Its higher bits are ignored.
 #[derive(Clone, Copy)]
 struct Bits {
     count: u32,
     number: u64,
 }
 
-/// The text in code words, and ones up to a whole byte (RFC 7541, section 5.2).
+/// Encodes a text: its code words, followed by ones up to a whole byte (RFC 7541, section 5.2).
 ///
-/// Memory is taken at once, as much as the text has and eight bytes, and more only for a text that gets longer.
+/// Allocates once, eight bytes more than the text has, and again only for a text whose code is
+/// longer.
 ///
 /// Returns [`AllocError`] if allocation fails. An empty text allocates nothing and never fails.
 pub fn encode(alloc: Global, text: &[u8]) -> Result<Vec<u8>, AllocError>
@@ -34,7 +40,8 @@ pub fn encode(alloc: Global, text: &[u8]) -> Result<Vec<u8>, AllocError>
     Ok(out)
 }
 
-/// The room that a text is given: eight bytes more than it has, since eight are written at a time.
+/// Returns the initial capacity for a text: eight bytes more than it has, because eight are written
+/// at a time.
 fn room_for(text: &[u8]) -> usize
     ensures none { length text.now ≡ 0 → result ≡ 0 }
     ensures some { 0 < length text.now → result ≡ length text.now + 8 }
@@ -42,10 +49,11 @@ fn room_for(text: &[u8]) -> usize
     if text.is_empty() { 0 } else { text.len() + 8 }
 }
 
-/// Appends the text in code words, and ones up to a whole byte (RFC 7541, section 5.2).
+/// Appends the code words of a text, followed by ones up to a whole byte (RFC 7541, section 5.2).
 ///
-/// Returns [`AllocError`] if `out` has too little room and allocation fails. `out` then still begins with the bytes
-/// that it held before, and may hold the code of part of the text after them. An empty text never fails.
+/// Returns [`AllocError`] if `out` has too little room and allocation fails. `out` then still
+/// begins with the bytes that it contained before, and may contain the code of part of the text
+/// after them. An empty text never fails.
 pub fn append(out: &mut Vec<u8>, text: &[u8]) -> Result<(), AllocError>
     ensures coded { OnOk result (AppendsHuffman text.now out.old.items out.new.items) }
     ensures front { BeginsWith out.old.items out.new.items }
@@ -57,12 +65,12 @@ pub fn append(out: &mut Vec<u8>, text: &[u8]) -> Result<(), AllocError>
         number: 0,
     };
     let mut rest = text;
-    while let Some((four, next, behind)) = eight_of(rest) {
-        waiting = eight_in(out, waiting, four, next)?;
-        rest = behind;
+    while let Some((four, next, others)) = split_eight(rest) {
+        waiting = add_eight(out, waiting, four, next)?;
+        rest = others;
     }
     for byte in rest {
-        waiting = word_in(out, waiting, *byte)?;
+        waiting = add_word(out, waiting, *byte)?;
     }
     give_last(out, waiting)?;
     are_bytes(out.as_slice());
@@ -74,7 +82,7 @@ fn are_bytes(bytes: &[u8])
     ensures { IsBytes bytes.now }
 {}
 
-/// How many bytes the coded text has; `None` exactly where `usize` does not hold them.
+/// Returns the number of bytes of a text's code, or `None` exactly if it exceeds `usize`.
 pub fn encoded_len(text: &[u8]) -> Option<usize>
     ensures value { SomeIff result (coded_len text.now < 2 ^ 64) (coded_len text.now) }
     ensures length { (s : List ℕ) → IsHuffman text.now s → length s ≡ coded_len text.now }
@@ -83,11 +91,11 @@ pub fn encoded_len(text: &[u8]) -> Option<usize>
     let mut bits = 0u64;
     let mut rest = text;
     while !rest.is_empty() {
-        let (front, behind) = rest.split_at(rest.len().min(PART));
+        let (front, others) = rest.split_at(rest.len().min(PART));
         bits += word_bits(front);
         bytes = bytes.checked_add((bits / 8) as usize)?;
         bits %= 8;
-        rest = behind;
+        rest = others;
     }
     if bits > 0 {
         bytes.checked_add(1)
@@ -96,10 +104,10 @@ pub fn encoded_len(text: &[u8]) -> Option<usize>
     }
 }
 
-/// How many bits the words of a text have.
+/// Returns the number of bits of a text's code words.
 fn word_bits(text: &[u8]) -> u64
     requires { length text.now ≤ PART }
-    ensures value { result ≡ length (coded text.now) }
+    ensures value { result ≡ length (text_code text.now) }
     ensures small { result ≤ LONGEST * PART }
 {
     let mut bits = 0;
@@ -109,7 +117,7 @@ fn word_bits(text: &[u8]) -> u64
     bits
 }
 
-/// The word of a byte.
+/// Returns the word of a byte.
 #[inline(always)]
 fn word(byte: u8) -> Bits
     ensures bits { low_bits result.count result.number ≡ code byte }
@@ -124,26 +132,28 @@ fn word(byte: u8) -> Bits
     }
 }
 
-/// The words of four bytes, where they have at most 64 bits.
+/// Returns the words of four bytes, joined. They are meaningful only if they have at most 64 bits.
 #[inline(always)]
 fn words_of(four: &[u8; 4]) -> Bits
-    ensures words { result.count ≤ 64 → IsNumberOf (coded four.now) result.count result.number }
+    ensures words { result.count ≤ 64 → IsNumberOf (text_code four.now) result.count result.number }
     ensures some { 0 < result.count }
     ensures most { result.count ≤ 4 * LONGEST }
 {
     let [a, b, c, d] = *four;
-    joined(joined(word(a), word(b)), joined(word(c), word(d)))
+    join(join(word(a), word(b)), join(word(c), word(d)))
 }
 
-/// Bits, and others behind them, where they are at most 64.
+/// Returns bits, and others after them. They are meaningful only if they are at most 64.
 #[inline(always)]
-fn joined(front: Bits, back: Bits) -> Bits
+fn join(front: Bits, back: Bits) -> Bits
     requires few { front.count < 64 }
     requires fewer { back.count < 64 }
     requires fits { back.number < 2 ^ back.count }
     ensures count { result.count ≡ front.count + back.count }
-    ensures bits { result.count ≤ 64 → low_bits result.count result.number ≡ low_bits front.count front.number ++ low_bits back.count back.number }
-    ensures fits { result.count ≤ 64 → front.number < 2 ^ front.count → result.number < 2 ^ result.count }
+    ensures bits { result.count ≤ 64 → low_bits result.count result.number
+        ≡ low_bits front.count front.number ++ low_bits back.count back.number }
+    ensures fits { result.count ≤ 64 → front.number < 2 ^ front.count
+        → result.number < 2 ^ result.count }
 {
     Bits {
         count: front.count + back.count,
@@ -151,40 +161,45 @@ fn joined(front: Bits, back: Bits) -> Bits
     }
 }
 
-/// The first four bytes, the next four, and what is behind them; `None` where there are fewer than eight.
+/// Returns the first four bytes, the next four, and those after them; `None` if there are fewer
+/// than eight.
 #[inline(always)]
-fn eight_of(text: &[u8]) -> Option<(&[u8; 4], &[u8; 4], &[u8])>
-    ensures { MatchOption result (length text.now < 8) (λ p. (text.now ≡ (p.0.now ++ p.1.now) ++ p.2.now) × (length p.2.now + 8 ≡ length text.now)) }
+fn split_eight(text: &[u8]) -> Option<(&[u8; 4], &[u8; 4], &[u8])>
+    ensures { MatchOption result (length text.now < 8) (λ p.
+        (text.now ≡ (p.0.now ++ p.1.now) ++ p.2.now)
+        × (length p.2.now + 8 ≡ length text.now)) }
 {
-    let (four, behind) = text.split_first_chunk::<4>()?;
-    let (next, behind) = behind.split_first_chunk::<4>()?;
-    Some((four, next, behind))
+    let (four, others) = text.split_first_chunk::<4>()?;
+    let (next, others) = others.split_first_chunk::<4>()?;
+    Some((four, next, others))
 }
 
-/// Appends the words of eight bytes, and answers what still waits.
+/// Appends the words of eight bytes, and returns what still waits.
 #[inline(always)]
-fn eight_in(
+fn add_eight(
     out: &mut Vec<u8>,
     waiting: Bits,
     four: &[u8; 4],
     next: &[u8; 4],
 ) -> Result<Bits, AllocError>
     requires few { waiting.count < 8 }
-    ensures added { IfOk result (λ r. Adds 8 (coded four.now ++ coded next.now) out.old.items waiting.count waiting.number out.new.items r.count r.number) }
+    ensures added { IfOk result (λ r. Adds 8 (text_code four.now ++ text_code next.now)
+        out.old.items waiting.count waiting.number
+        out.new.items r.count r.number) }
     ensures front { BeginsWith out.old.items out.new.items }
 {
     let front = words_of(four);
     let back = words_of(next);
     if front.count + back.count <= MOST {
-        return give_whole(out, joined(waiting, joined(front, back)));
+        return give_whole(out, join(waiting, join(front, back)));
     }
-    let waiting = four_in(out, waiting, four, front)?;
-    four_in(out, waiting, next, back)
+    let waiting = add_four(out, waiting, four, front)?;
+    add_four(out, waiting, next, back)
 }
 
-/// Appends the words of four bytes, and answers what still waits.
+/// Appends the words of four bytes, and returns what still waits.
 #[inline(always)]
-fn four_in(
+fn add_four(
     out: &mut Vec<u8>,
     waiting: Bits,
     four: &[u8; 4],
@@ -192,53 +207,62 @@ fn four_in(
 ) -> Result<Bits, AllocError>
     requires few { waiting.count < 8 }
     requires some { 0 < words.count }
-    requires words { words.count ≤ 64 → IsNumberOf (coded four.now) words.count words.number }
-    ensures added { IfOk result (λ r. Adds 8 (coded four.now) out.old.items waiting.count waiting.number out.new.items r.count r.number) }
+    requires words { words.count ≤ 64 → IsNumberOf (text_code four.now) words.count words.number }
+    ensures added { IfOk result (λ r. Adds 8 (text_code four.now)
+        out.old.items waiting.count waiting.number
+        out.new.items r.count r.number) }
     ensures front { BeginsWith out.old.items out.new.items }
 {
     if words.count <= MOST {
-        return give_whole(out, joined(waiting, words));
+        return give_whole(out, join(waiting, words));
     }
-    each_in(out, waiting, four)
+    add_each(out, waiting, four)
 }
 
 /// The same, word by word.
 #[cold]
 #[inline(never)]
-fn each_in(out: &mut Vec<u8>, waiting: Bits, four: &[u8; 4]) -> Result<Bits, AllocError>
+fn add_each(out: &mut Vec<u8>, waiting: Bits, four: &[u8; 4]) -> Result<Bits, AllocError>
     requires few { waiting.count < 8 }
-    ensures added { IfOk result (λ r. Adds 8 (coded four.now) out.old.items waiting.count waiting.number out.new.items r.count r.number) }
+    ensures added { IfOk result (λ r. Adds 8 (text_code four.now)
+        out.old.items waiting.count waiting.number
+        out.new.items r.count r.number) }
     ensures front { BeginsWith out.old.items out.new.items }
 {
     let mut waiting = waiting;
     for byte in four {
-        waiting = give_whole(out, joined(waiting, word(*byte)))?;
+        waiting = give_whole(out, join(waiting, word(*byte)))?;
     }
     Ok(waiting)
 }
 
-/// Joins a byte's word to the bits that wait. Whole bytes are given out first where it finds no room.
+/// Joins the word of a byte to the waiting bits. If there is too little room for it, the whole
+/// bytes are appended first.
 #[inline(always)]
-fn word_in(out: &mut Vec<u8>, waiting: Bits, byte: u8) -> Result<Bits, AllocError>
+fn add_word(out: &mut Vec<u8>, waiting: Bits, byte: u8) -> Result<Bits, AllocError>
     requires few { waiting.count < 64 }
-    ensures added { IfOk result (λ r. Adds 64 (code byte) out.old.items waiting.count waiting.number out.new.items r.count r.number) }
+    ensures added { IfOk result (λ r. Adds 64 (code byte)
+        out.old.items waiting.count waiting.number
+        out.new.items r.count r.number) }
     ensures front { BeginsWith out.old.items out.new.items }
 {
     let word = word(byte);
     if waiting.count + word.count < 64 {
-        return Ok(joined(waiting, word));
+        return Ok(join(waiting, word));
     }
     let waiting = give_whole(out, waiting)?;
-    Ok(joined(waiting, word))
+    Ok(join(waiting, word))
 }
 
-/// Gives out the whole bytes of the bits that wait, and answers what still waits. Eight bytes are written whatever
-/// their number is, and those that are not whole are cut off.
+/// Appends the whole bytes of the waiting bits, and returns what still waits. Eight bytes are
+/// always written, and those that are not whole are cut off.
 #[inline(always)]
 fn give_whole(out: &mut Vec<u8>, waiting: Bits) -> Result<Bits, AllocError>
     requires some { 0 < waiting.count }
     requires most { waiting.count ≤ 64 }
-    ensures kept { IfOk result (λ r. Keeps out.old.items waiting.count waiting.number out.new.items r.count r.number) }
+    ensures kept { IfOk result (λ r. GivesOut
+        out.old.items waiting.count waiting.number
+        out.new.items r.count r.number) }
     ensures left { IfOk result (λ r. r.count ≡ waiting.count % 8) }
     ensures front { BeginsWith out.old.items out.new.items }
 {
@@ -251,11 +275,13 @@ fn give_whole(out: &mut Vec<u8>, waiting: Bits) -> Result<Bits, AllocError>
     })
 }
 
-/// Gives out all bits that wait, and ones up to a whole byte.
+/// Appends all waiting bits, and ones up to a whole byte.
 #[inline(always)]
 fn give_last(out: &mut Vec<u8>, waiting: Bits) -> Result<(), AllocError>
     requires few { waiting.count < 64 }
-    ensures last { OnOk result ((pad : List Bool) × IsPadding pad × (bits_of out.new.items ≡ bits_of out.old.items ++ (low_bits waiting.count waiting.number ++ pad))) }
+    ensures last { OnOk result ((pad : List Bool) × IsPadding pad
+        × (bits_of out.new.items
+        ≡ bits_of out.old.items ++ (low_bits waiting.count waiting.number ++ pad))) }
     ensures empty { waiting.count ≡ 0 → IsOk result }
     ensures front { BeginsWith out.old.items out.new.items }
 {
@@ -267,6 +293,6 @@ fn give_last(out: &mut Vec<u8>, waiting: Bits) -> Result<(), AllocError>
         count: room,
         number: (1 << room) - 1,
     };
-    give_whole(out, joined(waiting, ones))?;
+    give_whole(out, join(waiting, ones))?;
     Ok(())
 }

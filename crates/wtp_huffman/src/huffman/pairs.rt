@@ -1,18 +1,20 @@
-//! The one or two short words that lie within a window's first twelve bits, by these. `tools/huffman-tables` makes the
+//! The one or two short words within a window's first twelve bits. `tools/huffman-tables` makes the
 //! numbers of the table.
 ghost use Rattle.std.specs.Prelude.{◌≡◌, ◌-◌, ◌<◌};
-ghost use Rattle.wtp_huffman.specs.HuffmanTables.{pair_bits_at, pair_count_at, pair_first_at, pair_second_at};
+ghost use Rattle.wtp_huffman.specs.HuffmanPairs.{pair_bits_at, pair_count_at, pair_first_at};
+ghost use Rattle.wtp_huffman.specs.HuffmanPairs.{pair_second_at};
 
 use super::short::{LONGEST_SHORT, SHORT_FRONTS};
 
-/// How many bits are looked up at a time for one or two short words.
+/// The number of bits by which one or two short words are looked up at a time.
 pub const PAIR_BITS: u32 = 12;
 
-/// How many numbers of twelve bits begin with a short word: those below this.
+/// The number of twelve-bit numbers that begin with a short word: those below this.
 pub const PAIR_FRONTS: usize = SHORT_FRONTS << (PAIR_BITS - LONGEST_SHORT);
 
-/// In four bytes, from the lowest on: how many bits the words have together, the byte of the first, that of the second
-/// or 0, and 0 where they are two, 1 where it is one. The bits are lowest since the next look-up waits for them.
+/// In four bytes, from the lowest on: the number of bits of the words together, the byte of the
+/// first, the byte of the second or 0, and 0 for two words or 1 for one. The number of bits is
+/// lowest because the next look-up waits for it.
 pub static PAIRS: [u32; PAIR_FRONTS] = [
     0x30300a, 0x30300a, 0x30300a, 0x30300a, 0x31300a, 0x31300a, 0x31300a, 0x31300a, 0x32300a,
     0x32300a, 0x32300a, 0x32300a, 0x61300a, 0x61300a, 0x61300a, 0x61300a, 0x63300a, 0x63300a,
@@ -482,8 +484,8 @@ pub static PAIRS: [u32; PAIR_FRONTS] = [
     0x1005a08, 0x1005a08,
 ];
 
-/// Of the words within twelve bits: how many bits they have together, how many fewer than two they are, and their bytes.
-#[tactic(auto, unfolding(crate::specs::HuffmanTables::pair_bits_at, crate::specs::HuffmanTables::pair_count_at, crate::specs::HuffmanTables::pair_first_at, crate::specs::HuffmanTables::pair_second_at))]
+/// Returns the number of bits of one or two words, how many of two are missing, and the bytes.
+#[tactic(auto, unfolding(crate::specs::HuffmanPairs::pair_bits_at, crate::specs::HuffmanPairs::pair_count_at, crate::specs::HuffmanPairs::pair_first_at, crate::specs::HuffmanPairs::pair_second_at))]
 #[inline(always)]
 pub fn pair_entry(front: usize) -> (u8, u8, u8, u8)
     requires { front < PAIR_FRONTS }

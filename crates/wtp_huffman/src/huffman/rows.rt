@@ -1,17 +1,17 @@
 //! The words of the code by their lengths (RFC 7541, Appendix B), for decoding.
 ghost use Rattle.std.specs.Prelude.{◌≡◌, ◌<◌};
-ghost use Rattle.wtp_huffman.specs.HuffmanTables.{row_at, symbol_at};
+ghost use Rattle.wtp_huffman.specs.HuffmanRows.{row_at, symbol_at};
 
 /// The words of one length.
 #[derive(Clone, Copy)]
 pub struct Row {
-    /// How many bits each of them has.
+    /// The number of bits of each.
     pub bits: u32,
     /// The number of the first.
     pub first: u32,
-    /// How many symbols have shorter words.
+    /// The number of symbols that have shorter words.
     pub skipped: usize,
-    /// The number past the last, with zeros after it up to a window's bits.
+    /// One more than the number of the last, with zeros after it up to a window's bits.
     pub limit: u32,
 }
 
@@ -145,13 +145,14 @@ pub static ROWS: [Row; 21] = [
     },
 ];
 
-/// How many bits the shortest word has.
+/// The number of bits of the shortest word.
 pub const SHORTEST: usize = ROWS[0].bits as usize;
 
-/// How many bits the longest word has.
+/// The number of bits of the longest word.
 pub const LONGEST: u32 = ROWS[ROWS.len() - 1].bits;
 
-/// How many bits a window has: as many as the longest word, so that each window begins with a word.
+/// The number of bits of a window: those of the longest word, so that each window begins with a
+/// word.
 pub const WINDOW: u32 = LONGEST;
 
 /// The symbols in the order of their words; 256 is the end of the string.
@@ -171,8 +172,8 @@ pub static SYMBOLS: [u16; 257] = [
     29, 30, 31, 127, 220, 249, 10, 13, 22, 256,
 ];
 
-/// A length's words.
-#[tactic(auto, unfolding(crate::specs::HuffmanTables::row_at))]
+/// Returns the words of a length.
+#[tactic(auto, unfolding(crate::specs::HuffmanRows::row_at))]
 pub fn row_number(k: usize) -> Row
     requires { k < 21 }
     ensures { result ≡ row_at k }
@@ -180,8 +181,8 @@ pub fn row_number(k: usize) -> Row
     ROWS[k]
 }
 
-/// A symbol by its place.
-#[tactic(auto, unfolding(crate::specs::HuffmanTables::symbol_at))]
+/// Returns the symbol at a place.
+#[tactic(auto, unfolding(crate::specs::HuffmanRows::symbol_at))]
 pub fn symbol_number(i: usize) -> u16
     requires { i < 257 }
     ensures { result ≡ symbol_at i }

@@ -1,9 +1,11 @@
 //! The capsules by their kinds.
-ghost use Rattle.std.specs.Prelude.{◌≡◌};
+ghost use Rattle.std.specs.Prelude.{◌≡◌, ◌+◌, length};
+ghost use Rattle.wtp_core.specs.Writer.{PutsParts, LacksRoom};
 
-use crate::capsule::Capsule;
+use crate::capsule::{Capsule, CapsuleError, capsule_types};
 use std::alloc::Global;
 use std::marker::Model;
+use wtp_core::bytes::{BytesWriter, PutError};
 use wtp_core::error::{ErrorCode, Refused};
 use wtp_core::varint::VarInt;
 
@@ -16,18 +18,40 @@ pub struct CloseWebTransportSession {
 }
 
 impl Model for CloseWebTransportSession {
-    ghost use Rattle.std.specs.Prelude.{ℕ, List, string_bytes};
+    ghost use Rattle.std.specs.Prelude.{ℕ, ◌≤◌, List, length, string_bytes};
 
     ghost Value = { ℕ × List ℕ };
 
     ghost view = { λ c. (c.error_code, string_bytes c.reason) };
+
+    ghost invariant = { λ c. length (string_bytes c.reason) ≤ 1024 };
 }
 
 impl CloseWebTransportSession {
-    ghost use Rattle.wtp_wire.specs.CloseSession.{AnswersClose};
+    ghost use Rattle.wtp_wire.specs.CloseSession.{AnswersClose, MakesClose, IsWritableClose, close_parts, close_wire};
 
     // The longest reason, in bytes.
     const MAX_REASON_LEN: usize = 1024;
+
+    /// Creates a close with this code and reason. Not in the Rust crate.
+    ///
+    /// Returns `TooLong` if the reason has more than 1024 bytes, before it allocates. Returns
+    /// `Memory` if allocation failed; only a reason that is not empty allocates.
+    pub fn new(alloc: Global, error_code: u32, reason: &str) -> Result<Self, CapsuleError>
+        ensures { MakesClose error_code reason.now result }
+    {
+        if reason.len() > Self::MAX_REASON_LEN {
+            return Err(CapsuleError::TooLong);
+        }
+        let mut copy = String::new(alloc);
+        match copy.push_str(reason) {
+            Ok(()) => Ok(CloseWebTransportSession {
+                error_code,
+                reason: copy,
+            }),
+            Err(_) => Err(CapsuleError::Memory),
+        }
+    }
 
     /// Reads the code and the reason from a capsule's payload: an error code of four bytes, most
     /// significant first, and then the reason (draft-ietf-webtrans-http3-02, section 5).
@@ -70,5 +94,37 @@ impl CloseWebTransportSession {
         ensures { result.now ≡ self.now.1 }
     {
         self.reason.as_str()
+    }
+    /// Writes the capsule, each number in its shortest encoding. Not in the Rust crate.
+    ///
+    /// The parts are the type, the length, the code in four bytes, most significant first, and the
+    /// reason. On an error the writer holds the parts before the one that it refused.
+    pub fn write<W: BytesWriter>(&self, writer: &mut W) -> Result<(), PutError>
+        ensures parts { PutsParts W.grows (close_parts self.now) result (W.written writer.old) (W.room writer.old) (W.written writer.new) (W.room writer.new) }
+        ensures full { result ≡ Err PutError.EndOfBuffer → LacksRoom (W.room writer.old) (length (close_wire self.now)) }
+        ensures target { W.target writer.new ≡ W.target writer.old }
+    {
+        writer.put_varint(capsule_types::CAPSULE_TYPE_CLOSE_WEBTRANSPORT_SESSION)?;
+        writer.put_varint(self.payload_len())?;
+        writer.put_bytes(&self.error_code.to_be_bytes())?;
+        writer.put_bytes(self.reason.as_bytes())
+    }
+
+    /// Returns the number of bytes that `write` writes. Not in the Rust crate.
+    pub fn write_size(&self) -> usize
+        ensures size { result ≡ length (close_wire self.now) }
+        ensures writable { IsWritableClose self.now }
+    {
+        let head = capsule_types::CAPSULE_TYPE_CLOSE_WEBTRANSPORT_SESSION.size();
+        let code = self.error_code.to_be_bytes();
+        let reason = self.reason.as_str().as_bytes();
+        head + self.payload_len().size() + code.len() + reason.len()
+    }
+
+    // Returns the length of the payload.
+    fn payload_len(&self) -> VarInt
+        ensures { result ≡ 4 + length self.now.1 }
+    {
+        VarInt::from_u32(4 + self.reason.len() as u32)
     }
 }

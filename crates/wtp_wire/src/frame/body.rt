@@ -2,7 +2,7 @@
 ghost use Rattle.std.specs.Prelude.{◌≡◌, ◌+◌, ◌≤◌, None, length, take, drop, IsSome, IfSome};
 ghost use Rattle.wtp_wire.specs.Body.{payload_of, session_of};
 
-use crate::frame::short::Short;
+use crate::frame::short::Room;
 use std::alloc::Global;
 use std::borrow::CowSlice;
 use wtp_core::ids::SessionId;
@@ -14,8 +14,8 @@ pub(crate) enum Body<'a> {
     Borrowed(&'a [u8]),
     /// A payload in a vector.
     Owned(Vec<u8>),
-    /// A payload stored in the frame itself.
-    Short(Short),
+    /// A payload stored in the frame itself: its length, and its bytes.
+    Short(u8, Room),
     /// The session of a WebTransport frame.
     Session(SessionId),
 }
@@ -43,7 +43,7 @@ impl<'a> Body<'a> {
         match self {
             Body::Borrowed(bytes) => bytes,
             Body::Owned(bytes) => bytes.as_slice(),
-            Body::Short(short) => short.as_slice(),
+            Body::Short(len, room) => room.first(*len),
             Body::Session(_) => &[],
         }
     }
@@ -54,7 +54,7 @@ impl<'a> Body<'a> {
         ensures { result ≡ session_of self.now }
     {
         match self {
-            Body::Borrowed(_) | Body::Owned(_) | Body::Short(_) => None,
+            Body::Borrowed(_) | Body::Owned(_) | Body::Short(_, _) => None,
             Body::Session(session_id) => Some(*session_id),
         }
     }
@@ -62,17 +62,17 @@ impl<'a> Body<'a> {
 
 impl Body<'static> {
     /// Copies the `len` bytes at `start`. Returns `None` if allocation failed. A payload of at most
-    /// 32 bytes does not allocate, unless it is near the end of the bytes.
+    /// 40 bytes does not allocate, unless it is near the end of the bytes.
     #[inline(always)]
     pub(crate) fn copied(alloc: Global, bytes: &[u8], start: usize, len: usize) -> Option<Self>
         requires { start + len ≤ length bytes.now }
         ensures copy { IfSome result (λ b. payload_of b ≡ take len (drop start bytes.now)) }
         ensures plain { IfSome result (λ b. session_of b ≡ None) }
-        ensures short { len ≤ 32 → start + 32 ≤ length bytes.now → IsSome result }
+        ensures short { len ≤ 40 → start + 40 ≤ length bytes.now → IsSome result }
     {
         let behind = &bytes[start..];
-        if let Some(short) = Short::front_of(behind, len) {
-            return Some(Body::Short(short));
+        if let Some(room) = Room::front_of(behind, len) {
+            return Some(Body::Short(len as u8, room));
         }
         match Vec::from_slice(alloc, behind.split_at(len).0) {
             Ok(copy) => Some(Body::Owned(copy)),

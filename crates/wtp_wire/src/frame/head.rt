@@ -1,13 +1,17 @@
 //! The first two numbers of a frame: its type, and its length or session ID.
-ghost use Rattle.std.specs.Prelude.{◌≡◌, ◌+◌, ◌<◌, length};
+ghost use Rattle.std.specs.Prelude.{◌≡◌, ◌+◌, ◌<◌, length, IfSome};
 ghost use Rattle.wtp_wire.specs.FrameNeed.{frame_need, frame_need_most, frame_need_grows};
-ghost use Rattle.wtp_wire.specs.FrameHead.{said, said_second};
+ghost use Rattle.wtp_wire.specs.FrameHead.{head_says, second_says, Announces};
+ghost use Rattle.wtp_wire.specs.Kind.{IsKnown};
 
 use crate::frame::FrameKind;
 use wtp_core::bytes::get::varint_need;
 use wtp_core::ids::SessionId;
 use wtp_core::polling::head::Head;
 use wtp_core::varint::{VarInt, first_varint};
+
+/// The longest payload that is read, in bytes.
+pub(crate) const MAX_PAYLOAD: u64 = 4096;
 
 /// What the first two numbers say about the bytes after them.
 #[derive(Clone, Copy)]
@@ -48,9 +52,9 @@ impl Head for FrameHead {
 
 /// Returns what the first two numbers say.
 #[inline(always)]
-#[tactic(auto, unfolding(crate::specs::FrameHead::said, crate::specs::FrameHead::head_at))]
+#[tactic(auto, unfolding(crate::specs::FrameHead::head_says, crate::specs::FrameHead::head_at))]
 pub(crate) fn read_head(held: &[u8]) -> Said
-    ensures { result ≡ said held.now }
+    ensures { result ≡ head_says held.now }
 {
     let Some((id, size)) = first_varint(held) else {
         return Said::Unfinished;
@@ -58,13 +62,15 @@ pub(crate) fn read_head(held: &[u8]) -> Said
     let Some((number, _)) = first_varint(&held[size..]) else {
         return Said::Unfinished;
     };
-    said_second(FrameKind::parse(id), number)
+    classify_second(FrameKind::parse(id), number)
 }
 
 /// Returns what the second number says after the type of this kind, or after an unknown type.
 #[inline(always)]
-fn said_second(kind: Option<FrameKind>, number: VarInt) -> Said
-    ensures { result ≡ said_second kind number }
+pub(crate) fn classify_second(kind: Option<FrameKind>, number: VarInt) -> Said
+    requires { IfSome kind IsKnown }
+    ensures says { result ≡ second_says kind number }
+    ensures announces { Announces kind result }
 {
     match kind {
         None => Said::Skip(number.into_inner()),
@@ -73,7 +79,7 @@ fn said_second(kind: Option<FrameKind>, number: VarInt) -> Said
             Err(_) => Said::BadSession,
         },
         Some(kind) => {
-            if number.into_inner() > 4096 {
+            if number.into_inner() > MAX_PAYLOAD {
                 Said::TooLong
             } else {
                 Said::Payload(kind, number.into_inner())

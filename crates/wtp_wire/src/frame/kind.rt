@@ -1,10 +1,79 @@
 //! Kinds of frames by their types.
-ghost use Rattle.std.specs.Prelude.{◌≡◌, IfSome};
-ghost use Rattle.wtp_wire.specs.Kind.{kind_of, number_of, IsKnown};
+ghost use Rattle.std.specs.Prelude.{◌≡◌, Some, IfSome};
+ghost use Rattle.wtp_wire.specs.Kind.{is_exercise, kind_of, frame_type_of, registered_kind, IsKnown};
 
-use crate::frame::FrameKind;
 use std::marker::Model;
+use wtp_core::numbers::frame_kind_ids;
 use wtp_core::varint::VarInt;
+
+/// The kind of a frame.
+#[derive(Clone, Copy, Debug, PartialEq, Eq)]
+pub enum FrameKind {
+    /// DATA (RFC 9114, section 7.2.1).
+    Data,
+    /// HEADERS (RFC 9114, section 7.2.2).
+    Headers,
+    /// SETTINGS (RFC 9114, section 7.2.4).
+    Settings,
+    /// The frame that associates its stream with a WebTransport session: type 0x41
+    /// (draft-ietf-webtrans-http3-02, section 4.2).
+    WebTransport,
+    /// A type that is reserved to exercise the requirement to ignore unknown types (RFC 9114,
+    /// section 7.2.8).
+    Exercise(VarInt),
+}
+
+impl FrameKind {
+    /// Returns whether the type is one of those reserved for exercise, `0x21 + 0x1f * n`.
+    pub fn is_id_exercise(id: VarInt) -> bool
+        ensures { result ≡ is_exercise id }
+    {
+        id.into_inner() >= 0x21 && (id.into_inner() - 0x21) % 0x1f == 0
+    }
+
+    /// Returns the type.
+    pub fn id(self) -> VarInt
+        ensures { result ≡ frame_type_of self }
+    {
+        match self {
+            FrameKind::Data => frame_kind_ids::DATA,
+            FrameKind::Headers => frame_kind_ids::HEADERS,
+            FrameKind::Settings => frame_kind_ids::SETTINGS,
+            FrameKind::WebTransport => frame_kind_ids::WEBTRANSPORT_STREAM,
+            FrameKind::Exercise(id) => id,
+        }
+    }
+
+    // Returns the kind that has this type and no other.
+    #[inline(always)]
+    #[tactic(auto, unfolding(crate::specs::Kind::registered_kind))]
+    fn find_registered(id: VarInt) -> Option<Self>
+        ensures kind { result ≡ registered_kind id }
+        ensures known { IfSome result IsKnown }
+    {
+        match id {
+            frame_kind_ids::DATA => Some(FrameKind::Data),
+            frame_kind_ids::HEADERS => Some(FrameKind::Headers),
+            frame_kind_ids::SETTINGS => Some(FrameKind::Settings),
+            frame_kind_ids::WEBTRANSPORT_STREAM => Some(FrameKind::WebTransport),
+            _ => None,
+        }
+    }
+
+    /// Returns the kind of this type, or `None` if the type is unknown.
+    #[inline(always)]
+    #[tactic(auto, unfolding(crate::specs::Kind::kind_of))]
+    pub fn parse(id: VarInt) -> Option<Self>
+        ensures kind { result ≡ kind_of id }
+        ensures known { IfSome result IsKnown }
+    {
+        match FrameKind::find_registered(id) {
+            Some(kind) => Some(kind),
+            None if FrameKind::is_id_exercise(id) => Some(FrameKind::Exercise(id)),
+            None => None,
+        }
+    }
+}
 
 /// A kind that is stored as its type, which has half the size.
 #[derive(Clone, Copy)]
@@ -13,15 +82,15 @@ pub(crate) struct KindNumber {
 }
 
 impl Model for KindNumber {
-    ghost use Rattle.wtp_wire.specs.declared.frame.FrameKind.{FrameKind};
-    ghost use Rattle.wtp_wire.specs.Kind.{number_of};
+    ghost use Rattle.wtp_wire.specs.declared.frame.kind.FrameKind.{FrameKind};
+    ghost use Rattle.wtp_wire.specs.Kind.{frame_type_of};
     ghost use Rattle.wtp_wire.specs.KindNumber.{kind_numbered, number_of_kind_numbered};
 
     ghost Value = { FrameKind };
 
     ghost view = { λ k. kind_numbered k.id };
 
-    ghost inverse = { λ kind. record { id = number_of kind } };
+    ghost inverse = { λ kind. record { id = frame_type_of kind } };
 
     ghost inverse_ok = { λ k h i. record { id = number_of_kind_numbered k.id i } };
 }
@@ -37,17 +106,14 @@ impl KindNumber {
         KindNumber { id: kind.id() }
     }
 
-    /// Returns the kind of this type, or `None` if the type is unknown.
+    /// Stores the kind of this type.
     #[inline(always)]
     #[tactic(auto, using(crate::proofs::KindLemmas::numbered))]
-    pub(crate) fn parse(id: VarInt) -> Option<Self>
-        ensures kind { result ≡ kind_of id }
-        ensures known { IfSome result IsKnown }
+    pub(crate) fn with_number(id: VarInt, kind: FrameKind) -> Self
+        requires { kind_of id ≡ Some kind }
+        ensures { result ≡ kind }
     {
-        match FrameKind::parse(id) {
-            Some(_) => Some(KindNumber { id }),
-            None => None,
-        }
+        KindNumber { id }
     }
 
     /// Returns the kind.
@@ -56,12 +122,9 @@ impl KindNumber {
     pub(crate) fn kind(self) -> FrameKind
         ensures { result ≡ self }
     {
-        match self.id.into_inner() {
-            0x00 => FrameKind::Data,
-            0x01 => FrameKind::Headers,
-            0x04 => FrameKind::Settings,
-            0x41 => FrameKind::WebTransport,
-            _ => FrameKind::Exercise(self.id),
+        match FrameKind::find_registered(self.id) {
+            Some(kind) => kind,
+            None => FrameKind::Exercise(self.id),
         }
     }
 
@@ -69,7 +132,7 @@ impl KindNumber {
     #[inline(always)]
     #[tactic(auto, using(crate::proofs::KindLemmas::numbered))]
     pub(crate) fn id(self) -> VarInt
-        ensures { result ≡ number_of self }
+        ensures { result ≡ frame_type_of self }
     {
         self.id
     }

@@ -1,27 +1,26 @@
 //! Reading a frame, poll by poll.
-ghost use Rattle.std.specs.Prelude.{◌≡◌, ◌≢◌, ◌+◌, ◌<◌, ◌≤◌, ◌++◌, length, take, vec_len, None, IfOk, OnOk, OnErr};
+ghost use Rattle.std.specs.Prelude.{◌≡◌, ◌≢◌, ◌≤◌, length, None, IfSome};
 ghost use Rattle.wtp_core.specs.Source.{Telling};
 ghost use Rattle.wtp_core.specs.Polled.{Asks};
-ghost use Rattle.wtp_core.specs.Fill.{FillTells};
-ghost use Rattle.wtp_wire.specs.FrameHead.{said};
-ghost use Rattle.wtp_wire.specs.FrameNeed.{frame_need};
-ghost use Rattle.wtp_wire.specs.Held.{Held, new_held, IsUnfinished};
+ghost use Rattle.wtp_wire.specs.Held.{new_held, IsUnfinished};
+ghost use Rattle.wtp_wire.specs.Limits.{max_payload};
 ghost use Rattle.wtp_wire.specs.FramePolling.{FramePolled, FrameGiven};
-ghost use Rattle.wtp_wire.specs.FrameSteps.{IsReading, halted_frame, PayloadKeeps, PayloadTells, AdvanceKeeps, AdvanceTells, Grew, answer, CanAnswer, PassedOn, PassedPlain, Started, StartKeeps};
+ghost use Rattle.wtp_wire.specs.FrameSteps.{CanAnswer, IsAnswer, IsFramed, TakesFrame, PassedOn, PassedPlain};
+
+mod part;
 
 use crate::frame::body::Body;
-use crate::frame::head::{FrameHead, Said, read_head};
+use crate::frame::head::Said;
 use crate::frame::kind::KindNumber;
+use crate::frame::reading::part::{FramePart, Stop};
 use crate::frame::whole::front_frame;
 use crate::frame::{Frame, FrameKind, FrameOwned, ParseError};
 use std::alloc::Global;
+use std::fmt;
 use std::marker::Model;
-use std::{fmt, mem};
 use wtp_core::bytes;
 use wtp_core::bytes::{AsyncRead, Polled};
-use wtp_core::ids::SessionId;
-use wtp_core::polling::fill::{Halt, begin, fill};
-use wtp_core::polling::head::fill_head;
+use wtp_core::polling::fill::halted;
 use wtp_core::polling::passing::pass;
 
 /// The reason no frame was read from a source.
@@ -61,7 +60,7 @@ impl<'a> Frame<'a> {
     fn with_payload(kind: FrameKind, payload: Vec<u8>) -> FrameOwned
         requires known { IsKnown kind }
         requires plain { kind ≢ FrameKind.WebTransport }
-        requires fits { length payload.items ≤ 4096 }
+        requires fits { length payload.items ≤ max_payload }
         ensures { result ≡ content kind payload.items None }
     {
         Frame {
@@ -79,10 +78,7 @@ impl<'a> Frame<'a> {
 #[derive(Drop)]
 pub struct FrameReading {
     alloc: Global,
-    head: [u8; 16],
-    len: usize,
-    payload: Vec<u8>,
-    filled: usize,
+    part: FramePart,
     due: u64,
 }
 
@@ -90,19 +86,23 @@ pub struct FrameReading {
 impl fmt::Debug for FrameReading {
     fn fmt<W: fmt::Write>(&self, f: &mut fmt::Formatter<W>) -> fmt::Result {
         f.debug_struct("FrameReading")
-            .field("head_bytes", &self.len)
-            .field("payload_bytes", &self.filled)
+            .field("head_bytes", &self.part.head_len())
+            .field("payload_bytes", &self.part.payload_len())
             .field("due_bytes", &self.due)
             .finish_non_exhaustive()
     }
 }
 
 impl Model for FrameReading {
+    ghost use Rattle.std.specs.Prelude.{◌≡◌, ◌<◌, []};
+    ghost use Rattle.wtp_wire.specs.FramePart.{bytes_in, IsReading};
+    ghost use Rattle.wtp_wire.specs.Held.{Held};
+
     ghost Value = { Held };
 
-    ghost view = { λ s. record { taken = take s.len s.head ++ take s.filled s.payload.items; due = s.due } };
+    ghost view = { λ s. record { taken = bytes_in s.part; due = s.due } };
 
-    ghost invariant = { λ s. (s.len ≤ 16) × IsReading (take s.len s.head) (vec_len s.payload) s.filled × (0 < s.due → s.len ≡ 0) };
+    ghost invariant = { λ s. IsReading s.part × (0 < s.due → s.part.head ≡ []) };
 }
 
 impl FrameReading {
@@ -112,10 +112,7 @@ impl FrameReading {
     {
         FrameReading {
             alloc,
-            head: [0; 16],
-            len: 0,
-            payload: Vec::new(alloc),
-            filled: 0,
+            part: FramePart::new(alloc),
             due: 0,
         }
     }
@@ -133,7 +130,7 @@ impl FrameReading {
     ///   skipped.
     ///
     /// It may be polled again after each of these, with the same source or another. A complete
-    /// frame that the source has buffered is taken in one call, and a payload of at most 32 bytes
+    /// frame that the source has buffered is taken in one call, and a payload of at most 40 bytes
     /// then mostly does not allocate.
     #[inline(always)]
     pub fn poll<S: AsyncRead>(&mut self, source: &mut S) -> Polled<Result<FrameOwned, IoReadError>>
@@ -143,17 +140,15 @@ impl FrameReading {
         ensures polled { Telling (S.tells source.old) (S.tells source.new) (FramePolled result self.old self.new) }
         ensures asks { Telling (S.tells source.old) (S.tells source.new) (Asks 4112) }
     {
-        if self.len == 0 && self.due == 0 {
-            if let Some((frame, size)) = front_frame(self.alloc, source.at_hand()) {
-                if source.take_at_hand(size) {
-                    return Polled::Ready(Ok(frame));
-                }
+        if self.due == 0 && self.part.head_len() == 0 {
+            if let Some(frame) = take_buffered(self.alloc, source) {
+                return Polled::Ready(Ok(frame));
             }
         }
         self.read_on(source)
     }
 
-    /// Reads as `poll` does, call by call.
+    /// Reads as `poll` does, without a look at what the source has buffered.
     fn read_on<S: AsyncRead>(&mut self, source: &mut S) -> Polled<Result<FrameOwned, IoReadError>>
         ensures was_unfinished { IsUnfinished self.old }
         ensures unfinished { IsUnfinished self.new }
@@ -161,184 +156,52 @@ impl FrameReading {
         ensures polled { Telling (S.tells source.old) (S.tells source.new) (FramePolled result self.old self.new) }
         ensures asks { Telling (S.tells source.old) (S.tells source.new) (Asks 4112) }
     {
-        match self.start(source) {
-            Some(answer) => answer,
-            None => pass_on(source, &mut self.due),
-        }
-    }
-
-    /// Reads until there is a result, or until the payload of an unknown frame is next.
-    #[inline(always)]
-    fn start<S: AsyncRead>(
-        &mut self,
-        source: &mut S,
-    ) -> Option<Polled<Result<FrameOwned, IoReadError>>>
-        ensures was_unfinished { IsUnfinished self.old }
-        ensures keeps { StartKeeps result self.old self.new }
-        ensures started { Telling (S.tells source.old) (S.tells source.new) (Started result self.old self.new) }
-    {
         if self.due > 0 {
-            return None;
+            return pass_on(source, &mut self.due);
         }
-        match advance(
-            source,
-            &mut self.head,
-            &mut self.len,
-            &mut self.payload,
-            &mut self.filled,
-        ) {
-            Ok(next) => {
-                let payload = mem::replace(&mut self.payload, Vec::new(self.alloc));
-                self.len = 0;
-                self.filled = 0;
-                match next {
-                    Next::Skip(size) => {
-                        self.due = size;
-                        None
-                    }
-                    Next::Answer(decided) => Some(Polled::Ready(answer(decided, payload))),
-                }
+        let said = match self.part.advance(source) {
+            Ok(said) => said,
+            Err(Stop::Source(halt)) => return halted(halt, self.part.len()),
+            Err(Stop::NoMemory) => return Polled::NoMemory,
+        };
+        let payload = self.part.take_payload(self.alloc);
+        match said {
+            Said::Skip(size) => {
+                self.due = size;
+                pass_on(source, &mut self.due)
             }
-            Err(PayloadHalt::NoMemory) => Some(Polled::NoMemory),
-            Err(PayloadHalt::Source(halt)) => Some(halted_frame(halt, self.len + self.filled)),
+            _ => Polled::Ready(answer(said, payload)),
         }
     }
 }
 
-/// The next step once the first two numbers, and the payload that belongs to them, are held.
-#[derive(Clone, Copy)]
-enum Next {
-    Answer(Decision),
-    Skip(u64),
-}
-
-/// What the bytes held decide.
-#[derive(Clone, Copy)]
-enum Decision {
-    Payload(FrameKind),
-    Session(SessionId),
-    BadSession,
-    TooLong,
-}
-
-/// Returns the result, with the payload that was read.
+/// Takes the first frame of a source if all of it is buffered. Otherwise the source is unchanged.
 #[inline(always)]
-fn answer(decision: Decision, payload: Vec<u8>) -> Result<FrameOwned, IoReadError>
-    requires { CanAnswer decision (length payload.items) }
-    ensures { result ≡ answer decision payload.items }
+fn take_buffered<S: AsyncRead>(alloc: Global, source: &mut S) -> Option<FrameOwned>
+    ensures framed { IfSome result IsFramed }
+    ensures takes { IfSome result (λ f. Telling (S.tells source.old) (S.tells source.new) (TakesFrame f)) }
+    ensures none { result ≡ None → source.new ≡ source.old }
 {
-    match decision {
-        Decision::Payload(kind) => Ok(Frame::with_payload(kind, payload)),
-        Decision::Session(id) => Ok(Frame::new_webtransport(id)),
-        Decision::BadSession => Err(IoReadError::Parse(ParseError::InvalidSessionId)),
-        Decision::TooLong => Err(IoReadError::Parse(ParseError::PayloadTooBig)),
+    let (frame, size) = front_frame(alloc, source.at_hand())?;
+    if source.take_at_hand(size) {
+        Some(frame)
+    } else {
+        None
     }
 }
 
-/// Reads until the bytes held decide; they do not change then.
+/// Returns the result of a frame that need not be skipped, with the payload that was read.
 #[inline(always)]
-fn advance<S: AsyncRead>(
-    source: &mut S,
-    head: &mut [u8; 16],
-    len: &mut usize,
-    payload: &mut Vec<u8>,
-    filled: &mut usize,
-) -> Result<Next, PayloadHalt>
-    requires fits { len.old ≤ 16 }
-    requires reading { IsReading (take len.old head.old) (vec_len payload.old) filled.old }
-    ensures fits { len.new ≤ 16 }
-    ensures room { len.new ≤ length head.new }
-    ensures keeps { AdvanceKeeps result (take len.old head.old) (take len.new head.new) (vec_len payload.new) filled.old filled.new }
-    ensures grew { Grew (take len.old head.old ++ take filled.old payload.old.items) (take len.new head.new ++ take filled.new payload.new.items) }
-    ensures tells { AdvanceTells result (take len.old head.old ++ take filled.old payload.old.items)
-        (take len.new head.new ++ take filled.new payload.new.items) (S.tells source.old) (S.tells source.new) }
+fn answer(said: Said, payload: Vec<u8>) -> Result<FrameOwned, IoReadError>
+    requires { CanAnswer said (length payload.items) }
+    ensures { IsAnswer said payload.items result }
 {
-    let said = match take_head(source, head, len) {
-        Ok(said) => said,
-        Err(halt) => return Err(PayloadHalt::Source(halt)),
-    };
     match said {
-        Said::Payload(kind, size) => match fill_payload(source, payload, filled, size as usize) {
-            Ok(()) => Ok(Next::Answer(Decision::Payload(kind))),
-            Err(halt) => Err(halt),
-        },
-        Said::Session(id) => Ok(Next::Answer(Decision::Session(id))),
-        Said::Skip(size) => Ok(Next::Skip(size)),
-        Said::BadSession => Ok(Next::Answer(Decision::BadSession)),
-        Said::TooLong => Ok(Next::Answer(Decision::TooLong)),
-        Said::Unfinished => unreachable!(),
-    }
-}
-
-/// Reads until the first two numbers are held, and returns what they say.
-#[inline(always)]
-fn take_head<S: AsyncRead>(
-    source: &mut S,
-    head: &mut [u8; 16],
-    len: &mut usize,
-) -> Result<Said, Halt>
-    requires fits { len.old ≤ 16 }
-    requires within { len.old ≤ frame_need (take len.old head.old) }
-    ensures says { IfOk result (λ s. s ≡ said (take len.new head.new)) }
-    ensures whole { OnOk result (frame_need (take len.new head.new) ≡ len.new) }
-    ensures cut { OnErr result (len.new < frame_need (take len.new head.new)) }
-    ensures forward { len.old ≤ len.new }
-    ensures front { take len.old head.new ≡ take len.old head.old }
-    ensures room { len.new ≤ 16 }
-    ensures stays { frame_need (take len.old head.old) ≡ len.old → (len.new ≡ len.old) × (head.new ≡ head.old) }
-    ensures tells { FillTells result (take len.old head.old) (take len.new head.new) (S.tells source.old) (S.tells source.new) }
-{
-    if *len == 0 {
-        // Each number has at least one byte, and most have no more.
-        let mut front = [0; 2];
-        match begin(source, &mut front) {
-            Ok(count) => *len = count,
-            Err(halt) => return Err(halt),
-        }
-        head[0] = front[0];
-        head[1] = front[1];
-        if *len == 2 && front[0] < 64 && front[1] < 64 {
-            return Ok(read_head(&front));
-        }
-    }
-    match fill_head::<FrameHead, S>(source, head, len) {
-        Ok(()) => Ok(read_head(&head[..*len])),
-        Err(halt) => Err(halt),
-    }
-}
-
-/// The reason a payload is incomplete.
-#[derive(Clone, Copy)]
-enum PayloadHalt {
-    Source(Halt),
-    NoMemory,
-}
-
-/// Reads until a payload of this size is held. Its room is allocated in full before its first byte.
-#[inline(always)]
-fn fill_payload<S: AsyncRead>(
-    source: &mut S,
-    payload: &mut Vec<u8>,
-    filled: &mut usize,
-    size: usize,
-) -> Result<(), PayloadHalt>
-    requires room { vec_len payload.old ≤ size }
-    requires whole { 0 < vec_len payload.old → vec_len payload.old ≡ size }
-    requires within { filled.old ≤ vec_len payload.old }
-    ensures keeps { PayloadKeeps result size (vec_len payload.old) (vec_len payload.new) filled.old filled.new }
-    ensures forward { filled.old ≤ filled.new }
-    ensures front { take filled.old payload.new.items ≡ take filled.old payload.old.items }
-    ensures tells { PayloadTells result (take filled.old payload.old.items) (take filled.new payload.new.items)
-        (S.tells source.old) (S.tells source.new) }
-{
-    if payload.len() < size {
-        if payload.reserve_exact(size).is_err() || payload.resize(size, 0).is_err() {
-            return Err(PayloadHalt::NoMemory);
-        }
-    }
-    match fill(source, payload.as_mut_slice(), filled) {
-        Ok(()) => Ok(()),
-        Err(halt) => Err(PayloadHalt::Source(halt)),
+        Said::Payload(kind, _) => Ok(Frame::with_payload(kind, payload)),
+        Said::Session(id) => Ok(Frame::new_webtransport(id)),
+        Said::BadSession => Err(IoReadError::Parse(ParseError::InvalidSessionId)),
+        Said::TooLong => Err(IoReadError::Parse(ParseError::PayloadTooBig)),
+        Said::Skip(_) | Said::Unfinished => unreachable!(),
     }
 }
 
@@ -355,22 +218,6 @@ fn pass_on<S: AsyncRead>(source: &mut S, due: &mut u64) -> Polled<Result<FrameOw
                 Polled::Again
             }
         }
-        Err(halt) => halted_frame(halt, 1),
-    }
-}
-
-/// Returns the result of reading a frame that stopped after `taken` bytes.
-fn halted_frame<T>(halt: Halt, taken: usize) -> Polled<Result<T, IoReadError>>
-    ensures { result ≡ halted_frame halt taken }
-{
-    match halt {
-        Halt::NotReady => Polled::Pending,
-        Halt::Fin => Polled::Ready(Err(IoReadError::IO(if taken == 0 {
-            bytes::IoReadError::ImmediateFin
-        } else {
-            bytes::IoReadError::UnexpectedFin
-        }))),
-        Halt::Reset => Polled::Ready(Err(IoReadError::IO(bytes::IoReadError::Reset))),
-        Halt::NotConnected => Polled::Ready(Err(IoReadError::IO(bytes::IoReadError::NotConnected))),
+        Err(halt) => halted(halt, 1),
     }
 }

@@ -3,44 +3,50 @@ ghost use Rattle.std.specs.Prelude.{◌≡◌, ◌≤◌, ◌↔◌, List, ℕ, 
 
 use std::marker::Model;
 
-/// A payload of at most 32 bytes.
+/// The longest payload stored in a frame, in bytes.
+pub(crate) const MAX_SHORT: usize = 40;
+
+/// Room for a payload of at most 40 bytes. Its length is stored beside it.
 #[derive(Drop)]
-pub(crate) struct Short {
-    len: usize,
+pub(crate) struct Room {
     // The payload, and bytes after it that are not part of it.
-    bytes: [u8; 32],
+    bytes: [u8; MAX_SHORT],
+    // Has no size, and aligns the bytes: they are then copied by words of eight bytes, and a length
+    // of one byte fits into what an enum leaves free after its tag.
+    aligned: [u64; 0],
 }
 
-impl Model for Short {
+impl Model for Room {
     ghost Value = { List ℕ };
 
-    ghost view = { λ s. take s.len s.bytes };
-
-    ghost invariant = { λ s. s.len ≤ 32 };
+    ghost view = { λ r. r.bytes };
 }
 
-impl Short {
-    /// Copies the first `len` bytes. Returns `None` if `len` is above 32, or if fewer than 32 bytes
+impl Room {
+    /// Copies the first `len` bytes. Returns `None` if `len` is above 40, or if fewer than 40 bytes
     /// are given.
     ///
-    /// All 32 are copied, which needs no call that depends on a number.
+    /// All 40 are copied, which needs no call that depends on a number.
     #[inline(always)]
     pub(crate) fn front_of(bytes: &[u8], len: usize) -> Option<Self>
-        ensures front { IfSome result (λ s. s ≡ take len bytes.now) }
-        ensures room { IsSome result ↔ ((len ≤ 32) × (32 ≤ length bytes.now)) }
+        ensures front { IfSome result (λ r. take len r ≡ take len bytes.now) }
+        ensures room { IsSome result ↔ ((len ≤ 40) × (40 ≤ length bytes.now)) }
     {
-        if len > 32 {
+        if len > MAX_SHORT {
             return None;
         }
-        let front = bytes.first_chunk::<32>()?;
-        Some(Short { len, bytes: *front })
+        let front = bytes.first_chunk::<MAX_SHORT>()?;
+        Some(Room {
+            bytes: *front,
+            aligned: [],
+        })
     }
 
-    /// Returns the payload.
+    /// Returns the first `len` bytes, and at most all 40.
     #[inline(always)]
-    pub(crate) fn as_slice(&self) -> &[u8]
-        ensures { result.now ≡ self.now }
+    pub(crate) fn first(&self, len: u8) -> &[u8]
+        ensures { result.now ≡ take len self.now }
     {
-        &self.bytes[..self.len]
+        &self.bytes[..(len as usize).min(MAX_SHORT)]
     }
 }

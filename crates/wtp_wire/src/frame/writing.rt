@@ -1,16 +1,15 @@
 //! Writing a frame, poll by poll.
-ghost use Rattle.std.specs.Prelude.{◌≡◌, ◌+◌, ◌<◌, ◌≤◌, ◌++◌, length, take, Ok};
+ghost use Rattle.std.specs.Prelude.{◌≡◌, ◌+◌, ◌<◌, ◌≤◌, ◌++◌, length, Ok};
 ghost use Rattle.wtp_core.specs.Source.{Telling};
-ghost use Rattle.wtp_core.specs.Varint.{shortest};
-ghost use Rattle.wtp_core.specs.Writing.{Writing, unsent, GoesOn, IsSent, WritePolled};
+ghost use Rattle.wtp_core.specs.Put.{Writing, unsent, GoesOn, IsSent, WritePolled};
 
 use crate::frame::{Frame, FrameKind};
 use std::fmt;
 use std::marker::Model;
-use wtp_core::bytes::put::spell;
 use wtp_core::bytes::{AsyncWrite, IoWriteError, Polled};
 use wtp_core::ids::SessionId;
-use wtp_core::polling::drain::{drain, write_halted};
+use wtp_core::polling::drain::drain;
+use wtp_core::polling::encoded::Encoded;
 use wtp_core::varint::VarInt;
 
 impl<'a> Frame<'a> {
@@ -21,16 +20,12 @@ impl<'a> Frame<'a> {
     pub fn write_async(&self) -> FrameWriting<'_>
         ensures { result ≡ unsent (wire self.now) }
     {
-        let mut head = [0; 16];
         let second = match self.body.session() {
             Some(session_id) => session_id.into_varint(),
             None => VarInt::from_u64_unchecked(self.body.payload().len() as u64),
         };
-        let len = spell_both(self.kind.id(), second, &mut head);
         FrameWriting {
-            head,
-            len,
-            head_sent: 0,
+            head: Encoded::two(self.kind.id(), second),
             payload: self.body.payload(),
             payload_sent: 0,
         }
@@ -46,29 +41,13 @@ impl FrameWriting<'static> {
     pub fn of_session(session_id: SessionId) -> Self
         ensures { result ≡ unsent (wire (WebTransportOf session_id)) }
     {
-        let mut head = [0; 16];
         let kind = FrameKind::WebTransport;
-        let len = spell_both(kind.id(), session_id.into_varint(), &mut head);
         FrameWriting {
-            head,
-            len,
-            head_sent: 0,
+            head: Encoded::two(kind.id(), session_id.into_varint()),
             payload: &[],
             payload_sent: 0,
         }
     }
-}
-
-/// Writes the shortest encodings of both numbers to the start of the buffer, and returns their size
-/// in bytes.
-fn spell_both(first: VarInt, second: VarInt, buffer: &mut [u8]) -> usize
-    requires { 16 ≤ length buffer.old }
-    ensures bytes { take result buffer.new ≡ shortest first ++ shortest second }
-    ensures most { result ≤ 16 }
-{
-    let one = spell(first, buffer);
-    let two = spell(second, &mut buffer[one..]);
-    one + two
 }
 
 /// Writes one frame to a sink, poll by poll.
@@ -77,9 +56,7 @@ fn spell_both(first: VarInt, second: VarInt, buffer: &mut [u8]) -> usize
 /// sink may.
 #[derive(Drop)]
 pub struct FrameWriting<'a> {
-    head: [u8; 16],
-    len: usize,
-    head_sent: usize,
+    head: Encoded,
     payload: &'a [u8],
     payload_sent: usize,
 }
@@ -88,7 +65,7 @@ pub struct FrameWriting<'a> {
 impl fmt::Debug for FrameWriting<'_> {
     fn fmt<W: fmt::Write>(&self, f: &mut fmt::Formatter<W>) -> fmt::Result {
         f.debug_struct("FrameWriting")
-            .field("head_sent", &self.head_sent)
+            .field("head_sent", &self.head.sent())
             .field("payload_sent", &self.payload_sent)
             .finish_non_exhaustive()
     }
@@ -97,9 +74,9 @@ impl fmt::Debug for FrameWriting<'_> {
 impl<'a> Model for FrameWriting<'a> {
     ghost Value = { Writing };
 
-    ghost view = { λ s. record { bytes = take s.len s.head ++ s.payload.now; sent = s.head_sent + s.payload_sent } };
+    ghost view = { λ s. record { bytes = s.head.bytes ++ s.payload.now; sent = s.head.sent + s.payload_sent } };
 
-    ghost invariant = { λ s. (s.len ≤ 16) × (s.head_sent ≤ s.len) × (s.payload_sent ≤ length s.payload.now) × (0 < s.payload_sent → s.head_sent ≡ s.len) };
+    ghost invariant = { λ s. (s.head.sent ≤ length s.head.bytes) × (s.payload_sent ≤ length s.payload.now) × (0 < s.payload_sent → s.head.sent ≡ length s.head.bytes) };
 }
 
 impl<'a> FrameWriting<'a> {
@@ -115,16 +92,9 @@ impl<'a> FrameWriting<'a> {
         ensures polled { Telling (W.tells sink.old) (W.tells sink.new) (WritePolled result self.old self.new) }
         ensures finished { self.old.sent ≡ length self.old.bytes → (sink.new ≡ sink.old) × (result ≡ Polled.Ready (Ok tt)) }
     {
-        if self.head_sent == self.len && self.payload_sent == self.payload.len() {
-            return Polled::Ready(Ok(()));
-        }
-        match drain(sink, &self.head[..self.len], &mut self.head_sent) {
-            Ok(()) => {}
-            Err(halt) => return write_halted(halt),
-        }
-        match drain(sink, self.payload, &mut self.payload_sent) {
-            Ok(()) => Polled::Ready(Ok(())),
-            Err(halt) => write_halted(halt),
+        match self.head.poll(sink) {
+            Polled::Ready(Ok(())) => drain(sink, self.payload, &mut self.payload_sent),
+            part => part,
         }
     }
 }

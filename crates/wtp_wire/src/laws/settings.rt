@@ -2,7 +2,7 @@
 ghost use Rattle.std.specs.Prelude.{◌≡◌, ◌≢◌, ◌⊎◌, ℕ, List, Ok, Err, Some};
 ghost use Rattle.wtp_core.specs.declared.error.ErrorCode.{ErrorCode};
 ghost use Rattle.wtp_wire.specs.SettingId.{IsSettingId, setting_id_of};
-ghost use Rattle.wtp_wire.specs.Settings.{IsSettings, IsPayload, IsFault, value_at, with_setting, settings_in, settings_wire};
+ghost use Rattle.wtp_wire.specs.Settings.{IsSettings, IsPayload, IsSettingsFault, value_at, with_setting, settings_in, settings_wire};
 ghost use Rattle.wtp_wire.specs.declared.settings.SettingId.{SettingId};
 
 /// The computed setting of a number is its setting by definition.
@@ -15,12 +15,12 @@ pub fn setting_id_is_computed()
 /// meaning.
 pub fn settings_are_computed()
     ensures settings { (m : List (ℕ × ℕ)) (payload : List ℕ) → IsPayload m payload → settings_in payload ≡ Ok m }
-    ensures fault { (code : ErrorCode) (payload : List ℕ) → IsFault code payload → settings_in payload ≡ Err code }
+    ensures fault { (code : ErrorCode) (payload : List ℕ) → IsSettingsFault code payload → settings_in payload ≡ Err code }
 {}
 
 /// Each payload contains settings or has a fault.
 pub fn one_reading()
-    ensures { (payload : List ℕ) → ((m : List (ℕ × ℕ)) × IsPayload m payload) ⊎ ((code : ErrorCode) × IsFault code payload) }
+    ensures { (payload : List ℕ) → ((m : List (ℕ × ℕ)) × IsPayload m payload) ⊎ ((code : ErrorCode) × IsSettingsFault code payload) }
 {}
 
 /// Settings that are written are read again.

@@ -2,19 +2,19 @@
 ghost use Rattle.std.specs.Prelude.{◌≡◌, ℕ, ◌+◌, ◌<◌, ◌≤◌, List, [], length, take, Ok};
 ghost use Rattle.wtp_core.specs.Source.{Telling};
 ghost use Rattle.wtp_core.specs.Polled.{Asks};
-ghost use Rattle.wtp_core.specs.Writing.{Writing, unsent, GoesOn, IsSent, WritePolled};
+ghost use Rattle.wtp_core.specs.Put.{Writing, unsent, GoesOn, IsSent, WritePolled};
 ghost use Rattle.wtp_wire.specs.HeaderFront.{Short, header_front};
 ghost use Rattle.wtp_wire.specs.HeaderNeed.{header_need, header_need_most, header_need_grows};
-ghost use Rattle.wtp_wire.specs.HeaderPolling.{HeaderPolled, HeaderGiven, IsWhole, halted_header};
+ghost use Rattle.wtp_wire.specs.HeaderPolling.{HeaderPolled, HeaderGiven, IsWhole};
 
 use crate::stream_header::{ParseError, StreamHeader, StreamKind};
 use std::fmt;
 use std::marker::Model;
 use wtp_core::bytes;
 use wtp_core::bytes::get::varint_need;
-use wtp_core::bytes::{AsyncRead, AsyncWrite, BufferWriter, IoWriteError, Polled};
-use wtp_core::polling::drain::{drain, write_halted};
-use wtp_core::polling::fill::Halt;
+use wtp_core::bytes::{AsyncRead, AsyncWrite, IoWriteError, Polled};
+use wtp_core::polling::encoded::Encoded;
+use wtp_core::polling::fill::halted;
 use wtp_core::polling::head::{Head, fill_head};
 use wtp_core::varint::first_varint;
 
@@ -55,26 +55,11 @@ impl StreamHeader {
     pub fn write_async(&self) -> HeaderWriting
         ensures { result ≡ unsent (header_wire self.now) }
     {
-        let mut bytes = [0; 16];
-        let len = self.spell(&mut bytes);
-        HeaderWriting {
-            bytes,
-            len,
-            sent: 0,
-        }
-    }
-
-    /// Writes the header to the start of the buffer, and returns its size in bytes.
-    fn spell(&self, buffer: &mut [u8]) -> usize
-        requires { 16 ≤ length buffer.old }
-        ensures bytes { take result buffer.new ≡ header_wire self.now }
-        ensures most { result ≤ 16 }
-    {
-        let size = self.write_size();
-        let mut writer = BufferWriter::new(buffer);
-        let written = self.write_to_buffer(&mut writer);
-        prove!(written.is_ok());
-        size
+        let encoded = match self.session_id {
+            Some(session_id) => Encoded::two(self.kind.id(), session_id.into_varint()),
+            None => Encoded::one(self.kind.id()),
+        };
+        HeaderWriting { encoded }
     }
 }
 
@@ -93,7 +78,7 @@ impl Head for HeaderHead {
             return first;
         };
         match StreamKind::parse(id) {
-            Some(StreamKind::WebTransport) => first + varint_need(&held[size..]),
+            Some(kind) if kind.has_session() => first + varint_need(&held[size..]),
             _ => first,
         }
     }
@@ -162,7 +147,7 @@ impl HeaderReading {
     {
         match fill_head::<HeaderHead, S>(source, &mut self.bytes, &mut self.len) {
             Ok(()) => {}
-            Err(halt) => return halted_header(halt, self.len),
+            Err(halt) => return halted(halt, self.len),
         }
         let answer = read_whole(&self.bytes[..self.len]);
         self.len = 0;
@@ -183,38 +168,20 @@ fn read_whole(bytes: &[u8]) -> Result<StreamHeader, IoReadError>
     }
 }
 
-/// Returns the result of reading a header that stopped after `taken` bytes.
-fn halted_header<T>(halt: Halt, taken: usize) -> Polled<Result<T, IoReadError>>
-    ensures { result ≡ halted_header halt taken }
-{
-    match halt {
-        Halt::NotReady => Polled::Pending,
-        Halt::Fin => Polled::Ready(Err(IoReadError::IO(if taken == 0 {
-            bytes::IoReadError::ImmediateFin
-        } else {
-            bytes::IoReadError::UnexpectedFin
-        }))),
-        Halt::Reset => Polled::Ready(Err(IoReadError::IO(bytes::IoReadError::Reset))),
-        Halt::NotConnected => Polled::Ready(Err(IoReadError::IO(bytes::IoReadError::NotConnected))),
-    }
-}
-
 /// Writes one stream header to a sink, poll by poll.
 ///
 /// It counts the bytes of the header sent, and sends none of them twice. It does not allocate; the
 /// sink may.
 #[derive(Drop)]
 pub struct HeaderWriting {
-    bytes: [u8; 16],
-    len: usize,
-    sent: usize,
+    encoded: Encoded,
 }
 
 // The number of bytes sent.
 impl fmt::Debug for HeaderWriting {
     fn fmt<W: fmt::Write>(&self, f: &mut fmt::Formatter<W>) -> fmt::Result {
         f.debug_struct("HeaderWriting")
-            .field("sent", &self.sent)
+            .field("sent", &self.encoded.sent())
             .finish_non_exhaustive()
     }
 }
@@ -222,9 +189,7 @@ impl fmt::Debug for HeaderWriting {
 impl Model for HeaderWriting {
     ghost Value = { Writing };
 
-    ghost view = { λ s. record { bytes = take s.len s.bytes; sent = s.sent } };
-
-    ghost invariant = { λ s. (s.len ≤ 16) × (s.sent ≤ s.len) };
+    ghost view = { λ s. s.encoded };
 }
 
 impl HeaderWriting {
@@ -235,12 +200,6 @@ impl HeaderWriting {
         ensures polled { Telling (W.tells sink.old) (W.tells sink.new) (WritePolled result self.old self.new) }
         ensures finished { self.old.sent ≡ length self.old.bytes → (sink.new ≡ sink.old) × (result ≡ Polled.Ready (Ok tt)) }
     {
-        if self.sent == self.len {
-            return Polled::Ready(Ok(()));
-        }
-        match drain(sink, &self.bytes[..self.len], &mut self.sent) {
-            Ok(()) => Polled::Ready(Ok(())),
-            Err(halt) => write_halted(halt),
-        }
+        self.encoded.poll(sink)
     }
 }

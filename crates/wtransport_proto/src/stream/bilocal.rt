@@ -6,12 +6,12 @@ ghost use Rattle.wtp_core.specs.Source.{Telling};
 ghost use Rattle.wtp_core.specs.Polled.{Asks};
 ghost use Rattle.wtp_core.specs.Writer.{PutsParts, LacksRoom};
 ghost use Rattle.wtp_core.specs.BufferWriter.{room_in, loan_of, IsUnwritten, Wrote};
-ghost use Rattle.wtp_core.specs.Writing.{GoesOn, IsSent, WritePolled, unsent};
+ghost use Rattle.wtp_core.specs.Put.{GoesOn, IsSent, WritePolled, unsent};
 ghost use Rattle.wtp_wire.specs.Content.{WebTransportOf, kind_in};
 ghost use Rattle.wtp_wire.specs.Front.{front};
 ghost use Rattle.wtp_wire.specs.Held.{IsUnfinished};
 ghost use Rattle.wtp_wire.specs.Wire.{parts_of, wire};
-ghost use Rattle.wtransport_proto.specs.Reading.{AnswersFrame, AnswersRun, StandsAfter};
+ghost use Rattle.wtransport_proto.specs.Reading.{AnswersFrame, AnswersRun, ReaderIsAfter};
 ghost use Rattle.wtransport_proto.specs.Rule.{LocalBi};
 ghost use Rattle.wtransport_proto.specs.Run.{past_unknown};
 ghost use Rattle.wtransport_proto.specs.StreamPolling.{StreamPolled, StreamGiven};
@@ -20,6 +20,7 @@ ghost use Rattle.wtransport_proto.specs.Streams.{can_upgrade, request_of, sessio
 ghost use Rattle.wtransport_proto.specs.Upgrading.{write_answer};
 
 use crate::stream::reading::{self, Rule};
+use crate::stream::rules::request_fault;
 use crate::stream::session::StreamSession;
 use crate::stream::types::{Bi, BiLocal, H3, Quic, Session, WT};
 use crate::stream::{BiUpgrading, IoReadError, IoWriteError, Stream, polled};
@@ -93,7 +94,7 @@ impl StreamBiLocalH3 {
         reader: &mut BufferReader<'a>,
     ) -> Result<Option<Frame<'a>>, ErrorCode>
         ensures run { AnswersRun LocalBi false (left_of reader.old) result false (left_of reader.new) }
-        ensures place { StandsAfter LocalBi false (left_of reader.old) result false (left_of reader.new) }
+        ensures place { ReaderIsAfter LocalBi false (left_of reader.old) result false (left_of reader.new) }
         ensures whole { whole_of reader.new ≡ whole_of reader.old }
     {
         reading::read_frame_from_buffer::<Self>(&mut true, reader)
@@ -268,9 +269,6 @@ impl Rule for StreamBiLocalH3 {
 
     #[inline(always)]
     fn fault(_first: bool, kind: FrameKind) -> Option<ErrorCode> {
-        match kind {
-            FrameKind::Data | FrameKind::Headers | FrameKind::Exercise(_) => None,
-            FrameKind::Settings | FrameKind::WebTransport => Some(ErrorCode::FrameUnexpected),
-        }
+        request_fault(kind)
     }
 }

@@ -6,17 +6,18 @@ ghost use Rattle.wtp_core.specs.Source.{Telling};
 ghost use Rattle.wtp_core.specs.Polled.{Asks};
 ghost use Rattle.wtp_core.specs.Writer.{PutsParts, LacksRoom};
 ghost use Rattle.wtp_core.specs.BufferWriter.{room_in, loan_of, IsUnwritten, Wrote};
-ghost use Rattle.wtp_core.specs.Writing.{GoesOn, IsSent, WritePolled};
+ghost use Rattle.wtp_core.specs.Put.{GoesOn, IsSent, WritePolled};
 ghost use Rattle.wtp_wire.specs.Front.{front};
 ghost use Rattle.wtp_wire.specs.Held.{IsUnfinished};
 ghost use Rattle.wtp_wire.specs.Wire.{parts_of, wire};
-ghost use Rattle.wtransport_proto.specs.Reading.{AnswersFrame, AnswersRun, StandsAfter};
+ghost use Rattle.wtransport_proto.specs.Reading.{AnswersFrame, AnswersRun, ReaderIsAfter};
 ghost use Rattle.wtransport_proto.specs.Rule.{RemoteBi};
 ghost use Rattle.wtransport_proto.specs.Run.{past_unknown};
 ghost use Rattle.wtransport_proto.specs.StreamPolling.{StreamPolled, StreamGiven};
 ghost use Rattle.wtransport_proto.specs.Streams.{first_of, request_of, session_of};
 
 use crate::stream::reading::{self, Rule};
+use crate::stream::rules::request_fault;
 use crate::stream::session::StreamSession;
 use crate::stream::types::{Bi, BiRemote, H3, Quic, Session, WT};
 use crate::stream::{IoReadError, IoWriteError, Stream, polled};
@@ -97,7 +98,7 @@ impl StreamBiRemoteH3 {
         reader: &mut BufferReader<'a>,
     ) -> Result<Option<Frame<'a>>, ErrorCode>
         ensures run { AnswersRun RemoteBi (first_of self.old) (left_of reader.old) result (first_of self.new) (left_of reader.new) }
-        ensures place { StandsAfter RemoteBi (first_of self.old) (left_of reader.old) result (first_of self.new) (left_of reader.new) }
+        ensures place { ReaderIsAfter RemoteBi (first_of self.old) (left_of reader.old) result (first_of self.new) (left_of reader.new) }
         ensures whole { whole_of reader.new ≡ whole_of reader.old }
     {
         reading::read_frame_from_buffer::<Self>(&mut self.stage.first_frame_done, reader)
@@ -204,12 +205,12 @@ impl Rule for StreamBiRemoteH3 {
     ghost role = { RemoteBi };
 
     #[inline(always)]
+    #[tactic(auto, using(crate::proofs::RuleLemmas::rules_of_requests))]
     fn fault(first: bool, kind: FrameKind) -> Option<ErrorCode> {
         match kind {
-            FrameKind::Data | FrameKind::Headers | FrameKind::Exercise(_) => None,
-            FrameKind::Settings => Some(ErrorCode::FrameUnexpected),
             FrameKind::WebTransport if first => None,
             FrameKind::WebTransport => Some(ErrorCode::Frame),
+            _ => request_fault(kind),
         }
     }
 }

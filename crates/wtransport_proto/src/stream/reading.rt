@@ -3,7 +3,7 @@ ghost use Rattle.std.specs.Prelude.{◌≡◌, true, not};
 ghost use Rattle.wtp_core.specs.Cursor.{left_of, whole_of};
 ghost use Rattle.wtp_core.specs.Reader.{IsRest};
 ghost use Rattle.wtp_wire.specs.Front.{front};
-ghost use Rattle.wtransport_proto.specs.Reading.{AnswersFrame, AnswersKnown, AnswersRun, StandsAfter};
+ghost use Rattle.wtransport_proto.specs.Reading.{AnswersFrame, AnswersKnown, AnswersRun, ReaderIsAfter};
 ghost use Rattle.wtransport_proto.specs.Rule.{Role, rule};
 ghost use Rattle.wtransport_proto.specs.Run.{past_unknown};
 
@@ -68,7 +68,7 @@ pub(crate) fn read_frame_from_buffer<'a, K: Rule>(
     reader: &mut BufferReader<'a>,
 ) -> Result<Option<Frame<'a>>, ErrorCode>
     ensures run { AnswersRun K.role (not first_frame_done.old) (left_of reader.old) result (not first_frame_done.new) (left_of reader.new) }
-    ensures place { StandsAfter K.role (not first_frame_done.old) (left_of reader.old) result (not first_frame_done.new) (left_of reader.new) }
+    ensures place { ReaderIsAfter K.role (not first_frame_done.old) (left_of reader.old) result (not first_frame_done.new) (left_of reader.new) }
     ensures stays { first_frame_done.old ≡ true → first_frame_done.new ≡ true }
     ensures whole { whole_of reader.new ≡ whole_of reader.old }
 {

@@ -6,17 +6,18 @@ ghost use Rattle.wtp_core.specs.Source.{Telling};
 ghost use Rattle.wtp_core.specs.Polled.{Asks};
 ghost use Rattle.wtp_core.specs.Writer.{PutsParts, LacksRoom};
 ghost use Rattle.wtp_core.specs.BufferWriter.{room_in, loan_of, IsUnwritten, Wrote};
-ghost use Rattle.wtp_core.specs.Writing.{GoesOn, IsSent, WritePolled};
+ghost use Rattle.wtp_core.specs.Put.{GoesOn, IsSent, WritePolled};
 ghost use Rattle.wtp_wire.specs.Front.{front};
 ghost use Rattle.wtp_wire.specs.Held.{IsUnfinished};
 ghost use Rattle.wtp_wire.specs.Wire.{parts_of, wire};
-ghost use Rattle.wtransport_proto.specs.Reading.{AnswersFrame, AnswersRun, StandsAfter};
+ghost use Rattle.wtransport_proto.specs.Reading.{AnswersFrame, AnswersRun, ReaderIsAfter};
 ghost use Rattle.wtransport_proto.specs.Rule.{InSession};
 ghost use Rattle.wtransport_proto.specs.Run.{past_unknown};
 ghost use Rattle.wtransport_proto.specs.StreamPolling.{StreamPolled, StreamGiven};
 ghost use Rattle.wtransport_proto.specs.Streams.{request_of};
 
 use crate::stream::reading::{self, Rule};
+use crate::stream::rules::request_fault;
 use crate::stream::types::{Bi, Session};
 use crate::stream::{IoReadError, IoWriteError, Stream, polled};
 use wtp_core::bytes::{
@@ -59,7 +60,7 @@ impl StreamSession {
         reader: &mut BufferReader<'a>,
     ) -> Result<Option<Frame<'a>>, ErrorCode>
         ensures run { AnswersRun InSession false (left_of reader.old) result false (left_of reader.new) }
-        ensures place { StandsAfter InSession false (left_of reader.old) result false (left_of reader.new) }
+        ensures place { ReaderIsAfter InSession false (left_of reader.old) result false (left_of reader.new) }
         ensures whole { whole_of reader.new ≡ whole_of reader.old }
     {
         reading::read_frame_from_buffer::<Self>(&mut true, reader)
@@ -152,9 +153,6 @@ impl Rule for StreamSession {
 
     #[inline(always)]
     fn fault(_first: bool, kind: FrameKind) -> Option<ErrorCode> {
-        match kind {
-            FrameKind::Data | FrameKind::Headers | FrameKind::Exercise(_) => None,
-            FrameKind::Settings | FrameKind::WebTransport => Some(ErrorCode::FrameUnexpected),
-        }
+        request_fault(kind)
     }
 }

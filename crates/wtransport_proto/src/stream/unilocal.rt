@@ -3,7 +3,7 @@ ghost use Rattle.std.specs.Prelude.{◌≡◌, ◌≤◌, ◌↔◌, length, Err
 ghost use Rattle.wtp_core.specs.Source.{Telling};
 ghost use Rattle.wtp_core.specs.Writer.{PutsParts, LacksRoom};
 ghost use Rattle.wtp_core.specs.BufferWriter.{room_in, loan_of, IsUnwritten, Wrote};
-ghost use Rattle.wtp_core.specs.Writing.{GoesOn, IsSent, WritePolled, unsent};
+ghost use Rattle.wtp_core.specs.Put.{GoesOn, IsSent, WritePolled, unsent};
 ghost use Rattle.wtp_wire.specs.HeaderWire.{header_parts, header_wire};
 ghost use Rattle.wtp_wire.specs.Wire.{parts_of, wire};
 ghost use Rattle.wtransport_proto.specs.Streams.{CanWrite, header_of};

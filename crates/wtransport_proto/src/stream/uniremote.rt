@@ -7,7 +7,7 @@ ghost use Rattle.wtp_core.specs.Polled.{Asks};
 ghost use Rattle.wtp_wire.specs.Front.{front};
 ghost use Rattle.wtp_wire.specs.Held.{IsUnfinished};
 ghost use Rattle.wtp_wire.specs.HeaderFront.{header_front};
-ghost use Rattle.wtransport_proto.specs.Reading.{AnswersFrame, AnswersRun, StandsAfter};
+ghost use Rattle.wtransport_proto.specs.Reading.{AnswersFrame, AnswersRun, ReaderIsAfter};
 ghost use Rattle.wtransport_proto.specs.Rule.{RemoteUni};
 ghost use Rattle.wtransport_proto.specs.Run.{past_unknown};
 ghost use Rattle.wtransport_proto.specs.StreamPolling.{StreamPolled, StreamGiven};
@@ -15,6 +15,7 @@ ghost use Rattle.wtransport_proto.specs.Streams.{CanRead};
 ghost use Rattle.wtransport_proto.specs.Upgrading.{AnswersUpgrade};
 
 use crate::stream::reading::{self, Rule};
+use crate::stream::rules::control_fault;
 use crate::stream::types::{H3, Quic, UniRemote, WT};
 use crate::stream::{IoReadError, Stream, UniAccepting, polled};
 use wtp_core::bytes::{AsyncRead, BufferReader, BytesReader, Polled};
@@ -133,7 +134,7 @@ impl StreamUniRemoteH3 {
     ) -> Result<Option<Frame<'a>>, ErrorCode>
         requires { CanRead self.old }
         ensures run { AnswersRun RemoteUni false (left_of reader.old) result false (left_of reader.new) }
-        ensures place { StandsAfter RemoteUni false (left_of reader.old) result false (left_of reader.new) }
+        ensures place { ReaderIsAfter RemoteUni false (left_of reader.old) result false (left_of reader.new) }
         ensures whole { whole_of reader.new ≡ whole_of reader.old }
         ensures same { self.new ≡ self.old }
         ensures readable { CanRead self.new }
@@ -177,11 +178,6 @@ impl Rule for StreamUniRemoteH3 {
 
     #[inline(always)]
     fn fault(_first: bool, kind: FrameKind) -> Option<ErrorCode> {
-        match kind {
-            FrameKind::Settings | FrameKind::Exercise(_) => None,
-            FrameKind::Data | FrameKind::Headers | FrameKind::WebTransport => {
-                Some(ErrorCode::FrameUnexpected)
-            }
-        }
+        control_fault(kind)
     }
 }

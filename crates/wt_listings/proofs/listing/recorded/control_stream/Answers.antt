@@ -1,4 +1,4 @@
-use Rattle.wt_listings.proofs.ControlLemmas.{control_header, control_whole, control_good}
+use Rattle.wt_listings.proofs.RecordedLemmas.{control_header, control_whole, control_good}
 use Rattle.wt_listings.proofs.listing.recorded.control_stream.Goals as goal
 
 pub returns : goal.returns

@@ -1,5 +1,5 @@
 use Rattle.std.proofs.Common.{◌∙◌, sym, ap, ◌++◌}
-use Rattle.wtp_fields.specs.Field.{lent_field}
+use Rattle.wtp_fields.specs.Field.{field_of_texts}
 use Rattle.wtp_fields.specs.FieldLine.{encoded_line}
 use Rattle.wtp_fields.specs.FieldSection.{section_of}
 use Rattle.wtp_fields.proofs.SectionWriting.{section_push, texts_push}
@@ -11,10 +11,10 @@ loop-name-init g c = record { texts = tt; so_far = c.in_ok-out.ensures }
 
 pub loop-name-preserved : goal.loop-name-preserved
 loop-name-preserved g c = record {
-  texts = texts_push lent_field c.loop-name.yielded (c.in-Some.name, c.in-Some.value) c.loop-name.invariant.texts c.in_ok-write.ensures.texts;
+  texts = texts_push field_of_texts c.loop-name.yielded (c.in-Some.name, c.in-Some.value) c.loop-name.invariant.texts c.in_ok-write.ensures.texts;
   so_far =
       c.in_ok-write.ensures.ok ∙ ap (λ z. z ++ encoded_line (c.in-Some.name.now, c.in-Some.value.now)) c.loop-name.invariant.so_far
-      ∙ sym (section_push lent_field c.loop-name.yielded (c.in-Some.name, c.in-Some.value));
+      ∙ sym (section_push field_of_texts c.loop-name.yielded (c.in-Some.name, c.in-Some.value));
 }
 
 pub returns : goal.returns

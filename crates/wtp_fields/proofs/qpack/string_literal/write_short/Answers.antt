@@ -1,10 +1,10 @@
 use Rattle.std.proofs.Common.{arith}
-use Rattle.wtp_fields.proofs.StringWriting.{encoded_raw, taken_back, written_behind}
+use Rattle.wtp_fields.proofs.StringWriting.{encoded_raw, taken_back, written_after}
 use Rattle.wtp_fields.proofs.qpack.string_literal.write_short.Goals as goal
 
 pub returns-then-size-text : goal.returns-then-size-text
 returns-then-size-text g c =
-    written_behind g.row.N c.args.flags c.len-start.result _ c.only_byte.result c.args.text.now c.args.out.now.items _ c.append.new.out.items (omega (arith, c.len-start.ensures))
+    written_after g.row.N c.args.flags c.len-start.result _ c.only_byte.result c.args.text.now c.args.out.now.items _ c.append.new.out.items (omega (arith, c.len-start.ensures))
     (omega (arith, c.len.ensures)) c.if-size-text.true c.in_ok-push.ensures.items c.in_ok-append.ensures.coded c.only_byte.ensures
 
 pub returns : goal.returns

@@ -1,5 +1,5 @@
 use Rattle.std.proofs.Common.{below_more, arith}
-use Rattle.wtp_huffman.specs.HuffmanTables.{row_at}
+use Rattle.wtp_huffman.specs.HuffmanRows.{row_at}
 use Rattle.wtp_huffman.proofs.HuffmanWindows.{row_found, some_row}
 use Rattle.wtp_huffman.proofs.huffman.decoding.any_row.Goals as goal
 

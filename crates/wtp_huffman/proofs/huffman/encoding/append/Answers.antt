@@ -1,6 +1,6 @@
 use Rattle.std.proofs.Common.{arith, refl}
 use Rattle.wtp_huffman.specs.Huffman.{low_bits, IsBytes}
-use Rattle.wtp_huffman.proofs.HuffmanWriting.{IsBytes_from, appended, begins_on, begins_same, coded_eight, coded_next, coded_none, ended, goes_on}
+use Rattle.wtp_huffman.proofs.HuffmanEncoding.{IsBytes_from, appended, begins_on, begins_same, coded_eight, coded_next, coded_none, ended, goes_on}
 use Rattle.wtp_huffman.proofs.huffman.encoding.append.Goals as goal
 
 pub loop-four-init : goal.loop-four-init
@@ -12,8 +12,8 @@ loop-four-preserved c =
     let parts = c.in-Some.ensures in
     let added = c.in_ok-waiting.ensures.added in
     record {
-      same = goes_on _ _ _ _ _ _ _ _ _ _ _ c.loop-four.invariant.same (coded_eight c.loop-four.rest.now c.in-Some.four.now c.in-Some.next.now c.in-Some.behind.now parts.0) added;
-      front = begins_on _ _ _ c.loop-four.invariant.front c.eight_in.ensures.front;
+      same = goes_on _ _ _ _ _ _ _ _ _ _ _ c.loop-four.invariant.same (coded_eight c.loop-four.rest.now c.in-Some.four.now c.in-Some.next.now c.in-Some.others.now parts.0) added;
+      front = begins_on _ _ _ c.loop-four.invariant.front c.add_eight.ensures.front;
       few = added.few;
       size = omega (arith, parts.1, c.loop-four.invariant.size);
       none = λ e. absurd (omega (arith, e, parts.1, c.loop-four.invariant.size));
@@ -24,7 +24,7 @@ loop-byte-preserved c =
     let added = c.in_ok-waiting-2.ensures.added in
     record {
       same = goes_on _ _ _ _ _ _ _ _ _ _ _ c.loop-byte.invariant.same (coded_next c.loop-byte.byte-index c.loop-four.rest.now c.loop-byte-test.true) added;
-      front = begins_on _ _ _ c.loop-byte.invariant.front c.word_in.ensures.front;
+      front = begins_on _ _ _ c.loop-byte.invariant.front c.add_word.ensures.front;
       few = added.few;
       size = c.loop-byte.invariant.size;
       none = λ e. absurd (omega (arith, e, c.loop-byte-test.true, c.loop-byte.invariant.size));

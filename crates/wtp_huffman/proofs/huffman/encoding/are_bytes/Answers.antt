@@ -1,5 +1,5 @@
 use Rattle.std.proofs.Common.{arith}
-use Rattle.wtp_huffman.proofs.HuffmanWriting.{IsBytes_from}
+use Rattle.wtp_huffman.proofs.HuffmanEncoding.{IsBytes_from}
 use Rattle.wtp_huffman.proofs.huffman.encoding.are_bytes.Goals as goal
 
 pub returns : goal.returns

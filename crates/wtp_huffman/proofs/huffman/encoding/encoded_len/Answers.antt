@@ -1,12 +1,12 @@
 use Rattle.std.proofs.Common.{◌≡◌, ◌+◌, arith, rules, refl, length, take, drop}
-use Rattle.wtp_huffman.specs.Huffman.{coded, coded_len}
+use Rattle.wtp_huffman.specs.Huffman.{text_code, coded_len}
 use Rattle.wtp_huffman.proofs.HuffmanLengths.{coded_split, no_words, huffman_length}
 use Rattle.wtp_huffman.proofs.huffman.encoding.encoded_len.Goals as goal
 
 pub loop-rest-preserved : goal.loop-rest-preserved
 loop-rest-preserved c =
-    let front : c.word_bits-bits.result ≡ length (coded (take c.min.result c.loop-rest.rest.now)) = rw (← c.split_at.ensures.front) c.word_bits-bits.ensures.value in
-    let behind : length (coded c.split_at.result.1.now) ≡ length (coded (drop c.min.result c.loop-rest.rest.now)) = rw c.split_at.ensures.back refl in
+    let front : c.word_bits-bits.result ≡ length (text_code (take c.min.result c.loop-rest.rest.now)) = rw (← c.split_at.ensures.front) c.word_bits-bits.ensures.value in
+    let behind : length (text_code c.split_at.result.1.now) ≡ length (text_code (drop c.min.result c.loop-rest.rest.now)) = rw c.split_at.ensures.back refl in
     record {
       so_far = omega (arith, coded_split c.loop-rest.rest.now c.min.result, front, behind, c.loop-rest.invariant.so_far, c.in_ok-bytes.ensures.1);
       few = omega arith;
@@ -15,7 +15,7 @@ loop-rest-preserved c =
 
 pub returns-in_err-bytes-clause-value : goal.returns-in_err-bytes-clause-value
 returns-in_err-bytes-clause-value c =
-    let front : c.word_bits-bits.result ≡ length (coded (take c.min.result c.loop-rest.rest.now)) = rw (← c.split_at.ensures.front) c.word_bits-bits.ensures.value in
+    let front : c.word_bits-bits.result ≡ length (text_code (take c.min.result c.loop-rest.rest.now)) = rw (← c.split_at.ensures.front) c.word_bits-bits.ensures.value in
     rw c.from_residual.ensures (λ fits. c.in_err-bytes.ensures
     (omega (arith, fits, coded_split c.loop-rest.rest.now c.min.result, front, c.loop-rest.invariant.so_far)))
 

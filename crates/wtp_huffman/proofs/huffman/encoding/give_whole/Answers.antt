@@ -1,5 +1,5 @@
 use Rattle.std.proofs.Common.{◌≡◌, ◌+◌, ◌/◌, ◌≤◌, arith, length}
-use Rattle.wtp_huffman.proofs.HuffmanWriting.{begins_cut, whole_out}
+use Rattle.wtp_huffman.proofs.HuffmanEncoding.{begins_cut, whole_out}
 use Rattle.wtp_huffman.proofs.huffman.encoding.give_whole.Goals as goal
 
 pub returns-clause-kept : goal.returns-clause-kept

@@ -1,5 +1,5 @@
 use Rattle.std.proofs.Common.{◌∙◌, arith}
-use Rattle.wtp_huffman.proofs.HuffmanWriting.{code_bits, code_some}
+use Rattle.wtp_huffman.proofs.HuffmanEncoding.{code_bits, code_some}
 use Rattle.wtp_huffman.proofs.huffman.encoding.word.Goals as goal
 
 pub returns-clause-bits : goal.returns-clause-bits

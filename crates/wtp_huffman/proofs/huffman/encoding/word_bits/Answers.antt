@@ -1,10 +1,10 @@
 use Rattle.std.proofs.Common.{arith, refl, take_all}
-use Rattle.wtp_huffman.specs.Huffman.{coded}
+use Rattle.wtp_huffman.specs.Huffman.{text_code}
 use Rattle.wtp_huffman.proofs.HuffmanLengths.{coded_more}
 use Rattle.wtp_huffman.proofs.huffman.encoding.word_bits.Goals as goal
 
 pub loop-byte-init : goal.loop-byte-init
-unfolding coded
+unfolding text_code
 loop-byte-init c = record { so_far = refl; few = omega arith }
 
 pub loop-byte-preserved : goal.loop-byte-preserved

@@ -2,7 +2,7 @@ use Rattle.std.proofs.Common.{[], ◌∷◌, length, Err, sym, ◌∙◌}
 use Rattle.std.proofs.lemmas.Result.{err_from_is_err_and}
 use Rattle.wtp_wire.specs.Body.{payload_of, session_of}
 use Rattle.wtp_core.specs.Varint.{shortest}
-use Rattle.wtp_wire.specs.Kind.{number_of}
+use Rattle.wtp_wire.specs.Kind.{frame_type_of}
 use Rattle.wtp_core.proofs.WriterLemmas.{put-none, put-more, put-last}
 use Rattle.wtp_wire.proofs.ContentLemmas.{parts_of-first, parts_of-plain, parts_of-session}
 use Rattle.wtp_wire.proofs.frame.Frame.write.Goals as goal
@@ -16,22 +16,22 @@ returns-in_err-put_varint-clause-parts g c =
 pub returns-in_err-put_varint-in-None-clause-parts : goal.returns-in_err-put_varint-in-None-clause-parts
 returns-in_err-put_varint-in-None-clause-parts g c =
     let p = err_from_is_err_and c.from_residual-in_err-put_varint-in-None.result c.from_residual-in_err-put_varint-in-None.ensures.1 in
-    let parts = parts_of-plain c.self.inside.kind _ (session_of c.self.inside.body) (sym c.session.ensures ∙ c.in-None.is) c.self.invariant in
+    let parts = parts_of-plain c.self.inside.kind (payload_of c.self.inside.body) (session_of c.self.inside.body) (sym c.session.ensures ∙ c.in-None.is) in
     let first = rw c.id.ensures at c.in_ok-put_varint.ensures.puts in
     let second = rw (c.from_u64_unchecked.ensures, c.payload-payload.ensures) at c.in_err-put_varint-in-None.ensures.puts in
-    rw (p.1, p.2, ← c.self.view_is, parts) (put-more g.W.BytesWriter.grows (shortest (number_of c.self.inside.kind)) ((shortest (length (payload_of c.self.inside.body))) ∷ (payload_of c.self.inside.body) ∷ []) (Err c.in_err-put_varint-in-None.field-0.0) tt (g.W.BytesWriter.written c.args.writer.now) (g.W.BytesWriter.written c.put_varint.new.self) (g.W.BytesWriter.written c.put_varint-in-None.new.self) (g.W.BytesWriter.room c.args.writer.now) (g.W.BytesWriter.room c.put_varint.new.self) (g.W.BytesWriter.room c.put_varint-in-None.new.self) first (put-none g.W.BytesWriter.grows (shortest (length (payload_of c.self.inside.body))) ((payload_of c.self.inside.body) ∷ []) c.in_err-put_varint-in-None.field-0.0 (g.W.BytesWriter.written c.put_varint.new.self) (g.W.BytesWriter.room c.put_varint.new.self) (g.W.BytesWriter.written c.put_varint-in-None.new.self) (g.W.BytesWriter.room c.put_varint-in-None.new.self) second))
+    rw (p.1, p.2, ← c.self.view_is, parts) (put-more g.W.BytesWriter.grows (shortest (frame_type_of c.self.inside.kind)) ((shortest (length (payload_of c.self.inside.body))) ∷ (payload_of c.self.inside.body) ∷ []) (Err c.in_err-put_varint-in-None.field-0.0) tt (g.W.BytesWriter.written c.args.writer.now) (g.W.BytesWriter.written c.put_varint.new.self) (g.W.BytesWriter.written c.put_varint-in-None.new.self) (g.W.BytesWriter.room c.args.writer.now) (g.W.BytesWriter.room c.put_varint.new.self) (g.W.BytesWriter.room c.put_varint-in-None.new.self) first (put-none g.W.BytesWriter.grows (shortest (length (payload_of c.self.inside.body))) ((payload_of c.self.inside.body) ∷ []) c.in_err-put_varint-in-None.field-0.0 (g.W.BytesWriter.written c.put_varint.new.self) (g.W.BytesWriter.room c.put_varint.new.self) (g.W.BytesWriter.written c.put_varint-in-None.new.self) (g.W.BytesWriter.room c.put_varint-in-None.new.self) second))
 
 pub returns-in-Some-clause-parts : goal.returns-in-Some-clause-parts
 returns-in-Some-clause-parts g c =
     let parts = parts_of-session c.self.inside.kind _ (session_of c.self.inside.body) c.in-Some.session_id (sym c.session.ensures ∙ c.in-Some.is) c.self.invariant in
     let first = rw c.id.ensures at c.in_ok-put_varint.ensures.puts in
     let second = rw c.into_varint.ensures.value at c.put_varint-in-Some.ensures.puts in
-    rw (← c.self.view_is, parts) (put-more g.W.BytesWriter.grows (shortest (number_of c.self.inside.kind)) (shortest c.in-Some.session_id ∷ []) c.put_varint-in-Some.result tt (g.W.BytesWriter.written c.args.writer.now) (g.W.BytesWriter.written c.put_varint.new.self) (g.W.BytesWriter.written c.put_varint-in-Some.new.self) (g.W.BytesWriter.room c.args.writer.now) (g.W.BytesWriter.room c.put_varint.new.self) (g.W.BytesWriter.room c.put_varint-in-Some.new.self) first (put-last g.W.BytesWriter.grows (shortest c.in-Some.session_id) c.put_varint-in-Some.result (g.W.BytesWriter.written c.put_varint.new.self) (g.W.BytesWriter.room c.put_varint.new.self) (g.W.BytesWriter.written c.put_varint-in-Some.new.self) (g.W.BytesWriter.room c.put_varint-in-Some.new.self) second))
+    rw (← c.self.view_is, parts) (put-more g.W.BytesWriter.grows (shortest (frame_type_of c.self.inside.kind)) (shortest c.in-Some.session_id ∷ []) c.put_varint-in-Some.result tt (g.W.BytesWriter.written c.args.writer.now) (g.W.BytesWriter.written c.put_varint.new.self) (g.W.BytesWriter.written c.put_varint-in-Some.new.self) (g.W.BytesWriter.room c.args.writer.now) (g.W.BytesWriter.room c.put_varint.new.self) (g.W.BytesWriter.room c.put_varint-in-Some.new.self) first (put-last g.W.BytesWriter.grows (shortest c.in-Some.session_id) c.put_varint-in-Some.result (g.W.BytesWriter.written c.put_varint.new.self) (g.W.BytesWriter.room c.put_varint.new.self) (g.W.BytesWriter.written c.put_varint-in-Some.new.self) (g.W.BytesWriter.room c.put_varint-in-Some.new.self) second))
 
 pub returns-in_ok-put_varint-in-None-clause-parts : goal.returns-in_ok-put_varint-in-None-clause-parts
 returns-in_ok-put_varint-in-None-clause-parts g c =
-    let parts = parts_of-plain c.self.inside.kind _ (session_of c.self.inside.body) (sym c.session.ensures ∙ c.in-None.is) c.self.invariant in
+    let parts = parts_of-plain c.self.inside.kind (payload_of c.self.inside.body) (session_of c.self.inside.body) (sym c.session.ensures ∙ c.in-None.is) in
     let first = rw c.id.ensures at c.in_ok-put_varint.ensures.puts in
     let second = rw (c.from_u64_unchecked.ensures, c.payload-payload.ensures) at c.in_ok-put_varint-in-None.ensures.puts in
     let third = rw c.payload-payload.ensures at c.put_bytes.ensures.puts in
-    rw (← c.self.view_is, parts) (put-more g.W.BytesWriter.grows (shortest (number_of c.self.inside.kind)) ((shortest (length (payload_of c.self.inside.body))) ∷ (payload_of c.self.inside.body) ∷ []) c.put_bytes.result tt (g.W.BytesWriter.written c.args.writer.now) (g.W.BytesWriter.written c.put_varint.new.self) (g.W.BytesWriter.written c.put_bytes.new.self) (g.W.BytesWriter.room c.args.writer.now) (g.W.BytesWriter.room c.put_varint.new.self) (g.W.BytesWriter.room c.put_bytes.new.self) first (put-more g.W.BytesWriter.grows (shortest (length (payload_of c.self.inside.body))) ((payload_of c.self.inside.body) ∷ []) c.put_bytes.result tt (g.W.BytesWriter.written c.put_varint.new.self) (g.W.BytesWriter.written c.put_varint-in-None.new.self) (g.W.BytesWriter.written c.put_bytes.new.self) (g.W.BytesWriter.room c.put_varint.new.self) (g.W.BytesWriter.room c.put_varint-in-None.new.self) (g.W.BytesWriter.room c.put_bytes.new.self) second (put-last g.W.BytesWriter.grows (payload_of c.self.inside.body) c.put_bytes.result (g.W.BytesWriter.written c.put_varint-in-None.new.self) (g.W.BytesWriter.room c.put_varint-in-None.new.self) (g.W.BytesWriter.written c.put_bytes.new.self) (g.W.BytesWriter.room c.put_bytes.new.self) third)))
+    rw (← c.self.view_is, parts) (put-more g.W.BytesWriter.grows (shortest (frame_type_of c.self.inside.kind)) ((shortest (length (payload_of c.self.inside.body))) ∷ (payload_of c.self.inside.body) ∷ []) c.put_bytes.result tt (g.W.BytesWriter.written c.args.writer.now) (g.W.BytesWriter.written c.put_varint.new.self) (g.W.BytesWriter.written c.put_bytes.new.self) (g.W.BytesWriter.room c.args.writer.now) (g.W.BytesWriter.room c.put_varint.new.self) (g.W.BytesWriter.room c.put_bytes.new.self) first (put-more g.W.BytesWriter.grows (shortest (length (payload_of c.self.inside.body))) ((payload_of c.self.inside.body) ∷ []) c.put_bytes.result tt (g.W.BytesWriter.written c.put_varint.new.self) (g.W.BytesWriter.written c.put_varint-in-None.new.self) (g.W.BytesWriter.written c.put_bytes.new.self) (g.W.BytesWriter.room c.put_varint.new.self) (g.W.BytesWriter.room c.put_varint-in-None.new.self) (g.W.BytesWriter.room c.put_bytes.new.self) second (put-last g.W.BytesWriter.grows (payload_of c.self.inside.body) c.put_bytes.result (g.W.BytesWriter.written c.put_varint-in-None.new.self) (g.W.BytesWriter.room c.put_varint-in-None.new.self) (g.W.BytesWriter.written c.put_bytes.new.self) (g.W.BytesWriter.room c.put_bytes.new.self) third)))

@@ -1,7 +1,7 @@
 use Rattle.std.proofs.Common.{take, arith, length-take, ◌∙◌}
 use Rattle.std.proofs.lemmas.List.{take-take}
 use Rattle.wtp_core.proofs.FillLemmas.{begins}
-use Rattle.wtp_core.proofs.GetLemmas.{halted_buffer_given}
+use Rattle.wtp_core.proofs.GetLemmas.{halted_plain, halted_buffer_given}
 use Rattle.wtp_core.proofs.bytes.get.GetBuffer.poll.Goals as goal
 
 pub returns-in-Ok-clause-given : goal.returns-in-Ok-clause-given
@@ -11,6 +11,6 @@ returns-in-Ok-clause-given g c = (
 )
 
 pub returns-in-Err-clause-given : goal.returns-in-Err-clause-given
-returns-in-Err-clause-given g c = rw c.halted.ensures (halted_buffer_given (Unit {0}) c.in-Err.halt c.fill.new.at c.args.self.now.filled _ _ (take c.fill.new.at c.fill.new.buf)
+returns-in-Err-clause-given g c = rw (halted_plain _ _ _ c.halted.ensures) (halted_buffer_given (Unit {0}) c.in-Err.halt c.fill.new.at c.args.self.now.filled _ _ (take c.fill.new.at c.fill.new.buf)
     (omega (arith, c.in-Err.ensures.lengths, c.fill.auto.buf, length-take c.fill.new.at c.fill.new.buf))
     (take-take c.args.self.now.filled c.fill.new.at c.fill.new.buf c.fill.ensures.forward ∙ c.fill.ensures.front))

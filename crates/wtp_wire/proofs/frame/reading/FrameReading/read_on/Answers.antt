@@ -1,24 +1,88 @@
-use Rattle.std.proofs.Common.{◌≡◌, [], ◌++◌, take, ap, sym, ◌∙◌}
-use Rattle.wtp_wire.specs.Held.{Held}
-use Rattle.wtp_wire.proofs.FramePollLemmas.{due_unfinished}
-use Rattle.wtp_wire.proofs.FramePassLemmas.{passed_told, passed_asks, passed_given}
+use Rattle.std.proofs.Common.{◌≡◌, [], refl, sym, ap, ◌∙◌, arith, Ok, Err}
+use Rattle.wtp_core.specs.declared.bytes.polled.Polled.TheVariants.{Ready, NoMemory}
+use Rattle.wtp_core.specs.Source.{Telling}
+use Rattle.wtp_wire.specs.declared.frame.head.Said.{Said}
+use Rattle.wtp_wire.specs.declared.frame.reading.part.Stop.TheVariants as stopped
+use Rattle.wtp_wire.specs.FramePart.{Part, bytes_in}
+use Rattle.wtp_wire.specs.FrameSteps.{StopMoves}
+use Rattle.wtp_wire.proofs.FramePollLemmas.{hold, reading_new, can_answer, answer_polls, halted_polls, no_memory_polls, polls_as}
+use Rattle.wtp_wire.proofs.FramePassLemmas.{due_polls, skip_polls}
 use Rattle.wtp_wire.proofs.frame.reading.FrameReading.read_on.Goals as goal
 
-pub returns-in-None-clause-unfinished : goal.returns-in-None-clause-unfinished
-returns-in-None-clause-unfinished g c = due_unfinished _ c.pass_on.new.due (ap (λ (h : Held). h.taken) c.self.view_is ∙ c.in-None.ensures.keeps.empty)
+pub returns-then-self-gt0 : goal.returns-then-self-gt0
+returns-then-self-gt0 g c =
+    let old = c.self.inside.part in
+    let d = c.self.inside.due in
+    let s = g.S.AsyncRead.tells c.args.source.now in
+    let t = g.S.AsyncRead.tells c.pass_on.new.source in
+    let q = polls_as s t c.pass_on.result (hold (bytes_in old) d) c.args.self.now (hold (bytes_in old) c.pass_on.new.due) (hold (bytes_in old) c.pass_on.new.due) c.self.view_is refl
+    (due_polls s t c.pass_on.result old d c.pass_on.new.due c.if-self-gt0.true c.self.invariant.0 (c.self.invariant.1 c.if-self-gt0.true) c.pass_on.ensures.plain c.pass_on.ensures.passed) in
+    record { was_unfinished = q.was_unfinished; unfinished = q.unfinished; given = q.given; polled = q.polled; asks = q.asks }
 
-pub returns-in-None-clause-given : goal.returns-in-None-clause-given
-returns-in-None-clause-given g c = passed_given c.pass_on.result c.args.self.now c.start.new.self _ c.pass_on.new.due (ap (λ (h : Held). h.taken) c.self.view_is ∙ c.in-None.ensures.keeps.empty) c.in-None.ensures.keeps
-    (rw (sym (ap (λ (h : Held). h.due) c.self.view_is)) c.pass_on.ensures.plain)
+pub returns-in-Err-Source : goal.returns-in-Err-Source
+returns-in-Err-Source g c =
+    let old = c.self.inside.part in
+    let d = c.self.inside.due in
+    let new = c.advance.new.self in
+    let s = g.S.AsyncRead.tells c.args.source.now in
+    let t = g.S.AsyncRead.tells c.advance.new.source in
+    let halt = c.in-Err-Source.halt in
+    let moves : Telling s t (λ a b. StopMoves {U = Said} (Err (stopped.Source halt)) (bytes_in old) (bytes_in new) a b) =
+    (rw c.in-Err-Source.field-0-is at c.in-Err-Source.ensures.moves) in
+    let q = polls_as s t c.halted.result (hold (bytes_in old) d) c.args.self.now (hold (bytes_in new) d) (hold (bytes_in new) d) c.self.view_is refl
+    (halted_polls s t halt c.len.result c.halted.result old new d (omega arith) c.len.ensures c.halted.ensures c.self.invariant.0 (rw c.in-Err-Source.field-0-is at c.in-Err-Source.ensures.keeps) c.advance.ensures.grew moves) in
+    record { was_unfinished = q.was_unfinished; unfinished = q.unfinished; given = q.given; polled = q.polled; asks = q.asks }
 
-pub returns-in-None-clause-polled : goal.returns-in-None-clause-polled
-returns-in-None-clause-polled g c =
-    let t = take c.self.inside.len c.self.inside.head ++ take c.self.inside.filled c.self.inside.payload.items in
-    let none : t ≡ [] = ap (λ (h : Held). h.taken) c.self.view_is ∙ c.in-None.ensures.keeps.empty in
-    passed_told (g.S.AsyncRead.tells c.args.source.now) (g.S.AsyncRead.tells c.start.new.source) (g.S.AsyncRead.tells c.pass_on.new.source)
-    c.pass_on.result c.args.self.now c.start.new.self t c.pass_on.new.due none c.in-None.ensures.started (rw (sym (ap (λ (h : Held). h.due) c.self.view_is)) c.pass_on.ensures.passed)
+pub returns-in-Err-NoMemory : goal.returns-in-Err-NoMemory
+returns-in-Err-NoMemory g c =
+    let old = c.self.inside.part in
+    let d = c.self.inside.due in
+    let new = c.advance.new.self in
+    let s = g.S.AsyncRead.tells c.args.source.now in
+    let t = g.S.AsyncRead.tells c.advance.new.source in
+    let moves : Telling s t (λ a b. StopMoves {U = Said} (Err stopped.NoMemory) (bytes_in old) (bytes_in new) a b) =
+    (rw c.in-Err-NoMemory.field-0-is at c.in-Err-NoMemory.ensures.moves) in
+    let k = rw c.in-Err-NoMemory.field-0-is at c.in-Err-NoMemory.ensures.keeps in
+    let q = polls_as s t NoMemory (hold (bytes_in old) d) c.args.self.now (hold (bytes_in new) d) (hold (bytes_in new) d) c.self.view_is refl
+    (no_memory_polls s t old new d (omega arith) c.self.invariant.0 k.0 k.1 c.advance.ensures.grew moves) in
+    record { was_unfinished = q.was_unfinished; unfinished = q.unfinished; given = q.given; polled = q.polled; asks = q.asks }
 
-pub returns-in-None-clause-asks : goal.returns-in-None-clause-asks
-returns-in-None-clause-asks g c =
-    passed_asks (g.S.AsyncRead.tells c.args.source.now) (g.S.AsyncRead.tells c.start.new.source) (g.S.AsyncRead.tells c.pass_on.new.source)
-    c.pass_on.result c.args.self.now c.start.new.self c.pass_on.new.due c.in-None.ensures.started (rw (sym (ap (λ (h : Held). h.due) c.self.view_is)) c.pass_on.ensures.passed)
+pub invariant_of-self-in-Skip-1 : goal.invariant_of-self-in-Skip-1
+invariant_of-self-in-Skip-1 g c = rw c.take_payload-payload.ensures.empty (reading_new, λ _. refl)
+
+pub answer-requires : goal.answer-requires
+answer-requires g c = rw c.take_payload-payload.ensures.payload (can_answer c.in-Ok.said c.advance.new.self c.in-Ok.ensures.keeps c.in_default.not-Skip)
+
+pub invariant_of-self-in_default : goal.invariant_of-self-in_default
+invariant_of-self-in_default g c = rw c.take_payload-payload.ensures.empty (reading_new, λ _. refl)
+
+pub returns-in-Skip : goal.returns-in-Skip
+returns-in-Skip g c =
+    let old = c.self.inside.part in
+    let d = c.self.inside.due in
+    let new = c.advance.new.self in
+    let s = g.S.AsyncRead.tells c.args.source.now in
+    let t = g.S.AsyncRead.tells c.advance.new.source in
+    let u = g.S.AsyncRead.tells c.pass_on-in-Skip.new.source in
+    let m = c.in-Skip.size in
+    let d' = c.pass_on-in-Skip.new.due in
+    let moves : Telling s t (λ a b. StopMoves (Ok c.in-Ok.said) (bytes_in old) (bytes_in new) a b) =
+    c.in-Ok.ensures.moves in
+    let q = polls_as s u c.pass_on-in-Skip.result (hold (bytes_in old) d) c.args.self.now (hold [] d') (hold (bytes_in c.take_payload-payload.new.self) d') c.self.view_is
+    (ap (λ (x : Part). hold (bytes_in x) d') (sym c.take_payload-payload.ensures.empty))
+    (skip_polls s t u c.pass_on-in-Skip.result old new m d d' (omega arith) c.self.invariant.0 (rw c.in-Skip.is at c.in-Ok.ensures.keeps) c.advance.ensures.grew moves c.pass_on-in-Skip.ensures.plain c.pass_on-in-Skip.ensures.passed) in
+    record { was_unfinished = q.was_unfinished; unfinished = q.unfinished; given = q.given; polled = q.polled; asks = q.asks }
+
+pub returns-in_default : goal.returns-in_default
+returns-in_default g c =
+    let old = c.self.inside.part in
+    let d = c.self.inside.due in
+    let new = c.advance.new.self in
+    let s = g.S.AsyncRead.tells c.args.source.now in
+    let t = g.S.AsyncRead.tells c.advance.new.source in
+    let moves : Telling s t (λ a b. StopMoves (Ok c.in-Ok.said) (bytes_in old) (bytes_in new) a b) =
+    c.in-Ok.ensures.moves in
+    let q = polls_as s t (Ready c.answer.result) (hold (bytes_in old) d) c.args.self.now (hold [] d) (hold (bytes_in c.take_payload-payload.new.self) d) c.self.view_is
+    (ap (λ (x : Part). hold (bytes_in x) d) (sym c.take_payload-payload.ensures.empty))
+    (answer_polls s t c.in-Ok.said c.answer.result old new d (omega arith) c.self.invariant.0 (rw c.take_payload-payload.ensures.payload at c.answer.ensures) c.in-Ok.ensures.keeps c.advance.ensures.grew moves) in
+    record { was_unfinished = q.was_unfinished; unfinished = q.unfinished; given = q.given; polled = q.polled; asks = q.asks }

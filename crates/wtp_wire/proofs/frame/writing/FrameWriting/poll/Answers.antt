@@ -1,23 +1,11 @@
-use Rattle.std.proofs.Common.{◌≡◌, ℕ, ◌+◌, ◌<◌, ◌≤◌, ◌++◌, length, take, sym, ap, arith, length-take}
-use Rattle.wtp_core.specs.Writing.{Writing}
-use Rattle.wtp_wire.proofs.WritingLemmas.{written, written_part}
+use Rattle.std.proofs.Common.{◌≡◌, length, ap, ◌∙◌}
+use Rattle.wtp_wire.proofs.WritingLemmas.{both_told}
 use Rattle.wtp_wire.proofs.frame.writing.FrameWriting.poll.Goals as goal
-use Rattle.wtp_wire.proofs.frame.writing.FrameWriting.poll.Goals.{in-Ok-drain, in-Err-drain}
 
-pub returns-clause-polled : goal.returns-clause-polled
-returns-clause-polled g c =
-    let h = take c.self.inside.len c.self.inside.head in
-    let p = c.self.inside.payload.now in
-    let full : c.drain.new.sent ≡ length h = c.in-Ok.ensures.all in
-    let le : c.self.inside.head_sent ≤ length h = omega (arith, c.drain.ensures.forward) in
-    let behind : 0 < c.self.inside.payload_sent → c.self.inside.head_sent ≡ length h = (λ some. let at = c.self.invariant.3 some in omega (arith, length-take c.self.inside.len c.self.inside.head)) in
-    let Shape : ℕ → Writing = λ n. record { bytes = h ++ p; sent = n + c.drain-2.new.sent } in
-    let after : Shape c.drain.new.sent ≡ Shape (length h) = ap Shape full in
-    elim c.match-drain-2.branch [
-      | in-Ok-drain w ↦ rw w.result-is (written (g.W.AsyncWrite.tells c.args.sink.now) (g.W.AsyncWrite.tells c.drain.new.sink) (g.W.AsyncWrite.tells c.drain-2.new.sink)
-          h p c.self.inside.head_sent c.self.inside.payload_sent c.drain-2.new.sent
-          c.args.self.now _ le behind (sym c.self.view_is) after (rw full at c.in-Ok.ensures.tells) w.in-Ok-drain.ensures.tells)
-      | in-Err-drain w ↦ rw (w.result-is, w.write_halted-in-Err-drain.ensures) (written_part (g.W.AsyncWrite.tells c.args.sink.now) (g.W.AsyncWrite.tells c.drain.new.sink) (g.W.AsyncWrite.tells c.drain-2.new.sink) w.in-Err-drain.halt
-          h p c.self.inside.head_sent c.self.inside.payload_sent c.drain-2.new.sent
-          c.args.self.now _ le behind (sym c.self.view_is) after (rw full at c.in-Ok.ensures.tells) w.in-Err-drain.ensures.tells)
-    ]
+pub returns-in-Ready-Ok-clause-polled : goal.returns-in-Ready-Ok-clause-polled
+returns-in-Ready-Ok-clause-polled g c =
+    let head = c.self.inside.head in
+    let all : c.poll.new.self.sent ≡ length c.poll.new.self.bytes = rw c.in-Ready-Ok.field-0-is at c.in-Ready-Ok.ensures.whole in
+    let full : c.poll.new.self.sent ≡ length head.bytes = all ∙ ap length c.poll.ensures.on.same in
+    rw (← c.self.view_is, full) (both_told c.drain.result (g.W.AsyncWrite.tells c.args.sink.now) (g.W.AsyncWrite.tells c.poll.new.sink) (g.W.AsyncWrite.tells c.drain.new.sink)
+    head.bytes c.self.inside.payload.now head.sent c.self.inside.payload_sent c.drain.new.sent c.self.invariant.0 c.self.invariant.2 (rw (c.in-Ready-Ok.field-0-is, full) at c.in-Ready-Ok.ensures.polled) c.drain.ensures.polled)

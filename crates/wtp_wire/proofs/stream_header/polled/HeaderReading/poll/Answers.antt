@@ -2,7 +2,7 @@ use Rattle.std.proofs.Common.{◌≡◌, ℕ, ◌≤◌, List, [], take, ◌∙�
 use Rattle.std.proofs.lemmas.List.{take-take}
 use Rattle.wtp_core.specs.VarintNeed.{varint_need_range}
 use Rattle.wtp_wire.specs.HeaderNeed.{header_need_is}
-use Rattle.wtp_wire.proofs.HeaderPollLemmas.{header_cut, whole_told, whole_given, halted_told, halted_given, asks_halted}
+use Rattle.wtp_wire.proofs.HeaderPollLemmas.{header_cut, halted_header, whole_told, whole_given, halted_told, halted_given, asks_halted}
 use Rattle.wtp_wire.proofs.stream_header.polled.HeaderReading.poll.Goals as goal
 
 -- the bytes held now start with those held before
@@ -16,11 +16,11 @@ pub returns-in-Err-clause-cut : goal.returns-in-Err-clause-cut
 returns-in-Err-clause-cut g c = header_cut (take c.fill_head.new.len c.fill_head.new.buf) (omega (arith, c.in-Err.ensures.cut, length-take c.fill_head.new.len c.fill_head.new.buf))
 
 pub returns-in-Err-clause-given : goal.returns-in-Err-clause-given
-returns-in-Err-clause-given g c = rw (c.halted_header.ensures, ← c.self.view_is) (halted_given c.in-Err.halt c.fill_head.new.len c.self.inside.len _ (take c.fill_head.new.len c.fill_head.new.buf)
+returns-in-Err-clause-given g c = rw (halted_header _ _ _ c.halted.ensures, ← c.self.view_is) (halted_given c.in-Err.halt c.fill_head.new.len c.self.inside.len _ (take c.fill_head.new.len c.fill_head.new.buf)
     (held_front c.self.inside.len c.fill_head.new.len c.self.inside.bytes c.fill_head.new.buf c.fill_head.ensures.forward c.fill_head.ensures.front))
 
 pub returns-in-Err-clause-polled : goal.returns-in-Err-clause-polled
-returns-in-Err-clause-polled g c = rw (c.halted_header.ensures, ← c.self.view_is) (halted_told (g.S.AsyncRead.tells c.args.source.now) (g.S.AsyncRead.tells c.fill_head.new.source) c.in-Err.halt c.fill_head.new.len
+returns-in-Err-clause-polled g c = rw (halted_header _ _ _ c.halted.ensures, ← c.self.view_is) (halted_told (g.S.AsyncRead.tells c.args.source.now) (g.S.AsyncRead.tells c.fill_head.new.source) c.in-Err.halt c.fill_head.new.len
     (take c.self.inside.len c.self.inside.bytes) (take c.fill_head.new.len c.fill_head.new.buf)
     (omega (arith, c.fill_head.ensures.room, length-take c.fill_head.new.len c.fill_head.new.buf)) (omega (arith, c.in-Err.ensures.cut, length-take c.fill_head.new.len c.fill_head.new.buf)) c.in-Err.ensures.tells)
 

@@ -1,0 +1,229 @@
+//! Error codes by their numbers, what they end, and the error codes of applications.
+use crate::same::same;
+use std::process::Abort;
+use wtp_core::error::{ErrorCode, ErrorScope, Refused, application_codes};
+use wtp_core::ids::{InvalidQStreamId, InvalidSessionId};
+use wtp_core::varint::VarInt;
+
+/// A number, its code (RFC 9114, section 8.1; RFC 9297, section 5.2; RFC 9204, section 6; WebTransport over HTTP/3), and
+/// what it shows.
+static NUMBERS: [(u64, Option<ErrorCode>, &str); 29] = [
+    (0x33, Some(ErrorCode::Datagram), "H3_DATAGRAM_ERROR"),
+    (0x100, Some(ErrorCode::NoError), "H3_NO_ERROR"),
+    (
+        0x103,
+        Some(ErrorCode::StreamCreation),
+        "H3_STREAM_CREATION_ERROR",
+    ),
+    (
+        0x104,
+        Some(ErrorCode::ClosedCriticalStream),
+        "H3_CLOSED_CRITICAL_STREAM",
+    ),
+    (
+        0x105,
+        Some(ErrorCode::FrameUnexpected),
+        "H3_FRAME_UNEXPECTED",
+    ),
+    (0x106, Some(ErrorCode::Frame), "H3_FRAME_ERROR"),
+    (0x107, Some(ErrorCode::ExcessiveLoad), "H3_EXCESSIVE_LOAD"),
+    (0x108, Some(ErrorCode::Id), "H3_ID_ERROR"),
+    (0x109, Some(ErrorCode::Settings), "H3_SETTINGS_ERROR"),
+    (
+        0x10a,
+        Some(ErrorCode::MissingSettings),
+        "H3_MISSING_SETTINGS",
+    ),
+    (
+        0x10b,
+        Some(ErrorCode::RequestRejected),
+        "H3_REQUEST_REJECTED",
+    ),
+    (0x10e, Some(ErrorCode::Message), "H3_MESSAGE_ERROR"),
+    (
+        0x200,
+        Some(ErrorCode::Decompression),
+        "QPACK_DECOMPRESSION_FAILED",
+    ),
+    (
+        0x3994_bd84,
+        Some(ErrorCode::BufferedStreamRejected),
+        "WEBTRANSPORT_BUFFERED_STREAM_REJECTED",
+    ),
+    (
+        0x170d_7b68,
+        Some(ErrorCode::SessionGone),
+        "WEBTRANSPORT_SESSION_GONE",
+    ),
+    (0, None, "0"),
+    (0x21, None, "the first reserved number"),
+    (0x32, None, "below the first code"),
+    (0x34, None, "above the first code"),
+    (0xff, None, "below H3_NO_ERROR"),
+    (0x101, None, "H3_GENERAL_PROTOCOL_ERROR"),
+    (0x102, None, "H3_INTERNAL_ERROR"),
+    (0x10c, None, "H3_REQUEST_CANCELLED"),
+    (0x10d, None, "H3_REQUEST_INCOMPLETE"),
+    (0x10f, None, "H3_CONNECT_ERROR"),
+    (0x110, None, "H3_VERSION_FALLBACK"),
+    (0x201, None, "QPACK_ENCODER_STREAM_ERROR"),
+    (0x52e4_a40f_a8db, None, "an application's error code"),
+    (0x3fff_ffff_ffff_ffff, None, "the largest number"),
+];
+
+/// Asserts the code of a number.
+fn check_number<R: Abort>(rt: &R, number: u64, wanted: Option<ErrorCode>, shows: &str) {
+    let came = match VarInt::try_from_u64(number) {
+        Ok(number) => ErrorCode::try_from(number).ok(),
+        Err(_) => panic!(rt; "{shows}: not a number of QUIC"),
+    };
+    same(rt, came, wanted, shows);
+}
+
+#[test]
+fn numbers_are_those_of_codes(rt: HostRuntime) {
+    for (number, code, shows) in &NUMBERS {
+        check_number(&rt, *number, *code, shows);
+    }
+}
+
+/// A code, and what it ends (RFC 9114, section 8).
+static SCOPES: [(ErrorCode, ErrorScope, &str); 15] = [
+    (ErrorCode::Datagram, ErrorScope::Either, "Datagram"),
+    (ErrorCode::NoError, ErrorScope::Either, "NoError"),
+    (
+        ErrorCode::StreamCreation,
+        ErrorScope::Either,
+        "StreamCreation",
+    ),
+    (
+        ErrorCode::ClosedCriticalStream,
+        ErrorScope::Connection,
+        "ClosedCriticalStream",
+    ),
+    (
+        ErrorCode::FrameUnexpected,
+        ErrorScope::Connection,
+        "FrameUnexpected",
+    ),
+    (ErrorCode::Frame, ErrorScope::Connection, "Frame"),
+    (
+        ErrorCode::ExcessiveLoad,
+        ErrorScope::Connection,
+        "ExcessiveLoad",
+    ),
+    (ErrorCode::Id, ErrorScope::Connection, "Id"),
+    (ErrorCode::Settings, ErrorScope::Connection, "Settings"),
+    (
+        ErrorCode::MissingSettings,
+        ErrorScope::Connection,
+        "MissingSettings",
+    ),
+    (
+        ErrorCode::RequestRejected,
+        ErrorScope::Stream,
+        "RequestRejected",
+    ),
+    (ErrorCode::Message, ErrorScope::Stream, "Message"),
+    (
+        ErrorCode::Decompression,
+        ErrorScope::Connection,
+        "Decompression",
+    ),
+    (
+        ErrorCode::BufferedStreamRejected,
+        ErrorScope::Stream,
+        "BufferedStreamRejected",
+    ),
+    (ErrorCode::SessionGone, ErrorScope::Stream, "SessionGone"),
+];
+
+#[test]
+fn codes_end_a_stream_or_the_connection(rt: HostRuntime) {
+    for (code, scope, shows) in &SCOPES {
+        same(&rt, code.scope(), *scope, shows);
+    }
+}
+
+#[test]
+fn errors_have_their_codes(rt: HostRuntime) {
+    same(
+        &rt,
+        Refused::Code(ErrorCode::Settings).code(),
+        Some(ErrorCode::Settings),
+        "a code",
+    );
+    same(&rt, Refused::Memory.code(), None, "no memory");
+    same(
+        &rt,
+        ErrorCode::from(InvalidSessionId),
+        ErrorCode::Id,
+        "a session ID",
+    );
+    same(
+        &rt,
+        ErrorCode::from(InvalidQStreamId),
+        ErrorCode::Datagram,
+        "a quarter stream ID",
+    );
+}
+
+/// An application's error code and its HTTP/3 error code: 0x52e4a40fa8db, plus the code, plus a thirtieth of it without
+/// the remainder.
+static APPLICATION: [(u32, u64); 9] = [
+    (0, 0x52e4_a40f_a8db),
+    (1, 0x52e4_a40f_a8dc),
+    (29, 0x52e4_a40f_a8f8),
+    (30, 0x52e4_a40f_a8fa),
+    (59, 0x52e4_a40f_a917),
+    (60, 0x52e4_a40f_a919),
+    (255, 0x52e4_a40f_a9e2),
+    (0x7fff_ffff, 0x52e5_2853_ed1e),
+    (0xffff_ffff, 0x52e5_ac98_3162),
+];
+
+/// Asserts an application's error code both ways.
+fn check_application<R: Abort>(rt: &R, code: u32, wanted: u64) {
+    let number = application_codes::to_http3(code);
+    same(rt, number.into_inner(), wanted, code);
+    same(
+        rt,
+        application_codes::from_http3(number).ok(),
+        Some(code),
+        code,
+    );
+}
+
+#[test]
+fn applications_codes_are_numbers_of_http3(rt: HostRuntime) {
+    for (code, number) in &APPLICATION {
+        check_application(&rt, *code, *number);
+    }
+}
+
+/// A number that is not that of an application's error code, and why.
+static OTHERS: [(u64, &str); 7] = [
+    (0, "0"),
+    (0x100, "H3_NO_ERROR"),
+    (0x52e4_a40f_a8da, "below the range"),
+    (0x52e4_a40f_a8f9, "the first reserved number of the range"),
+    (0x52e5_ac98_3152, "the last reserved number of the range"),
+    (0x52e5_ac98_3163, "above the range"),
+    (0x3fff_ffff_ffff_ffff, "the largest number"),
+];
+
+/// Asserts that a number is not that of an application's error code.
+fn check_other<R: Abort>(rt: &R, number: u64, shows: &str) {
+    let came = match VarInt::try_from_u64(number) {
+        Ok(number) => application_codes::from_http3(number).ok(),
+        Err(_) => panic!(rt; "{shows}: not a number of QUIC"),
+    };
+    same(rt, came, None, shows);
+}
+
+#[test]
+fn other_numbers_are_not_applications(rt: HostRuntime) {
+    for (number, shows) in &OTHERS {
+        check_other(&rt, *number, shows);
+    }
+}

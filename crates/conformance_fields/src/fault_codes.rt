@@ -1,0 +1,65 @@
+//! The error codes of faults of sections and of messages.
+use crate::same::same;
+use wtp_core::error::ErrorCode;
+use wtp_fields::qpack::DecodingError;
+use wtp_fields::session::HeadersParseError;
+
+/// A fault of a section, and its code (RFC 9204, section 6).
+static SECTIONS: [(DecodingError, Option<ErrorCode>); 6] = [
+    (DecodingError::UnexpectedFin, Some(ErrorCode::Decompression)),
+    (
+        DecodingError::IntegerOverflow,
+        Some(ErrorCode::Decompression),
+    ),
+    (DecodingError::InvalidString, Some(ErrorCode::Decompression)),
+    (
+        DecodingError::DynamicNotSupported,
+        Some(ErrorCode::Decompression),
+    ),
+    (DecodingError::IndexNotfound, Some(ErrorCode::Decompression)),
+    (DecodingError::Memory, None),
+];
+
+#[test]
+fn faults_of_sections_have_codes(rt: HostRuntime) {
+    for (fault, code) in &SECTIONS {
+        same(&rt, fault.code(), *code, fault);
+    }
+}
+
+/// A fault of a request or of a response, and its code (RFC 9114, section 4.1.2).
+static MESSAGES: [(HeadersParseError, Option<ErrorCode>); 11] = [
+    (HeadersParseError::MissingMethod, Some(ErrorCode::Message)),
+    (
+        HeadersParseError::MethodNotConnect,
+        Some(ErrorCode::Message),
+    ),
+    (HeadersParseError::MissingScheme, Some(ErrorCode::Message)),
+    (HeadersParseError::SchemeNotHttps, Some(ErrorCode::Message)),
+    (HeadersParseError::MissingProtocol, Some(ErrorCode::Message)),
+    (
+        HeadersParseError::ProtocolNotWebTransport,
+        Some(ErrorCode::Message),
+    ),
+    (
+        HeadersParseError::MissingAuthority,
+        Some(ErrorCode::Message),
+    ),
+    (HeadersParseError::MissingPath, Some(ErrorCode::Message)),
+    (
+        HeadersParseError::MissingStatusCode,
+        Some(ErrorCode::Message),
+    ),
+    (
+        HeadersParseError::InvalidStatusCode,
+        Some(ErrorCode::Message),
+    ),
+    (HeadersParseError::Memory, None),
+];
+
+#[test]
+fn faults_of_messages_have_codes(rt: HostRuntime) {
+    for (fault, code) in &MESSAGES {
+        same(&rt, fault.code(), *code, fault);
+    }
+}

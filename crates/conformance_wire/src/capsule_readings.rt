@@ -1,0 +1,334 @@
+//! Capsules read from data that is cut anywhere, and close capsules that are written.
+use crate::same::same;
+use std::process::Abort;
+use wtp_core::bytes::PutError;
+use wtp_wire::capsule::capsules::CloseWebTransportSession;
+use wtp_wire::capsule::{CapsuleError, CapsuleKind, CapsuleOwned, CapsuleReading};
+
+/// How data ends.
+#[derive(Clone, Copy, Debug, PartialEq, Eq)]
+enum Ending {
+    Clean,
+    Cut,
+    TooLong,
+}
+
+/// The next capsule; asked a second time if memory was refused.
+fn next(
+    reading: &mut CapsuleReading,
+    bytes: &mut &[u8],
+) -> Result<Option<CapsuleOwned>, CapsuleError> {
+    match reading.next(bytes) {
+        Err(CapsuleError::Memory) => reading.next(bytes),
+        answer => answer,
+    }
+}
+
+/// Asserts the values of the capsules in a piece of data, which come after `count` others. Returns
+/// how many there are then, and whether a value is too long.
+fn check_piece<R: Abort>(
+    rt: &R,
+    reading: &mut CapsuleReading,
+    piece: &[u8],
+    values: &[&'static [u8]],
+    count: usize,
+    shows: &str,
+) -> (usize, bool) {
+    let mut rest = piece;
+    let mut count = count;
+    for _ in 0..=values.len() {
+        match next(reading, &mut rest) {
+            Ok(None) => break,
+            Ok(Some(capsule)) => {
+                same(
+                    rt,
+                    Some(capsule.payload()),
+                    values.get(count).copied(),
+                    shows,
+                );
+                count = count.saturating_add(1);
+            }
+            Err(fault) => {
+                same(rt, fault, CapsuleError::TooLong, shows);
+                return (count, true);
+            }
+        }
+    }
+    same(rt, rest, [].as_slice(), shows);
+    (count, false)
+}
+
+/// Asserts the values of the capsules in these pieces of data, and how it ends.
+fn check_pieces<R: Abort + AllocGlobal>(
+    rt: &R,
+    pieces: &[&[u8]],
+    values: &[&'static [u8]],
+    ending: Ending,
+    shows: &str,
+) {
+    let mut reading = CapsuleReading::new(rt.alloc());
+    let mut count = 0;
+    for piece in pieces {
+        let (found, too_long) = check_piece(rt, &mut reading, piece, values, count, shows);
+        if too_long {
+            same(rt, (ending, found), (Ending::TooLong, values.len()), shows);
+            return;
+        }
+        count = found;
+    }
+    let came = match reading.finish() {
+        Ok(()) => Ending::Clean,
+        Err(_) => Ending::Cut,
+    };
+    same(rt, (came, count), (ending, values.len()), shows);
+}
+
+/// A row: data, the values of its close capsules, how it ends, and what the row shows.
+type Row = (
+    &'static [u8],
+    &'static [&'static [u8]],
+    Ending,
+    &'static str,
+);
+
+/// Asserts a row cut at each place.
+fn check_cuts<R: Abort + AllocGlobal>(rt: &R, row: &Row) {
+    let (bytes, values, ending, shows) = *row;
+    for at in 0..=bytes.len() {
+        let (front, rest) = bytes.split_at(at);
+        check_pieces(rt, &[front, rest], values, ending, shows);
+    }
+}
+
+/// The value of the close capsule that Chromium 156 and aioquic 1.2.0 sent.
+const BYE: &[u8] = b"\x00\x00\x12\x34bye, w\xc3\xb6rld";
+
+const END: &[u8] = b"\x00\x00\x00\x07end";
+
+/// Worked rows. Types 0x17, 0x40 and 0x69 are reserved: 0x29 * N + 0x17 (RFC 9297, section 5.4).
+static ROWS: [Row; 14] = [
+    (&[], &[], Ending::Clean, "no data"),
+    (
+        &[0x68, 0x43, 0x07, 0, 0, 0, 7, 0x65, 0x6e, 0x64],
+        &[END],
+        Ending::Clean,
+        "a close",
+    ),
+    (
+        &[0x17, 0x00, 0x68, 0x43, 0x07, 0, 0, 0, 7, 0x65, 0x6e, 0x64],
+        &[END],
+        Ending::Clean,
+        "an empty reserved capsule",
+    ),
+    (
+        &[
+            0x40, 0x40, 0x03, 0x68, 0x43, 0x00, 0x40, 0x69, 0x40, 0x01, 0xff, 0x68, 0x43, 0x07, 0,
+            0, 0, 7, 0x65, 0x6e, 0x64,
+        ],
+        &[END],
+        Ending::Clean,
+        "two reserved capsules",
+    ),
+    (
+        &[
+            0x80, 0x00, 0x28, 0x43, 0x40, 0x07, 0, 0, 0, 7, 0x65, 0x6e, 0x64, 0x00, 0x01, 0x61,
+        ],
+        &[END],
+        Ending::Clean,
+        "longer encodings, and a datagram after it",
+    ),
+    (
+        &[
+            0x68, 0x43, 0x07, 0, 0, 0, 7, 0x65, 0x6e, 0x64, 0x68, 0x43, 0x00, 0x68, 0x43, 0x01,
+            0x05,
+        ],
+        &[END, b"", b"\x05"],
+        Ending::Clean,
+        "three closes",
+    ),
+    (&[0x68], &[], Ending::Cut, "half of a type"),
+    (&[0x68, 0x43], &[], Ending::Cut, "no length"),
+    (
+        &[0x68, 0x43, 0x07, 0, 0, 0, 7, 0x65, 0x6e],
+        &[],
+        Ending::Cut,
+        "a byte is missing",
+    ),
+    (
+        &[0x17, 0x02, 0x68],
+        &[],
+        Ending::Cut,
+        "a byte of an unknown one is missing",
+    ),
+    (
+        &[
+            0x17, 0xff, 0xff, 0xff, 0xff, 0xff, 0xff, 0xff, 0xff, 0x68, 0x43, 0x00,
+        ],
+        &[],
+        Ending::Cut,
+        "the longest length",
+    ),
+    (
+        &[0x68, 0x43, 0x00, 0x68, 0x43, 0x44, 0x05, 0x68, 0x43, 0x00],
+        &[b""],
+        Ending::TooLong,
+        "a length of 1029",
+    ),
+    (
+        &[0x68, 0x43, 0x44, 0x04, 0x68, 0x43, 0x00],
+        &[],
+        Ending::Cut,
+        "a length of 1028",
+    ),
+    (
+        &[
+            0x68, 0x43, 0xff, 0xff, 0xff, 0xff, 0xff, 0xff, 0xff, 0xff, 0x00,
+        ],
+        &[],
+        Ending::TooLong,
+        "the longest length of a close",
+    ),
+];
+
+#[test]
+fn data_may_be_cut_anywhere_past_refused_memory(rt: HostRuntime) {
+    for row in &ROWS {
+        check_cuts(&rt, row);
+    }
+}
+
+/// DATA frames' payloads of recorded sessions, and the values of their close capsules.
+static RECORDED: [(&[&[u8]], &[u8], &str); 5] = [
+    (
+        &[
+            &[
+                0xc4, 0x08, 0x82, 0x42, 0xd8, 0x39, 0x59, 0xfa, 0x3b, 0x80, 0xb2, 0x65, 0x7e, 0x03,
+                0x7e, 0xde, 0x1f, 0x37, 0x08, 0xc2, 0x3b, 0x07, 0xff, 0x8c, 0x54, 0x61, 0x55, 0xe2,
+                0x4d, 0xec, 0x63, 0x6a, 0x26, 0xbd, 0xd5, 0x5d, 0x8b, 0x75, 0xea, 0xe6, 0x48, 0xdc,
+                0x29, 0x88, 0x0f, 0xb1, 0x9f, 0x39, 0x43, 0x43, 0x5b, 0x82, 0xcc, 0xf1, 0xd4, 0x15,
+                0xad, 0x34, 0x52, 0x74, 0x52, 0xbd, 0x51, 0xdc, 0xeb, 0xbe, 0xcb, 0x41,
+            ],
+            &[
+                0x68, 0x43, 0x0f, 0x00, 0x00, 0x12, 0x34, 0x62, 0x79, 0x65, 0x2c, 0x20, 0x77, 0xc3,
+                0xb6, 0x72, 0x6c, 0x64,
+            ],
+        ],
+        BYE,
+        "Chromium 156, a reserved capsule in front",
+    ),
+    (
+        &[
+            &[
+                0xc6, 0xe1, 0xff, 0xfd, 0xf6, 0xd8, 0x78, 0x63, 0x2b, 0x7d, 0xf1, 0xbc, 0x7a, 0x62,
+                0xb9, 0x55, 0x56, 0x96, 0xe7, 0x3c, 0x20, 0xf3, 0xe2, 0x0d, 0x4b, 0x90, 0x21, 0x78,
+                0x37, 0x29, 0xf5, 0xe8, 0x0d, 0x7d, 0x54, 0xe1, 0xb0, 0xcd, 0x47, 0x8f, 0x47, 0xe0,
+                0xa5, 0xb0, 0x6d, 0x94, 0xc6, 0x74, 0x85, 0x24, 0x4b, 0xbf,
+            ],
+            &[
+                0x68, 0x43, 0x0f, 0x00, 0x00, 0x12, 0x34, 0x62, 0x79, 0x65, 0x2c, 0x20, 0x77, 0xc3,
+                0xb6, 0x72, 0x6c, 0x64,
+            ],
+        ],
+        BYE,
+        "Chromium 156, another session",
+    ),
+    (
+        &[
+            &[0x68, 0x43, 0x07],
+            &[0x00, 0x00, 0x00, 0x07, 0x65, 0x6e, 0x64],
+        ],
+        END,
+        "aioquic 1.2.0, in two frames",
+    ),
+    (
+        &[
+            &[0x68],
+            &[0x43, 0x07, 0x00, 0x00],
+            &[0x00, 0x07, 0x65, 0x6e, 0x64],
+        ],
+        END,
+        "aioquic 1.2.0, in three frames",
+    ),
+    (
+        &[
+            &[0x80, 0x00, 0x78, 0xae, 0x00],
+            &[0x68, 0x43, 0x07, 0x00, 0x00, 0x00, 0x07, 0x65, 0x6e, 0x64],
+        ],
+        END,
+        "aioquic 1.2.0, a type of four bytes in front",
+    ),
+];
+
+#[test]
+fn recorded_closes_are_found_past_refused_memory(rt: HostRuntime) {
+    for (pieces, value, shows) in &RECORDED {
+        check_pieces(&rt, pieces, &[*value], Ending::Clean, shows);
+    }
+}
+
+#[test]
+fn values_have_a_limit(rt: HostRuntime) {
+    let limit = CapsuleKind::CloseWebTransportSession.longest_value();
+    same(&rt, limit, 1028, "the limit");
+}
+
+/// A close with this reason; asked a second time if memory was refused.
+fn close<R: AllocGlobal>(
+    rt: &R,
+    code: u32,
+    reason: &str,
+) -> Result<CloseWebTransportSession, CapsuleError> {
+    match CloseWebTransportSession::new(rt.alloc(), code, reason) {
+        Err(CapsuleError::Memory) => CloseWebTransportSession::new(rt.alloc(), code, reason),
+        made => made,
+    }
+}
+
+/// Writes a close; a second time if memory was refused.
+fn written<R: AllocGlobal>(rt: &R, close: &CloseWebTransportSession) -> Vec<u8> {
+    let mut bytes = Vec::new(rt.alloc());
+    if close.write(&mut bytes) == Err(PutError::Memory) {
+        bytes = Vec::new(rt.alloc());
+        let _ = close.write(&mut bytes);
+    }
+    bytes
+}
+
+/// Asserts the bytes of a close that is written.
+fn check_written<R: Abort + AllocGlobal>(rt: &R, code: u32, reason: &str, wanted: &[u8]) {
+    let Ok(close) = close(rt, code, reason) else {
+        panic!(rt; "no close: {code}");
+    };
+    let bytes = written(rt, &close);
+    same(rt, bytes.as_slice(), wanted, reason);
+    same(rt, close.write_size(), wanted.len(), reason);
+}
+
+/// Codes and reasons, and the bytes of their capsules.
+static WRITTEN: [(u32, &str, &[u8]); 3] = [
+    (0, "", &[0x68, 0x43, 0x04, 0, 0, 0, 0]),
+    (7, "end", &[0x68, 0x43, 0x07, 0, 0, 0, 7, 0x65, 0x6e, 0x64]),
+    (
+        0xffff_fffe,
+        "\u{f6}",
+        &[0x68, 0x43, 0x06, 0xff, 0xff, 0xff, 0xfe, 0xc3, 0xb6],
+    ),
+];
+
+#[test]
+fn closes_are_written_past_refused_memory(rt: HostRuntime) {
+    for (code, reason, wanted) in &WRITTEN {
+        check_written(&rt, *code, reason, wanted);
+    }
+}
+
+#[test]
+fn made_reasons_have_a_limit_past_refused_memory(rt: HostRuntime) {
+    let letters = [0x61; 1025];
+    let text = str::from_utf8(&letters).unwrap_or("");
+    let over = close(&rt, 0, text).err();
+    same(&rt, over, Some(CapsuleError::TooLong), "1025 bytes");
+    let text = str::from_utf8(&letters[..1024]).unwrap_or("");
+    let size = close(&rt, 0, text).ok().map(|close| close.write_size());
+    same(&rt, size, Some(1032), "1024 bytes");
+}

@@ -1,0 +1,119 @@
+//! Sinks.
+
+ghost use Rattle.std.specs.Prelude.{◌≡◌, Some, ◌+◌, ◌-◌, ◌^◌, ◌<◌, ◌≤◌, [], length, drop};
+ghost use Rattle.test_io.specs.Sink.{one_a_call};
+
+use std::alloc::Global;
+use wtp_core::bytes::{AsyncWrite, WriteStep};
+
+/// The results of a sink that takes eight bytes, one per call, then stops, and is then lost.
+static ONE_A_CALL: [WriteStep; 10] = [
+    WriteStep::Bytes(1),
+    WriteStep::Bytes(1),
+    WriteStep::Bytes(1),
+    WriteStep::Bytes(1),
+    WriteStep::Bytes(1),
+    WriteStep::Bytes(1),
+    WriteStep::Bytes(1),
+    WriteStep::Bytes(1),
+    WriteStep::Stopped,
+    WriteStep::NotConnected,
+];
+
+/// Returns the results of a sink that takes `bytes` bytes (8 at most), one per call, then stops,
+/// and is then lost.
+pub fn stops_after(bytes: usize) -> &'static [WriteStep]
+    ensures few { bytes ≤ 8 → result.now ≡ drop (8 - bytes) one_a_call }
+    ensures more { 8 < bytes → result.now ≡ [] }
+{
+    if bytes > 8 {
+        return &[];
+    }
+    &ONE_A_CALL[8 - bytes..]
+}
+
+/// The results of a sink that is not ready before each byte and takes one per call, for 32 bytes.
+pub static BYTE_BY_BYTE: [[WriteStep; 2]; 32] = [[WriteStep::NotReady, WriteStep::Bytes(1)]; 32];
+
+/// Returns the results of a list, where `Bytes(n)` takes at most n bytes, and at least one; then it
+/// takes all, as a vector does. It has a model of all that it takes.
+#[derive(Drop)]
+pub struct Paced<'a> {
+    steps: &'a [WriteStep],
+    taken: Vec<u8>,
+    waits: usize,
+    stops: usize,
+    losses: usize,
+    ghost waits_fit: { waits + length steps.now < 2 ^ 64 },
+    ghost stops_fit: { stops + length steps.now < 2 ^ 64 },
+    ghost losses_fit: { losses + length steps.now < 2 ^ 64 },
+}
+
+impl<'a> Paced<'a> {
+    /// Creates a sink that returns these results.
+    pub fn new(alloc: Global, steps: &'a [WriteStep]) -> Self
+        ensures { (result.steps.now ≡ steps.now) × (result.taken.items ≡ []) × (result.waits ≡ 0)
+            × (result.stops ≡ 0) × (result.losses ≡ 0) }
+    {
+        Paced {
+            steps,
+            taken: Vec::new(alloc),
+            waits: 0,
+            stops: 0,
+            losses: 0,
+        }
+    }
+
+    /// Returns the bytes that it took.
+    pub fn output(&self) -> &[u8]
+        ensures { result.now ≡ self.now.taken.items }
+    {
+        self.taken.as_slice()
+    }
+
+    /// Returns the number of results not returned yet.
+    pub fn left(&self) -> usize
+        ensures { result ≡ length self.now.steps.now }
+    {
+        self.steps.len()
+    }
+}
+
+impl AsyncWrite for Paced<'_> {
+    ghost tells = { λ s. Some (record {
+      taken = s.taken.items;
+      waits = s.waits;
+      stops = s.stops;
+      losses = s.losses;
+    }) };
+
+    fn poll_write(&mut self, buf: &[u8]) -> WriteStep {
+        if buf.is_empty() {
+            return WriteStep::Bytes(0);
+        }
+        let mut n = buf.len();
+        if let Some((step, rest)) = self.steps.split_first() {
+            self.steps = rest;
+            match *step {
+                WriteStep::Bytes(most) => n = n.min(most.max(1)),
+                WriteStep::NotReady => {
+                    self.waits += 1;
+                    return WriteStep::NotReady;
+                }
+                WriteStep::Stopped => {
+                    self.stops += 1;
+                    return WriteStep::Stopped;
+                }
+                WriteStep::NotConnected => {
+                    self.losses += 1;
+                    return WriteStep::NotConnected;
+                }
+                WriteStep::NoMemory => return WriteStep::NoMemory,
+            }
+        }
+        match self.taken.extend_from_slice(&buf[..n]) {
+            Ok(()) => WriteStep::Bytes(n),
+            Err(_) => WriteStep::NoMemory,
+        }
+    }
+}

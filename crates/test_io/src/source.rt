@@ -1,0 +1,165 @@
+//! Sources.
+
+ghost use Rattle.std.specs.Prelude.{◌≡◌, Some, ◌+◌, ◌^◌, ◌<◌, length, false, if◌then◌else◌};
+ghost use Rattle.wtp_core.specs.Source.{Source};
+ghost use Rattle.wtp_core.specs.Polled.{stop};
+ghost use Rattle.test_io.specs.Source.{ending_of};
+
+use wtp_core::bytes::{AsyncRead, IoReadError, ReadStep};
+
+/// How a source ends.
+#[derive(Clone, Copy, Debug, PartialEq, Eq)]
+pub enum End {
+    /// Its last byte was given.
+    Fin,
+    /// It was reset.
+    Reset,
+    /// The connection was lost.
+    NotConnected,
+}
+
+impl End {
+    /// Every ending.
+    pub const EACH: [End; 3] = [End::Fin, End::Reset, End::NotConnected];
+
+    /// Returns the result of a reading at this end, after `taken` bytes of what it reads.
+    pub fn fault(self, taken: usize) -> IoReadError
+        ensures { result ≡ stop taken (ending_of self) }
+    {
+        match self {
+            End::Fin if taken == 0 => IoReadError::ImmediateFin,
+            End::Fin => IoReadError::UnexpectedFin,
+            End::Reset => IoReadError::Reset,
+            End::NotConnected => IoReadError::NotConnected,
+        }
+    }
+}
+
+/// Gives one byte per call, and is not ready once before each byte and once before its end, where
+/// it stays. It has a model of all that it gives.
+#[derive(Drop)]
+pub struct Trickle<'a> {
+    rest: &'a [u8],
+    end: End,
+    is_ready: bool,
+    given: usize,
+    ghost fits: { given + length rest.now < 2 ^ 64 },
+}
+
+impl<'a> Trickle<'a> {
+    /// Creates a source of these bytes, followed by this end.
+    pub fn new(bytes: &'a [u8], end: End) -> Self
+        ensures { (result.rest.now ≡ bytes.now) × (result.end ≡ end) × (result.given ≡ 0)
+            × (result.is_ready ≡ false) }
+    {
+        Trickle {
+            rest: bytes,
+            end,
+            is_ready: false,
+            given: 0,
+        }
+    }
+
+    /// Returns the bytes not given yet.
+    pub fn rest(&self) -> &'a [u8]
+        ensures { result.now ≡ self.now.rest.now }
+    {
+        self.rest
+    }
+}
+
+impl AsyncRead for Trickle<'_> {
+    ghost tells = { λ s. Some (record {
+      ahead = s.rest.now;
+      ending = ending_of s.end;
+      asked = 0;
+      waits = s.given + (if s.is_ready then 1 else 0);
+    }) };
+
+    fn poll_read(&mut self, buf: &mut [u8]) -> ReadStep {
+        if buf.is_empty() {
+            return ReadStep::Bytes(0);
+        }
+        if !self.is_ready {
+            self.is_ready = true;
+            return ReadStep::NotReady;
+        }
+        if self.rest.is_empty() {
+            return match self.end {
+                End::Fin => ReadStep::Bytes(0),
+                End::Reset => ReadStep::Reset,
+                End::NotConnected => ReadStep::NotConnected,
+            };
+        }
+        let (byte, rest) = self.rest.split_at(1);
+        buf[..1].copy_from_slice(byte);
+        self.rest = rest;
+        self.given += 1;
+        self.is_ready = false;
+        ReadStep::Bytes(1)
+    }
+}
+
+/// Returns the results of a list, where `Bytes(n)` gives the next n bytes, in one call if they all
+/// fit into the buffer, and `Bytes(0)` is an end; then it gives the rest, as a slice does. It has
+/// no model.
+#[derive(Drop)]
+pub struct Answers<'a> {
+    rest: &'a [u8],
+    steps: &'a [ReadStep],
+    piece: usize,
+}
+
+impl<'a> Answers<'a> {
+    /// Creates a source of these bytes, with these results.
+    pub fn new(bytes: &'a [u8], steps: &'a [ReadStep]) -> Self
+        ensures { (result.rest.now ≡ bytes.now) × (result.steps.now ≡ steps.now)
+            × (result.piece ≡ 0) }
+    {
+        Answers {
+            rest: bytes,
+            steps,
+            piece: 0,
+        }
+    }
+
+    /// Returns the bytes not given yet.
+    pub fn rest(&self) -> &'a [u8]
+        ensures { result.now ≡ self.now.rest.now }
+    {
+        self.rest
+    }
+
+    /// Returns the number of results that it has not begun to give.
+    pub fn left(&self) -> usize
+        ensures { result ≡ length self.now.steps.now }
+    {
+        self.steps.len()
+    }
+}
+
+impl AsyncRead for Answers<'_> {
+    fn poll_read(&mut self, buf: &mut [u8]) -> ReadStep {
+        if buf.is_empty() {
+            return ReadStep::Bytes(0);
+        }
+        if self.piece == 0 {
+            match self.steps.split_first() {
+                Some((step, steps)) => {
+                    self.steps = steps;
+                    match *step {
+                        ReadStep::Bytes(n) => self.piece = n,
+                        other => return other,
+                    }
+                }
+                None => self.piece = self.rest.len(),
+            }
+        }
+        let n = self.piece.min(self.rest.len()).min(buf.len());
+        let (front, rest) = self.rest.split_at(n);
+        buf[..n].copy_from_slice(front);
+        self.rest = rest;
+        self.piece -= n;
+        ReadStep::Bytes(n)
+    }
+}

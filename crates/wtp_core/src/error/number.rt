@@ -1,0 +1,53 @@
+//! The error code of a number on the wire.
+
+ghost use Rattle.std.specs.Prelude.{◌≡◌, ◌≢◌, MatchResult};
+ghost use Rattle.wtp_core.specs.declared.error.ErrorCode.{ErrorCode};
+ghost use Rattle.wtp_core.specs.ErrorCodes.{code_number};
+
+use super::ErrorCode;
+use crate::varint::VarInt;
+
+/// The number is not that of an [`ErrorCode`]. An unknown error code is as good as
+/// [`ErrorCode::NoError`] (RFC 9114, section 9).
+#[derive(Debug, Drop, PartialEq, Eq, thiserror::Error)]
+#[error("unknown error code")]
+pub struct UnknownErrorCode;
+
+/// Each error code.
+static CODES: [ErrorCode; 15] = [
+    ErrorCode::Datagram,
+    ErrorCode::NoError,
+    ErrorCode::StreamCreation,
+    ErrorCode::ClosedCriticalStream,
+    ErrorCode::FrameUnexpected,
+    ErrorCode::Frame,
+    ErrorCode::ExcessiveLoad,
+    ErrorCode::Id,
+    ErrorCode::Settings,
+    ErrorCode::MissingSettings,
+    ErrorCode::RequestRejected,
+    ErrorCode::Message,
+    ErrorCode::Decompression,
+    ErrorCode::BufferedStreamRejected,
+    ErrorCode::SessionGone,
+];
+
+impl TryFrom<VarInt> for ErrorCode {
+    type Error = UnknownErrorCode;
+
+    ghost try_from_gives = { λ number result. MatchResult result (λ code. number ≡ code_number code)
+        (λ _. (code : ErrorCode) → number ≢ code_number code) };
+
+    /// Returns the code of this number, the inverse of [`ErrorCode::to_code`]. Not in the Rust
+    /// crate.
+    ///
+    /// Returns an error if no code has this number.
+    fn try_from(number: VarInt) -> Result<Self, UnknownErrorCode> {
+        for code in &CODES {
+            if code.to_code() == number {
+                return Ok(*code);
+            }
+        }
+        Err(UnknownErrorCode)
+    }
+}

@@ -1,0 +1,77 @@
+//! What an error code ends: a stream or the connection.
+
+ghost use Rattle.std.specs.Prelude.{◌≡◌, None, Some};
+ghost use Rattle.wtp_core.specs.declared.error.ErrorCode.TheVariants.{Id, Datagram};
+ghost use Rattle.wtp_core.specs.ErrorScope.{scope_of, code_in};
+
+use super::{ErrorCode, Refused};
+use crate::ids::{InvalidQStreamId, InvalidSessionId};
+
+/// What an error code ends (RFC 9114, section 8). Not in the Rust crate.
+#[derive(Clone, Copy, Debug, PartialEq, Eq)]
+pub enum ErrorScope {
+    /// One stream, which is reset or is no longer read. The connection stays.
+    Stream,
+    /// The connection, which is closed.
+    Connection,
+    /// The stream or the connection: the standards use the code for both, and the rule that is
+    /// violated says which.
+    Either,
+}
+
+impl ErrorCode {
+    /// Returns what the code ends. A stream error may also be treated as a connection error (RFC
+    /// 9114, section 8). Not in the Rust crate.
+    pub fn scope(self) -> ErrorScope
+        ensures { result ≡ scope_of self }
+    {
+        match self {
+            ErrorCode::Datagram | ErrorCode::NoError | ErrorCode::StreamCreation => {
+                ErrorScope::Either
+            }
+            ErrorCode::RequestRejected
+            | ErrorCode::Message
+            | ErrorCode::BufferedStreamRejected
+            | ErrorCode::SessionGone => ErrorScope::Stream,
+            ErrorCode::ClosedCriticalStream
+            | ErrorCode::FrameUnexpected
+            | ErrorCode::Frame
+            | ErrorCode::ExcessiveLoad
+            | ErrorCode::Id
+            | ErrorCode::Settings
+            | ErrorCode::MissingSettings
+            | ErrorCode::Decompression => ErrorScope::Connection,
+        }
+    }
+}
+
+impl Refused {
+    /// Returns the error code, or `None` if memory allocation failed. Not in the Rust crate.
+    pub fn code(&self) -> Option<ErrorCode>
+        ensures { result ≡ code_in self.now }
+    {
+        match self {
+            Refused::Code(code) => Some(*code),
+            Refused::Memory => None,
+        }
+    }
+}
+
+impl From<InvalidSessionId> for ErrorCode {
+    ghost from_gives = { λ _ code. code ≡ Id };
+
+    /// Returns [`ErrorCode::Id`]: an invalid session ID ends the connection (WebTransport over
+    /// HTTP/3, "Session IDs"). Not in the Rust crate.
+    fn from(_error: InvalidSessionId) -> ErrorCode {
+        ErrorCode::Id
+    }
+}
+
+impl From<InvalidQStreamId> for ErrorCode {
+    ghost from_gives = { λ _ code. code ≡ Datagram };
+
+    /// Returns [`ErrorCode::Datagram`] (RFC 9297, section 2.1). Not in the Rust crate.
+    fn from(_error: InvalidQStreamId) -> ErrorCode {
+        ErrorCode::Datagram
+    }
+}

@@ -1,0 +1,39 @@
+//! Laws of error codes and their numbers.
+ghost use Rattle.std.specs.Prelude.{◌≡◌, ℕ, ◌-◌, ◌<◌, ◌≤◌, ◌^◌, Ok};
+ghost use Rattle.wtp_core.specs.declared.error.ErrorCode.{ErrorCode};
+ghost use Rattle.wtp_core.specs.ErrorCodes.{code_number};
+ghost use Rattle.wtp_core.specs.ApplicationCodes.{IsReservedCode, http3_number};
+
+use crate::error::application_codes::{NotAnApplicationCode, from_http3, to_http3};
+use crate::error::{ErrorCode, UnknownErrorCode};
+
+/// Two error codes have two numbers, and none is reserved (RFC 9114, section 8.1).
+pub fn codes_have_numbers()
+    ensures one { (x y : ErrorCode) → code_number x ≡ code_number y → x ≡ y }
+    ensures not_reserved { (x : ErrorCode) → ¬ IsReservedCode (code_number x) }
+{}
+
+/// The number of an error code is read as that code.
+pub fn code_and_back(code: ErrorCode) -> Result<ErrorCode, UnknownErrorCode>
+    ensures { result ≡ Ok code }
+{
+    ErrorCode::try_from(code.to_code())
+}
+
+/// The HTTP/3 error codes of applications, of numbers of 32 bits, are those of a range, from the
+/// first to the last, that are not reserved. Two applications' error codes have two of them.
+pub fn application_codes()
+    ensures range { (n : ℕ) → n < 2 ^ 32
+        → (http3_number 0 ≤ http3_number n) × (http3_number n ≤ http3_number (2 ^ 32 - 1)) }
+    ensures not_reserved { (n : ℕ) → ¬ IsReservedCode (http3_number n) }
+    ensures every { (h : ℕ) → http3_number 0 ≤ h → h ≤ http3_number (2 ^ 32 - 1) → ¬ IsReservedCode h
+        → (n : ℕ) × (n < 2 ^ 32) × (h ≡ http3_number n) }
+    ensures one { (m n : ℕ) → http3_number m ≡ http3_number n → m ≡ n }
+{}
+
+/// The HTTP/3 error code of an application's error code is read as that error code.
+pub fn application_and_back(code: u32) -> Result<u32, NotAnApplicationCode>
+    ensures { result ≡ Ok code }
+{
+    from_http3(to_http3(code))
+}

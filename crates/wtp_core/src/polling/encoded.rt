@@ -1,0 +1,90 @@
+//! Writing up to two encoded numbers, poll by poll.
+ghost use Rattle.std.specs.Prelude.{◌≡◌, ◌≤◌, ◌++◌, length, take, drop, Ok};
+ghost use Rattle.wtp_core.specs.Source.{Telling};
+ghost use Rattle.wtp_core.specs.Varint.{shortest};
+ghost use Rattle.wtp_core.specs.Put.{Writing, unsent, GoesOn, IsSent, WritePolled};
+
+use crate::bytes::buffer_writer::BufferWriter;
+use crate::bytes::polled::{IoWriteError, Polled};
+use crate::bytes::sink::AsyncWrite;
+use crate::bytes::writer::BytesWriter;
+use crate::polling::drain::drain;
+use crate::varint::VarInt;
+use std::marker::Model;
+
+/// The shortest encodings of one or two numbers (RFC 9000, section 16), and the number of their
+/// bytes sent. It sends none of them twice. Not in the Rust crate.
+#[derive(Debug, Drop)]
+pub struct Encoded {
+    bytes: [u8; 16],
+    len: usize,
+    sent: usize,
+}
+
+impl Model for Encoded {
+    ghost Value = { Writing };
+
+    ghost view = { λ s. record { bytes = take s.len s.bytes; sent = s.sent } };
+
+    ghost invariant = { λ s. (s.len ≤ 16) × (s.sent ≤ s.len) };
+}
+
+impl Encoded {
+    /// Encodes one number. Nothing is sent.
+    pub fn one(number: VarInt) -> Self
+        ensures { result ≡ unsent (shortest number) }
+    {
+        let mut bytes = [0; 16];
+        let len = encode(number, &mut bytes);
+        Encoded {
+            bytes,
+            len,
+            sent: 0,
+        }
+    }
+
+    /// Encodes two numbers, one after the other. Nothing is sent.
+    pub fn two(first: VarInt, second: VarInt) -> Self
+        ensures { result ≡ unsent (shortest first ++ shortest second) }
+    {
+        let mut bytes = [0; 16];
+        let one = encode(first, &mut bytes);
+        let two = encode(second, &mut bytes[one..]);
+        Encoded {
+            bytes,
+            len: one + two,
+            sent: 0,
+        }
+    }
+
+    /// Returns the number of bytes sent.
+    pub fn sent(&self) -> usize
+        ensures { result ≡ self.now.sent }
+    {
+        self.sent
+    }
+
+    /// Writes as far as the sink goes, as `drain` does.
+    pub fn poll<W: AsyncWrite>(&mut self, sink: &mut W) -> Polled<Result<(), IoWriteError>>
+        ensures on { GoesOn self.old self.new }
+        ensures whole { IsSent result self.new }
+        ensures polled { Telling (W.tells sink.old) (W.tells sink.new) (WritePolled result self.old self.new) }
+        ensures finished { self.old.sent ≡ length self.old.bytes → (sink.new ≡ sink.old) × (result ≡ Polled.Ready (Ok tt)) }
+    {
+        drain(sink, &self.bytes[..self.len], &mut self.sent)
+    }
+}
+
+/// Writes the shortest encoding to the start of the buffer, and returns its size in bytes.
+fn encode(number: VarInt, buffer: &mut [u8]) -> usize
+    requires { 8 ≤ length buffer.old }
+    ensures bytes { buffer.new ≡ shortest number ++ drop result buffer.old }
+    ensures size { result ≡ length (shortest number) }
+    ensures most { result ≤ 8 }
+{
+    let size = number.size();
+    let mut writer = BufferWriter::new(buffer);
+    let put = writer.put_varint(number);
+    prove!(put.is_ok());
+    size
+}

@@ -1,7 +1,0 @@
-use Rattle.wtp_fields.specs.Field.{held}
-use Rattle.wtp_fields.proofs.Payloads.{payload_written}
-use Rattle.wtp_fields.proofs.headers.written.Goals as goal
-
-pub returns : goal.returns
-returns c =
-    payload_written (held c.args.fields.now) _ _ _ c.in_ok-out.ensures c.in_ok-write_group.ensures c.in_ok-write_group-2.ensures

@@ -1,0 +1,76 @@
+-- How far a Huffman text was decoded, and the windows by which its words are found.
+use Rattle.std.specs.Prelude.{◌≡◌, ℕ, zero, suc, ◌+◌, ◌-◌, ◌*◌, ◌/◌, ◌%◌, ◌^◌, ◌<◌, ◌≤◌}
+use Rattle.std.specs.Prelude.{Bool, cond, List, [], ◌∷◌, ◌++◌}
+use Rattle.std.specs.Bool.{MatchBool}
+use Rattle.std.specs.Str.{IsAscii, IsNotAscii}
+use Rattle.wtp_huffman.specs.Huffman.{bits_of, low_bits, text_code, IsBytes, IsCoded, IsHuffman}
+use Rattle.wtp_huffman.specs.HuffmanRows.{row_at, symbol_at}
+
+-- whether a text is ASCII
+abbrev pub TellsAscii : Bool → List ℕ → Type 0
+TellsAscii is_ascii t = MatchBool is_ascii (IsAscii t) (IsNotAscii t)
+
+-- ---- windows
+
+-- the first n bits as a number, filled with ones past the end
+unfoldable pub window_of : ℕ → List Bool → ℕ
+window_of zero bits = 0
+window_of (suc n) [] = 2 ^ n + window_of n []
+window_of (suc n) (b ∷ bits) = cond b (2 ^ n) 0 + window_of n bits
+
+-- how many of a window's 30 bits come after a word of row k
+abbrev pub room : ℕ → ℕ
+room k = 30 - (row_at k).bits
+
+-- the window begins with a word of row k
+pub record InRow (window k : ℕ) : Type 0 where
+  pub below : k < 21
+  pub low : (row_at k).first * 2 ^ room k ≤ window
+  pub high : window < (row_at k).limit
+
+-- the symbol whose word a window in row k begins with
+abbrev pub symbol_in : ℕ → ℕ → ℕ
+symbol_in window k = symbol_at ((row_at k).skipped + (window / 2 ^ room k - (row_at k).first))
+
+-- the number of bits of the word that a window begins with, and its symbol
+pub record IsWord (window bits symbol : ℕ) : Type 0 where
+  pub row : ℕ
+  pub in_row : InRow window row
+  pub bits_are : bits ≡ (row_at row).bits
+  pub symbol_is : symbol ≡ symbol_in window row
+  pub least : 5 ≤ bits
+  pub most : bits ≤ 30
+  pub known : symbol < 257
+
+-- ---- steps
+
+-- The text begins with the code words of out, and each text with this code begins with out: the
+-- code of the remainder is these bits.
+pub record Reads (text out : List ℕ) (bits : List Bool) : Type 0 where
+  pub bytes : IsBytes out
+  pub so_far : bits_of text ≡ text_code out ++ bits
+  pub each : (t : List ℕ) → IsHuffman t text
+      → (u : List ℕ) × (t ≡ out ++ u) × IsCoded u bits
+
+-- the bits that wait to be decoded: the highest of 64
+abbrev pub waiting_bits : ℕ → ℕ → List Bool
+waiting_bits held waiting = low_bits held (waiting / 2 ^ (64 - held))
+
+-- zeros come after them
+abbrev pub IsClear : ℕ → ℕ → Type 0
+IsClear held waiting = waiting % 2 ^ (64 - held) ≡ 0
+
+-- Some of the waiting bits were decoded to the bytes that were appended, whatever bits come after
+-- those that wait.
+pub record Decodes (old : List ℕ) (held waiting : ℕ) (new : List ℕ) (left rest : ℕ) : Type 0 where
+  pub reads : (text : List ℕ) (behind : List Bool)
+      → Reads text old (waiting_bits held waiting ++ behind)
+      → Reads text new (waiting_bits left rest ++ behind)
+  pub clear : IsClear left rest
+  pub fewer : left < held
+
+-- out was decoded from the code of a text, and these bits of it wait
+abbrev pub IsCodedOn : List ℕ → ℕ → ℕ → Type 0
+IsCodedOn out held waiting =
+    (s : List ℕ) × (t : List ℕ) × (behind : List Bool)
+    × Reads s out (waiting_bits held waiting ++ behind) × IsHuffman t s

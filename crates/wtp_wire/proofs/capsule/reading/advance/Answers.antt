@@ -1,0 +1,75 @@
+use Rattle.std.proofs.Common.{◌≡◌, take, length, sym, ◌∙◌, arith}
+use Rattle.wtp_wire.specs.FrameNeed.{frame_need}
+use Rattle.wtp_wire.proofs.CapsuleReadingLemmas.{Headed, headed, size_of, says_whole, advanced_due, advanced_head, advanced_long, advanced_skip, value_fits, advanced_found, advanced_value, advanced_memory}
+use Rattle.wtp_wire.proofs.capsule.reading.advance.Goals as goal
+
+pub returns-then-due-gt0-clause-advanced : goal.returns-then-due-gt0-clause-advanced
+returns-then-due-gt0-clause-advanced c = rw (c.skip.ensures.due, c.skip.ensures.rest) (advanced_due (take c.args.len.now c.args.head.now) c.args.value.now.items c.args.bytes.now.now c.args.due.now c.requires.part (omega arith))
+
+pub returns-then-not-take_head-clause-advanced : goal.returns-then-not-take_head-clause-advanced
+returns-then-not-take_head-clause-advanced c =
+    let t : Headed (take c.args.len.now c.args.head.now) c.args.value.now.items c.args.due.now c.args.bytes.now.now (take c.take_head.new.len c.take_head.new.head) c.take_head.new.bytes.now
+    = headed c.args.head.now c.take_head.new.head c.args.value.now.items c.args.bytes.now.now c.skip.new.bytes.now c.take_head.new.bytes.now c.args.due.now c.args.len.now c.take_head.new.len c.skip.new.due
+    (omega (arith, c.told-head)) c.take_head.array_long c.requires.fits c.take_head.ensures.room c.take_head.ensures.forward c.requires.part c.skip.ensures.due c.skip.ensures.rest c.if-due-gt0.false c.take_head.ensures.front c.take_head.ensures.stays c.take_head.ensures.joins in
+    let size : length (take c.take_head.new.len c.take_head.new.head) ≡ c.take_head.new.len = size_of c.take_head.new.head c.take_head.new.len c.take_head.array_long c.take_head.ensures.room in
+    let cut = c.take_head.ensures.cut c.if-not-take_head.true in
+    rw c.skip.ensures.due (advanced_head (take c.args.len.now c.args.head.now) c.args.value.now.items c.args.due.now c.args.bytes.now.now (take c.take_head.new.len c.take_head.new.head) c.take_head.new.bytes.now t (omega (arith, cut.0, size)) cut.1)
+
+pub unreachable-requires : goal.unreachable-requires
+unreachable-requires c =
+    let size : length (take c.take_head.new.len c.take_head.new.head) ≡ c.take_head.new.len = size_of c.take_head.new.head c.take_head.new.len c.take_head.array_long c.take_head.ensures.room in
+    says_whole (take c.take_head.new.len c.take_head.new.head) (c.take_head.ensures.whole c.if-not-take_head.false ∙ sym size) (sym c.read_head.ensures ∙ c.in-Unfinished.is)
+
+pub take_value-requires : goal.take_value-requires
+take_value-requires c =
+    let t : Headed (take c.args.len.now c.args.head.now) c.args.value.now.items c.args.due.now c.args.bytes.now.now (take c.take_head.new.len c.take_head.new.head) c.take_head.new.bytes.now
+    = headed c.args.head.now c.take_head.new.head c.args.value.now.items c.args.bytes.now.now c.skip.new.bytes.now c.take_head.new.bytes.now c.args.due.now c.args.len.now c.take_head.new.len c.skip.new.due
+    (omega (arith, c.told-head)) c.take_head.array_long c.requires.fits c.take_head.ensures.room c.take_head.ensures.forward c.requires.part c.skip.ensures.due c.skip.ensures.rest c.if-due-gt0.false c.take_head.ensures.front c.take_head.ensures.stays c.take_head.ensures.joins in
+    let size : length (take c.take_head.new.len c.take_head.new.head) ≡ c.take_head.new.len = size_of c.take_head.new.head c.take_head.new.len c.take_head.array_long c.take_head.ensures.room in
+    value_fits (take c.args.len.now c.args.head.now) c.args.value.now.items c.args.due.now c.args.bytes.now.now (take c.take_head.new.len c.take_head.new.head) c.take_head.new.bytes.now c.in-Keep.kind c.in-Keep.size t (sym c.read_head.ensures ∙ c.in-Keep.is)
+
+pub returns-in-TooLong-clause-advanced : goal.returns-in-TooLong-clause-advanced
+returns-in-TooLong-clause-advanced c =
+    let t : Headed (take c.args.len.now c.args.head.now) c.args.value.now.items c.args.due.now c.args.bytes.now.now (take c.take_head.new.len c.take_head.new.head) c.take_head.new.bytes.now
+    = headed c.args.head.now c.take_head.new.head c.args.value.now.items c.args.bytes.now.now c.skip.new.bytes.now c.take_head.new.bytes.now c.args.due.now c.args.len.now c.take_head.new.len c.skip.new.due
+    (omega (arith, c.told-head)) c.take_head.array_long c.requires.fits c.take_head.ensures.room c.take_head.ensures.forward c.requires.part c.skip.ensures.due c.skip.ensures.rest c.if-due-gt0.false c.take_head.ensures.front c.take_head.ensures.stays c.take_head.ensures.joins in
+    let size : length (take c.take_head.new.len c.take_head.new.head) ≡ c.take_head.new.len = size_of c.take_head.new.head c.take_head.new.len c.take_head.array_long c.take_head.ensures.room in
+    let whole : frame_need (take c.take_head.new.len c.take_head.new.head) ≡ length (take c.take_head.new.len c.take_head.new.head) = c.take_head.ensures.whole c.if-not-take_head.false ∙ sym size in
+    rw c.skip.ensures.due (advanced_long (take c.args.len.now c.args.head.now) c.args.value.now.items c.args.due.now c.args.bytes.now.now (take c.take_head.new.len c.take_head.new.head) c.take_head.new.bytes.now t whole (sym c.read_head.ensures ∙ c.in-TooLong.is))
+
+pub returns-in-Skip-clause-advanced : goal.returns-in-Skip-clause-advanced
+returns-in-Skip-clause-advanced c =
+    let t : Headed (take c.args.len.now c.args.head.now) c.args.value.now.items c.args.due.now c.args.bytes.now.now (take c.take_head.new.len c.take_head.new.head) c.take_head.new.bytes.now
+    = headed c.args.head.now c.take_head.new.head c.args.value.now.items c.args.bytes.now.now c.skip.new.bytes.now c.take_head.new.bytes.now c.args.due.now c.args.len.now c.take_head.new.len c.skip.new.due
+    (omega (arith, c.told-head)) c.take_head.array_long c.requires.fits c.take_head.ensures.room c.take_head.ensures.forward c.requires.part c.skip.ensures.due c.skip.ensures.rest c.if-due-gt0.false c.take_head.ensures.front c.take_head.ensures.stays c.take_head.ensures.joins in
+    let size : length (take c.take_head.new.len c.take_head.new.head) ≡ c.take_head.new.len = size_of c.take_head.new.head c.take_head.new.len c.take_head.array_long c.take_head.ensures.room in
+    let whole : frame_need (take c.take_head.new.len c.take_head.new.head) ≡ length (take c.take_head.new.len c.take_head.new.head) = c.take_head.ensures.whole c.if-not-take_head.false ∙ sym size in
+    advanced_skip (take c.args.len.now c.args.head.now) c.args.value.now.items c.args.due.now c.args.bytes.now.now (take c.take_head.new.len c.take_head.new.head) c.take_head.new.bytes.now c.in-Skip.size t whole (sym c.read_head.ensures ∙ c.in-Skip.is)
+
+pub returns-in-Ok-true-clause-advanced : goal.returns-in-Ok-true-clause-advanced
+returns-in-Ok-true-clause-advanced c =
+    let t : Headed (take c.args.len.now c.args.head.now) c.args.value.now.items c.args.due.now c.args.bytes.now.now (take c.take_head.new.len c.take_head.new.head) c.take_head.new.bytes.now
+    = headed c.args.head.now c.take_head.new.head c.args.value.now.items c.args.bytes.now.now c.skip.new.bytes.now c.take_head.new.bytes.now c.args.due.now c.args.len.now c.take_head.new.len c.skip.new.due
+    (omega (arith, c.told-head)) c.take_head.array_long c.requires.fits c.take_head.ensures.room c.take_head.ensures.forward c.requires.part c.skip.ensures.due c.skip.ensures.rest c.if-due-gt0.false c.take_head.ensures.front c.take_head.ensures.stays c.take_head.ensures.joins in
+    let size : length (take c.take_head.new.len c.take_head.new.head) ≡ c.take_head.new.len = size_of c.take_head.new.head c.take_head.new.len c.take_head.array_long c.take_head.ensures.room in
+    let whole : frame_need (take c.take_head.new.len c.take_head.new.head) ≡ length (take c.take_head.new.len c.take_head.new.head) = c.take_head.ensures.whole c.if-not-take_head.false ∙ sym size in
+    rw c.skip.ensures.due (advanced_found (take c.args.len.now c.args.head.now) c.args.value.now.items c.args.due.now c.args.bytes.now.now (take c.take_head.new.len c.take_head.new.head) c.take_head.new.bytes.now c.take_value.new.value.items c.take_value.new.bytes.now c.in-Keep.kind c.in-Keep.size t whole (sym c.read_head.ensures ∙ c.in-Keep.is) c.take_value.ensures.joins (c.take_value.ensures.whole (cc)))
+
+pub returns-in-Ok-false-clause-advanced : goal.returns-in-Ok-false-clause-advanced
+returns-in-Ok-false-clause-advanced c =
+    let t : Headed (take c.args.len.now c.args.head.now) c.args.value.now.items c.args.due.now c.args.bytes.now.now (take c.take_head.new.len c.take_head.new.head) c.take_head.new.bytes.now
+    = headed c.args.head.now c.take_head.new.head c.args.value.now.items c.args.bytes.now.now c.skip.new.bytes.now c.take_head.new.bytes.now c.args.due.now c.args.len.now c.take_head.new.len c.skip.new.due
+    (omega (arith, c.told-head)) c.take_head.array_long c.requires.fits c.take_head.ensures.room c.take_head.ensures.forward c.requires.part c.skip.ensures.due c.skip.ensures.rest c.if-due-gt0.false c.take_head.ensures.front c.take_head.ensures.stays c.take_head.ensures.joins in
+    let size : length (take c.take_head.new.len c.take_head.new.head) ≡ c.take_head.new.len = size_of c.take_head.new.head c.take_head.new.len c.take_head.array_long c.take_head.ensures.room in
+    let whole : frame_need (take c.take_head.new.len c.take_head.new.head) ≡ length (take c.take_head.new.len c.take_head.new.head) = c.take_head.ensures.whole c.if-not-take_head.false ∙ sym size in
+    let cut = c.take_value.ensures.cut (cc) in
+    rw c.skip.ensures.due (advanced_value (take c.args.len.now c.args.head.now) c.args.value.now.items c.args.due.now c.args.bytes.now.now (take c.take_head.new.len c.take_head.new.head) c.take_head.new.bytes.now c.take_value.new.value.items c.take_value.new.bytes.now c.in-Keep.kind c.in-Keep.size t whole (sym c.read_head.ensures ∙ c.in-Keep.is) c.take_value.ensures.joins cut.0 cut.1)
+
+pub returns-in-Err-clause-advanced : goal.returns-in-Err-clause-advanced
+returns-in-Err-clause-advanced c =
+    let t : Headed (take c.args.len.now c.args.head.now) c.args.value.now.items c.args.due.now c.args.bytes.now.now (take c.take_head.new.len c.take_head.new.head) c.take_head.new.bytes.now
+    = headed c.args.head.now c.take_head.new.head c.args.value.now.items c.args.bytes.now.now c.skip.new.bytes.now c.take_head.new.bytes.now c.args.due.now c.args.len.now c.take_head.new.len c.skip.new.due
+    (omega (arith, c.told-head)) c.take_head.array_long c.requires.fits c.take_head.ensures.room c.take_head.ensures.forward c.requires.part c.skip.ensures.due c.skip.ensures.rest c.if-due-gt0.false c.take_head.ensures.front c.take_head.ensures.stays c.take_head.ensures.joins in
+    let size : length (take c.take_head.new.len c.take_head.new.head) ≡ c.take_head.new.len = size_of c.take_head.new.head c.take_head.new.len c.take_head.array_long c.take_head.ensures.room in
+    let whole : frame_need (take c.take_head.new.len c.take_head.new.head) ≡ length (take c.take_head.new.len c.take_head.new.head) = c.take_head.ensures.whole c.if-not-take_head.false ∙ sym size in
+    rw c.skip.ensures.due (advanced_memory (take c.args.len.now c.args.head.now) c.args.value.now.items c.args.due.now c.args.bytes.now.now (take c.take_head.new.len c.take_head.new.head) c.take_head.new.bytes.now c.take_value.new.value.items c.take_value.new.bytes.now c.in-Keep.kind c.in-Keep.size t whole (sym c.read_head.ensures ∙ c.in-Keep.is) c.take_value.ensures.joins c.in-Err.ensures.refused)

@@ -1,0 +1,285 @@
+//! Reading the capsules of a stream's data, piece by piece. Not in the Rust crate.
+ghost use Rattle.std.specs.Prelude.{◌≡◌, ◌-◌, ◌<◌, ◌≤◌, ◌++◌, ◌↔◌, List, ℕ, [], length, take, drop, true, false, IsTrue, IsOk, Ok, OnErr};
+ghost use Rattle.wtp_wire.specs.CapsuleFront.{End};
+ghost use Rattle.wtp_wire.specs.CapsuleStream.{NextGiven, capsules_held, next_held, with_result};
+ghost use Rattle.wtp_wire.specs.CapsuleSteps.{Advanced, IsPart, Stepped, head_says, holding};
+ghost use Rattle.wtp_wire.specs.FrameNeed.{frame_need, frame_need_most, frame_need_grows};
+ghost use Rattle.wtp_wire.specs.Held.{Held, new_held};
+
+use crate::capsule::{Capsule, CapsuleError, CapsuleKind, CapsuleOwned};
+use std::alloc::{AllocError, Global};
+use std::borrow::CowSlice;
+use std::marker::Model;
+use std::{fmt, mem};
+use wtp_core::bytes::get::varint_need;
+use wtp_core::polling::head::{Head, fill_head};
+use wtp_core::varint::first_varint;
+
+/// The data ended within a capsule.
+#[derive(Debug, Drop, PartialEq, Eq, thiserror::Error)]
+#[error("data ends within a capsule")]
+pub struct CutCapsule;
+
+/// Reads the capsules of known kinds from the data of a stream, which are the payloads of its DATA
+/// frames, cut anywhere (RFC 9297, section 3.2). Not in the Rust crate.
+///
+/// It skips capsules of unknown types, which take no memory. The value of another is allocated
+/// once, at its length, which has a limit: `CapsuleKind::longest_value`.
+#[derive(Drop)]
+pub struct CapsuleReading {
+    alloc: Global,
+    head: [u8; 16],
+    len: usize,
+    value: Vec<u8>,
+    due: u64,
+}
+
+// The number of bytes held, and the number of bytes still to be skipped.
+impl fmt::Debug for CapsuleReading {
+    fn fmt<W: fmt::Write>(&self, f: &mut fmt::Formatter<W>) -> fmt::Result {
+        f.debug_struct("CapsuleReading")
+            .field("head_bytes", &self.len)
+            .field("value_bytes", &self.value.len())
+            .field("due_bytes", &self.due)
+            .finish_non_exhaustive()
+    }
+}
+
+impl Model for CapsuleReading {
+    ghost Value = { Held };
+
+    ghost view = { λ s. record { taken = take s.len s.head ++ s.value.items; due = s.due } };
+
+    ghost invariant = { λ s. (s.len ≤ 16) × IsPart (take s.len s.head) s.value.items s.due };
+}
+
+impl CapsuleReading {
+    /// Creates a reading that has read nothing.
+    pub fn new(alloc: Global) -> Self
+        ensures { result ≡ new_held }
+    {
+        CapsuleReading {
+            alloc,
+            head: [0; 16],
+            len: 0,
+            value: Vec::new(alloc),
+            due: 0,
+        }
+    }
+
+    /// Takes bytes up to the end of the next capsule of a known kind, and returns it; `bytes` are
+    /// then those after it. Returns `None` if more bytes are needed; then it took all of them.
+    ///
+    /// However the data is cut into pieces, the capsules are the same. Errors:
+    ///
+    /// - `TooLong`: the next capsule of a known kind is longer than the limit. `bytes` are those
+    ///   after its length, and each later call returns `TooLong` and takes no byte.
+    /// - `Memory`: allocation failed for a value of at least one byte. Nothing is lost: a later
+    ///   call with the bytes left continues.
+    pub fn next(&mut self, bytes: &mut &[u8]) -> Result<Option<CapsuleOwned>, CapsuleError>
+        ensures given { NextGiven result self.old bytes.old.now self.new bytes.new.now }
+    {
+        loop {
+            if let Some(result) = self.step(bytes) {
+                return result;
+            }
+        }
+    }
+
+    /// Returns an error if the data may not end here, because a capsule has begun (RFC 9297, section
+    /// 3.3).
+    pub fn finish(&self) -> Result<(), CutCapsule>
+        ensures { IsOk result ↔ (next_held self.now [] ≡ End) }
+    {
+        let held = self.head[..self.len].len();
+        if held > 0 {
+            return Err(CutCapsule);
+        }
+        if self.due > 0 {
+            return Err(CutCapsule);
+        }
+        Ok(())
+    }
+
+    /// Takes bytes up to the value of the next unknown capsule, or up to a result.
+    fn step(&mut self, bytes: &mut &[u8]) -> Option<Result<Option<CapsuleOwned>, CapsuleError>>
+        ensures { Stepped result self.old bytes.old.now self.new bytes.new.now }
+    {
+        match advance(
+            bytes,
+            &mut self.head,
+            &mut self.len,
+            &mut self.value,
+            &mut self.due,
+        ) {
+            Reached::Skipping => None,
+            Reached::More => Some(Ok(None)),
+            Reached::TooLong => Some(Err(CapsuleError::TooLong)),
+            Reached::Memory => Some(Err(CapsuleError::Memory)),
+            Reached::Complete(kind) => {
+                let value = mem::replace(&mut self.value, Vec::new(self.alloc));
+                self.len = 0;
+                Some(Ok(Some(Capsule {
+                    kind,
+                    payload: CowSlice::Owned(value),
+                })))
+            }
+        }
+    }
+}
+
+/// How far the bytes went.
+#[derive(Clone, Copy)]
+enum Reached {
+    /// The value of an unknown capsule is next. It has to be skipped.
+    Skipping,
+    /// More bytes are needed.
+    More,
+    /// The value of a capsule is too long.
+    TooLong,
+    /// Allocation failed.
+    Memory,
+    /// The value of a capsule of this kind is complete.
+    Complete(CapsuleKind),
+}
+
+/// Takes bytes of one capsule.
+fn advance(
+    bytes: &mut &[u8],
+    head: &mut [u8; 16],
+    len: &mut usize,
+    value: &mut Vec<u8>,
+    due: &mut u64,
+) -> Reached
+    requires fits { len.old ≤ 16 }
+    requires part { IsPart (take len.old head.old) value.old.items due.old }
+    ensures fits { len.new ≤ 16 }
+    ensures advanced { Advanced result (holding (take len.old head.old) value.old.items due.old) bytes.old.now
+        (take len.new head.new) value.new.items due.new bytes.new.now }
+{
+    skip(bytes, due);
+    if *due > 0 {
+        return Reached::More;
+    }
+    if !take_head(bytes, head, len) {
+        return Reached::More;
+    }
+    match read_head(&head[..*len]) {
+        CapsuleHead::Unfinished => unreachable!(),
+        CapsuleHead::TooLong => Reached::TooLong,
+        CapsuleHead::Skip(size) => {
+            *len = 0;
+            *due = size;
+            Reached::Skipping
+        }
+        CapsuleHead::Keep(kind, size) => match take_value(bytes, value, size) {
+            Ok(true) => Reached::Complete(kind),
+            Ok(false) => Reached::More,
+            Err(_) => Reached::Memory,
+        },
+    }
+}
+
+/// Skips `due` bytes, or all if there are fewer, and subtracts their number from `due`.
+fn skip(bytes: &mut &[u8], due: &mut u64)
+    ensures due { due.new ≡ due.old - length bytes.old.now }
+    ensures rest { bytes.new.now ≡ drop due.old bytes.old.now }
+{
+    let len = bytes.len() as u64;
+    if *due < len {
+        *bytes = bytes.split_at(*due as usize).1;
+        *due = 0;
+    } else {
+        *due -= len;
+        *bytes = bytes.split_at(bytes.len()).1;
+    }
+}
+
+/// The type and the length of a capsule are its head; every capsule starts with both.
+struct CapsuleHeadSize;
+
+impl Head for CapsuleHeadSize {
+    ghost need = { frame_need };
+
+    ghost most = { 16 };
+
+    #[tactic(auto, unfolding(crate::specs::FrameNeed::frame_need))]
+    fn need(held: &[u8]) -> usize {
+        let first = varint_need(held);
+        first + varint_need(held.get(first..).unwrap_or(&[]))
+    }
+
+    ghost need_most = { frame_need_most };
+
+    ghost need_grows = { frame_need_grows };
+}
+
+/// Takes bytes until the type and the length are complete. Returns whether they are.
+fn take_head(bytes: &mut &[u8], head: &mut [u8; 16], len: &mut usize) -> bool
+    requires fits { len.old ≤ 16 }
+    requires within { len.old ≤ frame_need (take len.old head.old) }
+    ensures whole { IsTrue result → frame_need (take len.new head.new) ≡ len.new }
+    ensures cut { result ≡ false → (len.new < frame_need (take len.new head.new)) × (bytes.new.now ≡ []) }
+    ensures room { len.new ≤ 16 }
+    ensures forward { len.old ≤ len.new }
+    ensures front { take len.old head.new ≡ take len.old head.old }
+    ensures stays { frame_need (take len.old head.old) ≡ len.old → (len.new ≡ len.old) × (head.new ≡ head.old) }
+    ensures joins { take len.old head.old ++ bytes.old.now ≡ take len.new head.new ++ bytes.new.now }
+{
+    match fill_head::<CapsuleHeadSize, _>(bytes, head, len) {
+        Ok(()) => true,
+        Err(_) => false,
+    }
+}
+
+/// What the type and the length of a capsule say about the value after them.
+#[derive(Clone, Copy)]
+enum CapsuleHead {
+    /// They are not both complete.
+    Unfinished,
+    /// It has this length, and the capsule is of this kind.
+    Keep(CapsuleKind, usize),
+    /// It has this length, and the type is unknown. It has to be skipped.
+    Skip(u64),
+    /// It is too long.
+    TooLong,
+}
+
+/// Returns what the type and the length say.
+#[tactic(auto, unfolding(crate::specs::CapsuleSteps::head_says))]
+fn read_head(held: &[u8]) -> CapsuleHead
+    ensures { result ≡ head_says held.now }
+{
+    let Some((id, size)) = first_varint(held) else {
+        return CapsuleHead::Unfinished;
+    };
+    let Some((len, _)) = first_varint(&held[size..]) else {
+        return CapsuleHead::Unfinished;
+    };
+    let Some(kind) = CapsuleKind::parse(id) else {
+        return CapsuleHead::Skip(len.into_inner());
+    };
+    let len = len.into_inner() as usize;
+    if len > kind.longest_value() {
+        CapsuleHead::TooLong
+    } else {
+        CapsuleHead::Keep(kind, len)
+    }
+}
+
+/// Takes bytes until the value has `size` bytes. Returns whether it has. Its room is allocated
+/// before the first of them.
+fn take_value(bytes: &mut &[u8], value: &mut Vec<u8>, size: usize) -> Result<bool, AllocError>
+    requires { length value.old.items ≤ size }
+    ensures whole { result ≡ Ok true → length value.new.items ≡ size }
+    ensures cut { result ≡ Ok false → (length value.new.items < size) × (bytes.new.now ≡ []) }
+    ensures refused { OnErr result (length value.new.items < size) }
+    ensures joins { value.old.items ++ bytes.old.now ≡ value.new.items ++ bytes.new.now }
+{
+    let missing = size - value.len();
+    value.reserve_exact(missing)?;
+    let (front, rest) = bytes.split_at(missing.min(bytes.len()));
+    value.extend_from_slice(front)?;
+    *bytes = rest;
+    Ok(value.len() == size)
+}

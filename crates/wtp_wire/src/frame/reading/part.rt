@@ -1,0 +1,156 @@
+//! The bytes that a reading holds of one frame: those of its head (its first two numbers), and
+//! those of its payload.
+ghost use Rattle.std.specs.Prelude.{◌≡◌, ◌<◌, length, false, IsTrue};
+ghost use Rattle.wtp_core.specs.Source.{Telling};
+ghost use Rattle.wtp_wire.specs.FramePart.{Part, new_part, bytes_in, IsReading};
+ghost use Rattle.wtp_wire.specs.FrameSteps.{LacksPayloadRoom, PayloadKeeps, AdvanceKeeps, StopMoves, Grew};
+
+use crate::frame::head::{FrameHead, Said, read_head};
+use std::alloc::Global;
+use std::marker::Model;
+use std::mem;
+use wtp_core::bytes::AsyncRead;
+use wtp_core::polling::fill::{Halt, fill};
+use wtp_core::polling::head::fill_head;
+
+// The most bytes that a head has: two numbers of at most 8 bytes.
+const MAX_HEAD: usize = 16;
+
+/// The reason no more of a frame was read.
+#[derive(Clone, Copy)]
+pub(super) enum Stop {
+    /// The source gave no more bytes.
+    Source(Halt),
+    /// Memory allocation failed for the payload.
+    NoMemory,
+}
+
+/// The bytes held of one frame.
+#[derive(Drop)]
+pub(super) struct FramePart {
+    head: [u8; MAX_HEAD],
+    len: usize,
+    // As long as the payload, once its first byte is to be read; empty before.
+    payload: Vec<u8>,
+    filled: usize,
+}
+
+impl Model for FramePart {
+    ghost use Rattle.std.specs.Prelude.{◌≡◌, ◌≤◌, length, take, vec_len};
+    ghost use Rattle.wtp_wire.specs.FramePart.{Part};
+    ghost use Rattle.wtp_wire.specs.Limits.{max_head};
+
+    ghost Value = { Part };
+
+    ghost view = { λ p. record { head = take p.len p.head; room = vec_len p.payload; payload = take p.filled p.payload.items } };
+
+    ghost invariant = { λ p. (length p.head ≡ max_head) × (p.len ≤ max_head) × (p.filled ≤ vec_len p.payload) };
+}
+
+impl FramePart {
+    /// Creates a part of which nothing is held.
+    pub(super) fn new(alloc: Global) -> Self
+        ensures { result ≡ new_part }
+    {
+        FramePart {
+            head: [0; MAX_HEAD],
+            len: 0,
+            payload: Vec::new(alloc),
+            filled: 0,
+        }
+    }
+
+    /// Returns the number of bytes held of the head.
+    #[inline(always)]
+    pub(super) fn head_len(&self) -> usize
+        ensures { result ≡ length self.now.head }
+    {
+        self.len
+    }
+
+    /// Returns the number of bytes held of the payload.
+    pub(super) fn payload_len(&self) -> usize
+        ensures { result ≡ length self.now.payload }
+    {
+        self.filled
+    }
+
+    /// Returns the number of bytes held.
+    #[inline(always)]
+    pub(super) fn len(&self) -> usize
+        ensures { result ≡ length (bytes_in self.now) }
+    {
+        self.len + self.filled
+    }
+
+    /// Reads until the head is complete, and with it the payload if one follows that may be read.
+    /// Returns what the head says.
+    ///
+    /// The room for the payload is allocated in full before its first byte. All bytes received are
+    /// held, also if this returns an error.
+    pub(super) fn advance<S: AsyncRead>(&mut self, source: &mut S) -> Result<Said, Stop>
+        requires { IsReading self.old }
+        ensures keeps { AdvanceKeeps result self.old self.new }
+        ensures grew { Grew (bytes_in self.old) (bytes_in self.new) }
+        ensures moves { Telling (S.tells source.old) (S.tells source.new) (StopMoves result (bytes_in self.old) (bytes_in self.new)) }
+    {
+        match fill_head::<FrameHead, S>(source, &mut self.head, &mut self.len) {
+            Ok(()) => {}
+            Err(halt) => return Err(Stop::Source(halt)),
+        }
+        let said = read_head(&self.head[..self.len]);
+        match said {
+            Said::Payload(_, size) => match self.fill_payload(source, size as usize) {
+                Ok(()) => Ok(said),
+                Err(stop) => Err(stop),
+            },
+            _ => Ok(said),
+        }
+    }
+
+    /// Reads until a payload of this size is held.
+    #[inline(always)]
+    fn fill_payload<S: AsyncRead>(&mut self, source: &mut S, size: usize) -> Result<(), Stop>
+        requires { 0 < self.old.room → self.old.room ≡ size }
+        ensures head { self.new.head ≡ self.old.head }
+        ensures keeps { PayloadKeeps result size self.old self.new }
+        ensures grew { Grew self.old.payload self.new.payload }
+        ensures moves { Telling (S.tells source.old) (S.tells source.new) (StopMoves result self.old.payload self.new.payload) }
+    {
+        if !self.take_room(size) {
+            return Err(Stop::NoMemory);
+        }
+        match fill(source, self.payload.as_mut_slice(), &mut self.filled) {
+            Ok(()) => Ok(()),
+            Err(halt) => Err(Stop::Source(halt)),
+        }
+    }
+
+    /// Allocates the room for a payload of this size, unless it is there. Returns whether there is
+    /// room then.
+    #[inline(always)]
+    fn take_room(&mut self, size: usize) -> bool
+        requires { 0 < self.old.room → self.old.room ≡ size }
+        ensures head { self.new.head ≡ self.old.head }
+        ensures payload { self.new.payload ≡ self.old.payload }
+        ensures some { IsTrue result → self.new.room ≡ size }
+        ensures none { result ≡ false → LacksPayloadRoom size self.old self.new }
+    {
+        if self.payload.len() == size {
+            return true;
+        }
+        self.payload.reserve_exact(size).is_ok() && self.payload.resize(size, 0).is_ok()
+    }
+
+    /// Takes the payload out, which is all held. Nothing is held then.
+    #[inline(always)]
+    pub(super) fn take_payload(&mut self, alloc: Global) -> Vec<u8>
+        requires { self.old.room ≡ length self.old.payload }
+        ensures payload { result.items ≡ self.old.payload }
+        ensures empty { self.new ≡ new_part }
+    {
+        self.len = 0;
+        self.filled = 0;
+        mem::replace(&mut self.payload, Vec::new(alloc))
+    }
+}
