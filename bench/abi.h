@@ -20,8 +20,12 @@ int64_t bench_drive(const uint8_t *bytes, size_t len);
 /* The decoded bytes, and the coded bytes, that were put into out. */
 int64_t bench_huffman_decode(const uint8_t *text, size_t len, uint8_t *out, size_t room);
 int64_t bench_huffman_encode(const uint8_t *text, size_t len, uint8_t *out, size_t room);
-/* The pairs of a section's map, and the bytes of a map's section that were put into out. */
+/* The pairs of a section's map. */
 int64_t bench_qpack_decode(const uint8_t *section, size_t len);
+/* The size of a section's field list, read line by line with no map: the bytes of each name and each value, and 32 for
+   each line (RFC 9114, section 4.2.2). */
+int64_t bench_qpack_lines(const uint8_t *section, size_t len);
+/* The bytes of a map's section that were put into out. */
 int64_t bench_qpack_encode(const bench_pair *pairs, size_t count, uint8_t *out, size_t room);
 /* 1 where the payload was taken. */
 int64_t bench_settings(const uint8_t *payload, size_t len);

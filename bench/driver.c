@@ -1,5 +1,6 @@
 /* driver INPUTS NAME=LIBRARY.so .. : times each call of abi.h that a library has, over the same inputs, the libraries
-   in turn in each round, and prints the least time of each. A wrong answer ends the run with status 1. */
+   in turn in each round, and prints the least time of each, and at the end how busy the machine was. A wrong answer ends
+   the run with status 1. */
 #define _GNU_SOURCE
 #include "abi.h"
 #include <dlfcn.h>
@@ -7,6 +8,7 @@
 #include <stdlib.h>
 #include <string.h>
 #include <time.h>
+#include <unistd.h>
 
 enum { ROUNDS = 100, LIBRARIES = 4, PAIRS = 64, PIECES = 1024 };
 static const double ROUND = 0.005; /* seconds of the processor */
@@ -190,6 +192,13 @@ static size_t pairs_of(const uint8_t *at, bench_pair *pairs) {
   return count;
 }
 
+/* The size of a field list (RFC 9114, section 4.2.2). */
+static int64_t size_of_list(const bench_pair *pairs, size_t count) {
+  size_t size = 0;
+  for (size_t i = 0; i < count; ++i) size += 32 + pairs[i].name_len + pairs[i].value_len;
+  return (int64_t)size;
+}
+
 /* Whether each library that decodes takes each library's section of these pairs. */
 static void cross(const bench_pair *pairs, size_t fields, void **libraries, int count) {
   for (int i = 0; i < count; ++i) {
@@ -220,10 +229,48 @@ static void sections(const char *folder, void **libraries, int count) {
     task decode = {.label = label, .symbol = "bench_qpack_decode", .inputs = &section, .count = 1, .bytes = section.len};
     snprintf(label, sizeof label, "qpack decode, %s", sets[i]);
     measure(&decode, libraries, count);
+    input listed = {section.bytes, section.len, size_of_list(pairs, fields), NULL};
+    task lines = {.label = label, .symbol = "bench_qpack_lines", .inputs = &listed, .count = 1, .bytes = section.len};
+    snprintf(label, sizeof label, "qpack lines, %s", sets[i]);
+    measure(&lines, libraries, count);
     task encode = {.label = label, .symbol = "bench_qpack_encode", .pairs = pairs, .inputs = &map, .count = 1, .bytes = section.len};
     snprintf(label, sizeof label, "qpack encode, %s", sets[i]);
     measure(&encode, libraries, count);
   }
+}
+
+/* What all processors did since the machine started, in ticks: all of it, and idle and stolen, of which the last is what
+   the machine's other guests took. */
+typedef struct {
+  double all, idle, stolen;
+} work;
+
+static work work_so_far(void) {
+  double t[8] = {0};
+  work w = {0, 0, 0};
+  FILE *file = fopen("/proc/stat", "r");
+  if (!file) return w;
+  if (fscanf(file, "cpu %lf %lf %lf %lf %lf %lf %lf %lf", t, t + 1, t + 2, t + 3, t + 4, t + 5, t + 6, t + 7) == 8) {
+    for (int i = 0; i < 8; ++i) w.all += t[i];
+    w.idle = t[3] + t[4];
+    w.stolen = t[7];
+  }
+  fclose(file);
+  return w;
+}
+
+/* How busy the machine was: a driver alone on it leaves all processors but one idle. */
+static void tell_work(work before, double own) {
+  work after = work_so_far();
+  double all = after.all - before.all, ticks = (double)sysconf(_SC_CLK_TCK), processors = (double)sysconf(_SC_NPROCESSORS_ONLN);
+  if (all <= 0) {
+    printf("\nHow busy the machine was is not known.\n");
+    return;
+  }
+  double idle = after.idle - before.idle, stolen = after.stolen - before.stolen, other = all - idle - stolen - own * ticks;
+  printf("\nOver the run of %.0f s, of the time of %.0f processors: idle %.1f %%, stolen by other guests %.1f %%, this program %.1f %%, "
+         "other programs %.1f %%.\n", all / ticks / processors, processors, 100 * idle / all, 100 * stolen / all,
+         100 * own * ticks / all, 100 * (other > 0 ? other : 0) / all);
 }
 
 static void settings(const char *folder, void **libraries, int count) {
@@ -253,9 +300,11 @@ int main(int argc, char **argv) {
     printf(" %-41s", argv[i + 2]);
   }
   printf("%s\n", count > 1 ? " second : first" : "");
+  work before = work_so_far();
   frames(argv[1], libraries, count);
   huffman(argv[1], libraries, count);
   sections(argv[1], libraries, count);
   settings(argv[1], libraries, count);
+  tell_work(before, now());
   return 0;
 }

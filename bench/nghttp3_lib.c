@@ -7,8 +7,11 @@
 
 static const nghttp3_mem *mem(void) { return nghttp3_mem_default(); }
 
-/* Reads a section; where out is given, the value of the last line goes there. */
-static int64_t decode(const uint8_t *section, size_t len, uint8_t *out, size_t *value_len) {
+/* What is done with each line of a section. */
+typedef void (*line_user)(nghttp3_vec name, nghttp3_vec value, void *data);
+
+/* Reads a section line by line, and hands each to use, if it is given. Returns the number of lines, or -1. */
+static int64_t read_lines(const uint8_t *section, size_t len, line_user use, void *data) {
   static nghttp3_qpack_decoder *decoder;
   static nghttp3_qpack_stream_context *context;
   if (!decoder) {
@@ -17,7 +20,7 @@ static int64_t decode(const uint8_t *section, size_t len, uint8_t *out, size_t *
   } else {
     nghttp3_qpack_stream_context_reset(context);
   }
-  int64_t pairs = 0;
+  int64_t lines = 0;
   const uint8_t *end = section + len;
   for (;;) {
     nghttp3_qpack_nv pair;
@@ -27,16 +30,12 @@ static int64_t decode(const uint8_t *section, size_t len, uint8_t *out, size_t *
     if (taken < 0) return -1;
     section += taken;
     if (flags & NGHTTP3_QPACK_DECODE_FLAG_EMIT) {
-      ++pairs;
-      if (out) {
-        nghttp3_vec value = nghttp3_rcbuf_get_buf(pair.value);
-        memcpy(out, value.base, value.len);
-        *value_len = value.len;
-      }
+      ++lines;
+      if (use) use(nghttp3_rcbuf_get_buf(pair.name), nghttp3_rcbuf_get_buf(pair.value), data);
       nghttp3_rcbuf_decref(pair.name);
       nghttp3_rcbuf_decref(pair.value);
     }
-    if (flags & NGHTTP3_QPACK_DECODE_FLAG_FINAL) return pairs;
+    if (flags & NGHTTP3_QPACK_DECODE_FLAG_FINAL) return lines;
   }
 }
 
@@ -60,7 +59,14 @@ static int64_t encode(const nghttp3_nv *pairs, size_t count, uint8_t *out, size_
   return (int64_t)(front + behind);
 }
 
-int64_t bench_qpack_decode(const uint8_t *section, size_t len) { return decode(section, len, NULL, NULL); }
+int64_t bench_qpack_decode(const uint8_t *section, size_t len) { return read_lines(section, len, NULL, NULL); }
+
+static void add_size(nghttp3_vec name, nghttp3_vec value, void *size) { *(size_t *)size += 32 + name.len + value.len; }
+
+int64_t bench_qpack_lines(const uint8_t *section, size_t len) {
+  size_t size = 0;
+  return read_lines(section, len, add_size, &size) < 0 ? -1 : (int64_t)size;
+}
 
 int64_t bench_qpack_encode(const bench_pair *pairs, size_t count, uint8_t *out, size_t room) {
   nghttp3_nv named[64];
@@ -101,11 +107,23 @@ static uint8_t *section_of(const uint8_t *text, size_t len, size_t *section_len)
   return made[slot].section;
 }
 
+typedef struct {
+  uint8_t *out;
+  size_t len;
+} copy;
+
+static void copy_value(nghttp3_vec name, nghttp3_vec value, void *to) {
+  (void)name;
+  memcpy(((copy *)to)->out, value.base, value.len);
+  ((copy *)to)->len = value.len;
+}
+
 int64_t bench_huffman_decode(const uint8_t *text, size_t len, uint8_t *out, size_t room) {
-  size_t section_len, value_len = 0;
+  size_t section_len;
+  copy value = {out, 0};
   if (len > 65536 || room < 2 * len) return -1; /* at most 64 KiB once decoded, which header text is */
   uint8_t *section = section_of(text, len, &section_len);
-  return decode(section, section_len, out, &value_len) == 1 ? (int64_t)value_len : -1;
+  return read_lines(section, section_len, copy_value, &value) == 1 ? (int64_t)value.len : -1;
 }
 
 int64_t bench_huffman_encode(const uint8_t *text, size_t len, uint8_t *out, size_t room) {

@@ -8,6 +8,7 @@ int64_t wt_bench_drive(const uint8_t *bytes, size_t len);
 int64_t wt_bench_huffman_decode(const uint8_t *text, size_t len, uint8_t *out, size_t room);
 int64_t wt_bench_huffman_encode(const uint8_t *text, size_t len, uint8_t *out, size_t room);
 int64_t wt_bench_qpack_decode(const uint8_t *section, size_t len);
+int64_t wt_bench_qpack_lines(const uint8_t *section, size_t len);
 int64_t wt_bench_qpack_encode(const bench_pair *pairs, size_t count, uint8_t *out, size_t room);
 int64_t wt_bench_settings(const uint8_t *payload, size_t len);
 
@@ -32,6 +33,8 @@ int64_t bench_poll(const uint8_t *bytes, size_t len) { return wt_bench_poll(byte
 int64_t bench_drive(const uint8_t *bytes, size_t len) { return wt_bench_drive(bytes, len); }
 
 int64_t bench_qpack_decode(const uint8_t *section, size_t len) { return wt_bench_qpack_decode(section, len); }
+
+int64_t bench_qpack_lines(const uint8_t *section, size_t len) { return wt_bench_qpack_lines(section, len); }
 
 int64_t bench_qpack_encode(const bench_pair *pairs, size_t count, uint8_t *out, size_t room) {
   return wt_bench_qpack_encode(pairs, count, out, room);

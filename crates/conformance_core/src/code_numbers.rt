@@ -1,12 +1,12 @@
 //! Error codes by their numbers, what they end, and the error codes of applications.
 use crate::same::same;
 use std::process::Abort;
-use wtp_core::error::{ErrorCode, ErrorScope, Refused, application_codes};
-use wtp_core::ids::{InvalidQStreamId, InvalidSessionId};
+use wtp_core::error::{ErrorCode, ErrorScope, Refused, UnknownErrorCode, application_codes};
+use wtp_core::ids::{InvalidQStreamId, InvalidSessionId, InvalidStatusCode};
 use wtp_core::varint::VarInt;
 
-/// A number, its code (RFC 9114, section 8.1; RFC 9297, section 5.2; RFC 9204, section 6; WebTransport over HTTP/3), and
-/// what it shows.
+/// A number, its code (RFC 9114, section 8.1; RFC 9297, section 5.2; RFC 9204, section 6;
+/// WebTransport over HTTP/3), and what it shows.
 static NUMBERS: [(u64, Option<ErrorCode>, &str); 29] = [
     (0x33, Some(ErrorCode::Datagram), "H3_DATAGRAM_ERROR"),
     (0x100, Some(ErrorCode::NoError), "H3_NO_ERROR"),
@@ -166,10 +166,22 @@ fn errors_have_their_codes(rt: HostRuntime) {
         ErrorCode::Datagram,
         "a quarter stream ID",
     );
+    same(
+        &rt,
+        ErrorCode::from(InvalidStatusCode),
+        ErrorCode::Message,
+        "a status code",
+    );
+    same(
+        &rt,
+        ErrorCode::from(UnknownErrorCode),
+        ErrorCode::NoError,
+        "an unknown error code",
+    );
 }
 
-/// An application's error code and its HTTP/3 error code: 0x52e4a40fa8db, plus the code, plus a thirtieth of it without
-/// the remainder.
+/// An application's error code and its HTTP/3 error code: 0x52e4a40fa8db, plus the code, plus a
+/// thirtieth of it without the remainder.
 static APPLICATION: [(u32, u64); 9] = [
     (0, 0x52e4_a40f_a8db),
     (1, 0x52e4_a40f_a8dc),

@@ -5,8 +5,8 @@ use std::process::Abort;
 use wtp_core::error::{ErrorCode, Refused, h3_error_codes, qpack_error_codes, wt_error_codes};
 use wtp_core::varint::VarInt;
 
-/// A code, its constant, its number and its name: those of HTTP/3's streams, of its connections, and
-/// of QPACK and WebTransport.
+/// A code, its constant, its number and its name: those of HTTP/3's streams, of its connections,
+/// and of QPACK and WebTransport.
 const CODES: [(ErrorCode, VarInt, u64, &str); 15] = [
     (
         ErrorCode::Datagram,

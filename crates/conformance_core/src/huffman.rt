@@ -132,8 +132,8 @@ fn refused_strings_past_refused_memory(rt: HostRuntime) {
     }
 }
 
-/// The first allocations of this test are the room that each call takes first, and growth where the code is longer
-/// than the text: each is refused in turn.
+/// The first allocations of this test are the room that each call takes first, and growth where the
+/// code is longer than the text: each is refused in turn.
 #[test]
 fn refused_memory(rt: HostRuntime) -> Result<(), Fail> {
     let coded = b"\xff\xff\xff\xf3\xff\xff\xff\xcf\xff\xff\xff\x3f\xff\xff\xfc";
@@ -146,7 +146,8 @@ fn refused_memory(rt: HostRuntime) -> Result<(), Fail> {
     )
 }
 
-/// Whether a text of one byte is coded to this string of one byte, which must be no text's string otherwise.
+/// Whether a text of one byte is coded to this string of one byte, which must be no text's string
+/// otherwise.
 fn is_text(rt: &impl Abort, alloc: Global, byte: u8) -> bool {
     match decoded(alloc, &[byte]) {
         Ok(text) => {
@@ -204,8 +205,8 @@ fn padded(bits: u32, number: u32) -> ([u8; 4], usize) {
     (window.to_be_bytes(), bits.div_ceil(8) as usize)
 }
 
-/// RFC 7541, Appendix B: a length, the first word that has it, and its symbols in the order of their words. The end of
-/// the string follows the last.
+/// RFC 7541, Appendix B: a length, the first word that has it, and its symbols in the order of
+/// their words. The end of the string follows the last.
 static LENGTHS: [(u32, u32, &[u8]); 21] = [
     (5, 0x0, b"012aceiost"),
     (6, 0x14, b" %-./3456789=A_bdfghlmnpru"),
@@ -297,7 +298,8 @@ fn assert_word(
     Ok(())
 }
 
-/// Asserts that symbols have words of so many bits, one after another from the first, and answers how many they are.
+/// Asserts that symbols have words of so many bits, one after another from the first, and answers
+/// how many they are.
 fn assert_words(
     rt: &impl Abort,
     alloc: Global,

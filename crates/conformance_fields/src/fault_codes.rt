@@ -1,6 +1,7 @@
 //! The error codes of faults of sections and of messages.
 use crate::same::same;
 use wtp_core::error::ErrorCode;
+use wtp_fields::huffman::HuffmanError;
 use wtp_fields::qpack::DecodingError;
 use wtp_fields::session::HeadersParseError;
 
@@ -19,6 +20,16 @@ static SECTIONS: [(DecodingError, Option<ErrorCode>); 6] = [
     (DecodingError::IndexNotfound, Some(ErrorCode::Decompression)),
     (DecodingError::Memory, None),
 ];
+
+/// A fault of a Huffman text is one of its section (RFC 7541, section 5.2; RFC 9204, section
+/// 4.1.2).
+#[test]
+fn faults_of_huffman_texts_have_codes(rt: HostRuntime) {
+    let code = DecodingError::from(HuffmanError::Invalid).code();
+    same(&rt, code, Some(ErrorCode::Decompression), "invalid");
+    let code = DecodingError::from(HuffmanError::Memory).code();
+    same(&rt, code, None, "no memory");
+}
 
 #[test]
 fn faults_of_sections_have_codes(rt: HostRuntime) {

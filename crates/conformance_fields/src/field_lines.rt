@@ -29,8 +29,8 @@ fn taken(lines: &mut FieldLines<'_>, room: &mut FieldRoom, name: &[u8], value: &
     }
 }
 
-/// Asserts that a section has these lines, in this order, and then this fault or none. What comes after the last line
-/// comes again.
+/// Asserts that a section has these lines, in this order, and then this fault or none. What comes
+/// after the last line comes again.
 fn assert_lines(
     rt: &impl Abort,
     alloc: Global,
@@ -53,8 +53,8 @@ fn assert_lines(
     same(rt, taken(&mut lines, &mut room, b"", b""), end, shows);
 }
 
-/// What a row shows, a section without a fault, and its lines. Texts in the Huffman code are those of RFC 7541, appendix
-/// C.4; indices are those of RFC 9204, appendix A.
+/// What a row shows, a section without a fault, and its lines. Texts in the Huffman code are those
+/// of RFC 7541, appendix C.4; indices are those of RFC 9204, appendix A.
 static LINES: [(&str, &[u8], &[(&[u8], &[u8])]); 11] = [
     ("no line", b"\x00\x00", &[]),
     ("a static entry", b"\x00\x00\xd9", &[(b":status", b"200")]),
@@ -202,7 +202,8 @@ fn prefixes_have_faults(rt: HostRuntime) {
     }
 }
 
-/// Sections that nghttp3 1.8.0 sent, and the fields that were given to it: repeated ones, and a value of ISO 8859-1.
+/// Sections that nghttp3 1.8.0 sent, and the fields that were given to it: repeated ones, and a
+/// value of ISO 8859-1.
 static RECORDED: [(&str, &[u8], &[(&[u8], &[u8])]); 3] = [
     (
         "a response with two cookies",
@@ -253,5 +254,37 @@ static RECORDED: [(&str, &[u8], &[(&[u8], &[u8])]); 3] = [
 fn recorded_lines_past_refused_memory(rt: HostRuntime) {
     for (shows, section, lines) in &RECORDED {
         assert_lines(&rt, rt.alloc(), section, lines, None, shows);
+    }
+}
+
+/// Takes every line of a section, once more where memory was refused. Returns how often it was.
+fn refusals(rt: &impl Abort, room: &mut FieldRoom, section: &[u8], shows: &str) -> usize {
+    let mut lines = match FieldLines::new(section) {
+        Ok(lines) => lines,
+        Err(_) => panic!(rt; "{shows}: no prefix"),
+    };
+    let mut refused: usize = 0;
+    for _ in 0..=section.len() {
+        match lines.next_line(room) {
+            None => return refused,
+            Some(Ok(_)) => {}
+            Some(Err(fault)) => {
+                same(rt, fault, DecodingError::Memory, shows);
+                refused = refused.saturating_add(1);
+            }
+        }
+    }
+    panic!(rt; "{shows}: the lines do not end")
+}
+
+/// A room that served some sections serves them again, and takes no memory.
+#[test]
+fn a_room_serves_again_past_refused_memory(rt: HostRuntime) {
+    let mut room = FieldRoom::new(rt.alloc());
+    for (shows, section, _) in &RECORDED {
+        refusals(&rt, &mut room, section, shows);
+    }
+    for (shows, section, _) in &RECORDED {
+        same(&rt, refusals(&rt, &mut room, section, shows), 0, shows);
     }
 }

@@ -1,4 +1,5 @@
-//! Worked rows of field sections: encoded, decoded and refused, what comes back, texts of errors, and refused memory.
+//! Worked rows of field sections: encoded, decoded and refused, what comes back, texts of errors,
+//! and refused memory.
 use crate::same::same;
 use std::alloc::{AllocError, Global};
 use std::collections::BTreeMap;
@@ -57,7 +58,8 @@ fn assert_map<S: Copy + Display + Drop>(
     }
 }
 
-/// Asserts that a section is decoded to these fields, in the order of their names, and to no others.
+/// Asserts that a section is decoded to these fields, in the order of their names, and to no
+/// others.
 pub(crate) fn assert_decoded<S: Copy + Display + Drop>(
     rt: &impl Abort,
     alloc: Global,
@@ -81,7 +83,8 @@ pub(crate) fn assert_encoded(
     Ok(())
 }
 
-/// Asserts that the section of the pairs is decoded to these fields, in the order of their names, and to no others.
+/// Asserts that the section of the pairs is decoded to these fields, in the order of their names,
+/// and to no others.
 pub(crate) fn assert_come_back<S: Copy + Display + Drop>(
     rt: &impl Abort,
     alloc: Global,

@@ -1,5 +1,5 @@
-//! Each first byte of a field line: what the line is by bits 7 to 4 (RFC 9204, sections 4.5.2 to 4.5.6), and what its
-//! low bits say.
+//! Each first byte of a field line: what the line is by bits 7 to 4 (RFC 9204, sections 4.5.2 to
+//! 4.5.6), and what its low bits say.
 use crate::field_sections::{assert_decoded, decoded, joined};
 use crate::same::same;
 use std::alloc::Global;
@@ -7,8 +7,9 @@ use std::process::Abort;
 use std::test::Fail;
 use wtp_fields::qpack::DecodingError;
 
-/// What a line is, its least and its greatest first byte, and what is answered where nothing follows the byte: a line of
-/// the dynamic table is refused by its first byte, and any other is whole or cut.
+/// What a line is, its least and its greatest first byte, and what is answered where nothing
+/// follows the byte: a line of the dynamic table is refused by its first byte, and any other is
+/// whole or cut.
 static FORMS: [(&str, u8, u8, Option<DecodingError>); 10] = [
     (
         "a name past the base",
@@ -117,8 +118,8 @@ fn assert_line(
     Ok(())
 }
 
-/// The first byte of a line of a literal name, the rest of the line, and its field. The byte `&` is as long in the
-/// Huffman code, where it is 0xf8.
+/// The first byte of a line of a literal name, the rest of the line, and its field. The byte `&` is
+/// as long in the Huffman code, where it is 0xf8.
 #[rattlefmt::skip]
 static LITERAL: [(u8, &[u8], &str, &str); 32] = [
     (0x20, b"\x01v", "", "v"),

@@ -47,7 +47,8 @@ pub(crate) fn assert_fields(
     }
 }
 
-/// What a row shows, pairs, and the payload of their map, which is the map of these pairs and no others.
+/// What a row shows, pairs, and the payload of their map, which is the map of these pairs and no
+/// others.
 static PAYLOADS: [(&str, &[(&str, &str)], &[u8]); 4] = [
     ("no field", &[], b"\x00\x00"),
     (
@@ -138,7 +139,8 @@ fn refused_sections_past_refused_memory(rt: HostRuntime) {
     }
 }
 
-/// Inserts a field. Where memory was refused the map must be as it was, and the field is inserted once more.
+/// Inserts a field. Where memory was refused the map must be as it was, and the field is inserted
+/// once more.
 fn insert(
     rt: &impl Abort,
     headers: &mut Headers,

@@ -1,5 +1,6 @@
-//! Field sections (the first bytes of lines, prefixed integers, string literals, the static table), header maps and the
-//! messages of sessions. Tests over the public crates; there is no product code here.
+//! Field sections (the first bytes of lines, prefixed integers, string literals, the static table),
+//! header maps and the messages of sessions. Tests over the public crates; there is no product code
+//! here.
 #![tactic(auto)]
 
 #[cfg(test)]

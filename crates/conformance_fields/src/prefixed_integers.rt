@@ -1,5 +1,5 @@
-//! Prefixed integers (RFC 7541, section 5.1) as the integers of sections, lengths and indices, and string literals whose
-//! lengths they are.
+//! Prefixed integers (RFC 7541, section 5.1) as the integers of sections, lengths and indices, and
+//! string literals whose lengths they are.
 use crate::field_sections::{assert_come_back, assert_decoded, assert_fault, encoded, joined};
 use crate::same::same;
 use std::alloc::Global;
@@ -20,8 +20,8 @@ fn text_of(letter: u8, len: usize) -> Result<&'static str, Fail> {
     Ok(str::from_utf8(bytes)?)
 }
 
-/// What a row shows, the letter of a name and how many, the same of a value, the front of the section of this field, and
-/// the length of the section.
+/// What a row shows, the letter of a name and how many, the same of a value, the front of the
+/// section of this field, and the length of the section.
 static WRITTEN: [(&str, (u8, usize), (u8, usize), &[u8], usize); 12] = [
     ("no letter", (b'Z', 0), (b'Z', 0), b"\x00\x00\x20\x00", 4),
     ("a name of 6", (b'Z', 6), (b'Z', 0), b"\x00\x00\x26Z", 10),
@@ -181,8 +181,8 @@ fn integers_under_each_flag_past_refused_memory(rt: HostRuntime) -> Result<(), F
     Ok(())
 }
 
-/// What a row shows, a section, and the fault of its last integer; none of 2^64 - 1 in the prefix of a section, where
-/// each integer is passed over.
+/// What a row shows, a section, and the fault of its last integer; none of 2^64 - 1 in the prefix
+/// of a section, where each integer is passed over.
 static ANSWERS: [(&str, &[u8], Option<DecodingError>); 27] = [
     ("nothing", b"", Some(DecodingError::UnexpectedFin)),
     ("no group", b"\xff", Some(DecodingError::UnexpectedFin)),
@@ -320,7 +320,8 @@ fn cut_and_great_integers_past_refused_memory(rt: HostRuntime) {
     }
 }
 
-/// Lengths within the prefixes of names and values, at their edges, and of one and two groups after them.
+/// Lengths within the prefixes of names and values, at their edges, and of one and two groups after
+/// them.
 static LENGTHS: [usize; 18] = [
     0, 1, 6, 7, 8, 30, 31, 32, 126, 127, 128, 134, 135, 158, 159, 254, 255, 1023,
 ];

@@ -117,7 +117,8 @@ fn refused_urls_past_refused_memory(rt: HostRuntime) {
     }
 }
 
-/// Inserts a field into a request. Where memory was refused the field must be as it was, and is inserted once more.
+/// Inserts a field into a request. Where memory was refused the field must be as it was, and is
+/// inserted once more.
 fn insert(
     rt: &impl Abort,
     request: &mut SessionRequest,
@@ -216,7 +217,8 @@ fn fault(alloc: Global, pairs: &[(&str, &str)]) -> Result<Option<HeadersParseErr
     Ok(SessionRequest::try_from(made(alloc, pairs)?).err())
 }
 
-/// Pairs, and the fault of the request with these fields. Faults are looked for in the order of the first five.
+/// Pairs, and the fault of the request with these fields. Faults are looked for in the order of the
+/// first five.
 static FAULTS: [(&str, &[(&str, &str)], Option<HeadersParseError>); 10] = [
     (
         "a request",

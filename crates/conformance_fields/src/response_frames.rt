@@ -29,8 +29,8 @@ fn received_payload(
     received(alloc, &Frame::new_headers(CowSlice::Borrowed(payload)))
 }
 
-/// What a row shows, a payload, the status code of its response, and all of its fields. The last is what nghttp3 1.8.0
-/// sent.
+/// What a row shows, a payload, the status code of its response, and all of its fields. The last is
+/// what nghttp3 1.8.0 sent.
 static RESPONSES: [(&str, &[u8], u16, &[(&str, &str)]); 4] = [
     (
         "a static entry",

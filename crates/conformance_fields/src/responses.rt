@@ -1,4 +1,5 @@
-//! Responses by their status codes and of header maps, their frames, their fields, and refused memory.
+//! Responses by their status codes and of header maps, their frames, their fields, and refused
+//! memory.
 use crate::header_maps::{assert_fields, framed, made};
 use crate::same::same;
 use std::alloc::{AllocError, Global};
@@ -68,7 +69,8 @@ fn responses_past_refused_memory(rt: HostRuntime) -> Result<(), Fail> {
     Ok(())
 }
 
-/// Adds a field to a response. Where memory was refused the field must be as it was, and is added once more.
+/// Adds a field to a response. Where memory was refused the field must be as it was, and is added
+/// once more.
 fn add(
     rt: &impl Abort,
     response: &mut SessionResponse,
@@ -93,7 +95,8 @@ fn add(
 /// Texts that are no status codes.
 static NO_CODES: [&str; 7] = ["abc", "", "+", "99", "600", "65736", "2 00"];
 
-/// Asserts that a text is not added as the status of a response, whose status code is 200 before and after.
+/// Asserts that a text is not added as the status of a response, whose status code is 200 before
+/// and after.
 fn assert_no_code(rt: &impl Abort, response: &mut SessionResponse, text: &str) {
     let outcome = response.add(":status", text);
     same(rt, outcome, Err(AddError::InvalidStatusCode), text);

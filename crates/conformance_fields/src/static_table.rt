@@ -143,7 +143,8 @@ fn assert_entry(
     Ok(())
 }
 
-/// The section of one line that refers to the name of an entry, and has the value `~`, which no entry has.
+/// The section of one line that refers to the name of an entry, and has the value `~`, which no
+/// entry has.
 fn named(alloc: Global, index: usize) -> Result<Vec<u8>, AllocError> {
     if index < 15 {
         joined(alloc, [b"\x00\x00", &[0x50 | index as u8], b"\x01~"])
@@ -191,7 +192,8 @@ fn whole_table_past_refused_memory(rt: HostRuntime) -> Result<(), Fail> {
     Ok(())
 }
 
-/// Asserts the same of the name of an entry, and answers whether the entry is the first of this name.
+/// Asserts the same of the name of an entry, and answers whether the entry is the first of this
+/// name.
 fn assert_name(
     rt: &impl Abort,
     alloc: Global,

@@ -205,8 +205,8 @@ fn the_longest_payloads_are_listed(rt: HostRuntime) -> Result<(), Fail> {
     Ok(())
 }
 
-/// The listing of the input; a second time where memory was refused. Nothing is left after a refusal,
-/// and the next call is whole.
+/// The listing of the input; a second time where memory was refused. Nothing is left after a
+/// refusal, and the next call is whole.
 fn listed(alloc: Global, input: &[u8]) -> Result<Listing, AllocError> {
     match list_frames(alloc, ListKind::BiRemote, input) {
         Ok(listing) => Ok(listing),

@@ -324,8 +324,8 @@ fn texts_again(alloc: Global, words: &[&str]) -> Result<Vec<String>, AllocError>
     }
 }
 
-/// Where memory is refused, the program answers status 4 and lists nothing, or the test's own output
-/// took none, which is a fault of writing; another run lists all.
+/// Where memory is refused, the program answers status 4 and lists nothing, or the test's own
+/// output took none, which is a fault of writing; another run lists all.
 fn check_refused<R: Abort + AllocGlobal>(
     rt: &R,
     words: &[&str],

@@ -1,4 +1,5 @@
-//! Bytes that a source has buffered and shows before it is asked, and frames that are read from them.
+//! Bytes that a source has buffered and shows before it is asked, and frames that are read from
+//! them.
 use crate::frame_answers::{Answer, NO_SESSION, UNEXPECTED_FIN, UNKNOWN, check_each, polled};
 use crate::same::same;
 use std::alloc::Global;
@@ -24,12 +25,12 @@ impl AsyncRead for Window<'_> {
         self.rest.poll_read(buf)
     }
 
-    fn at_hand(&self) -> &[u8] {
+    fn buffered(&self) -> &[u8] {
         self.rest.split_at(self.rest.len().min(self.most)).0
     }
 
-    fn take_at_hand(&mut self, count: usize) -> bool {
-        count <= self.most && self.rest.take_at_hand(count)
+    fn take_buffered(&mut self, count: usize) -> bool {
+        count <= self.most && self.rest.take_buffered(count)
     }
 }
 
@@ -42,14 +43,14 @@ const TAKES: [(usize, bool, &[u8]); 4] = [
 ];
 
 #[test]
-fn a_slice_has_all_of_its_bytes_at_hand(rt: HostRuntime) {
+fn a_slice_has_buffered_all_of_its_bytes(rt: HostRuntime) {
     let mut source = b"abcde".as_slice();
-    same(&rt, source.at_hand(), b"abcde".as_slice(), "the whole");
+    same(&rt, source.buffered(), b"abcde".as_slice(), "the whole");
     for (count, takes, left) in TAKES {
-        let taken = source.take_at_hand(count);
+        let taken = source.take_buffered(count);
         same(
             &rt,
-            (taken, source, source.at_hand()),
+            (taken, source, source.buffered()),
             (takes, left, left),
             count,
         );
@@ -57,10 +58,10 @@ fn a_slice_has_all_of_its_bytes_at_hand(rt: HostRuntime) {
 }
 
 #[test]
-fn a_source_need_not_have_bytes_at_hand(rt: HostRuntime) {
+fn a_source_need_not_have_buffered_any(rt: HostRuntime) {
     let mut source = Trickle::new(b"abc", End::Fin);
-    same(&rt, source.at_hand(), [].as_slice(), "no byte is shown");
-    same(&rt, source.take_at_hand(1), false, "no byte is taken");
+    same(&rt, source.buffered(), [].as_slice(), "no byte is shown");
+    same(&rt, source.take_buffered(1), false, "no byte is taken");
     same(&rt, source.rest(), b"abc".as_slice(), "the rest");
 }
 
@@ -152,7 +153,7 @@ const EACH: [Answer<'static>; 7] = [
 ];
 
 #[test]
-fn frames_are_the_same_however_much_is_at_hand(rt: HostRuntime) {
+fn frames_are_the_same_however_much_is_buffered(rt: HostRuntime) {
     for most in 0..=FRAMES.len() {
         let mut source = Window { rest: FRAMES, most };
         let mut reading = FrameReading::new(rt.alloc());

@@ -97,7 +97,8 @@ fn faults_are_named(rt: HostRuntime) {
     }
 }
 
-/// The front of a frame, whole and byte by byte up to each end: it is answered once, and then again.
+/// The front of a frame, whole and byte by byte up to each end: it is answered once, and then
+/// again.
 fn check_cut<R: Abort + AllocGlobal>(rt: &R, front: &[u8]) {
     let mut reading = FrameReading::new(rt.alloc());
     let mut whole = front;

@@ -1,5 +1,5 @@
-//! Numbers, buffers, frames and stream headers that are read and written poll by poll, as tests over the public
-//! crates. There is no product code here.
+//! Numbers, buffers, frames and stream headers that are read and written poll by poll, as tests
+//! over the public crates. There is no product code here.
 #![tactic(auto)]
 
 #[cfg(test)]

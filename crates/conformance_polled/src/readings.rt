@@ -1,4 +1,5 @@
-//! What every reading does, whatever it reads, over a source that gives a byte a poll and then ends.
+//! What every reading does, whatever it reads, over a source that gives a byte a poll and then
+//! ends.
 use crate::frame_answers;
 use crate::same::same;
 use std::process::Abort;
@@ -89,7 +90,8 @@ pub(crate) fn check_stops<R: Abort, K: Reading, S: AsyncRead>(
     }
 }
 
-/// The front of what is read, byte by byte up to this end: the end is answered once, and then again.
+/// The front of what is read, byte by byte up to this end: the end is answered once, and then
+/// again.
 pub(crate) fn check_end<R: Abort, K: Reading>(rt: &R, reading: &mut K, front: &[u8], end: End) {
     let row = (front, end);
     let mut source = Trickle::new(front, end);

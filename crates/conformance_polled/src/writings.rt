@@ -81,8 +81,8 @@ pub(crate) fn check_written<R: Abort + AllocGlobal, K: Writing>(
     same(rt, sink.output(), bytes, "byte by byte");
 }
 
-/// A writing into a sink that takes so many bytes, one a call, then stops, and is then lost; and the
-/// rest into a vector.
+/// A writing into a sink that takes so many bytes, one a call, then stops, and is then lost; and
+/// the rest into a vector.
 pub(crate) fn check_stopped<R: Abort + AllocGlobal, K: Writing>(
     rt: &R,
     writing: &mut K,

@@ -1,4 +1,4 @@
-//! A server's first steps over slices: a request is read and answered. README shows this code.
+//! A server's first steps over slices: a request is read and answered.
 use crate::same::same;
 use std::alloc::Global;
 use std::test::Fail;

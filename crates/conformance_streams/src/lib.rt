@@ -1,12 +1,19 @@
-//! Streams of each kind, whole and poll by poll, as tests over the public crates. There is no product code here.
+//! Streams of each kind, whole and poll by poll, as tests over the public crates. There is no
+//! product code here.
 #![tactic(auto)]
 
+#[cfg(test)]
+mod accepting;
 #[cfg(test)]
 mod answers;
 #[cfg(test)]
 mod bilocal;
 #[cfg(test)]
 mod biremote;
+#[cfg(test)]
+mod cursor;
+#[cfg(test)]
+mod cursor_steps;
 #[cfg(test)]
 mod driven;
 #[cfg(test)]

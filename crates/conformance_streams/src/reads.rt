@@ -166,8 +166,8 @@ pub(crate) static FRAMES_OF_BOTH: [ReadRow; 5] = [
     (b"\x21\x01a", Ok(Some((0x21, b"a"))), 3, "exercise"),
 ];
 
-/// The next poll of the stream answers this. Where allocation failed for a payload, the poll is made
-/// again.
+/// The next poll of the stream answers this. Where allocation failed for a payload, the poll is
+/// made again.
 pub(crate) fn check_poll<R: Abort, K: Reads, S: AsyncRead>(
     rt: &R,
     stream: &mut K,

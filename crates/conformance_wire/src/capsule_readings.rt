@@ -191,10 +191,15 @@ static ROWS: [Row; 14] = [
 ];
 
 #[test]
-fn data_may_be_cut_anywhere_past_refused_memory(rt: HostRuntime) {
+fn data_may_be_cut_anywhere(rt: HostRuntime) {
     for row in &ROWS {
         check_cuts(&rt, row);
     }
+}
+
+#[test]
+fn a_cut_close_is_found_past_refused_memory(rt: HostRuntime) {
+    check_cuts(&rt, &ROWS[1]);
 }
 
 /// DATA frames' payloads of recorded sessions, and the values of their close capsules.

@@ -1,11 +1,13 @@
-//! Frames, read and written whole, capsules, settings and stream headers. Tests over the public crates; there is no
-//! product code here.
+//! Frames, read and written whole, capsules, settings and stream headers. Tests over the public
+//! crates; there is no product code here.
 #![tactic(auto)]
 
 #[cfg(test)]
 mod capsule_readings;
 #[cfg(test)]
 mod capsules;
+#[cfg(test)]
+mod fault_codes;
 #[cfg(test)]
 mod frames;
 #[cfg(test)]
@@ -14,6 +16,8 @@ mod printed;
 mod same;
 #[cfg(test)]
 mod settings;
+#[cfg(test)]
+mod settings_listed;
 #[cfg(test)]
 mod stream_headers;
 #[cfg(test)]

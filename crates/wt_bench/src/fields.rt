@@ -1,16 +1,19 @@
 //! Field sections and settings, for C.
 
-ghost use Rattle.std.specs.Prelude.{◌≡◌, ◌≢◌, ℕ, ◌<◌, ◌^◌, pos, negsuc, List, length, Ok};
+ghost use Rattle.std.specs.Prelude.{◌≡◌, ◌≢◌, ℕ, ◌+◌, ◌<◌, ◌^◌, pos, negsuc, List, [], length};
+ghost use Rattle.std.specs.Prelude.{Ok, IfSome};
 ghost use Rattle.wtp_fields.specs.Field.{Field};
 ghost use Rattle.wt_bench.specs.Pair.{pair_fields};
-ghost use Rattle.wtp_fields.specs.FieldSection.{map_at, section_of};
+ghost use Rattle.wt_bench.specs.Fields.{field_size, list_size};
+ghost use Rattle.wtp_fields.specs.FieldSection.{after_prefix, map_at, section_of};
+ghost use Rattle.wtp_fields.specs.FieldLines.{AreOctetLines, seen_line};
 ghost use Rattle.wtp_wire.specs.Settings.{settings_in};
 
 use super::pair::Pair;
 use super::put;
 use std::alloc::Global;
 use std::borrow::CowSlice;
-use wtp_fields::qpack::{Decoder, Encoder};
+use wtp_fields::qpack::{Decoder, Encoder, FieldLine, FieldLines, FieldRoom};
 use wtp_wire::frame::Frame;
 use wtp_wire::settings::Settings;
 
@@ -49,6 +52,39 @@ pub extern "C" fn wt_bench_qpack_decode(alloc: Global, section: &[u8]) -> i64
     match Decoder::decode(alloc, section) {
         Ok(fields) => fields.len().cast_signed() as i64,
         Err(_) => -1,
+    }
+}
+
+/// Returns the size of a list of fields with one more field (RFC 9114, section 4.2.2).
+fn add_line(size: usize, line: FieldLine<'_>) -> Option<usize>
+    ensures { IfSome result (λ sum. sum ≡ size + field_size (seen_line line.entry)) }
+{
+    let size = size.checked_add(32)?;
+    let size = size.checked_add(line.name.len())?;
+    size.checked_add(line.value.len())
+}
+
+/// Reads the lines of a field section one by one, and returns the size of their list.
+#[unsafe(no_mangle)]
+pub extern "C" fn wt_bench_qpack_lines(alloc: Global, section: &[u8]) -> i64
+    ensures { result ≢ negsuc 0 → (lines : List ℕ) × (fields : List Field)
+        × (after_prefix section.now ≡ Ok lines) × AreOctetLines lines fields []
+        × (result ≡ pos (list_size fields)) }
+{
+    let Ok(mut lines) = FieldLines::new(section) else {
+        return -1;
+    };
+    let mut room = FieldRoom::new(alloc);
+    let mut size: usize = 0;
+    'lines: loop {
+        match lines.next_line(&mut room) {
+            None => return i64::try_from(size).unwrap_or(-1),
+            Some(Err(_)) => return -1,
+            Some(Ok(line)) => match add_line(size, line) {
+                Some(sum) => size = sum,
+                None => return -1,
+            },
+        }
     }
 }
 

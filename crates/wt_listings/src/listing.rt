@@ -2,8 +2,8 @@
 
 mod cut_source;
 pub mod frames;
-mod lines;
-mod recorded;
+pub mod lines;
+pub mod recorded;
 pub mod request;
 pub mod stepped;
 

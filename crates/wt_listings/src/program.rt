@@ -136,7 +136,7 @@ fn list(alloc: Global, command: Command, input: &[u8]) -> Result<Listing, AllocE
 }
 
 /// Returns all of the input.
-fn read_input<R: Read>(alloc: Global, input: &mut R) -> Result<Vec<u8>, Fault>
+pub fn read_input<R: Read>(alloc: Global, input: &mut R) -> Result<Vec<u8>, Fault>
     ensures whole { IfOk result (λ bytes. IfSome (R.remaining input.old) (λ xs. bytes.items ≡ xs)) }
     ensures short { IfOk result (λ bytes. vec_len bytes ≤ 1048576) }
     ensures ended { IfOk result (λ _. IsAtEnd (R.remaining input.new)) }
@@ -162,7 +162,7 @@ fn read_input<R: Read>(alloc: Global, input: &mut R) -> Result<Vec<u8>, Fault>
 }
 
 /// Writes the whole listing.
-fn write_output<W: Write>(output: &mut W, text: &[u8]) -> Result<(), Fault>
+pub fn write_output<W: Write>(output: &mut W, text: &[u8]) -> Result<(), Fault>
     ensures whole { OnOk result (Appends (W.contents output.old) (W.contents output.new) text.now) }
     ensures fault { IfErr result (λ e. e ≡ Fault.WriteFault) }
 {

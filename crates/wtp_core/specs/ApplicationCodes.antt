@@ -1,4 +1,5 @@
--- Error codes of applications as error codes of HTTP/3 (WebTransport over HTTP/3, "Resetting Data Streams").
+-- Error codes of applications as error codes of HTTP/3 (WebTransport over HTTP/3, "Resetting Data
+-- Streams").
 use Rattle.std.specs.Prelude.{◌≡◌, ℕ, ◌+◌, ◌*◌, ◌/◌}
 
 -- an HTTP/3 error code that is reserved to exercise unknown codes (RFC 9114, section 8.1)

@@ -39,7 +39,8 @@ module _ {P : Type 0} where
   abbrev pub end_in : BufferReaderChild P → ℕ
   end_in c = offset_in c + length (left_in c)
 
-  -- what the child's reading leaves unchanged, given all the bytes of a parent and those that it has left
+  -- what the child's reading leaves unchanged, given all the bytes of a parent and those that it
+  -- has left
   abbrev pub kept_in : (P → List ℕ) → (P → List ℕ) → BufferReaderChild P → Kept
   kept_in whole behind c = record {
     whole = c.buffer.now;

@@ -1,4 +1,5 @@
--- The numbers and printed names of error codes (RFC 9114, section 8.1; RFC 9297, section 5.2; RFC 9204, section 6; WebTransport over HTTP/3).
+-- The numbers and printed names of error codes (RFC 9114, section 8.1; RFC 9297, section 5.2; RFC
+-- 9204, section 6; WebTransport over HTTP/3).
 use Rattle.std.specs.Prelude.{ℕ, List, ◌++◌, codes}
 use Rattle.std.specs.Fmt.{decimal}
 use Rattle.wtp_core.specs.declared.error.ErrorCode.{ErrorCode}

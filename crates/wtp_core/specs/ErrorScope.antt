@@ -8,12 +8,13 @@ use Rattle.wtp_core.specs.declared.error.scope.ErrorScope.{ErrorScope}
 use Rattle.wtp_core.specs.declared.error.scope.ErrorScope.TheVariants.{Stream, Connection, Either}
 
 abbrev pub scope_of : ErrorCode → ErrorScope
--- a datagram that is malformed ends the connection, one of a request that has none ends the request (RFC 9297, sections
--- 2 and 2.1)
+-- a datagram that is malformed ends the connection, one of a request that has none ends the request
+-- (RFC 9297, sections 2 and 2.1)
 scope_of Datagram = Either
 -- a connection or a stream that is closed without an error (RFC 9114, sections 4.1.1 and 5.2)
 scope_of NoError = Either
--- a second control or push stream ends the connection, a stream of an unknown type only itself (RFC 9114, section 6.2)
+-- a second control or push stream ends the connection, a stream of an unknown type only itself (RFC
+-- 9114, section 6.2)
 scope_of StreamCreation = Either
 scope_of ClosedCriticalStream = Connection  -- RFC 9114, section 6.2.1
 scope_of FrameUnexpected = Connection  -- RFC 9114, sections 4.1 and 7.2
@@ -25,7 +26,8 @@ scope_of MissingSettings = Connection  -- RFC 9114, section 6.2.1
 scope_of RequestRejected = Stream  -- RFC 9114, section 4.1.1
 scope_of Message = Stream  -- RFC 9114, section 4.1.2
 scope_of Decompression = Connection  -- RFC 9204, section 6
-scope_of BufferedStreamRejected = Stream  -- WebTransport over HTTP/3, "Buffering Incoming Streams and Datagrams"
+-- WebTransport over HTTP/3, "Buffering Incoming Streams and Datagrams"
+scope_of BufferedStreamRejected = Stream
 scope_of SessionGone = Stream  -- WebTransport over HTTP/3, "Session Termination"
 
 -- the code of a refusal, if there is one

@@ -13,7 +13,8 @@ abbrev pub FillKeepsLengths : {U : Type 0} → Result U Halt → ℕ → ℕ →
 FillKeepsLengths (Ok _) at room = at ≡ room
 FillKeepsLengths (Err _) at room = at < room
 
--- The bytes held grew by the source's first bytes, and each call but the last `extra` ones gave at least one of them.
+-- The bytes held grew by the source's first bytes, and each call but the last `extra` ones gave at
+-- least one of them.
 pub record Gains (held new : List ℕ) (a b : Source) (extra : ℕ) : Type 0 where
   pub kept : held ++ a.ahead ≡ new ++ b.ahead
   pub ending : b.ending ≡ a.ending
@@ -32,7 +33,8 @@ abbrev pub FillMoves : {U : Type 0} → Result U Halt → List ℕ → List ℕ 
 FillMoves (Ok _) held new a b = Gains held new a b 0
 FillMoves (Err h) held new a b = Gains held new a b 1 × HaltIsTrue h a b
 
-abbrev pub FillTells : {U : Type 0} → Result U Halt → List ℕ → List ℕ → Option Source → Option Source → Type 0
+abbrev pub FillTells :
+    {U : Type 0} → Result U Halt → List ℕ → List ℕ → Option Source → Option Source → Type 0
 FillTells r held new old now = Telling old now (λ a b. FillMoves r held new a b)
 
 -- the error of a reading that stopped after this many bytes were taken, if the source gives no more
@@ -42,12 +44,15 @@ halt_fault halt.Fin taken = Some (stop taken AtEnd)
 halt_fault halt.Reset taken = Some (stop taken AtReset)
 halt_fault halt.NotConnected taken = Some (stop taken AtDisconnection)
 
--- the result of a poll that stopped with this fault, or with none; `gives` says which errors a fault becomes
-abbrev pub HaltsAs : {T E : Type 0} → (IoReadError → E → Type 0) → Option IoReadError → Polled (Result T E) → Type 0
+-- the result of a poll that stopped with this fault, or with none; `gives` says which errors a
+-- fault becomes
+abbrev pub HaltsAs :
+    {T E : Type 0} → (IoReadError → E → Type 0) → Option IoReadError → Polled (Result T E) → Type 0
 HaltsAs gives None result = result ≡ Pending
 HaltsAs {E = E} gives (Some fault) result = (e : E) × gives fault e × (result ≡ Ready (Err e))
 
 -- the same where `wrap` makes the error of the fault
-abbrev pub halted_poll : {T E : Type 0} → (IoReadError → E) → Option IoReadError → Polled (Result T E)
+abbrev pub halted_poll :
+    {T E : Type 0} → (IoReadError → E) → Option IoReadError → Polled (Result T E)
 halted_poll wrap None = Pending
 halted_poll wrap (Some fault) = Ready (Err (wrap fault))

@@ -29,9 +29,11 @@ VarintPolled Pending old new a b = Waits old new a b
 VarintPolled Again old new a b = ⊥
 VarintPolled NoMemory old new a b = ⊥
 
--- More bytes were given after those held, and none was lost. This holds of every source, also of one without a model.
+-- More bytes were given after those held, and none was lost. This holds of every source, also of
+-- one without a model.
 abbrev pub VarintGiven : Polled (Result ℕ IoReadError) → List ℕ → List ℕ → Type 0
-VarintGiven (Ready (Ok v)) old new = (new ≡ []) × ((given : List ℕ) × (number_at (old ++ given) ≡ Some (v, [])))
+VarintGiven (Ready (Ok v)) old new =
+    (new ≡ []) × ((given : List ℕ) × (number_at (old ++ given) ≡ Some (v, [])))
 VarintGiven (Ready (Err e)) old new = (given : List ℕ) × (new ≡ old ++ given)
 VarintGiven Pending old new = (given : List ℕ) × (new ≡ old ++ given)
 VarintGiven Again old new = ⊥
@@ -39,17 +41,21 @@ VarintGiven NoMemory old new = ⊥
 
 -- ---- into a buffer
 
-abbrev pub BufferPolled : {U : Type 0} → Polled (Result U IoReadError) → List ℕ → List ℕ → Source → Source → Type 0
+abbrev pub BufferPolled :
+    {U : Type 0} → Polled (Result U IoReadError) → List ℕ → List ℕ → Source → Source → Type 0
 BufferPolled (Ready (Ok _)) old new a b = new ++ b.ahead ≡ old ++ a.ahead
 BufferPolled (Ready (Err e)) old new a b = Stops old new e a b
 BufferPolled Pending old new a b = Waits old new a b
 BufferPolled Again old new a b = ⊥
 BufferPolled NoMemory old new a b = ⊥
 
--- It is finished exactly if this many bytes are held. This holds of every source, also of one without a model.
+-- It is finished exactly if this many bytes are held. This holds of every source, also of one
+-- without a model.
 abbrev pub BufferGiven : {U : Type 0} → Polled (Result U IoReadError) → ℕ → List ℕ → List ℕ → Type 0
-BufferGiven (Ready (Ok _)) room old new = (length new ≡ room) × ((given : List ℕ) × (new ≡ old ++ given))
-BufferGiven (Ready (Err e)) room old new = (length new < room) × ((given : List ℕ) × (new ≡ old ++ given))
+BufferGiven (Ready (Ok _)) room old new =
+    (length new ≡ room) × ((given : List ℕ) × (new ≡ old ++ given))
+BufferGiven (Ready (Err e)) room old new =
+    (length new < room) × ((given : List ℕ) × (new ≡ old ++ given))
 BufferGiven Pending room old new = (length new < room) × ((given : List ℕ) × (new ≡ old ++ given))
 BufferGiven Again room old new = ⊥
 BufferGiven NoMemory room old new = ⊥

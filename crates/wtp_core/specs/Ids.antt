@@ -1,4 +1,5 @@
--- IDs of streams (RFC 9000, section 2.1) and of WebTransport sessions, and status codes (RFC 9110, section 15).
+-- IDs of streams (RFC 9000, section 2.1) and of WebTransport sessions, and status codes (RFC 9110,
+-- section 15).
 use Rattle.std.specs.Prelude.{◌≡◌, ℕ, ◌%◌, ◌/◌, ◌≤◌, List}
 use Rattle.std.specs.Str.Parse.{IsNumeral, digits_value, without_leading_plus}
 
@@ -22,6 +23,7 @@ IsStatus code = (100 ≤ code) × (code ≤ 599)
 abbrev pub status_in : List ℕ → ℕ
 status_in text = digits_value 10 (without_leading_plus text)
 
--- the text of a status code: an optional plus and at least one decimal digit, of a value in the range
+-- the text of a status code: an optional plus and at least one decimal digit, of a value in the
+-- range
 abbrev pub IsStatusText : List ℕ → Type 0
 IsStatusText text = IsNumeral 10 (without_leading_plus text) × IsStatus (status_in text)

@@ -35,7 +35,11 @@ CountFits Reset room = Unit {0}
 CountFits NotConnected room = Unit {0}
 
 abbrev pub StepPasses : ReadStep → Option Source → Option Source → Type 0
-StepPasses (Bytes n) old now = Telling old now (λ a b. Passed n a b 1 × AsksOnce a b × (n ≡ 0 → (b.ahead ≡ []) × (a.ending ≡ AtEnd)))
+StepPasses (Bytes n) old now =
+    Telling old now
+    (λ a b. Passed n a b 1 × AsksOnce a b × (n ≡ 0 → (b.ahead ≡ []) × (a.ending ≡ AtEnd)))
 StepPasses NotReady old now = Telling old now (λ a b. Passed 0 a b 1 × (a.waits < b.waits))
-StepPasses Reset old now = Telling old now (λ a b. Passed 0 a b 1 × (b.ahead ≡ []) × (a.ending ≡ AtReset))
-StepPasses NotConnected old now = Telling old now (λ a b. Passed 0 a b 1 × (b.ahead ≡ []) × (a.ending ≡ AtDisconnection))
+StepPasses Reset old now =
+    Telling old now (λ a b. Passed 0 a b 1 × (b.ahead ≡ []) × (a.ending ≡ AtReset))
+StepPasses NotConnected old now =
+    Telling old now (λ a b. Passed 0 a b 1 × (b.ahead ≡ []) × (a.ending ≡ AtDisconnection))

@@ -25,7 +25,8 @@ pub record GoesOn (old new : Writing) : Type 0 where
   pub forward : old.sent ≤ new.sent
   pub within : new.sent ≤ length new.bytes
 
--- The result is that it is done exactly if all is sent. This holds of every sink, also of one without a model.
+-- The result is that it is done exactly if all is sent. This holds of every sink, also of one
+-- without a model.
 abbrev pub IsSent : {U : Type 0} → Polled (Result U IoWriteError) → Writing → Type 0
 IsSent (Ready (Ok _)) new = new.sent ≡ length new.bytes
 IsSent (Ready (Err e)) new = new.sent < length new.bytes
@@ -37,8 +38,8 @@ IsSent NoMemory new = new.sent < length new.bytes
 abbrev pub between : Writing → Writing → List ℕ
 between old new = drop old.sent (take new.sent old.bytes)
 
--- The sink's list grew by these bytes, and this was the result: if all is sent, no count changed; if it waited, stopped
--- or was lost, that count rose by exactly one, and the others stayed.
+-- The sink's list grew by these bytes, and this was the result: if all is sent, no count changed;
+-- if it waited, stopped or was lost, that count rose by exactly one, and the others stayed.
 abbrev pub SinkTook : {U : Type 0} → Polled (Result U IoWriteError) → List ℕ → Sink → Sink → Type 0
 SinkTook (Ready (Ok _)) bytes a b = Took a b bytes 0 0 0
 SinkTook (Ready (Err fault.Stopped)) bytes a b = Took a b bytes 0 1 0
@@ -47,6 +48,8 @@ SinkTook Pending bytes a b = Took a b bytes 1 0 0
 SinkTook Again bytes a b = ⊥
 SinkTook NoMemory bytes a b = Took a b bytes 0 0 0
 
--- what one poll did to a sink with a model: its list grew by the bytes from those sent before up to those sent now
-abbrev pub WritePolled : {U : Type 0} → Polled (Result U IoWriteError) → Writing → Writing → Sink → Sink → Type 0
+-- what one poll did to a sink with a model: its list grew by the bytes from those sent before up to
+-- those sent now
+abbrev pub WritePolled :
+    {U : Type 0} → Polled (Result U IoWriteError) → Writing → Writing → Sink → Sink → Type 0
 WritePolled result old new a b = SinkTook result (between old new) a b

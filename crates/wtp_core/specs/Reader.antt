@@ -6,9 +6,9 @@ pub record IsRest (rest bytes : List ℕ) : Type 0 where
   pub taken : List ℕ
   pub parts : bytes ≡ taken ++ rest
 
--- What reading leaves unchanged in a reader: all the bytes that it was created over; and of a child, all the bytes of
--- its parent, those that the parent has left, the name of the borrow of the parent, and its position plus the number of
--- bytes it has left.
+-- What reading leaves unchanged in a reader: all the bytes that it was created over; and of a
+-- child, all the bytes of its parent, those that the parent has left, the name of the borrow of the
+-- parent, and its position plus the number of bytes it has left.
 pub record Kept : Type 0 where
   pub whole : List ℕ
   pub parent_whole : List ℕ
@@ -18,4 +18,5 @@ pub record Kept : Type 0 where
 
 -- of a reader without a parent
 abbrev pub kept_alone : List ℕ → Kept
-kept_alone whole = record { whole = whole; parent_whole = []; parent_left = []; parent_name = 0; child_end = 0 }
+kept_alone whole =
+    record { whole = whole; parent_whole = []; parent_left = []; parent_name = 0; child_end = 0 }

@@ -4,7 +4,8 @@ use Rattle.wtp_core.specs.declared.bytes.sink.WriteStep.{WriteStep}
 use Rattle.wtp_core.specs.declared.bytes.sink.WriteStep.TheVariants.{Bytes, NotReady, Stopped, NotConnected, NoMemory}
 use Rattle.wtp_core.specs.Source.{Telling}
 
--- the model of a sink: the bytes taken, and how often it was not ready, stopped and not connected so far
+-- the model of a sink: the bytes taken, and how often it was not ready, stopped and not connected
+-- so far
 pub record Sink : Type 0 where
   pub taken : List ℕ
   pub waits : ℕ
@@ -15,8 +16,9 @@ pub record Sink : Type 0 where
 abbrev pub all_taken : List ℕ → Sink
 all_taken bytes = record { taken = bytes; waits = 0; stops = 0; losses = 0 }
 
--- Every sink, with a model or without, keeps these lengths: at least one byte is taken from the start of a buffer that
--- is not empty; of an empty buffer no byte is taken, and there is no other result.
+-- Every sink, with a model or without, keeps these lengths: at least one byte is taken from the
+-- start of a buffer that is not empty; of an empty buffer no byte is taken, and there is no other
+-- result.
 abbrev pub SinkKeepsLengths : WriteStep → ℕ → Type 0
 SinkKeepsLengths (Bytes n) room = (n ≤ room) × (0 < room → 0 < n)
 SinkKeepsLengths NotReady room = 0 < room

@@ -9,8 +9,8 @@ pub data SourceEnding : Type 0 where
   AtReset : SourceEnding
   AtDisconnection : SourceEnding
 
--- the model of a source: the bytes ahead, how they end, a count that a call raises by at most one, and how often it was
--- not ready so far
+-- the model of a source: the bytes ahead, how they end, a count that a call raises by at most one,
+-- and how often it was not ready so far
 pub record Source : Type 0 where
   pub ahead : List ℕ
   pub ending : SourceEnding
@@ -29,8 +29,8 @@ Telling (Some a) (Some b) P = P a b
 
 -- ---- one call
 
--- Every source, with a model or without, keeps these lengths: no more bytes than there is room; an empty buffer gets no
--- byte, and there is no other result.
+-- Every source, with a model or without, keeps these lengths: no more bytes than there is room; an
+-- empty buffer gets no byte, and there is no other result.
 abbrev pub StepKeepsLengths : ReadStep → ℕ → Type 0
 StepKeepsLengths (Bytes n) room = n ≤ room
 StepKeepsLengths NotReady room = 0 < room
@@ -50,9 +50,13 @@ pub record IsOver (a b : Source) (ending : SourceEnding) : Type 0 where
   pub how : a.ending ≡ ending
   pub waits : b.waits ≡ a.waits
 
--- what the result says of the bytes: they went from those ahead to the start of the buffer, or none did
+-- what the result says of the bytes: they went from those ahead to the start of the buffer, or none
+-- did
 abbrev pub StepMoves : ReadStep → List ℕ → Source → Source → Type 0
-StepMoves (Bytes n) buf a b = (a.ahead ≡ take n buf ++ b.ahead) × (b.waits ≡ a.waits) × (n ≡ 0 → 0 < length buf → IsOver a b AtEnd)
+StepMoves (Bytes n) buf a b =
+    (a.ahead ≡ take n buf ++ b.ahead)
+    × (b.waits ≡ a.waits)
+    × (n ≡ 0 → 0 < length buf → IsOver a b AtEnd)
 StepMoves NotReady buf a b = (b.ahead ≡ a.ahead) × (b.waits ≡ a.waits + 1)
 StepMoves Reset buf a b = IsOver a b AtReset
 StepMoves NotConnected buf a b = IsOver a b AtDisconnection
@@ -68,5 +72,9 @@ Shows bytes None = Unit {0}
 Shows bytes (Some a) = (rest : List ℕ) × (a.ahead ≡ bytes ++ rest)
 
 -- this many bytes were taken from those ahead, in one call
-abbrev pub TakesAtHand : ℕ → Source → Source → Type 0
-TakesAtHand count a b = AsksOnce a b × (a.ahead ≡ take count a.ahead ++ b.ahead) × (count ≤ length a.ahead) × (b.waits ≡ a.waits)
+abbrev pub TakesBuffered : ℕ → Source → Source → Type 0
+TakesBuffered count a b =
+    AsksOnce a b
+    × (a.ahead ≡ take count a.ahead ++ b.ahead)
+    × (count ≤ length a.ahead)
+    × (b.waits ≡ a.waits)

@@ -38,6 +38,7 @@ varint_need_grows [] [] = omega arith
 varint_need_grows [] (c ∷ t) = (byte_len_range c).0
 varint_need_grows (b ∷ h) t = omega arith
 
-pub varint_need_more : (h xs : List ℕ) → varint_need h ≤ length h → varint_need (h ++ xs) ≡ varint_need h
+pub varint_need_more :
+    (h xs : List ℕ) → varint_need h ≤ length h → varint_need (h ++ xs) ≡ varint_need h
 varint_need_more [] xs l = absurd (omega arith)
 varint_need_more (b ∷ h) xs l = refl

@@ -3,7 +3,8 @@ use Rattle.std.specs.Prelude.{◌≡◌, ℕ, ◌<◌, ◌≤◌, List, [], ◌�
 use Rattle.wtp_core.specs.declared.bytes.writer.PutError.{PutError}
 use Rattle.wtp_core.specs.declared.bytes.writer.PutError.TheVariants.{EndOfBuffer, Memory}
 
--- Room is given by the bytes that occupy it now, which the next ones overwrite; None is room without a limit.
+-- Room is given by the bytes that occupy it now, which the next ones overwrite; None is room
+-- without a limit.
 
 -- the room after n more bytes
 abbrev pub room_after : Option (List ℕ) → ℕ → Option (List ℕ)
@@ -26,17 +27,33 @@ Refuses grows room n EndOfBuffer = LacksRoom room n
 Refuses grows room n Memory = HasRoom room n × IsTrue grows
 
 -- the writer took all of the bytes, or none, and then nothing changed
-abbrev pub Puts : Bool → List ℕ → Result (Unit {0}) PutError → List ℕ → Option (List ℕ) → List ℕ → Option (List ℕ) → Type 0
-Puts grows bytes (Ok u) old room new left = (new ≡ old ++ bytes) × (left ≡ room_after room (length bytes)) × HasRoom room (length bytes)
-Puts grows bytes (Err e) old room new left = (new ≡ old) × (left ≡ room) × Refuses grows room (length bytes) e
+abbrev pub Puts :
+    Bool → List ℕ → Result (Unit {0}) PutError → List ℕ → Option (List ℕ) → List ℕ → Option (List ℕ)
+    → Type 0
+Puts grows bytes (Ok u) old room new left =
+    (new ≡ old ++ bytes) × (left ≡ room_after room (length bytes)) × HasRoom room (length bytes)
+Puts grows bytes (Err e) old room new left =
+    (new ≡ old) × (left ≡ room) × Refuses grows room (length bytes) e
 
 -- the parts, joined
 abbrev pub joined : List (List ℕ) → List ℕ
 joined [] = []
 joined (part ∷ parts) = part ++ joined parts
 
--- the writer took these parts one after the other; or those before the first one that it refused, and nothing else
--- changed
-abbrev pub PutsParts : Bool → List (List ℕ) → Result (Unit {0}) PutError → List ℕ → Option (List ℕ) → List ℕ → Option (List ℕ) → Type 0
-PutsParts grows parts (Ok u) old room new left = (new ≡ old ++ joined parts) × (left ≡ room_after room (length (joined parts))) × HasRoom room (length (joined parts))
-PutsParts grows parts (Err e) old room new left = (whole : List (List ℕ)) × (part : List ℕ) × (behind : List (List ℕ)) × (parts ≡ whole ++ part ∷ behind) × (new ≡ old ++ joined whole) × (left ≡ room_after room (length (joined whole))) × Refuses grows left (length part) e
+-- the writer took these parts one after the other; or those before the first one that it refused,
+-- and nothing else changed
+abbrev pub PutsParts :
+    Bool → List (List ℕ) → Result (Unit {0}) PutError → List ℕ → Option (List ℕ) → List ℕ
+    → Option (List ℕ) → Type 0
+PutsParts grows parts (Ok u) old room new left =
+    (new ≡ old ++ joined parts)
+    × (left ≡ room_after room (length (joined parts)))
+    × HasRoom room (length (joined parts))
+PutsParts grows parts (Err e) old room new left =
+    (whole : List (List ℕ))
+    × (part : List ℕ)
+    × (behind : List (List ℕ))
+    × (parts ≡ whole ++ part ∷ behind)
+    × (new ≡ old ++ joined whole)
+    × (left ≡ room_after room (length (joined whole)))
+    × Refuses grows left (length part) e

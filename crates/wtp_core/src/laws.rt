@@ -22,22 +22,26 @@ pub fn encoding_is_read()
 
 /// What is read as a number is an encoding of it.
 pub fn read_is_encoding()
-    ensures { (v : ℕ) (bytes rest : List ℕ) → number_at bytes ≡ Some (v, rest) → (s : List ℕ) × Encodes v s × (bytes ≡ s ++ rest) }
+    ensures { (v : ℕ) (bytes rest : List ℕ) → number_at bytes ≡ Some (v, rest)
+        → (s : List ℕ) × Encodes v s × (bytes ≡ s ++ rest) }
 {}
 
 /// The shortest encoding is an encoding: none is shorter, and no other one is as short.
 pub fn shortest_is_encoding()
     ensures encoding { (v : ℕ) → v < 2 ^ 62 → Encodes v (shortest v) }
     ensures least { (v : ℕ) (s : List ℕ) → Encodes v s → length (shortest v) ≤ length s }
-    ensures only { (v : ℕ) (s : List ℕ) → Encodes v s → ((i : ℕ) → slice_index s i < 256) → length s ≡ length (shortest v) → s ≡ shortest v }
+    ensures only { (v : ℕ) (s : List ℕ) → Encodes v s → ((i : ℕ) → slice_index s i < 256)
+        → length s ≡ length (shortest v) → s ≡ shortest v }
 {}
 
 /// The size of an encoding is given by its first byte, and holds the number: 1, 2, 4 or 8 bytes,
 /// less two bits. It is the smallest of these sizes that holds the number.
 pub fn size_holds_the_number()
-    ensures first { (v : ℕ) → v < 2 ^ 62 → byte_len (width_of (slice_index (shortest v) 0)) ≡ length (shortest v) }
+    ensures first { (v : ℕ) → v < 2 ^ 62
+        → byte_len (width_of (slice_index (shortest v) 0)) ≡ length (shortest v) }
     ensures holds { (v : ℕ) → v < 2 ^ 62 → v < 2 ^ (8 * length (shortest v) - 2) }
-    ensures least { (v : ℕ) (w : Width) → v < 2 ^ (8 * byte_len w - 2) → length (shortest v) ≤ byte_len w }
+    ensures least { (v : ℕ) (w : Width) → v < 2 ^ (8 * byte_len w - 2)
+        → length (shortest v) ≤ byte_len w }
 {}
 
 /// Variable-length integers compare as their values.

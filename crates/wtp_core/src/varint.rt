@@ -112,7 +112,8 @@ impl VarInt {
 #[tactic(auto, unfolding(crate::specs::Varint::number_at, crate::specs::Varint::value_of))]
 #[inline(always)]
 pub fn first_varint(bytes: &[u8]) -> Option<(VarInt, usize)>
-    ensures found { MatchOption result (number_at bytes.now ≡ None) (λ x. number_at bytes.now ≡ Some (x.0, drop x.1 bytes.now)) }
+    ensures found { MatchOption result (number_at bytes.now ≡ None)
+        (λ x. number_at bytes.now ≡ Some (x.0, drop x.1 bytes.now)) }
     ensures within { IfSome result (λ x. x.1 ≤ length bytes.now) }
 {
     let first = *bytes.first()?;

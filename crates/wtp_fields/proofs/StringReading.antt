@@ -1,11 +1,13 @@
 -- The texts of strings.
-use Rattle.std.proofs.Common.{◌≡◌, ℕ, ◌+◌, ◌<◌, ◌==◌, nat_lt, nat_le, ◌^◌, ◌%◌, ◌*◌, ◌-◌, suc, Bool, true, false, cond, inl, inr, List, [], ◌∷◌, length, take, drop, length-drop, refl, sym, ap, arith, Ok, Err, IsUtf8}
+use Rattle.std.proofs.Common.{◌≡◌, ℕ, ◌+◌, ◌<◌, ◌==◌, nat_lt, nat_le, ◌^◌, ◌%◌, ◌*◌, ◌-◌, suc, Bool, true, false, cond, inl, inr, List, [], ◌∷◌, length, take, drop, length-drop, refl, sym, ap, arith, Result, Ok, Err, IsUtf8}
 use Rattle.std.proofs.lemmas.Str.{IsUtf8-from_is_utf8, is_utf8-from_IsUtf8}
 use Rattle.std.specs.Str.{is_utf8}
+use Rattle.wtp_fields.specs.declared.qpack.DecodingError.{DecodingError}
 use Rattle.wtp_fields.specs.declared.qpack.DecodingError.TheVariants.{UnexpectedFin, IntegerOverflow, InvalidString, Memory}
 use Rattle.wtp_fields.specs.Qpack.{◌>>=◌}
 use Rattle.wtp_fields.specs.Integer.{groups_at, integer_at}
-use Rattle.wtp_fields.specs.StringLiteral.{utf8_text, body_text, flag_above, string_at}
+use Rattle.wtp_fields.specs.FieldLines.{octets, octets_at}
+use Rattle.wtp_fields.specs.StringLiteral.{utf8_text, body_text, flag_above, string_by, string_at}
 use Rattle.wtp_huffman.proofs.Chosen.{chosen}
 use Rattle.wtp_fields.proofs.Chosen.{bind_ok, same_rest}
 
@@ -48,19 +50,27 @@ int_shorter n (b ∷ bs) v rest e =
       | inr short ↦ omega (arith, ap length (same_rest (b % 2 ^ n) v bs rest short.1))
     ]
 
-pub string_shorter : (n : ℕ) (bytes t rest : List ℕ) → string_at n bytes ≡ Ok (t, rest) → length rest < length bytes
-unfolding string_at
-string_shorter n bytes t rest e =
-    let size = bind_ok (integer_at n bytes) (λ (m : ℕ × List ℕ). cond (nat_lt (length m.1) m.0) (Err UnexpectedFin) (body_text (flag_above n bytes) (take m.0 m.1) >>= λ t. Ok (t, drop m.0 m.1))) (t, rest) e in
+-- however the bytes of the string are read
+pub string_by_shorter : (contents : Bool → List ℕ → Result (List ℕ) DecodingError) (n : ℕ) (bytes t rest : List ℕ) → string_by contents n bytes ≡ Ok (t, rest) → length rest < length bytes
+string_by_shorter contents n bytes t rest e =
+    let size = bind_ok (integer_at n bytes) (λ (m : ℕ × List ℕ). cond (nat_lt (length m.1) m.0) (Err UnexpectedFin) (contents (flag_above n bytes) (take m.0 m.1) >>= λ t. Ok (t, drop m.0 m.1))) (t, rest) e in
     let m : ℕ × List ℕ = size.0 in
     let less : length m.1 < length bytes = int_shorter n bytes m.0 m.1 size.1 in
-    elim (chosen (nat_lt (length m.1) m.0) (Err UnexpectedFin) (body_text (flag_above n bytes) (take m.0 m.1) >>= λ t. Ok (t, drop m.0 m.1)) (Ok (t, rest)) size.2) [
+    elim (chosen (nat_lt (length m.1) m.0) (Err UnexpectedFin) (contents (flag_above n bytes) (take m.0 m.1) >>= λ t. Ok (t, drop m.0 m.1)) (Ok (t, rest)) size.2) [
       | inl few ↦ cc few.1
       | inr enough ↦
-          let text = bind_ok (body_text (flag_above n bytes) (take m.0 m.1)) (λ t. Ok (t, drop m.0 m.1)) (t, rest) enough.1 in
+          let text = bind_ok (contents (flag_above n bytes) (take m.0 m.1)) (λ t. Ok (t, drop m.0 m.1)) (t, rest) enough.1 in
           let behind : drop m.0 m.1 ≡ rest = same_rest text.0 t (drop m.0 m.1) rest text.2 in
           omega (arith, ap length behind, length-drop m.0 m.1)
     ]
+
+pub string_shorter : (n : ℕ) (bytes t rest : List ℕ) → string_at n bytes ≡ Ok (t, rest) → length rest < length bytes
+unfolding string_at
+string_shorter n bytes t rest e = string_by_shorter body_text n bytes t rest e
+
+pub octets_shorter : (n : ℕ) (bytes t rest : List ℕ) → octets_at n bytes ≡ Ok (t, rest) → length rest < length bytes
+unfolding octets_at
+octets_shorter n bytes t rest e = string_by_shorter octets n bytes t rest e
 
 -- ---- an integer's fault is not a failed allocation
 

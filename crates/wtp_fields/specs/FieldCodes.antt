@@ -2,6 +2,8 @@
 use Rattle.std.specs.Prelude.{Option, Some, None}
 use Rattle.wtp_core.specs.declared.error.ErrorCode.{ErrorCode}
 use Rattle.wtp_core.specs.declared.error.ErrorCode.TheVariants.{Decompression, Message}
+use Rattle.wtp_huffman.specs.declared.huffman.HuffmanError.{HuffmanError}
+use Rattle.wtp_huffman.specs.declared.huffman.HuffmanError.TheVariants as huffman
 use Rattle.wtp_fields.specs.declared.qpack.DecodingError.{DecodingError}
 use Rattle.wtp_fields.specs.declared.qpack.DecodingError.TheVariants as decoding
 use Rattle.wtp_fields.specs.declared.session.HeadersParseError.{HeadersParseError}
@@ -16,3 +18,8 @@ section_code _ = Some Decompression
 abbrev pub message_code : HeadersParseError → Option ErrorCode
 message_code parsing.Memory = None
 message_code _ = Some Message
+
+-- the fault of a section that contains such a Huffman text
+abbrev pub huffman_fault : HuffmanError → DecodingError
+huffman_fault huffman.Invalid = decoding.InvalidString
+huffman_fault huffman.Memory = decoding.Memory

@@ -41,7 +41,8 @@ octet_line_at (first ∷ bytes) = octet_line_by (representation_of first) (first
 -- the bytes start with these lines, one after the other, followed by the rest
 abbrev pub AreOctetLines : List ℕ → List Field → List ℕ → Type 0
 AreOctetLines bytes [] rest = bytes ≡ rest
-AreOctetLines bytes (line ∷ lines) rest = (behind : List ℕ) × (octet_line_at bytes ≡ Ok (line, behind)) × AreOctetLines behind lines rest
+AreOctetLines bytes (line ∷ lines) rest =
+    (behind : List ℕ) × (octet_line_at bytes ≡ Ok (line, behind)) × AreOctetLines behind lines rest
 
 -- ---- which fields are texts
 
@@ -59,15 +60,20 @@ as_texts line = if is_utf8_field line.0 then Ok line else Err InvalidString
 
 -- ---- one line taken
 
+-- a room with no text in it
+abbrev pub IsEmptyRoom : FieldRoom → Type 0
+IsEmptyRoom room = (room.name.items ≡ []) × (room.value.items ≡ [])
+
 abbrev pub seen_line : FieldLine → Field
 seen_line line = (line.name.now, line.value.now)
 
--- The bytes of lines before and after one was taken: there is none; it is the line at the start; or it has a fault, and
--- nothing was taken.
+-- The bytes of lines before and after one was taken: there is none; it is the line at the start; or
+-- it has a fault, and nothing was taken.
 abbrev pub TakesLine : List ℕ → List ℕ → Option (Result FieldLine DecodingError) → Type 0
 TakesLine old new None = (old ≡ []) × (new ≡ [])
 TakesLine old new (Some (Ok line)) = octet_line_at old ≡ Ok (seen_line line, new)
-TakesLine old new (Some (Err fault)) = (0 < length old) × (new ≡ old) × (fault ≢ Memory → octet_line_at old ≡ Err fault)
+TakesLine old new (Some (Err fault)) =
+    (0 < length old) × (new ≡ old) × (fault ≢ Memory → octet_line_at old ≡ Err fault)
 
 -- ---- lines that are decoded
 
@@ -97,7 +103,9 @@ seen_string room string = (text_in room string.0, string.1.now)
 
 -- what was read of a line is the line, with its texts in this room, unless allocation failed
 abbrev pub seen_parts : FieldRoom → Parts → Field × List ℕ
-seen_parts room parts = ((text_in room.name.items parts.name, text_in room.value.items parts.value), parts.rest.now)
+seen_parts room parts =
+    ((text_in room.name.items parts.name, text_in room.value.items parts.value), parts.rest.now)
 
-abbrev pub GivesParts : FieldRoom → Result Parts DecodingError → Result (Field × List ℕ) DecodingError → Type 0
+abbrev pub GivesParts :
+    FieldRoom → Result Parts DecodingError → Result (Field × List ℕ) DecodingError → Type 0
 GivesParts room result line = GivesUnlessMemory (seen_parts room) result line

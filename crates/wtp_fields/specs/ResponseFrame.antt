@@ -9,10 +9,12 @@ use Rattle.wtp_fields.specs.Field.{Field}
 use Rattle.wtp_fields.specs.Headers.{headers_at}
 use Rattle.wtp_fields.specs.SessionResponse.{HasStatus}
 
--- The response of a map, with all of its fields, if it has a status. Otherwise the message is malformed. Or allocation
--- failed.
+-- The response of a map, with all of its fields, if it has a status. Otherwise the message is
+-- malformed. Or allocation failed.
 abbrev pub RespondsBy : Result (List Field) Refused → Result (List Field) Refused → Type 0
-RespondsBy (Ok m) result = MatchResult result (λ response. (response ≡ m) × HasStatus m) (λ e. e ≢ Memory → (e ≡ Code Message) × ¬ HasStatus m)
+RespondsBy (Ok m) result =
+    MatchResult result (λ response. (response ≡ m) × HasStatus m)
+    (λ e. e ≢ Memory → (e ≡ Code Message) × ¬ HasStatus m)
 RespondsBy (Err refused) result = MatchResult result (λ response. ⊥) (λ e. e ≢ Memory → e ≡ refused)
 
 -- the response in a frame, or the error code if there is none

@@ -80,7 +80,9 @@ body_text is_huffman body =
     if is_huffman then or_invalid (huffman_text body) >>= utf8_text else utf8_text body
 
 -- the string at the start, with its length in n bits, whose bytes are read by their flag H
-abbrev pub string_by : (Bool → List ℕ → Result (List ℕ) DecodingError) → ℕ → List ℕ → Result (List ℕ × List ℕ) DecodingError
+abbrev pub string_by :
+    (Bool → List ℕ → Result (List ℕ) DecodingError) → ℕ → List ℕ
+    → Result (List ℕ × List ℕ) DecodingError
 string_by contents n bytes = do
   size ← integer_at n bytes
   if nat_lt (length size.1) size.0 then Err UnexpectedFin else do

@@ -7,6 +7,7 @@ ghost use Rattle.std.specs.Prelude.{◌≡◌, ℕ, List, IfOk, IfErr};
 ghost use Rattle.std.specs.Borrow.{Bor};
 ghost use Rattle.std.specs.Iterator.{IsFinite, Drains};
 ghost use Rattle.wtp_fields.specs.declared.qpack.DecodingError.TheVariants.{Memory};
+ghost use Rattle.wtp_fields.specs.FieldCodes.{huffman_fault};
 ghost use Rattle.wtp_fields.specs.Field.{AreTexts, fields_of, fields_of_texts};
 ghost use Rattle.wtp_fields.specs.Qpack.{GivesUnlessMemory};
 ghost use Rattle.wtp_fields.specs.FieldSection.{ReachesLine, map_at, section_of};
@@ -22,6 +23,7 @@ pub use field_lines::{FieldLine, FieldLines, FieldRoom};
 use std::alloc::{AllocError, AllocFailed, Global};
 use std::collections::BTreeMap;
 use thiserror::Error;
+use wtp_huffman::huffman::HuffmanError;
 
 /// The reason a field section cannot be read.
 #[derive(Debug, Drop, Clone, Copy, PartialEq, Eq, Error)]
@@ -59,6 +61,19 @@ impl<T: Drop> From<AllocFailed<T>> for DecodingError {
 
     fn from(_e: AllocFailed<T>) -> DecodingError {
         DecodingError::Memory
+    }
+}
+
+impl From<HuffmanError> for DecodingError {
+    ghost from_gives = { λ fault e. e ≡ huffman_fault fault };
+
+    /// Returns `InvalidString` for an invalid text, or `Memory` if memory allocation failed. Not in
+    /// the Rust crate.
+    fn from(fault: HuffmanError) -> DecodingError {
+        match fault {
+            HuffmanError::Invalid => DecodingError::InvalidString,
+            HuffmanError::Memory => DecodingError::Memory,
+        }
     }
 }
 

@@ -1,12 +1,12 @@
 -- Unknown capsules are skipped one at a time, and capsules follow one another.
-use Rattle.std.proofs.Common.{◌≡◌, ◌≢◌, ℕ, zero, suc, ◌<◌, ◌≤◌, List, [], ◌∷◌, ◌++◌, length, Option, Some, None, Result, Ok, Err, refl, sym, ap, ◌∙◌, arith, inl, inr}
+use Rattle.std.proofs.Common.{◌≡◌, ◌≢◌, ℕ, zero, suc, ◌<◌, ◌≤◌, List, [], ◌∷◌, ◌++◌, length, Option, Some, None, Result, Ok, Err, refl, sym, ap, ◌∙◌, append_assoc, append-nil, arith, inl, inr}
 use Rattle.std.proofs.lemmas.Bool.{cases_eq, eq-eqb, ne_eqb}
 use Rattle.wtp_core.specs.Varint.{bytes_at}
 use Rattle.wtp_wire.specs.declared.capsule.CapsuleError.{CapsuleError}
 use Rattle.wtp_wire.specs.declared.capsule.CapsuleError.TheVariants as error-is
 use Rattle.wtp_wire.specs.declared.capsule.CapsuleKind.{CapsuleKind}
 use Rattle.wtp_wire.specs.CapsuleFront.{CapsuleFront, Found, Unknown, TooLong, Cut, End, or_cut, capsule_front}
-use Rattle.wtp_wire.specs.CapsuleStream.{Capsules, Between, past_unknown, next_within, next_capsule, ends, follows, by_front, capsules_within, capsules, next_held, capsules_after, capsules_held, NextGiven, with_result}
+use Rattle.wtp_wire.specs.CapsuleStream.{Capsules, CapsuleEnding, Between, Within, AtTooLong, Step, Arrived, Returned, Leads, data_of, add_result, returned, past_unknown, next_within, next_capsule, ends, follows, by_front, capsules_within, capsules, next_held, capsules_after, capsules_held, NextGiven, with_result}
 use Rattle.wtp_wire.specs.Held.{Held, new_held}
 use Rattle.wtp_wire.proofs.CapsuleFrontLemmas.{front_end, unknown-shorter, found-shorter}
 
@@ -128,3 +128,47 @@ joined (Ok (Some c)) old new a b more g =
 joined (Ok None) old new a b more g = same_held old new (a ++ more) (b ++ more) (g.joins more)
 joined (Err error-is.TooLong) old new a b more g = held_by old (a ++ more) (TooLong (b ++ more)) (g.found more) ∙ sym (held_by new (b ++ more) (TooLong (b ++ more)) (g.stays (b ++ more)))
 joined (Err error-is.Memory) old new a b more g = same_held old new (a ++ more) (b ++ more) (g.joins more)
+
+-- ---- data that arrives piece by piece
+
+-- capsules before others
+abbrev preceded : List (CapsuleKind × List ℕ) → Capsules → Capsules
+preceded [] all = all
+preceded (c ∷ cs) all = follows c (preceded cs all)
+
+preceded-ends : (cs : List (CapsuleKind × List ℕ)) (e : CapsuleEnding) → preceded cs (ends e) ≡ record { found = cs; ending = e }
+preceded-ends [] e = refl
+preceded-ends (c ∷ cs) e = ap (λ (all : Capsules). follows c all) (preceded-ends cs e)
+
+preceded-result : (r : Result (Option (CapsuleKind × List ℕ)) CapsuleError) (cs : List (CapsuleKind × List ℕ)) (all : Capsules) → with_result r (preceded cs all) ≡ preceded (add_result r cs) all
+preceded-result (Ok (Some c)) cs all = refl
+preceded-result (Ok None) cs all = refl
+preceded-result (Err e) cs all = refl
+
+leads : (steps : List Step) (old new : Held) (a b more : List ℕ) → Leads steps old a new b → capsules_held old (a ++ (data_of steps ++ more)) ≡ preceded (returned steps) (capsules_held new (b ++ more))
+leads [] old new a b more (same, left) = rw (same, left) refl
+leads (Arrived piece ∷ steps) old new a b more l =
+    ap (λ (x : List ℕ). capsules_held old x) (ap (λ (x : List ℕ). a ++ x) (append_assoc piece (data_of steps) more) ∙ sym (append_assoc a piece (data_of steps ++ more)))
+    ∙ leads steps old new (a ++ piece) b more l
+leads (Returned r ∷ steps) old new a b more (held, left, given, l) =
+    joined r old held a left (data_of steps ++ more) given
+    ∙ ap (λ (all : Capsules). with_result r all) (leads steps held new left b more l)
+    ∙ preceded-result r (returned steps) (capsules_held new (b ++ more))
+
+-- the capsules of the data and how it ends, by what is held and left after the steps
+led : (steps : List Step) (new : Held) (b more : List ℕ) (e : CapsuleEnding) → Leads steps new_held [] new b → capsules_held new (b ++ more) ≡ ends e → capsules (data_of steps ++ more) ≡ record { found = returned steps; ending = e }
+led steps new b more e l is =
+    sym (held-new (data_of steps ++ more)) ∙ leads steps new_held new [] b more l
+    ∙ ap (λ (all : Capsules). preceded (returned steps) all) is ∙ preceded-ends (returned steps) e
+
+whole : (steps : List Step) (new : Held) (e : CapsuleEnding) → Leads steps new_held [] new [] → capsules_held new [] ≡ ends e → capsules (data_of steps) ≡ record { found = returned steps; ending = e }
+whole steps new e l is = ap (λ (x : List ℕ). capsules x) (sym (append-nil (data_of steps))) ∙ led steps new [] [] e l is
+
+pub led-between : (steps : List Step) (new : Held) → Leads steps new_held [] new [] → next_held new [] ≡ End → capsules (data_of steps) ≡ record { found = returned steps; ending = Between }
+led-between steps new l is = whole steps new Between l (held_by new [] End is)
+
+pub led-within : (steps : List Step) (new : Held) → Leads steps new_held [] new [] → next_held new [] ≡ Cut → capsules (data_of steps) ≡ record { found = returned steps; ending = Within }
+led-within steps new l is = whole steps new Within l (held_by new [] Cut is)
+
+pub led-too_long : (steps : List Step) (held new : Held) (left b more : List ℕ) → Leads steps new_held [] held left → NextGiven (Err error-is.TooLong) held left new b → capsules (data_of steps ++ more) ≡ record { found = returned steps; ending = AtTooLong }
+led-too_long steps held new left b more l given = led steps held left more AtTooLong l (held_by held (left ++ more) (TooLong (b ++ more)) (given.found more))

@@ -1,4 +1,4 @@
--- What the first two numbers of a frame say, and what follows them.
+-- What the head of a frame announces, and what follows it.
 use Rattle.std.proofs.Common.{◌≡◌, ◌≢◌, ℕ, ◌+◌, ◌%◌, ◌==◌, ◌<◌, ◌≤◌, nat_lt, List, [], ◌++◌, length, drop, Option, Some, None, refl, sym, ap, subst, ◌∙◌, arith, inl, inr, true, false, length-append, length-drop, append_assoc, append-nil}
 use Rattle.std.proofs.lemmas.Bool.{cases_lt, ltb-false, cases_Bool}
 use Rattle.wtp_core.specs.Varint.{Encodes, number_at}
@@ -8,11 +8,11 @@ use Rattle.wtp_core.proofs.EncodingLemmas.{number_at-more, number_at-encodes}
 use Rattle.wtp_core.specs.Source.{Source}
 use Rattle.wtp_wire.specs.declared.frame.kind.FrameKind.{FrameKind}
 use Rattle.wtp_wire.specs.declared.frame.kind.FrameKind.TheVariants.{WebTransport}
-use Rattle.wtp_wire.specs.declared.frame.head.Said.{Said}
-use Rattle.wtp_wire.specs.declared.frame.head.Said.TheVariants as said-is
+use Rattle.wtp_wire.specs.declared.frame.head.Announcement.{Announcement}
+use Rattle.wtp_wire.specs.declared.frame.head.Announcement.TheVariants as announces
 use Rattle.wtp_wire.specs.Kind.{IsKnown, kind_of}
 use Rattle.wtp_wire.specs.Front.{Short, EncodesPair, IsUnknown, front_after, front}
-use Rattle.wtp_wire.specs.FrameHead.{head_says, second_says}
+use Rattle.wtp_wire.specs.FrameHead.{announcement_at, announcement_of}
 use Rattle.wtp_wire.specs.FrameNeed.{frame_need, frame_need_is, frame_need_least}
 use Rattle.wtp_wire.specs.Held.{Held, IsUnknownHead, IsPayloadHead, Skips}
 use Rattle.wtp_wire.proofs.KindLemmas.{is-kind_of, kind_of-is, is_kind-known}
@@ -34,24 +34,24 @@ parts_of h w =
     let two = number_at-whole r (omega (arith, frame_need_is h, length-drop (varint_need h) h)) in
     record { id = one.0; n = two.0; behind = r; first = one.1; second = two.1 }
 
-pub said_of : (bytes r rest : List ℕ) (id n : ℕ) → number_at bytes ≡ Some (id, r) → number_at r ≡ Some (n, rest) → head_says bytes ≡ second_says (kind_of id) n
-unfolding head_says
-said_of bytes r rest id n e f = rw (head_at-numbers bytes r rest id n e f) refl
+pub announcement_numbers : (bytes r rest : List ℕ) (id n : ℕ) → number_at bytes ≡ Some (id, r) → number_at r ≡ Some (n, rest) → announcement_at bytes ≡ announcement_of (kind_of id) n
+unfolding announcement_at
+announcement_numbers bytes r rest id n e f = rw (head_at-numbers bytes r rest id n e f) refl
 
-pub said_more : (h xs : List ℕ) → frame_need h ≡ length h → head_says (h ++ xs) ≡ head_says h
-said_more h xs w =
+pub announcement_more : (h xs : List ℕ) → frame_need h ≡ length h → announcement_at (h ++ xs) ≡ announcement_at h
+announcement_more h xs w =
     let p = parts_of h w in
-    said_of (h ++ xs) (p.behind ++ xs) xs p.id p.n (number_at-more p.id h p.behind xs p.first) (number_at-more p.n p.behind [] xs p.second)
-    ∙ sym (said_of h p.behind [] p.id p.n p.first p.second)
+    announcement_numbers (h ++ xs) (p.behind ++ xs) xs p.id p.n (number_at-more p.id h p.behind xs p.first) (number_at-more p.n p.behind [] xs p.second)
+    ∙ sym (announcement_numbers h p.behind [] p.id p.n p.first p.second)
 
 -- ---- the first frame
 
 -- after a complete head
-pub front_said : (h xs : List ℕ) → frame_need h ≡ length h → front (h ++ xs) ≡ front_after (head_says h) xs
-front_said h xs w =
+pub front_announcement : (h xs : List ℕ) → frame_need h ≡ length h → front (h ++ xs) ≡ front_after (announcement_at h) xs
+front_announcement h xs w =
     let p = parts_of h w in
-    front-head (h ++ xs) xs (second_says (kind_of p.id) p.n) (head_at-numbers (h ++ xs) (p.behind ++ xs) xs p.id p.n (number_at-more p.id h p.behind xs p.first) (number_at-more p.n p.behind [] xs p.second))
-    ∙ ap (λ (s : Said). front_after s xs) (sym (said_of h p.behind [] p.id p.n p.first p.second))
+    front-head (h ++ xs) xs (announcement_of (kind_of p.id) p.n) (head_at-numbers (h ++ xs) (p.behind ++ xs) xs p.id p.n (number_at-more p.id h p.behind xs p.first) (number_at-more p.n p.behind [] xs p.second))
+    ∙ ap (λ (s : Announcement). front_after s xs) (sym (announcement_numbers h p.behind [] p.id p.n p.first p.second))
 
 pub front_part : (h : List ℕ) → length h < frame_need h → front h ≡ Short
 front_part h f = elim (cases_lt (length h) (varint_need h)) [
@@ -65,13 +65,13 @@ front_part h f = elim (cases_lt (length h) (varint_need h)) [
 
 -- ---- what the numbers say
 
-second_whole : (k : Option FrameKind) (n : ℕ) → second_says k n ≡ said-is.Unfinished → ⊥
+second_whole : (k : Option FrameKind) (n : ℕ) → announcement_of k n ≡ announces.Unfinished → ⊥
 second_whole None n e = cc
 second_whole (Some WebTransport) n e = elim (cases_Bool (n % 4 == 0)) [ inl t ↦ cc (rw t at e) | inr t ↦ cc (rw t at e) ]
 second_whole (Some kind) n e = elim (cases_Bool (nat_lt 4096 n)) [ inl t ↦ cc (rw t at e) | inr t ↦ cc (rw t at e) ]
 
-pub said_whole : (h : List ℕ) → frame_need h ≡ length h → head_says h ≡ said-is.Unfinished → ⊥
-said_whole h w e = let p = parts_of h w in second_whole (kind_of p.id) p.n (sym (said_of h p.behind [] p.id p.n p.first p.second) ∙ e)
+pub announcement_whole : (h : List ℕ) → frame_need h ≡ length h → announcement_at h ≡ announces.Unfinished → ⊥
+announcement_whole h w e = let p = parts_of h w in second_whole (kind_of p.id) p.n (sym (announcement_numbers h p.behind [] p.id p.n p.first p.second) ∙ e)
 
 -- a payload has one of these kinds, and at most 4096 bytes
 pub record SecondIs (o : Option FrameKind) (k : FrameKind) (n m : ℕ) : Type 0 where
@@ -80,7 +80,7 @@ pub record SecondIs (o : Option FrameKind) (k : FrameKind) (n m : ℕ) : Type 0 
   pub plain : k ≢ WebTransport
   pub bound : m ≤ 4096
 
-small : (o : FrameKind) (k : FrameKind) (n m : ℕ) → o ≢ WebTransport → nat_lt 4096 n ≡ false → said-is.Payload o n ≡ said-is.Payload k m → SecondIs (Some o) k n m
+small : (o : FrameKind) (k : FrameKind) (n m : ℕ) → o ≢ WebTransport → nat_lt 4096 n ≡ false → announces.Payload o n ≡ announces.Payload k m → SecondIs (Some o) k n m
 small o k n m plain t e = let same : o ≡ k = cc in let size : n ≡ m = cc in record {
   size = size;
   kind = ap (λ (x : FrameKind). Some x) same;
@@ -88,21 +88,21 @@ small o k n m plain t e = let same : o ≡ k = cc in let size : n ≡ m = cc in 
   bound = omega (arith, ltb-false 4096 n t);
 }
 
-second_payload : (o : Option FrameKind) (k : FrameKind) (n m : ℕ) → second_says o n ≡ said-is.Payload k m → SecondIs o k n m
+second_payload : (o : Option FrameKind) (k : FrameKind) (n m : ℕ) → announcement_of o n ≡ announces.Payload k m → SecondIs o k n m
 second_payload None k n m e = absurd (cc)
 second_payload (Some WebTransport) k n m e = elim (cases_Bool (n % 4 == 0)) [ inl t ↦ absurd (cc (rw t at e)) | inr t ↦ absurd (cc (rw t at e)) ]
 second_payload (Some kind) k n m e = elim (cases_Bool (nat_lt 4096 n)) [ inl t ↦ absurd (cc (rw t at e)) | inr t ↦ small kind k n m (λ w. cc) t (rw t at e) ]
 
-pub said_payload : (h : List ℕ) (k : FrameKind) (m : ℕ) → frame_need h ≡ length h → head_says h ≡ said-is.Payload k m → (m ≤ 4096) × IsKnown k × (k ≢ WebTransport)
-said_payload h k m w e =
+pub announcement_payload : (h : List ℕ) (k : FrameKind) (m : ℕ) → frame_need h ≡ length h → announcement_at h ≡ announces.Payload k m → (m ≤ 4096) × IsKnown k × (k ≢ WebTransport)
+announcement_payload h k m w e =
     let p = parts_of h w in
-    let s = second_payload (kind_of p.id) k p.n m (sym (said_of h p.behind [] p.id p.n p.first p.second) ∙ e) in
+    let s = second_payload (kind_of p.id) k p.n m (sym (announcement_numbers h p.behind [] p.id p.n p.first p.second) ∙ e) in
     (s.bound, is_kind-known k p.id (is-kind_of k p.id s.kind), s.plain)
 
-pub payload_head : (h : List ℕ) (k : FrameKind) (m : ℕ) → frame_need h ≡ length h → head_says h ≡ said-is.Payload k m → IsPayloadHead k m h
+pub payload_head : (h : List ℕ) (k : FrameKind) (m : ℕ) → frame_need h ≡ length h → announcement_at h ≡ announces.Payload k m → IsPayloadHead k m h
 payload_head h k m w e =
     let p = parts_of h w in
-    let s = second_payload (kind_of p.id) k p.n m (sym (said_of h p.behind [] p.id p.n p.first p.second) ∙ e) in
+    let s = second_payload (kind_of p.id) k p.n m (sym (announcement_numbers h p.behind [] p.id p.n p.first p.second) ∙ e) in
     let (first, typed, parts) = number_at-encodes p.id h p.behind p.first in
     let (second, number, more) = number_at-encodes p.n p.behind [] p.second in
     record {
@@ -119,7 +119,7 @@ payload_head h k m w e =
       bound = s.bound;
     }
 
-second_skip : (o : Option FrameKind) (n m : ℕ) → second_says o n ≡ said-is.Skip m → (o ≡ None) × (n ≡ m)
+second_skip : (o : Option FrameKind) (n m : ℕ) → announcement_of o n ≡ announces.Skip m → (o ≡ None) × (n ≡ m)
 second_skip None n m e = (refl, cc)
 second_skip (Some WebTransport) n m e = elim (cases_Bool (n % 4 == 0)) [ inl t ↦ absurd (cc (rw t at e)) | inr t ↦ absurd (cc (rw t at e)) ]
 second_skip (Some kind) n m e = elim (cases_Bool (nat_lt 4096 n)) [ inl t ↦ absurd (cc (rw t at e)) | inr t ↦ absurd (cc (rw t at e)) ]
@@ -127,10 +127,10 @@ second_skip (Some kind) n m e = elim (cases_Bool (nat_lt 4096 n)) [ inl t ↦ ab
 none_some : (k : FrameKind) (o : Option FrameKind) → o ≡ None → o ≡ Some k → ⊥
 none_some k o e f = cc
 
-pub said_skip : (h : List ℕ) (m : ℕ) → frame_need h ≡ length h → head_says h ≡ said-is.Skip m → IsUnknownHead m h
-said_skip h m w e =
+pub announcement_skip : (h : List ℕ) (m : ℕ) → frame_need h ≡ length h → announcement_at h ≡ announces.Skip m → IsUnknownHead m h
+announcement_skip h m w e =
     let p = parts_of h w in
-    let s = second_skip (kind_of p.id) p.n m (sym (said_of h p.behind [] p.id p.n p.first p.second) ∙ e) in
+    let s = second_skip (kind_of p.id) p.n m (sym (announcement_numbers h p.behind [] p.id p.n p.first p.second) ∙ e) in
     let (first, typed, parts) = number_at-encodes p.id h p.behind p.first in
     let (second, number, more) = number_at-encodes p.n p.behind [] p.second in
     record {

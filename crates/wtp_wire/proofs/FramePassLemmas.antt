@@ -13,7 +13,7 @@ use Rattle.wtp_core.proofs.TellingLemmas.{telling_map, telling_same, telling_the
 use Rattle.wtp_wire.specs.declared.frame.ParseError.TheVariants as parse
 use Rattle.wtp_wire.specs.declared.frame.reading.IoReadError.{IoReadError}
 use Rattle.wtp_wire.specs.declared.frame.reading.IoReadError.TheVariants.{Parse, IO}
-use Rattle.wtp_wire.specs.declared.frame.head.Said.TheVariants as said-is
+use Rattle.wtp_wire.specs.declared.frame.head.Announcement.TheVariants as announces
 use Rattle.wtp_wire.specs.Content.{Content}
 use Rattle.wtp_wire.specs.Front.{Unknown, front}
 use Rattle.wtp_wire.specs.FrameNeed.{frame_need_most, frame_need_some}
@@ -22,8 +22,8 @@ use Rattle.wtp_wire.specs.Limits.{max_head, max_calls}
 use Rattle.wtp_wire.specs.Held.{Held, skip_front, front_held, IsUnknownHead, Skips, Leaves}
 use Rattle.wtp_wire.specs.FramePolling.{FramePolled, FrameGiven, KeepsHeld, Answered}
 use Rattle.wtp_wire.specs.FramePart.{Part, bytes_in, IsReading}
-use Rattle.wtp_wire.specs.FrameSteps.{HasSaid, Skipped, PassedOn, PassedPlain, BeginsFrame, BeginsPlain, Grew}
-use Rattle.wtp_wire.proofs.FrameHeadLemmas.{front_said, said_skip}
+use Rattle.wtp_wire.specs.FrameSteps.{IsComplete, Skipped, PassedOn, PassedPlain, BeginsFrame, BeginsPlain, Grew}
+use Rattle.wtp_wire.proofs.FrameHeadLemmas.{front_announcement, announcement_skip}
 use Rattle.wtp_core.specs.declared.bytes.polled.IoReadError as bytes-is
 use Rattle.std.specs.Prelude.{replicate}
 use Rattle.std.proofs.lemmas.List.{length-replicate}
@@ -40,10 +40,10 @@ due_begins s t d l e = telling_same s (BeginsFrame (hold t d) (hold t d)) (λ a.
 })
 
 -- the head of an unknown frame is all that is held
-bare : (m : ℕ) (p : Part) → HasSaid (said-is.Skip m) p → bytes_in p ≡ p.head
+bare : (m : ℕ) (p : Part) → IsComplete (announces.Skip m) p → bytes_in p ≡ p.head
 bare m p w = ap (λ (l : List ℕ). p.head ++ l) (no_items p.payload w.size) ∙ append-nil p.head
 
-skip_begins : (s t : Option Source) (m : ℕ) (p : Part) (old : List ℕ) (d : ℕ) → d ≡ 0 → HasSaid (said-is.Skip m) p
+skip_begins : (s t : Option Source) (m : ℕ) (p : Part) (old : List ℕ) (d : ℕ) → d ≡ 0 → IsComplete (announces.Skip m) p
     → Telling s t (λ a c. Gains old (bytes_in p) a c 0)
     → Telling s t (BeginsFrame (hold old d) (hold [] m))
 skip_begins s t m p old d z w q = telling_map s t _ (BeginsFrame (hold old d) (hold [] m))
@@ -76,7 +76,7 @@ begun_front old mid a b g = elim (cases_lt 0 old.due) [
   | inr l ↦
       let z : old.due ≡ 0 = omega arith in
       let w = g.begun z in
-      front_none old.taken old.due a.ahead z ∙ ap front g.parts ∙ front_said g.head b.ahead w.1 ∙ rw w.0 refl
+      front_none old.taken old.due a.ahead z ∙ ap front g.parts ∙ front_announcement g.head b.ahead w.1 ∙ rw w.0 refl
 ]
 
 skip_on : (old mid : Held) (d : ℕ) (a b c : Source) → BeginsFrame old mid a b → Skipped mid.due d b c → front_held old a.ahead ≡ skip_front d c.ahead
@@ -94,7 +94,7 @@ skips old mid t d a b c e g p =
         head = g.head;
         payload = gone;
         parts = g.parts ∙ ap (λ (l : List ℕ). g.head ++ l) (sym (take-append-drop (mid.due - d) b.ahead) ∙ ap (λ (l : List ℕ). gone ++ l) (sym p.rest)) ∙ sym (append_assoc g.head gone c.ahead);
-        begun = λ z. let w = g.begun z in subst (λ (n : ℕ). IsUnknownHead n g.head) (sym all) (said_skip g.head mid.due w.1 w.0);
+        begun = λ z. let w = g.begun z in subst (λ (n : ℕ). IsUnknownHead n g.head) (sym all) (announcement_skip g.head mid.due w.1 w.0);
         going = λ l. let w = g.going l in (w.0, w.1 ∙ sym all);
         most = let most = p.most in omega arith;
         empty = e;
@@ -187,7 +187,7 @@ answered_unknown old mid t d e z g = elim (cases_lt 0 old.due) [
       let (head, (given, is), says, whole) = g.begun z0 in
       record {
         given = given ++ zeros mid.due;
-        front = front_none old.taken old.due (given ++ zeros mid.due) z0 ∙ ap front (sym (append_assoc old.taken given (zeros mid.due)) ∙ ap (λ (l : List ℕ). l ++ zeros mid.due) (sym is)) ∙ front_said head (zeros mid.due) whole ∙ rw says (skip_all mid.due (zeros mid.due) (length-zeros mid.due));
+        front = front_none old.taken old.due (given ++ zeros mid.due) z0 ∙ ap front (sym (append_assoc old.taken given (zeros mid.due)) ∙ ap (λ (l : List ℕ). l ++ zeros mid.due) (sym is)) ∙ front_announcement head (zeros mid.due) whole ∙ rw says (skip_all mid.due (zeros mid.due) (length-zeros mid.due));
         empty = rw (e, z) refl;
       }
 ]
@@ -198,7 +198,7 @@ keeps_due old mid t d some few g = record {
   begun = λ z _.
       let (head, (given, is), says, whole) = g.begun z in
       let all : mid.due ≡ (mid.due - d) + d = omega arith in
-      (given, mid.due - d, subst (λ (s : List ℕ). IsUnknownHead ((mid.due - d) + d) s) is (subst (λ (n : ℕ). IsUnknownHead n head) all (said_skip head mid.due whole says)));
+      (given, mid.due - d, subst (λ (s : List ℕ). IsUnknownHead ((mid.due - d) + d) s) is (subst (λ (n : ℕ). IsUnknownHead n head) all (announcement_skip head mid.due whole says)));
   going = λ l. let same = g.going l in (some, omega arith);
 }
 
@@ -217,7 +217,7 @@ due_plain : (t : List ℕ) (d : ℕ) → 0 < d → t ≡ [] → BeginsPlain (hol
 due_plain t d l e = record { empty = e; begun = λ z. absurd (omega arith); going = λ _. refl }
 
 -- the head of an unknown frame is taken
-skip_plain : (m : ℕ) (p : Part) (old : List ℕ) (d : ℕ) → d ≡ 0 → HasSaid (said-is.Skip m) p → Grew old (bytes_in p) → BeginsPlain (hold old d) (hold [] m)
+skip_plain : (m : ℕ) (p : Part) (old : List ℕ) (d : ℕ) → d ≡ 0 → IsComplete (announces.Skip m) p → Grew old (bytes_in p) → BeginsPlain (hold old d) (hold [] m)
 skip_plain m p old d z w (given, is) = record {
   empty = refl;
   begun = λ _. (p.head, (given, sym (bare m p w) ∙ is), w.says, w.whole);
@@ -241,7 +241,7 @@ due_polls s t r p d d' l i none plain q =
     }
 
 -- of one that read the head of an unknown frame
-pub skip_polls : (s t u : Option Source) (r : Polled (Result Content IoReadError)) (old new : Part) (m d d' : ℕ) → d ≡ 0 → IsReading old → HasSaid (said-is.Skip m) new → Grew (bytes_in old) (bytes_in new)
+pub skip_polls : (s t u : Option Source) (r : Polled (Result Content IoReadError)) (old new : Part) (m d d' : ℕ) → d ≡ 0 → IsReading old → IsComplete (announces.Skip m) new → Grew (bytes_in old) (bytes_in new)
     → Telling s t (λ a c. Gains (bytes_in old) (bytes_in new) a c 0) → PassedPlain r m d' → Telling t u (PassedOn r m d')
     → Polls r (hold (bytes_in old) d) (hold [] d') s u
 skip_polls s t u r old new m d d' z was w grew g plain q =

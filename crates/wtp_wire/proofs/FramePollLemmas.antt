@@ -15,20 +15,20 @@ use Rattle.wtp_core.proofs.TellingLemmas.{telling_map}
 use Rattle.wtp_core.proofs.FillLemmas.{halted_as}
 use Rattle.wtp_core.proofs.GetLemmas.{dry}
 use Rattle.wtp_wire.specs.declared.frame.kind.FrameKind.{FrameKind}
-use Rattle.wtp_wire.specs.declared.frame.head.Said.{Said}
-use Rattle.wtp_wire.specs.declared.frame.head.Said.TheVariants as said-is
+use Rattle.wtp_wire.specs.declared.frame.head.Announcement.{Announcement}
+use Rattle.wtp_wire.specs.declared.frame.head.Announcement.TheVariants as announces
 use Rattle.wtp_wire.specs.declared.frame.reading.IoReadError.{IoReadError}
 use Rattle.wtp_wire.specs.declared.frame.reading.IoReadError.TheVariants.{IO}
 use Rattle.wtp_wire.specs.Content.{Content, WebTransportOf, content}
 use Rattle.wtp_wire.specs.Front.{Front, Framed, BadId, TooBig, Short, front_after, front}
-use Rattle.wtp_wire.specs.FrameHead.{head_says}
+use Rattle.wtp_wire.specs.FrameHead.{announcement_at}
 use Rattle.wtp_wire.specs.FrameNeed.{frame_need, frame_need_most, frame_need_some}
 use Rattle.wtp_wire.specs.FramePart.{Part, new_part, bytes_in, IsReading}
 use Rattle.wtp_wire.specs.Limits.{max_payload, max_calls}
 use Rattle.wtp_wire.specs.Held.{Held, skip_front, front_held, IsUnfinished, IsPayloadHead, Leaves}
 use Rattle.wtp_wire.specs.FramePolling.{FramePolled, FrameGiven, Decided, Stopped, KeepsHeld, Answered}
-use Rattle.wtp_wire.specs.FrameSteps.{HasSaid, WantsRoom, IsAnswer, CanAnswer, Grew}
-use Rattle.wtp_wire.proofs.FrameHeadLemmas.{front_said, front_part, payload_head, said_payload, said_whole}
+use Rattle.wtp_wire.specs.FrameSteps.{IsComplete, WantsRoom, IsAnswer, CanAnswer, Grew}
+use Rattle.wtp_wire.proofs.FrameHeadLemmas.{front_announcement, front_part, payload_head, announcement_payload, announcement_whole}
 use Rattle.wtp_wire.proofs.FrameReadingLemmas.{no_items}
 
 abbrev pub hold : List ℕ → ℕ → Held
@@ -59,7 +59,7 @@ reading_short p r = elim (cases_lt (length p.head) (frame_need p.head)) [
       let most = r.within in
       let w = r.whole l in
       let is : frame_need p.head ≡ length p.head = omega arith in
-      front_said p.head p.payload is ∙ rw (w.2, lt-ltb (length p.payload) w.1 w.3) refl
+      front_announcement p.head p.payload is ∙ rw (w.2, lt-ltb (length p.payload) w.1 w.3) refl
 ]
 
 front_empty : front [] ≡ Short
@@ -112,83 +112,83 @@ pub none_of : {A : Type 0} (o : Option A) → ((x : A) → o ≡ Some x → ⊥)
 none_of None not = refl
 none_of (Some x) not = absurd (not x refl)
 
-front_payload : (h p xs : List ℕ) (k : FrameKind) → frame_need h ≡ length h → head_says h ≡ said-is.Payload k (length p) → front ((h ++ p) ++ xs) ≡ Framed (content k p None) xs
-front_payload h p xs k is says = ap front (append_assoc h p xs) ∙ front_said h (p ++ xs) is ∙ rw (says, bytes_at-append p xs) refl
+front_payload : (h p xs : List ℕ) (k : FrameKind) → frame_need h ≡ length h → announcement_at h ≡ announces.Payload k (length p) → front ((h ++ p) ++ xs) ≡ Framed (content k p None) xs
+front_payload h p xs k is says = ap front (append_assoc h p xs) ∙ front_announcement h (p ++ xs) is ∙ rw (says, bytes_at-append p xs) refl
 
 -- the same without a payload
-front_bare : (h p xs : List ℕ) → frame_need h ≡ length h → length p ≡ 0 → front ((h ++ p) ++ xs) ≡ front_after (head_says h) xs
-front_bare h [] xs is none = rw (append-nil h) (front_said h xs is)
+front_bare : (h p xs : List ℕ) → frame_need h ≡ length h → length p ≡ 0 → front ((h ++ p) ++ xs) ≡ front_after (announcement_at h) xs
+front_bare h [] xs is none = rw (append-nil h) (front_announcement h xs is)
 front_bare h (b ∷ p) xs is none = absurd (omega arith)
 
 -- the case of a result
-abbrev case_of : Said → List ℕ → List ℕ → Front
-case_of said-is.Unfinished p = λ rest. Short
-case_of (said-is.Payload k n) p = Framed (content k p None)
-case_of (said-is.Session id) p = Framed (WebTransportOf id)
-case_of (said-is.Skip n) p = skip_front n
-case_of said-is.BadSession p = BadId
-case_of said-is.TooLong p = TooBig
+abbrev case_of : Announcement → List ℕ → List ℕ → Front
+case_of announces.Unfinished p = λ rest. Short
+case_of (announces.Payload k n) p = Framed (content k p None)
+case_of (announces.Session id) p = Framed (WebTransportOf id)
+case_of (announces.Skip n) p = skip_front n
+case_of announces.BadSession p = BadId
+case_of announces.TooLong p = TooBig
 
-front_decided : (s : Said) (p : Part) (xs : List ℕ) → HasSaid s p → front (bytes_in p ++ xs) ≡ case_of s p.payload xs
-front_decided said-is.Unfinished p xs w = absurd (said_whole p.head w.whole w.says)
-front_decided (said-is.Payload k n) p xs w = front_payload p.head p.payload xs k w.whole (w.says ∙ ap (λ (m : ℕ). said-is.Payload k m) (sym w.size))
-front_decided (said-is.Session id) p xs w = front_bare p.head p.payload xs w.whole w.size ∙ rw w.says refl
-front_decided (said-is.Skip n) p xs w = front_bare p.head p.payload xs w.whole w.size ∙ rw w.says refl
-front_decided said-is.BadSession p xs w = front_bare p.head p.payload xs w.whole w.size ∙ rw w.says refl
-front_decided said-is.TooLong p xs w = front_bare p.head p.payload xs w.whole w.size ∙ rw w.says refl
+front_decided : (s : Announcement) (p : Part) (xs : List ℕ) → IsComplete s p → front (bytes_in p ++ xs) ≡ case_of s p.payload xs
+front_decided announces.Unfinished p xs w = absurd (announcement_whole p.head w.whole w.says)
+front_decided (announces.Payload k n) p xs w = front_payload p.head p.payload xs k w.whole (w.says ∙ ap (λ (m : ℕ). announces.Payload k m) (sym w.size))
+front_decided (announces.Session id) p xs w = front_bare p.head p.payload xs w.whole w.size ∙ rw w.says refl
+front_decided (announces.Skip n) p xs w = front_bare p.head p.payload xs w.whole w.size ∙ rw w.says refl
+front_decided announces.BadSession p xs w = front_bare p.head p.payload xs w.whole w.size ∙ rw w.says refl
+front_decided announces.TooLong p xs w = front_bare p.head p.payload xs w.whole w.size ∙ rw w.says refl
 
-decided : (old : List ℕ) (p : Part) (s : Said) (d d' : ℕ) (a c : Source) → d ≡ 0 → d' ≡ 0 → HasSaid s p → Gains old (bytes_in p) a c 0 → Decided (hold old d) (hold [] d') a c (case_of s p.payload)
+decided : (old : List ℕ) (p : Part) (s : Announcement) (d d' : ℕ) (a c : Source) → d ≡ 0 → d' ≡ 0 → IsComplete s p → Gains old (bytes_in p) a c 0 → Decided (hold old d) (hold [] d') a c (case_of s p.payload)
 decided old p s d d' a c e e' w g = record { front = front_none old d a.ahead e ∙ ap front g.kept ∙ front_decided s p c.ahead w; empty = ap (λ (n : ℕ). hold [] n) e' }
 
-answered : (old : List ℕ) (p : Part) (s : Said) (d d' : ℕ) → d ≡ 0 → d' ≡ 0 → HasSaid s p → Grew old (bytes_in p) → Answered (hold old d) (hold [] d') (case_of s p.payload)
+answered : (old : List ℕ) (p : Part) (s : Announcement) (d d' : ℕ) → d ≡ 0 → d' ≡ 0 → IsComplete s p → Grew old (bytes_in p) → Answered (hold old d) (hold [] d') (case_of s p.payload)
 answered old p s d d' e e' w (given, is) = record {
   given = given;
   front = front_none old d given e ∙ ap front (sym is ∙ sym (append-nil (bytes_in p))) ∙ front_decided s p [] w;
   empty = ap (λ (n : ℕ). hold [] n) e';
 }
 
-answer_polled : (s : Said) (r : Result Content IoReadError) (p : Part) (old : List ℕ) (d d' : ℕ) (a c : Source) → d ≡ 0 → d' ≡ 0 → IsAnswer s p.payload r → HasSaid s p → Gains old (bytes_in p) a c 0 → FramePolled (Ready r) (hold old d) (hold [] d') a c
-answer_polled said-is.Unfinished r p old d d' a c e e' i w g = absurd i
-answer_polled (said-is.Payload k n) r p old d d' a c e e' i w g = rw i (decided old p (said-is.Payload k n) d d' a c e e' w g)
-answer_polled (said-is.Session id) r p old d d' a c e e' i w g = rw i (decided old p (said-is.Session id) d d' a c e e' w g)
-answer_polled (said-is.Skip n) r p old d d' a c e e' i w g = absurd i
-answer_polled said-is.BadSession r p old d d' a c e e' i w g = rw i (decided old p said-is.BadSession d d' a c e e' w g)
-answer_polled said-is.TooLong r p old d d' a c e e' i w g = rw i (decided old p said-is.TooLong d d' a c e e' w g)
+answer_polled : (s : Announcement) (r : Result Content IoReadError) (p : Part) (old : List ℕ) (d d' : ℕ) (a c : Source) → d ≡ 0 → d' ≡ 0 → IsAnswer s p.payload r → IsComplete s p → Gains old (bytes_in p) a c 0 → FramePolled (Ready r) (hold old d) (hold [] d') a c
+answer_polled announces.Unfinished r p old d d' a c e e' i w g = absurd i
+answer_polled (announces.Payload k n) r p old d d' a c e e' i w g = rw i (decided old p (announces.Payload k n) d d' a c e e' w g)
+answer_polled (announces.Session id) r p old d d' a c e e' i w g = rw i (decided old p (announces.Session id) d d' a c e e' w g)
+answer_polled (announces.Skip n) r p old d d' a c e e' i w g = absurd i
+answer_polled announces.BadSession r p old d d' a c e e' i w g = rw i (decided old p announces.BadSession d d' a c e e' w g)
+answer_polled announces.TooLong r p old d d' a c e e' i w g = rw i (decided old p announces.TooLong d d' a c e e' w g)
 
-answer_given : (s : Said) (r : Result Content IoReadError) (p : Part) (old : List ℕ) (d d' : ℕ) → d ≡ 0 → d' ≡ 0 → IsAnswer s p.payload r → HasSaid s p → Grew old (bytes_in p) → FrameGiven (Ready r) (hold old d) (hold [] d')
-answer_given said-is.Unfinished r p old d d' e e' i w g = absurd i
-answer_given (said-is.Payload k n) r p old d d' e e' i w g = rw i (answered old p (said-is.Payload k n) d d' e e' w g)
-answer_given (said-is.Session id) r p old d d' e e' i w g = rw i (answered old p (said-is.Session id) d d' e e' w g)
-answer_given (said-is.Skip n) r p old d d' e e' i w g = absurd i
-answer_given said-is.BadSession r p old d d' e e' i w g = rw i (answered old p said-is.BadSession d d' e e' w g)
-answer_given said-is.TooLong r p old d d' e e' i w g = rw i (answered old p said-is.TooLong d d' e e' w g)
+answer_given : (s : Announcement) (r : Result Content IoReadError) (p : Part) (old : List ℕ) (d d' : ℕ) → d ≡ 0 → d' ≡ 0 → IsAnswer s p.payload r → IsComplete s p → Grew old (bytes_in p) → FrameGiven (Ready r) (hold old d) (hold [] d')
+answer_given announces.Unfinished r p old d d' e e' i w g = absurd i
+answer_given (announces.Payload k n) r p old d d' e e' i w g = rw i (answered old p (announces.Payload k n) d d' e e' w g)
+answer_given (announces.Session id) r p old d d' e e' i w g = rw i (answered old p (announces.Session id) d d' e e' w g)
+answer_given (announces.Skip n) r p old d d' e e' i w g = absurd i
+answer_given announces.BadSession r p old d d' e e' i w g = rw i (answered old p announces.BadSession d d' e e' w g)
+answer_given announces.TooLong r p old d d' e e' i w g = rw i (answered old p announces.TooLong d d' e e' w g)
 
 -- the payload is one that may be read
-few_said : (s : Said) (p : Part) → HasSaid s p → length p.payload ≤ max_payload
-few_said said-is.Unfinished p w = let size = w.size in omega arith
-few_said (said-is.Payload k n) p w = let size = w.size in omega (arith, (said_payload p.head k n w.whole w.says).0)
-few_said (said-is.Session id) p w = let size = w.size in omega arith
-few_said (said-is.Skip n) p w = let size = w.size in omega arith
-few_said said-is.BadSession p w = let size = w.size in omega arith
-few_said said-is.TooLong p w = let size = w.size in omega arith
+few_announcement : (s : Announcement) (p : Part) → IsComplete s p → length p.payload ≤ max_payload
+few_announcement announces.Unfinished p w = let size = w.size in omega arith
+few_announcement (announces.Payload k n) p w = let size = w.size in omega (arith, (announcement_payload p.head k n w.whole w.says).0)
+few_announcement (announces.Session id) p w = let size = w.size in omega arith
+few_announcement (announces.Skip n) p w = let size = w.size in omega arith
+few_announcement announces.BadSession p w = let size = w.size in omega arith
+few_announcement announces.TooLong p w = let size = w.size in omega arith
 
-pub can_answer : (s : Said) (p : Part) → HasSaid s p → ((n : ℕ) → s ≡ said-is.Skip n → ⊥) → CanAnswer s (length p.payload)
-can_answer said-is.Unfinished p w not = said_whole p.head w.whole w.says
-can_answer (said-is.Payload k n) p w not = let s = said_payload p.head k n w.whole w.says in (s.1, s.2, few_said (said-is.Payload k n) p w)
-can_answer (said-is.Session id) p w not = tt
-can_answer (said-is.Skip n) p w not = not n refl
-can_answer said-is.BadSession p w not = tt
-can_answer said-is.TooLong p w not = tt
+pub can_answer : (s : Announcement) (p : Part) → IsComplete s p → ((n : ℕ) → s ≡ announces.Skip n → ⊥) → CanAnswer s (length p.payload)
+can_answer announces.Unfinished p w not = announcement_whole p.head w.whole w.says
+can_answer (announces.Payload k n) p w not = let s = announcement_payload p.head k n w.whole w.says in (s.1, s.2, few_announcement (announces.Payload k n) p w)
+can_answer (announces.Session id) p w not = tt
+can_answer (announces.Skip n) p w not = not n refl
+can_answer announces.BadSession p w not = tt
+can_answer announces.TooLong p w not = tt
 
-asks_said : (s : Said) (p : Part) (old : List ℕ) (a c : Source) → HasSaid s p → Gains old (bytes_in p) a c 0 → Asks max_calls a c
-asks_said s p old a c w g = record {
-  asked = let one = g.asked in let two = w.whole in omega (arith, few_said s p w, frame_need_most p.head, length-append p.head p.payload);
+asks_announcement : (s : Announcement) (p : Part) (old : List ℕ) (a c : Source) → IsComplete s p → Gains old (bytes_in p) a c 0 → Asks max_calls a c
+asks_announcement s p old a c w g = record {
+  asked = let one = g.asked in let two = w.whole in omega (arith, few_announcement s p w, frame_need_most p.head, length-append p.head p.payload);
   no_less = g.no_less;
   ending = g.ending;
   waits = g.waits;
 }
 
-pub answer_polls : (s t : Option Source) (x : Said) (r : Result Content IoReadError) (old new : Part) (d : ℕ) → d ≡ 0 → IsReading old → IsAnswer x new.payload r → HasSaid x new → Grew (bytes_in old) (bytes_in new)
+pub answer_polls : (s t : Option Source) (x : Announcement) (r : Result Content IoReadError) (old new : Part) (d : ℕ) → d ≡ 0 → IsReading old → IsAnswer x new.payload r → IsComplete x new → Grew (bytes_in old) (bytes_in new)
     → Telling s t (λ a c. Gains (bytes_in old) (bytes_in new) a c 0)
     → Polls (Ready r) (hold (bytes_in old) d) (hold [] d) s t
 answer_polls s t x r old new d z was i w grew p = record {
@@ -196,7 +196,7 @@ answer_polls s t x r old new d z was i w grew p = record {
   unfinished = due_unfinished [] d refl;
   given = answer_given x r new (bytes_in old) d d z z i w grew;
   polled = telling_map s t _ (FramePolled (Ready r) (hold (bytes_in old) d) (hold [] d)) (λ a c g. answer_polled x r new (bytes_in old) d d a c z z i w g) p;
-  asks = telling_map s t _ (Asks max_calls) (λ a c g. asks_said x new (bytes_in old) a c w g) p;
+  asks = telling_map s t _ (Asks max_calls) (λ a c g. asks_announcement x new (bytes_in old) a c w g) p;
 }
 
 -- ---- stops
@@ -216,7 +216,7 @@ asks_left p old e a c small r g =
     let part = r.part in
     let size : length (bytes_in p) + 1 ≤ max_calls = elim (cases_lt (length p.head) (frame_need p.head)) [
       | inl l ↦ let empty = r.nothing l in omega (arith, length-append p.head p.payload, frame_need_most p.head)
-      | inr l ↦ let most = r.within in let w = r.whole l in let below = w.3 in omega (arith, length-append p.head p.payload, frame_need_most p.head, (said_payload p.head w.0 w.1 (omega arith) w.2).0)
+      | inr l ↦ let most = r.within in let w = r.whole l in let below = w.3 in omega (arith, length-append p.head p.payload, frame_need_most p.head, (announcement_payload p.head w.0 w.1 (omega arith) w.2).0)
     ] in
     record { asked = let one = g.asked in omega arith; no_less = g.no_less; ending = g.ending; waits = g.waits }
 

@@ -8,12 +8,12 @@ use Rattle.wtp_core.specs.Fill.{Gains, FillKeepsLengths}
 use Rattle.std.proofs.Common.{Result, Ok, Err}
 use Rattle.std.proofs.lemmas.Bool.{cases_lt}
 use Rattle.wtp_wire.specs.FrameNeed.{frame_need}
-use Rattle.wtp_wire.specs.FrameHead.{head_says}
+use Rattle.wtp_wire.specs.FrameHead.{announcement_at}
 use Rattle.wtp_wire.specs.FramePart.{Part, bytes_in, IsReading}
-use Rattle.wtp_wire.specs.FrameSteps.{HasSaid, StopMoves, PayloadKeeps, AdvanceKeeps, Grew, payload_size}
+use Rattle.wtp_wire.specs.FrameSteps.{IsComplete, StopMoves, PayloadKeeps, AdvanceKeeps, Grew, payload_size}
 use Rattle.wtp_wire.specs.declared.frame.kind.FrameKind.{FrameKind}
-use Rattle.wtp_wire.specs.declared.frame.head.Said.{Said}
-use Rattle.wtp_wire.specs.declared.frame.head.Said.TheVariants as said-is
+use Rattle.wtp_wire.specs.declared.frame.head.Announcement.{Announcement}
+use Rattle.wtp_wire.specs.declared.frame.head.Announcement.TheVariants as announces
 use Rattle.wtp_wire.specs.declared.frame.reading.part.Stop.{Stop}
 use Rattle.wtp_wire.specs.declared.frame.reading.part.Stop.TheVariants as stopped
 use Rattle.wtp_core.proofs.FillLemmas.{gains_then, halt_then, begins}
@@ -114,27 +114,26 @@ pub part_halts : (U V : Type 0) (x : Stop) (s t u : Option Source) (old new : Pa
 part_halts U V x s t u old new h hd p r g e e' i m q = telling_then s t u _ _ (λ a b. StopMoves {U = V} (Err x) (bytes_in old) (bytes_in new) a b)
     (λ a b c k j. rw i (halted_on U V x old.head h old.payload new.payload a b c (which old h r g.stays) (subst (λ (l : List ℕ). Gains l h a b 0) e k) (subst (λ (l : List ℕ). StopMoves {U = U} (Err x) l new.payload b c) e' j))) m q
 
--- Before the head was complete there was no room; a complete head stays, and says that a payload of the room's size
--- follows.
-room_said : (p : Part) (h : List ℕ) (s : Said) → IsReading p → HeadGoesOn p h → head_says h ≡ s
-    → (p.room ≡ 0) ⊎ ((k : FrameKind) × (m : ℕ) × (s ≡ said-is.Payload k m) × (length p.payload < m) × (0 < p.room → p.room ≡ m))
-room_said p h s r g says = elim (cases_lt (length p.head) (frame_need p.head)) [
+-- Before the head was complete there was no room; a complete head stays, and announces a payload of the room's size.
+room_announcement : (p : Part) (h : List ℕ) (s : Announcement) → IsReading p → HeadGoesOn p h → announcement_at h ≡ s
+    → (p.room ≡ 0) ⊎ ((k : FrameKind) × (m : ℕ) × (s ≡ announces.Payload k m) × (length p.payload < m) × (0 < p.room → p.room ≡ m))
+room_announcement p h s r g says = elim (cases_lt (length p.head) (frame_need p.head)) [
   | inl l ↦ inl (r.nothing l)
   | inr l ↦
       let most = r.within in
       let same : h ≡ p.head = g.stays (omega arith) in
       let w = r.whole l in
-      inr (w.0, w.1, sym says ∙ ap head_says same ∙ w.2, w.3, w.4)
+      inr (w.0, w.1, sym says ∙ ap announcement_at same ∙ w.2, w.3, w.4)
 ]
 
 -- the result of a reading that read a payload in part, or had no room for it
-pub stopped_keeps : (U : Type 0) (x : Stop) (old mid new : Part) (k : FrameKind) (m : ℕ) → IsReading old → HeadGoesOn old mid.head → mid.room ≡ old.room → frame_need mid.head ≡ length mid.head → head_says mid.head ≡ said-is.Payload k m
+pub stopped_keeps : (U : Type 0) (x : Stop) (old mid new : Part) (k : FrameKind) (m : ℕ) → IsReading old → HeadGoesOn old mid.head → mid.room ≡ old.room → frame_need mid.head ≡ length mid.head → announcement_at mid.head ≡ announces.Payload k m
     → new.head ≡ mid.head → PayloadKeeps {U = U} (Err x) m mid new → AdvanceKeeps (Err x) old new
 stopped_keeps U (stopped.Source y) old mid new k m r g e w says i q = record {
   within = omega (arith, ap length i, ap frame_need i);
   part = omega (arith, q.0, q.1);
   nothing = λ l. absurd (omega (arith, ap length i, ap frame_need i));
-  whole = λ l. (k, m, ap head_says i ∙ says, q.1, λ _. q.0);
+  whole = λ l. (k, m, ap announcement_at i ∙ says, q.1, λ _. q.0);
 }
 stopped_keeps U stopped.NoMemory old mid new k m r g e w says i q =
     let part = r.part in
@@ -143,7 +142,7 @@ stopped_keeps U stopped.NoMemory old mid new k m r g e w says i q =
         within = omega (arith, ap length i, ap frame_need i);
         part = omega (arith, ap length q.none);
         nothing = λ l. q.after;
-        whole = λ l. (k, m, ap head_says i ∙ says, let some = q.some in omega (arith, ap length q.none), λ l'. absurd (omega (arith, q.after)));
+        whole = λ l. (k, m, ap announcement_at i ∙ says, let some = q.some in omega (arith, ap length q.none), λ l'. absurd (omega (arith, q.after)));
       },
       record {
         none = no_items old.payload (omega arith);
@@ -151,27 +150,27 @@ stopped_keeps U stopped.NoMemory old mid new k m r g e w says i q =
         whole = omega (arith, ap length i, ap frame_need i);
         kind = k;
         size = m;
-        says = ap head_says i ∙ says;
+        says = ap announcement_at i ∙ says;
         some = q.some;
         empty = q.none;
       },
     )
 
-none_said : (s : Said) → ((k : FrameKind) (m : ℕ) → s ≡ said-is.Payload k m → ⊥) → payload_size s ≡ 0
-none_said said-is.Unfinished not = refl
-none_said (said-is.Payload k m) not = absurd (not k m refl)
-none_said (said-is.Session id) not = refl
-none_said (said-is.Skip m) not = refl
-none_said said-is.BadSession not = refl
-none_said said-is.TooLong not = refl
+none_announcement : (s : Announcement) → ((k : FrameKind) (m : ℕ) → s ≡ announces.Payload k m → ⊥) → payload_size s ≡ 0
+none_announcement announces.Unfinished not = refl
+none_announcement (announces.Payload k m) not = absurd (not k m refl)
+none_announcement (announces.Session id) not = refl
+none_announcement (announces.Skip m) not = refl
+none_announcement announces.BadSession not = refl
+none_announcement announces.TooLong not = refl
 
--- the head says that no payload follows
-pub said_bare : (s : Said) (old new : Part) → IsReading old → HeadGoesOn old new.head → new.room ≡ old.room → new.payload ≡ old.payload → frame_need new.head ≡ length new.head → head_says new.head ≡ s
-    → ((k : FrameKind) (m : ℕ) → s ≡ said-is.Payload k m → ⊥) → HasSaid s new
-said_bare s old new r g e e' w says not = elim (room_said old new.head s r g says) [
+-- the head announces no payload
+pub announcement_bare : (s : Announcement) (old new : Part) → IsReading old → HeadGoesOn old new.head → new.room ≡ old.room → new.payload ≡ old.payload → frame_need new.head ≡ length new.head → announcement_at new.head ≡ s
+    → ((k : FrameKind) (m : ℕ) → s ≡ announces.Payload k m → ⊥) → IsComplete s new
+announcement_bare s old new r g e e' w says not = elim (room_announcement old new.head s r g says) [
   | inl none ↦
       let part = r.part in
-      record { whole = w; says = says; size = omega (arith, ap length e', none_said s not); all = omega (arith, ap length e') }
+      record { whole = w; says = says; size = omega (arith, ap length e', none_announcement s not); all = omega (arith, ap length e') }
   | inr (k, m, is, less, whole) ↦ absurd (not k m is)
 ]
 

@@ -7,21 +7,21 @@ use Rattle.wtp_core.specs.Varint.{Encodes, number_at, bytes_at}
 use Rattle.wtp_core.proofs.EncodingLemmas.{number_at-encoding, number_at-encodes, encoding_not_empty, bytes_at-parts, bytes_at-append}
 use Rattle.wtp_wire.specs.declared.frame.kind.FrameKind.{FrameKind}
 use Rattle.wtp_wire.specs.declared.frame.kind.FrameKind.TheVariants.{Data, WebTransport}
-use Rattle.wtp_wire.specs.declared.frame.head.Said.{Said}
-use Rattle.wtp_wire.specs.declared.frame.head.Said.TheVariants as said-is
+use Rattle.wtp_wire.specs.declared.frame.head.Announcement.{Announcement}
+use Rattle.wtp_wire.specs.declared.frame.head.Announcement.TheVariants as announces
 use Rattle.wtp_wire.specs.Kind.{frame_type_of, IsKind, kind_of}
 use Rattle.wtp_wire.specs.Content.{Content, PlainOf, WebTransportOf}
-use Rattle.wtp_wire.specs.FrameHead.{second_says, head_at}
+use Rattle.wtp_wire.specs.FrameHead.{announcement_of, head_at}
 use Rattle.wtp_wire.specs.Front.{Front, Framed, Unknown, BadId, TooBig, Short, EncodesPair, IsPlainFrame, IsFrame, Begins, front_after, front, extended}
 use Rattle.wtp_wire.proofs.KindLemmas.{kind_of-is, is-kind_of, kind_of-none}
 
 -- ---- the first two numbers
 
-pub head_at-numbers : (bytes mid rest : List ℕ) (id n : ℕ) → number_at bytes ≡ Some (id, mid) → number_at mid ≡ Some (n, rest) → head_at bytes ≡ Some (second_says (kind_of id) n, rest)
+pub head_at-numbers : (bytes mid rest : List ℕ) (id n : ℕ) → number_at bytes ≡ Some (id, mid) → number_at mid ≡ Some (n, rest) → head_at bytes ≡ Some (announcement_of (kind_of id) n, rest)
 unfolding head_at
 head_at-numbers bytes mid rest id n e f = rw (e, f) refl
 
-pub front-head : (bytes rest : List ℕ) (s : Said) → head_at bytes ≡ Some (s, rest) → front bytes ≡ front_after s rest
+pub front-head : (bytes rest : List ℕ) (s : Announcement) → head_at bytes ≡ Some (s, rest) → front bytes ≡ front_after s rest
 unfolding front
 front-head bytes rest s e = rw e refl
 
@@ -36,58 +36,58 @@ front-cut bytes mid id e f = rw (e, f) refl
 
 -- ---- what the second number says
 
-second-session : (id : ℕ) → id % 4 ≡ 0 → second_says (Some WebTransport) id ≡ said-is.Session id
+second-session : (id : ℕ) → id % 4 ≡ 0 → announcement_of (Some WebTransport) id ≡ announces.Session id
 second-session id h = rw (eq-eqb (id % 4) 0 h) refl
 
-second-bad : (id : ℕ) → id % 4 ≢ 0 → second_says (Some WebTransport) id ≡ said-is.BadSession
+second-bad : (id : ℕ) → id % 4 ≢ 0 → announcement_of (Some WebTransport) id ≡ announces.BadSession
 second-bad id h = rw (ne_eqb (id % 4) 0 h) refl
 
-second-big : (kind : FrameKind) (n : ℕ) → kind ≢ WebTransport → 4096 < n → second_says (Some kind) n ≡ said-is.TooLong
+second-big : (kind : FrameKind) (n : ℕ) → kind ≢ WebTransport → 4096 < n → announcement_of (Some kind) n ≡ announces.TooLong
 second-big WebTransport n plain h = absurd (plain refl)
 second-big kind n plain h = rw (lt-ltb 4096 n h) refl
 
-second-plain : (kind : FrameKind) (n : ℕ) → kind ≢ WebTransport → n ≤ 4096 → second_says (Some kind) n ≡ said-is.Payload kind n
+second-plain : (kind : FrameKind) (n : ℕ) → kind ≢ WebTransport → n ≤ 4096 → announcement_of (Some kind) n ≡ announces.Payload kind n
 second-plain WebTransport n plain h = absurd (plain refl)
 second-plain kind n plain h = rw (le-ltb 4096 n h) refl
 
 -- ---- what follows it
 
-after-payload : (kind : FrameKind) (n : ℕ) (payload rest bytes : List ℕ) → bytes_at n bytes ≡ Some (payload, rest) → front_after (said-is.Payload kind n) bytes ≡ Framed (PlainOf kind payload) rest
+after-payload : (kind : FrameKind) (n : ℕ) (payload rest bytes : List ℕ) → bytes_at n bytes ≡ Some (payload, rest) → front_after (announces.Payload kind n) bytes ≡ Framed (PlainOf kind payload) rest
 after-payload kind n payload rest bytes e = rw e refl
 
-after-skip : (n : ℕ) (payload rest bytes : List ℕ) → bytes_at n bytes ≡ Some (payload, rest) → front_after (said-is.Skip n) bytes ≡ Unknown rest
+after-skip : (n : ℕ) (payload rest bytes : List ℕ) → bytes_at n bytes ≡ Some (payload, rest) → front_after (announces.Skip n) bytes ≡ Unknown rest
 after-skip n payload rest bytes e = rw e refl
 
-after_payload-cut : (kind : FrameKind) (n : ℕ) (bytes : List ℕ) → bytes_at n bytes ≡ None → front_after (said-is.Payload kind n) bytes ≡ Short
+after_payload-cut : (kind : FrameKind) (n : ℕ) (bytes : List ℕ) → bytes_at n bytes ≡ None → front_after (announces.Payload kind n) bytes ≡ Short
 after_payload-cut kind n bytes e = rw e refl
 
-after_skip-cut : (n : ℕ) (bytes : List ℕ) → bytes_at n bytes ≡ None → front_after (said-is.Skip n) bytes ≡ Short
+after_skip-cut : (n : ℕ) (bytes : List ℕ) → bytes_at n bytes ≡ None → front_after (announces.Skip n) bytes ≡ Short
 after_skip-cut n bytes e = rw e refl
 
 -- ---- what starts with a case is computed as that case
 
 -- an encoding of a type of this kind, and of a number after it that says this
-front-encoded : (bytes head rest : List ℕ) (id n : ℕ) (o : Option FrameKind) (s : Said) → kind_of id ≡ o → EncodesPair id n head → second_says o n ≡ s → bytes ≡ head ++ rest → front bytes ≡ front_after s rest
+front-encoded : (bytes head rest : List ℕ) (id n : ℕ) (o : Option FrameKind) (s : Announcement) → kind_of id ≡ o → EncodesPair id n head → announcement_of o n ≡ s → bytes ≡ head ++ rest → front bytes ≡ front_after s rest
 front-encoded bytes head rest id n o s kind h says parts =
     let whole : bytes ≡ h.first ++ (h.second ++ rest) = parts ∙ ap (λ (x : List ℕ). x ++ rest) h.parts ∙ append_assoc h.first h.second rest in
     let one : number_at bytes ≡ Some (id, h.second ++ rest) = rw whole (number_at-encoding id h.first (h.second ++ rest) h.type_number) in
-    front-head bytes rest (second_says (kind_of id) n) (head_at-numbers bytes (h.second ++ rest) rest id n one (number_at-encoding n h.second rest h.number))
-    ∙ ap (λ (k : Option FrameKind). front_after (second_says k n) rest) kind
-    ∙ ap (λ (x : Said). front_after x rest) says
+    front-head bytes rest (announcement_of (kind_of id) n) (head_at-numbers bytes (h.second ++ rest) rest id n one (number_at-encoding n h.second rest h.number))
+    ∙ ap (λ (k : Option FrameKind). front_after (announcement_of k n) rest) kind
+    ∙ ap (λ (x : Announcement). front_after x rest) says
 
 pub front-begins : (bytes : List ℕ) (c : Front) → Begins bytes c → front bytes ≡ c
 front-begins bytes Short h = absurd h
 front-begins bytes (Unknown rest) (s, (id, head, payload, none, encoded, whole), parts) =
-    front-encoded bytes head (payload ++ rest) id (length payload) None (said-is.Skip (length payload)) (kind_of-none id none) encoded refl (parts ∙ ap (λ (x : List ℕ). x ++ rest) whole ∙ append_assoc head payload rest)
+    front-encoded bytes head (payload ++ rest) id (length payload) None (announces.Skip (length payload)) (kind_of-none id none) encoded refl (parts ∙ ap (λ (x : List ℕ). x ++ rest) whole ∙ append_assoc head payload rest)
     ∙ after-skip (length payload) payload rest (payload ++ rest) (bytes_at-append payload rest)
 front-begins bytes (BadId rest) (s, (id, encoded, odd), parts) =
-    front-encoded bytes s rest (frame_type_of WebTransport) id (Some WebTransport) said-is.BadSession (kind_of-is WebTransport (frame_type_of WebTransport) refl) encoded (second-bad id odd) parts
+    front-encoded bytes s rest (frame_type_of WebTransport) id (Some WebTransport) announces.BadSession (kind_of-is WebTransport (frame_type_of WebTransport) refl) encoded (second-bad id odd) parts
 front-begins bytes (TooBig rest) (s, (kind, id, len, is_kind, plain, big, encoded), parts) =
-    front-encoded bytes s rest id len (Some kind) said-is.TooLong (kind_of-is kind id is_kind) encoded (second-big kind len plain big) parts
+    front-encoded bytes s rest id len (Some kind) announces.TooLong (kind_of-is kind id is_kind) encoded (second-big kind len plain big) parts
 front-begins bytes (Framed (WebTransportOf id) rest) (s, (encoded, even), parts) =
-    front-encoded bytes s rest (frame_type_of WebTransport) id (Some WebTransport) (said-is.Session id) (kind_of-is WebTransport (frame_type_of WebTransport) refl) encoded (second-session id even) parts
+    front-encoded bytes s rest (frame_type_of WebTransport) id (Some WebTransport) (announces.Session id) (kind_of-is WebTransport (frame_type_of WebTransport) refl) encoded (second-session id even) parts
 front-begins bytes (Framed (PlainOf kind payload) rest) (s, h, parts) =
-    front-encoded bytes h.head (payload ++ rest) h.id (length payload) (Some kind) (said-is.Payload kind (length payload)) (kind_of-is kind h.id h.is_kind) h.encoded (second-plain kind (length payload) h.plain h.small) (parts ∙ ap (λ (x : List ℕ). x ++ rest) h.parts ∙ append_assoc h.head payload rest)
+    front-encoded bytes h.head (payload ++ rest) h.id (length payload) (Some kind) (announces.Payload kind (length payload)) (kind_of-is kind h.id h.is_kind) h.encoded (second-plain kind (length payload) h.plain h.small) (parts ∙ ap (λ (x : List ℕ). x ++ rest) h.parts ∙ append_assoc h.head payload rest)
     ∙ after-payload kind (length payload) payload rest (payload ++ rest) (bytes_at-append payload rest)
 
 -- ---- what is computed is what the bytes start with
@@ -111,7 +111,7 @@ pub record HasHead (bytes : List ℕ) : Type 0 where
   pub rest : List ℕ
   pub encoded : EncodesPair id n head
   pub parts : bytes ≡ head ++ rest
-  pub front : front bytes ≡ front_after (second_says (kind_of id) n) rest
+  pub front : front bytes ≡ front_after (announcement_of (kind_of id) n) rest
 
 head_holds : (bytes : List ℕ) → (front bytes ≡ Short) ⊎ HasHead bytes
 head_holds bytes = elim (found (number_at bytes)) [
@@ -128,7 +128,7 @@ head_holds bytes = elim (found (number_at bytes)) [
           rest = rest;
           encoded = record { first = first; second = second; parts = refl; type_number = typed; number = number };
           parts = one ∙ ap (λ (x : List ℕ). first ++ x) two ∙ sym (append_assoc first second rest);
-          front = front-head bytes rest (second_says (kind_of id) n) (head_at-numbers bytes mid rest id n e f);
+          front = front-head bytes rest (announcement_of (kind_of id) n) (head_at-numbers bytes mid rest id n e f);
         })
   ]
 ]
@@ -139,43 +139,43 @@ sized bytes head rest payload left id n h parts got =
     let (len, halves) = bytes_at-parts n rest payload left got in
     (len, subst (λ (k : ℕ). EncodesPair id k head) (sym len) h, parts ∙ ap (λ (x : List ℕ). head ++ x) halves ∙ sym (append_assoc head payload left))
 
-skip_holds : (bytes head rest : List ℕ) (id n : ℕ) → ((kind : FrameKind) → IsKind kind id → ⊥) → EncodesPair id n head → bytes ≡ head ++ rest → Holds bytes (front_after (said-is.Skip n) rest)
+skip_holds : (bytes head rest : List ℕ) (id n : ℕ) → ((kind : FrameKind) → IsKind kind id → ⊥) → EncodesPair id n head → bytes ≡ head ++ rest → Holds bytes (front_after (announces.Skip n) rest)
 skip_holds bytes head rest id n no_kind h parts = elim (found (bytes_at n rest)) [
   | inl cut ↦ inl (after_skip-cut n rest cut)
   | inr ((payload, left), got) ↦
       let (len, encoded, all) = sized bytes head rest payload left id n h parts got in
-      holds-along bytes (front_after (said-is.Skip n) rest) (Unknown left) (after-skip n payload left rest got) (inr (head ++ payload, (id, head, payload, no_kind, encoded, refl), all))
+      holds-along bytes (front_after (announces.Skip n) rest) (Unknown left) (after-skip n payload left rest got) (inr (head ++ payload, (id, head, payload, no_kind, encoded, refl), all))
 ]
 
-payload_holds : (kind : FrameKind) (bytes head rest : List ℕ) (id n : ℕ) → IsKind kind id → kind ≢ WebTransport → n ≤ 4096 → EncodesPair id n head → bytes ≡ head ++ rest → Holds bytes (front_after (said-is.Payload kind n) rest)
+payload_holds : (kind : FrameKind) (bytes head rest : List ℕ) (id n : ℕ) → IsKind kind id → kind ≢ WebTransport → n ≤ 4096 → EncodesPair id n head → bytes ≡ head ++ rest → Holds bytes (front_after (announces.Payload kind n) rest)
 payload_holds kind bytes head rest id n is_kind plain small h parts = elim (found (bytes_at n rest)) [
   | inl cut ↦ inl (after_payload-cut kind n rest cut)
   | inr ((payload, left), got) ↦
       let (len, encoded, all) = sized bytes head rest payload left id n h parts got in
       let frame : IsPlainFrame kind payload (head ++ payload) = record { id = id; head = head; is_kind = is_kind; plain = plain; encoded = encoded; small = omega arith; parts = refl } in
-      holds-along bytes (front_after (said-is.Payload kind n) rest) (Framed (PlainOf kind payload) left) (after-payload kind n payload left rest got) (inr (head ++ payload, frame, all))
+      holds-along bytes (front_after (announces.Payload kind n) rest) (Framed (PlainOf kind payload) left) (after-payload kind n payload left rest got) (inr (head ++ payload, frame, all))
 ]
 
-after-along : (s t : Said) (rest : List ℕ) → s ≡ t → front_after s rest ≡ front_after t rest
-after-along s t rest e = ap (λ (x : Said). front_after x rest) e
+after-along : (s t : Announcement) (rest : List ℕ) → s ≡ t → front_after s rest ≡ front_after t rest
+after-along s t rest e = ap (λ (x : Announcement). front_after x rest) e
 
-plain_holds : (kind : FrameKind) (bytes head rest : List ℕ) (id n : ℕ) → IsKind kind id → kind ≢ WebTransport → EncodesPair id n head → bytes ≡ head ++ rest → Holds bytes (front_after (second_says (Some kind) n) rest)
+plain_holds : (kind : FrameKind) (bytes head rest : List ℕ) (id n : ℕ) → IsKind kind id → kind ≢ WebTransport → EncodesPair id n head → bytes ≡ head ++ rest → Holds bytes (front_after (announcement_of (Some kind) n) rest)
 plain_holds kind bytes head rest id n is_kind plain h parts = elim (cases_lt 4096 n) [
-  | inl big ↦ holds-along bytes (front_after (second_says (Some kind) n) rest) (TooBig rest) (after-along (second_says (Some kind) n) said-is.TooLong rest (second-big kind n plain big)) (inr (head, (kind, id, n, is_kind, plain, big, h), parts))
-  | inr small ↦ holds-along bytes (front_after (second_says (Some kind) n) rest) (front_after (said-is.Payload kind n) rest) (after-along (second_says (Some kind) n) (said-is.Payload kind n) rest (second-plain kind n plain small)) (payload_holds kind bytes head rest id n is_kind plain small h parts)
+  | inl big ↦ holds-along bytes (front_after (announcement_of (Some kind) n) rest) (TooBig rest) (after-along (announcement_of (Some kind) n) announces.TooLong rest (second-big kind n plain big)) (inr (head, (kind, id, n, is_kind, plain, big, h), parts))
+  | inr small ↦ holds-along bytes (front_after (announcement_of (Some kind) n) rest) (front_after (announces.Payload kind n) rest) (after-along (announcement_of (Some kind) n) (announces.Payload kind n) rest (second-plain kind n plain small)) (payload_holds kind bytes head rest id n is_kind plain small h parts)
 ]
 
-session_holds : (bytes head rest : List ℕ) (id : ℕ) → EncodesPair (frame_type_of WebTransport) id head → bytes ≡ head ++ rest → Holds bytes (front_after (second_says (Some WebTransport) id) rest)
+session_holds : (bytes head rest : List ℕ) (id : ℕ) → EncodesPair (frame_type_of WebTransport) id head → bytes ≡ head ++ rest → Holds bytes (front_after (announcement_of (Some WebTransport) id) rest)
 session_holds bytes head rest id h parts = elim (cases_eq (id % 4) 0) [
-  | inl even ↦ holds-along bytes (front_after (second_says (Some WebTransport) id) rest) (Framed (WebTransportOf id) rest) (after-along (second_says (Some WebTransport) id) (said-is.Session id) rest (second-session id even)) (inr (head, (h, even), parts))
-  | inr odd ↦ holds-along bytes (front_after (second_says (Some WebTransport) id) rest) (BadId rest) (after-along (second_says (Some WebTransport) id) said-is.BadSession rest (second-bad id odd)) (inr (head, (id, h, odd), parts))
+  | inl even ↦ holds-along bytes (front_after (announcement_of (Some WebTransport) id) rest) (Framed (WebTransportOf id) rest) (after-along (announcement_of (Some WebTransport) id) (announces.Session id) rest (second-session id even)) (inr (head, (h, even), parts))
+  | inr odd ↦ holds-along bytes (front_after (announcement_of (Some WebTransport) id) rest) (BadId rest) (after-along (announcement_of (Some WebTransport) id) announces.BadSession rest (second-bad id odd)) (inr (head, (id, h, odd), parts))
 ]
 
-kind_holds : (kind : FrameKind) (bytes head rest : List ℕ) (id n : ℕ) → IsKind kind id → EncodesPair id n head → bytes ≡ head ++ rest → Holds bytes (front_after (second_says (Some kind) n) rest)
+kind_holds : (kind : FrameKind) (bytes head rest : List ℕ) (id n : ℕ) → IsKind kind id → EncodesPair id n head → bytes ≡ head ++ rest → Holds bytes (front_after (announcement_of (Some kind) n) rest)
 kind_holds WebTransport bytes head rest id n is_kind h parts = session_holds bytes head rest n (subst (λ (i : ℕ). EncodesPair i n head) is_kind h) parts
 kind_holds kind bytes head rest id n is_kind h parts = plain_holds kind bytes head rest id n is_kind (λ e. cc) h parts
 
-after_holds : (o : Option FrameKind) (bytes head rest : List ℕ) (id n : ℕ) → kind_of id ≡ o → EncodesPair id n head → bytes ≡ head ++ rest → Holds bytes (front_after (second_says o n) rest)
+after_holds : (o : Option FrameKind) (bytes head rest : List ℕ) (id n : ℕ) → kind_of id ≡ o → EncodesPair id n head → bytes ≡ head ++ rest → Holds bytes (front_after (announcement_of o n) rest)
 after_holds None bytes head rest id n e h parts = skip_holds bytes head rest id n (λ kind is. none_some kind (kind_of-is kind id is)) h parts
   where
     none_some : (kind : FrameKind) → kind_of id ≡ Some kind → ⊥
@@ -185,7 +185,7 @@ after_holds (Some kind) bytes head rest id n e h parts = kind_holds kind bytes h
 pub front_holds : (bytes : List ℕ) → Holds bytes (front bytes)
 front_holds bytes = elim (head_holds bytes) [
   | inl short ↦ inl short
-  | inr h ↦ holds-along bytes (front bytes) (front_after (second_says (kind_of h.id) h.n) h.rest) h.front (after_holds (kind_of h.id) bytes h.head h.rest h.id h.n refl h.encoded h.parts)
+  | inr h ↦ holds-along bytes (front bytes) (front_after (announcement_of (kind_of h.id) h.n) h.rest) h.front (after_holds (kind_of h.id) bytes h.head h.rest h.id h.n refl h.encoded h.parts)
 ]
 
 -- ---- what follows

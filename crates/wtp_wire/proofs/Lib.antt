@@ -19,6 +19,7 @@ pub mod SettingIdLemmas
 pub mod ValueLemmas
 pub mod KeptLemmas
 pub mod PayloadLemmas
+pub mod SettingsListLemmas
 pub mod CloseLemmas
 pub mod CloseWireLemmas
 pub mod CapsuleLemmas

@@ -3,7 +3,7 @@ use Rattle.std.proofs.Common.{◌≡◌, ℕ, ◌+◌, ◌-◌, ◌≤◌, List,
 use Rattle.std.proofs.lemmas.List.{append_cancel_left, drop-append-le, take-append-drop, take_at, drop_at}
 use Rattle.wtp_core.specs.declared.bytes.polled.Polled.TheVariants.{Ready}
 use Rattle.std.proofs.Common.{Ok}
-use Rattle.wtp_core.specs.Source.{Source, Telling, Shows, TakesAtHand}
+use Rattle.wtp_core.specs.Source.{Source, Telling, Shows, TakesBuffered}
 use Rattle.wtp_core.specs.Polled.{Asks}
 use Rattle.wtp_core.proofs.TellingLemmas.{telling_map}
 use Rattle.wtp_wire.specs.declared.frame.kind.FrameKind.{FrameKind}
@@ -98,7 +98,7 @@ more_after : (f : Content) (shown rest behind : List ℕ) → front shown ≡ Fr
 more_after f shown rest behind e = front-more shown rest (λ short. cc) ∙ ap (λ (x : Front). extended x rest) e
 
 pub takes_frame : (f : Content) (shown : List ℕ) (size : ℕ) (s t : Option Source) → size ≤ length shown → front shown ≡ Framed f (drop size shown)
-    → Shows shown s → Telling s t (TakesAtHand size) → Telling s t (TakesFrame f)
+    → Shows shown s → Telling s t (TakesBuffered size) → Telling s t (TakesFrame f)
 takes_frame f shown size None t small e shows p = tt
 takes_frame f shown size (Some a) None small e shows p = absurd p
 takes_frame f shown size (Some a) (Some b) small e (rest, is) (once, parts, enough, waits) =

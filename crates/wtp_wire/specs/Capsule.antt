@@ -10,8 +10,8 @@ use Rattle.wtp_wire.specs.Front.{EncodesPair}
 abbrev pub capsule_number_of : CapsuleKind → ℕ
 capsule_number_of CloseWebTransportSession = 0x2843
 
--- the bytes start with a complete capsule: an encoding of its type, one of its length, and a payload of that length;
--- what follows is not read
+-- the bytes start with a complete capsule: an encoding of its type, one of its length, and a
+-- payload of that length; what follows is not read
 pub record BeginsWithCapsule (bytes : List ℕ) (kind : CapsuleKind) (payload : List ℕ) : Type 0 where
   pub head : List ℕ
   pub rest : List ℕ
@@ -26,8 +26,12 @@ capsule_kind_of id = if id == 0x2843 then Some CloseWebTransportSession else Non
 
 -- after the type of a capsule
 unfoldable pub payload_after : CapsuleKind → List ℕ → Option (CapsuleKind × List ℕ)
-payload_after kind bytes = option_and_then (λ len. option_map (λ payload. (kind, payload.0)) (bytes_at len.0 len.1)) (number_at bytes)
+payload_after kind bytes =
+    option_and_then (λ len. option_map (λ payload. (kind, payload.0)) (bytes_at len.0 len.1))
+    (number_at bytes)
 
 -- the kind and the payload of the capsule at the start
 unfoldable pub capsule_in : List ℕ → Option (CapsuleKind × List ℕ)
-capsule_in bytes = option_and_then (λ id. option_and_then (λ kind. payload_after kind id.1) (capsule_kind_of id.0)) (number_at bytes)
+capsule_in bytes =
+    option_and_then (λ id. option_and_then (λ kind. payload_after kind id.1) (capsule_kind_of id.0))
+    (number_at bytes)

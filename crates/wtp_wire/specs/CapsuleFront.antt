@@ -6,8 +6,9 @@ use Rattle.wtp_wire.specs.declared.capsule.CapsuleKind.TheVariants.{CloseWebTran
 use Rattle.wtp_wire.specs.Capsule.{capsule_number_of, capsule_kind_of}
 use Rattle.wtp_wire.specs.Front.{EncodesPair}
 
--- What the bytes start with, and the bytes after it: a capsule of a known kind, with its value; a capsule of an unknown
--- type; or the type and the length of a value that is too long. Cut are bytes that end within a capsule; End is no byte.
+-- What the bytes start with, and the bytes after it: a capsule of a known kind, with its value; a
+-- capsule of an unknown type; or the type and the length of a value that is too long. Cut are bytes
+-- that end within a capsule; End is no byte.
 pub data CapsuleFront : Type 0 where
   Found : CapsuleKind → List ℕ → List ℕ → CapsuleFront
   Unknown : List ℕ → CapsuleFront
@@ -15,7 +16,8 @@ pub data CapsuleFront : Type 0 where
   Cut : CapsuleFront
   End : CapsuleFront
 
--- the longest value that is read: of a close capsule, a code of 4 bytes and a reason of at most 1024
+-- the longest value that is read: of a close capsule, a code of 4 bytes and a reason of at most
+-- 1024
 abbrev pub longest_value : CapsuleKind → ℕ
 longest_value CloseWebTransportSession = 1028
 
@@ -46,7 +48,8 @@ pub record IsLongHead (s : List ℕ) : Type 0 where
 
 -- the bytes start with this case
 abbrev pub StartsWith : List ℕ → CapsuleFront → Type 0
-StartsWith bytes (Found kind value rest) = (s : List ℕ) × IsCapsule kind value s × (bytes ≡ s ++ rest)
+StartsWith bytes (Found kind value rest) =
+    (s : List ℕ) × IsCapsule kind value s × (bytes ≡ s ++ rest)
 StartsWith bytes (Unknown rest) = (s : List ℕ) × IsUnknownCapsule s × (bytes ≡ s ++ rest)
 StartsWith bytes (TooLong rest) = (s : List ℕ) × IsLongHead s × (bytes ≡ s ++ rest)
 StartsWith bytes Cut = ⊥
@@ -61,11 +64,16 @@ or_cut (Some x) next = next x
 -- after the type and the length
 abbrev pub value_front : Option CapsuleKind → ℕ → List ℕ → CapsuleFront
 value_front None len bytes = or_cut (bytes_at len bytes) (λ value. Unknown value.1)
-value_front (Some kind) len bytes = if nat_lt (longest_value kind) len then TooLong bytes else or_cut (bytes_at len bytes) (λ value. Found kind value.0 value.1)
+value_front (Some kind) len bytes =
+    if nat_lt (longest_value kind) len
+    then TooLong bytes
+    else or_cut (bytes_at len bytes) (λ value. Found kind value.0 value.1)
 
 -- of at least one byte
 unfoldable pub some_front : List ℕ → CapsuleFront
-some_front bytes = or_cut (number_at bytes) (λ id. or_cut (number_at id.1) (λ len. value_front (capsule_kind_of id.0) len.0 len.1))
+some_front bytes =
+    or_cut (number_at bytes)
+    (λ id. or_cut (number_at id.1) (λ len. value_front (capsule_kind_of id.0) len.0 len.1))
 
 -- the first capsule of the bytes, or the case in its place
 unfoldable pub capsule_front : List ℕ → CapsuleFront

@@ -18,7 +18,8 @@ use Rattle.wtp_wire.specs.Held.{Held}
 -- what a length says after the type of a kind, or after an unknown type
 abbrev pub length_says : Option CapsuleKind → ℕ → CapsuleHead
 length_says None len = head-is.Skip len
-length_says (Some kind) len = if nat_lt (longest_value kind) len then head-is.TooLong else head-is.Keep kind len
+length_says (Some kind) len =
+    if nat_lt (longest_value kind) len then head-is.TooLong else head-is.Keep kind len
 
 abbrev pub or_unfinished : Option (ℕ × List ℕ) → (ℕ × List ℕ → CapsuleHead) → CapsuleHead
 or_unfinished None next = head-is.Unfinished
@@ -26,12 +27,15 @@ or_unfinished (Some x) next = next x
 
 -- what the type and the length at the start say
 unfoldable pub head_says : List ℕ → CapsuleHead
-head_says bytes = or_unfinished (number_at bytes) (λ id. or_unfinished (number_at id.1) (λ len. length_says (capsule_kind_of id.0) len.0))
+head_says bytes =
+    or_unfinished (number_at bytes)
+    (λ id. or_unfinished (number_at id.1) (λ len. length_says (capsule_kind_of id.0) len.0))
 
 -- the first capsule, given what its type and length say and the bytes after them
 abbrev pub front_after : CapsuleHead → List ℕ → CapsuleFront
 front_after head-is.Unfinished bytes = Cut
-front_after (head-is.Keep kind len) bytes = or_cut (bytes_at len bytes) (λ value. Found kind value.0 value.1)
+front_after (head-is.Keep kind len) bytes =
+    or_cut (bytes_at len bytes) (λ value. Found kind value.0 value.1)
 front_after (head-is.Skip len) bytes = or_cut (bytes_at len bytes) (λ value. Unknown value.1)
 front_after head-is.TooLong bytes = TooLong bytes
 
@@ -61,14 +65,16 @@ pub record StartsSkipping (old : Held) (a h v : List ℕ) (due : ℕ) (b : List 
   pub shorter : length b < length a
 
 -- a capsule's value is complete
-pub record HasValue (kind : CapsuleKind) (old : Held) (a v : List ℕ) (due : ℕ) (b : List ℕ) : Type 0 where
+pub record HasValue (kind : CapsuleKind) (old : Held) (a v : List ℕ) (due : ℕ) (b : List ℕ) : Type
+    0 where
   pub found : (more : List ℕ) → next_held old (a ++ more) ≡ Found kind v (b ++ more)
   pub none_due : due ≡ 0
 
 abbrev pub Advanced : Reached → Held → List ℕ → List ℕ → List ℕ → ℕ → List ℕ → Type 0
 Advanced reached-is.Skipping old a h v due b = StartsSkipping old a h v due b
 Advanced reached-is.More old a h v due b = IsPart h v due × TakesAll old a (holding h v due) b
-Advanced reached-is.TooLong old a h v due b = IsPart h v due × FindsTooLong old a (holding h v due) b
+Advanced reached-is.TooLong old a h v due b =
+    IsPart h v due × FindsTooLong old a (holding h v due) b
 Advanced reached-is.Memory old a h v due b = IsPart h v due × WantsMemory old a (holding h v due) b
 Advanced (reached-is.Complete kind) old a h v due b = HasValue kind old a v due b
 
@@ -78,6 +84,8 @@ pub record Passes (old : Held) (a : List ℕ) (new : Held) (b : List ℕ) : Type
   pub joins : Joins old a new b
   pub shorter : length b < length a
 
-abbrev pub Stepped : Option (Result (Option (CapsuleKind × List ℕ)) CapsuleError) → Held → List ℕ → Held → List ℕ → Type 0
+abbrev pub Stepped :
+    Option (Result (Option (CapsuleKind × List ℕ)) CapsuleError) → Held → List ℕ → Held → List ℕ
+    → Type 0
 Stepped (Some r) old a new b = NextGiven r old a new b
 Stepped None old a new b = Passes old a new b

@@ -1,8 +1,9 @@
--- The capsules of a list of bytes, one after another (RFC 9297, sections 3.2 and 3.3), and what a reading of them holds.
+-- The capsules of a list of bytes, one after another (RFC 9297, sections 3.2 and 3.3), and what a
+-- reading of them holds.
 --
--- By the first capsule of the bytes, `capsule_front`: one of an unknown type is skipped; one of a known kind is one
--- more, and those of the bytes after it follow; a value that is too long ends them; so do bytes that end within a
--- capsule, and those that end between two.
+-- By the first capsule of the bytes, `capsule_front`: one of an unknown type is skipped; one of a
+-- known kind is one more, and those of the bytes after it follow; a value that is too long ends
+-- them; so do bytes that end within a capsule, and those that end between two.
 use Rattle.std.specs.Prelude.{◌≡◌, ℕ, zero, suc, ◌<◌, ◌≤◌, ◌==◌, List, [], ◌∷◌, ◌++◌, length, Option, Some, None, ◌⊎◌, Result, Ok, Err, if◌then◌else◌}
 use Rattle.wtp_core.specs.Varint.{bytes_at}
 use Rattle.wtp_wire.specs.declared.capsule.CapsuleError.{CapsuleError}
@@ -67,9 +68,13 @@ capsules bytes = capsules_within (length bytes) bytes
 
 -- ---- of the bytes held, and those that follow
 
--- the first capsule of a known kind of what is held and of the bytes; if bytes are still to be skipped, of those after
+-- the first capsule of a known kind of what is held and of the bytes; if bytes are still to be
+-- skipped, of those after
 unfoldable pub next_held : Held → List ℕ → CapsuleFront
-next_held h bytes = if h.due == 0 then next_capsule (h.taken ++ bytes) else or_cut (bytes_at h.due bytes) (λ value. next_capsule value.1)
+next_held h bytes =
+    if h.due == 0
+    then next_capsule (h.taken ++ bytes)
+    else or_cut (bytes_at h.due bytes) (λ value. next_capsule value.1)
 
 abbrev pub capsules_after : Option (List ℕ × List ℕ) → Capsules
 capsules_after None = ends Within
@@ -77,9 +82,11 @@ capsules_after (Some skipped) = capsules skipped.1
 
 -- all capsules of what is held and of the bytes
 unfoldable pub capsules_held : Held → List ℕ → Capsules
-capsules_held h bytes = if h.due == 0 then capsules (h.taken ++ bytes) else capsules_after (bytes_at h.due bytes)
+capsules_held h bytes =
+    if h.due == 0 then capsules (h.taken ++ bytes) else capsules_after (bytes_at h.due bytes)
 
--- ---- one call; old and new are what is held before and after, a and b are the bytes before and those left
+-- ---- one call; old and new are what is held before and after, a and b are the bytes before and
+-- those left
 
 -- whatever follows, the first capsule is the same
 abbrev pub Joins : Held → List ℕ → Held → List ℕ → Type 0
@@ -92,7 +99,8 @@ pub record TakesAll (old : Held) (a : List ℕ) (new : Held) (b : List ℕ) : Ty
   pub joins : Joins old a new b
 
 -- a capsule, whatever follows, and nothing is held
-pub record TakesCapsule (c : CapsuleKind × List ℕ) (old : Held) (a : List ℕ) (new : Held) (b : List ℕ) : Type 0 where
+pub record TakesCapsule (c : CapsuleKind × List ℕ) (old : Held) (a : List ℕ) (new : Held)
+    (b : List ℕ) : Type 0 where
   pub found : (more : List ℕ) → next_held old (a ++ more) ≡ Found c.0 c.1 (b ++ more)
   pub empty : new ≡ new_held
 
@@ -118,7 +126,8 @@ pub record WantsMemory (old : Held) (a : List ℕ) (new : Held) (b : List ℕ) :
   pub misses : MissesValue new.taken
   pub joins : Joins old a new b
 
-abbrev pub NextGiven : Result (Option (CapsuleKind × List ℕ)) CapsuleError → Held → List ℕ → Held → List ℕ → Type 0
+abbrev pub NextGiven :
+    Result (Option (CapsuleKind × List ℕ)) CapsuleError → Held → List ℕ → Held → List ℕ → Type 0
 NextGiven (Ok (Some c)) old a new b = TakesCapsule c old a new b
 NextGiven (Ok None) old a new b = TakesAll old a new b
 NextGiven (Err error-is.TooLong) old a new b = FindsTooLong old a new b
@@ -129,3 +138,37 @@ abbrev pub with_result : Result (Option (CapsuleKind × List ℕ)) CapsuleError 
 with_result (Ok (Some c)) all = follows c all
 with_result (Ok None) all = all
 with_result (Err e) all = all
+
+-- ---- data that arrives piece by piece
+
+-- what happens at a reading: a piece of data arrives, after the bytes that are left, or a call
+-- returns
+pub data Step : Type 0 where
+  Arrived : List ℕ → Step
+  Returned : Result (Option (CapsuleKind × List ℕ)) CapsuleError → Step
+
+-- These steps lead from what is held and left to what is held and left after them.
+abbrev pub Leads : List Step → Held → List ℕ → Held → List ℕ → Type 0
+Leads [] old a new b = (new ≡ old) × (b ≡ a)
+Leads (Arrived piece ∷ steps) old a new b = Leads steps old (a ++ piece) new b
+Leads (Returned result ∷ steps) old a new b =
+    (held : Held) × (left : List ℕ) × NextGiven result old a held left × Leads steps held left new b
+
+-- all data that arrived, joined
+abbrev pub data_of : List Step → List ℕ
+data_of [] = []
+data_of (Arrived piece ∷ steps) = piece ++ data_of steps
+data_of (Returned result ∷ steps) = data_of steps
+
+abbrev pub add_result :
+    Result (Option (CapsuleKind × List ℕ)) CapsuleError → List (CapsuleKind × List ℕ)
+    → List (CapsuleKind × List ℕ)
+add_result (Ok (Some c)) others = c ∷ others
+add_result (Ok None) others = others
+add_result (Err e) others = others
+
+-- all capsules that were returned
+abbrev pub returned : List Step → List (CapsuleKind × List ℕ)
+returned [] = []
+returned (Arrived piece ∷ steps) = returned steps
+returned (Returned result ∷ steps) = add_result result (returned steps)

@@ -10,7 +10,8 @@ use Rattle.wtp_core.specs.Writer.{joined}
 use Rattle.wtp_wire.specs.declared.capsule.CapsuleError.{CapsuleError}
 use Rattle.wtp_wire.specs.declared.capsule.CapsuleError.TheVariants as error-is
 
--- the payload is an application error code of four bytes, most significant first, and then a reason in UTF-8 of at most 1024 bytes
+-- the payload is an application error code of four bytes, most significant first, and then a reason
+-- in UTF-8 of at most 1024 bytes
 pub record IsClose (code : ℕ) (reason payload : List ℕ) : Type 0 where
   pub head : List ℕ
   pub parts : payload ≡ head ++ reason
@@ -22,17 +23,21 @@ pub record IsClose (code : ℕ) (reason payload : List ℕ) : Type 0 where
 -- ---- the same, computed
 
 abbrev pub is_no_close : List ℕ → Bool
-is_no_close payload = nat_lt (length payload) 4 || (nat_lt 1028 (length payload) || not (is_utf8 (drop 4 payload)))
+is_no_close payload =
+    nat_lt (length payload) 4 || (nat_lt 1028 (length payload) || not (is_utf8 (drop 4 payload)))
 
 -- the error code and the reason of a payload
 unfoldable pub close_in : List ℕ → Option (ℕ × List ℕ)
-close_in payload = if is_no_close payload then None else Some (from_be_bytes w32 (take 4 payload), drop 4 payload)
+close_in payload =
+    if is_no_close payload then None else Some (from_be_bytes w32 (take 4 payload), drop 4 payload)
 
--- the result of reading the payload; only a reason that is not empty is allocated, so only then may allocation fail
+-- the result of reading the payload; only a reason that is not empty is allocated, so only then may
+-- allocation fail
 abbrev pub AnswersClose : List ℕ → Result (ℕ × List ℕ) Refused → Type 0
 AnswersClose payload (Ok close) = close_in payload ≡ Some close
 AnswersClose payload (Err (Code code)) = (close_in payload ≡ None) × (code ≡ Datagram)
-AnswersClose payload (Err Memory) = (close : ℕ × List ℕ) × (close_in payload ≡ Some close) × (close.1 ≢ [])
+AnswersClose payload (Err Memory) =
+    (close : ℕ × List ℕ) × (close_in payload ≡ Some close) × (close.1 ≢ [])
 
 -- ---- written
 
@@ -48,7 +53,8 @@ close_parts c = shortest 0x2843 ∷ shortest (4 + length c.1) ∷ to_be_bytes w3
 abbrev pub close_wire : ℕ × List ℕ → List ℕ
 close_wire c = joined (close_parts c)
 
--- the result of making one; only a reason that is not empty is allocated, so only then may allocation fail
+-- the result of making one; only a reason that is not empty is allocated, so only then may
+-- allocation fail
 abbrev pub MakesClose : ℕ → List ℕ → Result (ℕ × List ℕ) CapsuleError → Type 0
 MakesClose code reason (Ok close) = (close ≡ (code, reason)) × (length reason ≤ 1024)
 MakesClose code reason (Err error-is.TooLong) = 1024 < length reason

@@ -1,7 +1,14 @@
--- The error codes of the faults of frames and of stream headers.
+-- The error codes of the faults of frames, of stream headers and of capsules.
 use Rattle.std.specs.Prelude.{Option, Some, None}
 use Rattle.wtp_core.specs.declared.error.ErrorCode.{ErrorCode}
-use Rattle.wtp_core.specs.declared.error.ErrorCode.TheVariants.{Id, ExcessiveLoad, StreamCreation}
+use Rattle.wtp_core.specs.declared.error.ErrorCode.TheVariants.{Id, ExcessiveLoad, StreamCreation, Frame, Datagram}
+use Rattle.wtp_core.specs.declared.bytes.polled.IoReadError.TheVariants.{UnexpectedFin}
+use Rattle.wtp_wire.specs.declared.capsule.CapsuleError.{CapsuleError}
+use Rattle.wtp_wire.specs.declared.capsule.CapsuleError.TheVariants.{TooLong, Memory}
+use Rattle.wtp_wire.specs.declared.frame.reading.IoReadError.TheVariants as frame_reads
+use Rattle.wtp_wire.specs.declared.frame.reading.IoReadError.{IoReadError as FrameReadFault}
+use Rattle.wtp_wire.specs.declared.stream_header.polled.IoReadError.TheVariants as header_reads
+use Rattle.wtp_wire.specs.declared.stream_header.polled.IoReadError.{IoReadError as HeaderReadFault}
 use Rattle.wtp_wire.specs.declared.frame.ParseError.TheVariants as frames
 use Rattle.wtp_wire.specs.declared.stream_header.ParseError.TheVariants as headers
 use Rattle.wtp_wire.specs.declared.frame.ParseError.{ParseError as FrameFault}
@@ -15,3 +22,19 @@ frame_code frames.PayloadTooBig = Some ExcessiveLoad  -- RFC 9114, section 10.5
 abbrev pub header_code : HeaderFault → ErrorCode
 header_code headers.UnknownStream = StreamCreation  -- RFC 9114, section 6.2
 header_code headers.InvalidSessionId = Id  -- WebTransport over HTTP/3, "Unidirectional Streams"
+
+-- of reading a frame: a source that ends inside a frame makes a fault of the frame
+abbrev pub frame_read_code : FrameReadFault → Option ErrorCode
+frame_read_code (frame_reads.Parse fault) = frame_code fault
+frame_read_code (frame_reads.IO UnexpectedFin) = Some Frame  -- RFC 9114, section 7.1
+frame_read_code (frame_reads.IO fault) = None
+
+-- of reading a header: a stream that ends or is reset before its header is complete has to be
+-- tolerated
+abbrev pub header_read_code : HeaderReadFault → Option ErrorCode
+header_read_code (header_reads.Parse fault) = Some (header_code fault)
+header_read_code (header_reads.IO fault) = None  -- RFC 9114, section 6.2
+
+abbrev pub capsule_code : CapsuleError → Option ErrorCode
+capsule_code TooLong = Some Datagram  -- RFC 9297, section 5.2
+capsule_code Memory = None

@@ -40,7 +40,8 @@ abbrev pub content : FrameKind → List ℕ → Option ℕ → Content
 content kind payload None = PlainOf kind payload
 content kind payload (Some id) = WebTransportOf id
 
--- the fields are consistent: there is a session with the WebTransport kind only, and then the payload is empty
+-- the fields are consistent: there is a session with the WebTransport kind only, and then the
+-- payload is empty
 pub record IsProper (kind : FrameKind) (payload : List ℕ) (session : Option ℕ) : Type 0 where
   pub known : IsKnown kind
   pub opens : IsSome session ↔ (kind ≡ WebTransport)

@@ -10,7 +10,8 @@ frame_need bytes = varint_need bytes + varint_need (drop (varint_need bytes) byt
 
 -- ---- what readers that continue from these bytes rely on
 
-pub frame_need_is : (h : List ℕ) → frame_need h ≡ varint_need h + varint_need (drop (varint_need h) h)
+pub frame_need_is :
+    (h : List ℕ) → frame_need h ≡ varint_need h + varint_need (drop (varint_need h) h)
 unfolding frame_need
 frame_need_is h = refl
 
@@ -21,7 +22,13 @@ pub frame_need_some : (h : List ℕ) → 0 < frame_need h
 frame_need_some h = omega (arith, frame_need_least h)
 
 pub frame_need_most : (h : List ℕ) → frame_need h ≤ 16
-frame_need_most h = omega (arith, frame_need_is h, (varint_need_range h).1, (varint_need_range (drop (varint_need h) h)).1)
+frame_need_most h =
+    omega (
+      arith,
+      frame_need_is h,
+      (varint_need_range h).1,
+      (varint_need_range (drop (varint_need h) h)).1,
+    )
 
 no_bytes : (n : ℕ) (h : List ℕ) → length h ≤ n → drop n h ≡ []
 no_bytes n h l = empty (drop n h) (omega (arith, length-drop n h))
@@ -33,9 +40,11 @@ no_bytes n h l = empty (drop n h) (omega (arith, length-drop n h))
 pub frame_need_grows : (h t : List ℕ) → frame_need h ≤ frame_need (h ++ t)
 frame_need_grows h t = elim (cases_lt (length h) (varint_need h)) [
   | inl part ↦
-      let one : varint_need (drop (varint_need h) h) ≡ 1 = ap varint_need (no_bytes (varint_need h) h (omega arith)) in
+      let one : varint_need (drop (varint_need h) h) ≡ 1 =
+      ap varint_need (no_bytes (varint_need h) h (omega arith)) in
       omega (arith, frame_need_is h, one, varint_need_grows h t, frame_need_least (h ++ t))
   | inr full ↦
-      let rest : drop (varint_need (h ++ t)) (h ++ t) ≡ drop (varint_need h) h ++ t = rw (varint_need_more h t full) (drop-append-le (varint_need h) h t full) in
+      let rest : drop (varint_need (h ++ t)) (h ++ t) ≡ drop (varint_need h) h ++ t =
+      rw (varint_need_more h t full) (drop-append-le (varint_need h) h t full) in
       omega (arith, frame_need_is h, frame_need_is (h ++ t), varint_need_more h t full, ap varint_need rest, varint_need_grows (drop (varint_need h) h) t)
 ]

@@ -1,11 +1,12 @@
 -- The bytes that a reading holds of one frame.
 use Rattle.std.specs.Prelude.{◌≡◌, ℕ, ◌<◌, ◌≤◌, List, [], ◌++◌, length}
 use Rattle.wtp_wire.specs.declared.frame.kind.FrameKind.{FrameKind}
-use Rattle.wtp_wire.specs.declared.frame.head.Said.TheVariants as said-is
+use Rattle.wtp_wire.specs.declared.frame.head.Announcement.TheVariants as announces
 use Rattle.wtp_wire.specs.FrameNeed.{frame_need}
-use Rattle.wtp_wire.specs.FrameHead.{head_says}
+use Rattle.wtp_wire.specs.FrameHead.{announcement_at}
 
--- the bytes held of the head (the first two numbers), the size of the room for the payload, and the bytes held of the payload
+-- the bytes held of the head (the first two numbers), the size of the room for the payload, and the
+-- bytes held of the payload
 pub record Part : Type 0 where
   pub head : List ℕ
   pub room : ℕ
@@ -19,10 +20,16 @@ new_part = record { head = []; room = 0; payload = [] }
 abbrev pub bytes_in : Part → List ℕ
 bytes_in p = p.head ++ p.payload
 
--- It is not complete: there is no room for a payload before the head is complete; and a complete head says that a
--- payload follows, which is not all held. Its room is taken whole or not at all.
+-- It is not complete: there is no room for a payload before the head is complete; and a complete
+-- head announces a payload, which is not all held. Its room is taken whole or not at all.
 pub record IsReading (p : Part) : Type 0 where
   pub within : length p.head ≤ frame_need p.head
   pub part : length p.payload ≤ p.room
   pub nothing : length p.head < frame_need p.head → p.room ≡ 0
-  pub whole : frame_need p.head ≤ length p.head → (k : FrameKind) × (m : ℕ) × (head_says p.head ≡ said-is.Payload k m) × (length p.payload < m) × (0 < p.room → p.room ≡ m)
+  pub whole :
+      frame_need p.head ≤ length p.head
+      → (k : FrameKind)
+      × (m : ℕ)
+      × (announcement_at p.head ≡ announces.Payload k m)
+      × (length p.payload < m)
+      × (0 < p.room → p.room ≡ m)

@@ -34,7 +34,8 @@ pub record PassesMost (old new : Held) (a b : Source) : Type 0 where
   pub skips : Skips old new a b
   pub most : length skips.payload ≡ max_passed
 
--- the type of a kind and a length above 0 precede a payload that may be read; none of its bytes was held
+-- the type of a kind and a length above 0 precede a payload that may be read; none of its bytes was
+-- held
 pub record WantsPayload (whole : List ℕ) (held : ℕ) : Type 0 where
   pub kind : FrameKind
   pub size : ℕ
@@ -46,23 +47,31 @@ pub record WantsPayload (whole : List ℕ) (held : ℕ) : Type 0 where
   pub none_held : held ≤ length head
 
 -- what one poll did to a source with a model
-abbrev pub FramePolled : Polled (Result Content IoReadError) → Held → Held → Source → Source → Type 0
+abbrev pub FramePolled :
+    Polled (Result Content IoReadError) → Held → Held → Source → Source → Type 0
 FramePolled (Ready (Ok f)) old new a b = Decided old new a b (Framed f)
-FramePolled (Ready (Err (Parse UnknownFrame))) old new a b = Decided old new a b Unknown × Skips old new a b
+FramePolled (Ready (Err (Parse UnknownFrame))) old new a b =
+    Decided old new a b Unknown × Skips old new a b
 FramePolled (Ready (Err (Parse InvalidSessionId))) old new a b = Decided old new a b BadId
 FramePolled (Ready (Err (Parse PayloadTooBig))) old new a b = Decided old new a b TooBig
 FramePolled (Ready (Err (IO e))) old new a b = Stopped old new a b (IO e)
 FramePolled Pending old new a b = Leaves old new a b × (a.waits < b.waits)
 FramePolled Again old new a b = PassesMost old new a b
-FramePolled NoMemory old new a b = Leaves old new a b × (old.due ≡ 0) × (new.due ≡ 0) × WantsPayload (old.taken ++ a.ahead) (length old.taken)
+FramePolled NoMemory old new a b =
+    Leaves old new a b
+    × (old.due ≡ 0)
+    × (new.due ≡ 0)
+    × WantsPayload (old.taken ++ a.ahead) (length old.taken)
 
 -- ---- of every source, also of one without a model
 
--- More bytes were given after those held, and none was lost; or they are the head of an unknown frame; or fewer bytes
--- of one are still to be skipped.
+-- More bytes were given after those held, and none was lost; or they are the head of an unknown
+-- frame; or fewer bytes of one are still to be skipped.
 pub record KeepsHeld (old new : Held) : Type 0 where
   pub kept : new.due ≡ 0 → (old.due ≡ 0) × ((given : List ℕ) × (new.taken ≡ old.taken ++ given))
-  pub begun : old.due ≡ 0 → 0 < new.due → (given : List ℕ) × (passed : ℕ) × IsUnknownHead (passed + new.due) (old.taken ++ given)
+  pub begun :
+      old.due ≡ 0 → 0 < new.due
+      → (given : List ℕ) × (passed : ℕ) × IsUnknownHead (passed + new.due) (old.taken ++ given)
   pub going : 0 < old.due → (0 < new.due) × (new.due ≤ old.due)
 
 -- bytes were given that, after those held, make this case, and nothing is held

@@ -17,6 +17,9 @@ Answers front (Err PayloadTooBig) new = front ≡ TooBig new
 abbrev pub AnswersWhole : Front → Result (Option Content) ParseError → List ℕ → List ℕ → Type 0
 AnswersWhole front (Ok (Some f)) old new = front ≡ Framed f new
 AnswersWhole front (Ok None) old new = (front ≡ Short) × (new ≡ old)
-AnswersWhole front (Err UnknownFrame) old new = ((rest : List ℕ) × (front ≡ Unknown rest)) × (new ≡ old)
-AnswersWhole front (Err InvalidSessionId) old new = ((rest : List ℕ) × (front ≡ BadId rest)) × (new ≡ old)
-AnswersWhole front (Err PayloadTooBig) old new = ((rest : List ℕ) × (front ≡ TooBig rest)) × (new ≡ old)
+AnswersWhole front (Err UnknownFrame) old new =
+    ((rest : List ℕ) × (front ≡ Unknown rest)) × (new ≡ old)
+AnswersWhole front (Err InvalidSessionId) old new =
+    ((rest : List ℕ) × (front ≡ BadId rest)) × (new ≡ old)
+AnswersWhole front (Err PayloadTooBig) old new =
+    ((rest : List ℕ) × (front ≡ TooBig rest)) × (new ≡ old)

@@ -9,8 +9,8 @@ use Rattle.wtp_core.specs.Passing.{max_passed}
 use Rattle.wtp_wire.specs.declared.frame.kind.FrameKind.{FrameKind}
 use Rattle.wtp_wire.specs.declared.frame.kind.FrameKind.TheVariants.{WebTransport}
 use Rattle.wtp_wire.specs.declared.frame.ParseError.TheVariants as parse
-use Rattle.wtp_wire.specs.declared.frame.head.Said.{Said}
-use Rattle.wtp_wire.specs.declared.frame.head.Said.TheVariants as said-is
+use Rattle.wtp_wire.specs.declared.frame.head.Announcement.{Announcement}
+use Rattle.wtp_wire.specs.declared.frame.head.Announcement.TheVariants as announces
 use Rattle.wtp_wire.specs.declared.frame.reading.IoReadError.{IoReadError}
 use Rattle.wtp_wire.specs.declared.frame.reading.IoReadError.TheVariants.{Parse, IO}
 use Rattle.wtp_wire.specs.declared.frame.reading.part.Stop.{Stop}
@@ -19,7 +19,7 @@ use Rattle.wtp_wire.specs.Kind.{IsKnown}
 use Rattle.wtp_wire.specs.Content.{Content, WebTransportOf, content}
 use Rattle.wtp_wire.specs.Front.{Framed, front}
 use Rattle.wtp_wire.specs.FrameNeed.{frame_need}
-use Rattle.wtp_wire.specs.FrameHead.{head_says}
+use Rattle.wtp_wire.specs.FrameHead.{announcement_at}
 use Rattle.wtp_wire.specs.FramePart.{Part, IsReading}
 use Rattle.wtp_wire.specs.Limits.{max_head, max_payload}
 use Rattle.wtp_wire.specs.Held.{Held}
@@ -62,54 +62,55 @@ PayloadKeeps (Err (stopped.Source h)) size old new = (new.room ≡ size) × (len
 PayloadKeeps (Err stopped.NoMemory) size old new = LacksPayloadRoom size old new
 
 -- the size of the payload that has to be held with such a head
-abbrev pub payload_size : Said → ℕ
-payload_size said-is.Unfinished = 0
-payload_size (said-is.Payload k size) = size
-payload_size (said-is.Session id) = 0
-payload_size (said-is.Skip size) = 0
-payload_size said-is.BadSession = 0
-payload_size said-is.TooLong = 0
+abbrev pub payload_size : Announcement → ℕ
+payload_size announces.Unfinished = 0
+payload_size (announces.Payload k size) = size
+payload_size (announces.Session id) = 0
+payload_size (announces.Skip size) = 0
+payload_size announces.BadSession = 0
+payload_size announces.TooLong = 0
 
--- the head is complete and says so, and its payload is all there
-pub record HasSaid (s : Said) (p : Part) : Type 0 where
+-- the head is complete and announces this, and its payload is all there
+pub record IsComplete (s : Announcement) (p : Part) : Type 0 where
   pub whole : frame_need p.head ≡ length p.head
-  pub says : head_says p.head ≡ s
+  pub says : announcement_at p.head ≡ s
   pub size : length p.payload ≡ payload_size s
   pub all : p.room ≡ length p.payload
 
--- the head says that a payload follows, none of which was held before, and there is no room for it
+-- the head announces a payload, none of which was held before, and there is no room for it
 pub record WantsRoom (old new : Part) : Type 0 where
   pub none : old.payload ≡ []
   pub forward : length old.head ≤ length new.head
   pub whole : frame_need new.head ≡ length new.head
   pub kind : FrameKind
   pub size : ℕ
-  pub says : head_says new.head ≡ said-is.Payload kind size
+  pub says : announcement_at new.head ≡ announces.Payload kind size
   pub some : 0 < size
   pub empty : new.payload ≡ []
 
-abbrev pub AdvanceKeeps : Result Said Stop → Part → Part → Type 0
-AdvanceKeeps (Ok s) old new = HasSaid s new
+abbrev pub AdvanceKeeps : Result Announcement Stop → Part → Part → Type 0
+AdvanceKeeps (Ok s) old new = IsComplete s new
 AdvanceKeeps (Err (stopped.Source _)) old new = IsReading new
 AdvanceKeeps (Err stopped.NoMemory) old new = IsReading new × WantsRoom old new
 
--- the result where the head says so and this is the payload; a frame that has to be skipped has none
-abbrev pub IsAnswer : Said → List ℕ → Result Content IoReadError → Type 0
-IsAnswer said-is.Unfinished payload r = ⊥
-IsAnswer (said-is.Payload k size) payload r = r ≡ Ok (content k payload None)
-IsAnswer (said-is.Session id) payload r = r ≡ Ok (WebTransportOf id)
-IsAnswer (said-is.Skip size) payload r = ⊥
-IsAnswer said-is.BadSession payload r = r ≡ Err (Parse parse.InvalidSessionId)
-IsAnswer said-is.TooLong payload r = r ≡ Err (Parse parse.PayloadTooBig)
+-- the result where the head announces this and this is the payload; a frame that has to be skipped
+-- has none
+abbrev pub IsAnswer : Announcement → List ℕ → Result Content IoReadError → Type 0
+IsAnswer announces.Unfinished payload r = ⊥
+IsAnswer (announces.Payload k size) payload r = r ≡ Ok (content k payload None)
+IsAnswer (announces.Session id) payload r = r ≡ Ok (WebTransportOf id)
+IsAnswer (announces.Skip size) payload r = ⊥
+IsAnswer announces.BadSession payload r = r ≡ Err (Parse parse.InvalidSessionId)
+IsAnswer announces.TooLong payload r = r ≡ Err (Parse parse.PayloadTooBig)
 
 -- there is a result
-abbrev pub CanAnswer : Said → ℕ → Type 0
-CanAnswer said-is.Unfinished size = ⊥
-CanAnswer (said-is.Payload k n) size = IsKnown k × (k ≢ WebTransport) × (size ≤ max_payload)
-CanAnswer (said-is.Session id) size = Unit {0}
-CanAnswer (said-is.Skip n) size = ⊥
-CanAnswer said-is.BadSession size = Unit {0}
-CanAnswer said-is.TooLong size = Unit {0}
+abbrev pub CanAnswer : Announcement → ℕ → Type 0
+CanAnswer announces.Unfinished size = ⊥
+CanAnswer (announces.Payload k n) size = IsKnown k × (k ≢ WebTransport) × (size ≤ max_payload)
+CanAnswer (announces.Session id) size = Unit {0}
+CanAnswer (announces.Skip n) size = ⊥
+CanAnswer announces.BadSession size = Unit {0}
+CanAnswer announces.TooLong size = Unit {0}
 
 -- ---- skipping the bytes of an unknown frame that are still to be skipped
 
@@ -125,8 +126,14 @@ PassedOn (Ready (Ok f)) due due' a b = ⊥
 PassedOn (Ready (Err (Parse parse.UnknownFrame))) due due' a b = Skipped due due' a b × (due' ≡ 0)
 PassedOn (Ready (Err (Parse parse.InvalidSessionId))) due due' a b = ⊥
 PassedOn (Ready (Err (Parse parse.PayloadTooBig))) due due' a b = ⊥
-PassedOn (Ready (Err (IO e))) due due' a b = Skipped due due' a b × (0 < due') × (due < due' + max_passed) × (b.ahead ≡ []) × (e ≡ stop 1 a.ending)
-PassedOn Pending due due' a b = Skipped due due' a b × (0 < due') × (due < due' + max_passed) × (a.waits < b.waits)
+PassedOn (Ready (Err (IO e))) due due' a b =
+    Skipped due due' a b
+    × (0 < due')
+    × (due < due' + max_passed)
+    × (b.ahead ≡ [])
+    × (e ≡ stop 1 a.ending)
+PassedOn Pending due due' a b =
+    Skipped due due' a b × (0 < due') × (due < due' + max_passed) × (a.waits < b.waits)
 PassedOn Again due due' a b = Skipped due due' a b × (0 < due') × (due ≡ due' + max_passed)
 PassedOn NoMemory due due' a b = ⊥
 
@@ -147,12 +154,19 @@ PassedPlain NoMemory due due' = ⊥
 pub record BeginsFrame (old new : Held) (a b : Source) : Type 0 where
   pub head : List ℕ
   pub parts : old.taken ++ a.ahead ≡ head ++ b.ahead
-  pub begun : old.due ≡ 0 → (head_says head ≡ said-is.Skip new.due) × (frame_need head ≡ length head)
+  pub begun :
+      old.due ≡ 0
+      → (announcement_at head ≡ announces.Skip new.due) × (frame_need head ≡ length head)
   pub going : 0 < old.due → (head ≡ []) × (old.due ≡ new.due) × (b.ahead ≡ a.ahead)
   pub asks : Asks max_head a b
 
 -- of every source
 pub record BeginsPlain (old new : Held) : Type 0 where
   pub empty : new.taken ≡ []
-  pub begun : old.due ≡ 0 → (head : List ℕ) × Grew old.taken head × (head_says head ≡ said-is.Skip new.due) × (frame_need head ≡ length head)
+  pub begun :
+      old.due ≡ 0
+      → (head : List ℕ)
+      × Grew old.taken head
+      × (announcement_at head ≡ announces.Skip new.due)
+      × (frame_need head ≡ length head)
   pub going : 0 < old.due → new.due ≡ old.due

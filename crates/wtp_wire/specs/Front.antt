@@ -4,8 +4,8 @@ use Rattle.wtp_core.specs.Varint.{Encodes, bytes_at}
 use Rattle.wtp_wire.specs.Limits.{max_payload}
 use Rattle.wtp_wire.specs.declared.frame.kind.FrameKind.{FrameKind}
 use Rattle.wtp_wire.specs.declared.frame.kind.FrameKind.TheVariants.{WebTransport}
-use Rattle.wtp_wire.specs.declared.frame.head.Said.{Said}
-use Rattle.wtp_wire.specs.declared.frame.head.Said.TheVariants as said-is
+use Rattle.wtp_wire.specs.declared.frame.head.Announcement.{Announcement}
+use Rattle.wtp_wire.specs.declared.frame.head.Announcement.TheVariants as announces
 use Rattle.wtp_wire.specs.Kind.{frame_type_of, IsKind}
 use Rattle.wtp_wire.specs.Content.{Content, PlainOf, WebTransportOf}
 use Rattle.wtp_wire.specs.FrameHead.{head_at}
@@ -28,7 +28,8 @@ pub record EncodesPair (id n : ℕ) (s : List ℕ) : Type 0 where
   pub type_number : Encodes id first
   pub number : Encodes n second
 
--- s is a type of this kind, which is not WebTransport, a length of at most 4096, and a payload of that length
+-- s is a type of this kind, which is not WebTransport, a length of at most 4096, and a payload of
+-- that length
 pub record IsPlainFrame (kind : FrameKind) (payload s : List ℕ) : Type 0 where
   pub id : ℕ
   pub head : List ℕ
@@ -45,7 +46,12 @@ IsFrame (WebTransportOf id) s = EncodesPair (frame_type_of WebTransport) id s ×
 
 -- s is a frame of an unknown type, of any length: it has to be ignored
 abbrev pub IsUnknown : List ℕ → Type 0
-IsUnknown s = (id : ℕ) × (head payload : List ℕ) × ((kind : FrameKind) → IsKind kind id → ⊥) × EncodesPair id (length payload) head × (s ≡ head ++ payload)
+IsUnknown s =
+    (id : ℕ)
+    × (head payload : List ℕ)
+    × ((kind : FrameKind) → IsKind kind id → ⊥)
+    × EncodesPair id (length payload) head
+    × (s ≡ head ++ payload)
 
 -- s is the WebTransport type and an invalid session ID
 abbrev pub IsBadId : List ℕ → Type 0
@@ -53,7 +59,13 @@ IsBadId s = (id : ℕ) × EncodesPair (frame_type_of WebTransport) id s × (id %
 
 -- s is a type of another kind and a length above 4096
 abbrev pub IsTooBig : List ℕ → Type 0
-IsTooBig s = (kind : FrameKind) × (id len : ℕ) × IsKind kind id × (kind ≢ WebTransport) × (max_payload < len) × EncodesPair id len s
+IsTooBig s =
+    (kind : FrameKind)
+    × (id len : ℕ)
+    × IsKind kind id
+    × (kind ≢ WebTransport)
+    × (max_payload < len)
+    × EncodesPair id len s
 
 -- the bytes start with this case
 abbrev pub Begins : List ℕ → Front → Type 0
@@ -77,14 +89,15 @@ abbrev pub or_short : {A : Type 0} → Option A → (A → Front) → Front
 or_short None next = Short
 or_short (Some x) next = next x
 
--- the case of all the bytes, given what the first two numbers say and the bytes after them
-abbrev pub front_after : Said → List ℕ → Front
-front_after said-is.Unfinished rest = Short
-front_after (said-is.Payload kind n) rest = or_short (bytes_at n rest) (λ payload. Framed (PlainOf kind payload.0) payload.1)
-front_after (said-is.Session id) rest = Framed (WebTransportOf id) rest
-front_after (said-is.Skip n) rest = or_short (bytes_at n rest) (λ payload. Unknown payload.1)
-front_after said-is.BadSession rest = BadId rest
-front_after said-is.TooLong rest = TooBig rest
+-- the case of all the bytes, given what their head announces and the bytes after the head
+abbrev pub front_after : Announcement → List ℕ → Front
+front_after announces.Unfinished rest = Short
+front_after (announces.Payload kind n) rest =
+    or_short (bytes_at n rest) (λ payload. Framed (PlainOf kind payload.0) payload.1)
+front_after (announces.Session id) rest = Framed (WebTransportOf id) rest
+front_after (announces.Skip n) rest = or_short (bytes_at n rest) (λ payload. Unknown payload.1)
+front_after announces.BadSession rest = BadId rest
+front_after announces.TooLong rest = TooBig rest
 
 -- the first frame of the bytes, or the case in its place
 unfoldable pub front : List ℕ → Front

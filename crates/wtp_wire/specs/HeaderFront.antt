@@ -18,7 +18,8 @@ pub data HeaderFront : Type 0 where
 
 -- s is this header: a type, followed by a session ID after the WebTransport type
 abbrev pub IsHeader : Header → List ℕ → Type 0
-IsHeader (PlainHeader kind) s = (id : ℕ) × IsStreamKind kind id × (has_session kind ≡ false) × Encodes id s
+IsHeader (PlainHeader kind) s =
+    (id : ℕ) × IsStreamKind kind id × (has_session kind ≡ false) × Encodes id s
 IsHeader (WebTransportHeader id) s = EncodesPair (stream_number_of WebTransport) id s × (id % 4 ≡ 0)
 
 -- s is an unknown type (RFC 9114, section 6.2: the stream has to be ignored or refused)
@@ -51,11 +52,14 @@ or_short_header (Some x) next = next x
 
 -- after the WebTransport type
 unfoldable pub session_header_front : List ℕ → HeaderFront
-session_header_front bytes = or_short_header (number_at bytes) (λ id. if id.0 % 4 == 0 then Headed (WebTransportHeader id.0) id.1 else BadId id.1)
+session_header_front bytes =
+    or_short_header (number_at bytes)
+    (λ id. if id.0 % 4 == 0 then Headed (WebTransportHeader id.0) id.1 else BadId id.1)
 
 -- after the type of a kind
 abbrev pub kind_header_front : StreamKind → List ℕ → HeaderFront
-kind_header_front kind bytes = if has_session kind then session_header_front bytes else Headed (PlainHeader kind) bytes
+kind_header_front kind bytes =
+    if has_session kind then session_header_front bytes else Headed (PlainHeader kind) bytes
 
 abbrev pub typed_header_front : Option StreamKind → List ℕ → HeaderFront
 typed_header_front None bytes = Unknown bytes
@@ -63,4 +67,5 @@ typed_header_front (Some kind) bytes = kind_header_front kind bytes
 
 -- the header of the bytes, or the case in its place
 unfoldable pub header_front : List ℕ → HeaderFront
-header_front bytes = or_short_header (number_at bytes) (λ id. typed_header_front (stream_kind_of id.0) id.1)
+header_front bytes =
+    or_short_header (number_at bytes) (λ id. typed_header_front (stream_kind_of id.0) id.1)

@@ -33,11 +33,14 @@ second_need_most : (k : Option StreamKind) (r : List ℕ) → second_need k r �
 second_need_most None r = omega arith
 second_need_most (Some kind) r = session_need_most (has_session kind) r
 
-session_need_grows : (b : Bool) (r t : List ℕ) → (if b then varint_need r else 0) ≤ (if b then varint_need (r ++ t) else 0)
+session_need_grows :
+    (b : Bool) (r t : List ℕ)
+    → (if b then varint_need r else 0) ≤ (if b then varint_need (r ++ t) else 0)
 session_need_grows true r t = varint_need_grows r t
 session_need_grows false r t = omega arith
 
-second_need_grows : (k : Option StreamKind) (r t : List ℕ) → second_need k r ≤ second_need k (r ++ t)
+second_need_grows :
+    (k : Option StreamKind) (r t : List ℕ) → second_need k r ≤ second_need k (r ++ t)
 second_need_grows None r t = omega arith
 second_need_grows (Some kind) r t = session_need_grows (has_session kind) r t
 
@@ -46,11 +49,23 @@ need_after_most None = omega arith
 need_after_most (Some x) = second_need_most (stream_kind_of x.0) x.1
 
 pub header_need_most : (h : List ℕ) → header_need h ≤ 16
-header_need_most h = omega (arith, header_need_is h, (varint_need_range h).1, need_after_most (number_at h))
+header_need_most h =
+    omega (arith, header_need_is h, (varint_need_range h).1, need_after_most (number_at h))
 
-need_after_grows : (o : Option (ℕ × List ℕ)) (h t : List ℕ) → number_at h ≡ o → need_after o ≤ need_after (number_at (h ++ t))
+need_after_grows :
+    (o : Option (ℕ × List ℕ)) (h t : List ℕ) → number_at h ≡ o
+    → need_after o ≤ need_after (number_at (h ++ t))
 need_after_grows None h t e = omega arith
-need_after_grows (Some x) h t e = rw (number_at-more x.0 h x.1 t e) (second_need_grows (stream_kind_of x.0) x.1 t)
+need_after_grows (Some x) h t e =
+    rw (number_at-more x.0 h x.1 t e) (second_need_grows (stream_kind_of x.0) x.1 t)
 
 pub header_need_grows : (h t : List ℕ) → header_need h ≤ header_need (h ++ t)
-header_need_grows h t = omega (arith, header_need_is h, header_need_is (h ++ t), varint_need_grows h t, need_after_grows (number_at h) h t refl)
+header_need_grows h t =
+    omega (
+      arith,
+      header_need_is h,
+      header_need_is (h ++ t),
+      varint_need_grows h t,
+      need_after_grows
+          (number_at h) h t refl,
+    )

@@ -13,16 +13,19 @@ use Rattle.wtp_wire.specs.HeaderFront.{HeaderFront, Headed, Unknown, BadId, Shor
 -- In all of these, old and new are the bytes that the reading holds before and after one poll.
 
 -- the bytes start with this case, all is taken up to its end, and nothing is held
-pub record HeaderDecided (old new : List ℕ) (a b : Source) (case : List ℕ → HeaderFront) : Type 0 where
+pub record HeaderDecided (old new : List ℕ) (a b : Source) (case : List ℕ → HeaderFront) : Type
+    0 where
   pub front : header_front (old ++ a.ahead) ≡ case b.ahead
   pub empty : new ≡ []
 
 -- what one poll did to a source with a model
-abbrev pub HeaderPolled : Polled (Result Header IoReadError) → List ℕ → List ℕ → Source → Source → Type 0
+abbrev pub HeaderPolled :
+    Polled (Result Header IoReadError) → List ℕ → List ℕ → Source → Source → Type 0
 HeaderPolled (Ready (Ok h)) old new a b = HeaderDecided old new a b (Headed h)
 HeaderPolled (Ready (Err (Parse UnknownStream))) old new a b = HeaderDecided old new a b Unknown
 HeaderPolled (Ready (Err (Parse InvalidSessionId))) old new a b = HeaderDecided old new a b BadId
-HeaderPolled (Ready (Err (IO e))) old new a b = (header_front (old ++ a.ahead) ≡ Short) × Stops old new e a b
+HeaderPolled (Ready (Err (IO e))) old new a b =
+    (header_front (old ++ a.ahead) ≡ Short) × Stops old new e a b
 HeaderPolled Pending old new a b = Waits old new a b
 HeaderPolled Again old new a b = ⊥
 HeaderPolled NoMemory old new a b = ⊥
@@ -33,7 +36,8 @@ pub record HeaderAnswered (old new : List ℕ) (case : List ℕ → HeaderFront)
   pub front : header_front (old ++ given) ≡ case []
   pub empty : new ≡ []
 
--- More bytes were given after those held, and none was lost. This holds of every source, also of one without a model.
+-- More bytes were given after those held, and none was lost. This holds of every source, also of
+-- one without a model.
 abbrev pub HeaderGiven : Polled (Result Header IoReadError) → List ℕ → List ℕ → Type 0
 HeaderGiven (Ready (Ok h)) old new = HeaderAnswered old new (Headed h)
 HeaderGiven (Ready (Err (Parse UnknownStream))) old new = HeaderAnswered old new Unknown

@@ -13,8 +13,11 @@ AnswersHeader front (Err UnknownStream) new = front ≡ Unknown new
 AnswersHeader front (Err InvalidSessionId) new = front ≡ BadId new
 
 -- The same for a reader of the old bytes that moves past a header, and otherwise does not move.
-abbrev pub AnswersHeaderWhole : HeaderFront → Result (Option Header) ParseError → List ℕ → List ℕ → Type 0
+abbrev pub AnswersHeaderWhole :
+    HeaderFront → Result (Option Header) ParseError → List ℕ → List ℕ → Type 0
 AnswersHeaderWhole front (Ok (Some h)) old new = front ≡ Headed h new
 AnswersHeaderWhole front (Ok None) old new = (front ≡ Short) × (new ≡ old)
-AnswersHeaderWhole front (Err UnknownStream) old new = ((rest : List ℕ) × (front ≡ Unknown rest)) × (new ≡ old)
-AnswersHeaderWhole front (Err InvalidSessionId) old new = ((rest : List ℕ) × (front ≡ BadId rest)) × (new ≡ old)
+AnswersHeaderWhole front (Err UnknownStream) old new =
+    ((rest : List ℕ) × (front ≡ Unknown rest)) × (new ≡ old)
+AnswersHeaderWhole front (Err InvalidSessionId) old new =
+    ((rest : List ℕ) × (front ≡ BadId rest)) × (new ≡ old)

@@ -1,4 +1,5 @@
--- The bytes of a stream header that is written: each number in its shortest encoding (RFC 9114, section 6.2).
+-- The bytes of a stream header that is written: each number in its shortest encoding (RFC 9114,
+-- section 6.2).
 use Rattle.std.specs.Prelude.{◌≡◌, ℕ, ◌%◌, ◌^◌, ◌<◌, List, [], ◌∷◌, false}
 use Rattle.wtp_core.specs.Varint.{shortest}
 use Rattle.wtp_core.specs.Writer.{joined}
@@ -17,5 +18,6 @@ header_wire h = joined (header_parts h)
 
 -- the numbers of h are those of its kind
 abbrev pub IsReadableHeader : Header → Type 0
-IsReadableHeader (PlainHeader kind) = IsKnownStream kind × (has_session kind ≡ false) × (stream_number_of kind < 2 ^ 62)
+IsReadableHeader (PlainHeader kind) =
+    IsKnownStream kind × (has_session kind ≡ false) × (stream_number_of kind < 2 ^ 62)
 IsReadableHeader (WebTransportHeader id) = (id < 2 ^ 62) × (id % 4 ≡ 0)

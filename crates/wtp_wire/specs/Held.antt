@@ -6,10 +6,11 @@ use Rattle.wtp_wire.specs.declared.frame.kind.FrameKind.{FrameKind}
 use Rattle.wtp_wire.specs.declared.frame.kind.FrameKind.TheVariants.{WebTransport}
 use Rattle.wtp_wire.specs.Kind.{IsKind}
 use Rattle.wtp_wire.specs.Limits.{max_payload}
-use Rattle.wtp_wire.specs.declared.frame.head.Said.TheVariants as said-is
+use Rattle.wtp_wire.specs.declared.frame.head.Announcement.TheVariants as announces
 use Rattle.wtp_wire.specs.Front.{Front, Short, EncodesPair, front_after, front}
 
--- the bytes held; or in their place the number of payload bytes of an unknown frame still to be skipped
+-- the bytes held; or in their place the number of payload bytes of an unknown frame still to be
+-- skipped
 pub record Held : Type 0 where
   pub taken : List ℕ
   pub due : ℕ
@@ -18,16 +19,18 @@ pub record Held : Type 0 where
 abbrev pub new_held : Held
 new_held = record { taken = []; due = 0 }
 
--- after the first two numbers of an unknown frame, if n bytes of its payload are still to be skipped
+-- after the first two numbers of an unknown frame, if n bytes of its payload are still to be
+-- skipped
 abbrev pub skip_front : ℕ → List ℕ → Front
-skip_front n bytes = front_after (said-is.Skip n) bytes
+skip_front n bytes = front_after (announces.Skip n) bytes
 
--- the case of the bytes held and ahead: the first frame of both; or if bytes are still to be skipped, an unknown frame
--- once all of those are there
+-- the case of the bytes held and ahead: the first frame of both; or if bytes are still to be
+-- skipped, an unknown frame once all of those are there
 unfoldable pub front_held : Held → List ℕ → Front
 front_held h ahead = if h.due == 0 then front (h.taken ++ ahead) else skip_front h.due ahead
 
--- what is held between polls: no complete frame or fault; and no byte if bytes are still to be skipped
+-- what is held between polls: no complete frame or fault; and no byte if bytes are still to be
+-- skipped
 pub record IsUnfinished (h : Held) : Type 0 where
   pub short : front_held h [] ≡ Short
   pub alone : 0 < h.due → h.taken ≡ []
@@ -38,7 +41,8 @@ pub record IsUnknownHead (n : ℕ) (s : List ℕ) : Type 0 where
   pub no_kind : (kind : FrameKind) → IsKind kind id → ⊥
   pub encoded : EncodesPair id n s
 
--- s is the type and the length of a frame of another kind than WebTransport whose payload of n bytes may be read
+-- s is the type and the length of a frame of another kind than WebTransport whose payload of n
+-- bytes may be read
 pub record IsPayloadHead (kind : FrameKind) (n : ℕ) (s : List ℕ) : Type 0 where
   pub id : ℕ
   pub is_kind : IsKind kind id
@@ -48,8 +52,9 @@ pub record IsPayloadHead (kind : FrameKind) (n : ℕ) (s : List ℕ) : Type 0 wh
 
 -- ---- what one poll did; old and new are what is held before and after
 
--- The payload bytes `payload` of an unknown frame were skipped, and new.due more after them are still to be skipped.
--- `head` is what was held and read before them: nothing, if bytes were still to be skipped before.
+-- The payload bytes `payload` of an unknown frame were skipped, and new.due more after them are
+-- still to be skipped. `head` is what was held and read before them: nothing, if bytes were still
+-- to be skipped before.
 pub record Skips (old new : Held) (a b : Source) : Type 0 where
   pub head : List ℕ
   pub payload : List ℕ
@@ -59,8 +64,8 @@ pub record Skips (old new : Held) (a b : Source) : Type 0 where
   pub most : length payload ≤ max_passed
   pub empty : new.taken ≡ []
 
--- Nothing was lost: what is held and ahead is the same, except for fewer skipped bytes than one poll may skip, of an
--- unknown frame of which some are still to be skipped.
+-- Nothing was lost: what is held and ahead is the same, except for fewer skipped bytes than one
+-- poll may skip, of an unknown frame of which some are still to be skipped.
 pub record Leaves (old new : Held) (a b : Source) : Type 0 where
   pub same : front_held new b.ahead ≡ front_held old a.ahead
   pub kept : new.due ≡ 0 → (old.due ≡ 0) × (new.taken ++ b.ahead ≡ old.taken ++ a.ahead)

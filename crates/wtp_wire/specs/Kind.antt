@@ -19,7 +19,8 @@ registered = Data ∷ Headers ∷ Settings ∷ WebTransport ∷ []
 
 -- ---- by definition
 
--- a type that is reserved to exercise the requirement to ignore unknown types (RFC 9114, section 7.2.8)
+-- a type that is reserved to exercise the requirement to ignore unknown types (RFC 9114, section
+-- 7.2.8)
 abbrev pub IsExercise : ℕ → Type 0
 IsExercise id = (n : ℕ) × (id ≡ 0x21 + 0x1f * n)
 

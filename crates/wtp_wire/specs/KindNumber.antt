@@ -15,13 +15,19 @@ kind_numbered id = or_exercise id (registered_kind id)
 
 -- ---- the type stays the same
 
-by_test : (b : Bool) (kind : FrameKind) (other : Option FrameKind) (id : ℕ) → (b ≡ true → frame_type_of kind ≡ id) → frame_type_of (or_exercise id other) ≡ id → frame_type_of (or_exercise id (cond b (Some kind) other)) ≡ id
+by_test :
+    (b : Bool) (kind : FrameKind) (other : Option FrameKind) (id : ℕ)
+    → (b ≡ true → frame_type_of kind ≡ id) → frame_type_of (or_exercise id other) ≡ id
+    → frame_type_of (or_exercise id (cond b (Some kind) other)) ≡ id
 by_test true kind other id here there = here refl
 by_test false kind other id here there = there
 
-number_of_kind_among : (kinds : List FrameKind) (id : ℕ) → frame_type_of (or_exercise id (kind_among id kinds)) ≡ id
+number_of_kind_among :
+    (kinds : List FrameKind) (id : ℕ) → frame_type_of (or_exercise id (kind_among id kinds)) ≡ id
 number_of_kind_among [] id = refl
-number_of_kind_among (kind ∷ rest) id = by_test (eqb id (frame_type_of kind)) kind (kind_among id rest) id (λ t. sym (eqb-true id (frame_type_of kind) t)) (number_of_kind_among rest id)
+number_of_kind_among (kind ∷ rest) id =
+    by_test (eqb id (frame_type_of kind)) kind (kind_among id rest) id
+    (λ t. sym (eqb-true id (frame_type_of kind) t)) (number_of_kind_among rest id)
 
 pub number_of_kind_numbered : (id : ℕ) → frame_type_of (kind_numbered id) ≡ id
 unfolding kind_numbered registered_kind

@@ -21,6 +21,7 @@ pub mod HeaderReading
 pub mod HeaderWire
 pub mod SettingId
 pub mod Settings
+pub mod SettingsList
 pub mod Capsule
 pub mod CloseSession
 pub mod Codes

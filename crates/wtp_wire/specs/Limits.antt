@@ -10,7 +10,7 @@ max_head = 16
 abbrev pub max_payload : ℕ
 max_payload = 4096
 
--- the most calls of a source: one for each byte of a head, and one for each byte that is skipped; a payload that is
--- read has no more bytes than may be skipped
+-- the most calls of a source: one for each byte of a head, and one for each byte that is skipped; a
+-- payload that is read has no more bytes than may be skipped
 abbrev pub max_calls : ℕ
 max_calls = max_head + max_passed

@@ -1,6 +1,7 @@
--- Setting identifiers (RFC 9114, section 7.2.4.1; RFC 9204, section 5; RFC 9220, section 3; RFC 9297, section 2.1.1;
--- WebTransport over HTTP/3).
-use Rattle.std.specs.Prelude.{◌≡◌, ℕ, List, [], ◌∷◌, ◌≤◌, ◌⊎◌, Bool, ◌||◌, ◌&&◌, nat_le, ◌==◌, if◌then◌else◌, Option, Some, None, is_some}
+-- Setting identifiers (RFC 9114, section 7.2.4.1; RFC 9204, section 5; RFC 9220, section 3; RFC
+-- 9297, section 2.1.1; WebTransport over HTTP/3).
+use Rattle.std.specs.Prelude.{◌≡◌, ℕ, List, [], ◌∷◌, ◌≤◌, ◌⊎◌, Bool, ◌||◌, ◌&&◌, nat_le, ◌==◌, if◌then◌else◌, Option, Some, None, is_some, ◌++◌, false, codes}
+use Rattle.std.specs.Fmt.{digits}
 use Rattle.wtp_wire.specs.declared.settings.SettingId.{SettingId}
 use Rattle.wtp_wire.specs.declared.settings.SettingId.TheVariants.{QPackMaxTableCapacity, MaxFieldSectionSize, QPackBlockedStreams, EnableConnectProtocol, H3Datagram, EnableWebTransport, WebTransportMaxSessions, Exercise}
 use Rattle.wtp_wire.specs.Kind.{IsExercise, is_exercise}
@@ -9,7 +10,9 @@ use Rattle.wtp_wire.specs.Named.{kind_by}
 -- ---- the table: the settings with a name, and the number of each
 
 abbrev pub named_settings : List SettingId
-named_settings = QPackMaxTableCapacity ∷ MaxFieldSectionSize ∷ QPackBlockedStreams ∷ EnableConnectProtocol ∷ H3Datagram ∷ EnableWebTransport ∷ WebTransportMaxSessions ∷ []
+named_settings =
+    QPackMaxTableCapacity ∷ MaxFieldSectionSize ∷ QPackBlockedStreams ∷ EnableConnectProtocol
+    ∷ H3Datagram ∷ EnableWebTransport ∷ WebTransportMaxSessions ∷ []
 
 abbrev pub setting_number_of : SettingId → ℕ
 setting_number_of QPackMaxTableCapacity = 0x01
@@ -21,15 +24,32 @@ setting_number_of EnableWebTransport = 0x2b603742
 setting_number_of WebTransportMaxSessions = 0xc671706a
 setting_number_of (Exercise number) = number
 
--- the number identified a setting of HTTP/2 that HTTP/3 does not have: it must not be received (RFC 9114, section
--- 7.2.4.1)
+-- the names of the settings in the standards; an exercise setting has none, and is printed as its
+-- number in hexadecimal
+abbrev pub setting_name_of : SettingId → List ℕ
+-- RFC 9204, section 5
+setting_name_of QPackMaxTableCapacity = codes "SETTINGS_QPACK_MAX_TABLE_CAPACITY"
+-- RFC 9114, section 7.2.4.1
+setting_name_of MaxFieldSectionSize = codes "SETTINGS_MAX_FIELD_SECTION_SIZE"
+setting_name_of QPackBlockedStreams = codes "SETTINGS_QPACK_BLOCKED_STREAMS"  -- RFC 9204, section 5
+-- RFC 9220, section 3
+setting_name_of EnableConnectProtocol = codes "SETTINGS_ENABLE_CONNECT_PROTOCOL"
+setting_name_of H3Datagram = codes "SETTINGS_H3_DATAGRAM"  -- RFC 9297, section 2.1.1
+-- draft-ietf-webtrans-http3-02, section 3.1
+setting_name_of EnableWebTransport = codes "SETTINGS_ENABLE_WEBTRANSPORT"
+-- draft-ietf-webtrans-http3-07
+setting_name_of WebTransportMaxSessions = codes "SETTINGS_WEBTRANSPORT_MAX_SESSIONS"
+setting_name_of (Exercise number) = codes "0x" ++ digits 16 false number
+
+-- the number identified a setting of HTTP/2 that HTTP/3 does not have: it must not be received (RFC
+-- 9114, section 7.2.4.1)
 abbrev pub IsReserved : ℕ → Type 0
 IsReserved id = (id ≡ 0x00) ⊎ ((0x02 ≤ id) × (id ≤ 0x05))
 
 -- ---- what follows from it
 
--- the identifier of this setting is this number; the exercise identifiers are the exercise types of frames (RFC 9114,
--- section 7.2.4.1)
+-- the identifier of this setting is this number; the exercise identifiers are the exercise types of
+-- frames (RFC 9114, section 7.2.4.1)
 abbrev pub IsSettingId : SettingId → ℕ → Type 0
 IsSettingId (Exercise number) id = (number ≡ id) × IsExercise id
 IsSettingId setting id = id ≡ setting_number_of setting

@@ -1,4 +1,5 @@
--- The settings of a connection, and the payload of a SETTINGS frame (RFC 9114, sections 7.2.4 and 7.2.4.1).
+-- The settings of a connection, and the payload of a SETTINGS frame (RFC 9114, sections 7.2.4 and
+-- 7.2.4.1).
 use Rattle.std.specs.Prelude.{◌≡◌, ◌≢◌, ℕ, ◌<◌, ◌^◌, ◌⊎◌, ◌↔◌, List, [], ◌∷◌, ◌++◌, length, All, Contains, Option, Some, None, is_some, option_and_then, IsTrue, Result, Ok, Err, suc, zero, nat_lt, drop, if◌then◌else◌}
 use Rattle.std.specs.Ordering.{nat_cmp}
 use Rattle.std.specs.Option.{option_map}
@@ -35,26 +36,31 @@ value_at_some m (Some id) = value_at m id
 abbrev pub setting_value : List (ℕ × ℕ) → SettingId → Option ℕ
 setting_value m setting = value_at_some m (known_number_of setting)
 
--- m with this value of a number: in place of the previous one, or else at the position of the number
+-- m with this value of a number: in place of the previous one, or else at the position of the
+-- number
 abbrev pub with_setting : List (ℕ × ℕ) → ℕ → ℕ → List (ℕ × ℕ)
 with_setting m id value = insert_entry nat_cmp m id value
 
 -- ---- the payload
 
--- s is these pairs one after the other: of each an encoding of its identifier, and then one of its value
+-- s is these pairs one after the other: of each an encoding of its identifier, and then one of its
+-- value
 abbrev pub ArePairs : List (ℕ × ℕ) → List ℕ → Type 0
 ArePairs [] s = s ≡ []
-ArePairs (p ∷ ps) s = (first rest : List ℕ) × EncodesPair p.0 p.1 first × ArePairs ps rest × (s ≡ first ++ rest)
+ArePairs (p ∷ ps) s =
+    (first rest : List ℕ) × EncodesPair p.0 p.1 first × ArePairs ps rest × (s ≡ first ++ rest)
 
 -- no identifier is one of HTTP/2's, and none that is stored occurs twice
 abbrev pub AreFaultless : List (ℕ × ℕ) → Type 0
 AreFaultless [] = Unit {0}
-AreFaultless (p ∷ ps) = (¬ IsReserved p.0) × (IsSetting p.0 → ¬ Contains (keys_of ps) p.0) × AreFaultless ps
+AreFaultless (p ∷ ps) =
+    (¬ IsReserved p.0) × (IsSetting p.0 → ¬ Contains (keys_of ps) p.0) × AreFaultless ps
 
 -- m are the settings among the pairs, in ascending order of the numbers
 pub record AreKept (m ps : List (ℕ × ℕ)) : Type 0 where
   pub rising : IsStrictlySortedBy nat_cmp (keys_of m)
-  pub same : (id value : ℕ) → (value_at m id ≡ Some value) ↔ (IsSetting id × Contains ps (id, value))
+  pub same :
+      (id value : ℕ) → (value_at m id ≡ Some value) ↔ (IsSetting id × Contains ps (id, value))
 
 -- the payload contains these settings
 abbrev pub IsPayload : List (ℕ × ℕ) → List ℕ → Type 0
@@ -62,31 +68,51 @@ IsPayload m s = (ps : List (ℕ × ℕ)) × ArePairs ps s × AreFaultless ps × 
 
 -- after these pairs, the rest starts with an identifier or a value that is truncated
 abbrev pub IsCutSetting : List ℕ → Type 0
-IsCutSetting rest = (rest ≢ []) × ((id value : ℕ) (s more : List ℕ) → EncodesPair id value s → rest ≡ s ++ more → ⊥)
+IsCutSetting rest =
+    (rest ≢ []) × ((id value : ℕ) (s more : List ℕ) → EncodesPair id value s → rest ≡ s ++ more → ⊥)
 
 -- after these pairs, the rest starts with a pair that is not permitted there
 abbrev pub IsRefused : List (ℕ × ℕ) → List ℕ → Type 0
-IsRefused ps rest = (id value : ℕ) × (s more : List ℕ) × EncodesPair id value s × (rest ≡ s ++ more) × (IsReserved id ⊎ (IsSetting id × Contains (keys_of ps) id))
+IsRefused ps rest =
+    (id value : ℕ)
+    × (s more : List ℕ)
+    × EncodesPair id value s
+    × (rest ≡ s ++ more)
+    × (IsReserved id ⊎ (IsSetting id × Contains (keys_of ps) id))
 
 -- the first fault of the payload, in byte order
 abbrev pub IsSettingsFault : ErrorCode → List ℕ → Type 0
-IsSettingsFault code s = (ps : List (ℕ × ℕ)) × (front rest : List ℕ) × ArePairs ps front × AreFaultless ps × (s ≡ front ++ rest) × (((code ≡ Frame) × IsCutSetting rest) ⊎ ((code ≡ Settings) × IsRefused ps rest))
+IsSettingsFault code s =
+    (ps : List (ℕ × ℕ))
+    × (front rest : List ℕ)
+    × ArePairs ps front
+    × AreFaultless ps
+    × (s ≡ front ++ rest)
+    × (((code ≡ Frame) × IsCutSetting rest) ⊎ ((code ≡ Settings) × IsRefused ps rest))
 
 -- ---- the same, computed
 
 -- the identifier and the value at the start of the bytes, and the bytes after them
 unfoldable pub pair_at : List ℕ → Option ((ℕ × ℕ) × List ℕ)
-pair_at bytes = option_and_then (λ id. option_map (λ value. ((id.0, value.0), value.1)) (number_at id.1)) (number_at bytes)
+pair_at bytes =
+    option_and_then (λ id. option_map (λ value. ((id.0, value.0), value.1)) (number_at id.1))
+    (number_at bytes)
 
 -- m and one more pair
 unfoldable pub kept_with : List (ℕ × ℕ) → ℕ × ℕ → Result (List (ℕ × ℕ)) ErrorCode
-kept_with m p = if is_reserved p.0 then Err Settings else (if is_setting p.0 then (if is_some (value_at m p.0) then Err Settings else Ok (with_setting m p.0 p.1)) else Ok m)
+kept_with m p =
+    if is_reserved p.0
+    then Err Settings
+    else (if is_setting p.0
+    then (if is_some (value_at m p.0) then Err Settings else Ok (with_setting m p.0 p.1))
+    else Ok m)
 
 abbrev pub or_cut : {A B : Type 0} → Option A → (A → Result B ErrorCode) → Result B ErrorCode
 or_cut None next = Err Frame
 or_cut (Some x) next = next x
 
-abbrev pub or_fault : {A B : Type 0} → Result A ErrorCode → (A → Result B ErrorCode) → Result B ErrorCode
+abbrev pub or_fault :
+    {A B : Type 0} → Result A ErrorCode → (A → Result B ErrorCode) → Result B ErrorCode
 or_fault (Err code) next = Err code
 or_fault (Ok x) next = next x
 
@@ -94,7 +120,8 @@ or_fault (Ok x) next = next x
 unfoldable pub settings_from : ℕ → List (ℕ × ℕ) → List ℕ → Result (List (ℕ × ℕ)) ErrorCode
 settings_from n m [] = Ok m
 settings_from zero m (b ∷ bs) = Err Frame
-settings_from (suc n) m (b ∷ bs) = or_cut (pair_at (b ∷ bs)) (λ p. or_fault (kept_with m p.0) (λ kept. settings_from n kept p.1))
+settings_from (suc n) m (b ∷ bs) =
+    or_cut (pair_at (b ∷ bs)) (λ p. or_fault (kept_with m p.0) (λ kept. settings_from n kept p.1))
 
 -- the settings that the payload contains, or its first fault
 unfoldable pub settings_in : List ℕ → Result (List (ℕ × ℕ)) ErrorCode
@@ -117,14 +144,15 @@ pub record StartsWithSettings (payload : List ℕ) : Type 0 where
   pub read : settings_in front ≡ Ok m
   pub some : m ≢ []
 
--- the result of reading the payload; memory is allocated only for a setting up to which there is no fault, so only then
--- may allocation fail
+-- the result of reading the payload; memory is allocated only for a setting up to which there is no
+-- fault, so only then may allocation fail
 abbrev pub AnswersSettings : List ℕ → Result (List (ℕ × ℕ)) Refused → Type 0
 AnswersSettings payload (Ok m) = settings_in payload ≡ Ok m
 AnswersSettings payload (Err (Code code)) = settings_in payload ≡ Err code
 AnswersSettings payload (Err Memory) = StartsWithSettings payload
 
--- the parts of a payload that is written: of each setting its number and its value, in their shortest encodings
+-- the parts of a payload that is written: of each setting its number and its value, in their
+-- shortest encodings
 abbrev pub settings_parts : List (ℕ × ℕ) → List (List ℕ)
 settings_parts [] = []
 settings_parts (p ∷ ps) = shortest p.0 ∷ shortest p.1 ∷ settings_parts ps
@@ -133,8 +161,11 @@ settings_parts (p ∷ ps) = shortest p.0 ∷ shortest p.1 ∷ settings_parts ps
 abbrev pub settings_wire : List (ℕ × ℕ) → List ℕ
 settings_wire m = joined (settings_parts m)
 
--- the room after those of the parts that fit were written over it, one after the other, up to the first that does not
--- fit
+-- the room after those of the parts that fit were written over it, one after the other, up to the
+-- first that does not fit
 abbrev pub overwritten : List (List ℕ) → List ℕ → List ℕ
 overwritten [] place = place
-overwritten (part ∷ parts) place = if nat_lt (length place) (length part) then place else part ++ overwritten parts (drop (length part) place)
+overwritten (part ∷ parts) place =
+    if nat_lt (length place) (length part)
+    then place
+    else part ++ overwritten parts (drop (length part) place)

@@ -1,5 +1,5 @@
--- The kinds of unidirectional streams by their types (RFC 9114, section 6.2; RFC 9204, section 4.2; 0x54 is the
--- WebTransport type).
+-- The kinds of unidirectional streams by their types (RFC 9114, section 6.2; RFC 9204, section 4.2;
+-- 0x54 is the WebTransport type).
 use Rattle.std.specs.Prelude.{◌≡◌, ℕ, List, [], ◌∷◌, Bool, true, false, Option, IsTrue}
 use Rattle.wtp_wire.specs.declared.stream_header.StreamKind.{StreamKind}
 use Rattle.wtp_wire.specs.declared.stream_header.StreamKind.TheVariants.{Control, QPackEncoder, QPackDecoder, WebTransport, Exercise}
@@ -25,7 +25,8 @@ has_session kind = false
 
 -- ---- what follows from it
 
--- the streams of this type are of this kind; the reserved types are those of frames (RFC 9114, section 6.2.3)
+-- the streams of this type are of this kind; the reserved types are those of frames (RFC 9114,
+-- section 6.2.3)
 abbrev pub IsStreamKind : StreamKind → ℕ → Type 0
 IsStreamKind (Exercise number) id = (number ≡ id) × IsExercise id
 IsStreamKind kind id = id ≡ stream_number_of kind

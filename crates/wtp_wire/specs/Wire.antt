@@ -1,4 +1,5 @@
--- The bytes of a frame that is written: each number in its shortest encoding (RFC 9114, section 7.1).
+-- The bytes of a frame that is written: each number in its shortest encoding (RFC 9114, section
+-- 7.1).
 use Rattle.std.specs.Prelude.{◌≡◌, ℕ, ◌%◌, ◌^◌, ◌<◌, ◌≤◌, List, [], ◌∷◌, length, IsTrue}
 use Rattle.wtp_core.specs.Varint.{shortest}
 use Rattle.wtp_core.specs.Writer.{joined}
@@ -23,6 +24,7 @@ wire f = joined (parts_of f)
 -- the numbers of f are those of its kind, and its payload may be read: at most 4096 bytes
 abbrev pub IsReadable : Content → Type 0
 IsReadable (PlainOf WebTransport payload) = ⊥
-IsReadable (PlainOf (Exercise number) payload) = (number < 2 ^ 62) × IsTrue (is_exercise number) × (length payload ≤ max_payload)
+IsReadable (PlainOf (Exercise number) payload) =
+    (number < 2 ^ 62) × IsTrue (is_exercise number) × (length payload ≤ max_payload)
 IsReadable (PlainOf kind payload) = length payload ≤ max_payload
 IsReadable (WebTransportOf id) = (id < 2 ^ 62) × (id % 4 ≡ 0)

@@ -1,8 +1,11 @@
-//! The error codes of the faults of frames and of stream headers.
+//! The error codes of the faults of frames, of stream headers and of capsules.
 ghost use Rattle.std.specs.Prelude.{◌≡◌};
-ghost use Rattle.wtp_wire.specs.Codes.{frame_code, header_code};
+ghost use Rattle.wtp_core.specs.declared.error.ErrorCode.TheVariants.{Message};
+ghost use Rattle.wtp_wire.specs.Codes.{frame_code, frame_read_code, header_code, header_read_code, capsule_code};
 
+use crate::capsule::{CapsuleError, CutCapsule};
 use crate::{frame, stream_header};
+use wtp_core::bytes;
 use wtp_core::error::ErrorCode;
 
 impl frame::ParseError {
@@ -29,5 +32,66 @@ impl From<stream_header::ParseError> for ErrorCode {
             stream_header::ParseError::UnknownStream => ErrorCode::StreamCreation,
             stream_header::ParseError::InvalidSessionId => ErrorCode::Id,
         }
+    }
+}
+
+impl frame::IoReadError {
+    /// Returns the error code of the fault; [`ErrorCode::Frame`] if the source ended inside a frame
+    /// (RFC 9114, section 7.1). Not in the Rust crate.
+    ///
+    /// Returns `None` for an unknown frame, which has to be ignored, and for every other fault of
+    /// the source.
+    pub fn code(&self) -> Option<ErrorCode>
+        ensures { result ≡ frame_read_code self.now }
+    {
+        match self {
+            frame::IoReadError::Parse(fault) => fault.code(),
+            frame::IoReadError::IO(bytes::IoReadError::UnexpectedFin) => Some(ErrorCode::Frame),
+            frame::IoReadError::IO(_) => None,
+        }
+    }
+}
+
+impl stream_header::IoReadError {
+    /// Returns the error code of the fault. Not in the Rust crate.
+    ///
+    /// Returns `None` for a fault of the source: a stream that ends or is reset before its header
+    /// is complete has to be tolerated (RFC 9114, section 6.2).
+    pub fn code(&self) -> Option<ErrorCode>
+        ensures { result ≡ header_read_code self.now }
+    {
+        match self {
+            stream_header::IoReadError::Parse(stream_header::ParseError::UnknownStream) => {
+                Some(ErrorCode::StreamCreation)
+            }
+            stream_header::IoReadError::Parse(stream_header::ParseError::InvalidSessionId) => {
+                Some(ErrorCode::Id)
+            }
+            stream_header::IoReadError::IO(_) => None,
+        }
+    }
+}
+
+impl CapsuleError {
+    /// Returns the error code of a capsule that was read, or `None` if memory allocation failed. A
+    /// value that is too long is an error of the capsule protocol (RFC 9297, section 5.2). Not in
+    /// the Rust crate.
+    pub fn code(&self) -> Option<ErrorCode>
+        ensures { result ≡ capsule_code self.now }
+    {
+        match self {
+            CapsuleError::TooLong => Some(ErrorCode::Datagram),
+            CapsuleError::Memory => None,
+        }
+    }
+}
+
+impl From<CutCapsule> for ErrorCode {
+    ghost from_gives = { λ _ code. code ≡ Message };
+
+    /// Returns [`ErrorCode::Message`]: a stream that ends within a capsule makes a malformed
+    /// message (RFC 9297, section 3.3; RFC 9114, section 4.1.2). Not in the Rust crate.
+    fn from(_fault: CutCapsule) -> ErrorCode {
+        ErrorCode::Message
     }
 }

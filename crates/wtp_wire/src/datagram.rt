@@ -38,7 +38,8 @@ impl<'a> Datagram<'a> {
     /// or if that number is 2^60 or more.
     #[tactic(auto, unfolding(crate::specs::Datagram::datagram_in))]
     pub fn read(quic_datagram: &'a [u8]) -> Result<Self, ErrorCode>
-        ensures { MatchResult result (λ d. datagram_in quic_datagram.now ≡ Some d) (λ e. (datagram_in quic_datagram.now ≡ None) × (e ≡ ErrorCode.Datagram)) }
+        ensures { MatchResult result (λ d. datagram_in quic_datagram.now ≡ Some d)
+            (λ e. (datagram_in quic_datagram.now ≡ None) × (e ≡ ErrorCode.Datagram)) }
     {
         let mut reader = quic_datagram;
         let Some(id) = reader.get_varint() else {
@@ -56,7 +57,8 @@ impl<'a> Datagram<'a> {
     pub fn write(&self, buffer: &mut [u8]) -> Result<usize, EndOfBuffer>
         ensures room { IsOk result ↔ (length (datagram_wire self.now) ≤ length buffer.old) }
         ensures size { IfOk result (λ n. n ≡ length (datagram_wire self.now)) }
-        ensures bytes { IfOk result (λ n. buffer.new ≡ datagram_wire self.now ++ drop n buffer.old) }
+        ensures bytes { IfOk result
+            (λ n. buffer.new ≡ datagram_wire self.now ++ drop n buffer.old) }
         ensures err { OnErr result (buffer.new ≡ buffer.old) }
     {
         let head = Self::header_size(self.qstream_id);

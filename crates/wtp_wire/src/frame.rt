@@ -14,7 +14,7 @@ mod whole;
 pub mod writing;
 
 use crate::frame::body::Body;
-use crate::frame::head::{Said, classify_second};
+use crate::frame::head::{Announcement, classify_head};
 pub use crate::frame::kind::FrameKind;
 use crate::frame::kind::KindNumber;
 pub use reading::{FrameReading, IoReadError};
@@ -213,8 +213,8 @@ impl<'a> Frame<'a> {
         let Some(number) = reader.get_varint() else {
             return Ok(None);
         };
-        match classify_second(FrameKind::parse(id), number) {
-            Said::Payload(kind, size) => {
+        match classify_head(id, number) {
+            Announcement::Payload(kind, size) => {
                 let Some(payload) = reader.get_bytes(size as usize) else {
                     return Ok(None);
                 };
@@ -223,14 +223,14 @@ impl<'a> Frame<'a> {
                     body: Body::Borrowed(payload),
                 }))
             }
-            Said::Session(session_id) => Ok(Some(Frame::new_webtransport(session_id))),
-            Said::Skip(size) => match reader.get_bytes(size as usize) {
+            Announcement::Session(session_id) => Ok(Some(Frame::new_webtransport(session_id))),
+            Announcement::Skip(size) => match reader.get_bytes(size as usize) {
                 Some(_) => Err(ParseError::UnknownFrame),
                 None => Ok(None),
             },
-            Said::BadSession => Err(ParseError::InvalidSessionId),
-            Said::TooLong => Err(ParseError::PayloadTooBig),
-            Said::Unfinished => Ok(None),
+            Announcement::BadSession => Err(ParseError::InvalidSessionId),
+            Announcement::TooLong => Err(ParseError::PayloadTooBig),
+            Announcement::Unfinished => Ok(None),
         }
     }
 
@@ -238,7 +238,8 @@ impl<'a> Frame<'a> {
     /// move if this returns `None` or an error.
     #[inline(always)]
     pub fn read_from_buffer(reader: &mut BufferReader<'a>) -> Result<Option<Self>, ParseError>
-        ensures answer { AnswersWhole (front (left_of reader.old)) result (left_of reader.old) (left_of reader.new) }
+        ensures answer { AnswersWhole (front (left_of reader.old)) result (left_of reader.old)
+            (left_of reader.new) }
         ensures whole { whole_of reader.new ≡ whole_of reader.old }
     {
         let mut ahead = BufferReader::new(reader.buffer_remaining());
@@ -254,8 +255,10 @@ impl<'a> Frame<'a> {
     /// The parts are the type, the length or session ID, and the payload. On an error the writer
     /// holds the parts before the one that it refused.
     pub fn write<W: BytesWriter>(&self, writer: &mut W) -> Result<(), PutError>
-        ensures parts { PutsParts W.grows (parts_of self.now) result (W.written writer.old) (W.room writer.old) (W.written writer.new) (W.room writer.new) }
-        ensures full { result ≡ Err PutError.EndOfBuffer → LacksRoom (W.room writer.old) (length (wire self.now)) }
+        ensures parts { PutsParts W.grows (parts_of self.now) result (W.written writer.old)
+            (W.room writer.old) (W.written writer.new) (W.room writer.new) }
+        ensures full { result ≡ Err PutError.EndOfBuffer
+            → LacksRoom (W.room writer.old) (length (wire self.now)) }
         ensures target { W.target writer.new ≡ W.target writer.old }
     {
         writer.put_varint(self.kind.id())?;

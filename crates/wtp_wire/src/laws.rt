@@ -27,15 +27,19 @@ pub fn front_is_computed()
 
 /// One case holds: the computed one. If that is `Short`, the input starts with none of the others.
 pub fn one_front()
-    ensures { (bytes : List ℕ) → Begins bytes (front bytes) ⊎ ((front bytes ≡ Short) × ((c : Front) → Begins bytes c → ⊥)) }
+    ensures { (bytes : List ℕ)
+        → Begins bytes (front bytes)
+        ⊎ ((front bytes ≡ Short) × ((c : Front) → Begins bytes c → ⊥)) }
 {}
 
 /// A case other than `Short` stays the same when bytes follow.
 pub fn front_stays()
-    ensures { (bytes more : List ℕ) → front bytes ≢ Short → front (bytes ++ more) ≡ extended (front bytes) more }
+    ensures { (bytes more : List ℕ) → front bytes ≢ Short
+        → front (bytes ++ more) ≡ extended (front bytes) more }
 {}
 
 /// A frame that is written is read again, whatever follows.
 pub fn written_is_read()
-    ensures { (f : Content) (rest : List ℕ) → IsReadable f → front (wire f ++ rest) ≡ Framed f rest }
+    ensures { (f : Content) (rest : List ℕ) → IsReadable f
+        → front (wire f ++ rest) ≡ Framed f rest }
 {}

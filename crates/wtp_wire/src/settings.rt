@@ -3,12 +3,15 @@ ghost use Rattle.std.specs.Prelude.{◌≡◌, ◌≢◌, ◌≤◌, ◌<◌, �
 ghost use Rattle.wtp_core.specs.Writer.{PutsParts};
 
 mod builder;
+mod iter;
 
 use crate::frame::{Frame, FrameKind, FrameOwned, GenerateError};
 pub use builder::SettingsBuilder;
+pub use iter::SettingsIter;
 use std::alloc::{AllocError, Global};
 use std::borrow::CowSlice;
 use std::collections::BTreeMap;
+use std::fmt;
 use std::marker::Model;
 use wtp_core::bytes::{BufferWriter, BytesReader, BytesWriter, EndOfBuffer, PutError};
 use wtp_core::error::{ErrorCode, Refused};
@@ -58,9 +61,10 @@ impl SettingId {
         }
     }
 
-    /// Returns the setting of this number, or `None` if the number is unknown.
+    /// Returns the setting of this number, or `None` if the number is unknown. Not in the Rust
+    /// crate.
     #[tactic(auto, unfolding(crate::specs::SettingId::setting_id_of))]
-    fn parse(id: VarInt) -> Option<Self>
+    pub fn parse(id: VarInt) -> Option<Self>
         ensures { result ≡ setting_id_of id }
     {
         match id {
@@ -106,8 +110,35 @@ impl SettingId {
     }
 }
 
+impl fmt::Display for SettingId {
+    ghost use Rattle.std.specs.Prelude.{Some};
+    ghost use Rattle.wtp_wire.specs.SettingId.{setting_name_of};
+
+    ghost output = { λ setting. Some (setting_name_of setting) };
+
+    /// Prints the name in the standards, as `SETTINGS_H3_DATAGRAM`; of an exercise setting its
+    /// number, as `0x21`. Not in the Rust crate.
+    fn fmt<W: fmt::Write>(&self, f: &mut fmt::Formatter<W>) -> fmt::Result {
+        match self {
+            SettingId::QPackMaxTableCapacity => f.write_str("SETTINGS_QPACK_MAX_TABLE_CAPACITY"),
+            SettingId::MaxFieldSectionSize => f.write_str("SETTINGS_MAX_FIELD_SECTION_SIZE"),
+            SettingId::QPackBlockedStreams => f.write_str("SETTINGS_QPACK_BLOCKED_STREAMS"),
+            SettingId::EnableConnectProtocol => f.write_str("SETTINGS_ENABLE_CONNECT_PROTOCOL"),
+            SettingId::H3Datagram => f.write_str("SETTINGS_H3_DATAGRAM"),
+            SettingId::EnableWebTransport => f.write_str("SETTINGS_ENABLE_WEBTRANSPORT"),
+            SettingId::WebTransportMaxSessions => {
+                f.write_str("SETTINGS_WEBTRANSPORT_MAX_SESSIONS")
+            }
+            SettingId::Exercise(id) => {
+                let number = id.into_inner();
+                write!(f, "0x{number:x}")
+            }
+        }
+    }
+}
+
 /// Settings of a connection: the value of each setting that is set.
-#[derive(Debug, Drop)]
+#[derive(Drop)]
 pub struct Settings {
     values: BTreeMap<VarInt, VarInt>,
 }
@@ -121,6 +152,13 @@ impl Model for Settings {
     ghost view = { λ s. s.values.entries };
 
     ghost invariant = { λ s. IsSettings s.values.entries };
+}
+
+// As the Rust crate prints them, in ascending order of the numbers.
+impl fmt::Debug for Settings {
+    fn fmt<W: fmt::Write>(&self, f: &mut fmt::Formatter<W>) -> fmt::Result {
+        f.debug_tuple("Settings").field(&self.iter()).finish()
+    }
 }
 
 impl Settings {
@@ -194,7 +232,9 @@ impl Settings {
         value: VarInt,
     ) -> Result<Option<VarInt>, AllocError>
         requires { is_setting number ≡ true }
-        ensures ok { IfOk result (λ before. (before ≡ value_at self.old number) × (self.new ≡ with_setting self.old number value)) }
+        ensures ok { IfOk result
+            (λ before. (before ≡ value_at self.old number)
+            × (self.new ≡ with_setting self.old number value)) }
         ensures err { OnErr result ((value_at self.old number ≡ None) × (self.new ≡ self.old)) }
     {
         prove!(number.into_inner() <= VarInt::MAX.into_inner());
@@ -210,7 +250,8 @@ impl Settings {
     #[tactic(auto, using(crate::proofs::SettingsLemmas::no_settings))]
     pub fn generate_frame(&self, alloc: Global) -> Result<FrameOwned, GenerateError>
         ensures ok { IfOk result (λ f. f ≡ SettingsOf (settings_wire self.now)) }
-        ensures too_long { result ≡ Err GenerateError.PayloadTooLong → 2 ^ 62 ≤ length (settings_wire self.now) }
+        ensures too_long { result ≡ Err GenerateError.PayloadTooLong
+            → 2 ^ 62 ≤ length (settings_wire self.now) }
         ensures memory { result ≡ Err GenerateError.Memory → self.now ≢ [] }
         ensures settings { IsSettings self.now }
     {
@@ -263,7 +304,8 @@ impl Settings {
 
     /// Writes the payload: the number of each setting, and then its value.
     fn write_payload<W: BytesWriter>(&self, writer: &mut W) -> Result<(), PutError>
-        ensures parts { PutsParts W.grows (settings_parts self.now) result (W.written writer.old) (W.room writer.old) (W.written writer.new) (W.room writer.new) }
+        ensures parts { PutsParts W.grows (settings_parts self.now) result (W.written writer.old)
+            (W.room writer.old) (W.written writer.new) (W.room writer.new) }
         ensures target { W.target writer.new ≡ W.target writer.old }
         ensures settings { IsSettings self.now }
     {

@@ -163,7 +163,8 @@ impl StreamHeader {
     /// Reads the session ID after the WebTransport type.
     #[tactic(auto, using(wtp_core::proofs::RestLemmas::rests), unfolding(crate::specs::HeaderFront::session_header_front))]
     fn read_session<'a, R: BytesReader<'a>>(reader: &mut R) -> Result<Option<Self>, ParseError>
-        ensures answer { AnswersHeader (session_header_front (R.left reader.old)) result (R.left reader.new) }
+        ensures answer { AnswersHeader (session_header_front (R.left reader.old)) result
+            (R.left reader.new) }
         ensures rest { IsRest (R.left reader.new) (R.left reader.old) }
         ensures kept { R.kept reader.new ≡ R.kept reader.old }
     {
@@ -184,7 +185,8 @@ impl StreamHeader {
     /// - `InvalidSessionId`: the WebTransport type and an invalid session ID were read.
     #[tactic(auto, using(wtp_core::proofs::RestLemmas::rests), unfolding(crate::specs::HeaderFront::header_front))]
     pub fn read<'a, R: BytesReader<'a>>(reader: &mut R) -> Result<Option<Self>, ParseError>
-        ensures answer { AnswersHeader (header_front (R.left reader.old)) result (R.left reader.new) }
+        ensures answer { AnswersHeader (header_front (R.left reader.old)) result
+            (R.left reader.new) }
         ensures rest { IsRest (R.left reader.new) (R.left reader.old) }
         ensures kept { R.kept reader.new ≡ R.kept reader.old }
     {
@@ -204,7 +206,8 @@ impl StreamHeader {
     /// Reads the header at the start of the input as `read` does, and moves past it. The reader
     /// does not move if this returns `None` or an error.
     pub fn read_from_buffer(reader: &mut BufferReader<'_>) -> Result<Option<Self>, ParseError>
-        ensures answer { AnswersHeaderWhole (header_front (left_of reader.old)) result (left_of reader.old) (left_of reader.new) }
+        ensures answer { AnswersHeaderWhole (header_front (left_of reader.old)) result
+            (left_of reader.old) (left_of reader.new) }
         ensures whole { whole_of reader.new ≡ whole_of reader.old }
     {
         let mut ahead = BufferReader::new(reader.buffer_remaining());
@@ -220,8 +223,10 @@ impl StreamHeader {
     /// The parts are the type and the session ID. On an error the writer holds the parts before the
     /// one that it refused.
     pub fn write<W: BytesWriter>(&self, writer: &mut W) -> Result<(), PutError>
-        ensures parts { PutsParts W.grows (header_parts self.now) result (W.written writer.old) (W.room writer.old) (W.written writer.new) (W.room writer.new) }
-        ensures full { result ≡ Err PutError.EndOfBuffer → LacksRoom (W.room writer.old) (length (header_wire self.now)) }
+        ensures parts { PutsParts W.grows (header_parts self.now) result (W.written writer.old)
+            (W.room writer.old) (W.written writer.new) (W.room writer.new) }
+        ensures full { result ≡ Err PutError.EndOfBuffer
+            → LacksRoom (W.room writer.old) (length (header_wire self.now)) }
         ensures target { W.target writer.new ≡ W.target writer.old }
     {
         writer.put_varint(self.kind.id())?;

@@ -1,15 +1,14 @@
 -- The run of bytes that may go on and that of the same bytes with an end agree.
-use Rattle.std.proofs.Common.{◌≡◌, ◌≢◌, ℕ, zero, suc, ◌≤◌, ◌<◌, Bool, false, List, [], ◌∷◌, ◌++◌, length, Option, Some, None, refl, sym, ap, subst, ◌∙◌, arith, inl, inr}
+use Rattle.std.proofs.Common.{◌≡◌, ◌≢◌, ℕ, zero, suc, ◌≤◌, ◌<◌, Bool, false, List, ◌∷◌, length, Option, Some, None, refl, sym, ap, subst, ◌∙◌, arith, inl, inr}
 use Rattle.wtp_core.specs.declared.error.ErrorCode.{ErrorCode}
-use Rattle.wtp_core.specs.declared.error.ErrorCode.TheVariants.{Id, ExcessiveLoad}
 use Rattle.wtp_core.specs.Reader.{IsRest}
 use Rattle.wtp_core.proofs.RestLemmas.{rest-same, rest-rest}
 use Rattle.wtp_wire.specs.Content.{Content, kind_in}
 use Rattle.wtp_wire.specs.Front.{Front, Framed, Unknown, BadId, TooBig, Short, Begins, front}
 use Rattle.wtp_wire.proofs.FrontLemmas.{front_holds, framed-shorter, unknown-shorter}
 use Rattle.wtransport_proto.specs.Rule.{Role, rule}
-use Rattle.wtransport_proto.specs.Run.{Run, Tail, MayGoOn, Ending, H3, past_unknown, run, ends, follows, judged, run_stop, next_run}
-use Rattle.wtransport_proto.specs.Place.{Remainder, if_allowed, remainder_here, remainder}
+use Rattle.wtransport_proto.specs.Run.{Run, Tail, MayGoOn, Ending, past_unknown, run, judged, next_run}
+use Rattle.wtransport_proto.specs.Place.{Remainder, remainder_here, remainder}
 use Rattle.wtransport_proto.specs.Agreeing.{EndsBy, EndsAfter, Agrees}
 use Rattle.wtransport_proto.proofs.RunLemmas.{run-step, past_unknown-shorter, past_unknown-unknown, past_unknown-framed, past_unknown-bad, past_unknown-big, past_unknown-short}
 use Rattle.wtransport_proto.proofs.RemainderLemmas.{remainder-at, remainder-allowed, remainder-refused}

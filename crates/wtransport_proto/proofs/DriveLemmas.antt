@@ -14,7 +14,7 @@ use Rattle.wtransport_proto.specs.Rule.{Role}
 use Rattle.wtransport_proto.specs.Run.{Run}
 use Rattle.wtransport_proto.specs.HeldRun.{run_of, size_of}
 use Rattle.wtransport_proto.specs.StreamPolling.{EndsSo, Faults, StreamTakesFrame, PassesUnknown, StreamPolled}
-use Rattle.wtransport_proto.specs.Place.{Place, place_of, StopsAt}
+use Rattle.wtransport_proto.specs.Place.{place_of}
 use Rattle.wtransport_proto.specs.Driving.{ChangesFirst, after, RunsOn, KeepsPlace, DriveKeeps, DriveDid, Drove}
 use Rattle.wtransport_proto.proofs.PlaceLemmas.{same_refl, same_then, leaves_place, unknown_place, frame_place, fault_place}
 use Rattle.wtransport_proto.proofs.HeldRunLemmas.{leaves_run, leaves_size, unknown_run, unknown_size, frame_run, framed_size}

@@ -161,7 +161,7 @@ stop_some AtEnd n m l k = rw (ne_eqb n 0 (λ z. omega arith), ne_eqb m 0 (λ z. 
 stop_some AtReset n m l k = refl
 stop_some AtDisconnection n m l k = refl
 
-by_same : (role : Role) (first : Bool) (tail : Tail) (n m : ℕ) (c : Front) → stop_of n tail ≡ stop_of m tail → run_by role first tail n c ≡ run_by role first tail m c
+pub by_same : (role : Role) (first : Bool) (tail : Tail) (n m : ℕ) (c : Front) → stop_of n tail ≡ stop_of m tail → run_by role first tail n c ≡ run_by role first tail m c
 by_same role first tail n m (Framed f rest) e = refl
 by_same role first tail n m (Unknown rest) e = refl
 by_same role first tail n m (BadId rest) e = refl

@@ -10,3 +10,7 @@ pub mod AgreeLemmas
 pub mod SendLemmas
 pub mod JourneyLemmas
 pub mod RuleLemmas
+pub mod AcceptLemmas
+pub mod CutFrameLemmas
+pub mod CursorLemmas
+pub mod CursorStepLemmas

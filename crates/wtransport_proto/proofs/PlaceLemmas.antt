@@ -1,5 +1,5 @@
 -- The place where a run ends stays the same from poll to poll.
-use Rattle.std.proofs.Common.{◌≡◌, ℕ, ◌+◌, ◌<◌, ◌≤◌, Bool, false, List, [], ◌∷◌, ◌++◌, length, refl, sym, ap, subst, ◌∙◌, arith, append_assoc, length-append, Option, Some, None, inl, inr}
+use Rattle.std.proofs.Common.{◌≡◌, ℕ, ◌+◌, ◌<◌, Bool, false, List, [], ◌++◌, length, refl, sym, ap, ◌∙◌, arith, append_assoc, length-append, Option, Some, None, inl, inr}
 use Rattle.std.proofs.lemmas.Bool.{cases_lt}
 use Rattle.wtp_core.specs.declared.error.ErrorCode.{ErrorCode}
 use Rattle.wtp_core.specs.Source.{Source}
@@ -11,9 +11,8 @@ use Rattle.wtransport_proto.specs.declared.stream.polled.IoReadError.{IoReadErro
 use Rattle.wtransport_proto.specs.Rule.{Role, rule}
 use Rattle.wtransport_proto.specs.Run.{Run, past_unknown, follows}
 use Rattle.wtransport_proto.specs.HeldRun.{tail_of, run_of}
-use Rattle.wtransport_proto.specs.Reading.{FirstAfter}
 use Rattle.wtransport_proto.specs.StreamPolling.{Faults, StreamTakesFrame, PassesUnknown, SourceIsAfter}
-use Rattle.wtransport_proto.specs.Place.{Place, if_allowed, next_remainder, remainder, place_after, place_by, place_held, place_of, BeginsUnknown, ComesDue, Remains, SamePlace, LeftAfter, StopsAt}
+use Rattle.wtransport_proto.specs.Place.{Place, if_allowed, remainder, place_after, place_by, place_held, place_of, BeginsUnknown, ComesDue, Remains, SamePlace, LeftAfter, StopsAt}
 use Rattle.wtransport_proto.proofs.RunLemmas.{past_unknown-framed, past_unknown-bad, past_unknown-big, past_unknown-short}
 use Rattle.wtransport_proto.proofs.RemainderLemmas.{after-unknown, after-known}
 use Rattle.wtransport_proto.proofs.HeldRunLemmas.{run_framed}

@@ -1,5 +1,5 @@
--- One poll of a stream, from one poll of its reading.
-use Rattle.std.proofs.Common.{◌≡◌, ℕ, Bool, false, [], ◌++◌, refl, ap, arith, Option, Some, Result, Ok, Err, inl, inr}
+-- The result of a stream, for the result of its reading.
+use Rattle.std.proofs.Common.{◌≡◌, ℕ, Bool, false, [], ◌++◌, refl, ap, arith, Some, Result, Ok, Err, inl, inr}
 use Rattle.std.proofs.lemmas.Bool.{cases_lt, ne_eqb}
 use Rattle.wtp_core.specs.declared.error.ErrorCode.{ErrorCode}
 use Rattle.wtp_core.specs.declared.error.ErrorCode.TheVariants.{Id, ExcessiveLoad}
@@ -22,7 +22,7 @@ use Rattle.wtransport_proto.specs.declared.stream.polled.IoReadError.TheVariants
 use Rattle.wtransport_proto.specs.Rule.{Role, rule}
 use Rattle.wtransport_proto.specs.Run.{Run, H3, ends}
 use Rattle.wtransport_proto.specs.HeldRun.{tail_of, stop_of, count_held, run_of}
-use Rattle.wtransport_proto.specs.StreamPolling.{IsStreamFault, IsDry, stream_fault, EndsSo, Faults, PassesUnknown, StreamPolled}
+use Rattle.wtransport_proto.specs.StreamPolling.{IsStreamFault, IsDry, stream_fault, EndsSo, Faults, PassesUnknown, StreamPolled, JudgesPolled}
 use Rattle.wtransport_proto.proofs.HeldRunLemmas.{read_front, framed_size, bad_size, big_size, size_new, leaves_size, run_refused, run_case}
 
 -- ---- faults
@@ -80,29 +80,25 @@ io_ends role first old new e a b s =
       dry = is_dry e b s.none_ahead;
     }
 
--- ---- one poll of a stream
+-- ---- the result of a stream for the result of its reading
 
-pub refused_told : (s t : Option Source) (r : Polled (Result Content IoReadError)) (f : Content) (c : ErrorCode) (role : Role) (first next : Bool) (old new : Held) → r ≡ Ready (Ok f) → rule role first (kind_in f) ≡ Some c → next ≡ false
-    → Telling s t (FramePolled r old new) → Telling s t (StreamPolled role (Ready (Err (stream.H3 c))) first next old new)
-refused_told s t r f c role first next old new e is n p = telling_map s t (λ a b. Decided old new a b (Framed f)) (StreamPolled role (Ready (Err (stream.H3 c))) first next old new)
+pub refused_judges : (role : Role) (r : Polled (Result Content IoReadError)) (f : Content) (c : ErrorCode) (first next : Bool) → r ≡ Ready (Ok f) → rule role first (kind_in f) ≡ Some c → next ≡ false
+    → JudgesPolled role r (Ready (Err (stream.H3 c))) first next
+refused_judges role r f c first next e is n = λ s t old new p. telling_map s t (λ a b. Decided old new a b (Framed f)) (StreamPolled role (Ready (Err (stream.H3 c))) first next old new)
     (λ a b d. refused_ends role first next old new f c a b is n d) (rw e at p)
 
-pub bad_told : (s t : Option Source) (r : Polled (Result Content IoReadError)) (role : Role) (first : Bool) (old new : Held) → r ≡ Ready (Err (reading.Parse parse.InvalidSessionId))
-    → Telling s t (FramePolled r old new) → Telling s t (StreamPolled role (Ready (Err (stream.H3 Id))) first first old new)
-bad_told s t r role first old new e p = telling_map s t (λ a b. Decided old new a b BadId) (StreamPolled role (Ready (Err (stream.H3 Id))) first first old new)
+pub bad_judges : (role : Role) (r : Polled (Result Content IoReadError)) (first : Bool) → r ≡ Ready (Err (reading.Parse parse.InvalidSessionId)) → JudgesPolled role r (Ready (Err (stream.H3 Id))) first first
+bad_judges role r first e = λ s t old new p. telling_map s t (λ a b. Decided old new a b BadId) (StreamPolled role (Ready (Err (stream.H3 Id))) first first old new)
     (λ a b d. bad_ends role first old new a b d) (rw e at p)
 
-pub big_told : (s t : Option Source) (r : Polled (Result Content IoReadError)) (role : Role) (first : Bool) (old new : Held) → r ≡ Ready (Err (reading.Parse parse.PayloadTooBig))
-    → Telling s t (FramePolled r old new) → Telling s t (StreamPolled role (Ready (Err (stream.H3 ExcessiveLoad))) first first old new)
-big_told s t r role first old new e p = telling_map s t (λ a b. Decided old new a b TooBig) (StreamPolled role (Ready (Err (stream.H3 ExcessiveLoad))) first first old new)
+pub big_judges : (role : Role) (r : Polled (Result Content IoReadError)) (first : Bool) → r ≡ Ready (Err (reading.Parse parse.PayloadTooBig)) → JudgesPolled role r (Ready (Err (stream.H3 ExcessiveLoad))) first first
+big_judges role r first e = λ s t old new p. telling_map s t (λ a b. Decided old new a b TooBig) (StreamPolled role (Ready (Err (stream.H3 ExcessiveLoad))) first first old new)
     (λ a b d. big_ends role first old new a b d) (rw e at p)
 
-pub io_told : (s t : Option Source) (r : Polled (Result Content IoReadError)) (x : bytes.IoReadError) (role : Role) (first : Bool) (old new : Held) → r ≡ Ready (Err (reading.IO x))
-    → Telling s t (FramePolled r old new) → Telling s t (StreamPolled role (Ready (Err (stream_fault x))) first first old new)
-io_told s t r x role first old new e p = telling_map s t (FramePolled (Ready (Err (reading.IO x))) old new) (StreamPolled role (Ready (Err (stream_fault x))) first first old new)
+pub io_judges : (role : Role) (r : Polled (Result Content IoReadError)) (x : bytes.IoReadError) (first : Bool) → r ≡ Ready (Err (reading.IO x)) → JudgesPolled role r (Ready (Err (stream_fault x))) first first
+io_judges role r x first e = λ s t old new p. telling_map s t (FramePolled (Ready (Err (reading.IO x))) old new) (StreamPolled role (Ready (Err (stream_fault x))) first first old new)
     (λ a b d. io_ends role first old new x a b d) (rw e at p)
 
-pub again_told : (s t : Option Source) (r : Polled (Result Content IoReadError)) (role : Role) (first : Bool) (old new : Held) → r ≡ Again
-    → Telling s t (FramePolled r old new) → Telling s t (StreamPolled role Again first first old new)
-again_told s t r role first old new e p = telling_map s t (FramePolled Again old new) (PassesUnknown first first old new)
+pub again_judges : (role : Role) (r : Polled (Result Content IoReadError)) (first : Bool) → r ≡ Again → JudgesPolled role r Again first first
+again_judges role r first e = λ s t old new p. telling_map s t (FramePolled Again old new) (PassesUnknown first first old new)
     (λ a b d. record { skips = d.skips; whole = λ z. let some = d.due in absurd (omega arith); part = λ _. (d.same, d.most); flag = refl }) (rw e at p)

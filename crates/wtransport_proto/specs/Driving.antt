@@ -30,20 +30,39 @@ pub record DriveKeeps (old new : Held) (polls : ℕ) (a b : Source) : Type 0 whe
   pub size : size_of new b ≤ size_of old a
   pub asks : Asks (4112 * polls) a b
 
--- The place where the run ends is the same as before: no byte was lost, not even one after the fault that follows.
+-- The place where the run ends is the same as before: no byte was lost, not even one after the
+-- fault that follows.
 abbrev pub KeepsPlace : Role → Bool → Bool → Held → Held → Source → Source → Type 0
-KeepsPlace role first next old new a b = SamePlace (place_of role first old a) (place_of role next new b)
+KeepsPlace role first next old new a b =
+    SamePlace (place_of role first old a) (place_of role next new b)
 
--- What a drive did that produced the frames fs. If it ended, reading, source and flag are as the fault's poll leaves
--- them, at the place where the run of what was there ends.
-abbrev pub DriveDid : Role → Driven → Bool → Bool → Held → Held → List Content → ℕ → Source → Source → Type 0
-DriveDid role (driven.Ended x) first next old new fs polls a b = EndsSo (run_of role first old a) fs x × IsDry x b × DriveKeeps old new polls a b × StopsAt role (place_of role first old a) next new b.ahead
-DriveDid role driven.Waiting first next old new fs polls a b = RunsOn role first next old new fs a b × (a.waits < b.waits) × DriveKeeps old new polls a b × KeepsPlace role first next old new a b
-DriveDid role driven.Spent first next old new fs polls a b = RunsOn role first next old new fs a b × (size_of new b + polls ≤ size_of old a) × DriveKeeps old new polls a b × KeepsPlace role first next old new a b
-DriveDid role driven.NoMemory first next old new fs polls a b = RunsOn role first next old new fs a b × DriveKeeps old new polls a b × KeepsPlace role first next old new a b
+-- What a drive did that produced the frames fs. If it ended, reading, source and flag are as the
+-- fault's poll leaves them, at the place where the run of what was there ends.
+abbrev pub DriveDid :
+    Role → Driven → Bool → Bool → Held → Held → List Content → ℕ → Source → Source → Type 0
+DriveDid role (driven.Ended x) first next old new fs polls a b =
+    EndsSo (run_of role first old a) fs x
+    × IsDry x b
+    × DriveKeeps old new polls a b
+    × StopsAt role (place_of role first old a) next new b.ahead
+DriveDid role driven.Waiting first next old new fs polls a b =
+    RunsOn role first next old new fs a b
+    × (a.waits < b.waits)
+    × DriveKeeps old new polls a b
+    × KeepsPlace role first next old new a b
+DriveDid role driven.Spent first next old new fs polls a b =
+    RunsOn role first next old new fs a b
+    × (size_of new b + polls ≤ size_of old a)
+    × DriveKeeps old new polls a b
+    × KeepsPlace role first next old new a b
+DriveDid role driven.NoMemory first next old new fs polls a b =
+    RunsOn role first next old new fs a b
+    × DriveKeeps old new polls a b
+    × KeepsPlace role first next old new a b
 
 -- what a drive did so far, in this many polls that each took something
-pub record Drove (role : Role) (first next : Bool) (old new : Held) (fs : List Content) (polls : ℕ) (a b : Source) : Type 0 where
+pub record Drove (role : Role) (first next : Bool) (old new : Held) (fs : List Content) (polls : ℕ)
+    (a b : Source) : Type 0 where
   pub run : RunsOn role first next old new fs a b
   pub place : KeepsPlace role first next old new a b
   pub shorter : size_of new b + polls ≤ size_of old a

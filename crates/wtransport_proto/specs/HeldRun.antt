@@ -1,7 +1,8 @@
 -- The run of what a reading holds and of the bytes ahead.
 --
--- It is the run of the bytes held followed by those ahead; if payload bytes of an unknown frame are still to be skipped
--- in place of bytes held, it is the run of the bytes after those. The law `run_held_by_bytes` states exactly that.
+-- It is the run of the bytes held followed by those ahead; if payload bytes of an unknown frame are
+-- still to be skipped in place of bytes held, it is the run of the bytes after those. The law
+-- `run_held_by_bytes` states exactly that.
 use Rattle.std.specs.Prelude.{ℕ, ◌+◌, ◌==◌, Bool, false, List, ◌++◌, length, if◌then◌else◌}
 use Rattle.wtp_core.specs.declared.error.ErrorCode.TheVariants.{Id, ExcessiveLoad, Frame}
 use Rattle.wtp_core.specs.Source.{Source, AtEnd, AtReset, AtDisconnection}
@@ -27,7 +28,8 @@ stop_of n Lost = NotConnected
 
 -- the run by the first frame
 abbrev pub run_by : Role → Bool → Tail → ℕ → Front → Run
-run_by role first tail n (Framed f rest) = judged (rule role first (kind_in f)) f (run role false rest tail)
+run_by role first tail n (Framed f rest) =
+    judged (rule role first (kind_in f)) f (run role false rest tail)
 run_by role first tail n (Unknown rest) = run role first rest tail
 run_by role first tail n (BadId rest) = ends (H3 Id)
 run_by role first tail n (TooBig rest) = ends (H3 ExcessiveLoad)

@@ -1,4 +1,5 @@
--- The journey of a header map over a stream: sent completely by one end, and read back by the other.
+-- The journey of a header map over a stream: sent completely by one end, and read back by the
+-- other.
 use Rattle.std.specs.Prelude.{◌≡◌, ◌≢◌, ℕ, ◌+◌, ◌<◌, ◌≤◌, Bool, false, List, [], ◌++◌, length, take, None, Result, Ok, Err}
 use Rattle.wtp_core.specs.declared.bytes.polled.IoWriteError.TheVariants as fault
 use Rattle.wtp_core.specs.declared.error.Refused.TheVariants as refused
@@ -28,8 +29,8 @@ use Rattle.wtransport_proto.specs.Reading.{FirstAfter}
 
 -- ---- sending
 
--- the sink took all of these bytes, within this many turns: each turn but the last waited, and neither stopped nor was
--- lost
+-- the sink took all of these bytes, within this many turns: each turn but the last waited, and
+-- neither stopped nor was lost
 abbrev pub SentWhole : List ℕ → ℕ → Sink → Sink → Type 0
 SentWhole whole turns a b = (waits : ℕ) × (waits < turns) × Took a b whole waits 0 0
 
@@ -39,12 +40,14 @@ pub record TookPart (whole : List ℕ) (waits stops losses : ℕ) (a b : Sink) :
   pub part : sent < length whole
   pub took : Took a b (take sent whole) waits stops losses
 
--- Why sending was given up, within this many turns: each turn waited; or each but the last did, and the last one
--- stopped, was lost or failed to allocate.
+-- Why sending was given up, within this many turns: each turn waited; or each but the last did, and
+-- the last one stopped, was lost or failed to allocate.
 abbrev pub GaveUp : SendError → List ℕ → ℕ → Sink → Sink → Type 0
 GaveUp send.Waiting whole turns a b = TookPart whole turns 0 0 a b
-GaveUp (send.IO fault.Stopped) whole turns a b = (waits : ℕ) × (waits < turns) × TookPart whole waits 1 0 a b
-GaveUp (send.IO fault.NotConnected) whole turns a b = (waits : ℕ) × (waits < turns) × TookPart whole waits 0 1 a b
+GaveUp (send.IO fault.Stopped) whole turns a b =
+    (waits : ℕ) × (waits < turns) × TookPart whole waits 1 0 a b
+GaveUp (send.IO fault.NotConnected) whole turns a b =
+    (waits : ℕ) × (waits < turns) × TookPart whole waits 0 1 a b
 GaveUp send.Memory whole turns a b = (waits : ℕ) × (waits < turns) × TookPart whole waits 0 0 a b
 
 abbrev pub SendDid : {U : Type 0} → List ℕ → ℕ → Result U SendError → Sink → Sink → Type 0
@@ -69,20 +72,25 @@ pub record KeptPlace (role : Role) (first next : Bool) (held : Held) (a b : Sour
   pub known : past_front (front_held held b.ahead) ≡ front (past_unknown a.ahead)
   pub flag : next ≡ first
 
--- Each of this many turns waited or took some of an unknown frame; if the input starts with a frame, it still does, and
--- each waited.
-pub record Turned (role : Role) (first next : Bool) (turns : ℕ) (held : Held) (a b : Source) : Type 0 where
+-- Each of this many turns waited or took some of an unknown frame; if the input starts with a
+-- frame, it still does, and each waited.
+pub record Turned (role : Role) (first next : Bool) (turns : ℕ) (held : Held) (a b : Source) : Type
+    0 where
   pub kept : KeptPlace role first next held a b
   pub moved : size_of held b + a.waits + turns ≤ length a.ahead + b.waits
-  pub waited : (f : Content) (rest : List ℕ) → front a.ahead ≡ Framed f rest → (front_held held b.ahead ≡ Framed f rest) × (a.waits + turns ≤ b.waits)
+  pub waited :
+      (f : Content) (rest : List ℕ) → front a.ahead ≡ Framed f rest
+      → (front_held held b.ahead ≡ Framed f rest) × (a.waits + turns ≤ b.waits)
 
--- This frame follows the unknown frames at the start, the stream allows it, and it was taken, and no byte after it.
+-- This frame follows the unknown frames at the start, the stream allows it, and it was taken, and
+-- no byte after it.
 pub record Takes (role : Role) (first next : Bool) (f : Content) (a b : Source) : Type 0 where
   pub known : front (past_unknown a.ahead) ≡ Framed f b.ahead
   pub allowed : rule role first (kind_in f) ≡ None
   pub flag : next ≡ false
 
--- what decided is taken completely, and no byte after it; if the bytes are too few, nothing is ahead
+-- what decided is taken completely, and no byte after it; if the bytes are too few, nothing is
+-- ahead
 abbrev pub LeftIsAfter : Front → List ℕ → Type 0
 LeftIsAfter (Framed f rest) left = left ≡ rest
 LeftIsAfter (Unknown rest) left = ⊥
@@ -98,25 +106,39 @@ pub record Breaks (role : Role) (first next : Bool) (x : IoReadError) (a b : Sou
   pub dry : IsDry x b
 
 -- what reading a frame did
-abbrev pub FrameDid : Role → Bool → Bool → ℕ → Result Content ReceiveError → Source → Source → Type 0
+abbrev pub FrameDid :
+    Role → Bool → Bool → ℕ → Result Content ReceiveError → Source → Source → Type 0
 FrameDid role first next turns (Ok f) a b = Takes role first next f a b
-FrameDid role first next turns (Err receive.Waiting) a b = (held : Held) × Turned role first next turns held a b
+FrameDid role first next turns (Err receive.Waiting) a b =
+    (held : Held) × Turned role first next turns held a b
 FrameDid role first next turns (Err (receive.Stream x)) a b = Breaks role first next x a b
 FrameDid role first next turns (Err (receive.OtherKind kind)) a b = ⊥
 FrameDid role first next turns (Err (receive.Section e)) a b = ⊥
-FrameDid role first next turns (Err receive.Memory) a b = (held : Held) × KeptPlace role first next held a b
+FrameDid role first next turns (Err receive.Memory) a b =
+    (held : Held) × KeptPlace role first next held a b
 
 -- what reading the map of a frame did
-abbrev pub MapDid : Role → Bool → Bool → ℕ → Result (List Field) ReceiveError → Source → Source → Type 0
-MapDid role first next turns (Ok m) a b = (p : List ℕ) × Takes role first next (HeadersOf p) a b × (headers_at p ≡ Ok m)
-MapDid role first next turns (Err receive.Waiting) a b = FrameDid role first next turns (Err receive.Waiting) a b
-MapDid role first next turns (Err (receive.Stream x)) a b = FrameDid role first next turns (Err (receive.Stream x)) a b
-MapDid role first next turns (Err (receive.OtherKind kind)) a b = (f : Content) × Takes role first next f a b × (kind_in f ≡ kind) × (kind ≢ Headers)
-MapDid role first next turns (Err (receive.Section e)) a b = (p : List ℕ) × Takes role first next (HeadersOf p) a b × (e ≢ refused.Memory → headers_at p ≡ Err e) × (e ≡ refused.Memory → BeginsLine p)
-MapDid role first next turns (Err receive.Memory) a b = FrameDid role first next turns (Err receive.Memory) a b
+abbrev pub MapDid :
+    Role → Bool → Bool → ℕ → Result (List Field) ReceiveError → Source → Source → Type 0
+MapDid role first next turns (Ok m) a b =
+    (p : List ℕ) × Takes role first next (HeadersOf p) a b × (headers_at p ≡ Ok m)
+MapDid role first next turns (Err receive.Waiting) a b =
+    FrameDid role first next turns (Err receive.Waiting) a b
+MapDid role first next turns (Err (receive.Stream x)) a b =
+    FrameDid role first next turns (Err (receive.Stream x)) a b
+MapDid role first next turns (Err (receive.OtherKind kind)) a b =
+    (f : Content) × Takes role first next f a b × (kind_in f ≡ kind) × (kind ≢ Headers)
+MapDid role first next turns (Err (receive.Section e)) a b =
+    (p : List ℕ)
+    × Takes role first next (HeadersOf p) a b
+    × (e ≢ refused.Memory → headers_at p ≡ Err e)
+    × (e ≡ refused.Memory → BeginsLine p)
+MapDid role first next turns (Err receive.Memory) a b =
+    FrameDid role first next turns (Err receive.Memory) a b
 
 -- m came back, and rest is ahead; or each turn waited, or allocation failed
-abbrev pub CameBack : List Field → List ℕ → ℕ → Result (List Field) ReceiveError → Source → Source → Type 0
+abbrev pub CameBack :
+    List Field → List ℕ → ℕ → Result (List Field) ReceiveError → Source → Source → Type 0
 CameBack m rest turns (Ok n) a b = (n ≡ m) × (b.ahead ≡ rest)
 CameBack m rest turns (Err receive.Waiting) a b = a.waits + turns ≤ b.waits
 CameBack m rest turns (Err (receive.Stream x)) a b = ⊥
@@ -125,10 +147,13 @@ CameBack m rest turns (Err (receive.Section (refused.Code c))) a b = ⊥
 CameBack m rest turns (Err (receive.Section refused.Memory)) a b = Unit {0}
 CameBack m rest turns (Err receive.Memory) a b = Unit {0}
 
--- If the source starts with the frame of the map m, whatever follows and however it is cut or delayed, and its payload
--- may be read, m comes back.
-abbrev pub ReadsBack : Role → List Field → ℕ → Result (List Field) ReceiveError → Source → Source → Type 0
-ReadsBack role m turns result a b = (rest : List ℕ) → role ≢ RemoteUni → length (payload m) ≤ 4096 → a.ahead ≡ wire (HeadersOf (payload m)) ++ rest → CameBack m rest turns result a b
+-- If the source starts with the frame of the map m, whatever follows and however it is cut or
+-- delayed, and its payload may be read, m comes back.
+abbrev pub ReadsBack :
+    Role → List Field → ℕ → Result (List Field) ReceiveError → Source → Source → Type 0
+ReadsBack role m turns result a b =
+    (rest : List ℕ) → role ≢ RemoteUni → length (payload m) ≤ 4096
+    → a.ahead ≡ wire (HeadersOf (payload m)) ++ rest → CameBack m rest turns result a b
 
 -- ---- both
 
@@ -139,11 +164,13 @@ Sent whole turns (Err (journey.Frame e)) a b = b ≡ a
 Sent whole turns (Err (journey.Send e)) a b = GaveUp e whole turns a b
 Sent whole turns (Err (journey.Receive e)) a b = SentWhole whole turns a b
 
-abbrev pub Received : Role → Bool → Bool → ℕ → Result (List Field) JourneyError → Source → Source → Type 0
+abbrev pub Received :
+    Role → Bool → Bool → ℕ → Result (List Field) JourneyError → Source → Source → Type 0
 Received role first next turns (Ok m) a b = MapDid role first next turns (Ok m) a b
 Received role first next turns (Err (journey.Frame e)) a b = b ≡ a
 Received role first next turns (Err (journey.Send e)) a b = b ≡ a
-Received role first next turns (Err (journey.Receive e)) a b = MapDid role first next turns (Err e) a b
+Received role first next turns (Err (journey.Receive e)) a b =
+    MapDid role first next turns (Err e) a b
 
 -- what holds if reading did not begin
 abbrev pub UnlessRead : Result (List Field) JourneyError → Type 0 → Type 0
@@ -153,7 +180,8 @@ UnlessRead (Err (journey.Send e)) P = P
 UnlessRead (Err (journey.Receive e)) P = Unit {0}
 
 -- the map that was sent is the one that comes back
-abbrev pub SentBack : Role → List Field → ℕ → Result (List Field) JourneyError → Source → Source → Type 0
+abbrev pub SentBack :
+    Role → List Field → ℕ → Result (List Field) JourneyError → Source → Source → Type 0
 SentBack role m turns (Ok n) a b = ReadsBack role m turns (Ok n) a b
 SentBack role m turns (Err (journey.Frame e)) a b = b ≡ a
 SentBack role m turns (Err (journey.Send e)) a b = b ≡ a

@@ -1,4 +1,7 @@
 pub mod Rule
+pub mod Role
+pub mod CutFrame
+pub mod FrameCursor
 pub mod Run
 pub mod Streams
 pub mod Reading
@@ -9,8 +12,10 @@ pub mod StreamPolling
 pub mod Driving
 pub mod StreamWriting
 pub mod UpgradeSteps
+pub mod Accepting
 pub mod Agreeing
 pub mod Journey
+pub mod StreamCodes
 pub use Rattle.wtp_core.specs.Varint
 pub use Rattle.wtp_core.specs.Reader
 pub use Rattle.wtp_core.specs.Cursor
@@ -50,6 +55,7 @@ pub use Rattle.wtp_wire.specs.HeaderNeed
 pub use Rattle.wtp_wire.specs.HeaderPolling
 pub use Rattle.wtp_wire.specs.SettingId
 pub use Rattle.wtp_wire.specs.Settings
+pub use Rattle.wtp_wire.specs.SettingsList
 pub use Rattle.wtp_wire.specs.Capsule
 pub use Rattle.wtp_wire.specs.CloseSession
 pub use Rattle.wtp_wire.specs.Codes as WireCodes

@@ -1,7 +1,9 @@
--- Where a run ends: what its frames leave, of bytes and of what a reading holds (RFC 9114, sections 7.1 and 9).
+-- Where a run ends: what its frames leave, of bytes and of what a reading holds (RFC 9114, sections
+-- 7.1 and 9).
 --
--- The run of bytes continues with the bytes after each frame that the stream allows. It ends where no such frame
--- begins, unknown frames skipped. The laws `remainder_by_front` and `place_by_front` state exactly that.
+-- The run of bytes continues with the bytes after each frame that the stream allows. It ends where
+-- no such frame begins, unknown frames skipped. The laws `remainder_by_front` and `place_by_front`
+-- state exactly that.
 use Rattle.std.specs.Prelude.{◌≡◌, ℕ, zero, suc, ◌+◌, ◌<◌, Bool, false, List, [], ◌++◌, length, Option, Some, None}
 use Rattle.wtp_core.specs.declared.error.ErrorCode.{ErrorCode}
 use Rattle.wtp_core.specs.Source.{Source}
@@ -19,7 +21,8 @@ if_allowed (Some c) onward here = here
 
 -- ---- of bytes
 
--- the bytes after the last frame of a run, and whether a frame there would be the first of its stream
+-- the bytes after the last frame of a run, and whether a frame there would be the first of its
+-- stream
 pub record Remainder : Type 0 where
   pub first : Bool
   pub bytes : List ℕ
@@ -30,7 +33,8 @@ remainder_here first bytes = record { first = first; bytes = bytes }
 
 -- by the first frame that is not unknown
 abbrev pub next_remainder : (Bool → List ℕ → Remainder) → Role → Bool → List ℕ → Front → Remainder
-next_remainder more role first bytes (Framed f rest) = if_allowed (rule role first (kind_in f)) (more false rest) (remainder_here first bytes)
+next_remainder more role first bytes (Framed f rest) =
+    if_allowed (rule role first (kind_in f)) (more false rest) (remainder_here first bytes)
 next_remainder more role first bytes (Unknown rest) = remainder_here first bytes
 next_remainder more role first bytes (BadId rest) = remainder_here first bytes
 next_remainder more role first bytes (TooBig rest) = remainder_here first bytes
@@ -39,15 +43,17 @@ next_remainder more role first bytes Short = remainder_here first bytes
 -- what at most n frames leave
 abbrev pub remainder_within : ℕ → Role → Bool → List ℕ → Remainder
 remainder_within zero role first bytes = remainder_here first bytes
-remainder_within (suc n) role first bytes = next_remainder (λ f rest. remainder_within n role f rest) role first bytes (front (past_unknown bytes))
+remainder_within (suc n) role first bytes =
+    next_remainder (λ f rest. remainder_within n role f rest) role first bytes
+    (front (past_unknown bytes))
 
 unfoldable pub remainder : Role → Bool → List ℕ → Remainder
 remainder role first bytes = remainder_within (length bytes) role first bytes
 
 -- ---- of what a reading holds and the bytes ahead
 
--- What is held and ahead where a run ends, and whether a frame there would be the first of its stream. No frame that
--- the stream allows begins there, and no complete unknown frame.
+-- What is held and ahead where a run ends, and whether a frame there would be the first of its
+-- stream. No frame that the stream allows begins there, and no complete unknown frame.
 pub record Place : Type 0 where
   pub first : Bool
   pub held : Held
@@ -62,7 +68,9 @@ abbrev pub place_after : Remainder → Place
 place_after r = record { first = r.first; held = new_held; ahead = past_unknown r.bytes }
 
 abbrev pub place_by : Role → Bool → Held → List ℕ → Front → Place
-place_by role first h ahead (Framed f rest) = if_allowed (rule role first (kind_in f)) (place_after (remainder role false rest)) (place_here first h ahead)
+place_by role first h ahead (Framed f rest) =
+    if_allowed (rule role first (kind_in f)) (place_after (remainder role false rest))
+    (place_here first h ahead)
 place_by role first h ahead (Unknown rest) = place_after (remainder role first rest)
 place_by role first h ahead (BadId rest) = place_here first h ahead
 place_by role first h ahead (TooBig rest) = place_here first h ahead
@@ -78,26 +86,28 @@ place_of role first h s = place_held role first h s.ahead
 
 -- ---- nothing is lost
 
--- these bytes start with the head and some of the payload of an unknown frame, the rest of which is still to be
--- skipped, followed by left
+-- these bytes start with the head and some of the payload of an unknown frame, the rest of which is
+-- still to be skipped, followed by left
 pub record BeginsUnknown (whole : List ℕ) (due : ℕ) (left : List ℕ) : Type 0 where
   pub head : List ℕ
   pub payload : List ℕ
   pub parts : whole ≡ (head ++ payload) ++ left
   pub is_head : IsUnknownHead (length payload + due) head
 
--- this many bytes were still to be skipped, some of them were received, and this many are still to be skipped now
+-- this many bytes were still to be skipped, some of them were received, and this many are still to
+-- be skipped now
 pub record ComesDue (due : ℕ) (ahead : List ℕ) (now : ℕ) (left : List ℕ) : Type 0 where
   pub payload : List ℕ
   pub parts : ahead ≡ payload ++ left
   pub counts : due ≡ length payload + now
 
--- What is held and ahead is what was, except that bytes of an unknown frame were skipped, the rest of which is still to
--- be skipped.
+-- What is held and ahead is what was, except that bytes of an unknown frame were skipped, the rest
+-- of which is still to be skipped.
 pub record Remains (old new : Held) (ahead left : List ℕ) : Type 0 where
   pub same : front_held new left ≡ front_held old ahead
   pub kept : new.due ≡ 0 → (old.due ≡ 0) × (new.taken ++ left ≡ old.taken ++ ahead)
-  pub begun : old.due ≡ 0 → 0 < new.due → (new.taken ≡ []) × BeginsUnknown (old.taken ++ ahead) new.due left
+  pub begun :
+      old.due ≡ 0 → 0 < new.due → (new.taken ≡ []) × BeginsUnknown (old.taken ++ ahead) new.due left
   pub going : 0 < old.due → (new.taken ≡ old.taken) × ComesDue old.due ahead new.due left
 
 -- Two places are the same: nothing was lost between them.
@@ -107,8 +117,9 @@ pub record SamePlace (old new : Place) : Type 0 where
 
 -- ---- after the fault
 
--- What a fault leaves, by the first frame at its place: a refused frame or what decided is taken completely, and no
--- byte after it; if the bytes are too few, nothing is ahead, and all bytes received are held.
+-- What a fault leaves, by the first frame at its place: a refused frame or what decided is taken
+-- completely, and no byte after it; if the bytes are too few, nothing is ahead, and all bytes
+-- received are held.
 abbrev pub LeftAfter : Place → Front → Held → List ℕ → Type 0
 LeftAfter p (Framed f rest) new left = (new ≡ new_held) × (left ≡ rest)
 LeftAfter p (Unknown rest) new left = ⊥
@@ -116,7 +127,9 @@ LeftAfter p (BadId rest) new left = (new ≡ new_held) × (left ≡ rest)
 LeftAfter p (TooBig rest) new left = (new ≡ new_held) × (left ≡ rest)
 LeftAfter p Short new left = (left ≡ []) × Remains p.held new p.ahead []
 
--- A reading that found the fault of this place holds new, these bytes are ahead, and next says whether a frame would be the first
-pub record StopsAt (role : Role) (p : Place) (next : Bool) (new : Held) (ahead : List ℕ) : Type 0 where
+-- A reading that found the fault of this place holds new, these bytes are ahead, and next says
+-- whether a frame would be the first
+pub record StopsAt (role : Role) (p : Place) (next : Bool) (new : Held) (ahead : List ℕ) : Type
+    0 where
   pub flag : FirstAfter role p.first (front_held p.held p.ahead) next
   pub left : LeftAfter p (front_held p.held p.ahead) new ahead

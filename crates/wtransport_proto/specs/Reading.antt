@@ -16,14 +16,19 @@ verdict (Some c) f = Err c
 abbrev pub AnswersKnown : Front → Result (Option Content) ErrorCode → List ℕ → Type 0
 AnswersKnown front (Ok (Some f)) left = front ≡ Framed f left
 AnswersKnown front (Ok None) left = front ≡ Short
-AnswersKnown front (Err c) left = ((c ≡ Id) × (front ≡ BadId left)) ⊎ ((c ≡ ExcessiveLoad) × (front ≡ TooBig left))
+AnswersKnown front (Err c) left =
+    ((c ≡ Id) × (front ≡ BadId left)) ⊎ ((c ≡ ExcessiveLoad) × (front ≡ TooBig left))
 
--- the result of reading a frame of a stream, by its first known frame; whether a next one would be the first; and the
--- bytes it leaves unless they are too few
-abbrev pub AnswersFrame : Role → Bool → Front → Result (Option Content) ErrorCode → Bool → List ℕ → Type 0
-AnswersFrame role first (Framed f rest) answer next left = (answer ≡ verdict (rule role first (kind_in f)) f) × (next ≡ false) × (left ≡ rest)
-AnswersFrame role first (BadId rest) answer next left = (answer ≡ Err Id) × (next ≡ first) × (left ≡ rest)
-AnswersFrame role first (TooBig rest) answer next left = (answer ≡ Err ExcessiveLoad) × (next ≡ first) × (left ≡ rest)
+-- the result of reading a frame of a stream, by its first known frame; whether a next one would be
+-- the first; and the bytes it leaves unless they are too few
+abbrev pub AnswersFrame :
+    Role → Bool → Front → Result (Option Content) ErrorCode → Bool → List ℕ → Type 0
+AnswersFrame role first (Framed f rest) answer next left =
+    (answer ≡ verdict (rule role first (kind_in f)) f) × (next ≡ false) × (left ≡ rest)
+AnswersFrame role first (BadId rest) answer next left =
+    (answer ≡ Err Id) × (next ≡ first) × (left ≡ rest)
+AnswersFrame role first (TooBig rest) answer next left =
+    (answer ≡ Err ExcessiveLoad) × (next ≡ first) × (left ≡ rest)
 AnswersFrame role first (Unknown rest) answer next left = ⊥
 AnswersFrame role first Short answer next left = (answer ≡ Ok None) × (next ≡ first)
 
@@ -36,13 +41,22 @@ FirstAfter role first (TooBig rest) next = next ≡ first
 FirstAfter role first Short next = next ≡ first
 
 -- the same by the run of what is left, for a reader that moves past a frame only
-abbrev pub AnswersRun : Role → Bool → List ℕ → Result (Option Content) ErrorCode → Bool → List ℕ → Type 0
-AnswersRun role first old (Ok (Some f)) next new = run role first old MayGoOn ≡ follows f (run role next new MayGoOn)
-AnswersRun role first old (Ok None) next new = (run role first old MayGoOn ≡ ends (Open (length old))) × (new ≡ old)
-AnswersRun role first old (Err c) next new = (run role first old MayGoOn ≡ ends (H3 c)) × (new ≡ old)
+abbrev pub AnswersRun :
+    Role → Bool → List ℕ → Result (Option Content) ErrorCode → Bool → List ℕ → Type 0
+AnswersRun role first old (Ok (Some f)) next new =
+    run role first old MayGoOn ≡ follows f (run role next new MayGoOn)
+AnswersRun role first old (Ok None) next new =
+    (run role first old MayGoOn ≡ ends (Open (length old))) × (new ≡ old)
+AnswersRun role first old (Err c) next new =
+    (run role first old MayGoOn ≡ ends (H3 c)) × (new ≡ old)
 
 -- the same by the first known frame: whether a next one would be the first, and the bytes left
-abbrev pub ReaderIsAfter : Role → Bool → List ℕ → Result (Option Content) ErrorCode → Bool → List ℕ → Type 0
-ReaderIsAfter role first old (Ok (Some f)) next new = (front (past_unknown old) ≡ Framed f new) × (rule role first (kind_in f) ≡ None) × (next ≡ false)
-ReaderIsAfter role first old (Ok None) next new = (front (past_unknown old) ≡ Short) × (next ≡ first) × (new ≡ old)
-ReaderIsAfter role first old (Err c) next new = FirstAfter role first (front (past_unknown old)) next × (new ≡ old)
+abbrev pub ReaderIsAfter :
+    Role → Bool → List ℕ → Result (Option Content) ErrorCode → Bool → List ℕ → Type 0
+ReaderIsAfter role first old (Ok (Some f)) next new =
+    (front (past_unknown old) ≡ Framed f new) × (rule role first (kind_in f) ≡ None)
+    × (next ≡ false)
+ReaderIsAfter role first old (Ok None) next new =
+    (front (past_unknown old) ≡ Short) × (next ≡ first) × (new ≡ old)
+ReaderIsAfter role first old (Err c) next new =
+    FirstAfter role first (front (past_unknown old)) next × (new ≡ old)

@@ -1,5 +1,5 @@
--- Which frames a stream allows (RFC 9114, sections 6.2.1, 7.2 and table 1; a WebTransport frame only as the first of a
--- stream that the peer opened).
+-- Which frames a stream allows (RFC 9114, sections 6.2.1, 7.2 and table 1; a WebTransport frame
+-- only as the first of a stream that the peer opened).
 use Rattle.std.specs.Prelude.{Bool, if◌then◌else◌, Option, Some, None}
 use Rattle.wtp_core.specs.declared.error.ErrorCode.{ErrorCode}
 use Rattle.wtp_core.specs.declared.error.ErrorCode.TheVariants.{FrameUnexpected, Frame}

@@ -1,9 +1,9 @@
 -- The frames that a stream finds in its bytes, and how that ends (RFC 9114, sections 7.1 and 9).
 --
--- By the first frame of the bytes, `front`: an unknown frame is skipped; a frame that the rule allows is one more, and
--- the run of the bytes after it follows; a frame that it refuses, an invalid session ID and a payload that is too big
--- end the run with their code; bytes that are too few end it as they end. The laws `run_goes_by_front` and
--- `run_passes_unknown` state exactly that.
+-- By the first frame of the bytes, `front`: an unknown frame is skipped; a frame that the rule
+-- allows is one more, and the run of the bytes after it follows; a frame that it refuses, an
+-- invalid session ID and a payload that is too big end the run with their code; bytes that are too
+-- few end it as they end. The laws `run_goes_by_front` and `run_passes_unknown` state exactly that.
 use Rattle.std.specs.Prelude.{ℕ, zero, suc, Bool, false, List, [], ◌∷◌, length, Option, Some, None}
 use Rattle.wtp_core.specs.declared.error.ErrorCode.{ErrorCode}
 use Rattle.wtp_core.specs.declared.error.ErrorCode.TheVariants.{Id, ExcessiveLoad}
@@ -19,7 +19,8 @@ pub data Tail : Type 0 where
   WasReset : Tail
   Lost : Tail
 
--- How a run ends: with this many bytes after its last frame if they may go on, with an error code, or as the bytes end.
+-- How a run ends: with this many bytes after its last frame if they may go on, with an error code,
+-- or as the bytes end.
 pub data Ending : Type 0 where
   Open : ℕ → Ending
   H3 : ErrorCode → Ending
@@ -71,7 +72,8 @@ judged None f r = follows f r
 judged (Some c) f r = ends (H3 c)
 
 abbrev pub next_run : (Bool → List ℕ → Run) → Role → Bool → List ℕ → List ℕ → Tail → Front → Run
-next_run more role first bytes rest tail (Framed f behind) = judged (rule role first (kind_in f)) f (more false behind)
+next_run more role first bytes rest tail (Framed f behind) =
+    judged (rule role first (kind_in f)) f (more false behind)
 next_run more role first bytes rest tail (Unknown behind) = ends (run_stop bytes rest tail)
 next_run more role first bytes rest tail (BadId behind) = ends (H3 Id)
 next_run more role first bytes rest tail (TooBig behind) = ends (H3 ExcessiveLoad)
@@ -80,7 +82,9 @@ next_run more role first bytes rest tail Short = ends (run_stop bytes rest tail)
 -- the run of bytes with at most n frames
 abbrev pub run_within : ℕ → Role → Tail → Bool → List ℕ → Run
 run_within zero role tail first bytes = ends (run_stop bytes bytes tail)
-run_within (suc n) role tail first bytes = next_run (λ f rest. run_within n role tail f rest) role first bytes (past_unknown bytes) tail (front (past_unknown bytes))
+run_within (suc n) role tail first bytes =
+    next_run (λ f rest. run_within n role tail f rest) role first bytes (past_unknown bytes) tail
+    (front (past_unknown bytes))
 
 unfoldable pub run : Role → Bool → List ℕ → Tail → Run
 run role first bytes tail = run_within (length bytes) role tail first bytes

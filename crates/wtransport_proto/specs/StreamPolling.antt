@@ -1,16 +1,17 @@
 -- Reading a frame of a stream, poll by poll.
-use Rattle.std.specs.Prelude.{◌≡◌, ◌≢◌, ◌⊎◌, ◌<◌, ◌≤◌, Bool, false, List, [], ◌++◌, length, Some, None, Result, Ok, Err}
+use Rattle.std.specs.Prelude.{◌≡◌, ◌≢◌, ◌⊎◌, ◌<◌, ◌≤◌, Bool, false, List, [], ◌++◌, length, Option, Some, None, Result, Ok, Err}
 use Rattle.wtp_core.specs.declared.error.ErrorCode.{ErrorCode}
 use Rattle.wtp_core.specs.declared.error.ErrorCode.TheVariants.{Id, ExcessiveLoad, Frame}
 use Rattle.wtp_core.specs.declared.bytes.polled.Polled.{Polled}
 use Rattle.wtp_core.specs.declared.bytes.polled.Polled.TheVariants.{Ready, Pending, Again, NoMemory}
 use Rattle.wtp_core.specs.declared.bytes.polled.IoReadError as bytes
 use Rattle.wtp_core.specs.declared.bytes.polled.IoReadError.TheVariants as io
-use Rattle.wtp_core.specs.Source.{Source}
+use Rattle.wtp_core.specs.Source.{Source, Telling}
+use Rattle.wtp_wire.specs.declared.frame.reading.IoReadError as wire
 use Rattle.wtp_wire.specs.Content.{Content, kind_in}
 use Rattle.wtp_wire.specs.Front.{Front, Framed, Unknown, BadId, TooBig, Short}
 use Rattle.wtp_wire.specs.Held.{Held, new_held, front_held, Skips, Leaves}
-use Rattle.wtp_wire.specs.FramePolling.{Decided, WantsPayload, KeepsHeld, Answered, HoldsHead}
+use Rattle.wtp_wire.specs.FramePolling.{Decided, WantsPayload, KeepsHeld, Answered, HoldsHead, FramePolled, FrameGiven}
 use Rattle.wtransport_proto.specs.declared.stream.polled.IoReadError.{IoReadError}
 use Rattle.wtransport_proto.specs.declared.stream.polled.IoReadError.TheVariants as stream
 use Rattle.wtransport_proto.specs.Rule.{Role, rule}
@@ -18,8 +19,8 @@ use Rattle.wtransport_proto.specs.Reading.{FirstAfter}
 use Rattle.wtransport_proto.specs.Run.{Run, Ending, H3, ImmediateFin, Reset, NotConnected}
 use Rattle.wtransport_proto.specs.HeldRun.{run_of, size_of}
 
--- In all of these, old and new are what the reading holds before and after one poll; first and next say whether the
--- next frame would be the first of its stream.
+-- In all of these, old and new are what the reading holds before and after one poll; first and next
+-- say whether the next frame would be the first of its stream.
 
 -- a stream's fault at this ending of a run
 abbrev pub IsStreamFault : IoReadError → Ending → Type 0
@@ -49,13 +50,14 @@ IsDry (stream.IO e) b = b.ahead ≡ []
 -- ---- what one poll did to a source with a model
 
 -- this frame was taken, and no byte after it
-pub record StreamTakesFrame (role : Role) (first next : Bool) (old new : Held) (f : Content) (a b : Source) : Type 0 where
+pub record StreamTakesFrame (role : Role) (first next : Bool) (old new : Held) (f : Content)
+    (a b : Source) : Type 0 where
   pub decided : Decided old new a b (Framed f)
   pub allowed : rule role first (kind_in f) ≡ None
   pub flag : next ≡ false
 
--- What a fault leaves. What decided is taken completely, and no byte after it; if the bytes are too few, nothing is
--- ahead, and nothing was lost.
+-- What a fault leaves. What decided is taken completely, and no byte after it; if the bytes are too
+-- few, nothing is ahead, and nothing was lost.
 abbrev pub SourceIsAfter : Front → Held → Held → Source → Source → Type 0
 SourceIsAfter (Framed f rest) old new a b = (new ≡ new_held) × (rest ≡ b.ahead)
 SourceIsAfter (Unknown rest) old new a b = ⊥
@@ -64,7 +66,8 @@ SourceIsAfter (TooBig rest) old new a b = (new ≡ new_held) × (rest ≡ b.ahea
 SourceIsAfter Short old new a b = Leaves old new a b × (b.ahead ≡ [])
 
 -- the run has no more frames, and ends with this fault
-pub record Faults (role : Role) (first next : Bool) (old new : Held) (x : IoReadError) (a b : Source) : Type 0 where
+pub record Faults (role : Role) (first next : Bool) (old new : Held) (x : IoReadError)
+    (a b : Source) : Type 0 where
   pub ends : EndsSo (run_of role first old a) [] x
   pub size : size_of new b ≤ size_of old a
   pub flag : FirstAfter role first (front_held old a.ahead) next
@@ -75,7 +78,9 @@ pub record Faults (role : Role) (first next : Bool) (old new : Held) (x : IoRead
 pub record PassesUnknown (first next : Bool) (old new : Held) (a b : Source) : Type 0 where
   pub skips : Skips old new a b
   pub whole : new.due ≡ 0 → Decided old new a b Unknown
-  pub part : 0 < new.due → (front_held new b.ahead ≡ front_held old a.ahead) × (length skips.payload ≡ 4096)
+  pub part :
+      0 < new.due
+      → (front_held new b.ahead ≡ front_held old a.ahead) × (length skips.payload ≡ 4096)
   pub flag : next ≡ first
 
 -- allocation failed for the payload of a frame, none of whose bytes was held
@@ -86,20 +91,25 @@ pub record LacksMemory (first next : Bool) (old new : Held) (a b : Source) : Typ
   pub wants : WantsPayload (old.taken ++ a.ahead) (length old.taken)
   pub flag : next ≡ first
 
-abbrev pub StreamPolled : Role → Polled (Result Content IoReadError) → Bool → Bool → Held → Held → Source → Source → Type 0
-StreamPolled role (Ready (Ok f)) first next old new a b = StreamTakesFrame role first next old new f a b
+abbrev pub StreamPolled :
+    Role → Polled (Result Content IoReadError) → Bool → Bool → Held → Held → Source → Source
+    → Type 0
+StreamPolled role (Ready (Ok f)) first next old new a b =
+    StreamTakesFrame role first next old new f a b
 StreamPolled role (Ready (Err x)) first next old new a b = Faults role first next old new x a b
-StreamPolled role Pending first next old new a b = Leaves old new a b × (next ≡ first) × (a.waits < b.waits)
+StreamPolled role Pending first next old new a b =
+    Leaves old new a b × (next ≡ first) × (a.waits < b.waits)
 StreamPolled role Again first next old new a b = PassesUnknown first next old new a b
 StreamPolled role NoMemory first next old new a b = LacksMemory first next old new a b
 
 -- ---- of every source, also of one without a model
 
--- The frame that the rule refuses was given completely; or an invalid session ID; or a length that is too big. Or the
--- source ended inside a frame.
+-- The frame that the rule refuses was given completely; or an invalid session ID; or a length that
+-- is too big. Or the source ended inside a frame.
 abbrev pub CodeGiven : Role → Bool → Bool → Held → Held → ErrorCode → Type 0
 CodeGiven role first next old new c =
-    ((f : Content) × Answered old new (Framed f) × (rule role first (kind_in f) ≡ Some c) × (next ≡ false))
+    ((f : Content) × Answered old new (Framed f) × (rule role first (kind_in f) ≡ Some c)
+    × (next ≡ false))
     ⊎ ((c ≡ Id) × Answered old new BadId × (next ≡ first))
     ⊎ ((c ≡ ExcessiveLoad) × Answered old new TooBig × (next ≡ first))
     ⊎ ((c ≡ Frame) × KeepsHeld old new × (next ≡ first))
@@ -108,10 +118,33 @@ CodeGiven role first next old new c =
 abbrev pub PassGiven : Held → Held → Type 0
 PassGiven old new = Answered old new Unknown ⊎ (KeepsHeld old new × (0 < new.due))
 
-abbrev pub StreamGiven : Role → Polled (Result Content IoReadError) → Bool → Bool → Held → Held → Type 0
-StreamGiven role (Ready (Ok f)) first next old new = Answered old new (Framed f) × (rule role first (kind_in f) ≡ None) × (next ≡ false)
-StreamGiven role (Ready (Err (stream.H3 c))) first next old new = CodeGiven role first next old new c
-StreamGiven role (Ready (Err (stream.IO e))) first next old new = KeepsHeld old new × (next ≡ first) × (e ≢ io.UnexpectedFin)
+abbrev pub StreamGiven :
+    Role → Polled (Result Content IoReadError) → Bool → Bool → Held → Held → Type 0
+StreamGiven role (Ready (Ok f)) first next old new =
+    Answered old new (Framed f) × (rule role first (kind_in f) ≡ None) × (next ≡ false)
+StreamGiven role (Ready (Err (stream.H3 c))) first next old new =
+    CodeGiven role first next old new c
+StreamGiven role (Ready (Err (stream.IO e))) first next old new =
+    KeepsHeld old new × (next ≡ first) × (e ≢ io.UnexpectedFin)
 StreamGiven role Pending first next old new = KeepsHeld old new × (next ≡ first)
 StreamGiven role Again first next old new = PassGiven old new × (next ≡ first)
-StreamGiven role NoMemory first next old new = KeepsHeld old new × (new.due ≡ 0) × HoldsHead new.taken × (next ≡ first)
+StreamGiven role NoMemory first next old new =
+    KeepsHeld old new × (new.due ≡ 0) × HoldsHead new.taken × (next ≡ first)
+
+-- ---- the result of a stream for the result of its reading
+
+-- Whatever was held, and whatever the source: what the reading's result says of them, the stream's
+-- result says by its rule.
+abbrev pub JudgesPolled :
+    Role → Polled (Result Content wire.IoReadError) → Polled (Result Content IoReadError) → Bool
+    → Bool → Type 0
+JudgesPolled role answer result first next =
+    (s t : Option Source) (old new : Held) → Telling s t (FramePolled answer old new)
+    → Telling s t (StreamPolled role result first next old new)
+
+-- the same of every source, also of one without a model
+abbrev pub JudgesGiven :
+    Role → Polled (Result Content wire.IoReadError) → Polled (Result Content IoReadError) → Bool
+    → Bool → Type 0
+JudgesGiven role answer result first next =
+    (old new : Held) → FrameGiven answer old new → StreamGiven role result first next old new

@@ -13,20 +13,24 @@ use Rattle.wtransport_proto.specs.declared.stream.types.BiLocal.{BiLocal}
 use Rattle.wtransport_proto.specs.declared.stream.types.H3.{H3}
 use Rattle.wtransport_proto.specs.Streams.{can_upgrade}
 
--- s is a frame that can exist, of another kind than WebTransport; the type of an exercise frame is one of those that
--- are reserved
+-- s is a frame that can exist, of another kind than WebTransport; the type of an exercise frame is
+-- one of those that are reserved
 pub record IsPlainWire (s : List ℕ) : Type 0 where
   pub frame : Content
   pub known : IsKnown (kind_in frame)
   pub plain : kind_in frame ≢ WebTransport
   pub bytes : s ≡ wire frame
 
--- It writes such a frame. That there is one is a fact with one proof, so that a struct may keep it for a loop of polls.
+-- It writes such a frame. That there is one is a fact with one proof, so that a struct may keep it
+-- for a loop of polls.
 abbrev pub WritesPlain : Writing → Type 0
 WritesPlain w = ∥ IsPlainWire w.bytes ∥₁
 
--- a stream to which a complete frame was written cannot be upgraded any more; no other result changes it
-abbrev pub Begun : {U : Type 0} → Polled (Result U IoWriteError) → Stream BiLocal (H3 (Unit {0})) → Stream BiLocal (H3 (Unit {0})) → Type 0
+-- a stream to which a complete frame was written cannot be upgraded any more; no other result
+-- changes it
+abbrev pub Begun :
+    {U : Type 0} → Polled (Result U IoWriteError) → Stream BiLocal (H3 (Unit {0}))
+    → Stream BiLocal (H3 (Unit {0})) → Type 0
 Begun (Ready (Ok _)) old new = can_upgrade new ≡ false
 Begun (Ready (Err e)) old new = new ≡ old
 Begun Pending old new = new ≡ old

@@ -30,10 +30,12 @@ use Rattle.wtransport_proto.specs.Streams.{header_of, session_of}
 
 -- ---- upgrades that are written
 
--- What one poll did to a sink with a model, if each returned state holds such a writing: the sink's list grew by the
--- bytes from those sent before up to those sent now, and by all of them if it is done. Then no count changed; if it
--- waited, stopped or was lost, that count rose by exactly one, and the others stayed.
-abbrev pub StepSends : {P T : Type 0} → (P → Writing) → Stepped P T IoWriteError → Writing → Sink → Sink → Type 0
+-- What one poll did to a sink with a model, if each returned state holds such a writing: the sink's
+-- list grew by the bytes from those sent before up to those sent now, and by all of them if it is
+-- done. Then no count changed; if it waited, stopped or was lost, that count rose by exactly one,
+-- and the others stayed.
+abbrev pub StepSends :
+    {P T : Type 0} → (P → Writing) → Stepped P T IoWriteError → Writing → Sink → Sink → Type 0
 StepSends writing (Done t) old a b = Took a b (drop old.sent old.bytes) 0 0 0
 StepSends writing (Pending p) old a b = Took a b (between old (writing p)) 1 0 0
 StepSends writing (NoMemory p) old a b = Took a b (between old (writing p)) 0 0 0
@@ -50,7 +52,8 @@ abbrev pub bi_writing : BiUpgrading → Writing
 bi_writing u = u.writing
 
 abbrev pub BiGoesOn : BiUpgrading → BiUpgrading → Type 0
-BiGoesOn old new = (new.stream ≡ old.stream) × (new.session_id ≡ old.session_id) × SentPart old.writing new.writing
+BiGoesOn old new =
+    (new.stream ≡ old.stream) × (new.session_id ≡ old.session_id) × SentPart old.writing new.writing
 
 -- This holds of every sink, also of one without a model.
 abbrev pub BiStepped : Stepped BiUpgrading (Stream BiLocal WT) IoWriteError → BiUpgrading → Type 0
@@ -64,10 +67,12 @@ abbrev pub uni_writing : UniUpgrading → Writing
 uni_writing u = u.writing
 
 abbrev pub UniGoesOn : UniUpgrading → UniUpgrading → Type 0
-UniGoesOn old new = (new.stream ≡ old.stream) × (new.header ≡ old.header) × SentPart old.writing new.writing
+UniGoesOn old new =
+    (new.stream ≡ old.stream) × (new.header ≡ old.header) × SentPart old.writing new.writing
 
 -- This holds of every sink, also of one without a model.
-abbrev pub UniStepped : Stepped UniUpgrading (Stream UniLocal (H3 Header)) IoWriteError → UniUpgrading → Type 0
+abbrev pub UniStepped :
+    Stepped UniUpgrading (Stream UniLocal (H3 Header)) IoWriteError → UniUpgrading → Type 0
 UniStepped (Done s) old = header_of s ≡ old.header
 UniStepped (Pending p) old = UniGoesOn old p
 UniStepped (NoMemory p) old = UniGoesOn old p
@@ -85,12 +90,15 @@ HeaderFault c old new a b =
     ⊎ ((c ≡ Frame) × (header_front (old ++ a.ahead) ≡ Short) × Stops old new read.UnexpectedFin a b)
 
 -- what one poll did to a source with a model
-abbrev pub AcceptPolled : Stepped UniAccepting (Stream UniRemote (H3 Header)) IoReadError → List ℕ → Source → Source → Type 0
+abbrev pub AcceptPolled :
+    Stepped UniAccepting (Stream UniRemote (H3 Header)) IoReadError → List ℕ → Source → Source
+    → Type 0
 AcceptPolled (Done s) old a b = header_front (old ++ a.ahead) ≡ Headed (header_of s) b.ahead
 AcceptPolled (Pending p) old a b = Waits old p.reading a b
 AcceptPolled (NoMemory p) old a b = ⊥
 AcceptPolled (Failed p (stream.H3 c)) old a b = HeaderFault c old p.reading a b
-AcceptPolled (Failed p (stream.IO e)) old a b = (e ≢ read.UnexpectedFin) × (header_front (old ++ a.ahead) ≡ Short) × Stops old p.reading e a b
+AcceptPolled (Failed p (stream.IO e)) old a b =
+    (e ≢ read.UnexpectedFin) × (header_front (old ++ a.ahead) ≡ Short) × Stops old p.reading e a b
 
 abbrev pub HeaderFaultGiven : ErrorCode → List ℕ → List ℕ → Type 0
 HeaderFaultGiven c old new =
@@ -99,9 +107,13 @@ HeaderFaultGiven c old new =
     ⊎ ((c ≡ Frame) × Grew old new)
 
 -- This holds of every source, also of one without a model.
-abbrev pub AcceptGiven : Stepped UniAccepting (Stream UniRemote (H3 Header)) IoReadError → UniAccepting → Type 0
-AcceptGiven (Done s) old = (given : List ℕ) × (header_front (old.reading ++ given) ≡ Headed (header_of s) [])
+abbrev pub AcceptGiven :
+    Stepped UniAccepting (Stream UniRemote (H3 Header)) IoReadError → UniAccepting → Type 0
+AcceptGiven (Done s) old =
+    (given : List ℕ) × (header_front (old.reading ++ given) ≡ Headed (header_of s) [])
 AcceptGiven (Pending p) old = (p.stream ≡ old.stream) × Grew old.reading p.reading
 AcceptGiven (NoMemory p) old = ⊥
-AcceptGiven (Failed p (stream.H3 c)) old = (p.stream ≡ old.stream) × HeaderFaultGiven c old.reading p.reading
-AcceptGiven (Failed p (stream.IO e)) old = (e ≢ read.UnexpectedFin) × (p.stream ≡ old.stream) × Grew old.reading p.reading
+AcceptGiven (Failed p (stream.H3 c)) old =
+    (p.stream ≡ old.stream) × HeaderFaultGiven c old.reading p.reading
+AcceptGiven (Failed p (stream.IO e)) old =
+    (e ≢ read.UnexpectedFin) × (p.stream ≡ old.stream) × Grew old.reading p.reading

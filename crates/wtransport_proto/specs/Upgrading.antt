@@ -11,11 +11,14 @@ use Rattle.wtransport_proto.specs.declared.stream.uniremote.MaybeUpgradeH3.{Mayb
 use Rattle.wtransport_proto.specs.declared.stream.uniremote.MaybeUpgradeH3.TheVariants as maybe
 use Rattle.wtransport_proto.specs.Streams.{header_of}
 
--- The result if the stream's bytes start so; if they are not too few, left is what follows those that decided.
-abbrev pub AnswersUpgrade : HeaderFront → Stream UniRemote Quic → Result MaybeUpgradeH3 ErrorCode → List ℕ → Type 0
+-- The result if the stream's bytes start so; if they are not too few, left is what follows those
+-- that decided.
+abbrev pub AnswersUpgrade :
+    HeaderFront → Stream UniRemote Quic → Result MaybeUpgradeH3 ErrorCode → List ℕ → Type 0
 AnswersUpgrade front old (Ok (maybe.H3 s)) left = front ≡ Headed (header_of s) left
 AnswersUpgrade front old (Ok (maybe.Quic s)) left = (front ≡ Short) × (s ≡ old)
-AnswersUpgrade front old (Err c) left = ((c ≡ StreamCreation) × (front ≡ Unknown left)) ⊎ ((c ≡ Id) × (front ≡ BadId left))
+AnswersUpgrade front old (Err c) left =
+    ((c ≡ StreamCreation) × (front ≡ Unknown left)) ⊎ ((c ≡ Id) × (front ≡ BadId left))
 
 -- the writer's result, if the stream was upgraded, or returned with the writer's error
 abbrev pub write_answer : {A B : Type 0} → Result A (B × PutError) → Result (Unit {0}) PutError

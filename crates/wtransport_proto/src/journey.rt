@@ -72,7 +72,8 @@ pub enum JourneyError {
 /// On an error a part of the frame was sent, and the rest cannot be sent any more. Returns
 /// `Waiting` if the sink was not ready in each turn.
 pub fn send<W: AsyncWrite>(frame: &Frame<'_>, sink: &mut W, turns: u32) -> Result<(), SendError>
-    ensures { Telling (W.tells sink.old) (W.tells sink.new) (SendDid (wire frame.now) turns result) }
+    ensures { Telling (W.tells sink.old) (W.tells sink.new)
+        (SendDid (wire frame.now) turns result) }
 {
     let mut writing = frame.write_async();
     for _turn in 0..turns {
@@ -97,7 +98,8 @@ fn next_frame<K: ReadsFrames, S: AsyncRead>(
     requires { K.can stream.old }
     ensures can { K.can stream.new }
     ensures changes { ChangesFirst K.first stream.old stream.new }
-    ensures read { Telling (S.tells source.old) (S.tells source.new) (FrameDid K.role (K.first stream.old) (K.first stream.new) turns result) }
+    ensures read { Telling (S.tells source.old) (S.tells source.new)
+        (FrameDid K.role (K.first stream.old) (K.first stream.new) turns result) }
     ensures asks { Telling (S.tells source.old) (S.tells source.new) (Asks (4112 * turns)) }
 {
     let mut reading = FrameReading::new(alloc);
@@ -130,8 +132,10 @@ pub fn receive<K: ReadsFrames, S: AsyncRead>(
     requires { K.can stream.old }
     ensures can { K.can stream.new }
     ensures changes { ChangesFirst K.first stream.old stream.new }
-    ensures read { Telling (S.tells source.old) (S.tells source.new) (MapDid K.role (K.first stream.old) (K.first stream.new) turns result) }
-    ensures back { (m : List Field) → IsMap m → AreTexts m → Telling (S.tells source.old) (S.tells source.new) (ReadsBack K.role m turns result) }
+    ensures read { Telling (S.tells source.old) (S.tells source.new)
+        (MapDid K.role (K.first stream.old) (K.first stream.new) turns result) }
+    ensures back { (m : List Field) → IsMap m → AreTexts m
+        → Telling (S.tells source.old) (S.tells source.new) (ReadsBack K.role m turns result) }
     ensures asks { Telling (S.tells source.old) (S.tells source.new) (Asks (4112 * turns)) }
 {
     let frame = next_frame(alloc, stream, source, turns)?;
@@ -160,12 +164,16 @@ pub fn send_and_receive<W: AsyncWrite, K: ReadsFrames, S: AsyncRead>(
     turns: u32,
 ) -> Result<Headers, JourneyError>
     requires { K.can stream.old }
-    ensures back { Telling (S.tells source.old) (S.tells source.new) (SentBack K.role headers.now turns result) }
-    ensures sent { Telling (W.tells sink.old) (W.tells sink.new) (Sent (wire (HeadersOf (payload headers.now))) turns result) }
-    ensures received { Telling (S.tells source.old) (S.tells source.new) (Received K.role (K.first stream.old) (K.first stream.new) turns result) }
+    ensures back { Telling (S.tells source.old) (S.tells source.new)
+        (SentBack K.role headers.now turns result) }
+    ensures sent { Telling (W.tells sink.old) (W.tells sink.new)
+        (Sent (wire (HeadersOf (payload headers.now))) turns result) }
+    ensures received { Telling (S.tells source.old) (S.tells source.new)
+        (Received K.role (K.first stream.old) (K.first stream.new) turns result) }
     ensures asks { Telling (S.tells source.old) (S.tells source.new) (Asks (4112 * turns)) }
     ensures unread { UnlessRead result ((stream.new ≡ stream.old) × (source.new ≡ source.old)) }
-    ensures too_long { result ≡ Err (JourneyError.Frame GenerateError.PayloadTooLong) → 2 ^ 62 ≤ length (payload headers.now) }
+    ensures too_long { result ≡ Err (JourneyError.Frame GenerateError.PayloadTooLong)
+        → 2 ^ 62 ≤ length (payload headers.now) }
     ensures can { K.can stream.new }
     ensures changes { ChangesFirst K.first stream.old stream.new }
 {

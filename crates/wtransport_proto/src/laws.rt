@@ -20,43 +20,66 @@ pub use wtp_core::laws as base;
 pub use wtp_fields::laws as fields;
 pub use wtp_wire::laws as wire;
 
+pub mod cursor;
+pub mod opening;
 pub mod place;
 
 /// The run goes by the first frame of the bytes, except for unknown frames.
 pub fn run_goes_by_front()
-    ensures allowed { (role : Role) (first : Bool) (bytes rest : List ℕ) (tail : Tail) (f : Content) → front bytes ≡ Framed f rest → rule role first (kind_in f) ≡ None → run role first bytes tail ≡ follows f (run role false rest tail) }
-    ensures refused { (role : Role) (first : Bool) (bytes rest : List ℕ) (tail : Tail) (f : Content) (code : ErrorCode) → front bytes ≡ Framed f rest → rule role first (kind_in f) ≡ Some code → run role first bytes tail ≡ ends (H3 code) }
-    ensures bad_id { (role : Role) (first : Bool) (bytes rest : List ℕ) (tail : Tail) → front bytes ≡ BadId rest → run role first bytes tail ≡ ends (H3 Id) }
-    ensures too_big { (role : Role) (first : Bool) (bytes rest : List ℕ) (tail : Tail) → front bytes ≡ TooBig rest → run role first bytes tail ≡ ends (H3 ExcessiveLoad) }
-    ensures short { (role : Role) (first : Bool) (bytes : List ℕ) (tail : Tail) → front bytes ≡ Short → run role first bytes tail ≡ ends (run_stop bytes bytes tail) }
+    ensures allowed { (role : Role) (first : Bool) (bytes rest : List ℕ) (tail : Tail) (f : Content)
+        → front bytes ≡ Framed f rest → rule role first (kind_in f) ≡ None
+        → run role first bytes tail ≡ follows f (run role false rest tail) }
+    ensures refused { (role : Role) (first : Bool) (bytes rest : List ℕ) (tail : Tail) (f : Content)
+        (code : ErrorCode) → front bytes ≡ Framed f rest → rule role first (kind_in f) ≡ Some code
+        → run role first bytes tail ≡ ends (H3 code) }
+    ensures bad_id { (role : Role) (first : Bool) (bytes rest : List ℕ) (tail : Tail)
+        → front bytes ≡ BadId rest → run role first bytes tail ≡ ends (H3 Id) }
+    ensures too_big { (role : Role) (first : Bool) (bytes rest : List ℕ) (tail : Tail)
+        → front bytes ≡ TooBig rest → run role first bytes tail ≡ ends (H3 ExcessiveLoad) }
+    ensures short { (role : Role) (first : Bool) (bytes : List ℕ) (tail : Tail)
+        → front bytes ≡ Short → run role first bytes tail ≡ ends (run_stop bytes bytes tail) }
 {}
 
 /// An unknown frame is skipped: the run is that of the bytes after it. If the bytes may go on, its
 /// bytes count as left over as long as there was no frame.
 pub fn run_passes_unknown()
-    ensures ended { (role : Role) (first : Bool) (bytes rest : List ℕ) (tail : Tail) → tail ≢ MayGoOn → front bytes ≡ Unknown rest → run role first bytes tail ≡ run role first rest tail }
-    ensures going_on { (role : Role) (first : Bool) (bytes rest : List ℕ) → front bytes ≡ Unknown rest → run role first bytes MayGoOn ≡ counted bytes (run role first rest MayGoOn) }
+    ensures ended { (role : Role) (first : Bool) (bytes rest : List ℕ) (tail : Tail)
+        → tail ≢ MayGoOn → front bytes ≡ Unknown rest
+        → run role first bytes tail ≡ run role first rest tail }
+    ensures going_on { (role : Role) (first : Bool) (bytes rest : List ℕ)
+        → front bytes ≡ Unknown rest
+        → run role first bytes MayGoOn ≡ counted bytes (run role first rest MayGoOn) }
 {}
 
 /// The bytes after the unknown frames at the start, frame by frame.
 pub fn past_unknown_by_front()
-    ensures unknown { (bytes rest : List ℕ) → front bytes ≡ Unknown rest → past_unknown bytes ≡ past_unknown rest }
-    ensures known { (bytes : List ℕ) → ((rest : List ℕ) → front bytes ≢ Unknown rest) → past_unknown bytes ≡ bytes }
+    ensures unknown { (bytes rest : List ℕ) → front bytes ≡ Unknown rest
+        → past_unknown bytes ≡ past_unknown rest }
+    ensures known { (bytes : List ℕ) → ((rest : List ℕ) → front bytes ≢ Unknown rest)
+        → past_unknown bytes ≡ bytes }
 {}
 
 /// Only a bidirectional stream that the peer opened distinguishes the first frame from the others.
 pub fn only_remote_bi_counts()
-    ensures rules { (role : Role) (f g : Bool) (kind : FrameKind) → role ≢ RemoteBi → rule role f kind ≡ rule role g kind }
-    ensures runs { (role : Role) (f g : Bool) (bytes : List ℕ) (tail : Tail) → role ≢ RemoteBi → run role f bytes tail ≡ run role g bytes tail }
+    ensures rules { (role : Role) (f g : Bool) (kind : FrameKind) → role ≢ RemoteBi
+        → rule role f kind ≡ rule role g kind }
+    ensures runs { (role : Role) (f g : Bool) (bytes : List ℕ) (tail : Tail) → role ≢ RemoteBi
+        → run role f bytes tail ≡ run role g bytes tail }
 {}
 
 /// The run of what a reading holds and of the bytes ahead: that of the bytes held followed by those
 /// ahead. If payload bytes of an unknown frame are still to be skipped, it is the run of the bytes
 /// after those; with fewer bytes ahead it has no frame.
 pub fn run_held_by_bytes()
-    ensures held { (role : Role) (first : Bool) (h : Held) (ahead : List ℕ) (tail : Tail) → tail ≢ MayGoOn → h.due ≡ 0 → run_held role first h ahead tail ≡ run role first (h.taken ++ ahead) tail }
-    ensures due { (role : Role) (first : Bool) (h : Held) (ahead : List ℕ) (tail : Tail) → 0 < h.due → h.due ≤ length ahead → run_held role first h ahead tail ≡ run role first (drop h.due ahead) tail }
-    ensures lacking { (role : Role) (first : Bool) (h : Held) (ahead : List ℕ) (tail : Tail) → length ahead < h.due → run_held role first h ahead tail ≡ ends (stop_of (count_held h ahead) tail) }
+    ensures held { (role : Role) (first : Bool) (h : Held) (ahead : List ℕ) (tail : Tail)
+        → tail ≢ MayGoOn → h.due ≡ 0
+        → run_held role first h ahead tail ≡ run role first (h.taken ++ ahead) tail }
+    ensures due { (role : Role) (first : Bool) (h : Held) (ahead : List ℕ) (tail : Tail) → 0 < h.due
+        → h.due ≤ length ahead
+        → run_held role first h ahead tail ≡ run role first (drop h.due ahead) tail }
+    ensures lacking { (role : Role) (first : Bool) (h : Held) (ahead : List ℕ) (tail : Tail)
+        → length ahead < h.due
+        → run_held role first h ahead tail ≡ ends (stop_of (count_held h ahead) tail) }
 {}
 
 /// Whole and polled reading agree: the run of bytes that may go on has the frames of the run of the
@@ -64,13 +87,17 @@ pub fn run_held_by_bytes()
 /// or, if the bytes are too few, the one is open with exactly these bytes left, and the other stops
 /// there.
 pub fn buffered_and_polled_agree()
-    ensures { (role : Role) (first : Bool) (bytes : List ℕ) (tail : Tail) → tail ≢ MayGoOn → Agrees role first tail bytes (run role first bytes MayGoOn) (run role first bytes tail) }
+    ensures { (role : Role) (first : Bool) (bytes : List ℕ) (tail : Tail) → tail ≢ MayGoOn
+        → Agrees role first tail bytes (run role first bytes MayGoOn) (run role first bytes tail) }
 {}
 
 /// A header map that is sent completely is read back as the same map: on each bidirectional stream,
 /// the run of the bytes of its frame, followed by any bytes, starts with that frame, and the map of
 /// the frame's section is the map.
 pub fn header_run()
-    ensures sent { (role : Role) (first : Bool) (m : List Field) (rest : List ℕ) (tail : Tail) → role ≢ RemoteUni → length (payload m) ≤ 4096 → run role first (wire (HeadersOf (payload m)) ++ rest) tail ≡ follows (HeadersOf (payload m)) (run role false rest tail) }
+    ensures sent { (role : Role) (first : Bool) (m : List Field) (rest : List ℕ) (tail : Tail)
+        → role ≢ RemoteUni → length (payload m) ≤ 4096
+        → run role first (wire (HeadersOf (payload m)) ++ rest) tail
+        ≡ follows (HeadersOf (payload m)) (run role false rest tail) }
     ensures again { (m : List Field) → IsMap m → AreTexts m → map_at (payload m) ≡ Ok m }
 {}

@@ -2,6 +2,10 @@
 //!
 //! A stream holds no bytes: it is given a reader or a writer, and reports what may be received on
 //! it.
+//!
+//! A server accepts a bidirectional stream that its peer opened by
+//! [`biremote::StreamBiRemoteH3::accept_async`], which tells a stream of a session from one of a
+//! request, and reads the frames of a request on from there, one by one or by [`drive`].
 ghost use Rattle.std.specs.Prelude.{◌≡◌, is_some};
 ghost use Rattle.wtp_wire.specs.Header.{header_kind, header_session, WebTransportHeader};
 ghost use Rattle.wtp_wire.specs.StreamKind.{has_session};
@@ -14,6 +18,7 @@ use wtp_wire::stream_header::{StreamHeader, StreamKind};
 mod accepting;
 pub mod bilocal;
 pub mod biremote;
+mod cursor;
 mod driving;
 mod polled;
 mod reading;
@@ -24,9 +29,11 @@ pub mod unilocal;
 pub mod uniremote;
 mod upgrading;
 
-pub use accepting::UniAccepting;
+pub use accepting::{BiAccepted, BiAccepting, UniAccepting};
+pub use cursor::{CursorStep, FrameCursor, FramePlace};
 pub use driving::{Driven, ReadsFrames, drive};
 pub use polled::IoReadError;
+pub use rules::{StreamRole, fault_of};
 pub use upgrading::{BiUpgrading, UniUpgrading};
 pub use wtp_core::bytes::IoWriteError;
 

@@ -1,5 +1,5 @@
 //! Making a listing line by line.
-ghost use Rattle.std.specs.Prelude.{◌≡◌, ℕ, List, [], ◌++◌, IfOk, string_bytes};
+ghost use Rattle.std.specs.Prelude.{◌≡◌, ℕ, List, [], ◌++◌, IfOk, codes, string_bytes};
 ghost use Rattle.wt_listings.specs.Lines.{line, with_ending};
 ghost use Rattle.wt_listings.specs.Listing.{Says};
 ghost use Rattle.wt_listings.specs.Request.{field_line};
@@ -16,7 +16,7 @@ use wtransport_proto::frame::{Frame, FrameKind};
 /// The text and the status of a listing are set together, by the call that writes the last line:
 /// [`end`](Lines::end) or [`fault`](Lines::fault).
 #[derive(Drop)]
-pub(crate) struct Lines {
+pub struct Lines {
     text: String,
 }
 
@@ -29,7 +29,7 @@ impl Model for Lines {
 
 impl Lines {
     /// Creates a listing without lines.
-    pub(crate) fn new(alloc: Global) -> Self
+    pub fn new(alloc: Global) -> Self
         ensures { result ≡ [] }
     {
         Lines {
@@ -38,7 +38,7 @@ impl Lines {
     }
 
     /// Adds the line of a frame.
-    pub(crate) fn frame(&mut self, frame: &Frame<'_>) -> Result<(), AllocError>
+    pub fn frame(&mut self, frame: &Frame<'_>) -> Result<(), AllocError>
         ensures { IfOk result (λ _. self.new ≡ self.old ++ line frame.now) }
     {
         if let Some(session) = frame.session_id() {
@@ -58,15 +58,24 @@ impl Lines {
         }
     }
 
+    /// Adds a line of these words, which have no line feed.
+    ///
+    /// Returns [`AllocError`] if allocation fails; then the line may be there in part.
+    pub fn add(&mut self, words: &str) -> Result<(), AllocError>
+        ensures { IfOk result (λ _. self.new ≡ self.old ++ words.now ++ codes "\n") }
+    {
+        writeln!(self.text, "{words}")
+    }
+
     /// Adds the line of a field.
-    pub(crate) fn field(&mut self, name: &str, value: &str) -> Result<(), AllocError>
+    pub fn field(&mut self, name: &str, value: &str) -> Result<(), AllocError>
         ensures { IfOk result (λ _. self.new ≡ self.old ++ field_line (name.now, value.now)) }
     {
         writeln!(self.text, "FIELD {name}={value}")
     }
 
     /// Returns the listing with a last line that says how many bytes come after the last frame.
-    pub(crate) fn end(mut self, rest: usize) -> Result<Listing, AllocError>
+    pub fn end(mut self, rest: usize) -> Result<Listing, AllocError>
         ensures { IfOk result (λ l. Says l (with_ending self (Open rest))) }
     {
         writeln!(self.text, "END {rest}")?;
@@ -77,7 +86,7 @@ impl Lines {
     }
 
     /// Returns the listing with a last line that says which fault ends the stream.
-    pub(crate) fn fault(mut self, code: ErrorCode) -> Result<Listing, AllocError>
+    pub fn fault(mut self, code: ErrorCode) -> Result<Listing, AllocError>
         ensures { IfOk result (λ l. Says l (with_ending self (H3 code))) }
     {
         let number = code.to_code().into_inner();

@@ -14,7 +14,7 @@ use wtransport_proto::stream::biremote::StreamBiRemoteH3;
 use wtransport_proto::stream::uniremote::{MaybeUpgradeH3, StreamUniRemoteH3, StreamUniRemoteQuic};
 
 /// A stream whose frames are read from a buffer, one after the other.
-pub(crate) trait RecordedStream: Drop {
+pub trait RecordedStream: Drop {
     // Which reading state it is.
     ghost role: { Role };
 

@@ -116,7 +116,8 @@ impl<'a, 'b, P: ParentReader<'a>> BufferReaderChild<'a, 'b, P> {
 
     /// Moves the parent past the bytes that this child read.
     pub fn commit(self)
-        ensures left { P.behind self.exit.0.now ≡ drop (offset_in self.entry) (P.behind self.entry.parent.now) }
+        ensures left { P.behind self.exit.0.now
+            ≡ drop (offset_in self.entry) (P.behind self.entry.parent.now) }
         ensures whole { P.whole self.exit.0.now ≡ P.whole self.entry.parent.now }
     {
         let BufferReaderChild {
@@ -136,9 +137,11 @@ impl<'a, 'b, P: ParentReader<'a>> BytesReader<'a> for BufferReaderChild<'a, 'b, 
     ghost kept = { kept_in P.whole P.behind };
 
     fn get_varint(&mut self) -> Option<VarInt>
-        ensures found { MatchOption result (number_at (left_in self.old) ≡ None) (λ n. number_at (left_in self.old) ≡ Some (n, left_in self.new)) }
+        ensures found { MatchOption result (number_at (left_in self.old) ≡ None)
+            (λ n. number_at (left_in self.old) ≡ Some (n, left_in self.new)) }
         ensures none { IfNone result (left_in self.new ≡ left_in self.old) }
-        ensures place { offset_in self.new + length (left_in self.new) ≡ offset_in self.old + length (left_in self.old) }
+        ensures place { offset_in self.new + length (left_in self.new)
+            ≡ offset_in self.old + length (left_in self.old) }
         ensures kept { kept_in P.whole P.behind self.new ≡ kept_in P.whole P.behind self.old }
         ensures same_reference { self.new.parent.ghost_name ≡ self.old.parent.ghost_name }
         ensures same_parent { self.new.parent.now ≡ self.old.parent.now }
@@ -151,10 +154,12 @@ impl<'a, 'b, P: ParentReader<'a>> BytesReader<'a> for BufferReaderChild<'a, 'b, 
 
     #[tactic(auto, unfolding(crate::specs::Varint::bytes_at))]
     fn get_bytes(&mut self, len: usize) -> Option<&'a [u8]>
-        ensures found { MatchOption result (bytes_at len (left_in self.old) ≡ None) (λ b. bytes_at len (left_in self.old) ≡ Some (b.now, left_in self.new)) }
+        ensures found { MatchOption result (bytes_at len (left_in self.old) ≡ None)
+            (λ b. bytes_at len (left_in self.old) ≡ Some (b.now, left_in self.new)) }
         ensures len { IfSome result (λ b. length b.now ≡ len) }
         ensures none { IfNone result (left_in self.new ≡ left_in self.old) }
-        ensures place { offset_in self.new + length (left_in self.new) ≡ offset_in self.old + length (left_in self.old) }
+        ensures place { offset_in self.new + length (left_in self.new)
+            ≡ offset_in self.old + length (left_in self.old) }
         ensures kept { kept_in P.whole P.behind self.new ≡ kept_in P.whole P.behind self.old }
         ensures same_reference { self.new.parent.ghost_name ≡ self.old.parent.ghost_name }
         ensures same_parent { self.new.parent.now ≡ self.old.parent.now }

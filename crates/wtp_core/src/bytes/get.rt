@@ -8,7 +8,7 @@ ghost use Rattle.wtp_core.specs.Get.{VarintPolled, VarintGiven, BufferPolled, Bu
 
 use crate::bytes::polled::{IoReadError, Polled};
 use crate::bytes::source::AsyncRead;
-use crate::polling::fill::{fill, halted};
+use crate::polling::fill::{fill, halt_result};
 use crate::polling::head::{Head, fill_head};
 use crate::varint::{VarInt, first_varint};
 use std::marker::Model;
@@ -78,12 +78,13 @@ impl GetVarint {
         ensures was_cut { number_at self.old ≡ None }
         ensures cut { number_at self.new ≡ None }
         ensures given { VarintGiven result self.old self.new }
-        ensures polled { Telling (S.tells source.old) (S.tells source.new) (VarintPolled result self.old self.new) }
+        ensures polled { Telling (S.tells source.old) (S.tells source.new)
+            (VarintPolled result self.old self.new) }
         ensures asks { Telling (S.tells source.old) (S.tells source.new) (Asks 8) }
     {
         match fill_head::<VarintHead, S>(source, &mut self.bytes, &mut self.len) {
             Ok(()) => {}
-            Err(halt) => return halted(halt, self.len),
+            Err(halt) => return halt_result(halt, self.len),
         }
         let Some((value, _)) = first_varint(&self.bytes[..self.len]) else {
             unreachable!()
@@ -125,18 +126,21 @@ impl<'a> GetBuffer<'a> {
     pub fn poll<S: AsyncRead>(&mut self, source: &mut S) -> Polled<Result<(), IoReadError>>
         ensures lent { loan_in self.new ≡ loan_in self.old }
         ensures room { room_of self.new ≡ room_of self.old }
-        ensures given { BufferGiven result (room_of self.old) (taken_of self.old) (taken_of self.new) }
-        ensures polled { Telling (S.tells source.old) (S.tells source.new) (BufferPolled result (taken_of self.old) (taken_of self.new)) }
+        ensures given { BufferGiven result (room_of self.old) (taken_of self.old)
+            (taken_of self.new) }
+        ensures polled { Telling (S.tells source.old) (S.tells source.new)
+            (BufferPolled result (taken_of self.old) (taken_of self.new)) }
         ensures asks { Telling (S.tells source.old) (S.tells source.new) (Asks (room_of self.old)) }
         ensures finished { length (taken_of self.old) ≡ room_of self.old
-            → (source.new ≡ source.old) × (result ≡ Polled.Ready (Ok tt)) × (buffer_of self.new ≡ buffer_of self.old) }
+            → (source.new ≡ source.old) × (result ≡ Polled.Ready (Ok tt))
+            × (buffer_of self.new ≡ buffer_of self.old) }
     {
         if self.filled == self.buffer.len() {
             return Polled::Ready(Ok(()));
         }
         match fill(source, self.buffer, &mut self.filled) {
             Ok(()) => Polled::Ready(Ok(())),
-            Err(halt) => halted(halt, self.filled),
+            Err(halt) => halt_result(halt, self.filled),
         }
     }
 }

@@ -29,6 +29,9 @@ pub enum Stepped<P, T, E> {
 }
 
 /// Why a source gave no more bytes.
+///
+/// It says nothing of the bytes. `frame::IoReadError`, `stream_header::IoReadError` and
+/// `stream::IoReadError` contain it beside the faults of a frame, a header and a stream.
 #[derive(Debug, Drop, PartialEq, Eq, thiserror::Error)]
 pub enum IoReadError {
     /// The source ended before any byte was taken.

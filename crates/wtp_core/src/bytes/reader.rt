@@ -16,13 +16,15 @@ pub trait BytesReader<'a> {
     /// Reads the number encoded at the start (RFC 9000, section 16); every encoding is read.
     /// Returns `None` if too few bytes are left; then the reader does not move.
     fn get_varint(&mut self) -> Option<VarInt>
-        ensures found { MatchOption result (number_at (left self.old) ≡ None) (λ n. number_at (left self.old) ≡ Some (n, left self.new)) }
+        ensures found { MatchOption result (number_at (left self.old) ≡ None)
+            (λ n. number_at (left self.old) ≡ Some (n, left self.new)) }
         ensures none { IfNone result (left self.new ≡ left self.old) }
         ensures kept { kept self.new ≡ kept self.old };
 
     /// Reads `len` bytes. Returns `None` if fewer are left; then the reader does not move.
     fn get_bytes(&mut self, len: usize) -> Option<&'a [u8]>
-        ensures found { MatchOption result (bytes_at len (left self.old) ≡ None) (λ b. bytes_at len (left self.old) ≡ Some (b.now, left self.new)) }
+        ensures found { MatchOption result (bytes_at len (left self.old) ≡ None)
+            (λ b. bytes_at len (left self.old) ≡ Some (b.now, left self.new)) }
         ensures len { IfSome result (λ b. length b.now ≡ len) }
         ensures none { IfNone result (left self.new ≡ left self.old) }
         ensures kept { kept self.new ≡ kept self.old };

@@ -43,7 +43,8 @@ impl AsyncWrite for Vec<u8> {
     /// Takes the whole buffer, or returns `NoMemory`.
     fn poll_write(&mut self, buf: &[u8]) -> WriteStep
         ensures lengths { SinkKeepsLengths result (length buf.now) }
-        ensures tells { SinkTells result buf.now (Some (all_taken self.old.items)) (Some (all_taken self.new.items)) }
+        ensures tells { SinkTells result buf.now (Some (all_taken self.old.items))
+            (Some (all_taken self.new.items)) }
         ensures whole { TakesWhole result (length buf.now) }
     {
         if buf.is_empty() {

@@ -1,6 +1,6 @@
 //! Polled sources of bytes, and slices as sources.
 ghost use Rattle.std.specs.Prelude.{◌≡◌, Option, Some, None, ◌≤◌, ◌↔◌, length, false, IsTrue};
-ghost use Rattle.wtp_core.specs.Source.{Source, StepKeepsLengths, StepTells, Telling, Shows, TakesAtHand, all_ahead};
+ghost use Rattle.wtp_core.specs.Source.{Source, StepKeepsLengths, StepTells, Telling, Shows, TakesBuffered, all_ahead};
 
 /// The result of one call of a source.
 #[derive(Clone, Copy, Debug, PartialEq, Eq)]
@@ -38,7 +38,7 @@ pub trait AsyncRead {
     /// Returns bytes that are buffered and can be read before they are taken: some of those ahead,
     /// starting with the first. A source need not show any; then it gives all bytes by `poll_read`.
     /// Not in the Rust crate.
-    fn at_hand(&self) -> &[u8]
+    fn buffered(&self) -> &[u8]
         ensures shows { Shows result.now (tells self.now) }
     {
         &[]
@@ -46,8 +46,9 @@ pub trait AsyncRead {
 
     /// Takes `count` of the bytes ahead if so many are buffered, and returns whether it did. If
     /// not, it takes none. Not in the Rust crate.
-    fn take_at_hand(&mut self, count: usize) -> bool
-        ensures taken { IsTrue result → Telling (tells self.old) (tells self.new) (TakesAtHand count) }
+    fn take_buffered(&mut self, count: usize) -> bool
+        ensures taken { IsTrue result
+            → Telling (tells self.old) (tells self.new) (TakesBuffered count) }
         ensures none { result ≡ false → self.new ≡ self.old }
     {
         let _ = count;
@@ -70,7 +71,7 @@ impl AsyncRead for &[u8] {
 
     /// Returns all of the bytes.
     #[inline(always)]
-    fn at_hand(&self) -> &[u8]
+    fn buffered(&self) -> &[u8]
         ensures shows { Shows result.now (Some (all_ahead self.now.now)) }
         ensures all { result.now ≡ self.now.now }
     {
@@ -78,8 +79,9 @@ impl AsyncRead for &[u8] {
     }
 
     #[inline(always)]
-    fn take_at_hand(&mut self, count: usize) -> bool
-        ensures taken { IsTrue result → TakesAtHand count (all_ahead self.old.now) (all_ahead self.new.now) }
+    fn take_buffered(&mut self, count: usize) -> bool
+        ensures taken { IsTrue result
+            → TakesBuffered count (all_ahead self.old.now) (all_ahead self.new.now) }
         ensures none { result ≡ false → self.new ≡ self.old }
         ensures room { IsTrue result ↔ (count ≤ length self.old.now) }
     {

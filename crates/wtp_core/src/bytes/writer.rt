@@ -37,14 +37,16 @@ pub trait BytesWriter {
     /// Returns `EndOfBuffer` exactly if the room is too small, and `Memory` only if memory
     /// allocation failed.
     fn put_bytes(&mut self, bytes: &[u8]) -> Result<(), PutError>
-        ensures puts { Puts grows bytes.now result (written self.old) (room self.old) (written self.new) (room self.new) }
+        ensures puts { Puts grows bytes.now result (written self.old) (room self.old)
+            (written self.new) (room self.new) }
         ensures target { target self.new ≡ target self.old };
 
     /// Writes the shortest encoding of a number (RFC 9000, section 16), or changes nothing. The
     /// errors are those of `put_bytes`.
     #[tactic(auto, unfolding(crate::specs::Varint::shortest))]
     fn put_varint(&mut self, varint: VarInt) -> Result<(), PutError>
-        ensures puts { Puts grows (shortest varint) result (written self.old) (room self.old) (written self.new) (room self.new) }
+        ensures puts { Puts grows (shortest varint) result (written self.old) (room self.old)
+            (written self.new) (room self.new) }
         ensures target { target self.new ≡ target self.old }
     {
         let number = varint.into_inner();

@@ -1,11 +1,11 @@
 //! What an error code ends: a stream or the connection.
 
 ghost use Rattle.std.specs.Prelude.{◌≡◌, None, Some};
-ghost use Rattle.wtp_core.specs.declared.error.ErrorCode.TheVariants.{Id, Datagram};
+ghost use Rattle.wtp_core.specs.declared.error.ErrorCode.TheVariants.{Id, Datagram, Message, NoError};
 ghost use Rattle.wtp_core.specs.ErrorScope.{scope_of, code_in};
 
-use super::{ErrorCode, Refused};
-use crate::ids::{InvalidQStreamId, InvalidSessionId};
+use super::{ErrorCode, Refused, UnknownErrorCode};
+use crate::ids::{InvalidQStreamId, InvalidSessionId, InvalidStatusCode};
 
 /// What an error code ends (RFC 9114, section 8). Not in the Rust crate.
 #[derive(Clone, Copy, Debug, PartialEq, Eq)]
@@ -73,5 +73,25 @@ impl From<InvalidQStreamId> for ErrorCode {
     /// Returns [`ErrorCode::Datagram`] (RFC 9297, section 2.1). Not in the Rust crate.
     fn from(_error: InvalidQStreamId) -> ErrorCode {
         ErrorCode::Datagram
+    }
+}
+
+impl From<InvalidStatusCode> for ErrorCode {
+    ghost from_gives = { λ _ code. code ≡ Message };
+
+    /// Returns [`ErrorCode::Message`]: a response with an invalid `:status` is malformed (RFC 9114,
+    /// sections 4.1.2 and 4.3.2). Not in the Rust crate.
+    fn from(_error: InvalidStatusCode) -> ErrorCode {
+        ErrorCode::Message
+    }
+}
+
+impl From<UnknownErrorCode> for ErrorCode {
+    ghost from_gives = { λ _ code. code ≡ NoError };
+
+    /// Returns [`ErrorCode::NoError`], which an unknown error code is treated as (RFC 9114, section
+    /// 9). Not in the Rust crate.
+    fn from(_error: UnknownErrorCode) -> ErrorCode {
+        ErrorCode::NoError
     }
 }

@@ -26,7 +26,8 @@ pub fn application_codes()
     ensures range { (n : ℕ) → n < 2 ^ 32
         → (http3_number 0 ≤ http3_number n) × (http3_number n ≤ http3_number (2 ^ 32 - 1)) }
     ensures not_reserved { (n : ℕ) → ¬ IsReservedCode (http3_number n) }
-    ensures every { (h : ℕ) → http3_number 0 ≤ h → h ≤ http3_number (2 ^ 32 - 1) → ¬ IsReservedCode h
+    ensures every { (h : ℕ) → http3_number 0 ≤ h → h ≤ http3_number (2 ^ 32 - 1)
+        → ¬ IsReservedCode h
         → (n : ℕ) × (n < 2 ^ 32) × (h ≡ http3_number n) }
     ensures one { (m n : ℕ) → http3_number m ≡ http3_number n → m ≡ n }
 {}

@@ -24,8 +24,10 @@ pub fn drain<W: AsyncWrite>(
     requires { sent.old ≤ length bytes.now }
     ensures on { GoesOn (writing bytes.now sent.old) (writing bytes.now sent.new) }
     ensures whole { IsSent result (writing bytes.now sent.new) }
-    ensures polled { Telling (W.tells sink.old) (W.tells sink.new) (WritePolled result (writing bytes.now sent.old) (writing bytes.now sent.new)) }
-    ensures finished { sent.old ≡ length bytes.now → (sink.new ≡ sink.old) × (result ≡ Polled.Ready (Ok tt)) }
+    ensures polled { Telling (W.tells sink.old) (W.tells sink.new)
+        (WritePolled result (writing bytes.now sent.old) (writing bytes.now sent.new)) }
+    ensures finished { sent.old ≡ length bytes.now
+        → (sink.new ≡ sink.old) × (result ≡ Polled.Ready (Ok tt)) }
 {
     while *sent < bytes.len() {
         match sink.poll_write(&bytes[*sent..]) {

@@ -58,7 +58,7 @@ impl Encoded {
     }
 
     /// Returns the number of bytes sent.
-    pub fn sent(&self) -> usize
+    pub fn sent_len(&self) -> usize
         ensures { result ≡ self.now.sent }
     {
         self.sent
@@ -68,8 +68,10 @@ impl Encoded {
     pub fn poll<W: AsyncWrite>(&mut self, sink: &mut W) -> Polled<Result<(), IoWriteError>>
         ensures on { GoesOn self.old self.new }
         ensures whole { IsSent result self.new }
-        ensures polled { Telling (W.tells sink.old) (W.tells sink.new) (WritePolled result self.old self.new) }
-        ensures finished { self.old.sent ≡ length self.old.bytes → (sink.new ≡ sink.old) × (result ≡ Polled.Ready (Ok tt)) }
+        ensures polled { Telling (W.tells sink.old) (W.tells sink.new)
+            (WritePolled result self.old self.new) }
+        ensures finished { self.old.sent ≡ length self.old.bytes
+            → (sink.new ≡ sink.old) × (result ≡ Polled.Ready (Ok tt)) }
     {
         drain(sink, &self.bytes[..self.len], &mut self.sent)
     }

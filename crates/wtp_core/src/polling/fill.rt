@@ -32,7 +32,8 @@ pub fn fill<S: AsyncRead>(source: &mut S, buf: &mut [u8], at: &mut usize) -> Res
     ensures front { take at.old buf.new ≡ take at.old buf.old }
     ensures forward { at.old ≤ at.new }
     ensures lengths { FillKeepsLengths result at.new (length buf.new) }
-    ensures tells { FillTells result (take at.old buf.old) (take at.new buf.new) (S.tells source.old) (S.tells source.new) }
+    ensures tells { FillTells result (take at.old buf.old) (take at.new buf.new)
+        (S.tells source.old) (S.tells source.new) }
 {
     while *at < buf.len() {
         match source.poll_read(&mut buf[*at..]) {
@@ -65,7 +66,7 @@ impl Halt {
 
 /// Returns the result of a poll whose reading stopped after `taken` bytes: `Pending` if the source
 /// was not ready, and the error that `Halt::fault` returns otherwise.
-pub fn halted<T, E: From<IoReadError>>(halt: Halt, taken: usize) -> Polled<Result<T, E>>
+pub fn halt_result<T, E: From<IoReadError>>(halt: Halt, taken: usize) -> Polled<Result<T, E>>
     ensures { HaltsAs E.from_gives (halt_fault halt taken) result }
 {
     match halt.fault(taken) {

@@ -44,8 +44,10 @@ pub fn fill_head<H: Head, S: AsyncRead>(
     ensures front { take len.old buf.new ≡ take len.old buf.old }
     ensures room { len.new ≤ length buf.new }
     // A complete head is left unchanged.
-    ensures stays { H.need (take len.old buf.old) ≡ len.old → (len.new ≡ len.old) × (buf.new ≡ buf.old) }
-    ensures tells { FillTells result (take len.old buf.old) (take len.new buf.new) (S.tells source.old) (S.tells source.new) }
+    ensures stays { H.need (take len.old buf.old) ≡ len.old
+        → (len.new ≡ len.old) × (buf.new ≡ buf.old) }
+    ensures tells { FillTells result (take len.old buf.old) (take len.new buf.new)
+        (S.tells source.old) (S.tells source.new) }
 {
     loop {
         let need = H::need(&buf[..*len]);

@@ -1,7 +1,7 @@
 //! Field lines one by one, in their order and with repeated names, as bytes (RFC 9204, section
 //! 4.5). Not in the Rust crate.
 
-ghost use Rattle.std.specs.Prelude.{◌≡◌, ◌≤◌, IsTrue, Some, Err};
+ghost use Rattle.std.specs.Prelude.{◌≡◌, ◌<◌, ◌≤◌, IsTrue, IfSome, OnOk, length, Some, Err};
 ghost use Rattle.wtp_fields.specs.declared.qpack.DecodingError.TheVariants.{Memory};
 ghost use Rattle.wtp_fields.specs.declared.qpack.field_lines.FieldRoom.{FieldRoom};
 ghost use Rattle.wtp_fields.specs.Qpack.{Gives, GivesUnlessMemory};
@@ -9,7 +9,7 @@ ghost use Rattle.wtp_fields.specs.Integer.{integer_at};
 ghost use Rattle.wtp_fields.specs.StringLiteral.{flag_above};
 ghost use Rattle.wtp_fields.specs.FieldLine.{indexed_at};
 ghost use Rattle.wtp_fields.specs.FieldSection.{after_prefix};
-ghost use Rattle.wtp_fields.specs.FieldLines.{octets_at, octet_reference_at, octet_name_at, octet_line_by, octet_line_at, TakesLine, value_is_coded, has_coded, is_coded_line, seen_string, GivesParts};
+ghost use Rattle.wtp_fields.specs.FieldLines.{octets_at, octet_reference_at, octet_name_at, octet_line_by, octet_line_at, IsEmptyRoom, TakesLine, value_is_coded, has_coded, is_coded_line, seen_string, GivesParts};
 
 use super::field_line::{self, Representation, Table};
 use super::{DecodingError, field_section, integer, string_literal};
@@ -26,7 +26,9 @@ pub struct FieldRoom {
 
 impl FieldRoom {
     /// Creates an empty room. Nothing is allocated.
-    pub fn new(alloc: Global) -> Self {
+    pub fn new(alloc: Global) -> Self
+        ensures { IsEmptyRoom result }
+    {
         FieldRoom {
             name: Vec::new(alloc),
             value: Vec::new(alloc),
@@ -78,6 +80,7 @@ impl<'a> FieldLines<'a> {
     /// Returns the fault of the line, if it has one. Returns [`DecodingError::Memory`] only if
     /// allocation failed at a line with a Huffman text. On an error no line is taken, so the next
     /// call reads the same line.
+    #[tactic(auto, using(crate::proofs::SectionReading::octet_line_shorter))]
     pub fn next_line<'r>(
         &mut self,
         room: &'r mut FieldRoom,
@@ -85,6 +88,8 @@ impl<'a> FieldLines<'a> {
     where
         'a: 'r,
         ensures line { TakesLine self.old self.new result }
+        // A line has at least one byte, so there is an end to the lines.
+        ensures shorter { IfSome result (λ taken. OnOk taken (length self.new < length self.old)) }
         ensures memory { result ≡ Some (Err Memory) → IsTrue (is_coded_line self.old) }
     {
         if self.rest.is_empty() {

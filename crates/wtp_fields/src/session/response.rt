@@ -194,7 +194,8 @@ impl TryFrom<Headers> for SessionResponse {
 /// the frame can be read again.
 pub fn response_of_frame(alloc: Global, frame: &Frame<'_>) -> Result<SessionResponse, Refused>
     ensures read { ResponseIn frame.now result }
-    ensures memory { result ≡ Err Refused.Memory → (kind_in frame.now ≡ FrameKind.Headers) × BeginsLine (payload_in frame.now) }
+    ensures memory { result ≡ Err Refused.Memory
+        → (kind_in frame.now ≡ FrameKind.Headers) × BeginsLine (payload_in frame.now) }
 {
     let FrameKind::Headers = frame.kind() else {
         return Err(Refused::Code(ErrorCode::FrameUnexpected));

@@ -100,8 +100,10 @@ impl CloseWebTransportSession {
     /// The parts are the type, the length, the code in four bytes, most significant first, and the
     /// reason. On an error the writer holds the parts before the one that it refused.
     pub fn write<W: BytesWriter>(&self, writer: &mut W) -> Result<(), PutError>
-        ensures parts { PutsParts W.grows (close_parts self.now) result (W.written writer.old) (W.room writer.old) (W.written writer.new) (W.room writer.new) }
-        ensures full { result ≡ Err PutError.EndOfBuffer → LacksRoom (W.room writer.old) (length (close_wire self.now)) }
+        ensures parts { PutsParts W.grows (close_parts self.now) result (W.written writer.old)
+            (W.room writer.old) (W.written writer.new) (W.room writer.new) }
+        ensures full { result ≡ Err PutError.EndOfBuffer
+            → LacksRoom (W.room writer.old) (length (close_wire self.now)) }
         ensures target { W.target writer.new ≡ W.target writer.old }
     {
         writer.put_varint(capsule_types::CAPSULE_TYPE_CLOSE_WEBTRANSPORT_SESSION)?;

@@ -86,8 +86,8 @@ impl CapsuleReading {
         }
     }
 
-    /// Returns an error if the data may not end here, because a capsule has begun (RFC 9297, section
-    /// 3.3).
+    /// Returns an error if the data may not end here, because a capsule has begun (RFC 9297,
+    /// section 3.3).
     pub fn finish(&self) -> Result<(), CutCapsule>
         ensures { IsOk result ↔ (next_held self.now [] ≡ End) }
     {
@@ -154,7 +154,8 @@ fn advance(
     requires fits { len.old ≤ 16 }
     requires part { IsPart (take len.old head.old) value.old.items due.old }
     ensures fits { len.new ≤ 16 }
-    ensures advanced { Advanced result (holding (take len.old head.old) value.old.items due.old) bytes.old.now
+    ensures advanced { Advanced result (holding (take len.old head.old) value.old.items due.old)
+        bytes.old.now
         (take len.new head.new) value.new.items due.new bytes.new.now }
 {
     skip(bytes, due);
@@ -219,12 +220,15 @@ fn take_head(bytes: &mut &[u8], head: &mut [u8; 16], len: &mut usize) -> bool
     requires fits { len.old ≤ 16 }
     requires within { len.old ≤ frame_need (take len.old head.old) }
     ensures whole { IsTrue result → frame_need (take len.new head.new) ≡ len.new }
-    ensures cut { result ≡ false → (len.new < frame_need (take len.new head.new)) × (bytes.new.now ≡ []) }
+    ensures cut { result ≡ false
+        → (len.new < frame_need (take len.new head.new)) × (bytes.new.now ≡ []) }
     ensures room { len.new ≤ 16 }
     ensures forward { len.old ≤ len.new }
     ensures front { take len.old head.new ≡ take len.old head.old }
-    ensures stays { frame_need (take len.old head.old) ≡ len.old → (len.new ≡ len.old) × (head.new ≡ head.old) }
-    ensures joins { take len.old head.old ++ bytes.old.now ≡ take len.new head.new ++ bytes.new.now }
+    ensures stays { frame_need (take len.old head.old) ≡ len.old
+        → (len.new ≡ len.old) × (head.new ≡ head.old) }
+    ensures joins { take len.old head.old ++ bytes.old.now
+        ≡ take len.new head.new ++ bytes.new.now }
 {
     match fill_head::<CapsuleHeadSize, _>(bytes, head, len) {
         Ok(()) => true,

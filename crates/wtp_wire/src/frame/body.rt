@@ -64,7 +64,7 @@ impl Body<'static> {
     /// Copies the `len` bytes at `start`. Returns `None` if allocation failed. A payload of at most
     /// 40 bytes does not allocate, unless it is near the end of the bytes.
     #[inline(always)]
-    pub(crate) fn copied(alloc: Global, bytes: &[u8], start: usize, len: usize) -> Option<Self>
+    pub(crate) fn copy(alloc: Global, bytes: &[u8], start: usize, len: usize) -> Option<Self>
         requires { start + len ≤ length bytes.now }
         ensures copy { IfSome result (λ b. payload_of b ≡ take len (drop start bytes.now)) }
         ensures plain { IfSome result (λ b. session_of b ≡ None) }

@@ -1,8 +1,9 @@
-//! The first two numbers of a frame: its type, and its length or session ID.
-ghost use Rattle.std.specs.Prelude.{◌≡◌, ◌+◌, ◌<◌, length, IfSome};
+//! The head of a frame, and what it announces. The head is the first two numbers: the type, and
+//! the length or session ID.
+ghost use Rattle.std.specs.Prelude.{◌≡◌, ◌+◌, ◌<◌, length};
 ghost use Rattle.wtp_wire.specs.FrameNeed.{frame_need, frame_need_most, frame_need_grows};
-ghost use Rattle.wtp_wire.specs.FrameHead.{head_says, second_says, Announces};
-ghost use Rattle.wtp_wire.specs.Kind.{IsKnown};
+ghost use Rattle.wtp_wire.specs.FrameHead.{announcement_at, announcement_of, AnnouncesKind};
+ghost use Rattle.wtp_wire.specs.Kind.{kind_of};
 
 use crate::frame::FrameKind;
 use wtp_core::bytes::get::varint_need;
@@ -13,20 +14,20 @@ use wtp_core::varint::{VarInt, first_varint};
 /// The longest payload that is read, in bytes.
 pub(crate) const MAX_PAYLOAD: u64 = 4096;
 
-/// What the first two numbers say about the bytes after them.
+/// What the head of a frame announces: which bytes follow it.
 #[derive(Clone, Copy)]
-pub(crate) enum Said {
-    /// The two numbers are not both complete.
+pub(crate) enum Announcement {
+    /// Nothing yet: the two numbers are not both complete.
     Unfinished,
-    /// A payload of this many bytes follows, of a frame of this kind.
+    /// A payload of this many bytes, of a frame of this kind.
     Payload(FrameKind, u64),
-    /// No more bytes follow: the frame is that of this session.
+    /// No more bytes: the frame is that of this session.
     Session(SessionId),
-    /// A payload of this many bytes follows, of an unknown frame. It has to be skipped.
+    /// A payload of this many bytes, of an unknown frame. It has to be skipped.
     Skip(u64),
-    /// The second number is an invalid session ID.
+    /// An invalid session ID, which is the second number.
     BadSession,
-    /// The payload is too long to be read.
+    /// A payload too long to be read.
     TooLong,
 }
 
@@ -50,39 +51,38 @@ impl Head for FrameHead {
     ghost need_grows = { frame_need_grows };
 }
 
-/// Returns what the first two numbers say.
+/// Returns what the head at the start of these bytes announces.
 #[inline(always)]
-#[tactic(auto, unfolding(crate::specs::FrameHead::head_says, crate::specs::FrameHead::head_at))]
-pub(crate) fn read_head(held: &[u8]) -> Said
-    ensures { result ≡ head_says held.now }
+#[tactic(auto, unfolding(crate::specs::FrameHead::announcement_at, crate::specs::FrameHead::head_at))]
+pub(crate) fn read_head(held: &[u8]) -> Announcement
+    ensures { result ≡ announcement_at held.now }
 {
     let Some((id, size)) = first_varint(held) else {
-        return Said::Unfinished;
+        return Announcement::Unfinished;
     };
     let Some((number, _)) = first_varint(&held[size..]) else {
-        return Said::Unfinished;
+        return Announcement::Unfinished;
     };
-    classify_second(FrameKind::parse(id), number)
+    classify_head(id, number)
 }
 
-/// Returns what the second number says after the type of this kind, or after an unknown type.
+/// Returns what a head of these two numbers announces.
 #[inline(always)]
-pub(crate) fn classify_second(kind: Option<FrameKind>, number: VarInt) -> Said
-    requires { IfSome kind IsKnown }
-    ensures says { result ≡ second_says kind number }
-    ensures announces { Announces kind result }
+pub(crate) fn classify_head(id: VarInt, number: VarInt) -> Announcement
+    ensures announces { result ≡ announcement_of (kind_of id) number }
+    ensures kind { AnnouncesKind (kind_of id) result }
 {
-    match kind {
-        None => Said::Skip(number.into_inner()),
+    match FrameKind::parse(id) {
+        None => Announcement::Skip(number.into_inner()),
         Some(FrameKind::WebTransport) => match SessionId::try_from_varint(number) {
-            Ok(id) => Said::Session(id),
-            Err(_) => Said::BadSession,
+            Ok(id) => Announcement::Session(id),
+            Err(_) => Announcement::BadSession,
         },
         Some(kind) => {
             if number.into_inner() > MAX_PAYLOAD {
-                Said::TooLong
+                Announcement::TooLong
             } else {
-                Said::Payload(kind, number.into_inner())
+                Announcement::Payload(kind, number.into_inner())
             }
         }
     }

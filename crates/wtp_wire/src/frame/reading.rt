@@ -1,29 +1,31 @@
 //! Reading a frame, poll by poll.
-ghost use Rattle.std.specs.Prelude.{◌≡◌, ◌≢◌, ◌≤◌, length, None, IfSome};
+ghost use Rattle.std.specs.Prelude.{◌≡◌, length, None, IfSome};
 ghost use Rattle.wtp_core.specs.Source.{Telling};
 ghost use Rattle.wtp_core.specs.Polled.{Asks};
 ghost use Rattle.wtp_wire.specs.Held.{new_held, IsUnfinished};
-ghost use Rattle.wtp_wire.specs.Limits.{max_payload};
 ghost use Rattle.wtp_wire.specs.FramePolling.{FramePolled, FrameGiven};
 ghost use Rattle.wtp_wire.specs.FrameSteps.{CanAnswer, IsAnswer, IsFramed, TakesFrame, PassedOn, PassedPlain};
 
 mod part;
 
 use crate::frame::body::Body;
-use crate::frame::head::Said;
+use crate::frame::head::Announcement;
 use crate::frame::kind::KindNumber;
 use crate::frame::reading::part::{FramePart, Stop};
 use crate::frame::whole::front_frame;
-use crate::frame::{Frame, FrameKind, FrameOwned, ParseError};
+use crate::frame::{Frame, FrameOwned, ParseError};
 use std::alloc::Global;
 use std::fmt;
 use std::marker::Model;
 use wtp_core::bytes;
 use wtp_core::bytes::{AsyncRead, Polled};
-use wtp_core::polling::fill::halted;
+use wtp_core::polling::fill::halt_result;
 use wtp_core::polling::passing::pass;
 
 /// The reason no frame was read from a source.
+///
+/// It has the faults of one frame, whatever stream it is on: `stream::IoReadError` has the error
+/// codes of a stream's rules, and `bytes::IoReadError` the faults of a source alone.
 #[derive(Debug, Drop, PartialEq, Eq, thiserror::Error)]
 pub enum IoReadError {
     /// The first bytes are not a valid frame.
@@ -46,27 +48,11 @@ impl From<bytes::IoReadError> for IoReadError {
 }
 
 impl<'a> Frame<'a> {
-    ghost use Rattle.wtp_wire.specs.Kind.{IsKnown};
-    ghost use Rattle.wtp_wire.specs.Content.{content};
-
     /// Returns a state that reads one frame from a source, poll by poll, and then the next.
     pub fn read_async(alloc: Global) -> FrameReading
         ensures { result ≡ new_held }
     {
         FrameReading::new(alloc)
-    }
-
-    /// Creates a frame that owns its payload.
-    fn with_payload(kind: FrameKind, payload: Vec<u8>) -> FrameOwned
-        requires known { IsKnown kind }
-        requires plain { kind ≢ FrameKind.WebTransport }
-        requires fits { length payload.items ≤ max_payload }
-        ensures { result ≡ content kind payload.items None }
-    {
-        Frame {
-            kind: KindNumber::of(kind),
-            body: Body::Owned(payload),
-        }
     }
 }
 
@@ -137,11 +123,12 @@ impl FrameReading {
         ensures was_unfinished { IsUnfinished self.old }
         ensures unfinished { IsUnfinished self.new }
         ensures given { FrameGiven result self.old self.new }
-        ensures polled { Telling (S.tells source.old) (S.tells source.new) (FramePolled result self.old self.new) }
+        ensures polled { Telling (S.tells source.old) (S.tells source.new)
+            (FramePolled result self.old self.new) }
         ensures asks { Telling (S.tells source.old) (S.tells source.new) (Asks 4112) }
     {
         if self.due == 0 && self.part.head_len() == 0 {
-            if let Some(frame) = take_buffered(self.alloc, source) {
+            if let Some(frame) = take_buffered_frame(self.alloc, source) {
                 return Polled::Ready(Ok(frame));
             }
         }
@@ -153,37 +140,39 @@ impl FrameReading {
         ensures was_unfinished { IsUnfinished self.old }
         ensures unfinished { IsUnfinished self.new }
         ensures given { FrameGiven result self.old self.new }
-        ensures polled { Telling (S.tells source.old) (S.tells source.new) (FramePolled result self.old self.new) }
+        ensures polled { Telling (S.tells source.old) (S.tells source.new)
+            (FramePolled result self.old self.new) }
         ensures asks { Telling (S.tells source.old) (S.tells source.new) (Asks 4112) }
     {
         if self.due > 0 {
             return pass_on(source, &mut self.due);
         }
-        let said = match self.part.advance(source) {
-            Ok(said) => said,
-            Err(Stop::Source(halt)) => return halted(halt, self.part.len()),
+        let announcement = match self.part.advance(source) {
+            Ok(announcement) => announcement,
+            Err(Stop::Source(halt)) => return halt_result(halt, self.part.len()),
             Err(Stop::NoMemory) => return Polled::NoMemory,
         };
         let payload = self.part.take_payload(self.alloc);
-        match said {
-            Said::Skip(size) => {
+        match announcement {
+            Announcement::Skip(size) => {
                 self.due = size;
                 pass_on(source, &mut self.due)
             }
-            _ => Polled::Ready(answer(said, payload)),
+            _ => Polled::Ready(answer(announcement, payload)),
         }
     }
 }
 
 /// Takes the first frame of a source if all of it is buffered. Otherwise the source is unchanged.
 #[inline(always)]
-fn take_buffered<S: AsyncRead>(alloc: Global, source: &mut S) -> Option<FrameOwned>
+fn take_buffered_frame<S: AsyncRead>(alloc: Global, source: &mut S) -> Option<FrameOwned>
     ensures framed { IfSome result IsFramed }
-    ensures takes { IfSome result (λ f. Telling (S.tells source.old) (S.tells source.new) (TakesFrame f)) }
+    ensures takes { IfSome result
+        (λ f. Telling (S.tells source.old) (S.tells source.new) (TakesFrame f)) }
     ensures none { result ≡ None → source.new ≡ source.old }
 {
-    let (frame, size) = front_frame(alloc, source.at_hand())?;
-    if source.take_at_hand(size) {
+    let (frame, size) = front_frame(alloc, source.buffered())?;
+    if source.take_buffered(size) {
         Some(frame)
     } else {
         None
@@ -192,23 +181,27 @@ fn take_buffered<S: AsyncRead>(alloc: Global, source: &mut S) -> Option<FrameOwn
 
 /// Returns the result of a frame that need not be skipped, with the payload that was read.
 #[inline(always)]
-fn answer(said: Said, payload: Vec<u8>) -> Result<FrameOwned, IoReadError>
-    requires { CanAnswer said (length payload.items) }
-    ensures { IsAnswer said payload.items result }
+fn answer(announcement: Announcement, payload: Vec<u8>) -> Result<FrameOwned, IoReadError>
+    requires { CanAnswer announcement (length payload.items) }
+    ensures { IsAnswer announcement payload.items result }
 {
-    match said {
-        Said::Payload(kind, _) => Ok(Frame::with_payload(kind, payload)),
-        Said::Session(id) => Ok(Frame::new_webtransport(id)),
-        Said::BadSession => Err(IoReadError::Parse(ParseError::InvalidSessionId)),
-        Said::TooLong => Err(IoReadError::Parse(ParseError::PayloadTooBig)),
-        Said::Skip(_) | Said::Unfinished => unreachable!(),
+    match announcement {
+        Announcement::Payload(kind, _) => Ok(Frame {
+            kind: KindNumber::of(kind),
+            body: Body::Owned(payload),
+        }),
+        Announcement::Session(id) => Ok(Frame::new_webtransport(id)),
+        Announcement::BadSession => Err(IoReadError::Parse(ParseError::InvalidSessionId)),
+        Announcement::TooLong => Err(IoReadError::Parse(ParseError::PayloadTooBig)),
+        Announcement::Skip(_) | Announcement::Unfinished => unreachable!(),
     }
 }
 
 /// Skips payload bytes of an unknown frame, as many as one poll may.
 fn pass_on<S: AsyncRead>(source: &mut S, due: &mut u64) -> Polled<Result<FrameOwned, IoReadError>>
     ensures plain { PassedPlain result due.old due.new }
-    ensures passed { Telling (S.tells source.old) (S.tells source.new) (PassedOn result due.old due.new) }
+    ensures passed { Telling (S.tells source.old) (S.tells source.new)
+        (PassedOn result due.old due.new) }
 {
     match pass(source, due) {
         Ok(()) => {
@@ -218,6 +211,6 @@ fn pass_on<S: AsyncRead>(source: &mut S, due: &mut u64) -> Polled<Result<FrameOw
                 Polled::Again
             }
         }
-        Err(halt) => halted(halt, 1),
+        Err(halt) => halt_result(halt, 1),
     }
 }

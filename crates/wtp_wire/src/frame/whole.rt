@@ -16,7 +16,8 @@ use wtp_core::bytes::BufferReader;
 pub(crate) fn front_frame(alloc: Global, bytes: &[u8]) -> Option<(FrameOwned, usize)>
     ensures size { IfSome result (λ x. x.1 ≤ length bytes.now) }
     ensures front { IfSome result (λ x. front bytes.now ≡ Framed x.0 (drop x.1 bytes.now)) }
-    ensures short { (f : Content) (rest : List ℕ) → front bytes.now ≡ Framed f rest → length (payload_in f) ≤ 40 → 40 ≤ length (payload_in f) + length rest → IsSome result }
+    ensures short { (f : Content) (rest : List ℕ) → front bytes.now ≡ Framed f rest
+        → length (payload_in f) ≤ 40 → 40 ≤ length (payload_in f) + length rest → IsSome result }
 {
     let mut reader = BufferReader::new(bytes);
     let Ok(Some(frame)) = Frame::read(&mut reader) else {
@@ -28,7 +29,7 @@ pub(crate) fn front_frame(alloc: Global, bytes: &[u8]) -> Option<(FrameOwned, us
         Some(session_id) => Body::Session(session_id),
         None => {
             let len = frame.payload().len();
-            Body::copied(alloc, bytes, size - len, len)?
+            Body::copy(alloc, bytes, size - len, len)?
         }
     };
     Some((Frame { kind, body }, size))

@@ -65,7 +65,7 @@ pub struct FrameWriting<'a> {
 impl fmt::Debug for FrameWriting<'_> {
     fn fmt<W: fmt::Write>(&self, f: &mut fmt::Formatter<W>) -> fmt::Result {
         f.debug_struct("FrameWriting")
-            .field("head_sent", &self.head.sent())
+            .field("head_sent", &self.head.sent_len())
             .field("payload_sent", &self.payload_sent)
             .finish_non_exhaustive()
     }
@@ -74,9 +74,12 @@ impl fmt::Debug for FrameWriting<'_> {
 impl<'a> Model for FrameWriting<'a> {
     ghost Value = { Writing };
 
-    ghost view = { λ s. record { bytes = s.head.bytes ++ s.payload.now; sent = s.head.sent + s.payload_sent } };
+    ghost view = { λ s. record
+        { bytes = s.head.bytes ++ s.payload.now; sent = s.head.sent + s.payload_sent } };
 
-    ghost invariant = { λ s. (s.head.sent ≤ length s.head.bytes) × (s.payload_sent ≤ length s.payload.now) × (0 < s.payload_sent → s.head.sent ≡ length s.head.bytes) };
+    ghost invariant = { λ s. (s.head.sent ≤ length s.head.bytes)
+        × (s.payload_sent ≤ length s.payload.now)
+        × (0 < s.payload_sent → s.head.sent ≡ length s.head.bytes) };
 }
 
 impl<'a> FrameWriting<'a> {
@@ -89,8 +92,10 @@ impl<'a> FrameWriting<'a> {
     pub fn poll<W: AsyncWrite>(&mut self, sink: &mut W) -> Polled<Result<(), IoWriteError>>
         ensures on { GoesOn self.old self.new }
         ensures whole { IsSent result self.new }
-        ensures polled { Telling (W.tells sink.old) (W.tells sink.new) (WritePolled result self.old self.new) }
-        ensures finished { self.old.sent ≡ length self.old.bytes → (sink.new ≡ sink.old) × (result ≡ Polled.Ready (Ok tt)) }
+        ensures polled { Telling (W.tells sink.old) (W.tells sink.new)
+            (WritePolled result self.old self.new) }
+        ensures finished { self.old.sent ≡ length self.old.bytes
+            → (sink.new ≡ sink.old) × (result ≡ Polled.Ready (Ok tt)) }
     {
         match self.head.poll(sink) {
             Polled::Ready(Ok(())) => drain(sink, self.payload, &mut self.payload_sent),

@@ -1,24 +1,28 @@
 //! Laws of capsules.
-ghost use Rattle.std.specs.Prelude.{◌≡◌, ◌≢◌, ◌++◌, ◌⊎◌, ℕ, List, Option, Some, Result};
+ghost use Rattle.std.specs.Prelude.{◌≡◌, ◌≢◌, ◌++◌, ◌⊎◌, ℕ, List, [], Option, Some, Result, Err};
 ghost use Rattle.wtp_wire.specs.Capsule.{BeginsWithCapsule, capsule_in};
 ghost use Rattle.wtp_wire.specs.CapsuleFront.{CapsuleFront, Found, Unknown, TooLong, Cut, End, StartsWith, capsule_front};
-ghost use Rattle.wtp_wire.specs.CapsuleStream.{Between, Within, AtTooLong, next_capsule, next_held, ends, follows, by_front, capsules, capsules_held, NextGiven, with_result};
+ghost use Rattle.wtp_wire.specs.CapsuleStream.{Between, Within, AtTooLong, Step, Leads, data_of, returned, next_capsule, next_held, ends, follows, by_front, capsules, capsules_held, NextGiven, with_result};
 ghost use Rattle.wtp_wire.specs.CloseSession.{IsClose, IsWritableClose, close_in, close_value, close_wire};
-ghost use Rattle.wtp_wire.specs.Held.{Held};
+ghost use Rattle.wtp_wire.specs.Held.{Held, new_held};
 ghost use Rattle.wtp_wire.specs.declared.capsule.CapsuleError.{CapsuleError};
 ghost use Rattle.wtp_wire.specs.declared.capsule.CapsuleKind.{CapsuleKind};
 
 /// The capsule at the start of the input is computed, and what is computed is at its start: so the
 /// input starts with at most one capsule.
 pub fn capsule_is_computed()
-    ensures computed { (bytes : List ℕ) (kind : CapsuleKind) (payload : List ℕ) → BeginsWithCapsule bytes kind payload → capsule_in bytes ≡ Some (kind, payload) }
-    ensures defined { (bytes : List ℕ) (kind : CapsuleKind) (payload : List ℕ) → capsule_in bytes ≡ Some (kind, payload) → BeginsWithCapsule bytes kind payload }
+    ensures computed { (bytes : List ℕ) (kind : CapsuleKind) (payload : List ℕ)
+        → BeginsWithCapsule bytes kind payload → capsule_in bytes ≡ Some (kind, payload) }
+    ensures defined { (bytes : List ℕ) (kind : CapsuleKind) (payload : List ℕ)
+        → capsule_in bytes ≡ Some (kind, payload) → BeginsWithCapsule bytes kind payload }
 {}
 
 /// The computed code and reason of a close payload are those by definition.
 pub fn close_is_computed()
-    ensures computed { (code : ℕ) (reason payload : List ℕ) → IsClose code reason payload → close_in payload ≡ Some (code, reason) }
-    ensures defined { (code : ℕ) (reason payload : List ℕ) → close_in payload ≡ Some (code, reason) → IsClose code reason payload }
+    ensures computed { (code : ℕ) (reason payload : List ℕ) → IsClose code reason payload
+        → close_in payload ≡ Some (code, reason) }
+    ensures defined { (code : ℕ) (reason payload : List ℕ) → close_in payload ≡ Some (code, reason)
+        → IsClose code reason payload }
 {}
 
 /// What data starts with is computed: so at most one case of `CapsuleFront` holds, with one rest.
@@ -28,20 +32,28 @@ pub fn capsule_front_is_computed()
 
 /// One case holds: the computed one. If that is `Cut`, the data starts with none of the others.
 pub fn one_capsule_front()
-    ensures { (bytes : List ℕ) → StartsWith bytes (capsule_front bytes) ⊎ ((capsule_front bytes ≡ Cut) × ((c : CapsuleFront) → StartsWith bytes c → ⊥)) }
+    ensures { (bytes : List ℕ)
+        → StartsWith bytes (capsule_front bytes)
+        ⊎ ((capsule_front bytes ≡ Cut) × ((c : CapsuleFront) → StartsWith bytes c → ⊥)) }
 {}
 
 /// The next capsule of a known kind: those of unknown types before it are skipped.
 pub fn next_capsule_by_front()
-    ensures unknown { (bytes rest : List ℕ) → capsule_front bytes ≡ Unknown rest → next_capsule bytes ≡ next_capsule rest }
-    ensures other { (bytes : List ℕ) → ((rest : List ℕ) → capsule_front bytes ≢ Unknown rest) → next_capsule bytes ≡ capsule_front bytes }
+    ensures unknown { (bytes rest : List ℕ) → capsule_front bytes ≡ Unknown rest
+        → next_capsule bytes ≡ next_capsule rest }
+    ensures other { (bytes : List ℕ) → ((rest : List ℕ) → capsule_front bytes ≢ Unknown rest)
+        → next_capsule bytes ≡ capsule_front bytes }
 {}
 
 /// The capsules of data go by the first one.
 pub fn capsules_by_first()
-    ensures found { (bytes value rest : List ℕ) (kind : CapsuleKind) → capsule_front bytes ≡ Found kind value rest → capsules bytes ≡ follows (kind, value) (capsules rest) }
-    ensures unknown { (bytes rest : List ℕ) → capsule_front bytes ≡ Unknown rest → capsules bytes ≡ capsules rest }
-    ensures too_long { (bytes rest : List ℕ) → capsule_front bytes ≡ TooLong rest → capsules bytes ≡ ends AtTooLong }
+    ensures found { (bytes value rest : List ℕ) (kind : CapsuleKind)
+        → capsule_front bytes ≡ Found kind value rest
+        → capsules bytes ≡ follows (kind, value) (capsules rest) }
+    ensures unknown { (bytes rest : List ℕ) → capsule_front bytes ≡ Unknown rest
+        → capsules bytes ≡ capsules rest }
+    ensures too_long { (bytes rest : List ℕ) → capsule_front bytes ≡ TooLong rest
+        → capsules bytes ≡ ends AtTooLong }
     ensures cut { (bytes : List ℕ) → capsule_front bytes ≡ Cut → capsules bytes ≡ ends Within }
     ensures end { (bytes : List ℕ) → capsule_front bytes ≡ End → capsules bytes ≡ ends Between }
 {}
@@ -50,12 +62,36 @@ pub fn capsules_by_first()
 /// held, the bytes given and those that follow are the result of a call, followed by the capsules
 /// and the ending of what is then held, the bytes left and those that follow.
 pub fn cuts_make_no_difference()
-    ensures { (result : Result (Option (CapsuleKind × List ℕ)) CapsuleError) (old new : Held) (a b more : List ℕ) → NextGiven result old a new b → capsules_held old (a ++ more) ≡ with_result result (capsules_held new (b ++ more)) }
+    ensures { (result : Result (Option (CapsuleKind × List ℕ)) CapsuleError) (old new : Held)
+        (a b more : List ℕ) → NextGiven result old a new b
+        → capsules_held old (a ++ more) ≡ with_result result (capsules_held new (b ++ more)) }
+{}
+
+/// A new reading returns the capsules of the data, and finds how it ends, whatever pieces the data
+/// arrives in and however often a call fails and is made again. The steps are what happened at the
+/// reading, and what it holds and the bytes that are left are those after them. If no byte is left,
+/// the data ends between two capsules exactly where `finish` returns no error.
+pub fn pieces_make_no_difference()
+    ensures between { (steps : List Step) (held : Held) → Leads steps new_held [] held []
+        → next_held held [] ≡ End
+        → capsules (data_of steps) ≡ record { found = returned steps; ending = Between } }
+    ensures within { (steps : List Step) (held : Held) → Leads steps new_held [] held []
+        → next_held held [] ≡ Cut
+        → capsules (data_of steps) ≡ record { found = returned steps; ending = Within } }
+    ensures too_long { (steps : List Step) (held new : Held) (left b more : List ℕ)
+        → Leads steps new_held [] held left → NextGiven (Err CapsuleError.TooLong) held left new b
+        → capsules (data_of steps ++ more)
+        ≡ record { found = returned steps; ending = AtTooLong } }
 {}
 
 /// A close capsule that is written is read again, whatever follows, and so are its code and reason.
 pub fn written_close_is_read()
-    ensures next { (close : ℕ × List ℕ) (rest : List ℕ) → IsWritableClose close → next_capsule (close_wire close ++ rest) ≡ Found CapsuleKind.CloseWebTransportSession (close_value close) rest }
-    ensures first { (close : ℕ × List ℕ) (rest : List ℕ) → IsWritableClose close → capsule_in (close_wire close ++ rest) ≡ Some (CapsuleKind.CloseWebTransportSession, close_value close) }
-    ensures value { (close : ℕ × List ℕ) → IsWritableClose close → close_in (close_value close) ≡ Some close }
+    ensures next { (close : ℕ × List ℕ) (rest : List ℕ) → IsWritableClose close
+        → next_capsule (close_wire close ++ rest)
+        ≡ Found CapsuleKind.CloseWebTransportSession (close_value close) rest }
+    ensures first { (close : ℕ × List ℕ) (rest : List ℕ) → IsWritableClose close
+        → capsule_in (close_wire close ++ rest)
+        ≡ Some (CapsuleKind.CloseWebTransportSession, close_value close) }
+    ensures value { (close : ℕ × List ℕ) → IsWritableClose close
+        → close_in (close_value close) ≡ Some close }
 {}

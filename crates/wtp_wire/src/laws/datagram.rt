@@ -4,11 +4,14 @@ ghost use Rattle.wtp_wire.specs.Datagram.{IsDatagram, datagram_in, datagram_wire
 
 /// The computed datagram of the input is its datagram by definition.
 pub fn datagram_is_computed()
-    ensures computed { (id : ℕ) (payload s : List ℕ) → IsDatagram id payload s → datagram_in s ≡ Some (id, payload) }
-    ensures defined { (id : ℕ) (payload s : List ℕ) → datagram_in s ≡ Some (id, payload) → IsDatagram id payload s }
+    ensures computed { (id : ℕ) (payload s : List ℕ) → IsDatagram id payload s
+        → datagram_in s ≡ Some (id, payload) }
+    ensures defined { (id : ℕ) (payload s : List ℕ) → datagram_in s ≡ Some (id, payload)
+        → IsDatagram id payload s }
 {}
 
 /// A datagram that is written is read again, with the same quarter stream ID and payload.
 pub fn written_datagram_is_read()
-    ensures { (id : ℕ) (payload : List ℕ) → id < 2 ^ 60 → datagram_in (datagram_wire (id, payload)) ≡ Some (id, payload) }
+    ensures { (id : ℕ) (payload : List ℕ) → id < 2 ^ 60
+        → datagram_in (datagram_wire (id, payload)) ≡ Some (id, payload) }
 {}

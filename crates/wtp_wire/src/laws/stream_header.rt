@@ -8,8 +8,10 @@ ghost use Rattle.wtp_wire.specs.declared.stream_header.StreamKind.{StreamKind};
 
 /// The computed kind of a stream type is its kind by definition.
 pub fn stream_kind_is_computed()
-    ensures computed { (kind : StreamKind) (id : ℕ) → IsStreamKind kind id → stream_kind_of id ≡ Some kind }
-    ensures defined { (kind : StreamKind) (id : ℕ) → stream_kind_of id ≡ Some kind → IsStreamKind kind id }
+    ensures computed { (kind : StreamKind) (id : ℕ) → IsStreamKind kind id
+        → stream_kind_of id ≡ Some kind }
+    ensures defined { (kind : StreamKind) (id : ℕ) → stream_kind_of id ≡ Some kind
+        → IsStreamKind kind id }
 {}
 
 /// What a stream's bytes start with is computed: so at most one case of `HeaderFront` holds, with
@@ -20,15 +22,19 @@ pub fn header_front_is_computed()
 
 /// One case holds: the computed one. If that is `Short`, the bytes start with none of the others.
 pub fn one_header_front()
-    ensures { (bytes : List ℕ) → StreamBegins bytes (header_front bytes) ⊎ ((header_front bytes ≡ Short) × ((c : HeaderFront) → StreamBegins bytes c → ⊥)) }
+    ensures { (bytes : List ℕ)
+        → StreamBegins bytes (header_front bytes)
+        ⊎ ((header_front bytes ≡ Short) × ((c : HeaderFront) → StreamBegins bytes c → ⊥)) }
 {}
 
 /// A case other than `Short` stays the same when bytes follow.
 pub fn header_front_stays()
-    ensures { (bytes more : List ℕ) → header_front bytes ≢ Short → header_front (bytes ++ more) ≡ header_extended (header_front bytes) more }
+    ensures { (bytes more : List ℕ) → header_front bytes ≢ Short
+        → header_front (bytes ++ more) ≡ header_extended (header_front bytes) more }
 {}
 
 /// A header that is written is read again, whatever follows.
 pub fn written_header_is_read()
-    ensures { (h : Header) (rest : List ℕ) → IsReadableHeader h → header_front (header_wire h ++ rest) ≡ Headed h rest }
+    ensures { (h : Header) (rest : List ℕ) → IsReadableHeader h
+        → header_front (header_wire h ++ rest) ≡ Headed h rest }
 {}

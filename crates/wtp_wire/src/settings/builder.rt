@@ -53,6 +53,18 @@ impl SettingsBuilder {
         self.set(setting_ids::SETTINGS_QPACK_MAX_TABLE_CAPACITY, value)
     }
 
+    /// Sets the maximum size of a field section, in bytes (RFC 9114, section 7.2.4.1). Not in the
+    /// Rust crate.
+    ///
+    /// Returns `AllocError` if allocation failed; then the builder is dropped. This cannot happen
+    /// if the setting was set before.
+    pub fn max_field_section_size(self, value: VarInt) -> Result<Self, AllocError>
+        ensures ok { IfOk result (λ b. b ≡ with_setting self 0x06 value) }
+        ensures err { OnErr result (value_at self 0x06 ≡ None) }
+    {
+        self.set(setting_ids::SETTINGS_MAX_FIELD_SECTION_SIZE, value)
+    }
+
     /// Sets the number of streams that QPACK may block (RFC 9204, section 5).
     ///
     /// Returns `AllocError` if allocation failed; then the builder is dropped. This cannot happen

@@ -14,11 +14,14 @@ use wtp_core::bytes;
 use wtp_core::bytes::get::varint_need;
 use wtp_core::bytes::{AsyncRead, AsyncWrite, IoWriteError, Polled};
 use wtp_core::polling::encoded::Encoded;
-use wtp_core::polling::fill::halted;
+use wtp_core::polling::fill::halt_result;
 use wtp_core::polling::head::{Head, fill_head};
 use wtp_core::varint::first_varint;
 
 /// The reason no header was read from a source.
+///
+/// It has the faults of the header of a unidirectional stream: `frame::IoReadError` has those of a
+/// frame, and `bytes::IoReadError` those of a source alone.
 #[derive(Debug, Drop, PartialEq, Eq, thiserror::Error)]
 pub enum IoReadError {
     /// The first bytes are not a valid header.
@@ -112,7 +115,8 @@ impl Model for HeaderReading {
 
     ghost view = { λ s. take s.len s.bytes };
 
-    ghost invariant = { λ s. (s.len ≤ 16) × (length (take s.len s.bytes) < header_need (take s.len s.bytes)) };
+    ghost invariant = { λ s. (s.len ≤ 16)
+        × (length (take s.len s.bytes) < header_need (take s.len s.bytes)) };
 }
 
 impl HeaderReading {
@@ -142,12 +146,13 @@ impl HeaderReading {
         ensures was_cut { header_front self.old ≡ Short }
         ensures cut { header_front self.new ≡ Short }
         ensures given { HeaderGiven result self.old self.new }
-        ensures polled { Telling (S.tells source.old) (S.tells source.new) (HeaderPolled result self.old self.new) }
+        ensures polled { Telling (S.tells source.old) (S.tells source.new)
+            (HeaderPolled result self.old self.new) }
         ensures asks { Telling (S.tells source.old) (S.tells source.new) (Asks 16) }
     {
         match fill_head::<HeaderHead, S>(source, &mut self.bytes, &mut self.len) {
             Ok(()) => {}
-            Err(halt) => return halted(halt, self.len),
+            Err(halt) => return halt_result(halt, self.len),
         }
         let answer = read_whole(&self.bytes[..self.len]);
         self.len = 0;
@@ -181,7 +186,7 @@ pub struct HeaderWriting {
 impl fmt::Debug for HeaderWriting {
     fn fmt<W: fmt::Write>(&self, f: &mut fmt::Formatter<W>) -> fmt::Result {
         f.debug_struct("HeaderWriting")
-            .field("sent", &self.encoded.sent())
+            .field("sent", &self.encoded.sent_len())
             .finish_non_exhaustive()
     }
 }
@@ -197,8 +202,10 @@ impl HeaderWriting {
     pub fn poll<W: AsyncWrite>(&mut self, sink: &mut W) -> Polled<Result<(), IoWriteError>>
         ensures on { GoesOn self.old self.new }
         ensures whole { IsSent result self.new }
-        ensures polled { Telling (W.tells sink.old) (W.tells sink.new) (WritePolled result self.old self.new) }
-        ensures finished { self.old.sent ≡ length self.old.bytes → (sink.new ≡ sink.old) × (result ≡ Polled.Ready (Ok tt)) }
+        ensures polled { Telling (W.tells sink.old) (W.tells sink.new)
+            (WritePolled result self.old self.new) }
+        ensures finished { self.old.sent ≡ length self.old.bytes
+            → (sink.new ≡ sink.old) × (result ≡ Polled.Ready (Ok tt)) }
     {
         self.encoded.poll(sink)
     }

@@ -15,7 +15,8 @@ pub fn remainder_by_front()
     ensures allowed { (role : Role) (first : Bool) (bytes rest : List ℕ) (f : Content)
         → front (past_unknown bytes) ≡ Framed f rest → rule role first (kind_in f) ≡ None
         → remainder role first bytes ≡ remainder role false rest }
-    ensures refused { (role : Role) (first : Bool) (bytes rest : List ℕ) (f : Content) (code : ErrorCode)
+    ensures refused { (role : Role) (first : Bool) (bytes rest : List ℕ) (f : Content)
+        (code : ErrorCode)
         → front (past_unknown bytes) ≡ Framed f rest → rule role first (kind_in f) ≡ Some code
         → remainder role first bytes ≡ remainder_here first bytes }
     ensures no_frame { (role : Role) (first : Bool) (bytes : List ℕ)
@@ -26,7 +27,8 @@ pub fn remainder_by_front()
 /// A run ends by what its frames leave: with the code of a refused frame, of an invalid session ID
 /// or of a payload that is too big, or as the bytes end if they are too few.
 pub fn run_ends_by_remainder()
-    ensures { (role : Role) (first : Bool) (bytes : List ℕ) (tail : Tail) → EndsAfter role tail (remainder role first bytes) (run role first bytes tail).ending }
+    ensures { (role : Role) (first : Bool) (bytes : List ℕ) (tail : Tail)
+        → EndsAfter role tail (remainder role first bytes) (run role first bytes tail).ending }
 {}
 
 /// The place where the run of what is held and ahead ends, by the first frame of both: frames that
@@ -35,20 +37,25 @@ pub fn place_by_front()
     ensures allowed { (role : Role) (first : Bool) (h : Held) (ahead rest : List ℕ) (f : Content)
         → front_held h ahead ≡ Framed f rest → rule role first (kind_in f) ≡ None
         → place_held role first h ahead ≡ place_held role false new_held rest }
-    ensures refused { (role : Role) (first : Bool) (h : Held) (ahead rest : List ℕ) (f : Content) (code : ErrorCode)
+    ensures refused { (role : Role) (first : Bool) (h : Held) (ahead rest : List ℕ) (f : Content)
+        (code : ErrorCode)
         → front_held h ahead ≡ Framed f rest → rule role first (kind_in f) ≡ Some code
         → place_held role first h ahead ≡ place_here first h ahead }
     ensures unknown { (role : Role) (first : Bool) (h : Held) (ahead rest : List ℕ)
-        → front_held h ahead ≡ Unknown rest → place_held role first h ahead ≡ place_held role first new_held rest }
+        → front_held h ahead ≡ Unknown rest → place_held role first h ahead
+        ≡ place_held role first new_held rest }
     ensures bad_id { (role : Role) (first : Bool) (h : Held) (ahead rest : List ℕ)
-        → front_held h ahead ≡ BadId rest → place_held role first h ahead ≡ place_here first h ahead }
+        → front_held h ahead ≡ BadId rest → place_held role first h ahead
+        ≡ place_here first h ahead }
     ensures too_big { (role : Role) (first : Bool) (h : Held) (ahead rest : List ℕ)
-        → front_held h ahead ≡ TooBig rest → place_held role first h ahead ≡ place_here first h ahead }
+        → front_held h ahead ≡ TooBig rest → place_held role first h ahead
+        ≡ place_here first h ahead }
     ensures short { (role : Role) (first : Bool) (h : Held) (ahead : List ℕ)
         → front_held h ahead ≡ Short → place_held role first h ahead ≡ place_here first h ahead }
 {}
 
 /// If nothing is held, it is the place after the frames of the bytes ahead.
 pub fn place_by_remainder()
-    ensures { (role : Role) (first : Bool) (bytes : List ℕ) → place_held role first new_held bytes ≡ place_after (remainder role first bytes) }
+    ensures { (role : Role) (first : Bool) (bytes : List ℕ)
+        → place_held role first new_held bytes ≡ place_after (remainder role first bytes) }
 {}

@@ -1,10 +1,13 @@
-//! Reading the header of a stream that the peer opened, poll by poll.
+//! Reading the start of a stream that the peer opened, poll by poll: the header of a unidirectional
+//! stream, or the first frame of a bidirectional one.
+use crate::stream::biremote::{StreamBiRemoteH3, StreamBiRemoteWT};
 use crate::stream::polled::stream_fault;
 use crate::stream::types::H3;
 use crate::stream::uniremote::{StreamUniRemoteH3, StreamUniRemoteQuic};
 use crate::stream::{IoReadError, Stream};
 use wtp_core::bytes::{AsyncRead, Polled, Stepped};
 use wtp_core::error::ErrorCode;
+use wtp_wire::frame::{FrameKind, FrameOwned, FrameReading};
 use wtp_wire::stream_header;
 use wtp_wire::stream_header::{HeaderReading, ParseError};
 
@@ -36,7 +39,8 @@ impl UniAccepting {
         source: &mut S,
     ) -> Stepped<Self, StreamUniRemoteH3, IoReadError>
         ensures given { AcceptGiven result self }
-        ensures polled { Telling (S.tells source.old) (S.tells source.new) (AcceptPolled result self.reading) }
+        ensures polled { Telling (S.tells source.old) (S.tells source.new)
+            (AcceptPolled result self.reading) }
         ensures asks { Telling (S.tells source.old) (S.tells source.new) (Asks 16) }
     {
         match self.reading.poll(source) {
@@ -58,6 +62,101 @@ impl UniAccepting {
             }
             Polled::Pending => Stepped::Pending(self),
             Polled::NoMemory | Polled::Again => unreachable!(),
+        }
+    }
+}
+
+/// Reads the first frame of a bidirectional stream, poll by poll: it is a stream of a WebTransport
+/// session, or one of a request. Not in the Rust crate.
+#[derive(Debug, Drop)]
+pub struct BiAccepting {
+    pub(crate) stream: StreamBiRemoteH3,
+    pub(crate) reading: FrameReading,
+}
+
+/// What a poll of `BiAccepting` found. Not in the Rust crate.
+#[derive(Debug, Drop)]
+pub enum BiAccepted {
+    /// A WebTransport frame came first: what follows it is the application's, and is not frames.
+    WebTransport(StreamBiRemoteWT),
+    /// The stream of a request, the reading, which holds nothing, and the first HEADERS frame.
+    Request(StreamBiRemoteH3, FrameReading, FrameOwned),
+    /// A frame was skipped, or 4096 bytes of its payload: more may be read.
+    Again(BiAccepting),
+    /// The source was not ready.
+    Pending(BiAccepting),
+    /// Memory allocation failed for a payload.
+    NoMemory(BiAccepting),
+    /// The first fault of the stream.
+    Failed(BiAccepting, IoReadError),
+}
+
+impl BiAccepting {
+    ghost use Rattle.std.specs.Prelude.{◌≡◌, Bool, None};
+    ghost use Rattle.wtp_core.specs.Source.{Telling};
+    ghost use Rattle.wtp_core.specs.Polled.{Asks};
+    ghost use Rattle.wtp_wire.specs.Content.{kind_in};
+    ghost use Rattle.wtransport_proto.specs.Rule.{RemoteBi, rule};
+    ghost use Rattle.wtp_wire.specs.Held.{IsUnfinished};
+    ghost use Rattle.wtransport_proto.specs.Accepting.{BiAcceptPolled, BiAcceptGiven, Judges, held_in};
+    ghost use Rattle.wtransport_proto.specs.Streams.{first_of};
+
+    /// Reads at most one frame, in at most 4112 calls to the source.
+    ///
+    /// - `WebTransport(stream)`: a WebTransport frame was read, before any other frame of a known
+    /// or
+    /// reserved type. The stream is upgraded to one of its session. The source is positioned right
+    ///   after the frame.
+    /// - `Request(stream, reading, frame)`: the first HEADERS frame was read. The source is
+    ///   positioned right after it.
+    /// - `Again`: a frame of a reserved or unknown type was skipped (RFC 9114, sections 7.2.8 and
+    ///   9), or 4096 bytes of the payload of an unknown one. A WebTransport frame is not permitted
+    ///   after one of a reserved type.
+    /// - `Pending`: the source was not ready. `NoMemory`: allocation failed for a payload.
+    /// - `Failed(_, H3(code))`: the code that `read_frame` of the stream returns, or `Frame` if the
+    ///   source ended inside a frame; `FrameUnexpected` if a DATA frame came before the first
+    ///   HEADERS frame (RFC 9114, section 4.1). The source is positioned right after the bytes that
+    ///   decided.
+    /// - `Failed(_, IO(fault))`: the source gave no more bytes; `ImmediateFin` if nothing is held.
+    ///
+    /// Each state that is returned holds the bytes received of a frame, and loses nothing. It may
+    /// be polled again, with the same source or another. `Failed` leaves the stream as
+    /// `read_frame_async` does: a frame that was refused counts as read.
+    pub fn poll<S: AsyncRead>(mut self, source: &mut S) -> BiAccepted
+        ensures was_unfinished { IsUnfinished self.reading }
+        ensures unfinished { IsUnfinished (held_in result) }
+        ensures given { BiAcceptGiven result (first_of self.stream) self.reading }
+        ensures polled { Telling (S.tells source.old) (S.tells source.new)
+            (BiAcceptPolled result (first_of self.stream) self.reading) }
+        ensures asks { Telling (S.tells source.old) (S.tells source.new) (Asks 4112) }
+    {
+        match self.stream.read_frame_async(&mut self.reading, source) {
+            Polled::Ready(Ok(frame)) => self.judge(frame),
+            Polled::Ready(Err(fault)) => BiAccepted::Failed(self, fault),
+            Polled::Again => BiAccepted::Again(self),
+            Polled::Pending => BiAccepted::Pending(self),
+            Polled::NoMemory => BiAccepted::NoMemory(self),
+        }
+    }
+
+    // Converts by a frame that the stream's rule permits.
+    fn judge(self, frame: FrameOwned) -> BiAccepted
+        requires { (first : Bool) × (rule RemoteBi first (kind_in frame) ≡ None) }
+        ensures { Judges result self frame.entry }
+    {
+        match frame.kind() {
+            FrameKind::WebTransport => {
+                let Some(session_id) = frame.session_id() else {
+                    unreachable!()
+                };
+                BiAccepted::WebTransport(self.stream.upgrade(session_id))
+            }
+            FrameKind::Headers => BiAccepted::Request(self.stream, self.reading, frame),
+            FrameKind::Exercise(_) => BiAccepted::Again(self),
+            FrameKind::Data => {
+                BiAccepted::Failed(self, IoReadError::H3(ErrorCode::FrameUnexpected))
+            }
+            _ => unreachable!(),
         }
     }
 }

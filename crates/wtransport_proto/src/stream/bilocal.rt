@@ -20,7 +20,7 @@ ghost use Rattle.wtransport_proto.specs.Streams.{can_upgrade, request_of, sessio
 ghost use Rattle.wtransport_proto.specs.Upgrading.{write_answer};
 
 use crate::stream::reading::{self, Rule};
-use crate::stream::rules::request_fault;
+use crate::stream::rules::{StreamRole, fault_of};
 use crate::stream::session::StreamSession;
 use crate::stream::types::{Bi, BiLocal, H3, Quic, Session, WT};
 use crate::stream::{BiUpgrading, IoReadError, IoWriteError, Stream, polled};
@@ -79,7 +79,8 @@ impl StreamBiLocalH3 {
         &self,
         reader: &mut R,
     ) -> Result<Option<Frame<'a>>, ErrorCode>
-        ensures answer { AnswersFrame LocalBi false (front (past_unknown (R.left reader.old))) result false (R.left reader.new) }
+        ensures answer { AnswersFrame LocalBi false (front (past_unknown (R.left reader.old)))
+            result false (R.left reader.new) }
         ensures rest { IsRest (R.left reader.new) (R.left reader.old) }
         ensures kept { R.kept reader.new ≡ R.kept reader.old }
     {
@@ -93,8 +94,10 @@ impl StreamBiLocalH3 {
         &self,
         reader: &mut BufferReader<'a>,
     ) -> Result<Option<Frame<'a>>, ErrorCode>
-        ensures run { AnswersRun LocalBi false (left_of reader.old) result false (left_of reader.new) }
-        ensures place { ReaderIsAfter LocalBi false (left_of reader.old) result false (left_of reader.new) }
+        ensures run { AnswersRun LocalBi false (left_of reader.old) result false
+            (left_of reader.new) }
+        ensures place { ReaderIsAfter LocalBi false (left_of reader.old) result false
+            (left_of reader.new) }
         ensures whole { whole_of reader.new ≡ whole_of reader.old }
     {
         reading::read_frame_from_buffer::<Self>(&mut true, reader)
@@ -119,10 +122,11 @@ impl StreamBiLocalH3 {
         ensures was_unfinished { IsUnfinished reading.old }
         ensures unfinished { IsUnfinished reading.new }
         ensures given { StreamGiven LocalBi result false false reading.old reading.new }
-        ensures polled { Telling (S.tells source.old) (S.tells source.new) (StreamPolled LocalBi result false false reading.old reading.new) }
+        ensures polled { Telling (S.tells source.old) (S.tells source.new)
+            (StreamPolled LocalBi result false false reading.old reading.new) }
         ensures asks { Telling (S.tells source.old) (S.tells source.new) (Asks 4112) }
     {
-        polled::poll_frame::<Self, S>(&mut true, reading, source)
+        polled::judge::<Self>(reading.poll(source), &mut true)
     }
 
     /// Writes a frame as `Frame::write` does, and consumes it. Requires that its kind is not
@@ -137,8 +141,10 @@ impl StreamBiLocalH3 {
         writer: &mut W,
     ) -> Result<(), PutError>
         requires { kind_in frame ≢ FrameKind.WebTransport }
-        ensures parts { PutsParts W.grows (parts_of frame.entry) result (W.written writer.old) (W.room writer.old) (W.written writer.new) (W.room writer.new) }
-        ensures full { result ≡ Err PutError.EndOfBuffer → LacksRoom (W.room writer.old) (length (wire frame.entry)) }
+        ensures parts { PutsParts W.grows (parts_of frame.entry) result (W.written writer.old)
+            (W.room writer.old) (W.written writer.new) (W.room writer.new) }
+        ensures full { result ≡ Err PutError.EndOfBuffer
+            → LacksRoom (W.room writer.old) (length (wire frame.entry)) }
         ensures target { W.target writer.new ≡ W.target writer.old }
         ensures begun { OnOk result (can_upgrade self.new ≡ false) }
         ensures same { OnErr result (self.new ≡ self.old) }
@@ -185,8 +191,10 @@ impl StreamBiLocalH3 {
         requires { WritesPlain writing.old }
         ensures on { GoesOn writing.old writing.new }
         ensures whole { IsSent result writing.new }
-        ensures polled { Telling (W.tells sink.old) (W.tells sink.new) (WritePolled result writing.old writing.new) }
-        ensures finished { writing.old.sent ≡ length writing.old.bytes → (sink.new ≡ sink.old) × (result ≡ Polled.Ready (Ok tt)) }
+        ensures polled { Telling (W.tells sink.old) (W.tells sink.new)
+            (WritePolled result writing.old writing.new) }
+        ensures finished { writing.old.sent ≡ length writing.old.bytes
+            → (sink.new ≡ sink.old) × (result ≡ Polled.Ready (Ok tt)) }
         ensures plain { WritesPlain writing.new }
         ensures begun { Begun result self.old self.new }
     {
@@ -216,8 +224,11 @@ impl StreamBiLocalH3 {
         requires { IsTrue (can_upgrade self) }
         ensures session { IfOk result (λ s. session_of s ≡ session_id) }
         ensures handed_back { IfErr result (λ e. e.0 ≡ self) }
-        ensures parts { PutsParts W.grows (parts_of (WebTransportOf session_id)) (write_answer result) (W.written writer.old) (W.room writer.old) (W.written writer.new) (W.room writer.new) }
-        ensures full { write_answer result ≡ Err PutError.EndOfBuffer → LacksRoom (W.room writer.old) (length (wire (WebTransportOf session_id))) }
+        ensures parts { PutsParts W.grows (parts_of (WebTransportOf session_id))
+            (write_answer result) (W.written writer.old) (W.room writer.old) (W.written writer.new)
+            (W.room writer.new) }
+        ensures full { write_answer result ≡ Err PutError.EndOfBuffer
+            → LacksRoom (W.room writer.old) (length (wire (WebTransportOf session_id))) }
         ensures target { W.target writer.new ≡ W.target writer.old }
     {
         match Frame::new_webtransport(session_id).write(writer) {
@@ -268,7 +279,7 @@ impl Rule for StreamBiLocalH3 {
     ghost role = { LocalBi };
 
     #[inline(always)]
-    fn fault(_first: bool, kind: FrameKind) -> Option<ErrorCode> {
-        request_fault(kind)
+    fn fault(first: bool, kind: FrameKind) -> Option<ErrorCode> {
+        fault_of(StreamRole::BiLocal, first, kind)
     }
 }

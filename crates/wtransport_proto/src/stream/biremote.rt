@@ -17,10 +17,10 @@ ghost use Rattle.wtransport_proto.specs.StreamPolling.{StreamPolled, StreamGiven
 ghost use Rattle.wtransport_proto.specs.Streams.{first_of, request_of, session_of};
 
 use crate::stream::reading::{self, Rule};
-use crate::stream::rules::request_fault;
+use crate::stream::rules::{StreamRole, fault_of};
 use crate::stream::session::StreamSession;
 use crate::stream::types::{Bi, BiRemote, H3, Quic, Session, WT};
-use crate::stream::{IoReadError, IoWriteError, Stream, polled};
+use crate::stream::{BiAccepting, IoReadError, IoWriteError, Stream, polled};
 use wtp_core::bytes::{
     AsyncRead, AsyncWrite, BufferReader, BufferWriter, BytesReader, BytesWriter, EndOfBuffer,
     Polled, PutError,
@@ -79,7 +79,9 @@ impl StreamBiRemoteH3 {
         &mut self,
         reader: &mut R,
     ) -> Result<Option<Frame<'a>>, ErrorCode>
-        ensures answer { AnswersFrame RemoteBi (first_of self.old) (front (past_unknown (R.left reader.old))) result (first_of self.new) (R.left reader.new) }
+        ensures answer { AnswersFrame RemoteBi (first_of self.old)
+            (front (past_unknown (R.left reader.old))) result (first_of self.new)
+            (R.left reader.new) }
         ensures rest { IsRest (R.left reader.new) (R.left reader.old) }
         ensures kept { R.kept reader.new ≡ R.kept reader.old }
     {
@@ -97,8 +99,10 @@ impl StreamBiRemoteH3 {
         &mut self,
         reader: &mut BufferReader<'a>,
     ) -> Result<Option<Frame<'a>>, ErrorCode>
-        ensures run { AnswersRun RemoteBi (first_of self.old) (left_of reader.old) result (first_of self.new) (left_of reader.new) }
-        ensures place { ReaderIsAfter RemoteBi (first_of self.old) (left_of reader.old) result (first_of self.new) (left_of reader.new) }
+        ensures run { AnswersRun RemoteBi (first_of self.old) (left_of reader.old) result
+            (first_of self.new) (left_of reader.new) }
+        ensures place { ReaderIsAfter RemoteBi (first_of self.old) (left_of reader.old) result
+            (first_of self.new) (left_of reader.new) }
         ensures whole { whole_of reader.new ≡ whole_of reader.old }
     {
         reading::read_frame_from_buffer::<Self>(&mut self.stage.first_frame_done, reader)
@@ -123,11 +127,29 @@ impl StreamBiRemoteH3 {
     ) -> Polled<Result<FrameOwned, IoReadError>>
         ensures was_unfinished { IsUnfinished reading.old }
         ensures unfinished { IsUnfinished reading.new }
-        ensures given { StreamGiven RemoteBi result (first_of self.old) (first_of self.new) reading.old reading.new }
-        ensures polled { Telling (S.tells source.old) (S.tells source.new) (StreamPolled RemoteBi result (first_of self.old) (first_of self.new) reading.old reading.new) }
+        ensures given { StreamGiven RemoteBi result (first_of self.old) (first_of self.new)
+            reading.old reading.new }
+        ensures polled { Telling (S.tells source.old) (S.tells source.new)
+            (StreamPolled RemoteBi result (first_of self.old) (first_of self.new) reading.old
+            reading.new) }
         ensures asks { Telling (S.tells source.old) (S.tells source.new) (Asks 4112) }
     {
-        polled::poll_frame::<Self, S>(&mut self.stage.first_frame_done, reading, source)
+        polled::judge::<Self>(reading.poll(source), &mut self.stage.first_frame_done)
+    }
+
+    /// Returns a state that reads the first frame, poll by poll, by the rules of `read_frame`: of a
+    /// session, or of a request. The reading may hold bytes of it already. Not in the Rust crate.
+    ///
+    /// A server accepts each bidirectional stream that its peer opened so: a reader of frames would
+    /// take the bytes after a WebTransport frame, which are the application's, for frames.
+    pub fn accept_async(self, reading: FrameReading) -> BiAccepting
+        ensures stream { result.stream ≡ self }
+        ensures reading { result.reading ≡ reading }
+    {
+        BiAccepting {
+            stream: self,
+            reading,
+        }
     }
 
     /// Writes a frame as `Frame::write` does, and consumes it.
@@ -139,8 +161,10 @@ impl StreamBiRemoteH3 {
         frame: Frame<'_>,
         writer: &mut W,
     ) -> Result<(), PutError>
-        ensures parts { PutsParts W.grows (parts_of frame.entry) result (W.written writer.old) (W.room writer.old) (W.written writer.new) (W.room writer.new) }
-        ensures full { result ≡ Err PutError.EndOfBuffer → LacksRoom (W.room writer.old) (length (wire frame.entry)) }
+        ensures parts { PutsParts W.grows (parts_of frame.entry) result (W.written writer.old)
+            (W.room writer.old) (W.written writer.new) (W.room writer.new) }
+        ensures full { result ≡ Err PutError.EndOfBuffer
+            → LacksRoom (W.room writer.old) (length (wire frame.entry)) }
         ensures target { W.target writer.new ≡ W.target writer.old }
     {
         frame.write(writer)
@@ -171,8 +195,10 @@ impl StreamBiRemoteH3 {
     ) -> Polled<Result<(), IoWriteError>>
         ensures on { GoesOn writing.old writing.new }
         ensures whole { IsSent result writing.new }
-        ensures polled { Telling (W.tells sink.old) (W.tells sink.new) (WritePolled result writing.old writing.new) }
-        ensures finished { writing.old.sent ≡ length writing.old.bytes → (sink.new ≡ sink.old) × (result ≡ Polled.Ready (Ok tt)) }
+        ensures polled { Telling (W.tells sink.old) (W.tells sink.new)
+            (WritePolled result writing.old writing.new) }
+        ensures finished { writing.old.sent ≡ length writing.old.bytes
+            → (sink.new ≡ sink.old) × (result ≡ Polled.Ready (Ok tt)) }
     {
         writing.poll(sink)
     }
@@ -205,12 +231,7 @@ impl Rule for StreamBiRemoteH3 {
     ghost role = { RemoteBi };
 
     #[inline(always)]
-    #[tactic(auto, using(crate::proofs::RuleLemmas::rules_of_requests))]
     fn fault(first: bool, kind: FrameKind) -> Option<ErrorCode> {
-        match kind {
-            FrameKind::WebTransport if first => None,
-            FrameKind::WebTransport => Some(ErrorCode::Frame),
-            _ => request_fault(kind),
-        }
+        fault_of(StreamRole::BiRemote, first, kind)
     }
 }

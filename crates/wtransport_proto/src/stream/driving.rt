@@ -11,7 +11,7 @@ ghost use Rattle.wtransport_proto.specs.Driving.{ChangesFirst, DriveDid};
 use crate::stream::IoReadError;
 use crate::stream::bilocal::StreamBiLocalH3;
 use crate::stream::biremote::StreamBiRemoteH3;
-use crate::stream::polled::poll_frame;
+use crate::stream::polled::judge;
 use crate::stream::session::StreamSession;
 use crate::stream::uniremote::StreamUniRemoteH3;
 use wtp_core::bytes::{AsyncRead, Polled};
@@ -44,8 +44,10 @@ pub trait ReadsFrames {
         ensures changes { ChangesFirst first self.old self.new }
         ensures was_unfinished { IsUnfinished reading.old }
         ensures unfinished { IsUnfinished reading.new }
-        ensures given { StreamGiven role result (first self.old) (first self.new) reading.old reading.new }
-        ensures polled { Telling (S.tells source.old) (S.tells source.new) (StreamPolled role result (first self.old) (first self.new) reading.old reading.new) }
+        ensures given { StreamGiven role result (first self.old) (first self.new) reading.old
+            reading.new }
+        ensures polled { Telling (S.tells source.old) (S.tells source.new)
+            (StreamPolled role result (first self.old) (first self.new) reading.old reading.new) }
         ensures asks { Telling (S.tells source.old) (S.tells source.new) (Asks 4112) };
 }
 
@@ -66,7 +68,7 @@ impl ReadsFrames for StreamBiRemoteH3 {
         reading: &mut FrameReading,
         source: &mut S,
     ) -> Polled<Result<FrameOwned, IoReadError>> {
-        poll_frame::<Self, S>(&mut self.stage.first_frame_done, reading, source)
+        judge::<Self>(reading.poll(source), &mut self.stage.first_frame_done)
     }
 }
 
@@ -87,7 +89,7 @@ impl ReadsFrames for StreamBiLocalH3 {
         reading: &mut FrameReading,
         source: &mut S,
     ) -> Polled<Result<FrameOwned, IoReadError>> {
-        poll_frame::<Self, S>(&mut true, reading, source)
+        judge::<Self>(reading.poll(source), &mut true)
     }
 }
 
@@ -108,7 +110,7 @@ impl ReadsFrames for StreamUniRemoteH3 {
         reading: &mut FrameReading,
         source: &mut S,
     ) -> Polled<Result<FrameOwned, IoReadError>> {
-        poll_frame::<Self, S>(&mut true, reading, source)
+        judge::<Self>(reading.poll(source), &mut true)
     }
 }
 
@@ -129,7 +131,7 @@ impl ReadsFrames for StreamSession {
         reading: &mut FrameReading,
         source: &mut S,
     ) -> Polled<Result<FrameOwned, IoReadError>> {
-        poll_frame::<Self, S>(&mut true, reading, source)
+        judge::<Self>(reading.poll(source), &mut true)
     }
 }
 
@@ -155,6 +157,11 @@ pub enum Driven {
 /// - `Spent`: all polls were made, and each took something.
 /// - `NoMemory`: allocation failed, for a payload or for a place in `out`.
 ///
+/// It is for a stream whose bytes are frames to its end: the stream of a request after its first
+/// frame, of a response, or a control stream. It is not for a bidirectional stream that the peer
+/// opened and that may be a session's, as it would read the bytes after the WebTransport frame,
+/// which are the application's, as frames: `StreamBiRemoteH3::accept_async` accepts that first.
+///
 /// No result loses a byte: what was there is the frames that were appended and what is held and
 /// ahead now. So it may be called again after each of them, with the same stream, reading and list,
 /// and with the same source or another. With no polls it changes nothing. Requires that frames may
@@ -172,9 +179,12 @@ pub fn drive<K: ReadsFrames, S: AsyncRead>(
     ensures unfinished { IsUnfinished reading.old → IsUnfinished reading.new }
     ensures appends { out.new.items ≡ out.old.items ++ drop (length out.old.items) out.new.items }
     ensures most { length (drop (length out.old.items) out.new.items) ≤ polls }
-    ensures did { Telling (S.tells source.old) (S.tells source.new) (DriveDid K.role result (K.first stream.old) (K.first stream.new)
+    ensures did { Telling (S.tells source.old) (S.tells source.new)
+        (DriveDid K.role result (K.first stream.old) (K.first stream.new)
         reading.old reading.new (drop (length out.old.items) out.new.items) polls) }
-    ensures none { polls ≡ 0 → (result ≡ Driven.Spent) × (stream.new ≡ stream.old) × (reading.new ≡ reading.old) × (source.new ≡ source.old) × (out.new ≡ out.old) }
+    ensures none { polls ≡ 0
+        → (result ≡ Driven.Spent) × (stream.new ≡ stream.old) × (reading.new ≡ reading.old)
+        × (source.new ≡ source.old) × (out.new ≡ out.old) }
 {
     for _turn in 0..polls {
         if let Err(_) = out.reserve(1) {

@@ -1,20 +1,21 @@
-//! Reading frames from a stream, poll by poll: one implementation for all kinds, which differ in
-//! their rule.
+//! The result of a stream for the result of its reading: one implementation for all kinds, which
+//! differ in their rule.
 ghost use Rattle.std.specs.Prelude.{◌≡◌, true, not};
-ghost use Rattle.wtp_core.specs.Source.{Telling};
-ghost use Rattle.wtp_core.specs.Polled.{Asks};
-ghost use Rattle.wtp_wire.specs.Held.{IsUnfinished};
-ghost use Rattle.wtransport_proto.specs.StreamPolling.{StreamPolled, StreamGiven, stream_fault};
+ghost use Rattle.wtransport_proto.specs.StreamPolling.{JudgesGiven, JudgesPolled, stream_fault};
 
 use crate::stream::reading::Rule;
 use std::mem;
 use wtp_core::bytes;
-use wtp_core::bytes::{AsyncRead, Polled};
+use wtp_core::bytes::Polled;
 use wtp_core::error::ErrorCode;
 use wtp_wire::frame;
-use wtp_wire::frame::{FrameOwned, FrameReading, ParseError};
+use wtp_wire::frame::{FrameOwned, ParseError};
 
 /// The reason no frame, or no header, was read from a stream.
+///
+/// It has the error code of a fault by the stream's rules, with which the stream or the connection
+/// is closed: `frame::IoReadError` and `stream_header::IoReadError` have the fault of one frame or
+/// header by name, and `bytes::IoReadError` the fault of the source alone.
 #[derive(Debug, Drop, PartialEq, Eq, thiserror::Error)]
 pub enum IoReadError {
     /// The bytes violate a rule of HTTP/3; an end inside a frame or a header does.
@@ -25,22 +26,20 @@ pub enum IoReadError {
     IO(bytes::IoReadError),
 }
 
-/// Polls the reading, judges its result by the rule of `K`, and records that a complete frame was
-/// read.
+/// Converts the result of a poll of a reading to that of its stream, by the rule of `K`, and
+/// records that a complete frame was read.
 #[inline(always)]
-pub(crate) fn poll_frame<K: Rule, S: AsyncRead>(
+pub(crate) fn judge<K: Rule>(
+    answer: Polled<Result<FrameOwned, frame::IoReadError>>,
     first_frame_done: &mut bool,
-    reading: &mut FrameReading,
-    source: &mut S,
 ) -> Polled<Result<FrameOwned, IoReadError>>
-    ensures was_unfinished { IsUnfinished reading.old }
-    ensures unfinished { IsUnfinished reading.new }
-    ensures given { StreamGiven K.role result (not first_frame_done.old) (not first_frame_done.new) reading.old reading.new }
-    ensures polled { Telling (S.tells source.old) (S.tells source.new) (StreamPolled K.role result (not first_frame_done.old) (not first_frame_done.new) reading.old reading.new) }
-    ensures asks { Telling (S.tells source.old) (S.tells source.new) (Asks 4112) }
+    ensures given { JudgesGiven K.role answer.entry result
+        (not first_frame_done.old) (not first_frame_done.new) }
+    ensures polled { JudgesPolled K.role answer.entry result
+        (not first_frame_done.old) (not first_frame_done.new) }
     ensures stays { first_frame_done.old ≡ true → first_frame_done.new ≡ true }
 {
-    match reading.poll(source) {
+    match answer {
         Polled::Ready(Ok(frame)) => {
             let first = !mem::replace(first_frame_done, true);
             match K::fault(first, frame.kind()) {

@@ -25,7 +25,8 @@ pub(crate) trait Rule {
 #[inline(always)]
 #[tactic(auto, using(wtp_core::proofs::RestLemmas::rests))]
 fn read_known<'a, R: BytesReader<'a>>(reader: &mut R) -> Result<Option<Frame<'a>>, ErrorCode>
-    ensures answer { AnswersKnown (front (past_unknown (R.left reader.old))) result (R.left reader.new) }
+    ensures answer { AnswersKnown (front (past_unknown (R.left reader.old))) result
+        (R.left reader.new) }
     ensures rest { IsRest (R.left reader.new) (R.left reader.old) }
     ensures kept { R.kept reader.new ≡ R.kept reader.old }
 {
@@ -45,7 +46,9 @@ pub(crate) fn read_frame<'a, K: Rule, R: BytesReader<'a>>(
     first_frame_done: &mut bool,
     reader: &mut R,
 ) -> Result<Option<Frame<'a>>, ErrorCode>
-    ensures answer { AnswersFrame K.role (not first_frame_done.old) (front (past_unknown (R.left reader.old))) result (not first_frame_done.new) (R.left reader.new) }
+    ensures answer { AnswersFrame K.role (not first_frame_done.old)
+        (front (past_unknown (R.left reader.old))) result (not first_frame_done.new)
+        (R.left reader.new) }
     ensures stays { first_frame_done.old ≡ true → first_frame_done.new ≡ true }
     ensures rest { IsRest (R.left reader.new) (R.left reader.old) }
     ensures kept { R.kept reader.new ≡ R.kept reader.old }
@@ -67,8 +70,10 @@ pub(crate) fn read_frame_from_buffer<'a, K: Rule>(
     first_frame_done: &mut bool,
     reader: &mut BufferReader<'a>,
 ) -> Result<Option<Frame<'a>>, ErrorCode>
-    ensures run { AnswersRun K.role (not first_frame_done.old) (left_of reader.old) result (not first_frame_done.new) (left_of reader.new) }
-    ensures place { ReaderIsAfter K.role (not first_frame_done.old) (left_of reader.old) result (not first_frame_done.new) (left_of reader.new) }
+    ensures run { AnswersRun K.role (not first_frame_done.old) (left_of reader.old) result
+        (not first_frame_done.new) (left_of reader.new) }
+    ensures place { ReaderIsAfter K.role (not first_frame_done.old) (left_of reader.old) result
+        (not first_frame_done.new) (left_of reader.new) }
     ensures stays { first_frame_done.old ≡ true → first_frame_done.new ≡ true }
     ensures whole { whole_of reader.new ≡ whole_of reader.old }
 {

@@ -1,13 +1,50 @@
-//! Which frames a stream allows, by its use (RFC 9114, sections 6.2.1 and 7.2).
+//! Which frames a stream allows, by its role (RFC 9114, sections 6.2.1 and 7.2).
 ghost use Rattle.std.specs.Prelude.{◌≡◌};
-ghost use Rattle.wtransport_proto.specs.Rule.{control_rule, request_rule};
+ghost use Rattle.wtransport_proto.specs.Role.{role_of};
+ghost use Rattle.wtransport_proto.specs.Rule.{control_rule, request_rule, rule};
 
 use wtp_core::error::ErrorCode;
 use wtp_wire::frame::FrameKind;
 
+/// The role of a stream whose frames are read. Not in the Rust crate.
+#[derive(Clone, Copy, Debug, PartialEq, Eq)]
+pub enum StreamRole {
+    /// A bidirectional stream that the peer opened: for a request, or for a session by its first
+    /// frame.
+    BiRemote,
+    /// A bidirectional stream that this end opened.
+    BiLocal,
+    /// A unidirectional stream that the peer opened, after its header: the control stream.
+    UniRemote,
+    /// The stream of a request for a session.
+    Session,
+}
+
+/// Returns the fault of a frame of this kind on a stream, or `None` if the stream allows it.
+///
+/// `first` says whether it is the first frame of the stream, other than unknown ones. It matters
+/// only on a `BiRemote` stream, where a WebTransport frame has to be the first: `Frame`. Every
+/// other fault is `FrameUnexpected` (RFC 9114, sections 6.2.1, 7.2 and table 1;
+/// draft-ietf-webtrans-http3-02, section 4.2). Not in the Rust crate.
+#[inline(always)]
+#[tactic(auto, using(crate::proofs::RuleLemmas::rules_of_requests))]
+pub fn fault_of(role: StreamRole, first: bool, kind: FrameKind) -> Option<ErrorCode>
+    ensures { result ≡ rule (role_of role) first kind }
+{
+    match role {
+        StreamRole::BiRemote => match kind {
+            FrameKind::WebTransport if first => None,
+            FrameKind::WebTransport => Some(ErrorCode::Frame),
+            _ => request_fault(kind),
+        },
+        StreamRole::BiLocal | StreamRole::Session => request_fault(kind),
+        StreamRole::UniRemote => control_fault(kind),
+    }
+}
+
 /// Returns the fault of a frame of this kind on a stream for a request and its response.
 #[inline(always)]
-pub(crate) fn request_fault(kind: FrameKind) -> Option<ErrorCode>
+fn request_fault(kind: FrameKind) -> Option<ErrorCode>
     ensures { result ≡ request_rule kind }
 {
     match kind {
@@ -18,7 +55,7 @@ pub(crate) fn request_fault(kind: FrameKind) -> Option<ErrorCode>
 
 /// Returns the fault of a frame of this kind on a control stream.
 #[inline(always)]
-pub(crate) fn control_fault(kind: FrameKind) -> Option<ErrorCode>
+fn control_fault(kind: FrameKind) -> Option<ErrorCode>
     ensures { result ≡ control_rule kind }
 {
     match kind {

@@ -17,7 +17,7 @@ ghost use Rattle.wtransport_proto.specs.StreamPolling.{StreamPolled, StreamGiven
 ghost use Rattle.wtransport_proto.specs.Streams.{request_of};
 
 use crate::stream::reading::{self, Rule};
-use crate::stream::rules::request_fault;
+use crate::stream::rules::{StreamRole, fault_of};
 use crate::stream::types::{Bi, Session};
 use crate::stream::{IoReadError, IoWriteError, Stream, polled};
 use wtp_core::bytes::{
@@ -45,7 +45,8 @@ impl StreamSession {
         &self,
         reader: &mut R,
     ) -> Result<Option<Frame<'a>>, ErrorCode>
-        ensures answer { AnswersFrame InSession false (front (past_unknown (R.left reader.old))) result false (R.left reader.new) }
+        ensures answer { AnswersFrame InSession false (front (past_unknown (R.left reader.old)))
+            result false (R.left reader.new) }
         ensures rest { IsRest (R.left reader.new) (R.left reader.old) }
         ensures kept { R.kept reader.new ≡ R.kept reader.old }
     {
@@ -59,8 +60,10 @@ impl StreamSession {
         &self,
         reader: &mut BufferReader<'a>,
     ) -> Result<Option<Frame<'a>>, ErrorCode>
-        ensures run { AnswersRun InSession false (left_of reader.old) result false (left_of reader.new) }
-        ensures place { ReaderIsAfter InSession false (left_of reader.old) result false (left_of reader.new) }
+        ensures run { AnswersRun InSession false (left_of reader.old) result false
+            (left_of reader.new) }
+        ensures place { ReaderIsAfter InSession false (left_of reader.old) result false
+            (left_of reader.new) }
         ensures whole { whole_of reader.new ≡ whole_of reader.old }
     {
         reading::read_frame_from_buffer::<Self>(&mut true, reader)
@@ -85,10 +88,11 @@ impl StreamSession {
         ensures was_unfinished { IsUnfinished reading.old }
         ensures unfinished { IsUnfinished reading.new }
         ensures given { StreamGiven InSession result false false reading.old reading.new }
-        ensures polled { Telling (S.tells source.old) (S.tells source.new) (StreamPolled InSession result false false reading.old reading.new) }
+        ensures polled { Telling (S.tells source.old) (S.tells source.new)
+            (StreamPolled InSession result false false reading.old reading.new) }
         ensures asks { Telling (S.tells source.old) (S.tells source.new) (Asks 4112) }
     {
-        polled::poll_frame::<Self, S>(&mut true, reading, source)
+        polled::judge::<Self>(reading.poll(source), &mut true)
     }
 
     /// Writes a frame as `Frame::write` does, and consumes it.
@@ -100,8 +104,10 @@ impl StreamSession {
         frame: Frame<'_>,
         writer: &mut W,
     ) -> Result<(), PutError>
-        ensures parts { PutsParts W.grows (parts_of frame.entry) result (W.written writer.old) (W.room writer.old) (W.written writer.new) (W.room writer.new) }
-        ensures full { result ≡ Err PutError.EndOfBuffer → LacksRoom (W.room writer.old) (length (wire frame.entry)) }
+        ensures parts { PutsParts W.grows (parts_of frame.entry) result (W.written writer.old)
+            (W.room writer.old) (W.written writer.new) (W.room writer.new) }
+        ensures full { result ≡ Err PutError.EndOfBuffer
+            → LacksRoom (W.room writer.old) (length (wire frame.entry)) }
         ensures target { W.target writer.new ≡ W.target writer.old }
     {
         frame.write(writer)
@@ -132,8 +138,10 @@ impl StreamSession {
     ) -> Polled<Result<(), IoWriteError>>
         ensures on { GoesOn writing.old writing.new }
         ensures whole { IsSent result writing.new }
-        ensures polled { Telling (W.tells sink.old) (W.tells sink.new) (WritePolled result writing.old writing.new) }
-        ensures finished { writing.old.sent ≡ length writing.old.bytes → (sink.new ≡ sink.old) × (result ≡ Polled.Ready (Ok tt)) }
+        ensures polled { Telling (W.tells sink.old) (W.tells sink.new)
+            (WritePolled result writing.old writing.new) }
+        ensures finished { writing.old.sent ≡ length writing.old.bytes
+            → (sink.new ≡ sink.old) × (result ≡ Polled.Ready (Ok tt)) }
     {
         writing.poll(sink)
     }
@@ -152,7 +160,7 @@ impl Rule for StreamSession {
     ghost role = { InSession };
 
     #[inline(always)]
-    fn fault(_first: bool, kind: FrameKind) -> Option<ErrorCode> {
-        request_fault(kind)
+    fn fault(first: bool, kind: FrameKind) -> Option<ErrorCode> {
+        fault_of(StreamRole::Session, first, kind)
     }
 }

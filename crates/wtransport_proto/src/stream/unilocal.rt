@@ -44,8 +44,10 @@ impl StreamUniLocalQuic {
     ) -> Result<StreamUniLocalH3, (StreamUniLocalQuic, PutError)>
         ensures header { IfOk result (λ s. header_of s ≡ stream_header) }
         ensures handed_back { IfErr result (λ e. e.0 ≡ self) }
-        ensures parts { PutsParts W.grows (header_parts stream_header) (write_answer result) (W.written writer.old) (W.room writer.old) (W.written writer.new) (W.room writer.new) }
-        ensures full { write_answer result ≡ Err PutError.EndOfBuffer → LacksRoom (W.room writer.old) (length (header_wire stream_header)) }
+        ensures parts { PutsParts W.grows (header_parts stream_header) (write_answer result)
+            (W.written writer.old) (W.room writer.old) (W.written writer.new) (W.room writer.new) }
+        ensures full { write_answer result ≡ Err PutError.EndOfBuffer
+            → LacksRoom (W.room writer.old) (length (header_wire stream_header)) }
         ensures target { W.target writer.new ≡ W.target writer.old }
     {
         match stream_header.write(writer) {
@@ -97,8 +99,10 @@ impl StreamUniLocalH3 {
         writer: &mut W,
     ) -> Result<(), PutError>
         requires { CanWrite self.old }
-        ensures parts { PutsParts W.grows (parts_of frame.entry) result (W.written writer.old) (W.room writer.old) (W.written writer.new) (W.room writer.new) }
-        ensures full { result ≡ Err PutError.EndOfBuffer → LacksRoom (W.room writer.old) (length (wire frame.entry)) }
+        ensures parts { PutsParts W.grows (parts_of frame.entry) result (W.written writer.old)
+            (W.room writer.old) (W.written writer.new) (W.room writer.new) }
+        ensures full { result ≡ Err PutError.EndOfBuffer
+            → LacksRoom (W.room writer.old) (length (wire frame.entry)) }
         ensures target { W.target writer.new ≡ W.target writer.old }
         ensures same { self.new ≡ self.old }
         ensures writable { CanWrite self.new }
@@ -137,8 +141,10 @@ impl StreamUniLocalH3 {
         requires { CanWrite self.old }
         ensures on { GoesOn writing.old writing.new }
         ensures whole { IsSent result writing.new }
-        ensures polled { Telling (W.tells sink.old) (W.tells sink.new) (WritePolled result writing.old writing.new) }
-        ensures finished { writing.old.sent ≡ length writing.old.bytes → (sink.new ≡ sink.old) × (result ≡ Polled.Ready (Ok tt)) }
+        ensures polled { Telling (W.tells sink.old) (W.tells sink.new)
+            (WritePolled result writing.old writing.new) }
+        ensures finished { writing.old.sent ≡ length writing.old.bytes
+            → (sink.new ≡ sink.old) × (result ≡ Polled.Ready (Ok tt)) }
         ensures same { self.new ≡ self.old }
         ensures writable { CanWrite self.new }
     {

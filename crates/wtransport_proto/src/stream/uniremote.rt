@@ -15,7 +15,7 @@ ghost use Rattle.wtransport_proto.specs.Streams.{CanRead};
 ghost use Rattle.wtransport_proto.specs.Upgrading.{AnswersUpgrade};
 
 use crate::stream::reading::{self, Rule};
-use crate::stream::rules::control_fault;
+use crate::stream::rules::{StreamRole, fault_of};
 use crate::stream::types::{H3, Quic, UniRemote, WT};
 use crate::stream::{IoReadError, Stream, UniAccepting, polled};
 use wtp_core::bytes::{AsyncRead, BufferReader, BytesReader, Polled};
@@ -62,7 +62,8 @@ impl StreamUniRemoteQuic {
         self,
         reader: &mut R,
     ) -> Result<MaybeUpgradeH3, ErrorCode>
-        ensures answer { AnswersUpgrade (header_front (R.left reader.old)) self result (R.left reader.new) }
+        ensures answer { AnswersUpgrade (header_front (R.left reader.old)) self result
+            (R.left reader.new) }
         ensures rest { IsRest (R.left reader.new) (R.left reader.old) }
         ensures kept { R.kept reader.new ≡ R.kept reader.old }
     {
@@ -116,7 +117,8 @@ impl StreamUniRemoteH3 {
         reader: &mut R,
     ) -> Result<Option<Frame<'a>>, ErrorCode>
         requires { CanRead self.old }
-        ensures answer { AnswersFrame RemoteUni false (front (past_unknown (R.left reader.old))) result false (R.left reader.new) }
+        ensures answer { AnswersFrame RemoteUni false (front (past_unknown (R.left reader.old)))
+            result false (R.left reader.new) }
         ensures rest { IsRest (R.left reader.new) (R.left reader.old) }
         ensures kept { R.kept reader.new ≡ R.kept reader.old }
         ensures same { self.new ≡ self.old }
@@ -133,8 +135,10 @@ impl StreamUniRemoteH3 {
         reader: &mut BufferReader<'a>,
     ) -> Result<Option<Frame<'a>>, ErrorCode>
         requires { CanRead self.old }
-        ensures run { AnswersRun RemoteUni false (left_of reader.old) result false (left_of reader.new) }
-        ensures place { ReaderIsAfter RemoteUni false (left_of reader.old) result false (left_of reader.new) }
+        ensures run { AnswersRun RemoteUni false (left_of reader.old) result false
+            (left_of reader.new) }
+        ensures place { ReaderIsAfter RemoteUni false (left_of reader.old) result false
+            (left_of reader.new) }
         ensures whole { whole_of reader.new ≡ whole_of reader.old }
         ensures same { self.new ≡ self.old }
         ensures readable { CanRead self.new }
@@ -162,12 +166,13 @@ impl StreamUniRemoteH3 {
         ensures was_unfinished { IsUnfinished reading.old }
         ensures unfinished { IsUnfinished reading.new }
         ensures given { StreamGiven RemoteUni result false false reading.old reading.new }
-        ensures polled { Telling (S.tells source.old) (S.tells source.new) (StreamPolled RemoteUni result false false reading.old reading.new) }
+        ensures polled { Telling (S.tells source.old) (S.tells source.new)
+            (StreamPolled RemoteUni result false false reading.old reading.new) }
         ensures asks { Telling (S.tells source.old) (S.tells source.new) (Asks 4112) }
         ensures same { self.new ≡ self.old }
         ensures readable { CanRead self.new }
     {
-        polled::poll_frame::<Self, S>(&mut true, reading, source)
+        polled::judge::<Self>(reading.poll(source), &mut true)
     }
 }
 
@@ -177,7 +182,7 @@ impl Rule for StreamUniRemoteH3 {
     ghost role = { RemoteUni };
 
     #[inline(always)]
-    fn fault(_first: bool, kind: FrameKind) -> Option<ErrorCode> {
-        control_fault(kind)
+    fn fault(first: bool, kind: FrameKind) -> Option<ErrorCode> {
+        fault_of(StreamRole::UniRemote, first, kind)
     }
 }

@@ -30,7 +30,8 @@ impl BiUpgrading {
         sink: &mut W,
     ) -> Stepped<Self, StreamBiLocalWT, IoWriteError>
         ensures stepped { BiStepped result self }
-        ensures sends { Telling (W.tells sink.old) (W.tells sink.new) (StepSends bi_writing result self.writing) }
+        ensures sends { Telling (W.tells sink.old) (W.tells sink.new)
+            (StepSends bi_writing result self.writing) }
     {
         match self.writing.poll(sink) {
             Polled::Ready(Ok(())) => Stepped::Done(Stream {
@@ -68,7 +69,8 @@ impl UniUpgrading {
         sink: &mut W,
     ) -> Stepped<Self, StreamUniLocalH3, IoWriteError>
         ensures stepped { UniStepped result self }
-        ensures sends { Telling (W.tells sink.old) (W.tells sink.new) (StepSends uni_writing result self.writing) }
+        ensures sends { Telling (W.tells sink.old) (W.tells sink.new)
+            (StepSends uni_writing result self.writing) }
     {
         match self.writing.poll(sink) {
             Polled::Ready(Ok(())) => Stepped::Done(Stream {

@@ -5,7 +5,7 @@ ghost use Rattle.wtp_core.specs.Source.{Telling};
 ghost use Rattle.wtp_wire.specs.FramePart.{Part, new_part, bytes_in, IsReading};
 ghost use Rattle.wtp_wire.specs.FrameSteps.{LacksPayloadRoom, PayloadKeeps, AdvanceKeeps, StopMoves, Grew};
 
-use crate::frame::head::{FrameHead, Said, read_head};
+use crate::frame::head::{Announcement, FrameHead, read_head};
 use std::alloc::Global;
 use std::marker::Model;
 use std::mem;
@@ -42,9 +42,15 @@ impl Model for FramePart {
 
     ghost Value = { Part };
 
-    ghost view = { λ p. record { head = take p.len p.head; room = vec_len p.payload; payload = take p.filled p.payload.items } };
+    ghost view = { λ p. record {
+      head = take p.len p.head;
+      room = vec_len p.payload;
+      payload = take p.filled
+          p.payload.items;
+    } };
 
-    ghost invariant = { λ p. (length p.head ≡ max_head) × (p.len ≤ max_head) × (p.filled ≤ vec_len p.payload) };
+    ghost invariant = { λ p. (length p.head ≡ max_head) × (p.len ≤ max_head)
+        × (p.filled ≤ vec_len p.payload) };
 }
 
 impl FramePart {
@@ -84,27 +90,28 @@ impl FramePart {
     }
 
     /// Reads until the head is complete, and with it the payload if one follows that may be read.
-    /// Returns what the head says.
+    /// Returns what the head announces.
     ///
     /// The room for the payload is allocated in full before its first byte. All bytes received are
     /// held, also if this returns an error.
-    pub(super) fn advance<S: AsyncRead>(&mut self, source: &mut S) -> Result<Said, Stop>
+    pub(super) fn advance<S: AsyncRead>(&mut self, source: &mut S) -> Result<Announcement, Stop>
         requires { IsReading self.old }
         ensures keeps { AdvanceKeeps result self.old self.new }
         ensures grew { Grew (bytes_in self.old) (bytes_in self.new) }
-        ensures moves { Telling (S.tells source.old) (S.tells source.new) (StopMoves result (bytes_in self.old) (bytes_in self.new)) }
+        ensures moves { Telling (S.tells source.old) (S.tells source.new)
+            (StopMoves result (bytes_in self.old) (bytes_in self.new)) }
     {
         match fill_head::<FrameHead, S>(source, &mut self.head, &mut self.len) {
             Ok(()) => {}
             Err(halt) => return Err(Stop::Source(halt)),
         }
-        let said = read_head(&self.head[..self.len]);
-        match said {
-            Said::Payload(_, size) => match self.fill_payload(source, size as usize) {
-                Ok(()) => Ok(said),
+        let announcement = read_head(&self.head[..self.len]);
+        match announcement {
+            Announcement::Payload(_, size) => match self.fill_payload(source, size as usize) {
+                Ok(()) => Ok(announcement),
                 Err(stop) => Err(stop),
             },
-            _ => Ok(said),
+            _ => Ok(announcement),
         }
     }
 
@@ -115,7 +122,8 @@ impl FramePart {
         ensures head { self.new.head ≡ self.old.head }
         ensures keeps { PayloadKeeps result size self.old self.new }
         ensures grew { Grew self.old.payload self.new.payload }
-        ensures moves { Telling (S.tells source.old) (S.tells source.new) (StopMoves result self.old.payload self.new.payload) }
+        ensures moves { Telling (S.tells source.old) (S.tells source.new)
+            (StopMoves result self.old.payload self.new.payload) }
     {
         if !self.take_room(size) {
             return Err(Stop::NoMemory);

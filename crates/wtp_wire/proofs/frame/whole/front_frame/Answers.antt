@@ -15,8 +15,8 @@ overflow_sub-size c =
     let p = payload_before c.args.bytes.now (left_of c.read.new.reader) c.in-Ok-Some.frame c.offset-size.result is sum in
     rw c.payload-len.ensures.payload p.fits
 
-pub copied-requires : goal.copied-requires
-copied-requires c =
+pub copy-requires : goal.copy-requires
+copy-requires c =
     let is = ap front (sym c.new-reader.ensures.left) ∙ (rw c.in-Ok-Some.field-0-is at c.in-Ok-Some.ensures.answer) in
     let sum = c.offset-size.ensures.sum ∙ ap length (ap (λ (k : Kept). k.whole) c.in-Ok-Some.ensures.kept ∙ c.new-reader.ensures.whole) in
     let p = payload_before c.args.bytes.now (left_of c.read.new.reader) c.in-Ok-Some.frame c.offset-size.result is sum in

@@ -11,6 +11,6 @@ returns-in-Ok-clause-given g c = (
 )
 
 pub returns-in-Err-clause-given : goal.returns-in-Err-clause-given
-returns-in-Err-clause-given g c = rw (halted_plain _ _ _ c.halted.ensures) (halted_buffer_given (Unit {0}) c.in-Err.halt c.fill.new.at c.args.self.now.filled _ _ (take c.fill.new.at c.fill.new.buf)
+returns-in-Err-clause-given g c = rw (halted_plain _ _ _ c.halt_result.ensures) (halted_buffer_given (Unit {0}) c.in-Err.halt c.fill.new.at c.args.self.now.filled _ _ (take c.fill.new.at c.fill.new.buf)
     (omega (arith, c.in-Err.ensures.lengths, c.fill.auto.buf, length-take c.fill.new.at c.fill.new.buf))
     (take-take c.args.self.now.filled c.fill.new.at c.fill.new.buf c.fill.ensures.forward ∙ c.fill.ensures.front))

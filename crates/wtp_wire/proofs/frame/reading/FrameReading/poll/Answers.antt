@@ -11,7 +11,7 @@ returns-in-Some g c =
     let old = c.self.inside.part in
     let d = c.self.inside.due in
     let s = g.S.AsyncRead.tells c.args.source.now in
-    let t = g.S.AsyncRead.tells c.take_buffered.new.source in
+    let t = g.S.AsyncRead.tells c.take_buffered_frame.new.source in
     let q = polls_as s t (Ready (Ok c.in-Some.frame)) (hold (bytes_in old) d) c.args.self.now (hold (bytes_in old) d) c.args.self.now c.self.view_is c.self.view_is
     (whole_polls s t c.in-Some.frame old d (omega arith) c.self.invariant.0 (no_items old.head (omega (arith, c.head_len.ensures))) c.in-Some.ensures.framed c.in-Some.ensures.takes) in
     record { was_unfinished = q.was_unfinished; unfinished = q.unfinished; given = q.given; polled = q.polled; asks = q.asks }

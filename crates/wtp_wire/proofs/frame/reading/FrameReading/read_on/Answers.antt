@@ -1,7 +1,7 @@
 use Rattle.std.proofs.Common.{◌≡◌, [], refl, sym, ap, ◌∙◌, arith, Ok, Err}
 use Rattle.wtp_core.specs.declared.bytes.polled.Polled.TheVariants.{Ready, NoMemory}
 use Rattle.wtp_core.specs.Source.{Telling}
-use Rattle.wtp_wire.specs.declared.frame.head.Said.{Said}
+use Rattle.wtp_wire.specs.declared.frame.head.Announcement.{Announcement}
 use Rattle.wtp_wire.specs.declared.frame.reading.part.Stop.TheVariants as stopped
 use Rattle.wtp_wire.specs.FramePart.{Part, bytes_in}
 use Rattle.wtp_wire.specs.FrameSteps.{StopMoves}
@@ -27,10 +27,10 @@ returns-in-Err-Source g c =
     let s = g.S.AsyncRead.tells c.args.source.now in
     let t = g.S.AsyncRead.tells c.advance.new.source in
     let halt = c.in-Err-Source.halt in
-    let moves : Telling s t (λ a b. StopMoves {U = Said} (Err (stopped.Source halt)) (bytes_in old) (bytes_in new) a b) =
+    let moves : Telling s t (λ a b. StopMoves {U = Announcement} (Err (stopped.Source halt)) (bytes_in old) (bytes_in new) a b) =
     (rw c.in-Err-Source.field-0-is at c.in-Err-Source.ensures.moves) in
-    let q = polls_as s t c.halted.result (hold (bytes_in old) d) c.args.self.now (hold (bytes_in new) d) (hold (bytes_in new) d) c.self.view_is refl
-    (halted_polls s t halt c.len.result c.halted.result old new d (omega arith) c.len.ensures c.halted.ensures c.self.invariant.0 (rw c.in-Err-Source.field-0-is at c.in-Err-Source.ensures.keeps) c.advance.ensures.grew moves) in
+    let q = polls_as s t c.halt_result.result (hold (bytes_in old) d) c.args.self.now (hold (bytes_in new) d) (hold (bytes_in new) d) c.self.view_is refl
+    (halted_polls s t halt c.len.result c.halt_result.result old new d (omega arith) c.len.ensures c.halt_result.ensures c.self.invariant.0 (rw c.in-Err-Source.field-0-is at c.in-Err-Source.ensures.keeps) c.advance.ensures.grew moves) in
     record { was_unfinished = q.was_unfinished; unfinished = q.unfinished; given = q.given; polled = q.polled; asks = q.asks }
 
 pub returns-in-Err-NoMemory : goal.returns-in-Err-NoMemory
@@ -40,7 +40,7 @@ returns-in-Err-NoMemory g c =
     let new = c.advance.new.self in
     let s = g.S.AsyncRead.tells c.args.source.now in
     let t = g.S.AsyncRead.tells c.advance.new.source in
-    let moves : Telling s t (λ a b. StopMoves {U = Said} (Err stopped.NoMemory) (bytes_in old) (bytes_in new) a b) =
+    let moves : Telling s t (λ a b. StopMoves {U = Announcement} (Err stopped.NoMemory) (bytes_in old) (bytes_in new) a b) =
     (rw c.in-Err-NoMemory.field-0-is at c.in-Err-NoMemory.ensures.moves) in
     let k = rw c.in-Err-NoMemory.field-0-is at c.in-Err-NoMemory.ensures.keeps in
     let q = polls_as s t NoMemory (hold (bytes_in old) d) c.args.self.now (hold (bytes_in new) d) (hold (bytes_in new) d) c.self.view_is refl
@@ -51,7 +51,7 @@ pub invariant_of-self-in-Skip-1 : goal.invariant_of-self-in-Skip-1
 invariant_of-self-in-Skip-1 g c = rw c.take_payload-payload.ensures.empty (reading_new, λ _. refl)
 
 pub answer-requires : goal.answer-requires
-answer-requires g c = rw c.take_payload-payload.ensures.payload (can_answer c.in-Ok.said c.advance.new.self c.in-Ok.ensures.keeps c.in_default.not-Skip)
+answer-requires g c = rw c.take_payload-payload.ensures.payload (can_answer c.in-Ok.announcement c.advance.new.self c.in-Ok.ensures.keeps c.in_default.not-Skip)
 
 pub invariant_of-self-in_default : goal.invariant_of-self-in_default
 invariant_of-self-in_default g c = rw c.take_payload-payload.ensures.empty (reading_new, λ _. refl)
@@ -66,7 +66,7 @@ returns-in-Skip g c =
     let u = g.S.AsyncRead.tells c.pass_on-in-Skip.new.source in
     let m = c.in-Skip.size in
     let d' = c.pass_on-in-Skip.new.due in
-    let moves : Telling s t (λ a b. StopMoves (Ok c.in-Ok.said) (bytes_in old) (bytes_in new) a b) =
+    let moves : Telling s t (λ a b. StopMoves (Ok c.in-Ok.announcement) (bytes_in old) (bytes_in new) a b) =
     c.in-Ok.ensures.moves in
     let q = polls_as s u c.pass_on-in-Skip.result (hold (bytes_in old) d) c.args.self.now (hold [] d') (hold (bytes_in c.take_payload-payload.new.self) d') c.self.view_is
     (ap (λ (x : Part). hold (bytes_in x) d') (sym c.take_payload-payload.ensures.empty))
@@ -80,9 +80,9 @@ returns-in_default g c =
     let new = c.advance.new.self in
     let s = g.S.AsyncRead.tells c.args.source.now in
     let t = g.S.AsyncRead.tells c.advance.new.source in
-    let moves : Telling s t (λ a b. StopMoves (Ok c.in-Ok.said) (bytes_in old) (bytes_in new) a b) =
+    let moves : Telling s t (λ a b. StopMoves (Ok c.in-Ok.announcement) (bytes_in old) (bytes_in new) a b) =
     c.in-Ok.ensures.moves in
     let q = polls_as s t (Ready c.answer.result) (hold (bytes_in old) d) c.args.self.now (hold [] d) (hold (bytes_in c.take_payload-payload.new.self) d) c.self.view_is
     (ap (λ (x : Part). hold (bytes_in x) d) (sym c.take_payload-payload.ensures.empty))
-    (answer_polls s t c.in-Ok.said c.answer.result old new d (omega arith) c.self.invariant.0 (rw c.take_payload-payload.ensures.payload at c.answer.ensures) c.in-Ok.ensures.keeps c.advance.ensures.grew moves) in
+    (answer_polls s t c.in-Ok.announcement c.answer.result old new d (omega arith) c.self.invariant.0 (rw c.take_payload-payload.ensures.payload at c.answer.ensures) c.in-Ok.ensures.keeps c.advance.ensures.grew moves) in
     record { was_unfinished = q.was_unfinished; unfinished = q.unfinished; given = q.given; polled = q.polled; asks = q.asks }

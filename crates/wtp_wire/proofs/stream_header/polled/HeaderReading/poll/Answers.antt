@@ -16,11 +16,11 @@ pub returns-in-Err-clause-cut : goal.returns-in-Err-clause-cut
 returns-in-Err-clause-cut g c = header_cut (take c.fill_head.new.len c.fill_head.new.buf) (omega (arith, c.in-Err.ensures.cut, length-take c.fill_head.new.len c.fill_head.new.buf))
 
 pub returns-in-Err-clause-given : goal.returns-in-Err-clause-given
-returns-in-Err-clause-given g c = rw (halted_header _ _ _ c.halted.ensures, ← c.self.view_is) (halted_given c.in-Err.halt c.fill_head.new.len c.self.inside.len _ (take c.fill_head.new.len c.fill_head.new.buf)
+returns-in-Err-clause-given g c = rw (halted_header _ _ _ c.halt_result.ensures, ← c.self.view_is) (halted_given c.in-Err.halt c.fill_head.new.len c.self.inside.len _ (take c.fill_head.new.len c.fill_head.new.buf)
     (held_front c.self.inside.len c.fill_head.new.len c.self.inside.bytes c.fill_head.new.buf c.fill_head.ensures.forward c.fill_head.ensures.front))
 
 pub returns-in-Err-clause-polled : goal.returns-in-Err-clause-polled
-returns-in-Err-clause-polled g c = rw (halted_header _ _ _ c.halted.ensures, ← c.self.view_is) (halted_told (g.S.AsyncRead.tells c.args.source.now) (g.S.AsyncRead.tells c.fill_head.new.source) c.in-Err.halt c.fill_head.new.len
+returns-in-Err-clause-polled g c = rw (halted_header _ _ _ c.halt_result.ensures, ← c.self.view_is) (halted_told (g.S.AsyncRead.tells c.args.source.now) (g.S.AsyncRead.tells c.fill_head.new.source) c.in-Err.halt c.fill_head.new.len
     (take c.self.inside.len c.self.inside.bytes) (take c.fill_head.new.len c.fill_head.new.buf)
     (omega (arith, c.fill_head.ensures.room, length-take c.fill_head.new.len c.fill_head.new.buf)) (omega (arith, c.in-Err.ensures.cut, length-take c.fill_head.new.len c.fill_head.new.buf)) c.in-Err.ensures.tells)
 

@@ -1,10 +1,10 @@
 use Rattle.std.proofs.Common.{◌≡◌, length, take, vec_len, refl, sym, ap, ◌∙◌, arith, length-take}
 use Rattle.wtp_core.specs.Fill.{Gains}
 use Rattle.wtp_core.proofs.TellingLemmas.{telling_same}
-use Rattle.wtp_wire.specs.declared.frame.head.Said.{Said}
+use Rattle.wtp_wire.specs.declared.frame.head.Announcement.{Announcement}
 use Rattle.wtp_wire.specs.FrameNeed.{frame_need}
 use Rattle.wtp_wire.specs.FramePart.{Part}
-use Rattle.wtp_wire.proofs.FrameReadingLemmas.{HeadGoesOn, head_goes_on, part_grew, part_moves, part_halts, stopped_keeps, said_bare, grew_none, same_gains}
+use Rattle.wtp_wire.proofs.FrameReadingLemmas.{HeadGoesOn, head_goes_on, part_grew, part_moves, part_halts, stopped_keeps, announcement_bare, grew_none, same_gains}
 use Rattle.wtp_wire.proofs.frame.reading.part.FramePart.advance.Goals as goal
 
 pub returns-in-Err-clause-grew : goal.returns-in-Err-clause-grew
@@ -51,7 +51,7 @@ returns-in-Err-fill_payload-clause-keeps g c =
     let g' : HeadGoesOn old h = head_goes_on old c.self.inside.len c.fill_head.new.len c.self.inside.head c.fill_head.new.buf eh (omega (arith, c.self.invariant.0, c.self.invariant.1)) c.fill_head.ensures.forward c.fill_head.ensures.front c.fill_head.ensures.stays in
     let whole : frame_need h ≡ length h = c.in-Ok.ensures.whole ∙ omega (arith, length-take c.fill_head.new.len c.fill_head.new.buf, c.fill_head.ensures.room) in
     stopped_keeps (Unit {0}) c.in-Err-fill_payload.stop old (record { head = h; room = vec_len c.self.inside.payload; payload = p }) c.fill_payload.new.self c.in-Payload.field-0 c.in-Payload.size c.requires g'
-    (ap (λ (x : Part). x.room) c.self.view_is) whole (sym c.read_head-said.ensures ∙ c.in-Payload.is) c.fill_payload.ensures.head c.in-Err-fill_payload.ensures.keeps
+    (ap (λ (x : Part). x.room) c.self.view_is) whole (sym c.read_head-announcement.ensures ∙ c.in-Payload.is) c.fill_payload.ensures.head c.in-Err-fill_payload.ensures.keeps
 
 pub returns-in-Err-fill_payload-clause-grew : goal.returns-in-Err-fill_payload-clause-grew
 returns-in-Err-fill_payload-clause-grew g c =
@@ -73,7 +73,7 @@ returns-in-Err-fill_payload-clause-moves g c =
     let eh : hd ≡ old.head = ap (λ (x : Part). x.head) c.self.view_is in
     let ep : p ≡ old.payload = ap (λ (x : Part). x.payload) c.self.view_is in
     let g' : HeadGoesOn old h = head_goes_on old c.self.inside.len c.fill_head.new.len c.self.inside.head c.fill_head.new.buf eh (omega (arith, c.self.invariant.0, c.self.invariant.1)) c.fill_head.ensures.forward c.fill_head.ensures.front c.fill_head.ensures.stays in
-    part_halts (Unit {0}) Said c.in-Err-fill_payload.stop _ _ _ old c.fill_payload.new.self h hd p c.requires g' eh ep c.fill_payload.ensures.head c.in-Ok.ensures.tells c.in-Err-fill_payload.ensures.moves
+    part_halts (Unit {0}) Announcement c.in-Err-fill_payload.stop _ _ _ old c.fill_payload.new.self h hd p c.requires g' eh ep c.fill_payload.ensures.head c.in-Ok.ensures.tells c.in-Err-fill_payload.ensures.moves
 
 pub returns-in_default : goal.returns-in_default
 returns-in_default g c =
@@ -88,7 +88,7 @@ returns-in_default g c =
     let whole : frame_need h ≡ length h = c.in-Ok.ensures.whole ∙ omega (arith, length-take c.fill_head.new.len c.fill_head.new.buf, c.fill_head.ensures.room) in
     let t = g.S.AsyncRead.tells c.fill_head.new.source in
     record {
-      keeps = said_bare c.read_head-said.result old new c.requires g' (ap (λ (x : Part). x.room) c.self.view_is) ep whole (sym c.read_head-said.ensures) c.in_default.not-Payload;
+      keeps = announcement_bare c.read_head-announcement.result old new c.requires g' (ap (λ (x : Part). x.room) c.self.view_is) ep whole (sym c.read_head-announcement.ensures) c.in_default.not-Payload;
       grew = part_grew old new h p c.requires g' ep refl (grew_none p);
       moves = part_moves _ _ t old new h hd p c.requires g' eh ep refl c.in-Ok.ensures.tells (telling_same t (λ a b. Gains p p a b 0) (λ a. same_gains p a));
     }

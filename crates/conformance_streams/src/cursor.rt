@@ -1,0 +1,358 @@
+//! Reading frames from bytes that the caller holds, however they are cut.
+use crate::answers::{number_and_payload, padded};
+use crate::reads::Reads;
+use crate::same::same;
+use crate::session::opened;
+use crate::uniremote::upgraded;
+use std::process::Abort;
+use std::test::Fail;
+use wtransport_proto::bytes::{IoReadError as Fault, Polled};
+use wtransport_proto::error::ErrorCode;
+use wtransport_proto::frame::{Frame, FrameOwned, FrameReading};
+use wtransport_proto::stream::bilocal::StreamBiLocalQuic;
+use wtransport_proto::stream::biremote::StreamBiRemoteQuic;
+use wtransport_proto::stream::{CursorStep, FrameCursor, IoReadError, StreamRole};
+
+/// How the reading of a stream ends: cleanly, or with the code of its first fault. An end inside a
+/// frame is the fault `Frame` (RFC 9114, section 7.1).
+type Ending = Result<(), ErrorCode>;
+
+/// The bytes of a stream, its frames by their type and payload, how they end, and what the row
+/// shows.
+type Row = (
+    &'static [u8],
+    &'static [(u64, &'static [u8])],
+    Ending,
+    &'static str,
+);
+
+/// The bytes of a stream, of which some have come, and the first of those are consumed.
+#[derive(Drop)]
+struct Coming<'a> {
+    bytes: &'a [u8],
+    come: usize,
+    consumed: usize,
+    cursor: FrameCursor,
+}
+
+impl<'a> Coming<'a> {
+    /// No byte has come yet.
+    fn new(bytes: &'a [u8], role: StreamRole) -> Self {
+        Coming {
+            bytes,
+            come: 0,
+            consumed: 0,
+            cursor: FrameCursor::new(role),
+        }
+    }
+
+    /// The bytes that the caller holds.
+    fn held(&self) -> &'a [u8] {
+        self.bytes.get(self.consumed..self.come).unwrap_or(&[])
+    }
+
+    /// The next frame by its type and payload, or how the stream ends. Bytes come so many at a
+    /// time.
+    fn next<R: Abort>(&mut self, rt: &R, size: usize) -> Result<(u64, &'a [u8]), Ending> {
+        for _turn in 0..10000 {
+            let held = self.held();
+            match self.cursor.next(held) {
+                CursorStep::Frame(place) => {
+                    self.consumed = self.consumed.saturating_add(place.end);
+                    return Ok((place.kind.id().into_inner(), place.payload(held)));
+                }
+                CursorStep::Fault(code) => return Err(Err(code)),
+                CursorStep::More(n) => self.consumed = self.consumed.saturating_add(n),
+            }
+            assert!(rt; self.held().len() <= 4111);
+            if self.come >= self.bytes.len() {
+                return Err(self.cursor.finish(self.held()));
+            }
+            self.come = self.come.saturating_add(size).min(self.bytes.len());
+        }
+        Err(Err(ErrorCode::NoError))
+    }
+}
+
+/// The stream has these frames and this ending where its bytes come so many at a time.
+fn check_cut<R: Abort>(
+    rt: &R,
+    role: StreamRole,
+    bytes: &[u8],
+    wanted: (&[(u64, &[u8])], Ending),
+    size: usize,
+    shows: &str,
+) {
+    let mut coming = Coming::new(bytes, role);
+    for frame in wanted.0 {
+        same(rt, (coming.next(rt, size), size), (Ok(*frame), size), shows);
+    }
+    let came = coming.next(rt, size);
+    same(rt, (came, size), (Err(wanted.1), size), shows);
+}
+
+/// The next frame that is polled, or how the stream ends.
+fn poll_next<K: Reads>(
+    stream: &mut K,
+    reading: &mut FrameReading,
+    bytes: &mut &[u8],
+) -> Result<FrameOwned, Ending> {
+    for _turn in 0..20 {
+        match stream.poll(reading, bytes) {
+            Polled::Ready(Ok(frame)) => return Ok(frame),
+            Polled::Ready(Err(IoReadError::IO(Fault::ImmediateFin))) => return Err(Ok(())),
+            Polled::Ready(Err(IoReadError::H3(code))) => return Err(Err(code)),
+            _ => {}
+        }
+    }
+    Err(Err(ErrorCode::NoError))
+}
+
+/// What was polled: a frame by its type and payload.
+fn frame_of(polled: &Result<FrameOwned, Ending>) -> Result<(u64, &[u8]), Ending> {
+    match polled {
+        Ok(frame) => Ok(number_and_payload(frame)),
+        Err(ending) => Err(*ending),
+    }
+}
+
+/// The polls of the stream read these frames, and then this ending.
+fn check_polled<R: Abort, K: Reads>(
+    rt: &R,
+    stream: &mut K,
+    reading: &mut FrameReading,
+    mut bytes: &[u8],
+    wanted: (&[(u64, &[u8])], Ending),
+    shows: &str,
+) {
+    for frame in wanted.0 {
+        let polled = poll_next(stream, reading, &mut bytes);
+        same(rt, frame_of(&polled), Ok(*frame), shows);
+    }
+    let polled = poll_next(stream, reading, &mut bytes);
+    same(rt, frame_of(&polled), Err(wanted.1), shows);
+}
+
+/// Each row, cut in pieces of each size.
+fn check_rows<R: Abort>(rt: &R, role: StreamRole, rows: &[Row]) {
+    for (bytes, frames, ending, shows) in rows {
+        for size in 1..=bytes.len() {
+            check_cut(rt, role, bytes, (frames, *ending), size, shows);
+        }
+    }
+}
+
+/// A stream that the peer opened: a session may come first, and not after another frame.
+static OPENED_THERE: [Row; 16] = [
+    (b"\x00\x01a", &[(0x00, b"a")], Ok(()), "data"),
+    (
+        b"\x01\x01a\x00\x00",
+        &[(0x01, b"a"), (0x00, b"")],
+        Ok(()),
+        "headers and data",
+    ),
+    (
+        b"\x04\x00",
+        &[],
+        Err(ErrorCode::FrameUnexpected),
+        "settings",
+    ),
+    (b"\x40\x41\x04", &[(0x41, b"")], Ok(()), "a session"),
+    (b"\x21\x01a", &[(0x21, b"a")], Ok(()), "exercise"),
+    (
+        b"\x0a\x03\x00\x00\x00\x40\x41\x04",
+        &[(0x41, b"")],
+        Ok(()),
+        "a session after an unknown frame",
+    ),
+    (
+        b"\x00\x00\x40\x41\x04",
+        &[(0x00, b"")],
+        Err(ErrorCode::Frame),
+        "a session after data",
+    ),
+    (
+        b"\x40\x41\x00\x40\x41\x00",
+        &[(0x41, b"")],
+        Err(ErrorCode::Frame),
+        "a second session",
+    ),
+    (
+        b"\x40\x41\x01",
+        &[],
+        Err(ErrorCode::Id),
+        "a number that is none",
+    ),
+    (
+        b"\x00\x50\x01",
+        &[],
+        Err(ErrorCode::ExcessiveLoad),
+        "length 4097",
+    ),
+    (
+        b"\x00\xff\xff\xff\xff\xff\xff\xff\xff",
+        &[],
+        Err(ErrorCode::ExcessiveLoad),
+        "the largest length",
+    ),
+    (
+        b"\xc0\x00\x00\x00\x00\x00\x00\x00\x80\x00\x00\x02ab\x00\x01c",
+        &[(0x00, b"ab"), (0x00, b"c")],
+        Ok(()),
+        "long encodings",
+    ),
+    (
+        b"\x00\x02a",
+        &[],
+        Err(ErrorCode::Frame),
+        "an end in a payload",
+    ),
+    (
+        b"\x00\x00\x40",
+        &[(0x00, b"")],
+        Err(ErrorCode::Frame),
+        "an end in a number",
+    ),
+    (
+        b"\x0a\x02a",
+        &[],
+        Err(ErrorCode::Frame),
+        "an end in an unknown frame",
+    ),
+    (b"\x0a\x02ab\x0a\x00", &[], Ok(()), "unknown frames alone"),
+];
+
+#[test]
+fn a_stream_opened_there_is_read_however_cut(rt: HostRuntime) {
+    check_rows(&rt, StreamRole::BiRemote, &OPENED_THERE);
+}
+
+#[test]
+fn a_stream_opened_there_is_polled_so(rt: HostRuntime) {
+    for (bytes, frames, ending, shows) in &OPENED_THERE {
+        let mut stream = StreamBiRemoteQuic::accept_bi().upgrade();
+        let mut reading = Frame::read_async(rt.alloc());
+        check_polled(
+            &rt,
+            &mut stream,
+            &mut reading,
+            bytes,
+            (frames, *ending),
+            shows,
+        );
+    }
+}
+
+/// A stream in both directions that was opened here, or that has its session.
+static OPENED_HERE: [Row; 5] = [
+    (
+        b"\x01\x01a\x00\x01b\x21\x01c",
+        &[(0x01, b"a"), (0x00, b"b"), (0x21, b"c")],
+        Ok(()),
+        "headers, data and exercise",
+    ),
+    (
+        b"\x04\x00",
+        &[],
+        Err(ErrorCode::FrameUnexpected),
+        "settings",
+    ),
+    (
+        b"\x40\x41\x04",
+        &[],
+        Err(ErrorCode::FrameUnexpected),
+        "a session",
+    ),
+    (b"\x40\x41\x01", &[], Err(ErrorCode::Id), "no session"),
+    (
+        b"\x00\x50\x01",
+        &[],
+        Err(ErrorCode::ExcessiveLoad),
+        "length 4097",
+    ),
+];
+
+#[test]
+fn streams_opened_here_are_read_however_cut(rt: HostRuntime) {
+    check_rows(&rt, StreamRole::BiLocal, &OPENED_HERE);
+    check_rows(&rt, StreamRole::Session, &OPENED_HERE);
+}
+
+#[test]
+fn streams_opened_here_are_polled_so(rt: HostRuntime) -> Result<(), Fail> {
+    let mut local = StreamBiLocalQuic::open_bi().upgrade();
+    let mut session = opened(rt.alloc())?;
+    for (bytes, frames, ending, shows) in &OPENED_HERE {
+        let wanted = (*frames, *ending);
+        let mut reading = Frame::read_async(rt.alloc());
+        check_polled(&rt, &mut local, &mut reading, bytes, wanted, shows);
+        let mut reading = Frame::read_async(rt.alloc());
+        check_polled(&rt, &mut session, &mut reading, bytes, wanted, shows);
+    }
+    Ok(())
+}
+
+/// A control stream that the peer opened, after its type.
+static CONTROL: [Row; 6] = [
+    (
+        b"\x04\x02\x33\x01\x07\x01\x00\x21\x00",
+        &[(0x04, b"\x33\x01"), (0x21, b"")],
+        Ok(()),
+        "settings, an unknown frame and exercise",
+    ),
+    (b"\x00\x00", &[], Err(ErrorCode::FrameUnexpected), "data"),
+    (b"\x01\x00", &[], Err(ErrorCode::FrameUnexpected), "headers"),
+    (
+        b"\x40\x41\x04",
+        &[],
+        Err(ErrorCode::FrameUnexpected),
+        "a session",
+    ),
+    (b"\x40\x41\x01", &[], Err(ErrorCode::Id), "no session"),
+    (
+        b"\x04\x50\x01",
+        &[],
+        Err(ErrorCode::ExcessiveLoad),
+        "length 4097",
+    ),
+];
+
+#[test]
+fn a_control_stream_is_read_however_cut(rt: HostRuntime) {
+    check_rows(&rt, StreamRole::UniRemote, &CONTROL);
+}
+
+#[test]
+fn a_control_stream_is_polled_so(rt: HostRuntime) -> Result<(), Fail> {
+    let mut stream = upgraded(&[0x00])?;
+    for (bytes, frames, ending, shows) in &CONTROL {
+        let mut reading = Frame::read_async(rt.alloc());
+        check_polled(
+            &rt,
+            &mut stream,
+            &mut reading,
+            bytes,
+            (frames, *ending),
+            shows,
+        );
+    }
+    Ok(())
+}
+
+/// How many bytes come at a time.
+static SIZES: [usize; 9] = [1, 2, 7, 100, 4096, 4111, 4999, 5003, 9105];
+
+#[test]
+fn long_frames_are_read_however_cut(rt: HostRuntime) -> Result<(), Fail> {
+    let mut bytes = padded(rt.alloc(), b"\x0a\x53\x88", 5003)?;
+    bytes.extend_from_slice(b"\x00\x50\x00")?;
+    bytes.resize(9102, 7)?;
+    bytes.extend_from_slice(b"\x01\x01a")?;
+    let payload = bytes.get(5006..9102).ok_or("a payload")?;
+    let frames = [(0x00, payload), (0x01, b"a".as_slice())];
+    for size in &SIZES {
+        let (role, shows) = (StreamRole::BiRemote, "unknown, data, headers");
+        check_cut(&rt, role, &bytes, (&frames, Ok(())), *size, shows);
+    }
+    Ok(())
+}

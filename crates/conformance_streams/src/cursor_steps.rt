@@ -1,0 +1,187 @@
+//! Single calls of a cursor over bytes, and the rule of each stream.
+use crate::same::same;
+use wtransport_proto::error::ErrorCode;
+use wtransport_proto::frame::FrameKind;
+use wtransport_proto::ids::SessionId;
+use wtransport_proto::stream::{CursorStep, FrameCursor, StreamRole, fault_of};
+use wtransport_proto::varint::VarInt;
+
+/// What one call answers: a frame by its type, its session and its place; the bytes consumed; or a
+/// code.
+#[derive(Clone, Copy, Debug, PartialEq, Eq)]
+enum Step {
+    Frame(u64, Option<u64>, usize, usize),
+    More(usize),
+    Fault(ErrorCode),
+}
+
+/// What one call answered.
+fn step_of(step: CursorStep) -> Step {
+    match step {
+        CursorStep::Frame(place) => Step::Frame(
+            place.kind.id().into_inner(),
+            place.session_id.map(SessionId::into_u64),
+            place.start,
+            place.end,
+        ),
+        CursorStep::More(n) => Step::More(n),
+        CursorStep::Fault(code) => Step::Fault(code),
+    }
+}
+
+/// Whether no frame was read and the bytes due before a call, its bytes, its answer, the same two
+/// after it, and what the row shows. The stream was opened by the peer.
+type StepRow = ((bool, u64), &'static [u8], Step, (bool, u64), &'static str);
+
+static STEPS: [StepRow; 15] = [
+    ((true, 0), b"", Step::More(0), (true, 0), "no byte"),
+    ((true, 0), b"\x00", Step::More(0), (true, 0), "a type"),
+    (
+        (true, 0),
+        b"\x00\x02a",
+        Step::More(0),
+        (true, 0),
+        "a cut payload is left",
+    ),
+    (
+        (true, 0),
+        b"\x0a\x00\x00",
+        Step::More(2),
+        (true, 0),
+        "an unknown frame is consumed",
+    ),
+    (
+        (true, 0),
+        b"\x0a\x40",
+        Step::More(0),
+        (true, 0),
+        "a cut head is left",
+    ),
+    (
+        (true, 0),
+        b"\x0a\x05abc",
+        Step::More(5),
+        (true, 2),
+        "a cut unknown frame is consumed",
+    ),
+    (
+        (true, 0),
+        b"\x0a\xff\xff\xff\xff\xff\xff\xff\xff",
+        Step::More(9),
+        (true, 0x3fff_ffff_ffff_ffff),
+        "the longest unknown frame",
+    ),
+    (
+        (true, 5),
+        b"abc",
+        Step::More(3),
+        (true, 2),
+        "bytes that are due",
+    ),
+    (
+        (true, 3),
+        b"abc",
+        Step::More(3),
+        (true, 0),
+        "the last bytes that are due",
+    ),
+    (
+        (true, 2),
+        b"ab\x40\x41\x04cd",
+        Step::Frame(0x41, Some(4), 5, 5),
+        (false, 0),
+        "a session, and none of its stream's bytes",
+    ),
+    (
+        (false, 0),
+        b"\x0a\x00\x00\x02ab\x00",
+        Step::Frame(0x00, None, 4, 6),
+        (false, 0),
+        "data",
+    ),
+    (
+        (false, 1),
+        b"a\x40\x41\x04",
+        Step::Fault(ErrorCode::Frame),
+        (false, 1),
+        "a late session",
+    ),
+    (
+        (true, 0),
+        b"\x04\x00",
+        Step::Fault(ErrorCode::FrameUnexpected),
+        (true, 0),
+        "a refused frame does not count",
+    ),
+    (
+        (true, 0),
+        b"\x40\x41\x02",
+        Step::Fault(ErrorCode::Id),
+        (true, 0),
+        "no session",
+    ),
+    (
+        (true, 1),
+        b"a\x00\x50\x01",
+        Step::Fault(ErrorCode::ExcessiveLoad),
+        (true, 1),
+        "length 4097",
+    ),
+];
+
+#[test]
+fn one_call_answers_by_the_first_frame(rt: HostRuntime) {
+    let role = StreamRole::BiRemote;
+    for (before, bytes, answer, after, shows) in &STEPS {
+        let (first, due) = *before;
+        let mut cursor = FrameCursor { role, first, due };
+        same(&rt, step_of(cursor.next(bytes)), *answer, shows);
+        let (first, due) = *after;
+        same(&rt, cursor, FrameCursor { role, first, due }, shows);
+    }
+}
+
+/// The type of a frame, whether it is the first, and its faults: on a stream that the peer opened,
+/// on one that was opened here, and on a control stream.
+type RuleRow = (
+    u32,
+    bool,
+    Option<ErrorCode>,
+    Option<ErrorCode>,
+    Option<ErrorCode>,
+);
+
+const UNEXPECTED: Option<ErrorCode> = Some(ErrorCode::FrameUnexpected);
+
+/// RFC 9114, table 1, and the WebTransport frame.
+static RULES: [RuleRow; 7] = [
+    (0x00, true, None, None, UNEXPECTED),
+    (0x01, true, None, None, UNEXPECTED),
+    (0x04, true, UNEXPECTED, UNEXPECTED, None),
+    (0x41, true, None, UNEXPECTED, UNEXPECTED),
+    (0x41, false, Some(ErrorCode::Frame), UNEXPECTED, UNEXPECTED),
+    (0x21, true, None, None, None),
+    (0x21, false, None, None, None),
+];
+
+/// The fault of a frame of this type, or what no row wants if the type is unknown.
+fn fault(role: StreamRole, first: bool, id: u32) -> Option<ErrorCode> {
+    match FrameKind::parse(VarInt::from_u32(id)) {
+        Some(kind) => fault_of(role, first, kind),
+        None => Some(ErrorCode::NoError),
+    }
+}
+
+#[test]
+fn each_stream_has_its_rule(rt: HostRuntime) {
+    for (id, first, remote, local, control) in &RULES {
+        let came = fault(StreamRole::BiRemote, *first, *id);
+        same(&rt, came, *remote, "opened by the peer");
+        let came = fault(StreamRole::BiLocal, *first, *id);
+        same(&rt, came, *local, "opened here");
+        let came = fault(StreamRole::Session, *first, *id);
+        same(&rt, came, *local, "of a session");
+        let came = fault(StreamRole::UniRemote, *first, *id);
+        same(&rt, came, *control, "a control stream");
+    }
+}

@@ -1,0 +1,185 @@
+//! The names of settings in the standards, and settings one by one.
+use crate::same::same;
+use crate::texts::prints;
+use std::alloc::{AllocError, Global};
+use std::borrow::CowSlice;
+use std::process::Abort;
+use std::test::Fail;
+use wtp_core::error::Refused;
+use wtp_core::varint::VarInt;
+use wtp_wire::frame::{Frame, GenerateError};
+use wtp_wire::settings::{SettingId, Settings};
+
+/// Numbers, and the names that the standards give them: RFC 9204, section 5; RFC 9114, sections
+/// 7.2.4.1 and 11.2.2; RFC 9220, section 3; RFC 9297, section 2.1.1;
+/// draft-ietf-webtrans-http3-02, section 3.1; draft-ietf-webtrans-http3-07, section 8.2.
+static NAMES: [(u64, &str); 10] = [
+    (0x01, "SETTINGS_QPACK_MAX_TABLE_CAPACITY"),
+    (0x06, "SETTINGS_MAX_FIELD_SECTION_SIZE"),
+    (0x07, "SETTINGS_QPACK_BLOCKED_STREAMS"),
+    (0x08, "SETTINGS_ENABLE_CONNECT_PROTOCOL"),
+    (0x33, "SETTINGS_H3_DATAGRAM"),
+    (0x2b60_3742, "SETTINGS_ENABLE_WEBTRANSPORT"),
+    (0xc671_706a, "SETTINGS_WEBTRANSPORT_MAX_SESSIONS"),
+    (0x21, "0x21"),
+    (0x40, "0x40"),
+    (0x3fff_ffff_ffff_fffe, "0x3ffffffffffffffe"),
+];
+
+/// Numbers that have no setting: those of HTTP/2, which are reserved, and unknown ones.
+static UNKNOWN: [(u64, &str); 8] = [
+    (0x00, "the first that is reserved"),
+    (0x02, "SETTINGS_ENABLE_PUSH of HTTP/2"),
+    (0x05, "the last that is reserved"),
+    (0x09, "after the connect protocol"),
+    (0x20, "before the first exercise setting"),
+    (0x22, "after the first exercise setting"),
+    (0x34, "after the datagrams"),
+    (0x3fff_ffff_ffff_ffff, "the largest number"),
+];
+
+/// Asserts the name of the setting of a number, and its number.
+fn check_name<R: Abort + AllocGlobal>(rt: &R, number: u64, name: &str) -> Result<(), Fail> {
+    let found = SettingId::parse(VarInt::try_from_u64(number)?);
+    let Some(id) = found else {
+        same(rt, "unknown", name, "the setting");
+        return Ok(());
+    };
+    same(rt, id.id().into_inner(), number, name);
+    same(rt, id.to_string(rt.alloc())?.as_str(), name, "its name");
+    Ok(())
+}
+
+#[test]
+fn settings_have_their_names(rt: HostRuntime) -> Result<(), Fail> {
+    for (number, name) in &NAMES {
+        check_name(&rt, *number, name)?;
+    }
+    Ok(())
+}
+
+#[test]
+fn other_numbers_have_no_setting(rt: HostRuntime) -> Result<(), Fail> {
+    for (number, shows) in &UNKNOWN {
+        let found = SettingId::parse(VarInt::try_from_u64(*number)?);
+        same(&rt, found, None, shows);
+    }
+    Ok(())
+}
+
+/// Payloads of SETTINGS frames, the settings that they set, in ascending order of the numbers, and
+/// what the row shows.
+static PAYLOADS: [(&[u8], &[(u64, u64)], &str); 5] = [
+    (&[], &[], "no setting"),
+    (
+        &[0x0a, 0x01, 0x0a, 0x02],
+        &[],
+        "unknown ones are not listed",
+    ),
+    (
+        &[0x33, 0x01, 0x08, 0x01, 0x06, 0x07],
+        &[(0x06, 7), (0x08, 1), (0x33, 1)],
+        "in another order",
+    ),
+    (
+        &[0x40, 0x40, 0x05, 0x21, 0x00, 0x40, 0x33, 0x01],
+        &[(0x21, 0), (0x33, 1), (0x40, 5)],
+        "exercise settings, in two bytes",
+    ),
+    (
+        &[
+            0xc0, 0x00, 0x00, 0x00, 0xc6, 0x71, 0x70, 0x6a, 0x03, 0xab, 0x60, 0x37, 0x42, 0x01,
+            0x07, 0x01, 0x01, 0x02, 0x06, 0x80, 0x00, 0x40, 0x00,
+        ],
+        &[
+            (0x01, 2),
+            (0x06, 16384),
+            (0x07, 1),
+            (0x2b60_3742, 1),
+            (0xc671_706a, 3),
+        ],
+        "of WebTransport",
+    ),
+];
+
+/// Returns the settings of a payload; a second time if allocation failed.
+fn read(alloc: Global, payload: &[u8]) -> Result<Settings, Refused> {
+    if payload.len() >= 64 {
+        return Err(Refused::Memory);
+    }
+    let frame = Frame::new_settings(CowSlice::Borrowed(payload));
+    match Settings::with_frame(alloc, &frame) {
+        Err(Refused::Memory) => Settings::with_frame(alloc, &frame),
+        answer => answer,
+    }
+}
+
+/// Asserts the settings that are listed: each pair, how many are left before it, and the end.
+fn check_listed<R: Abort>(rt: &R, settings: &Settings, pairs: &[(u64, u64)], shows: &str) {
+    let mut listed = settings.iter();
+    let mut left = pairs.len();
+    for pair in pairs {
+        same(rt, listed.size_hint(), (left, Some(left)), shows);
+        let came = match listed.next() {
+            Some((id, value)) => Some((id.id().into_inner(), value.into_inner())),
+            None => None,
+        };
+        same(rt, came, Some(*pair), shows);
+        left = left.saturating_sub(1);
+    }
+    same(rt, (listed.len(), listed.next()), (0, None), shows);
+}
+
+#[test]
+fn settings_are_listed_past_refused_memory(rt: HostRuntime) -> Result<(), Fail> {
+    for (payload, pairs, shows) in &PAYLOADS {
+        check_listed(&rt, &read(rt.alloc(), payload)?, pairs, shows);
+    }
+    Ok(())
+}
+
+/// Returns settings with a maximum size of a field section.
+fn limited(alloc: Global) -> Result<Settings, AllocError> {
+    let size = VarInt::from_u32(16384);
+    Ok(
+        Settings::builder(alloc)
+            .max_field_section_size(size)?
+            .build(),
+    )
+}
+
+/// Returns the payload of the frame of the settings; a second time if allocation failed.
+fn payload_of(alloc: Global, settings: &Settings) -> Result<Vec<u8>, GenerateError> {
+    let frame = match settings.generate_frame(alloc) {
+        Err(GenerateError::Memory) => settings.generate_frame(alloc)?,
+        frame => frame?,
+    };
+    match frame.payload().to_vec(alloc) {
+        Ok(payload) => Ok(payload),
+        Err(_) => Err(GenerateError::Memory),
+    }
+}
+
+#[test]
+fn the_size_of_field_sections_is_limited(rt: HostRuntime) -> Result<(), Fail> {
+    let settings = limited(rt.alloc())?;
+    check_listed(&rt, &settings, &[(0x06, 16384)], "one setting");
+    let payload = payload_of(rt.alloc(), &settings)?;
+    let wanted = b"\x06\x80\x00\x40\x00".as_slice();
+    same(&rt, payload.as_slice(), wanted, "its payload");
+    Ok(())
+}
+
+#[test]
+fn settings_are_printed(rt: HostRuntime) -> Result<(), Fail> {
+    let settings = read(rt.alloc(), &[0x33, 0x01, 0x21, 0x05, 0x06, 0x07])?;
+    let text = "Settings({MaxFieldSectionSize: 7, Exercise(33): 5, H3Datagram: 1})";
+    prints(&rt, &settings, text, "settings")?;
+    let mut listed = settings.iter();
+    let left = listed.clone()?;
+    let _ = listed.next();
+    let text = "{Exercise(33): 5, H3Datagram: 1}";
+    prints(&rt, &listed, text, "those that are left")?;
+    same(&rt, left.len(), 3, "a copy");
+    Ok(())
+}

@@ -1,0 +1,60 @@
+//! A client of WebTransport sessions.
+
+use crate::server::TURNS;
+use anyhow::{Result, bail};
+use std::alloc::Global;
+use std::borrow::CowSlice;
+use wtransport_proto::bytes::{AsyncRead, AsyncWrite, BytesWriter, Polled};
+use wtransport_proto::capsule::capsules::CloseWebTransportSession;
+use wtransport_proto::datagram::Datagram;
+use wtransport_proto::frame::{Frame, FrameReading};
+use wtransport_proto::ids::{QStreamId, SessionId};
+use wtransport_proto::journey::send;
+use wtransport_proto::session::{SessionRequest, SessionResponse, response_of_frame};
+use wtransport_proto::stream::bilocal::StreamBiLocalQuic;
+use wtransport_proto::stream::session::StreamSession;
+
+/// Sends the request for a session at a URL, with an origin.
+pub fn request<W: AsyncWrite>(alloc: Global, url: &str, sink: &mut W) -> Result<StreamSession> {
+    let mut request = SessionRequest::new(alloc, url)?;
+    request.insert("origin", "https://example.com")?;
+    send(&request.headers().generate_frame(alloc)?, sink, TURNS)?;
+    let stream = StreamBiLocalQuic::open_bi().upgrade();
+    Ok(stream.into_session(request))
+}
+
+/// Reads the response to the request. The source is then positioned right after it.
+pub fn read_response<S: AsyncRead>(
+    alloc: Global,
+    session: &StreamSession,
+    source: &mut S,
+) -> Result<SessionResponse> {
+    let mut reading = FrameReading::new(alloc);
+    for _turn in 0..TURNS {
+        match session.read_frame_async(&mut reading, source) {
+            Polled::Ready(frame) => return Ok(response_of_frame(alloc, &frame?)?),
+            Polled::Pending | Polled::Again => {}
+            Polled::NoMemory => bail!("out of memory"),
+        }
+    }
+    bail!("the stream is not ready")
+}
+
+/// Closes a session with a code and a reason of the application: a capsule, in DATA frames of at
+/// most 5 bytes each.
+pub fn close<W: BytesWriter>(alloc: Global, code: u32, reason: &str, out: &mut W) -> Result<()> {
+    let mut capsule = Vec::new(alloc);
+    CloseWebTransportSession::new(alloc, code, reason)?.write(&mut capsule)?;
+    for piece in capsule.as_slice().chunks(5) {
+        Frame::new_data(CowSlice::Borrowed(piece)).write(out)?;
+    }
+    Ok(())
+}
+
+/// Returns a datagram of a session with this payload.
+pub fn datagram(alloc: Global, session: SessionId, payload: &[u8]) -> Result<Vec<u8>> {
+    let datagram = Datagram::new(QStreamId::from_session_id(session), payload);
+    let mut buffer = [0; 1200];
+    let size = datagram.write(&mut buffer)?;
+    Ok(Vec::from_slice(alloc, &buffer[..size])?)
+}

@@ -1,0 +1,69 @@
+//! Unidirectional streams that the peer opened, the control stream among them.
+
+ghost use Rattle.wtransport_proto.specs.Streams.{CanRead};
+
+use crate::server::TURNS;
+use anyhow::{Result, bail};
+use std::alloc::Global;
+use wtransport_proto::bytes::{AsyncRead, Polled, Stepped};
+use wtransport_proto::error::ErrorCode;
+use wtransport_proto::frame::{Frame, FrameKind, FrameReading};
+use wtransport_proto::settings::Settings;
+use wtransport_proto::stream::uniremote::{StreamUniRemoteH3, StreamUniRemoteQuic};
+use wtransport_proto::stream_header::StreamKind;
+
+/// Accepts a unidirectional stream by its header.
+pub fn accept_unidirectional<S: AsyncRead>(source: &mut S) -> Result<StreamUniRemoteH3> {
+    let mut accepting = StreamUniRemoteQuic::accept_uni().upgrade_async();
+    for _turn in 0..TURNS {
+        accepting = match accepting.poll(source) {
+            Stepped::Done(stream) => return Ok(stream),
+            Stepped::Pending(state) | Stepped::NoMemory(state) => state,
+            Stepped::Failed(_, fault) => return Err(fault.into()),
+        };
+    }
+    bail!("the stream is not ready")
+}
+
+/// The peer's control stream. The ghost field keeps the condition of `read_frame_async` while it is
+/// polled.
+#[derive(Debug, Drop)]
+pub struct Control {
+    stream: StreamUniRemoteH3,
+    ghost readable: { CanRead stream },
+}
+
+impl Control {
+    /// Creates it from a stream that was accepted, or returns `None` if that is another stream.
+    pub fn new(stream: StreamUniRemoteH3) -> Option<Self> {
+        if stream.kind() != StreamKind::Control {
+            return None;
+        }
+        Some(Control { stream })
+    }
+
+    /// Reads the settings, which are in the first frame.
+    pub fn read_settings<S: AsyncRead>(
+        &mut self,
+        alloc: Global,
+        source: &mut S,
+    ) -> Result<Settings> {
+        let mut reading = FrameReading::new(alloc);
+        for _turn in 0..TURNS {
+            match self.stream.read_frame_async(&mut reading, source) {
+                Polled::Ready(frame) => return settings_of(alloc, &frame?),
+                Polled::Pending | Polled::Again => {}
+                Polled::NoMemory => bail!("out of memory"),
+            }
+        }
+        bail!("the stream is not ready")
+    }
+}
+
+/// Returns the settings of the first frame of a control stream (RFC 9114, section 6.2.1).
+fn settings_of(alloc: Global, frame: &Frame<'_>) -> Result<Settings> {
+    if frame.kind() != FrameKind::Settings {
+        return Err(ErrorCode::MissingSettings.into());
+    }
+    Ok(Settings::with_frame(alloc, frame)?)
+}

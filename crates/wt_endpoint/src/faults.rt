@@ -1,0 +1,64 @@
+//! Wrong inputs, and what an endpoint closes after each.
+
+use crate::closing::{Closing, after_code, after_fault};
+use std::alloc::Global;
+use std::io;
+use wtransport_proto::bytes::Stepped;
+use wtransport_proto::datagram::Datagram;
+use wtransport_proto::error::Refused;
+use wtransport_proto::frame::FrameReading;
+use wtransport_proto::session::request_of_frame;
+use wtransport_proto::stream::BiAccepted;
+use wtransport_proto::stream::biremote::StreamBiRemoteQuic;
+use wtransport_proto::stream::uniremote::StreamUniRemoteQuic;
+
+/// Bidirectional streams that are closed, and what is wrong with each.
+const STREAMS: [(&[u8], &str); 7] = [
+    (b"", "an empty stream"),
+    (b"\x00\x00", "DATA before HEADERS"),
+    (b"\x04\x00", "SETTINGS on a request stream"),
+    (b"\x40\x41\x03", "an invalid session ID"),
+    (b"\x01\x50\x01", "a payload of 4097 bytes"),
+    (b"\x01\x05\x00", "an end inside a frame"),
+    (b"\x01\x02\x00\x00", "a request without fields"),
+];
+
+/// Prints what is closed after each wrong input.
+pub fn print_each<R: Print>(rt: &R, alloc: Global) -> io::Result<()> {
+    for (bytes, fault) in STREAMS {
+        println!(rt; "  {fault}: {:?}", bidirectional(alloc, bytes))?;
+    }
+    println!(rt; "  an unknown stream type: {:?}", unidirectional(b"\x07"))?;
+    let datagram = match Datagram::read(b"") {
+        Ok(_) => Closing::Nothing,
+        Err(code) => after_code(code),
+    };
+    println!(rt; "  an empty datagram: {datagram:?}")
+}
+
+/// Returns what is closed after the first frame of a bidirectional stream.
+fn bidirectional(alloc: Global, bytes: &[u8]) -> Closing {
+    let stream = StreamBiRemoteQuic::accept_bi().upgrade();
+    let mut source = bytes;
+    match stream
+        .accept_async(FrameReading::new(alloc))
+        .poll(&mut source)
+    {
+        BiAccepted::Failed(_, fault) => after_fault(&fault),
+        BiAccepted::Request(_, _, frame) => match request_of_frame(alloc, &frame) {
+            Err(Refused::Code(code)) => after_code(code),
+            Ok(_) | Err(Refused::Memory) => Closing::Nothing,
+        },
+        _ => Closing::Nothing,
+    }
+}
+
+/// Returns what is closed after the header of a unidirectional stream.
+fn unidirectional(bytes: &[u8]) -> Closing {
+    let accepting = StreamUniRemoteQuic::accept_uni().upgrade_async();
+    let mut source = bytes;
+    match accepting.poll(&mut source) {
+        Stepped::Failed(_, fault) => after_fault(&fault),
+        _ => Closing::Nothing,
+    }
+}

@@ -1,0 +1,135 @@
+//! Streams of a QUIC library, and adapters to the traits of `bytes`. No contract is known of such a
+//! library, so the adapters have no model, and check what it reports.
+
+use std::alloc::Global;
+use wtransport_proto::bytes::{AsyncRead, AsyncWrite, ReadStep, WriteStep};
+
+/// Why a call of a QUIC library moved no bytes.
+#[derive(Clone, Copy, Debug, PartialEq, Eq)]
+pub enum QuicError {
+    /// Nothing can be moved now. The library wakes this task once something can.
+    WouldBlock,
+    /// The peer reset the stream, or reads it no more.
+    Closed,
+    /// The connection is lost.
+    ConnectionLost,
+}
+
+/// A receiving stream of a QUIC library.
+pub trait ReceiveStream {
+    /// Moves received bytes into the buffer, and returns their number; 0 at the end of the stream.
+    fn receive(&mut self, buf: &mut [u8]) -> Result<usize, QuicError>;
+}
+
+/// A sending stream of a QUIC library.
+pub trait SendStream {
+    /// Takes bytes that are to be sent, and returns their number.
+    fn send(&mut self, buf: &[u8]) -> Result<usize, QuicError>;
+}
+
+/// A receiving stream as a source.
+#[derive(Debug, Drop)]
+pub struct QuicSource<T> {
+    pub stream: T,
+}
+
+impl<T: ReceiveStream> AsyncRead for QuicSource<T> {
+    fn poll_read(&mut self, buf: &mut [u8]) -> ReadStep {
+        if buf.is_empty() {
+            return ReadStep::Bytes(0);
+        }
+        match self.stream.receive(buf) {
+            Ok(n) => ReadStep::Bytes(n.min(buf.len())),
+            Err(QuicError::WouldBlock) => ReadStep::NotReady,
+            Err(QuicError::Closed) => ReadStep::Reset,
+            Err(QuicError::ConnectionLost) => ReadStep::NotConnected,
+        }
+    }
+}
+
+/// A sending stream as a sink.
+#[derive(Debug, Drop)]
+pub struct QuicSink<T> {
+    pub stream: T,
+}
+
+impl<T: SendStream> AsyncWrite for QuicSink<T> {
+    fn poll_write(&mut self, buf: &[u8]) -> WriteStep {
+        if buf.is_empty() {
+            return WriteStep::Bytes(0);
+        }
+        match self.stream.send(buf) {
+            Ok(0) | Err(QuicError::WouldBlock) => WriteStep::NotReady,
+            Ok(n) => WriteStep::Bytes(n.min(buf.len())),
+            Err(QuicError::Closed) => WriteStep::Stopped,
+            Err(QuicError::ConnectionLost) => WriteStep::NotConnected,
+        }
+    }
+}
+
+/// A receiving stream whose bytes are in memory. It has at most 3 of them at a time.
+#[derive(Debug, Drop)]
+pub struct Received<'a> {
+    bytes: &'a [u8],
+    is_woken: bool,
+}
+
+impl<'a> Received<'a> {
+    /// Creates a stream of these bytes.
+    pub fn new(bytes: &'a [u8]) -> Self {
+        Received {
+            bytes,
+            is_woken: false,
+        }
+    }
+}
+
+impl ReceiveStream for Received<'_> {
+    fn receive(&mut self, buf: &mut [u8]) -> Result<usize, QuicError> {
+        self.is_woken = !self.is_woken;
+        if self.is_woken {
+            return Err(QuicError::WouldBlock);
+        }
+        let n = self.bytes.len().min(buf.len()).min(3);
+        let (front, rest) = self.bytes.split_at(n);
+        buf[..n].copy_from_slice(front);
+        self.bytes = rest;
+        Ok(n)
+    }
+}
+
+/// A sending stream whose bytes stay in memory. It has room for at most 3 of them at a time.
+#[derive(Debug, Drop)]
+pub struct Sent {
+    bytes: Vec<u8>,
+    is_woken: bool,
+}
+
+impl Sent {
+    /// Creates a stream to which nothing was sent.
+    pub fn new(alloc: Global) -> Self {
+        Sent {
+            bytes: Vec::new(alloc),
+            is_woken: false,
+        }
+    }
+
+    /// Returns the bytes that were sent.
+    pub fn bytes(&self) -> &[u8] {
+        self.bytes.as_slice()
+    }
+}
+
+impl SendStream for Sent {
+    fn send(&mut self, buf: &[u8]) -> Result<usize, QuicError> {
+        self.is_woken = !self.is_woken;
+        if self.is_woken {
+            return Err(QuicError::WouldBlock);
+        }
+        let n = buf.len().min(3);
+        match self.bytes.extend_from_slice(&buf[..n]) {
+            Ok(()) => Ok(n),
+            Err(_) => Err(QuicError::ConnectionLost),
+        }
+    }
+}

@@ -1,0 +1,85 @@
+//! A server of WebTransport sessions.
+
+use anyhow::{Result, bail};
+use std::alloc::Global;
+use wtransport_proto::bytes::{AsyncRead, AsyncWrite};
+use wtransport_proto::datagram::Datagram;
+use wtransport_proto::frame::FrameReading;
+use wtransport_proto::ids::SessionId;
+use wtransport_proto::journey::send;
+use wtransport_proto::session::{SessionRequest, SessionResponse, request_of_frame};
+use wtransport_proto::settings::Settings;
+use wtransport_proto::stream::BiAccepted;
+use wtransport_proto::stream::biremote::{StreamBiRemoteH3, StreamBiRemoteQuic, StreamBiRemoteWT};
+use wtransport_proto::stream::session::StreamSession;
+use wtransport_proto::stream::unilocal::StreamUniLocalQuic;
+use wtransport_proto::stream_header::StreamHeader;
+
+/// How often a stream is polled. A live endpoint polls again once the stream is ready.
+pub const TURNS: u32 = 10_000;
+
+/// Writes the control stream: its type, and the settings.
+pub fn write_control(alloc: Global, out: &mut Vec<u8>) -> Result<()> {
+    let settings = Settings::builder(alloc)
+        .enable_connect_protocol()?
+        .enable_h3_datagrams()?
+        .enable_webtransport()?
+        .build();
+    let stream = StreamUniLocalQuic::open_uni().upgrade(StreamHeader::new_control(), out);
+    let mut stream = stream.map_err(|(_, error)| error)?;
+    stream.write_frame(settings.generate_frame(alloc)?, out)?;
+    Ok(())
+}
+
+/// A bidirectional stream that the peer opened.
+#[derive(Debug, Drop)]
+pub enum Opened {
+    /// A session is requested on it.
+    Request(StreamBiRemoteH3, SessionRequest),
+    /// It is a stream of a session: all bytes that follow are the application's.
+    Stream(StreamBiRemoteWT),
+}
+
+/// Accepts a bidirectional stream by its first frame.
+pub fn accept<S: AsyncRead>(alloc: Global, source: &mut S) -> Result<Opened> {
+    let stream = StreamBiRemoteQuic::accept_bi().upgrade();
+    let mut accepting = stream.accept_async(FrameReading::new(alloc));
+    for _turn in 0..TURNS {
+        accepting = match accepting.poll(source) {
+            BiAccepted::WebTransport(stream) => return Ok(Opened::Stream(stream)),
+            BiAccepted::Request(stream, _, frame) => {
+                return Ok(Opened::Request(stream, request_of_frame(alloc, &frame)?));
+            }
+            BiAccepted::Again(state) | BiAccepted::Pending(state) => state,
+            BiAccepted::NoMemory(_) => bail!("out of memory"),
+            BiAccepted::Failed(_, fault) => return Err(fault.into()),
+        };
+    }
+    bail!("the stream is not ready")
+}
+
+/// Responds to a request. Returns the session, unless the path is unknown.
+pub fn respond<W: AsyncWrite>(
+    alloc: Global,
+    stream: StreamBiRemoteH3,
+    request: SessionRequest,
+    sink: &mut W,
+) -> Result<Option<StreamSession>> {
+    let mut response = match request.path() {
+        "/chat" => SessionResponse::ok(alloc)?,
+        _ => SessionResponse::not_found(alloc)?,
+    };
+    response.add("server", "an endpoint")?;
+    send(&response.headers().generate_frame(alloc)?, sink, TURNS)?;
+    if !response.code().is_successful() {
+        return Ok(None);
+    }
+    Ok(Some(stream.into_session(request)))
+}
+
+/// Reads a datagram: appends its payload to `out`, and returns its session.
+pub fn read_datagram(bytes: &[u8], out: &mut Vec<u8>) -> Result<SessionId> {
+    let datagram = Datagram::read(bytes)?;
+    out.extend_from_slice(datagram.payload())?;
+    Ok(datagram.qstream_id().into_session_id())
+}

@@ -1,0 +1,89 @@
+//! Streams of a session: their first bytes name the session, and the rest is the application's.
+
+use crate::server::{self, Opened, TURNS};
+use anyhow::{Result, bail};
+use std::alloc::Global;
+use wtransport_proto::bytes::{AsyncRead, AsyncWrite, BytesWriterAsync, Polled, ReadStep, Stepped};
+use wtransport_proto::error::ErrorCode;
+use wtransport_proto::ids::SessionId;
+use wtransport_proto::stream::bilocal::{StreamBiLocalQuic, StreamBiLocalWT};
+use wtransport_proto::stream::biremote::StreamBiRemoteWT;
+use wtransport_proto::stream::unilocal::{StreamUniLocalH3, StreamUniLocalQuic};
+use wtransport_proto::stream_header::StreamHeader;
+
+/// Opens a bidirectional stream of a session.
+pub fn open_bidirectional<W: AsyncWrite>(
+    session: SessionId,
+    sink: &mut W,
+) -> Result<StreamBiLocalWT> {
+    let mut upgrading = StreamBiLocalQuic::open_bi()
+        .upgrade()
+        .upgrade_async(session);
+    for _turn in 0..TURNS {
+        upgrading = match upgrading.poll(sink) {
+            Stepped::Done(stream) => return Ok(stream),
+            Stepped::Pending(state) => state,
+            Stepped::NoMemory(_) => bail!("out of memory"),
+            Stepped::Failed(_, fault) => return Err(fault.into()),
+        };
+    }
+    bail!("the stream is not ready")
+}
+
+/// Opens a unidirectional stream of a session.
+pub fn open_unidirectional<W: AsyncWrite>(
+    session: SessionId,
+    sink: &mut W,
+) -> Result<StreamUniLocalH3> {
+    let header = StreamHeader::new_webtransport(session);
+    let mut upgrading = StreamUniLocalQuic::open_uni().upgrade_async(header);
+    for _turn in 0..TURNS {
+        upgrading = match upgrading.poll(sink) {
+            Stepped::Done(stream) => return Ok(stream),
+            Stepped::Pending(state) => state,
+            Stepped::NoMemory(_) => bail!("out of memory"),
+            Stepped::Failed(_, fault) => return Err(fault.into()),
+        };
+    }
+    bail!("the stream is not ready")
+}
+
+/// Accepts a bidirectional stream of a session. A client accepts no other (RFC 9114, section 6.1).
+pub fn accept_bidirectional<S: AsyncRead>(
+    alloc: Global,
+    source: &mut S,
+) -> Result<StreamBiRemoteWT> {
+    let Opened::Stream(stream) = server::accept(alloc, source)? else {
+        return Err(ErrorCode::StreamCreation.into());
+    };
+    Ok(stream)
+}
+
+/// Sends data of the application.
+pub fn send<W: AsyncWrite>(data: &[u8], sink: &mut W) -> Result<()> {
+    let mut writing = sink.put_buffer(data);
+    for _turn in 0..TURNS {
+        match writing.poll(sink) {
+            Polled::Ready(result) => return Ok(result?),
+            Polled::Pending | Polled::Again => {}
+            Polled::NoMemory => bail!("out of memory"),
+        }
+    }
+    bail!("the stream is not ready")
+}
+
+/// Receives data of the application, up to the end of the stream.
+pub fn receive<S: AsyncRead>(alloc: Global, source: &mut S) -> Result<Vec<u8>> {
+    let mut data = Vec::new(alloc);
+    let mut buffer = [0; 64];
+    for _turn in 0..TURNS {
+        match source.poll_read(&mut buffer) {
+            ReadStep::Bytes(0) => return Ok(data),
+            ReadStep::Bytes(n) => data.extend_from_slice(&buffer[..n])?,
+            ReadStep::NotReady => {}
+            ReadStep::Reset => bail!("the stream was reset"),
+            ReadStep::NotConnected => bail!("the connection is lost"),
+        }
+    }
+    bail!("the stream is not ready")
+}

@@ -1,0 +1,27 @@
+-- The settings one by one: of each its identifier and its value, in ascending order of the numbers.
+use Rattle.std.specs.Prelude.{◌≡◌, ℕ, ◌↔◌, List, Contains, Option, Some, None, map}
+use Rattle.std.specs.Ordering.{nat_cmp}
+use Rattle.std.specs.List.Sorted.{IsStrictlySortedBy}
+use Rattle.wtp_wire.specs.declared.settings.SettingId.{SettingId}
+use Rattle.wtp_wire.specs.declared.settings.SettingId.TheVariants.{Exercise}
+use Rattle.wtp_wire.specs.SettingId.{setting_number_of, setting_id_of}
+use Rattle.wtp_wire.specs.Settings.{setting_value}
+
+-- xs are the settings that are set in m, each with its value, in ascending order of the numbers
+pub record AreListed (m : List (ℕ × ℕ)) (xs : List (SettingId × ℕ)) : Type 0 where
+  pub rising : IsStrictlySortedBy nat_cmp (map (λ x. setting_number_of x.0) xs)
+  pub same : (setting : SettingId) (value : ℕ)
+      → Contains xs (setting, value) ↔ (setting_value m setting ≡ Some value)
+
+-- ---- the same, computed
+
+abbrev pub setting_or : Option SettingId → SettingId → SettingId
+setting_or None other = other
+setting_or (Some setting) other = setting
+
+-- the setting of a number; of one that has no setting, a setting that is never stored
+abbrev pub setting_of : ℕ → SettingId
+setting_of id = setting_or (setting_id_of id) (Exercise id)
+
+abbrev pub settings_list : List (ℕ × ℕ) → List (SettingId × ℕ)
+settings_list m = map (λ p. (setting_of p.0, p.1)) m

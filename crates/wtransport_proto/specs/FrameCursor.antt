@@ -1,0 +1,114 @@
+-- Reading frames from bytes that the caller holds.
+use Rattle.std.specs.Prelude.{◌≡◌, ◌≢◌, ℕ, ◌-◌, ◌<◌, ◌≤◌, nat_lt, if◌then◌else◌, Bool, false, List, [], ◌++◌, Some, None, Result, Ok, Err, length, take, drop}
+use Rattle.wtp_core.specs.declared.error.ErrorCode.{ErrorCode}
+use Rattle.wtp_core.specs.declared.error.ErrorCode.TheVariants.{Id, ExcessiveLoad}
+use Rattle.wtp_wire.specs.Content.{Content, content, kind_in, payload_in, session_in, IsProper}
+use Rattle.wtp_wire.specs.Front.{Front, Framed, Unknown, BadId, TooBig, Short, front}
+use Rattle.wtp_wire.specs.Held.{Held, front_held}
+use Rattle.wtransport_proto.specs.CutFrame.{due_in}
+use Rattle.wtransport_proto.specs.HeldRun.{run_held}
+use Rattle.wtransport_proto.specs.Role.{role_of}
+use Rattle.wtransport_proto.specs.Rule.{Role, rule}
+use Rattle.wtransport_proto.specs.Run.{Run, Tail, MayGoOn, Ending, H3, ImmediateFin, ends, follows, past_unknown}
+use Rattle.wtransport_proto.specs.declared.stream.cursor.FrameCursor.{FrameCursor}
+use Rattle.wtransport_proto.specs.declared.stream.cursor.FramePlace.{FramePlace}
+use Rattle.wtransport_proto.specs.declared.stream.cursor.CursorStep.{CursorStep}
+use Rattle.wtransport_proto.specs.declared.stream.cursor.CursorStep.TheVariants.{Frame, More, Fault}
+
+-- what a cursor holds: no bytes, and in their place the payload bytes of an unknown frame that are
+-- still to be skipped
+abbrev pub held_by : FrameCursor → Held
+held_by c = record { taken = []; due = c.due }
+
+-- the run of the bytes from a cursor on
+abbrev pub run_from : FrameCursor → List ℕ → Tail → Run
+run_from c bytes tail = run_held (role_of c.role) c.first (held_by c) bytes tail
+
+-- the bytes from the first frame on that is not skipped
+abbrev pub known_from : FrameCursor → List ℕ → List ℕ
+known_from c bytes = past_unknown (drop c.due bytes)
+
+-- ---- a frame
+
+-- the payload at a place
+abbrev pub payload_at : FramePlace → List ℕ → List ℕ
+payload_at p bytes = take (p.end - p.start) (drop p.start bytes)
+
+-- the frame at a place
+abbrev pub frame_at : FramePlace → List ℕ → Content
+frame_at p bytes = content p.kind (payload_at p bytes) p.session_id
+
+-- this is the place of a frame that ends here
+pub record IsPlaceOf (p : FramePlace) (f : Content) (n : ℕ) : Type 0 where
+  pub kind : p.kind ≡ kind_in f
+  pub session : p.session_id ≡ session_in f
+  pub start : p.start ≡ n - length (payload_in f)
+  pub end : p.end ≡ n
+
+-- The frame at this place is the first one that is not skipped, and the stream allows it. It ends
+-- where the place does.
+pub record TakesFrame (p : FramePlace) (old : FrameCursor) (bytes : List ℕ) (new : FrameCursor) :
+    Type 0 where
+  pub within : p.end ≤ length bytes
+  pub found : front (known_from old bytes) ≡ Framed (frame_at p bytes) (drop p.end bytes)
+  pub proper : IsProper p.kind (payload_at p bytes) p.session_id
+  pub allowed : rule (role_of old.role) old.first p.kind ≡ None
+  pub cursor : new ≡ record old { first = false; due = 0 }
+
+-- ---- more bytes
+
+-- how many payload bytes of an unknown frame are still to be skipped after these bytes
+abbrev pub due_after : FrameCursor → List ℕ → ℕ
+due_after c bytes =
+    if nat_lt (length bytes) c.due then c.due - length bytes else due_in (known_from c bytes)
+
+-- The first frame that is not skipped is not complete, nor is it a fault. The bytes from there on
+-- are left, which are few; or none is, if they are of an unknown frame.
+pub record WantsMore (n : ℕ) (old : FrameCursor) (bytes : List ℕ) (new : FrameCursor) : Type 0 where
+  pub within : n ≤ length bytes
+  pub short : front (known_from old bytes) ≡ Short
+  pub cursor : new ≡ record old { due = due_after old bytes }
+  pub left : new.due ≡ 0 → drop n bytes ≡ known_from old bytes
+  pub skipped : 0 < new.due → n ≡ length bytes
+  pub few : length (drop n bytes) ≤ 4111
+  pub still : front_held (held_by new) (drop n bytes) ≡ Short
+
+-- ---- a fault
+
+-- the first frame that is not skipped has this fault
+abbrev pub IsFault : Role → Bool → Front → ErrorCode → Type 0
+IsFault role first (Framed f rest) c = rule role first (kind_in f) ≡ Some c
+IsFault role first (Unknown rest) c = ⊥
+IsFault role first (BadId rest) c = c ≡ Id
+IsFault role first (TooBig rest) c = c ≡ ExcessiveLoad
+IsFault role first Short c = ⊥
+
+-- ---- one call
+
+-- by the first frame that is not skipped
+abbrev pub StepIs : CursorStep → FrameCursor → List ℕ → FrameCursor → Type 0
+StepIs (Frame p) old bytes new = TakesFrame p old bytes new
+StepIs (More n) old bytes new = WantsMore n old bytes new
+StepIs (Fault c) old bytes new =
+    IsFault (role_of old.role) old.first (front (known_from old bytes)) c × (new ≡ old)
+
+-- whatever follows these bytes, and however those end, the run of all is made so from the run of
+-- the rest
+abbrev pub Continues : FrameCursor → List ℕ → FrameCursor → List ℕ → (Run → Run) → Type 0
+Continues old bytes new rest made =
+    (more : List ℕ) (tail : Tail) → tail ≢ MayGoOn
+    → run_from old (bytes ++ more) tail ≡ made (run_from new (rest ++ more) tail)
+
+-- by the run: the bytes that are consumed are not wanted again
+abbrev pub RunGoesOn : CursorStep → FrameCursor → List ℕ → FrameCursor → Type 0
+RunGoesOn (Frame p) old bytes new =
+    Continues old bytes new (drop p.end bytes) (λ r. follows (frame_at p bytes) r)
+RunGoesOn (More n) old bytes new = Continues old bytes new (drop n bytes) (λ r. r)
+RunGoesOn (Fault c) old bytes new = Continues old bytes new bytes (λ r. ends (H3 c))
+
+-- ---- the end of the stream
+
+-- the ending of the run where the stream ends so
+abbrev pub ending_of : Result (Unit {0}) ErrorCode → Ending
+ending_of (Ok u) = ImmediateFin
+ending_of (Err c) = H3 c

@@ -1,0 +1,28 @@
+-- The error codes of the faults of streams and of journeys.
+use Rattle.std.specs.Prelude.{Option, Some, None}
+use Rattle.wtp_core.specs.declared.error.ErrorCode.{ErrorCode}
+use Rattle.wtp_core.specs.declared.error.ErrorCode.TheVariants.{FrameUnexpected}
+use Rattle.wtp_core.specs.ErrorScope.{code_in}
+use Rattle.wtp_wire.specs.declared.frame.kind.FrameKind.TheVariants.{Data}
+use Rattle.wtransport_proto.specs.declared.journey.JourneyError.{JourneyError}
+use Rattle.wtransport_proto.specs.declared.journey.JourneyError.TheVariants.{Receive}
+use Rattle.wtransport_proto.specs.declared.journey.ReceiveError.{ReceiveError}
+use Rattle.wtransport_proto.specs.declared.journey.ReceiveError.TheVariants.{Stream, OtherKind, Section}
+use Rattle.wtransport_proto.specs.declared.stream.polled.IoReadError.{IoReadError}
+use Rattle.wtransport_proto.specs.declared.stream.polled.IoReadError.TheVariants.{H3, IO}
+
+-- the code of a fault by the rules of a stream
+abbrev pub stream_code : IoReadError → Option ErrorCode
+stream_code (H3 code) = Some code
+stream_code (IO fault) = None
+
+-- the code of what was received in place of a header map
+abbrev pub receive_code : ReceiveError → Option ErrorCode
+receive_code (Stream fault) = stream_code fault
+receive_code (Section refused) = code_in refused
+receive_code (OtherKind Data) = Some FrameUnexpected  -- RFC 9114, section 4.1
+receive_code _ = None
+
+abbrev pub journey_code : JourneyError → Option ErrorCode
+journey_code (Receive error) = receive_code error
+journey_code _ = None

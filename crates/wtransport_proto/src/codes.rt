@@ -1,0 +1,51 @@
+//! The error codes of the faults of streams and of journeys.
+ghost use Rattle.std.specs.Prelude.{◌≡◌};
+ghost use Rattle.wtransport_proto.specs.StreamCodes.{stream_code, receive_code, journey_code};
+
+use crate::journey::{JourneyError, ReceiveError};
+use crate::stream::IoReadError;
+use wtp_core::error::ErrorCode;
+use wtp_wire::frame::FrameKind;
+
+impl IoReadError {
+    /// Returns the error code, or `None` if the source gave no more bytes. Not in the Rust crate.
+    pub fn code(&self) -> Option<ErrorCode>
+        ensures { result ≡ stream_code self.now }
+    {
+        match self {
+            IoReadError::H3(code) => Some(*code),
+            IoReadError::IO(_) => None,
+        }
+    }
+}
+
+impl ReceiveError {
+    /// Returns the error code of what was received. A DATA frame before the HEADERS frame of a
+    /// message is not permitted (RFC 9114, section 4.1). Not in the Rust crate.
+    ///
+    /// Returns `None` if nothing is wrong with it: the source was not ready or gave no more bytes,
+    /// memory allocation failed, or the frame is of another kind.
+    pub fn code(&self) -> Option<ErrorCode>
+        ensures { result ≡ receive_code self.now }
+    {
+        match self {
+            ReceiveError::Stream(fault) => fault.code(),
+            ReceiveError::Section(refused) => refused.code(),
+            ReceiveError::OtherKind(FrameKind::Data) => Some(ErrorCode::FrameUnexpected),
+            ReceiveError::OtherKind(_) | ReceiveError::Waiting | ReceiveError::Memory => None,
+        }
+    }
+}
+
+impl JourneyError {
+    /// Returns the error code of what was received, as [`ReceiveError::code`] does, or `None` if
+    /// the journey ended before. Not in the Rust crate.
+    pub fn code(&self) -> Option<ErrorCode>
+        ensures { result ≡ journey_code self.now }
+    {
+        match self {
+            JourneyError::Receive(error) => error.code(),
+            JourneyError::Frame(_) | JourneyError::Send(_) => None,
+        }
+    }
+}

@@ -1,0 +1,205 @@
+//! Reading frames from bytes that the caller holds, with no source and no memory. Not in the Rust
+//! crate.
+ghost use Rattle.std.specs.Prelude.{◌≡◌, ◌≤◌, ◌-◌, ◌↔◌, length, Ok, None, true, IsOk, OnErr, Err};
+ghost use Rattle.wtp_core.specs.Reader.{IsRest};
+ghost use Rattle.wtp_wire.specs.Front.{front};
+ghost use Rattle.wtransport_proto.specs.CutFrame.{due_in};
+ghost use Rattle.wtransport_proto.specs.Reading.{AnswersKnown};
+ghost use Rattle.wtransport_proto.specs.Run.{past_unknown};
+
+use crate::stream::rules::{StreamRole, fault_of};
+use wtp_core::bytes::BytesReader;
+use wtp_core::error::ErrorCode;
+use wtp_core::ids::SessionId;
+use wtp_wire::frame::{Frame, FrameKind, ParseError};
+
+/// All that reading the frames of a stream remembers between two calls. Not in the Rust crate.
+///
+/// It holds no bytes: the caller does, and gives those after the ones that were consumed. Each
+/// value is a valid one.
+#[derive(Clone, Copy, Debug, PartialEq, Eq)]
+pub struct FrameCursor {
+    /// The role of the stream.
+    pub role: StreamRole,
+    /// Whether the next frame would be the first of the stream, other than unknown ones.
+    pub first: bool,
+    /// How many payload bytes of an unknown frame are still to be skipped.
+    pub due: u64,
+}
+
+/// A frame by its place in the bytes given to `FrameCursor::next`. Not in the Rust crate.
+#[derive(Clone, Copy, Debug, PartialEq, Eq)]
+pub struct FramePlace {
+    /// The kind.
+    pub kind: FrameKind,
+    /// The session, if the kind is WebTransport.
+    pub session_id: Option<SessionId>,
+    /// The offset of the payload.
+    pub start: usize,
+    /// The offset of the byte after the payload, which is the number of bytes consumed.
+    pub end: usize,
+    ghost ordered: { start ≤ end },
+}
+
+/// What a cursor finds next. Not in the Rust crate.
+#[derive(Clone, Copy, Debug, PartialEq, Eq)]
+pub enum CursorStep {
+    /// A frame. The bytes up to its end are consumed.
+    Frame(FramePlace),
+    /// More bytes are needed, after this many that are consumed.
+    More(usize),
+    /// A fault of the stream, by its code. No byte is consumed.
+    Fault(ErrorCode),
+}
+
+impl FramePlace {
+    ghost use Rattle.wtp_wire.specs.Content.{payload_in, IsProper};
+    ghost use Rattle.wtransport_proto.specs.FrameCursor.{payload_at, IsPlaceOf};
+
+    // Returns the place of a frame that ends here.
+    fn of(frame: &Frame<'_>, end: usize) -> Self
+        requires { length (payload_in frame.now) ≤ end }
+        ensures place { IsPlaceOf result frame.now end }
+        ensures proper { IsProper result.kind (payload_in frame.now) result.session_id }
+    {
+        let len = frame.payload().len();
+        FramePlace {
+            kind: frame.kind(),
+            session_id: frame.session_id(),
+            start: end - len,
+            end,
+        }
+    }
+
+    /// Returns the payload of the frame. Requires that these are the bytes given to
+    /// `FrameCursor::next`, or at least as many.
+    pub fn payload<'a>(&self, bytes: &'a [u8]) -> &'a [u8]
+        requires { self.now.end ≤ length bytes.now }
+        ensures { result.now ≡ payload_at self.now bytes.now }
+    {
+        &bytes[self.start..self.end]
+    }
+}
+
+impl FrameCursor {
+    ghost use Rattle.wtransport_proto.specs.FrameCursor.{StepIs, RunGoesOn, held_by, run_from, ending_of};
+    ghost use Rattle.wtransport_proto.specs.Run.{Ended, ends};
+    ghost use Rattle.wtp_wire.specs.Front.{Short};
+    ghost use Rattle.wtp_wire.specs.Held.{front_held};
+
+    /// Creates a cursor at the first frame of a stream.
+    pub fn new(role: StreamRole) -> Self
+        ensures { result ≡ record { role = role; first = true; due = 0 } }
+    {
+        FrameCursor {
+            role,
+            first: true,
+            due: 0,
+        }
+    }
+
+    /// Finds the next frame in the bytes that follow those consumed before. It does not allocate.
+    ///
+    /// Unknown frames are skipped, also piece by piece (RFC 9114, section 9).
+    ///
+    /// - `Frame(place)`: the next frame, which the stream allows. The bytes up to `place.end` are
+    ///   consumed.
+    /// - `More(n)`: there is no complete frame. The first `n` bytes are consumed; at most 4111 are
+    ///   left, which have to be given again with more bytes after them.
+    /// - `Fault(code)`: `FrameUnexpected` or `Frame` for a frame that is not permitted here, `Id`
+    /// for
+    ///   an invalid session ID, `ExcessiveLoad` for a length above 4096. The cursor is unchanged.
+    ///
+    /// However the bytes of a stream are cut, the frames and the first fault are the same.
+    pub fn next(&mut self, bytes: &[u8]) -> CursorStep
+        ensures step { StepIs result self.old bytes.now self.new }
+        ensures run { RunGoesOn result self.old bytes.now self.new }
+    {
+        let len = bytes.len();
+        if self.due > len as u64 {
+            self.due -= len as u64;
+            return CursorStep::More(len);
+        }
+        let (_, mut rest) = bytes.split_at(self.due as usize);
+        match read_known(&mut rest) {
+            Ok(Some(frame)) => match fault_of(self.role, self.first, frame.kind()) {
+                None => {
+                    self.first = false;
+                    self.due = 0;
+                    CursorStep::Frame(FramePlace::of(&frame, len - rest.len()))
+                }
+                Some(code) => CursorStep::Fault(code),
+            },
+            Ok(None) => {
+                self.due = payload_due(rest);
+                if self.due > 0 {
+                    return CursorStep::More(len);
+                }
+                CursorStep::More(len - rest.len())
+            }
+            Err(code) => CursorStep::Fault(code),
+        }
+    }
+
+    /// Returns what it means that the stream ends here, with `rest` left over: after `More(n)`, the
+    /// bytes after the first `n`.
+    ///
+    /// Returns `Frame` if a frame has begun (RFC 9114, section 7.1).
+    #[tactic(auto, using(crate::proofs::CursorStepLemmas::endings))]
+    pub fn finish(&self, rest: &[u8]) -> Result<(), ErrorCode>
+        ensures clean { IsOk result ↔ ((self.now.due ≡ 0) × (length rest.now ≡ 0)) }
+        ensures code { OnErr result (result ≡ Err ErrorCode.Frame) }
+        ensures run { front_held (held_by self.now) rest.now ≡ Short
+            → run_from self.now rest.now Ended ≡ ends (ending_of result) }
+    {
+        if self.due > 0 {
+            return Err(ErrorCode::Frame);
+        }
+        if rest.len() > 0 {
+            return Err(ErrorCode::Frame);
+        }
+        Ok(())
+    }
+}
+
+/// Reads the first frame of a known or exercise kind. Unknown frames before it are passed, and the
+/// bytes after them are left if they are too few for a frame.
+#[tactic(auto, using(wtp_core::proofs::RestLemmas::rests))]
+fn read_known<'a>(rest: &mut &'a [u8]) -> Result<Option<Frame<'a>>, ErrorCode>
+    ensures answer { AnswersKnown (front (past_unknown rest.old.now)) result rest.new.now }
+    ensures short { result ≡ Ok None → rest.new.now ≡ past_unknown rest.old.now }
+    ensures rest { IsRest rest.new.now rest.old.now }
+{
+    'frames: loop {
+        let before = *rest;
+        match Frame::read(rest) {
+            Ok(Some(frame)) => return Ok(Some(frame)),
+            Ok(None) => {
+                *rest = before;
+                return Ok(None);
+            }
+            Err(ParseError::UnknownFrame) => {}
+            Err(ParseError::InvalidSessionId) => return Err(ErrorCode::Id),
+            Err(ParseError::PayloadTooBig) => return Err(ErrorCode::ExcessiveLoad),
+        }
+    }
+}
+
+/// Returns how many payload bytes are missing if the bytes start with an unknown frame that they
+/// cut, or 0.
+#[tactic(auto, unfolding(crate::specs::CutFrame::due_in))]
+fn payload_due(bytes: &[u8]) -> u64
+    ensures { result ≡ due_in bytes.now }
+{
+    let mut rest = bytes;
+    let Some(id) = rest.get_varint() else {
+        return 0;
+    };
+    let Some(size) = rest.get_varint() else {
+        return 0;
+    };
+    match FrameKind::parse(id) {
+        None => size.into_inner().saturating_sub(rest.len() as u64),
+        Some(_) => 0,
+    }
+}
