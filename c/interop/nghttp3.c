@@ -1,0 +1,149 @@
+/* Field sections beside nghttp3: of random lists of fields, what either encodes the other decodes to
+   the same lines in the same order. Argument: how many lists (default: 1000000 each way). */
+#include <nghttp3/nghttp3.h>
+#include <stdio.h>
+#include <stdlib.h>
+#include <string.h>
+#include <wtransport.h>
+
+enum { MOST = 12, TEXTS = 4096 };
+
+/* A list of fields, in two forms over the same texts. */
+static wt_field fields[MOST];
+static nghttp3_nv pairs[MOST];
+static uint8_t texts[TEXTS];
+static size_t count, size;
+
+static uint64_t state = 0x9e3779b97f4a7c15u;
+
+static size_t below(size_t n) {
+  state ^= state << 13;
+  state ^= state >> 7;
+  state ^= state << 17;
+  return (size_t)(state % n);
+}
+
+static const char *const names[] = {
+    ":authority", ":path", ":method", ":scheme", ":status", "age", "content-length", "cookie",
+    "date", "etag", "accept", "user-agent", "origin", "x-frame-options", "server", "te"};
+static const char *const values[] = {"/", "0", "GET", "CONNECT", "https", "200", "404", "*/*", "nosniff"};
+
+static void put(const char *text, size_t length, size_t *offset) {
+  *offset = size;
+  memcpy(texts + size, text, length);
+  size += length;
+}
+
+static void put_random(size_t length, int name, size_t *offset) {
+  static const char letters[] = "abcdefghijklmnopqrstuvwxyz0123456789-_.";
+  *offset = size;
+  for (size_t i = 0; i < length; i++) {
+    texts[size++] = name ? (uint8_t)letters[below(sizeof letters - 1)] : (uint8_t)(0x20 + below(0x5f));
+  }
+}
+
+static void make(void) {
+  count = below(MOST + 1);
+  size = 0;
+  for (size_t i = 0; i < count; i++) {
+    const char *name = names[below(sizeof names / sizeof names[0])];
+    const char *value = values[below(sizeof values / sizeof values[0])];
+    wt_field *f = &fields[i];
+    if (below(2)) {
+      put(name, f->name_length = strlen(name), &f->name_offset);
+    } else {
+      put_random(f->name_length = 1 + below(20), 1, &f->name_offset);
+    }
+    if (below(2)) {
+      put(value, f->value_length = strlen(value), &f->value_offset);
+    } else {
+      put_random(f->value_length = below(200), 0, &f->value_offset);
+    }
+  }
+  for (size_t i = 0; i < count; i++) {
+    pairs[i].name = texts + fields[i].name_offset;
+    pairs[i].namelen = fields[i].name_length;
+    pairs[i].value = texts + fields[i].value_offset;
+    pairs[i].valuelen = fields[i].value_length;
+    pairs[i].flags = NGHTTP3_NV_FLAG_NONE;
+  }
+}
+
+static int same(const uint8_t *name, size_t name_size, const uint8_t *value, size_t value_size, size_t i) {
+  return i < count && name_size == pairs[i].namelen && value_size == pairs[i].valuelen &&
+         memcmp(name, pairs[i].name, name_size) == 0 && memcmp(value, pairs[i].value, value_size) == 0;
+}
+
+static int we_read(void) {
+  static nghttp3_qpack_encoder *encoder;
+  static nghttp3_buf prefix, lines, stream;
+  static uint8_t section[2 * TEXTS], read_texts[TEXTS];
+  static wt_field read[MOST];
+  size_t found, used;
+  uint64_t code;
+  if (!encoder) {
+    nghttp3_qpack_encoder_new(&encoder, 0, nghttp3_mem_default());
+    nghttp3_buf_init(&prefix);
+    nghttp3_buf_init(&lines);
+    nghttp3_buf_init(&stream);
+  }
+  nghttp3_buf_reset(&prefix);
+  nghttp3_buf_reset(&lines);
+  nghttp3_buf_reset(&stream);
+  if (nghttp3_qpack_encoder_encode(encoder, &prefix, &lines, &stream, 0, pairs, count)) return 0;
+  memcpy(section, prefix.pos, nghttp3_buf_len(&prefix));
+  memcpy(section + nghttp3_buf_len(&prefix), lines.pos, nghttp3_buf_len(&lines));
+  if (wt_fields_read(section, nghttp3_buf_len(&prefix) + nghttp3_buf_len(&lines), read, MOST, read_texts,
+                     TEXTS, &found, &used, &code) != WT_OK || found != count || used != size) {
+    return 0;
+  }
+  for (size_t i = 0; i < count; i++) {
+    if (!same(read_texts + read[i].name_offset, read[i].name_length, read_texts + read[i].value_offset,
+              read[i].value_length, i)) {
+      return 0;
+    }
+  }
+  return 1;
+}
+
+static int they_read(void) {
+  static nghttp3_qpack_decoder *decoder;
+  static nghttp3_qpack_stream_context *context;
+  static uint8_t section[2 * TEXTS];
+  size_t used, i = 0;
+  const uint8_t *at = section;
+  if (wt_fields_write(fields, count, texts, size, section, sizeof section, &used) != WT_OK) return 0;
+  if (!decoder) {
+    nghttp3_qpack_decoder_new(&decoder, 0, 0, nghttp3_mem_default());
+    nghttp3_qpack_stream_context_new(&context, 0, nghttp3_mem_default());
+  } else {
+    nghttp3_qpack_stream_context_reset(context);
+  }
+  for (;;) {
+    nghttp3_qpack_nv pair;
+    uint8_t flags = 0;
+    nghttp3_ssize taken = nghttp3_qpack_decoder_read_request(decoder, context, &pair, &flags, at,
+                                                             (size_t)(section + used - at), 1);
+    if (taken < 0) return 0;
+    at += taken;
+    if (flags & NGHTTP3_QPACK_DECODE_FLAG_EMIT) {
+      nghttp3_vec name = nghttp3_rcbuf_get_buf(pair.name), value = nghttp3_rcbuf_get_buf(pair.value);
+      int good = same(name.base, name.len, value.base, value.len, i++);
+      nghttp3_rcbuf_decref(pair.name);
+      nghttp3_rcbuf_decref(pair.value);
+      if (!good) return 0;
+    }
+    if (flags & NGHTTP3_QPACK_DECODE_FLAG_FINAL) return i == count;
+  }
+}
+
+int main(int argc, char **argv) {
+  unsigned long lists = argc > 1 ? strtoul(argv[1], NULL, 10) : 1000000, passed = 0, failed = 0;
+  for (unsigned long n = 0; n < lists; n++) {
+    make();
+    we_read() ? passed++ : failed++;
+    they_read() ? passed++ : failed++;
+  }
+  printf("%lu passed, %lu failed\n", passed, failed);
+  return failed > 0;
+}

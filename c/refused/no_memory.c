@@ -1,0 +1,128 @@
+/* Calls that allocate, with each allocation refused in turn: each returns WT_MEMORY until none is
+   refused, and WT_OK then. */
+#include "wtransport.h"
+#include <stdio.h>
+#include <stdlib.h>
+#include <string.h>
+
+extern void *__libc_malloc(size_t size);
+extern void *__libc_realloc(void *old, size_t size);
+
+static long left = -1; /* allocations that are granted; -1 for all */
+
+static int granted(void) {
+  if (left == 0) return 0;
+  if (left > 0) left--;
+  return 1;
+}
+
+void *malloc(size_t size);
+void *realloc(void *old, size_t size);
+void *malloc(size_t size) { return granted() ? __libc_malloc(size) : NULL; }
+void *realloc(void *old, size_t size) { return granted() ? __libc_realloc(old, size) : NULL; }
+
+static unsigned long passed, failed;
+
+static int read_fields(void) {
+  static const char section[] = "\x00\x00\x50\x8c\xf1\xe3\xc2\xe5\xf2\x3a\x6b\xa0\xab\x90\xf4\xff";
+  wt_field fields[4];
+  uint8_t texts[64];
+  size_t count, used;
+  uint64_t code;
+  return wt_fields_read((const uint8_t *)section, sizeof section - 1, fields, 4, texts, sizeof texts,
+                        &count, &used, &code);
+}
+
+static int read_settings(void) {
+  wt_setting settings[4];
+  size_t count;
+  uint64_t code;
+  return wt_settings_read((const uint8_t *)"\x33\x01", 2, settings, 4, &count, &code);
+}
+
+static int write_settings(void) {
+  static const wt_setting settings[] = {{0x33, 1}};
+  uint8_t out[8];
+  size_t used;
+  return wt_settings_write(settings, 1, out, sizeof out, &used);
+}
+
+static int name_setting(void) {
+  char out[64];
+  size_t used;
+  return wt_setting_name(0x33, out, sizeof out, &used);
+}
+
+static int write_request(void) {
+  static const char url[] = "https://example.com/chat";
+  static const wt_field origin = {0, 6, 6, 19};
+  uint8_t out[256];
+  size_t used;
+  return wt_request_write((const uint8_t *)url, sizeof url - 1, &origin, 1,
+                          (const uint8_t *)"originhttps://example.com", 25, out, sizeof out, &used);
+}
+
+static int read_request(void) {
+  static uint8_t frame[256];
+  static size_t size = 0;
+  uint8_t out[64];
+  size_t authority, used;
+  uint64_t code;
+  if (size == 0) {
+    long k = left;
+    left = -1;
+    wt_request_write((const uint8_t *)"https://example.com/chat", 24, NULL, 0, NULL, 0, frame,
+                     sizeof frame, &size);
+    left = k;
+  }
+  return wt_request_read(frame + 2, size - 2, out, sizeof out, &authority, &used, &code);
+}
+
+static int write_response(void) {
+  static const wt_field origin = {0, 6, 6, 19};
+  uint8_t out[64];
+  size_t used;
+  return wt_response_write(200, &origin, 1, (const uint8_t *)"originhttps://example.com", 25, out,
+                           sizeof out, &used);
+}
+
+static int read_response(void) {
+  uint16_t status;
+  uint64_t code;
+  return wt_response_read((const uint8_t *)"\x00\x00\xd9", 3, &status, &code);
+}
+
+static void refuse(const char *name, int (*call)(void)) {
+  for (long k = 0; k < 200; k++) {
+    int answer;
+    left = k;
+    answer = call();
+    left = -1;
+    if (answer == WT_MEMORY) {
+      passed++;
+      continue;
+    }
+    if (answer == WT_OK && k > 0) {
+      passed++;
+    } else {
+      failed++;
+      printf("%s: %d where allocation %ld is refused\n", name, answer, k + 1);
+    }
+    return;
+  }
+  failed++;
+  printf("%s allocates without an end\n", name);
+}
+
+int main(void) {
+  refuse("wt_fields_read", read_fields);
+  refuse("wt_settings_read", read_settings);
+  refuse("wt_settings_write", write_settings);
+  refuse("wt_setting_name", name_setting);
+  refuse("wt_request_write", write_request);
+  refuse("wt_request_read", read_request);
+  refuse("wt_response_write", write_response);
+  refuse("wt_response_read", read_response);
+  printf("%lu passed, %lu failed\n", passed, failed);
+  return failed > 0;
+}

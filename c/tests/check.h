@@ -1,0 +1,34 @@
+/* Checks that count themselves. */
+#ifndef CHECK_H
+#define CHECK_H
+#include <stdint.h>
+#include <stdio.h>
+#include <stdlib.h>
+#include <string.h>
+
+extern unsigned long passed, failed;
+
+#define CHECK(x)                                                  \
+  do {                                                            \
+    if (x) {                                                      \
+      passed++;                                                   \
+    } else {                                                      \
+      failed++;                                                   \
+      printf("%s:%d: %s\n", __FILE__, __LINE__, #x);              \
+    }                                                             \
+  } while (0)
+
+/* The bytes in memory of exactly their size, so that valgrind sees a read past their end. */
+uint8_t *exactly(const void *bytes, size_t size);
+
+void test_numbers(void);
+void test_stream_headers(void);
+void test_datagrams(void);
+void test_frames(void);
+void test_codes(void);
+void test_settings(void);
+void test_fields(void);
+void test_reader(void);
+void test_sessions(void);
+void test_closes(void);
+#endif

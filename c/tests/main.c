@@ -1,0 +1,28 @@
+/* Each call once with good input, with each refusal, with outputs one too short, and with no bytes
+   at a null pointer. Expected values are those of the RFCs that a test names. */
+#include "wtransport.h"
+#include "check.h"
+
+unsigned long passed, failed;
+
+uint8_t *exactly(const void *bytes, size_t size) {
+  uint8_t *copy = (uint8_t *)malloc(size > 0 ? size : 1);
+  if (copy == NULL) abort();
+  if (size > 0) memcpy(copy, bytes, size);
+  return copy;
+}
+
+int main(void) {
+  test_numbers();
+  test_stream_headers();
+  test_datagrams();
+  test_frames();
+  test_codes();
+  test_settings();
+  test_fields();
+  test_reader();
+  test_sessions();
+  test_closes();
+  printf("%lu passed, %lu failed\n", passed, failed);
+  return failed > 0;
+}

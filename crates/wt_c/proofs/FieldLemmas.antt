@@ -1,0 +1,143 @@
+-- Field lines that are put into arrays one after the other.
+use Rattle.std.proofs.Common.{◌≡◌, ℕ, zero, suc, ◌+◌, ◌-◌, ◌^◌, ◌<◌, ◌≤◌, inl, inr, List, [], ◌∷◌}
+use Rattle.std.proofs.Common.{◌++◌, map, length, take, drop, refl, sym, ap, ◌∙◌, arith}
+use Rattle.std.proofs.Common.{length-append, slice_set, Ok, nat_lt}
+use Rattle.std.proofs.lemmas.Bool.{cases_lt, lt-ltb, le-ltb}
+use Rattle.std.proofs.lemmas.List.{take_more_set, length-set}
+use Rattle.wtp_fields.specs.Field.{Field}
+use Rattle.wtp_fields.specs.FieldLines.{octet_line_at, AreOctetLines}
+use Rattle.wt_c.specs.Fields.{field_in, IsWithin, AreWithin, texts_size, HoldLines, capped}
+use Rattle.wt_c.specs.Fields.{place_of, LinePut}
+use Rattle.wt_c.specs.declared.fields.WtField.{WtField}
+
+-- ---- one more
+
+part_is : (off len k : ℕ) (a b : List ℕ) → off + len ≤ k → take k a ≡ take k b → take len (drop off a) ≡ take len (drop off b)
+part_is off len k a b l e = sym (inner off len k a l) ∙ ap (λ (s : List ℕ). take len (drop off s)) e ∙ inner off len k b l
+  where
+    front : (len k : ℕ) (a : List ℕ) → len ≤ k → take len (take k a) ≡ take len a
+    front zero k a l = refl
+    front (suc len) zero a l = absurd (omega arith)
+    front (suc len) (suc k) [] l = refl
+    front (suc len) (suc k) (x ∷ a) l = ap (λ (s : List ℕ). x ∷ s) (front len k a (omega arith))
+
+    inner : (off len k : ℕ) (a : List ℕ) → off + len ≤ k → take len (drop off (take k a)) ≡ take len (drop off a)
+    inner zero len k a l = front len k a (omega arith)
+    inner (suc off) len zero a l = absurd (omega arith)
+    inner (suc off) len (suc k) [] l = refl
+    inner (suc off) len (suc k) (x ∷ a) l = inner off len k a (omega arith)
+
+same_fields : (ws : List WtField) (at : ℕ) (a b : List ℕ) → take at a ≡ take at b → AreWithin at ws → map (λ w. field_in a w) ws ≡ map (λ w. field_in b w) ws
+same_fields [] at a b e h = refl
+same_fields (w ∷ ws) at a b e (one, more) =
+    ap (λ (n : List ℕ). ((n, take w.value_len (drop w.value_offset a)) ∷ map (λ v. field_in a v) ws)) (part_is w.name_offset w.name_len at a b one.name e)
+    ∙ ap (λ (n : List ℕ). ((take w.name_len (drop w.name_offset b), n) ∷ map (λ v. field_in a v) ws)) (part_is w.value_offset w.value_len at a b one.value e)
+    ∙ ap (λ (r : List Field). field_in b w ∷ r) (same_fields ws at a b e more)
+
+within_more : (ws : List WtField) (w : WtField) (at to : ℕ) → at ≤ to → IsWithin to w → AreWithin at ws → AreWithin to (ws ++ w ∷ [])
+within_more [] w at to l one h = (one, tt)
+within_more (v ∷ ws) w at to l one (is, more) = (record { name = let a = is.name in omega (arith, a, l); value = let a = is.value in omega (arith, a, l) }, within_more ws w at to l one more)
+
+map_more : (a : List ℕ) (ws : List WtField) (w : WtField) → map (λ v. field_in a v) (ws ++ w ∷ []) ≡ map (λ v. field_in a v) ws ++ (field_in a w ∷ [])
+map_more a [] w = refl
+map_more a (v ∷ ws) w = ap (λ (r : List Field). field_in a v ∷ r) (map_more a ws w)
+
+size_more : (lines : List Field) (line : Field) → texts_size (lines ++ line ∷ []) ≡ texts_size lines + (length line.0 + length line.1)
+size_more [] line = omega arith
+size_more (first ∷ lines) line = let e = size_more lines line in omega (arith, e)
+
+hold_more : (fields new : List WtField) (old texts : List ℕ) (n at to : ℕ) (name value : List ℕ) (lines : List Field)
+    → HoldLines fields old n at lines → n < length fields → to ≡ (at + length name) + length value → to ≤ length texts
+    → LinePut fields old n at name value new texts
+    → HoldLines new texts (n + 1) to (lines ++ (name, value) ∷ [])
+hold_more fields new old texts n at to name value lines p l to_is room put = rw put.fields_are (record {
+  count_is = let c = p.count_is in omega (arith, c, length-append lines ((name, value) ∷ []));
+  used_is = let u = p.used_is in omega (arith, u, to_is, size_more lines (name, value));
+  room = omega (arith, l, length-set fields n w);
+  texts_room = room;
+  within = rw taken (within_more (take n fields) w at to (omega (arith, to_is)) (record { name = omega (arith, to_is); value = omega (arith, to_is) }) p.within);
+  says = rw taken (map_more texts (take n fields) w
+      ∙ ap (λ (r : List Field). r ++ (field_in texts w ∷ [])) (same_fields (take n fields) at texts old put.front p.within ∙ p.says)
+      ∙ ap (λ (f : Field). lines ++ (f ∷ [])) same);
+})
+  where
+    w : WtField
+    w = place_of at name value
+
+    taken : take (n + 1) (slice_set fields n w) ≡ take n fields ++ w ∷ []
+    taken = take_more_set fields n w l
+
+    same : field_in texts w ≡ (name, value)
+    same = ap (λ (t : List ℕ). (t, take (length value) (drop (at + length name) texts))) put.name_is
+        ∙ ap (λ (t : List ℕ). (name, t)) put.value_is
+
+-- ---- the lines that were read so far
+
+octets_more : (bytes rest behind : List ℕ) (done : List Field) (line : Field) → AreOctetLines bytes done rest → octet_line_at rest ≡ Ok (line, behind) → AreOctetLines bytes (done ++ line ∷ []) behind
+octets_more bytes rest behind [] line e o = (behind, ap octet_line_at e ∙ o, refl)
+octets_more bytes rest behind (first ∷ done) line (others, e, more) o = (others, e, octets_more others rest behind done line more o)
+
+exact : (n m : ℕ) → capped n ≤ m → m < 2 ^ 63 → capped n ≡ n
+exact n m l small = elim (cases_lt n (2 ^ 64)) [
+  | inl less ↦ rw (lt-ltb n (2 ^ 64) less) refl
+  | inr more ↦ absurd (let top : 2 ^ 64 - 1 ≤ m = rw (le-ltb n (2 ^ 64) more) at l in omega (arith, top, small))
+]
+
+again : (n k : ℕ) → capped (capped n + k) ≡ capped (n + k)
+again n k = elim (cases_lt n (2 ^ 64)) [
+  | inl less ↦ rw (lt-ltb n (2 ^ 64) less) refl
+  | inr more ↦ rw (le-ltb n (2 ^ 64) more, le-ltb (n + k) (2 ^ 64) (omega (arith, more))) (elim (cases_lt ((2 ^ 64 - 1) + k) (2 ^ 64)) [
+    | inl less ↦ rw (lt-ltb ((2 ^ 64 - 1) + k) (2 ^ 64) less) (omega (arith, less))
+    | inr over ↦ rw (le-ltb ((2 ^ 64 - 1) + k) (2 ^ 64) over) refl
+  ])
+]
+
+pub record IsRead (start rest : List ℕ) (fields : List WtField) (texts : List ℕ) (count used : ℕ) : Type 0 where
+  pub done : List Field
+  pub lines : AreOctetLines start done rest
+  pub count_is : count ≡ capped (length done)
+  pub used_is : used ≡ capped (texts_size done)
+  pub held : count ≤ length fields → used ≤ length texts → HoldLines fields texts count used done
+
+-- a number of at most m, which is small, is the number that it is capped from
+low_enough : (n m : ℕ) → n ≤ m → m < 2 ^ 63 → capped n ≤ m
+low_enough n m l small = rw (lt-ltb n (2 ^ 64) (omega (arith, l, small))) l
+
+pub read_more : (start rest behind : List ℕ) (fields new : List WtField) (old texts : List ℕ) (count used next end to : ℕ) (name value : List ℕ)
+    → IsRead start rest fields old count used
+    → octet_line_at rest ≡ Ok ((name, value), behind)
+    → next ≡ capped (count + 1) → end ≡ capped (used + length name) → to ≡ capped (end + length value)
+    → length new ≡ length fields → length fields < 2 ^ 63 → length texts ≡ length old → length old < 2 ^ 63
+    → (count < length fields → (used + length name) + length value ≤ length old → LinePut fields old count used name value new texts)
+    → IsRead start behind new texts next to
+read_more start rest behind fields new old texts count used next end to name value p o next_is end_is to_is same_room few same_texts small put = record {
+  done = p.done ++ (name, value) ∷ [];
+  lines = octets_more start rest behind p.done (name, value) p.lines o;
+  count_is = let e : length p.done + 1 ≡ length (p.done ++ (name, value) ∷ []) = omega (arith, length-append p.done ((name, value) ∷ [])) in next_sum ∙ ap capped e;
+  used_is = let e : (texts_size p.done + length name) + length value ≡ texts_size (p.done ++ (name, value) ∷ []) = omega (arith, size_more p.done (name, value)) in sum ∙ ap capped e;
+  held = λ a b. holds a b;
+}
+  where
+    next_sum : next ≡ capped (length p.done + 1)
+    next_sum = next_is ∙ ap (λ (k : ℕ). capped (k + 1)) p.count_is ∙ again (length p.done) 1
+
+    sum : to ≡ capped ((texts_size p.done + length name) + length value)
+    sum = to_is ∙ ap (λ (k : ℕ). capped (k + length value)) (end_is ∙ ap (λ (k : ℕ). capped (k + length name)) p.used_is)
+        ∙ ap (λ (k : ℕ). capped (k + length value)) (again (texts_size p.done) (length name))
+        ∙ again (texts_size p.done + length name) (length value)
+
+    holds : next ≤ length new → to ≤ length texts → HoldLines new texts next to (p.done ++ (name, value) ∷ [])
+    holds a b =
+        let fit : length new < 2 ^ 63 = omega (arith, same_room, few) in
+        let fit_texts : length texts < 2 ^ 63 = omega (arith, same_texts, small) in
+        let n : next ≡ length p.done + 1 = next_sum ∙ exact (length p.done + 1) (length new) (rw (← next_sum) a) fit in
+        let t : to ≡ (texts_size p.done + length name) + length value = sum ∙ exact ((texts_size p.done + length name) + length value) (length texts) (rw (← sum) b) fit_texts in
+        let c : count ≡ length p.done = p.count_is ∙ exact (length p.done) (length new) (low_enough (length p.done) (length new) (omega (arith, n, a)) fit) fit in
+        let u : used ≡ texts_size p.done = p.used_is ∙ exact (texts_size p.done) (length texts) (low_enough (texts_size p.done) (length texts) (omega (arith, t, b)) fit_texts) fit_texts in
+        let l : count < length fields = omega (arith, a, n, c, same_room) in
+        let k : (used + length name) + length value ≤ length old = omega (arith, u, t, b, same_texts) in
+        let to_end : to ≡ (used + length name) + length value = omega (arith, u, t) in
+        let one_more : next ≡ count + 1 = omega (arith, n, c) in
+        let old_count : count ≤ length fields = omega (arith, l) in
+        let old_used : used ≤ length old = omega (arith, k) in
+        rw one_more (hold_more fields new old texts count used to name value p.done (p.held old_count old_used) l to_end b (put l k))

@@ -1,0 +1,12 @@
+use Rattle.std.proofs.Common.{drop, refl, sym}
+use Rattle.wtp_wire.proofs.CloseLemmas.{close_in-bad_text, close_in-read}
+use Rattle.wt_c.proofs.capsules.code_in.Goals as goal
+
+pub returns-in_default-from_utf8 : goal.returns-in_default-from_utf8
+returns-in_default-from_utf8 c = close_in-bad_text _ _ c.in-Some.ensures.cases.1 c.in_default-from_utf8.ensures.cases.0
+
+pub returns : goal.returns
+returns c =
+    let s = c.in-Some.ensures.cases in
+    let text = c.in-Ok.ensures.cases in
+    close_in-read c.args.value.now c.args.value.now _ _ _ (drop 4 c.args.value.now) refl s.0 s.1 s.2 c.if-text-gt1024.false text.1 c.from_be_bytes.ensures (sym s.1)

@@ -1,0 +1,13 @@
+use Rattle.std.proofs.Common.{◌≡◌, drop, refl, ap, ◌∙◌}
+use Rattle.std.proofs.lemmas.Iterator.{items_from_drains}
+use Rattle.std.proofs.lemmas.Iterator.Consumers.{YieldsList-from_first}
+use Rattle.wtp_fields.specs.Field.{field_of_texts, fields_of_texts}
+use Rattle.wtp_fields.specs.FieldSection.{section_of}
+use Rattle.wt_c.proofs.sections.encode_pairs.Goals as goal
+
+pub returns : goal.returns
+returns c =
+    let written = c.in_ok-section.ensures in
+    let listed = YieldsList-from_first field_of_texts (λ s. fields_of_texts (drop s.at s.pairs.now)) (fields_of_texts c.args.pairs.now) refl in
+    let same : fields_of_texts written.0 ≡ fields_of_texts c.args.pairs.now = items_from_drains written.0 (written.1.1.0, written.1.1.1, λ _. (written.1.0, written.1.1.2)) listed in
+    written.3 ∙ ap section_of same

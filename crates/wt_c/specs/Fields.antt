@@ -1,0 +1,101 @@
+-- Field lines in arrays of the caller (RFC 9204, section 4.5).
+use Rattle.std.specs.Prelude.{◌≡◌, ℕ, ◌+◌, ◌-◌, ◌^◌, ◌<◌, ◌≤◌, ◌⊎◌, nat_lt, if◌then◌else◌, List, []}
+use Rattle.std.specs.Prelude.{◌∷◌, map, length, take, drop, slice_set, IsTrue, Ok, Err}
+use Rattle.wtp_fields.specs.declared.qpack.DecodingError.{DecodingError}
+use Rattle.wtp_fields.specs.Field.{Field}
+use Rattle.wtp_fields.specs.FieldSection.{after_prefix}
+use Rattle.wtp_fields.specs.FieldLines.{octet_line_at, AreOctetLines, is_coded_line}
+use Rattle.wt_c.specs.declared.fields.WtField.{WtField}
+
+-- ---- the lines of a section
+
+-- these are the lines of the section, in their order
+pub record AreLinesOf (section : List ℕ) (lines : List Field) : Type 0 where
+  pub start : List ℕ
+  pub prefix : after_prefix section ≡ Ok start
+  pub are : AreOctetLines start lines []
+
+-- a line with a fault begins after the prefix and these lines
+pub record HasFaultyLine (section : List ℕ) : Type 0 where
+  pub start : List ℕ
+  pub lines : List Field
+  pub rest : List ℕ
+  pub error : DecodingError
+  pub prefix : after_prefix section ≡ Ok start
+  pub are : AreOctetLines start lines rest
+  pub some : 0 < length rest
+  pub fault : octet_line_at rest ≡ Err error
+
+-- the prefix or a line has a fault
+abbrev pub HasSectionFault : List ℕ → Type 0
+HasSectionFault section =
+    ((e : DecodingError) × (after_prefix section ≡ Err e)) ⊎ HasFaultyLine section
+
+-- a line with a Huffman text begins after the prefix and these lines
+pub record HasCodedLine (section : List ℕ) : Type 0 where
+  pub start : List ℕ
+  pub lines : List Field
+  pub rest : List ℕ
+  pub prefix : after_prefix section ≡ Ok start
+  pub are : AreOctetLines start lines rest
+  pub coded : IsTrue (is_coded_line rest)
+
+-- ---- lines in arrays
+
+-- the name and the value that are in the texts
+abbrev pub field_in : List ℕ → WtField → Field
+field_in texts w =
+    (take w.name_len (drop w.name_offset texts), take w.value_len (drop w.value_offset texts))
+
+-- both are within the first n bytes
+pub record IsWithin (n : ℕ) (w : WtField) : Type 0 where
+  pub name : w.name_offset + w.name_len ≤ n
+  pub value : w.value_offset + w.value_len ≤ n
+
+abbrev pub AreWithin : ℕ → List WtField → Type 0
+AreWithin n [] = Unit {0}
+AreWithin n (w ∷ ws) = IsWithin n w × AreWithin n ws
+
+-- how many bytes the names and the values have
+abbrev pub texts_size : List Field → ℕ
+texts_size [] = 0
+texts_size (line ∷ lines) = (length line.0 + length line.1) + texts_size lines
+
+-- the first `count` fields are these lines, and their texts are the first `used` bytes
+pub record HoldLines (fields : List WtField) (texts : List ℕ) (count used : ℕ)
+    (lines : List Field) : Type 0 where
+  pub count_is : count ≡ length lines
+  pub used_is : used ≡ texts_size lines
+  pub room : count ≤ length fields
+  pub texts_room : used ≤ length texts
+  pub within : AreWithin used (take count fields)
+  pub says : map (λ w. field_in texts w) (take count fields) ≡ lines
+
+-- a number of bytes as C has it: the largest that C has, if it is more
+abbrev pub capped : ℕ → ℕ
+capped n = if nat_lt n (2 ^ 64) then n else 2 ^ 64 - 1
+
+-- the arrays are too short for these lines, and the room that they need is reported
+pub record LackRoom (fields : List WtField) (texts : List ℕ) (count used : ℕ)
+    (lines : List Field) : Type 0 where
+  pub count_is : count ≡ capped (length lines)
+  pub used_is : used ≡ capped (texts_size lines)
+  pub short : (length fields < count) ⊎ (length texts < used)
+
+-- ---- one line
+
+abbrev pub place_of : ℕ → List ℕ → List ℕ → WtField
+place_of at name value = record {
+  name_offset = at;
+  name_len = length name;
+  value_offset = at + length name;
+  value_len = length value;
+}
+
+-- a line was put after the first n fields, and its texts after the first `at` bytes
+pub record LinePut (old : List WtField) (old_texts : List ℕ) (n at : ℕ) (name value : List ℕ)
+    (new : List WtField) (texts : List ℕ) : Type 0 where
+  pub fields_are : new ≡ slice_set old n (place_of at name value)
+  pub front : take at texts ≡ take at old_texts
+  pub name_is : take (length name) (drop at texts) ≡ name
+  pub value_is : take (length value) (drop (at + length name) texts) ≡ value

@@ -1,0 +1,11 @@
+pub mod Output
+pub mod Numbers
+pub mod StreamHeaders
+pub mod Datagrams
+pub mod Codes
+pub mod Frames
+pub mod Fields
+pub mod Settings
+pub mod Texts
+pub mod Sessions
+pub mod Reader

@@ -1,0 +1,46 @@
+-- Reading frames as C does it: the reader, a frame's place, and what one call did.
+use Rattle.std.specs.Prelude.{◌≡◌, ℕ, ◌-◌, ◌≤◌, ◌==◌, if◌then◌else◌, not, Bool, List, unwrap_or}
+use Rattle.wtp_wire.specs.Kind.{frame_type_of}
+use Rattle.wtransport_proto.specs.FrameCursor.{StepIs, RunGoesOn}
+use Rattle.wtransport_proto.specs.declared.stream.rules.StreamRole.{StreamRole}
+use Rattle.wtransport_proto.specs.declared.stream.rules.StreamRole.TheVariants.{BiRemote, BiLocal}
+use Rattle.wtransport_proto.specs.declared.stream.rules.StreamRole.TheVariants.{UniRemote, Session}
+use Rattle.wtransport_proto.specs.declared.stream.cursor.FrameCursor.{FrameCursor}
+use Rattle.wtransport_proto.specs.declared.stream.cursor.FramePlace.{FramePlace}
+use Rattle.wtransport_proto.specs.declared.stream.cursor.CursorStep.{CursorStep}
+use Rattle.wt_c.specs.declared.reader.WtReader.{WtReader}
+use Rattle.wt_c.specs.declared.reader.WtFrame.{WtFrame}
+
+-- a reader that wt_reader_new made, or a later state of it; any other is refused
+pub record IsReader (r : WtReader) : Type 0 where
+  pub kind : r.kind ≤ 3
+  pub first : r.first ≤ 1
+
+-- the role of a stream's kind in C, if the kind is at most 3
+abbrev pub stream_role : ℕ → StreamRole
+stream_role n =
+    if n == 0 then BiRemote
+    else (if n == 1 then BiLocal else (if n == 2 then UniRemote else Session))
+
+abbrev pub is_first : ℕ → Bool
+is_first n = not (n == 0)
+
+-- the reader as a cursor
+abbrev pub cursor_of : WtReader → FrameCursor
+cursor_of r = record { role = stream_role r.kind; first = is_first r.first; due = r.due }
+
+-- a frame's place as C has it
+abbrev pub c_frame : FramePlace → WtFrame
+c_frame p = record {
+  kind = frame_type_of p.kind;
+  session = unwrap_or p.session_id 0;
+  offset = p.start;
+  len = p.end - p.start;
+}
+
+-- This step took the reader from one state to the other. Whatever follows the bytes, the run of the
+-- stream is made from that of the bytes that were not consumed.
+pub record Stepped (step : CursorStep) (old : WtReader) (bytes : List ℕ) (new : WtReader)
+    : Type 0 where
+  pub step_is : StepIs step (cursor_of old) bytes (cursor_of new)
+  pub goes_on : RunGoesOn step (cursor_of old) bytes (cursor_of new)

@@ -1,0 +1,26 @@
+-- Settings as C has them (RFC 9114, section 7.2.4).
+use Rattle.std.specs.Prelude.{◌≡◌, ℕ, ◌<◌, ◌≤◌, ◌^◌, List, [], ◌∷◌, map, length, take}
+use Rattle.wt_c.specs.declared.settings.WtSetting.{WtSetting}
+
+-- an identifier and its value
+abbrev pub pair_of : WtSetting → ℕ × ℕ
+pair_of s = (s.id, s.value)
+
+abbrev pub pairs_of : List WtSetting → List (ℕ × ℕ)
+pairs_of settings = map pair_of settings
+
+-- the first `count` settings of the array are these
+pub record HoldSettings (settings : List WtSetting) (count : ℕ) (m : List (ℕ × ℕ)) : Type 0 where
+  pub count_is : count ≡ length m
+  pub room : count ≤ length settings
+  pub says : pairs_of (take count settings) ≡ m
+
+-- the array is too short for these, and their number is reported
+pub record LackSettings (settings : List WtSetting) (count : ℕ) (m : List (ℕ × ℕ)) : Type 0 where
+  pub count_is : count ≡ length m
+  pub short : length settings < count
+
+-- each identifier and each value is a variable-length integer
+abbrev pub AreNumbers : List WtSetting → Type 0
+AreNumbers [] = Unit {0}
+AreNumbers (s ∷ ss) = (s.id < 2 ^ 62) × (s.value < 2 ^ 62) × AreNumbers ss

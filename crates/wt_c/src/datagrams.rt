@@ -1,0 +1,103 @@
+//! HTTP datagrams (RFC 9297, section 2.1).
+ghost use Rattle.std.specs.Prelude.{◌≡◌, ◌⊎◌, ◌≤◌, ◌*◌, ◌/◌, ◌++◌, ℕ, List, length, drop, Some};
+ghost use Rattle.std.specs.Prelude.{None};
+ghost use Rattle.wtp_wire.specs.Datagram.{datagram_in, datagram_wire};
+ghost use Rattle.wt_c.specs.Numbers.{IsSessionNumber};
+ghost use Rattle.wt_c.specs.Datagrams.{datagram_head};
+ghost use Rattle.wt_c.specs.Output.{Puts, Lacks};
+
+use crate::answers::{FAULT, INVALID, OK, ROOM};
+use crate::numbers::session_of;
+use crate::output::{size_before, write_number};
+use wtp_core::ids::QStreamId;
+use wtp_wire::datagram::Datagram;
+
+/// Reads a QUIC datagram.
+///
+/// Returns `OK` with the session, and with the offset of the payload, which is all bytes from there
+/// on. Returns `FAULT` with the code `H3_DATAGRAM_ERROR` (0x33) if the bytes do not start with a
+/// number below 2^60; then `session` and `offset` do not change.
+#[unsafe(no_mangle)]
+#[tactic(auto, using(crate::proofs::DatagramLemmas::payload_is_rest))]
+pub extern "C" fn wt_datagram_read(
+    bytes: &[u8],
+    session: &mut u64,
+    offset: &mut usize,
+    code: &mut u64,
+) -> i32
+    ensures answers { (result ≡ OK) ⊎ (result ≡ FAULT) }
+    ensures datagram { result ≡ OK → (quarter : ℕ) × (session.new ≡ 4 * quarter)
+        × (datagram_in bytes.now ≡ Some (quarter, drop offset.new bytes.now))
+        × (offset.new ≤ length bytes.now) × (code.new ≡ code.old) }
+    ensures fault { result ≡ FAULT → (datagram_in bytes.now ≡ None) × (code.new ≡ 0x33)
+        × (session.new ≡ session.old) × (offset.new ≡ offset.old) }
+{
+    match Datagram::read(bytes) {
+        Ok(datagram) => {
+            *session = datagram.qstream_id().into_session_id().into_u64();
+            *offset = size_before(datagram.payload(), bytes);
+            OK
+        }
+        Err(fault) => {
+            *code = fault.to_code().into_inner();
+            FAULT
+        }
+    }
+}
+
+/// Writes a datagram of a session to the start of `out`.
+///
+/// Returns `OK` with the size of the datagram in `used`. Returns `ROOM` if `out` is shorter than
+/// that size, which `used` then is; `out` does not change. Returns `INVALID` if the number is not
+/// that of a session; then nothing changes.
+#[unsafe(no_mangle)]
+pub extern "C" fn wt_datagram_write(
+    session: u64,
+    payload: &[u8],
+    out: &mut [u8],
+    used: &mut usize,
+) -> i32
+    ensures answers { (result ≡ OK) ⊎ ((result ≡ ROOM) ⊎ (result ≡ INVALID)) }
+    ensures bytes { result ≡ OK → IsSessionNumber session
+        × Puts (datagram_wire (session / 4, payload.now)) out.old out.new used.new }
+    ensures room { result ≡ ROOM → IsSessionNumber session
+        × Lacks (datagram_wire (session / 4, payload.now)) out.old out.new used.new }
+    ensures invalid { result ≡ INVALID → (¬ (IsSessionNumber session))
+        × (out.new ≡ out.old) × (used.new ≡ used.old) }
+{
+    let Some(id) = session_of(session) else {
+        return INVALID;
+    };
+    let datagram = Datagram::new(QStreamId::from_session_id(id), payload);
+    *used = datagram.write_size();
+    match datagram.write(out) {
+        Ok(_) => OK,
+        Err(_) => ROOM,
+    }
+}
+
+/// Writes what comes before the payload of a datagram of a session to the start of `out`, so that
+/// the payload need not be copied.
+///
+/// Returns what `wt_datagram_write` returns, for these bytes alone.
+#[unsafe(no_mangle)]
+pub extern "C" fn wt_datagram_write_head(session: u64, out: &mut [u8], used: &mut usize) -> i32
+    ensures answers { (result ≡ OK) ⊎ ((result ≡ ROOM) ⊎ (result ≡ INVALID)) }
+    ensures bytes { result ≡ OK → IsSessionNumber session
+        × Puts (datagram_head (session / 4)) out.old out.new used.new }
+    ensures room { result ≡ ROOM → IsSessionNumber session
+        × Lacks (datagram_head (session / 4)) out.old out.new used.new }
+    ensures invalid { result ≡ INVALID → (¬ (IsSessionNumber session))
+        × (out.new ≡ out.old) × (used.new ≡ used.old) }
+{
+    match session_of(session) {
+        Some(id) => write_number(QStreamId::from_session_id(id).into_varint(), out, used),
+        None => INVALID,
+    }
+}
+
+/// A datagram is what `wt_datagram_write_head` writes, and then its payload.
+pub fn datagram_is_head_and_payload()
+    ensures { (quarter : ℕ) (payload : List ℕ)
+        → datagram_wire (quarter, payload) ≡ datagram_head quarter ++ payload }
+{}

@@ -1,0 +1,195 @@
+//! Frames that are read from the bytes of a stream (RFC 9114, section 7.1).
+ghost use Rattle.std.specs.Prelude.{◌≡◌, ◌≢◌, ◌⊎◌, ◌≤◌, ◌<◌, ◌↔◌, length, MatchOption};
+ghost use Rattle.wtp_core.specs.declared.error.ErrorCode.{ErrorCode};
+ghost use Rattle.wtp_core.specs.ErrorCodes.{code_number};
+ghost use Rattle.wtp_wire.specs.Front.{Short};
+ghost use Rattle.wtp_wire.specs.Held.{front_held};
+ghost use Rattle.wtransport_proto.specs.FrameCursor.{held_by};
+ghost use Rattle.wtransport_proto.specs.declared.stream.cursor.FramePlace.{FramePlace};
+ghost use Rattle.wtransport_proto.specs.declared.stream.cursor.CursorStep.{CursorStep};
+ghost use Rattle.wt_c.specs.Reader.{IsReader, Stepped, c_frame, cursor_of, stream_role};
+
+use crate::answers::{FAULT, INVALID, MORE, OK};
+use wtransport_proto::error::ErrorCode;
+use wtransport_proto::stream::{CursorStep, FrameCursor, FramePlace, StreamRole};
+
+/// All that reading the frames of a stream remembers between two calls.
+#[repr(C)]
+#[derive(Clone, Copy)]
+pub struct WtReader {
+    /// The kind of the stream: 0 for a bidirectional one that the peer opened, 1 for one that was
+    /// opened here, 2 for the peer's control stream after its header, and 3 for a session's.
+    pub kind: u8,
+    /// Whether the next frame would be the first of the stream: 1, or 0.
+    pub first: u8,
+    /// How many payload bytes of an unknown frame are still to be skipped.
+    pub due: u64,
+}
+
+/// A frame, whose payload is in the bytes that were read.
+#[repr(C)]
+#[derive(Clone, Copy)]
+pub struct WtFrame {
+    /// The type.
+    pub kind: u64,
+    /// The session of a WebTransport frame; 0 for other frames.
+    pub session: u64,
+    /// The offset of the payload.
+    pub offset: usize,
+    /// The size of the payload in bytes.
+    pub len: usize,
+}
+
+/// Returns the role of a stream's kind, if it is one.
+fn role_of(kind: u8) -> Option<StreamRole>
+    ensures { MatchOption result (3 < kind) (λ role. (kind ≤ 3) × (role ≡ stream_role kind)) }
+{
+    match kind {
+        0 => Some(StreamRole::BiRemote),
+        1 => Some(StreamRole::BiLocal),
+        2 => Some(StreamRole::UniRemote),
+        3 => Some(StreamRole::Session),
+        _ => None,
+    }
+}
+
+/// Returns the cursor of a reader, if it is one.
+fn cursor_of(reader: &WtReader) -> Option<FrameCursor>
+    ensures { MatchOption result (¬ (IsReader reader.now))
+        (λ cursor. IsReader reader.now × (cursor ≡ cursor_of reader.now)) }
+{
+    let Some(role) = role_of(reader.kind) else {
+        return None;
+    };
+    if reader.first > 1 {
+        return None;
+    }
+    Some(FrameCursor {
+        role,
+        first: reader.first != 0,
+        due: reader.due,
+    })
+}
+
+/// Makes the reader of a stream's first frame.
+///
+/// Returns `OK`, or `INVALID` if the kind is above 3; then `reader` does not change.
+#[unsafe(no_mangle)]
+pub extern "C" fn wt_reader_new(kind: u8, reader: &mut WtReader) -> i32
+    ensures answers { (result ≡ OK) ⊎ (result ≡ INVALID) }
+    ensures reader { result ≡ OK → (kind ≤ 3)
+        × (reader.new ≡ record { kind = kind; first = 1; due = 0 }) }
+    ensures invalid { result ≡ INVALID → (3 < kind) × (reader.new ≡ reader.old) }
+{
+    if kind > 3 {
+        return INVALID;
+    }
+    *reader = WtReader {
+        kind,
+        first: 1,
+        due: 0,
+    };
+    OK
+}
+
+/// Reads the next frame of a stream, from the bytes after those that were consumed before. Unknown
+/// frames are skipped, also piece by piece (RFC 9114, section 9).
+///
+/// - `OK`: the next frame, which the stream allows. `consumed` is the offset after its payload.
+/// - `MORE`: there is no complete frame. The bytes after the first `consumed` have to be given
+///   again with more bytes after them; they are at most 4111.
+/// - `FAULT`: the stream has a fault, by its code. The reader does not change, and `consumed` is 0.
+/// - `INVALID`: `reader` is not a reader. Nothing changes.
+///
+/// However the bytes of a stream are cut, the frames and the first fault are the same. `frame`
+/// changes for `OK` alone, and `code` for `FAULT` alone.
+#[unsafe(no_mangle)]
+pub extern "C" fn wt_read_frame(
+    reader: &mut WtReader,
+    bytes: &[u8],
+    consumed: &mut usize,
+    frame: &mut WtFrame,
+    code: &mut u64,
+) -> i32
+    ensures answers { (result ≡ OK) ⊎ ((result ≡ MORE) ⊎ ((result ≡ FAULT) ⊎ (result ≡ INVALID))) }
+    ensures frame { result ≡ OK → (p : FramePlace) × (frame.new ≡ c_frame p)
+        × (consumed.new ≡ p.end)
+        × Stepped (CursorStep.Frame p) reader.old bytes.now reader.new }
+    ensures more { result ≡ MORE
+        → Stepped (CursorStep.More consumed.new) reader.old bytes.now reader.new }
+    ensures fault { result ≡ FAULT → (e : ErrorCode) × (code.new ≡ code_number e)
+        × Stepped (CursorStep.Fault e) reader.old bytes.now reader.new
+        × (reader.new ≡ reader.old) × (consumed.new ≡ 0) }
+    ensures invalid { result ≡ INVALID → (¬ (IsReader reader.old))
+        × (reader.new ≡ reader.old) × (consumed.new ≡ consumed.old) }
+    ensures within { result ≢ INVALID → consumed.new ≤ length bytes.now }
+    ensures reader { IsReader reader.old → IsReader reader.new }
+    ensures none { result ≢ OK → frame.new ≡ frame.old }
+    ensures code { result ≢ FAULT → code.new ≡ code.old }
+{
+    let Some(mut cursor) = cursor_of(reader) else {
+        return INVALID;
+    };
+    let step = cursor.next(bytes);
+    match step {
+        CursorStep::Frame(place) => {
+            reader.first = 0;
+            reader.due = 0;
+            *consumed = place.end;
+            *frame = frame_at(&place);
+            OK
+        }
+        CursorStep::More(passed) => {
+            reader.due = cursor.due;
+            *consumed = passed;
+            MORE
+        }
+        CursorStep::Fault(fault) => {
+            *consumed = 0;
+            *code = fault.to_code().into_inner();
+            FAULT
+        }
+    }
+}
+
+/// Returns a frame's place as C has it.
+fn frame_at(place: &FramePlace) -> WtFrame
+    ensures { result ≡ c_frame place.now }
+{
+    WtFrame {
+        kind: place.kind.id().into_inner(),
+        session: match place.session_id {
+            Some(session) => session.into_u64(),
+            None => 0,
+        },
+        offset: place.start,
+        len: place.end - place.start,
+    }
+}
+
+/// Returns what it means that the stream ends here, after `MORE`, with `rest` left over.
+///
+/// Returns `OK` if the stream may end here. Returns `FAULT` with the code `H3_FRAME_ERROR` (0x106)
+/// if a frame has begun (RFC 9114, section 7.1), and `INVALID` if `reader` is not a reader; `code`
+/// changes for `FAULT` alone.
+#[unsafe(no_mangle)]
+pub extern "C" fn wt_read_end(reader: &WtReader, rest: &[u8], code: &mut u64) -> i32
+    ensures answers { (result ≡ OK) ⊎ ((result ≡ FAULT) ⊎ (result ≡ INVALID)) }
+    ensures clean { result ≡ OK → IsReader reader.now × (reader.now.due ≡ 0)
+        × (length rest.now ≡ 0) }
+    ensures fault { result ≡ FAULT → IsReader reader.now × (code.new ≡ 0x106)
+        × ¬ ((reader.now.due ≡ 0) × (length rest.now ≡ 0)) }
+    ensures invalid { result ≡ INVALID → ¬ (IsReader reader.now) }
+    ensures code { result ≢ FAULT → code.new ≡ code.old }
+{
+    let Some(cursor) = cursor_of(reader) else {
+        return INVALID;
+    };
+    match cursor.finish(rest) {
+        Ok(()) => OK,
+        Err(fault) => {
+            *code = fault.to_code().into_inner();
+            FAULT
+        }
+    }
+}

@@ -1,0 +1,283 @@
+//! Requests for sessions, and responses (RFC 9220, section 3; WebTransport over HTTP/3).
+ghost use Rattle.std.specs.Prelude.{◌≡◌, ◌≢◌, ◌⊎◌, ◌≤◌, ◌<◌, ◌^◌, ◌++◌, ℕ, List, length, Some};
+ghost use Rattle.std.specs.Prelude.{None, Ok, Err, IsUtf8, OnOk, IfOk, IfErr, codes, option_map};
+ghost use Rattle.url.specs.Parser.{parse_url};
+ghost use Rattle.wtp_core.specs.declared.error.ErrorCode.{ErrorCode};
+ghost use Rattle.wtp_core.specs.declared.error.Refused.TheVariants.{Code};
+ghost use Rattle.wtp_core.specs.ErrorCodes.{code_number};
+ghost use Rattle.wtp_core.specs.Ids.{IsStatus, status_in};
+ghost use Rattle.wtp_wire.specs.Content.{HeadersOf};
+ghost use Rattle.wtp_wire.specs.Wire.{wire};
+ghost use Rattle.wtp_fields.specs.Field.{Field, field_value};
+ghost use Rattle.wtp_fields.specs.Headers.{payload, BeginsLine};
+ghost use Rattle.wtp_fields.specs.SessionRequest.{request_at, request_in};
+ghost use Rattle.wtp_fields.specs.SessionResponse.{status_alone, status_value};
+ghost use Rattle.wtp_fields.specs.ResponseFrame.{ResponseIn};
+ghost use Rattle.wt_c.specs.Output.{Puts, Lacks};
+ghost use Rattle.wt_c.specs.Sessions.{IsNoUrl, AreRequestFields, AreResponseFields, IsRequestOf};
+ghost use Rattle.wt_c.specs.Sessions.{with_fields};
+
+use crate::answers::{FAULT, INVALID, MEMORY, OK, ROOM};
+use crate::fields::WtField;
+use crate::frames::write_frame;
+use crate::output::write_parts;
+use crate::texts::{Unmade, texts_of};
+use std::alloc::Global;
+use std::borrow::CowSlice;
+use wtp_core::error::Refused;
+use wtp_core::ids::StatusCode;
+use wtp_core::varint::VarInt;
+use wtp_fields::session::{
+    AddError, InsertError, SessionRequest, SessionResponse, UrlParseError, request_of_frame,
+    response_of_frame,
+};
+use wtp_wire::frame::Frame;
+
+/// Puts fields into a request, each in place of the previous one of its name.
+fn insert_fields(
+    request: &mut SessionRequest,
+    fields: &[WtField],
+    texts: &[u8],
+) -> Result<(), Unmade>
+    ensures ok { OnOk result (AreRequestFields texts.now fields.now
+        × (request.new ≡ with_fields texts.now request.old fields.now)) }
+    ensures invalid { IfErr result (λ e. e ≡ Unmade.Invalid
+        → ¬ (AreRequestFields texts.now fields.now)) }
+{
+    let mut left = fields;
+    'fields: while let Some((field, others)) = left.split_first() {
+        let Some((name, value)) = texts_of(field, texts) else {
+            return Err(Unmade::Invalid);
+        };
+        match request.insert(name, value) {
+            Ok(()) => left = others,
+            Err(InsertError::Reserved(_)) => return Err(Unmade::Invalid),
+            Err(InsertError::Memory) => return Err(Unmade::Memory),
+        }
+    }
+    Ok(())
+}
+
+/// Adds fields to a response, each in place of the previous one of its name.
+fn add_fields(
+    response: &mut SessionResponse,
+    fields: &[WtField],
+    texts: &[u8],
+) -> Result<(), Unmade>
+    ensures ok { OnOk result (AreResponseFields texts.now fields.now
+        × (response.new ≡ with_fields texts.now response.old fields.now)) }
+    ensures invalid { IfErr result (λ e. e ≡ Unmade.Invalid
+        → ¬ (AreResponseFields texts.now fields.now)) }
+{
+    let mut left = fields;
+    'fields: while let Some((field, others)) = left.split_first() {
+        let Some((name, value)) = texts_of(field, texts) else {
+            return Err(Unmade::Invalid);
+        };
+        if name == ":status" {
+            return Err(Unmade::Invalid);
+        }
+        match response.add(name, value) {
+            Ok(()) => left = others,
+            Err(AddError::InvalidStatusCode) => return Err(Unmade::Invalid),
+            Err(AddError::Memory) => return Err(Unmade::Memory),
+        }
+    }
+    Ok(())
+}
+
+/// Returns the request for the session at a URL.
+fn request_for(alloc: Global, url: &[u8]) -> Result<SessionRequest, Unmade>
+    ensures ok { IfOk result (λ request. request_at (parse_url None url.now) ≡ Ok request) }
+    ensures invalid { IfErr result (λ e. e ≡ Unmade.Invalid → IsNoUrl url.now) }
+{
+    let Ok(text) = str::from_utf8(url) else {
+        return Err(Unmade::Invalid);
+    };
+    match SessionRequest::new(alloc, text) {
+        Ok(request) => Ok(request),
+        Err(UrlParseError::Memory) => Err(Unmade::Memory),
+        Err(_) => Err(Unmade::Invalid),
+    }
+}
+
+/// Writes the HEADERS frame of the request for the session at a URL, which has these fields too, to
+/// the start of `out` (RFC 9114, section 4.3.1).
+///
+/// Returns `OK` with the size of the frame in `used`. Returns `ROOM` if `out` is shorter than that
+/// size, which `used` then is; `out` does not change. Returns `INVALID` if the URL is not one, or
+/// its scheme is not `https`; or if a field is not within `texts`, is not UTF-8, or has a name that
+/// a request sets itself. Returns `MEMORY` if allocation failed. Then nothing changes.
+#[unsafe(no_mangle)]
+pub extern "C" fn wt_request_write(
+    alloc: Global,
+    url: &[u8],
+    fields: &[WtField],
+    texts: &[u8],
+    out: &mut [u8],
+    used: &mut usize,
+) -> i32
+    ensures answers { (result ≡ OK) ⊎ ((result ≡ ROOM) ⊎ ((result ≡ INVALID) ⊎ (result ≡ MEMORY))) }
+    ensures frame { result ≡ OK → (m : List Field) × (request_at (parse_url None url.now) ≡ Ok m)
+        × AreRequestFields texts.now fields.now
+        × Puts (wire (HeadersOf (payload (with_fields texts.now m fields.now))))
+        out.old out.new used.new }
+    ensures room { result ≡ ROOM → (m : List Field) × (request_at (parse_url None url.now) ≡ Ok m)
+        × AreRequestFields texts.now fields.now
+        × Lacks (wire (HeadersOf (payload (with_fields texts.now m fields.now))))
+        out.old out.new used.new }
+    ensures invalid { result ≡ INVALID
+        → (IsNoUrl url.now ⊎ ¬ (AreRequestFields texts.now fields.now))
+        × (out.new ≡ out.old) × (used.new ≡ used.old) }
+    ensures memory { result ≡ MEMORY → (out.new ≡ out.old) × (used.new ≡ used.old) }
+{
+    let mut request = match request_for(alloc, url) {
+        Ok(request) => request,
+        Err(Unmade::Invalid) => return INVALID,
+        Err(Unmade::Memory) => return MEMORY,
+    };
+    match insert_fields(&mut request, fields, texts) {
+        Ok(()) => match request.headers().generate_frame(alloc) {
+            Ok(frame) => write_frame(&frame, out, used),
+            Err(_) => MEMORY,
+        },
+        Err(Unmade::Invalid) => INVALID,
+        Err(Unmade::Memory) => MEMORY,
+    }
+}
+
+/// Writes the HEADERS frame of the response with a status, which has these fields too, to the start
+/// of `out` (RFC 9114, section 4.3.2).
+///
+/// Returns `OK` with the size of the frame in `used`. Returns `ROOM` if `out` is shorter than that
+/// size, which `used` then is; `out` does not change. Returns `INVALID` if the status is not from
+/// 100 to 599; or if a field is not within `texts`, is not UTF-8, or is another status. Returns
+/// `MEMORY` if allocation failed. Then nothing changes.
+#[unsafe(no_mangle)]
+pub extern "C" fn wt_response_write(
+    alloc: Global,
+    status: u32,
+    fields: &[WtField],
+    texts: &[u8],
+    out: &mut [u8],
+    used: &mut usize,
+) -> i32
+    ensures answers { (result ≡ OK) ⊎ ((result ≡ ROOM) ⊎ ((result ≡ INVALID) ⊎ (result ≡ MEMORY))) }
+    ensures frame { result ≡ OK → IsStatus status × AreResponseFields texts.now fields.now
+        × Puts (wire (HeadersOf (payload (with_fields texts.now (status_alone status) fields.now))))
+        out.old out.new used.new }
+    ensures room { result ≡ ROOM → IsStatus status × AreResponseFields texts.now fields.now
+        × Lacks
+        (wire (HeadersOf (payload (with_fields texts.now (status_alone status) fields.now))))
+        out.old out.new used.new }
+    ensures invalid { result ≡ INVALID
+        → ((¬ (IsStatus status)) ⊎ ¬ (AreResponseFields texts.now fields.now))
+        × (out.new ≡ out.old) × (used.new ≡ used.old) }
+    ensures memory { result ≡ MEMORY → (out.new ≡ out.old) × (used.new ≡ used.old) }
+{
+    let Ok(status_code) = StatusCode::try_from_u32(status) else {
+        return INVALID;
+    };
+    let Ok(mut response) = SessionResponse::with_status_code(alloc, status_code) else {
+        return MEMORY;
+    };
+    match add_fields(&mut response, fields, texts) {
+        Ok(()) => match response.headers().generate_frame(alloc) {
+            Ok(frame) => write_frame(&frame, out, used),
+            Err(_) => MEMORY,
+        },
+        Err(Unmade::Invalid) => INVALID,
+        Err(Unmade::Memory) => MEMORY,
+    }
+}
+
+/// Reads the request in a field section, the payload of a HEADERS frame (RFC 9114, section 4.3.1;
+/// RFC 9220, section 3), and writes its authority and then its path to the start of `out`.
+///
+/// Returns `OK` with the size of both in `used`, and that of the authority in `authority`. Returns
+/// `ROOM` if `out` is shorter than both, whose sizes are reported all the same; `out` does not
+/// change. Returns `FAULT` with the code `QPACK_DECOMPRESSION_FAILED` (0x200) for a section with a
+/// fault, or `H3_MESSAGE_ERROR` (0x10e) for one that is not a request. Returns `MEMORY` if
+/// allocation failed, and `INVALID` for a section of 2^62 bytes or more. Then nothing changes.
+#[unsafe(no_mangle)]
+pub extern "C" fn wt_request_read(
+    alloc: Global,
+    section: &[u8],
+    out: &mut [u8],
+    authority: &mut usize,
+    used: &mut usize,
+    code: &mut u64,
+) -> i32
+    ensures answers { (result ≡ OK) ⊎ ((result ≡ ROOM) ⊎ ((result ≡ FAULT)
+        ⊎ ((result ≡ MEMORY) ⊎ (result ≡ INVALID)))) }
+    ensures request { result ≡ OK → (m : List Field) × (host : List ℕ) × (path : List ℕ)
+        × IsRequestOf section.now m host path × (authority.new ≡ length host)
+        × Puts (host ++ path) out.old out.new used.new }
+    ensures room { result ≡ ROOM → (m : List Field) × (host : List ℕ) × (path : List ℕ)
+        × IsRequestOf section.now m host path × (authority.new ≡ length host)
+        × Lacks (host ++ path) out.old out.new used.new }
+    ensures fault { result ≡ FAULT → (e : ErrorCode)
+        × (request_in (HeadersOf section.now) ≡ Err (Code e)) × (code.new ≡ code_number e)
+        × (out.new ≡ out.old) × (authority.new ≡ authority.old) × (used.new ≡ used.old) }
+    ensures memory { result ≡ MEMORY → BeginsLine section.now
+        × (out.new ≡ out.old) × (authority.new ≡ authority.old) × (used.new ≡ used.old) }
+    ensures invalid { result ≡ INVALID → (2 ^ 62 ≤ length section.now)
+        × (out.new ≡ out.old) × (authority.new ≡ authority.old) × (used.new ≡ used.old) }
+    ensures code { result ≢ FAULT → code.new ≡ code.old }
+{
+    if section.len() as u64 > VarInt::MAX.into_inner() {
+        return INVALID;
+    }
+    match request_of_frame(alloc, &Frame::new_headers(CowSlice::Borrowed(section))) {
+        Ok(request) => {
+            let host = request.authority().as_bytes();
+            *authority = host.len();
+            write_parts(host, request.path().as_bytes(), out, used)
+        }
+        Err(Refused::Code(fault)) => {
+            *code = fault.to_code().into_inner();
+            FAULT
+        }
+        Err(Refused::Memory) => MEMORY,
+    }
+}
+
+/// Reads the response in a field section, the payload of a HEADERS frame (RFC 9114, section 4.3.2).
+///
+/// Returns `OK` with its status. Returns `FAULT` with the code `QPACK_DECOMPRESSION_FAILED` (0x200)
+/// for a section with a fault, or `H3_MESSAGE_ERROR` (0x10e) for one without a status from 100 to
+/// 599. Returns `MEMORY` if allocation failed, and `INVALID` for a section of 2^62 bytes or more.
+/// Then `status` does not change.
+#[unsafe(no_mangle)]
+pub extern "C" fn wt_response_read(
+    alloc: Global,
+    section: &[u8],
+    status: &mut u16,
+    code: &mut u64,
+) -> i32
+    ensures answers { (result ≡ OK)
+        ⊎ ((result ≡ FAULT) ⊎ ((result ≡ MEMORY) ⊎ (result ≡ INVALID))) }
+    ensures status { result ≡ OK → (m : List Field) × ResponseIn (HeadersOf section.now) (Ok m)
+        × (option_map status_in (status_value m) ≡ Some status.new) }
+    ensures fault { result ≡ FAULT → (e : ErrorCode)
+        × ResponseIn (HeadersOf section.now) (Err (Code e)) × (code.new ≡ code_number e) }
+    ensures memory { result ≡ MEMORY → BeginsLine section.now }
+    ensures invalid { result ≡ INVALID → 2 ^ 62 ≤ length section.now }
+    ensures none { result ≢ OK → status.new ≡ status.old }
+    ensures code { result ≢ FAULT → code.new ≡ code.old }
+{
+    if section.len() as u64 > VarInt::MAX.into_inner() {
+        return INVALID;
+    }
+    match response_of_frame(alloc, &Frame::new_headers(CowSlice::Borrowed(section))) {
+        Ok(response) => {
+            *status = response.code().into_inner();
+            OK
+        }
+        Err(Refused::Code(fault)) => {
+            *code = fault.to_code().into_inner();
+            FAULT
+        }
+        Err(Refused::Memory) => MEMORY,
+    }
+}

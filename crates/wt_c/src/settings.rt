@@ -1,0 +1,210 @@
+//! Settings of a connection (RFC 9114, section 7.2.4).
+ghost use Rattle.std.specs.Prelude.{◌≡◌, ◌≢◌, ◌⊎◌, ◌≤◌, ◌<◌, ◌^◌, ℕ, List, length, Some, None, Ok};
+ghost use Rattle.std.specs.Prelude.{Err, IfOk, IfErr};
+ghost use Rattle.wtp_core.specs.declared.error.ErrorCode.{ErrorCode};
+ghost use Rattle.wtp_core.specs.ErrorCodes.{code_number};
+ghost use Rattle.wtp_wire.specs.declared.settings.SettingId.{SettingId};
+ghost use Rattle.wtp_wire.specs.SettingId.{setting_id_of, setting_name_of};
+ghost use Rattle.wtp_wire.specs.Settings.{settings_in, settings_wire, StartsWithSettings};
+ghost use Rattle.wtp_wire.specs.Settings.{AnswersSettings};
+ghost use Rattle.wt_c.specs.Output.{Puts, Lacks};
+ghost use Rattle.wt_c.specs.Settings.{HoldSettings, LackSettings, AreNumbers, pairs_of};
+
+use crate::answers::{FAULT, INVALID, MEMORY, OK, ROOM};
+use crate::output::write_bytes;
+use std::alloc::Global;
+use std::borrow::CowSlice;
+use wtp_core::bytes::BytesWriter;
+use wtp_core::error::Refused;
+use wtp_core::varint::VarInt;
+use wtp_wire::frame::Frame;
+use wtp_wire::settings::{SettingId, Settings};
+
+/// A setting and its value.
+#[repr(C)]
+#[derive(Clone, Copy)]
+pub struct WtSetting {
+    /// The identifier.
+    pub id: u64,
+    /// The value.
+    pub value: u64,
+}
+
+/// Puts settings into an array, in ascending order of their identifiers.
+fn put_settings(read: &Settings, settings: &mut [WtSetting], count: &mut usize) -> i32
+    ensures answers { (result ≡ OK) ⊎ (result ≡ ROOM) }
+    ensures settings { result ≡ OK → HoldSettings settings.new count.new read.now }
+    ensures room { result ≡ ROOM → LackSettings settings.old count.new read.now
+        × (settings.new ≡ settings.old) }
+{
+    let mut left = read.iter();
+    *count = left.len();
+    if *count > settings.len() {
+        return ROOM;
+    }
+    let mut n: usize = 0;
+    'settings: while let Some((id, value)) = left.next() {
+        settings[n] = WtSetting {
+            id: id.id().into_inner(),
+            value: value.into_inner(),
+        };
+        n += 1;
+    }
+    OK
+}
+
+/// Reads the settings of a SETTINGS frame's payload.
+fn read_settings(alloc: Global, payload: &[u8]) -> Result<Settings, Refused>
+    requires { length payload.now < 2 ^ 62 }
+    ensures settings { AnswersSettings payload.now result }
+{
+    Settings::with_frame(alloc, &Frame::new_settings(CowSlice::Borrowed(payload)))
+}
+
+/// Reads the payload of a SETTINGS frame. Unknown identifiers are left out.
+///
+/// Returns `OK` with the settings: the first `count` of `settings`, in ascending order of their
+/// identifiers, each once. Returns `ROOM` if the array is too short; `count` is then the room that
+/// they need, and the array does not change. Returns `FAULT` with the code of the first fault:
+/// `H3_FRAME_ERROR` (0x106) for a payload that is cut, `H3_SETTINGS_ERROR` (0x109) for a repeated
+/// identifier or one of HTTP/2. Returns `MEMORY` if allocation failed, which happens only at a
+/// setting. Returns `INVALID` for a payload of 2^62 bytes or more. Otherwise nothing changes.
+#[unsafe(no_mangle)]
+pub extern "C" fn wt_settings_read(
+    alloc: Global,
+    payload: &[u8],
+    settings: &mut [WtSetting],
+    count: &mut usize,
+    code: &mut u64,
+) -> i32
+    ensures answers { (result ≡ OK) ⊎ ((result ≡ ROOM) ⊎ ((result ≡ FAULT)
+        ⊎ ((result ≡ MEMORY) ⊎ (result ≡ INVALID)))) }
+    ensures settings { result ≡ OK → (m : List (ℕ × ℕ)) × (settings_in payload.now ≡ Ok m)
+        × HoldSettings settings.new count.new m }
+    ensures room { result ≡ ROOM → (m : List (ℕ × ℕ)) × (settings_in payload.now ≡ Ok m)
+        × LackSettings settings.old count.new m × (settings.new ≡ settings.old) }
+    ensures fault { result ≡ FAULT → (e : ErrorCode) × (settings_in payload.now ≡ Err e)
+        × (code.new ≡ code_number e)
+        × (settings.new ≡ settings.old) × (count.new ≡ count.old) }
+    ensures memory { result ≡ MEMORY → StartsWithSettings payload.now
+        × (settings.new ≡ settings.old) × (count.new ≡ count.old) }
+    ensures invalid { result ≡ INVALID → (2 ^ 62 ≤ length payload.now)
+        × (settings.new ≡ settings.old) × (count.new ≡ count.old) }
+    ensures code { result ≢ FAULT → code.new ≡ code.old }
+{
+    if payload.len() as u64 > VarInt::MAX.into_inner() {
+        return INVALID;
+    }
+    match read_settings(alloc, payload) {
+        Ok(read) => put_settings(&read, settings, count),
+        Err(Refused::Code(fault)) => {
+            *code = fault.to_code().into_inner();
+            FAULT
+        }
+        Err(Refused::Memory) => MEMORY,
+    }
+}
+
+/// The reason no payload was made.
+enum Unwritten {
+    /// A number is 2^62 or more.
+    Range,
+    /// Memory allocation failed.
+    Memory,
+}
+
+/// Writes the numbers of settings and their values one after the other.
+fn write_pairs(alloc: Global, settings: &[WtSetting]) -> Result<Vec<u8>, Unwritten>
+    ensures pairs { IfOk result (λ v. AreNumbers settings.now
+        × (v.items ≡ settings_wire (pairs_of settings.now))) }
+    ensures range { IfErr result (λ e. e ≡ Unwritten.Range → ¬ (AreNumbers settings.now)) }
+{
+    let mut payload = Vec::new(alloc);
+    let mut left = settings;
+    'settings: while let Some((setting, others)) = left.split_first() {
+        let Ok(id) = VarInt::try_from_u64(setting.id) else {
+            return Err(Unwritten::Range);
+        };
+        let Ok(value) = VarInt::try_from_u64(setting.value) else {
+            return Err(Unwritten::Range);
+        };
+        if payload.put_varint(id).is_err() {
+            return Err(Unwritten::Memory);
+        }
+        if payload.put_varint(value).is_err() {
+            return Err(Unwritten::Memory);
+        }
+        left = others;
+    }
+    Ok(payload)
+}
+
+/// Writes the payload of a SETTINGS frame to the start of `out`: the settings in their order.
+///
+/// Returns `OK` with the size of the payload in `used`. Returns `ROOM` if `out` is shorter than
+/// that size, which `used` then is; `out` does not change. Returns `INVALID` if a number is 2^62 or
+/// more, or if a peer would find a fault in the payload: an identifier of HTTP/2, or a known one
+/// that is repeated. Returns `MEMORY` if allocation failed. Then nothing changes.
+#[unsafe(no_mangle)]
+pub extern "C" fn wt_settings_write(
+    alloc: Global,
+    settings: &[WtSetting],
+    out: &mut [u8],
+    used: &mut usize,
+) -> i32
+    ensures answers { (result ≡ OK) ⊎ ((result ≡ ROOM) ⊎ ((result ≡ INVALID) ⊎ (result ≡ MEMORY))) }
+    ensures bytes { result ≡ OK → (m : List (ℕ × ℕ))
+        × (settings_in (settings_wire (pairs_of settings.now)) ≡ Ok m)
+        × Puts (settings_wire (pairs_of settings.now)) out.old out.new used.new }
+    ensures room { result ≡ ROOM → (m : List (ℕ × ℕ))
+        × (settings_in (settings_wire (pairs_of settings.now)) ≡ Ok m)
+        × Lacks (settings_wire (pairs_of settings.now)) out.old out.new used.new }
+    ensures invalid { result ≡ INVALID → ((¬ (AreNumbers settings.now))
+        ⊎ ((e : ErrorCode) × (settings_in (settings_wire (pairs_of settings.now)) ≡ Err e)))
+        × (out.new ≡ out.old) × (used.new ≡ used.old) }
+    ensures memory { result ≡ MEMORY → (out.new ≡ out.old) × (used.new ≡ used.old) }
+{
+    let payload = match write_pairs(alloc, settings) {
+        Ok(payload) => payload,
+        Err(Unwritten::Range) => return INVALID,
+        Err(Unwritten::Memory) => return MEMORY,
+    };
+    if payload.len() as u64 > VarInt::MAX.into_inner() {
+        return MEMORY;
+    }
+    match read_settings(alloc, payload.as_slice()) {
+        Ok(_) => write_bytes(payload.as_slice(), out, used),
+        Err(Refused::Code(_)) => INVALID,
+        Err(Refused::Memory) => MEMORY,
+    }
+}
+
+/// Writes the name of a setting to the start of `out`, in ASCII and without a final zero:
+/// `SETTINGS_H3_DATAGRAM` and its like, or the number of one that is reserved for exercise, as
+/// `0x21`.
+///
+/// Returns `OK` with the size of the name in `used`. Returns `ROOM` if `out` is shorter than that
+/// size, which `used` then is; `out` does not change. Returns `INVALID` if the number is not that
+/// of a setting, and `MEMORY` if allocation failed; then nothing changes.
+#[unsafe(no_mangle)]
+pub extern "C" fn wt_setting_name(alloc: Global, id: u64, out: &mut [u8], used: &mut usize) -> i32
+    ensures answers { (result ≡ OK) ⊎ ((result ≡ ROOM) ⊎ ((result ≡ INVALID) ⊎ (result ≡ MEMORY))) }
+    ensures name { result ≡ OK → (setting : SettingId) × (setting_id_of id ≡ Some setting)
+        × Puts (setting_name_of setting) out.old out.new used.new }
+    ensures room { result ≡ ROOM → (setting : SettingId) × (setting_id_of id ≡ Some setting)
+        × Lacks (setting_name_of setting) out.old out.new used.new }
+    ensures invalid { result ≡ INVALID → ((setting_id_of id ≡ None) ⊎ (2 ^ 62 ≤ id))
+        × (out.new ≡ out.old) × (used.new ≡ used.old) }
+    ensures memory { result ≡ MEMORY → (out.new ≡ out.old) × (used.new ≡ used.old) }
+{
+    let Ok(number) = VarInt::try_from_u64(id) else {
+        return INVALID;
+    };
+    let Some(setting) = SettingId::parse(number) else {
+        return INVALID;
+    };
+    match format!(in alloc; "{setting}") {
+        Ok(name) => write_bytes(name.as_str().as_bytes(), out, used),
+        Err(_) => MEMORY,
+    }
+}
