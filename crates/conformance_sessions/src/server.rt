@@ -1,6 +1,6 @@
 //! A server's first steps over slices: a request is read and answered.
 use crate::same::same;
-use std::alloc::Global;
+use std::alloc::{AllocError, Global};
 use std::test::Fail;
 use wtransport_proto::bytes::BufferReader;
 use wtransport_proto::session::{SessionRequest, SessionResponse, request_of_frame};
@@ -17,16 +17,21 @@ fn serve(alloc: Global, bytes: &[u8], answer: &mut Vec<u8>) -> Result<Option<Str
         return Ok(None);
     };
     let request = request_of_frame(alloc, &frame)?;
-    let response = match request.path() {
-        "/chat" => SessionResponse::ok(alloc)?,
-        _ => SessionResponse::not_found(alloc)?,
-    };
+    let response = response_for(alloc, request.path())?;
     stream.write_frame(response.headers().generate_frame(alloc)?, answer)?;
     Ok(Some(stream.into_session(request)))
 }
 
+/// The response for a path.
+fn response_for(alloc: Global, path: &str) -> Result<SessionResponse, AllocError> {
+    if path == "/chat" {
+        return SessionResponse::ok(alloc);
+    }
+    SessionResponse::not_found(alloc)
+}
+
 /// The bytes that a client sends for this URL.
-fn asked(alloc: Global, url: &str) -> Result<Vec<u8>, Fail> {
+fn request_bytes(alloc: Global, url: &str) -> Result<Vec<u8>, Fail> {
     let request = SessionRequest::new(alloc, url)?;
     let mut bytes = Vec::new(alloc);
     send(alloc, &request, &mut bytes)?;
@@ -60,7 +65,7 @@ const ANSWERS: [(&str, &str, &[u8]); 2] = [
 #[test]
 fn a_request_is_answered(rt: HostRuntime) -> Result<(), Fail> {
     for (url, path, expected) in ANSWERS {
-        let bytes = asked(rt.alloc(), url)?;
+        let bytes = request_bytes(rt.alloc(), url)?;
         let mut answer = Vec::new(rt.alloc());
         let stream = serve(rt.alloc(), bytes.as_slice(), &mut answer)?.ok_or("a session")?;
         let request = stream.request();
@@ -72,7 +77,7 @@ fn a_request_is_answered(rt: HostRuntime) -> Result<(), Fail> {
 
 #[test]
 fn a_request_that_is_not_whole_is_waited_for(rt: HostRuntime) -> Result<(), Fail> {
-    let mut bytes = asked(rt.alloc(), "https://example.com/chat")?;
+    let mut bytes = request_bytes(rt.alloc(), "https://example.com/chat")?;
     let last = bytes.pop();
     let mut answer = Vec::new(rt.alloc());
     let stream = serve(rt.alloc(), bytes.as_slice(), &mut answer)?;

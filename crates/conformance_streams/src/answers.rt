@@ -12,7 +12,7 @@ use wtransport_proto::stream::IoReadError;
 use wtransport_proto::varint::VarInt;
 
 /// The answer of one poll.
-pub(crate) type Answered = Polled<Result<FrameOwned, IoReadError>>;
+pub(crate) type PollAnswer = Polled<Result<FrameOwned, IoReadError>>;
 
 /// What one poll is to answer: a frame by its type number and payload, or another answer.
 #[derive(Drop)]
@@ -33,7 +33,7 @@ pub(crate) const CUT: Answer<'static> = Answer::Fault(IoReadError::H3(ErrorCode:
 pub(crate) static ENDS: [End; 3] = End::EACH;
 
 /// These bytes, and zeros after them, so many in all.
-pub(crate) fn padded(alloc: Global, front: &[u8], len: usize) -> Result<Vec<u8>, AllocError> {
+pub(crate) fn pad(alloc: Global, front: &[u8], len: usize) -> Result<Vec<u8>, AllocError> {
     let mut bytes = Vec::from_slice(alloc, front)?;
     bytes.resize(len, 0)?;
     Ok(bytes)
@@ -46,10 +46,10 @@ pub(crate) fn session_4() -> Result<SessionId, Fail> {
 }
 
 /// The answer of a poll, or what it is to answer, as a value that is compared.
-type Told<'a> = Polled<Result<(u64, &'a [u8]), &'a IoReadError>>;
+type AnswerValue<'a> = Polled<Result<(u64, &'a [u8]), &'a IoReadError>>;
 
 /// What a poll answered.
-fn told(answered: &Answered) -> Told<'_> {
+fn answer_of(answered: &PollAnswer) -> AnswerValue<'_> {
     match answered {
         Polled::Ready(Ok(frame)) => Polled::Ready(Ok(number_and_payload(frame))),
         Polled::Ready(Err(fault)) => Polled::Ready(Err(fault)),
@@ -60,7 +60,7 @@ fn told(answered: &Answered) -> Told<'_> {
 }
 
 /// What a poll is to answer.
-fn wanted<'a>(answer: &'a Answer<'_>) -> Told<'a> {
+fn wanted_of<'a>(answer: &'a Answer<'_>) -> AnswerValue<'a> {
     match answer {
         Answer::Frame(number, payload) => Polled::Ready(Ok((*number, payload))),
         Answer::Fault(fault) => Polled::Ready(Err(fault)),
@@ -72,12 +72,17 @@ fn wanted<'a>(answer: &'a Answer<'_>) -> Told<'a> {
 /// The answer is this one. What the row shows and the place in it are for the message.
 pub(crate) fn check_answer<R: Abort>(
     rt: &R,
-    answered: &Answered,
+    answered: &PollAnswer,
     answer: &Answer<'_>,
     word: &str,
     place: usize,
 ) {
-    same(rt, (place, told(answered)), (place, wanted(answer)), word);
+    same(
+        rt,
+        (place, answer_of(answered)),
+        (place, wanted_of(answer)),
+        word,
+    );
 }
 
 /// The frame's type number and payload.

@@ -1,6 +1,6 @@
 //! Streams in both directions that this end opened.
 use crate::reads::{FRAMES_OF_BOTH, Wanted, check_buffer, check_reads};
-use crate::same::same;
+use crate::same::{fail, same};
 use std::borrow::CowSlice;
 use std::process::Abort;
 use std::test::Fail;
@@ -100,21 +100,21 @@ fn a_frame_that_was_written_whole_ends_upgrading(rt: HostRuntime) {
 }
 
 /// The answer of an upgrade.
-type Upgraded = Result<StreamBiLocalWT, (StreamBiLocalH3, PutError)>;
+type UpgradeAnswer = Result<StreamBiLocalWT, (StreamBiLocalH3, PutError)>;
 
 /// The stream that was handed back, and why.
-fn handed_back(upgraded: Upgraded) -> Result<(StreamBiLocalH3, PutError), Fail> {
+fn refusal_of(upgraded: UpgradeAnswer) -> Result<(StreamBiLocalH3, PutError), Fail> {
     match upgraded {
-        Ok(_) => Err("too little room")?,
+        Ok(_) => fail("too little room"),
         Err(back) => Ok(back),
     }
 }
 
 /// The session of the stream that was upgraded.
-fn session_of(upgraded: Upgraded) -> Result<SessionId, Fail> {
+fn session_of(upgraded: UpgradeAnswer) -> Result<SessionId, Fail> {
     match upgraded {
         Ok(stream) => Ok(stream.session_id()),
-        Err(_) => Err("there is room")?,
+        Err(_) => fail("there is room"),
     }
 }
 
@@ -125,7 +125,7 @@ fn it_is_upgraded_where_there_is_room(rt: HostRuntime) -> Result<(), Fail> {
     same(&rt, stream.upgrade_size(session), 3, "size");
     let mut buffer = [0; 2];
     let mut writer = BufferWriter::new(&mut buffer);
-    let (stream, error) = handed_back(stream.upgrade(session, &mut writer))?;
+    let (stream, error) = refusal_of(stream.upgrade(session, &mut writer))?;
     same(
         &rt,
         (error, writer.buffer_written()),

@@ -1,14 +1,14 @@
 //! Reading frames from bytes that the caller holds, however they are cut.
-use crate::answers::{number_and_payload, padded};
+use crate::answers::{PollAnswer, number_and_payload, pad};
 use crate::reads::Reads;
 use crate::same::same;
-use crate::session::opened;
-use crate::uniremote::upgraded;
+use crate::session::open_session;
+use crate::uniremote::accept_header;
 use std::process::Abort;
 use std::test::Fail;
 use wtransport_proto::bytes::{IoReadError as Fault, Polled};
 use wtransport_proto::error::ErrorCode;
-use wtransport_proto::frame::{Frame, FrameOwned, FrameReading};
+use wtransport_proto::frame::{Frame, FrameReading};
 use wtransport_proto::stream::bilocal::StreamBiLocalQuic;
 use wtransport_proto::stream::biremote::StreamBiRemoteQuic;
 use wtransport_proto::stream::{CursorStep, FrameCursor, IoReadError, StreamRole};
@@ -16,6 +16,9 @@ use wtransport_proto::stream::{CursorStep, FrameCursor, IoReadError, StreamRole}
 /// How the reading of a stream ends: cleanly, or with the code of its first fault. An end inside a
 /// frame is the fault `Frame` (RFC 9114, section 7.1).
 type Ending = Result<(), ErrorCode>;
+
+/// A frame by its type and payload, or how the stream ends.
+type Next<'a> = Result<(u64, &'a [u8]), Ending>;
 
 /// The bytes of a stream, its frames by their type and payload, how they end, and what the row
 /// shows.
@@ -51,26 +54,49 @@ impl<'a> Coming<'a> {
         self.bytes.get(self.consumed..self.come).unwrap_or(&[])
     }
 
-    /// The next frame by its type and payload, or how the stream ends. Bytes come so many at a
-    /// time.
-    fn next<R: Abort>(&mut self, rt: &R, size: usize) -> Result<(u64, &'a [u8]), Ending> {
+    /// One call over the bytes that the caller holds: a frame by its type and payload, a fault, or
+    /// nothing.
+    fn step(&mut self) -> Option<Next<'a>> {
+        let held = self.held();
+        match self.cursor.next(held) {
+            CursorStep::Frame(place) => {
+                self.consumed = self.consumed.saturating_add(place.end);
+                Some(Ok((place.kind.id().into_inner(), place.payload(held))))
+            }
+            CursorStep::Fault(code) => Some(Err(Err(code))),
+            CursorStep::More(n) => {
+                self.consumed = self.consumed.saturating_add(n);
+                None
+            }
+        }
+    }
+
+    /// So many bytes come. If all have come, this is how the stream ends.
+    fn receive(&mut self, size: usize) -> Option<Ending> {
+        if self.come >= self.bytes.len() {
+            return Some(self.cursor.finish(self.held()));
+        }
+        self.come = self.come.saturating_add(size).min(self.bytes.len());
+        None
+    }
+
+    /// The next frame, or how the stream ends. Bytes come so many at a time.
+    fn next<R: Abort>(&mut self, rt: &R, size: usize) -> Next<'a> {
         for _turn in 0..10000 {
-            let held = self.held();
-            match self.cursor.next(held) {
-                CursorStep::Frame(place) => {
-                    self.consumed = self.consumed.saturating_add(place.end);
-                    return Ok((place.kind.id().into_inner(), place.payload(held)));
-                }
-                CursorStep::Fault(code) => return Err(Err(code)),
-                CursorStep::More(n) => self.consumed = self.consumed.saturating_add(n),
+            if let Some(found) = self.step() {
+                return found;
             }
             assert!(rt; self.held().len() <= 4111);
-            if self.come >= self.bytes.len() {
-                return Err(self.cursor.finish(self.held()));
+            if let Some(ending) = self.receive(size) {
+                return Err(ending);
             }
-            self.come = self.come.saturating_add(size).min(self.bytes.len());
         }
         Err(Err(ErrorCode::NoError))
+    }
+
+    /// The next frame is this one, or the stream ends so.
+    fn check<R: Abort>(&mut self, rt: &R, size: usize, wanted: Next<'_>, shows: &str) {
+        same(rt, (self.next(rt, size), size), (wanted, size), shows);
     }
 }
 
@@ -85,60 +111,88 @@ fn check_cut<R: Abort>(
 ) {
     let mut coming = Coming::new(bytes, role);
     for frame in wanted.0 {
-        same(rt, (coming.next(rt, size), size), (Ok(*frame), size), shows);
+        coming.check(rt, size, Ok(*frame), shows);
     }
-    let came = coming.next(rt, size);
-    same(rt, (came, size), (Err(wanted.1), size), shows);
+    coming.check(rt, size, Err(wanted.1), shows);
 }
 
-/// The next frame that is polled, or how the stream ends.
+/// What one poll answered, as a frame or an end. Where it is neither, it is what no row wants.
+fn next_of(answered: &PollAnswer) -> Next<'_> {
+    match answered {
+        Polled::Ready(Ok(frame)) => Ok(number_and_payload(frame)),
+        Polled::Ready(Err(IoReadError::H3(code))) => Err(Err(*code)),
+        Polled::Ready(Err(IoReadError::IO(Fault::ImmediateFin))) => Err(Ok(())),
+        _ => Err(Err(ErrorCode::NoError)),
+    }
+}
+
+/// The next answer of a poll, but that a frame was skipped or that allocation failed.
 fn poll_next<K: Reads>(
     stream: &mut K,
     reading: &mut FrameReading,
     bytes: &mut &[u8],
-) -> Result<FrameOwned, Ending> {
+) -> PollAnswer {
     for _turn in 0..20 {
         match stream.poll(reading, bytes) {
-            Polled::Ready(Ok(frame)) => return Ok(frame),
-            Polled::Ready(Err(IoReadError::IO(Fault::ImmediateFin))) => return Err(Ok(())),
-            Polled::Ready(Err(IoReadError::H3(code))) => return Err(Err(code)),
-            _ => {}
+            Polled::Again | Polled::NoMemory => {}
+            answered => return answered,
         }
     }
-    Err(Err(ErrorCode::NoError))
+    Polled::Pending
 }
 
-/// What was polled: a frame by its type and payload.
-fn frame_of(polled: &Result<FrameOwned, Ending>) -> Result<(u64, &[u8]), Ending> {
-    match polled {
-        Ok(frame) => Ok(number_and_payload(frame)),
-        Err(ending) => Err(*ending),
-    }
-}
-
-/// The polls of the stream read these frames, and then this ending.
-fn check_polled<R: Abort, K: Reads>(
+/// The next frame that is polled is this one, or the stream ends so.
+fn check_next<R: Abort, K: Reads>(
     rt: &R,
     stream: &mut K,
     reading: &mut FrameReading,
+    bytes: &mut &[u8],
+    wanted: Next<'_>,
+    shows: &str,
+) {
+    let answered = poll_next(stream, reading, bytes);
+    same(rt, next_of(&answered), wanted, shows);
+}
+
+/// The polls of the stream read these frames, and then this ending.
+fn check_polled<R: Abort + AllocGlobal, K: Reads>(
+    rt: &R,
+    stream: &mut K,
     mut bytes: &[u8],
     wanted: (&[(u64, &[u8])], Ending),
     shows: &str,
 ) {
+    let mut reading = Frame::read_async(rt.alloc());
     for frame in wanted.0 {
-        let polled = poll_next(stream, reading, &mut bytes);
-        same(rt, frame_of(&polled), Ok(*frame), shows);
+        check_next(rt, stream, &mut reading, &mut bytes, Ok(*frame), shows);
     }
-    let polled = poll_next(stream, reading, &mut bytes);
-    same(rt, frame_of(&polled), Err(wanted.1), shows);
+    check_next(rt, stream, &mut reading, &mut bytes, Err(wanted.1), shows);
+}
+
+/// The stream has these frames and this ending, cut in pieces of each size.
+fn check_cuts<R: Abort>(
+    rt: &R,
+    role: StreamRole,
+    bytes: &[u8],
+    wanted: (&[(u64, &[u8])], Ending),
+    shows: &str,
+) {
+    for size in 1..=bytes.len() {
+        check_cut(rt, role, bytes, wanted, size, shows);
+    }
+}
+
+/// The polls of the stream read each row.
+fn check_polled_rows<R: Abort + AllocGlobal, K: Reads>(rt: &R, stream: &mut K, rows: &[Row]) {
+    for (bytes, frames, ending, shows) in rows {
+        check_polled(rt, stream, bytes, (frames, *ending), shows);
+    }
 }
 
 /// Each row, cut in pieces of each size.
 fn check_rows<R: Abort>(rt: &R, role: StreamRole, rows: &[Row]) {
     for (bytes, frames, ending, shows) in rows {
-        for size in 1..=bytes.len() {
-            check_cut(rt, role, bytes, (frames, *ending), size, shows);
-        }
+        check_cuts(rt, role, bytes, (frames, *ending), shows);
     }
 }
 
@@ -231,15 +285,7 @@ fn a_stream_opened_there_is_read_however_cut(rt: HostRuntime) {
 fn a_stream_opened_there_is_polled_so(rt: HostRuntime) {
     for (bytes, frames, ending, shows) in &OPENED_THERE {
         let mut stream = StreamBiRemoteQuic::accept_bi().upgrade();
-        let mut reading = Frame::read_async(rt.alloc());
-        check_polled(
-            &rt,
-            &mut stream,
-            &mut reading,
-            bytes,
-            (frames, *ending),
-            shows,
-        );
+        check_polled(&rt, &mut stream, bytes, (frames, *ending), shows);
     }
 }
 
@@ -281,14 +327,9 @@ fn streams_opened_here_are_read_however_cut(rt: HostRuntime) {
 #[test]
 fn streams_opened_here_are_polled_so(rt: HostRuntime) -> Result<(), Fail> {
     let mut local = StreamBiLocalQuic::open_bi().upgrade();
-    let mut session = opened(rt.alloc())?;
-    for (bytes, frames, ending, shows) in &OPENED_HERE {
-        let wanted = (*frames, *ending);
-        let mut reading = Frame::read_async(rt.alloc());
-        check_polled(&rt, &mut local, &mut reading, bytes, wanted, shows);
-        let mut reading = Frame::read_async(rt.alloc());
-        check_polled(&rt, &mut session, &mut reading, bytes, wanted, shows);
-    }
+    let mut session = open_session(rt.alloc())?;
+    check_polled_rows(&rt, &mut local, &OPENED_HERE);
+    check_polled_rows(&rt, &mut session, &OPENED_HERE);
     Ok(())
 }
 
@@ -324,18 +365,8 @@ fn a_control_stream_is_read_however_cut(rt: HostRuntime) {
 
 #[test]
 fn a_control_stream_is_polled_so(rt: HostRuntime) -> Result<(), Fail> {
-    let mut stream = upgraded(&[0x00])?;
-    for (bytes, frames, ending, shows) in &CONTROL {
-        let mut reading = Frame::read_async(rt.alloc());
-        check_polled(
-            &rt,
-            &mut stream,
-            &mut reading,
-            bytes,
-            (frames, *ending),
-            shows,
-        );
-    }
+    let mut stream = accept_header(&[0x00])?;
+    check_polled_rows(&rt, &mut stream, &CONTROL);
     Ok(())
 }
 
@@ -344,7 +375,7 @@ static SIZES: [usize; 9] = [1, 2, 7, 100, 4096, 4111, 4999, 5003, 9105];
 
 #[test]
 fn long_frames_are_read_however_cut(rt: HostRuntime) -> Result<(), Fail> {
-    let mut bytes = padded(rt.alloc(), b"\x0a\x53\x88", 5003)?;
+    let mut bytes = pad(rt.alloc(), b"\x0a\x53\x88", 5003)?;
     bytes.extend_from_slice(b"\x00\x50\x00")?;
     bytes.resize(9102, 7)?;
     bytes.extend_from_slice(b"\x01\x01a")?;

@@ -1,5 +1,6 @@
 //! Single calls of a cursor over bytes, and the rule of each stream.
 use crate::same::same;
+use std::process::Abort;
 use wtransport_proto::error::ErrorCode;
 use wtransport_proto::frame::FrameKind;
 use wtransport_proto::ids::SessionId;
@@ -129,15 +130,21 @@ static STEPS: [StepRow; 15] = [
     ),
 ];
 
+/// One call answers by its row.
+fn check_step<R: Abort>(rt: &R, row: &StepRow) {
+    let (before, bytes, answer, after, shows) = *row;
+    let role = StreamRole::BiRemote;
+    let (first, due) = before;
+    let mut cursor = FrameCursor { role, first, due };
+    same(rt, step_of(cursor.next(bytes)), answer, shows);
+    let (first, due) = after;
+    same(rt, cursor, FrameCursor { role, first, due }, shows);
+}
+
 #[test]
 fn one_call_answers_by_the_first_frame(rt: HostRuntime) {
-    let role = StreamRole::BiRemote;
-    for (before, bytes, answer, after, shows) in &STEPS {
-        let (first, due) = *before;
-        let mut cursor = FrameCursor { role, first, due };
-        same(&rt, step_of(cursor.next(bytes)), *answer, shows);
-        let (first, due) = *after;
-        same(&rt, cursor, FrameCursor { role, first, due }, shows);
+    for row in &STEPS {
+        check_step(&rt, row);
     }
 }
 

@@ -1,8 +1,8 @@
 //! Driving streams.
-use crate::answers::{number_and_payload, padded};
+use crate::answers::{number_and_payload, pad};
 use crate::same::same;
-use crate::session::opened;
-use crate::uniremote::upgraded;
+use crate::session::open_session;
+use crate::uniremote::accept_header;
 use std::alloc::{AllocError, Global};
 use std::process::Abort;
 use std::test::Fail;
@@ -19,7 +19,7 @@ const FIN: Driven = Driven::Ended(IoReadError::IO(Fault::ImmediateFin));
 const CUT: Driven = Driven::Ended(IoReadError::H3(ErrorCode::Frame));
 
 /// Drives the stream; where allocation failed, once more.
-fn driven<K: ReadsFrames, S: AsyncRead>(
+fn drive_again<K: ReadsFrames, S: AsyncRead>(
     stream: &mut K,
     reading: &mut FrameReading,
     source: &mut S,
@@ -37,8 +37,16 @@ fn driven<K: ReadsFrames, S: AsyncRead>(
 /// The frames put out are these, by type number and payload.
 fn check_frames<R: Abort>(rt: &R, out: &Vec<FrameOwned>, frames: &[(u64, &[u8])]) {
     same(rt, out.len(), frames.len(), "frames put out");
-    for (frame, wanted) in out.iter().zip(frames) {
-        same(rt, number_and_payload(frame), *wanted, "put out");
+    for (place, wanted) in frames.iter().enumerate() {
+        same(rt, frame_at(out, place), Some(*wanted), place);
+    }
+}
+
+/// The frame that was put out at this place, by type number and payload.
+fn frame_at(out: &Vec<FrameOwned>, place: usize) -> Option<(u64, &[u8])> {
+    match out.get(place) {
+        Some(frame) => Some(number_and_payload(frame)),
+        None => None,
     }
 }
 
@@ -62,7 +70,7 @@ impl Driving {
 
     /// Drives it on, with so many polls.
     fn on<S: AsyncRead>(&mut self, source: &mut S, polls: u32) -> Driven {
-        driven(
+        drive_again(
             &mut self.stream,
             &mut self.reading,
             source,
@@ -132,7 +140,7 @@ fn a_cut_unknown_frame_ends_it(rt: HostRuntime) {
 
 /// An unknown frame of 8192 bytes and a data frame of none.
 fn unknown_then_data(alloc: Global) -> Result<Vec<u8>, AllocError> {
-    padded(alloc, &[0x0a, 0x60, 0x00], 3 + 8192 + 2)
+    pad(alloc, &[0x0a, 0x60, 0x00], 3 + 8192 + 2)
 }
 
 /// How many polls are made, how many frames were put out then, and how many bytes are left.
@@ -206,7 +214,7 @@ fn check_driven<R: Abort + AllocGlobal, K: ReadsFrames>(
     assert!(rt; stream.can_read());
     same(
         rt,
-        driven(stream, &mut reading, &mut source, &mut out, 10),
+        drive_again(stream, &mut reading, &mut source, &mut out, 10),
         Driven::Ended(fault),
         word,
     );
@@ -232,7 +240,7 @@ fn each_reading_state_is_driven(rt: HostRuntime) -> Result<(), Fail> {
     );
     let mut stream = StreamBiLocalQuic::open_bi().upgrade();
     check_driven(&rt, &mut stream, session, &[], UNEXPECTED, "opened here");
-    let mut stream = opened(rt.alloc())?;
+    let mut stream = open_session(rt.alloc())?;
     let headers = b"\x01\x01a\x04\x00";
     check_driven(
         &rt,
@@ -242,7 +250,7 @@ fn each_reading_state_is_driven(rt: HostRuntime) -> Result<(), Fail> {
         UNEXPECTED,
         "of a session",
     );
-    let mut stream = upgraded(&[0x00])?;
+    let mut stream = accept_header(&[0x00])?;
     let settings = b"\x04\x00\x07\x01\x00\x04\x00";
     check_driven(
         &rt,

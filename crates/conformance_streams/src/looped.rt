@@ -1,9 +1,9 @@
 //! Reading in a loop. What each poll requires holds after the one before it, so a struct keeps it.
 ghost use Rattle.wtransport_proto.specs.Streams.{CanRead};
 
-use crate::answers::{Answer, Answered, check_answer};
+use crate::answers::{Answer, PollAnswer, check_answer};
 use crate::same::same;
-use crate::uniremote::upgraded;
+use crate::uniremote::accept_header;
 use std::test::Fail;
 use test_io::{End, Trickle};
 use wtransport_proto::bytes::{AsyncRead, Polled};
@@ -22,7 +22,7 @@ struct FromOne {
 }
 
 /// Reads the next frame, while the source waits.
-fn read_one<S: AsyncRead>(receiving: &mut FromOne, source: &mut S) -> Answered {
+fn read_one<S: AsyncRead>(receiving: &mut FromOne, source: &mut S) -> PollAnswer {
     for _turn in 0..TURNS {
         match receiving
             .stream
@@ -37,7 +37,7 @@ fn read_one<S: AsyncRead>(receiving: &mut FromOne, source: &mut S) -> Answered {
 
 #[test]
 fn settings_are_read_in_a_loop(rt: HostRuntime) -> Result<(), Fail> {
-    let stream = upgraded(&[0x00])?;
+    let stream = accept_header(&[0x00])?;
     if !stream.can_read() {
         return Err("frames may be read")?;
     }

@@ -1,5 +1,5 @@
 //! Reading frames from streams, poll by poll.
-use crate::answers::{Answer, Answered, CUT, ENDS, FIN, check_answer, padded};
+use crate::answers::{Answer, CUT, ENDS, FIN, PollAnswer, check_answer, pad};
 use crate::reads::{check_poll, check_polls, check_source};
 use crate::same::same;
 use std::alloc::AllocError;
@@ -148,7 +148,7 @@ fn check_long<R: Abort + AllocGlobal>(
     answers: &[Answer<'_>],
     word: &str,
 ) -> Result<(), AllocError> {
-    let bytes = padded(rt.alloc(), front, len)?;
+    let bytes = pad(rt.alloc(), front, len)?;
     let mut stream = StreamBiRemoteQuic::accept_bi().upgrade();
     check_source(rt, &mut stream, bytes.as_slice(), answers, word);
     Ok(())
@@ -231,11 +231,11 @@ fn last_answer(len: usize, end: End) -> Answer<'static> {
 }
 
 /// The next answer but that the source is not ready, or that allocation failed.
-fn answered(
+fn next_answer(
     stream: &mut StreamBiRemoteH3,
     reading: &mut FrameReading,
     source: &mut Trickle<'_>,
-) -> Answered {
+) -> PollAnswer {
     for _turn in 0..20 {
         match stream.read_frame_async(reading, source) {
             Polled::Pending | Polled::NoMemory => {}
@@ -255,7 +255,7 @@ fn check_next<R: Abort>(
     place: (&str, usize),
 ) {
     let (word, len) = place;
-    let came = answered(stream, reading, source);
+    let came = next_answer(stream, reading, source);
     check_answer(rt, &came, &answer, word, len);
 }
 

@@ -1,5 +1,5 @@
 //! Reading frames from a stream of each kind, so that one check goes over all of them.
-use crate::answers::{Answer, Answered, check_answer, number_and_payload};
+use crate::answers::{Answer, PollAnswer, check_answer, number_and_payload};
 use crate::same::same;
 use std::process::Abort;
 use wtransport_proto::bytes::{AsyncRead, BufferReader, Polled};
@@ -22,7 +22,7 @@ pub(crate) trait Reads {
 
     fn read_slice<'a>(&mut self, rest: &mut &'a [u8]) -> Read<'a>;
 
-    fn poll<S: AsyncRead>(&mut self, reading: &mut FrameReading, source: &mut S) -> Answered;
+    fn poll<S: AsyncRead>(&mut self, reading: &mut FrameReading, source: &mut S) -> PollAnswer;
 }
 
 impl Reads for StreamBiRemoteH3 {
@@ -34,7 +34,7 @@ impl Reads for StreamBiRemoteH3 {
         self.read_frame(rest)
     }
 
-    fn poll<S: AsyncRead>(&mut self, reading: &mut FrameReading, source: &mut S) -> Answered {
+    fn poll<S: AsyncRead>(&mut self, reading: &mut FrameReading, source: &mut S) -> PollAnswer {
         self.read_frame_async(reading, source)
     }
 }
@@ -48,7 +48,7 @@ impl Reads for StreamBiLocalH3 {
         self.read_frame(rest)
     }
 
-    fn poll<S: AsyncRead>(&mut self, reading: &mut FrameReading, source: &mut S) -> Answered {
+    fn poll<S: AsyncRead>(&mut self, reading: &mut FrameReading, source: &mut S) -> PollAnswer {
         self.read_frame_async(reading, source)
     }
 }
@@ -62,7 +62,7 @@ impl Reads for StreamSession {
         self.read_frame(rest)
     }
 
-    fn poll<S: AsyncRead>(&mut self, reading: &mut FrameReading, source: &mut S) -> Answered {
+    fn poll<S: AsyncRead>(&mut self, reading: &mut FrameReading, source: &mut S) -> PollAnswer {
         self.read_frame_async(reading, source)
     }
 }
@@ -83,7 +83,7 @@ impl Reads for StreamUniRemoteH3 {
         self.read_frame(rest)
     }
 
-    fn poll<S: AsyncRead>(&mut self, reading: &mut FrameReading, source: &mut S) -> Answered {
+    fn poll<S: AsyncRead>(&mut self, reading: &mut FrameReading, source: &mut S) -> PollAnswer {
         if !self.can_read() {
             return Polled::NoMemory;
         }
@@ -92,7 +92,7 @@ impl Reads for StreamUniRemoteH3 {
 }
 
 /// The frame that was read, by its type number and payload.
-fn told<'a>(read: &'a Read<'_>) -> Wanted<'a> {
+fn answer_of<'a>(read: &'a Read<'_>) -> Wanted<'a> {
     match read {
         Ok(Some(frame)) => Ok(Some(number_and_payload(frame))),
         Ok(None) => Ok(None),
@@ -110,7 +110,12 @@ pub(crate) fn check_buffer<R: Abort, K: Reads>(
     shows: &str,
 ) {
     let read = stream.read_buffer(reader);
-    same(rt, (told(&read), reader.offset()), (wanted, offset), shows);
+    same(
+        rt,
+        (answer_of(&read), reader.offset()),
+        (wanted, offset),
+        shows,
+    );
 }
 
 /// The next read from the slice answers this.
@@ -122,7 +127,7 @@ pub(crate) fn check_slice<R: Abort, K: Reads>(
     shows: &str,
 ) {
     let read = stream.read_slice(bytes);
-    same(rt, told(&read), wanted, shows);
+    same(rt, answer_of(&read), wanted, shows);
 }
 
 /// The next read from the slice answers this, and leaves these bytes.

@@ -2,8 +2,8 @@
 use crate::answers::{Answer, CUT, FIN};
 use crate::reads::{PollRow, check_source, check_sources};
 use crate::same::same;
-use crate::session::opened;
-use crate::uniremote::upgraded;
+use crate::session::open_session;
+use crate::uniremote::accept_header;
 use std::process::Abort;
 use std::test::Fail;
 use wtransport_proto::error::ErrorCode;
@@ -93,7 +93,7 @@ fn a_stream_opened_here_keeps_its_rule(rt: HostRuntime) {
 
 #[test]
 fn the_stream_of_a_session_keeps_its_rule(rt: HostRuntime) -> Result<(), Fail> {
-    check_sources(&rt, &mut opened(rt.alloc())?, &OPENED_HERE);
+    check_sources(&rt, &mut open_session(rt.alloc())?, &OPENED_HERE);
     Ok(())
 }
 
@@ -124,6 +124,6 @@ static CONTROL: [PollRow; 8] = [
 
 #[test]
 fn a_control_stream_keeps_its_rule(rt: HostRuntime) -> Result<(), Fail> {
-    check_sources(&rt, &mut upgraded(&[0x00])?, &CONTROL);
+    check_sources(&rt, &mut accept_header(&[0x00])?, &CONTROL);
     Ok(())
 }

@@ -12,14 +12,14 @@ use wtransport_proto::stream::biremote::StreamBiRemoteQuic;
 use wtransport_proto::stream::session::StreamSession;
 
 /// The stream of a session, opened at this end.
-pub(crate) fn opened(alloc: Global) -> Result<StreamSession, UrlParseError> {
+pub(crate) fn open_session(alloc: Global) -> Result<StreamSession, UrlParseError> {
     let request = SessionRequest::new(alloc, "https://example.com/a?b")?;
     Ok(StreamBiLocalQuic::open_bi().upgrade().into_session(request))
 }
 
 #[test]
 fn it_keeps_its_request(rt: HostRuntime) -> Result<(), Fail> {
-    let stream = opened(rt.alloc())?;
+    let stream = open_session(rt.alloc())?;
     let request = stream.request();
     let came = (request.authority(), request.path());
     same(&rt, came, ("example.com", "/a?b"), "opened here");
@@ -38,13 +38,13 @@ fn it_keeps_its_request(rt: HostRuntime) -> Result<(), Fail> {
 
 #[test]
 fn frames_are_read_by_the_rule(rt: HostRuntime) -> Result<(), Fail> {
-    check_reads(&rt, &mut opened(rt.alloc())?, &FRAMES_OF_BOTH);
+    check_reads(&rt, &mut open_session(rt.alloc())?, &FRAMES_OF_BOTH);
     Ok(())
 }
 
 #[test]
 fn frames_are_written(rt: HostRuntime) -> Result<(), Fail> {
-    let stream = opened(rt.alloc())?;
+    let stream = open_session(rt.alloc())?;
     let mut buffer = [0; 4];
     let mut writer = BufferWriter::new(&mut buffer);
     stream.write_frame_to_buffer(Frame::new_data(CowSlice::Borrowed(b"a")), &mut writer)?;

@@ -1,18 +1,17 @@
 //! What every state of a stream does: a reading state over sources that wait, end, are reset or
 //! disconnect, and a writing state into a vector whose allocation fails.
-use crate::answers::{Answered, ENDS};
+use crate::answers::{ENDS, PollAnswer};
 use crate::reads::Reads;
 use crate::same::same;
-use crate::session::opened;
-use crate::uniremote::upgraded;
-use std::alloc::{AllocError, Global};
+use crate::session::open_session;
+use crate::uniremote::accept_header;
 use std::borrow::CowSlice;
 use std::process::Abort;
 use std::test::Fail;
 use test_io::{End, Trickle};
 use wtransport_proto::bytes::{BufferWriter, IoReadError as Fault, Polled, PutError};
 use wtransport_proto::error::ErrorCode;
-use wtransport_proto::frame::Frame;
+use wtransport_proto::frame::{Frame, FrameReading};
 use wtransport_proto::stream::IoReadError;
 use wtransport_proto::stream::bilocal::{StreamBiLocalH3, StreamBiLocalQuic};
 use wtransport_proto::stream::biremote::{StreamBiRemoteH3, StreamBiRemoteQuic};
@@ -26,16 +25,24 @@ const BYTES: &[u8] = b"\x21\x01a\x0a\x01x\x21\x00";
 
 /// How many of the bytes come, what the polls answer until the end shows, and whether the bytes end
 /// with a whole frame. Each byte, and the end, is waited for once.
-static ROWS: [(usize, &str, bool); 9] = [
-    (0, ".", true),
-    (1, "..", false),
-    (2, "...", false),
-    (3, "...f.", true),
-    (4, "...f..", false),
-    (5, "...f...", false),
-    (6, "...f...a.", true),
-    (7, "...f...a..", false),
-    (8, "...f...a..f.", true),
+static ROWS: [(usize, &[&str], bool); 9] = [
+    (0, &["."], true),
+    (1, &[".", "."], false),
+    (2, &[".", ".", "."], false),
+    (3, &[".", ".", ".", "f", "."], true),
+    (4, &[".", ".", ".", "f", ".", "."], false),
+    (5, &[".", ".", ".", "f", ".", ".", "."], false),
+    (6, &[".", ".", ".", "f", ".", ".", ".", "a", "."], true),
+    (
+        7,
+        &[".", ".", ".", "f", ".", ".", ".", "a", ".", "."],
+        false,
+    ),
+    (
+        8,
+        &[".", ".", ".", "f", ".", ".", ".", "a", ".", ".", "f", "."],
+        true,
+    ),
 ];
 
 /// What a fault is called.
@@ -50,7 +57,7 @@ fn fault_word(fault: &IoReadError) -> &'static str {
 }
 
 /// What an answer is called.
-fn answer_word(answered: &Answered) -> &'static str {
+fn answer_word(answered: &PollAnswer) -> &'static str {
     match answered {
         Polled::Ready(Ok(_)) => "f",
         Polled::Ready(Err(fault)) => fault_word(fault),
@@ -70,56 +77,57 @@ fn last_word(end: End, is_whole: bool) -> &'static str {
     }
 }
 
-/// What so many polls answer over the first so many of the bytes, which end so.
-fn words<K: Reads>(
-    alloc: Global,
+/// The next poll answers this.
+fn check_word<R: Abort, K: Reads>(
+    rt: &R,
     stream: &mut K,
+    reading: &mut FrameReading,
+    source: &mut Trickle<'_>,
+    wanted: &str,
     len: usize,
-    end: End,
-    polls: usize,
-) -> Result<String, AllocError> {
-    let mut words = String::new(alloc);
-    let mut reading = Frame::read_async(alloc);
-    let mut source = Trickle::new(BYTES.get(..len).unwrap_or(&[]), end);
-    for _poll in 0..polls {
-        let answered = stream.poll(&mut reading, &mut source);
-        words.push_str(answer_word(&answered))?;
-    }
-    Ok(words)
+) {
+    let answered = stream.poll(reading, source);
+    same(rt, answer_word(&answered), wanted, len);
 }
 
 /// The stream answers one row by the table, and at the end the same again.
 fn check_row<R: Abort + AllocGlobal, K: Reads>(
     rt: &R,
     stream: &mut K,
-    row: (usize, &str, bool),
+    row: (usize, &[&str], bool),
     end: End,
-) -> Result<(), AllocError> {
-    let (len, front, is_whole) = row;
+) {
+    let (len, words, is_whole) = row;
+    let mut reading = Frame::read_async(rt.alloc());
+    let mut source = Trickle::new(BYTES.get(..len).unwrap_or(&[]), end);
+    for word in words {
+        check_word(rt, stream, &mut reading, &mut source, word, len);
+    }
     let last = last_word(end, is_whole);
-    let polls = front.len().saturating_add(2);
-    let came = words(rt.alloc(), stream, len, end, polls)?;
-    let wanted = format!(in rt.alloc(); "{front}{last}{last}")?;
-    same(rt, came.as_str(), wanted.as_str(), len);
-    Ok(())
+    check_word(rt, stream, &mut reading, &mut source, last, len);
+    check_word(rt, stream, &mut reading, &mut source, last, len);
+}
+
+/// The stream answers every row by the table, over this end.
+fn check_end<R: Abort + AllocGlobal, K: Reads>(rt: &R, stream: &mut K, end: End) {
+    for row in &ROWS {
+        check_row(rt, stream, *row, end);
+    }
 }
 
 /// The stream answers every row by the table, over each end.
-fn check_rows<R: Abort + AllocGlobal, K: Reads>(rt: &R, stream: &mut K) -> Result<(), AllocError> {
-    for row in &ROWS {
-        for end in &ENDS {
-            check_row(rt, stream, *row, *end)?;
-        }
+fn check_rows<R: Abort + AllocGlobal, K: Reads>(rt: &R, stream: &mut K) {
+    for end in &ENDS {
+        check_end(rt, stream, *end);
     }
-    Ok(())
 }
 
 #[test]
 fn each_reading_state_waits_and_stops(rt: HostRuntime) -> Result<(), Fail> {
-    check_rows(&rt, &mut StreamBiRemoteQuic::accept_bi().upgrade())?;
-    check_rows(&rt, &mut StreamBiLocalQuic::open_bi().upgrade())?;
-    check_rows(&rt, &mut opened(rt.alloc())?)?;
-    check_rows(&rt, &mut upgraded(&[0x00])?)?;
+    check_rows(&rt, &mut StreamBiRemoteQuic::accept_bi().upgrade());
+    check_rows(&rt, &mut StreamBiLocalQuic::open_bi().upgrade());
+    check_rows(&rt, &mut open_session(rt.alloc())?);
+    check_rows(&rt, &mut accept_header(&[0x00])?);
     Ok(())
 }
 
@@ -212,9 +220,9 @@ fn refused_memory_leaves_a_stream_opened_here(rt: HostRuntime) -> Result<(), Put
 fn refused_memory_writes_whole_parts_to_the_stream_of_a_session(
     rt: HostRuntime,
 ) -> Result<(), Fail> {
-    let mut stream = match opened(rt.alloc()) {
+    let mut stream = match open_session(rt.alloc()) {
         Ok(stream) => stream,
-        Err(_) => opened(rt.alloc())?,
+        Err(_) => open_session(rt.alloc())?,
     };
     check_refused(&rt, &mut stream)?;
     Ok(())

@@ -1,6 +1,6 @@
 //! Upgrading streams, poll by poll.
 use crate::answers::{ENDS, session_4};
-use crate::same::same;
+use crate::same::{fail, same};
 use std::process::Abort;
 use std::test::Fail;
 use test_io::{End, Paced, Trickle, stops_after};
@@ -13,34 +13,34 @@ use wtransport_proto::stream::{BiUpgrading, IoReadError, UniAccepting, UniUpgrad
 use wtransport_proto::stream_header::{StreamHeader, StreamKind};
 
 /// The state, handed back since its source or sink was not ready.
-fn pending<P: Drop, T: Drop, E: Drop>(stepped: Stepped<P, T, E>) -> Result<P, Fail> {
+fn take_pending<P: Drop, T: Drop, E: Drop>(stepped: Stepped<P, T, E>) -> Result<P, Fail> {
     match stepped {
         Stepped::Pending(state) => Ok(state),
-        _ => Err("not ready")?,
+        _ => fail("not ready"),
     }
 }
 
 /// The state, handed back since it failed, and the fault.
-fn failed<P: Drop, T: Drop, E: Drop>(stepped: Stepped<P, T, E>) -> Result<(P, E), Fail> {
+fn take_failed<P: Drop, T: Drop, E: Drop>(stepped: Stepped<P, T, E>) -> Result<(P, E), Fail> {
     match stepped {
         Stepped::Failed(state, fault) => Ok((state, fault)),
-        _ => Err("a fault")?,
+        _ => fail("a fault"),
     }
 }
 
 /// What the state was to make.
-fn done<P: Drop, T: Drop, E: Drop>(stepped: Stepped<P, T, E>) -> Result<T, Fail> {
+fn take_result<P: Drop, T: Drop, E: Drop>(stepped: Stepped<P, T, E>) -> Result<T, Fail> {
     match stepped {
         Stepped::Done(made) => Ok(made),
-        _ => Err("done")?,
+        _ => fail("done"),
     }
 }
 
 /// Polls into the vector until it is done; twice, where allocation failed.
-fn session_made(upgrading: BiUpgrading, vector: &mut Vec<u8>) -> Result<StreamBiLocalWT, Fail> {
+fn make_session(upgrading: BiUpgrading, vector: &mut Vec<u8>) -> Result<StreamBiLocalWT, Fail> {
     match upgrading.poll(vector) {
-        Stepped::NoMemory(upgrading) => done(upgrading.poll(vector)),
-        stepped => done(stepped),
+        Stepped::NoMemory(upgrading) => take_result(upgrading.poll(vector)),
+        stepped => take_result(stepped),
     }
 }
 
@@ -50,7 +50,7 @@ fn check_bi_stop<R: Abort + AllocGlobal>(rt: &R, room: usize) -> Result<(), Fail
     let session = session_4()?;
     let stream = StreamBiLocalQuic::open_bi().upgrade();
     let mut sink = Paced::new(rt.alloc(), stops_after(room));
-    let (upgrading, fault) = failed(stream.upgrade_async(session).poll(&mut sink))?;
+    let (upgrading, fault) = take_failed(stream.upgrade_async(session).poll(&mut sink))?;
     let stopped = IoWriteError::Stopped;
     same(
         rt,
@@ -59,7 +59,7 @@ fn check_bi_stop<R: Abort + AllocGlobal>(rt: &R, room: usize) -> Result<(), Fail
         room,
     );
     let mut vector = Vec::new(rt.alloc());
-    let stream = session_made(upgrading, &mut vector)?;
+    let stream = make_session(upgrading, &mut vector)?;
     same(
         rt,
         (Some(vector.as_slice()), stream.session_id()),
@@ -89,12 +89,12 @@ static HALTS: [WriteStep; 4] = [
 fn a_session_frame_waits_for_its_sink(rt: HostRuntime) -> Result<(), Fail> {
     let stream = StreamBiLocalQuic::open_bi().upgrade();
     let mut sink = Paced::new(rt.alloc(), &HALTS);
-    let upgrading = pending(stream.upgrade_async(session_4()?).poll(&mut sink))?;
-    let upgrading = pending(upgrading.poll(&mut sink))?;
+    let upgrading = take_pending(stream.upgrade_async(session_4()?).poll(&mut sink))?;
+    let upgrading = take_pending(upgrading.poll(&mut sink))?;
     same(&rt, sink.output(), [0x40, 0x41].as_slice(), "two bytes");
-    let (upgrading, fault) = failed(upgrading.poll(&mut sink))?;
+    let (upgrading, fault) = take_failed(upgrading.poll(&mut sink))?;
     same(&rt, fault, IoWriteError::NotConnected, "lost");
-    let stream = done(upgrading.poll(&mut sink))?;
+    let stream = take_result(upgrading.poll(&mut sink))?;
     same(
         &rt,
         (sink.output(), stream.session_id()),
@@ -109,7 +109,7 @@ fn refused_memory_hands_back_the_session_frame(rt: HostRuntime) -> Result<(), Fa
     let session = session_4()?;
     let stream = StreamBiLocalQuic::open_bi().upgrade();
     let mut vector = Vec::new(rt.alloc());
-    let stream = session_made(stream.upgrade_async(session), &mut vector)?;
+    let stream = make_session(stream.upgrade_async(session), &mut vector)?;
     same(
         &rt,
         (vector.as_slice(), stream.session_id()),
@@ -120,10 +120,10 @@ fn refused_memory_hands_back_the_session_frame(rt: HostRuntime) -> Result<(), Fa
 }
 
 /// Polls into the vector until it is done; twice, where allocation failed.
-fn header_written(upgrading: UniUpgrading, vector: &mut Vec<u8>) -> Result<StreamUniLocalH3, Fail> {
+fn write_header(upgrading: UniUpgrading, vector: &mut Vec<u8>) -> Result<StreamUniLocalH3, Fail> {
     match upgrading.poll(vector) {
-        Stepped::NoMemory(upgrading) => done(upgrading.poll(vector)),
-        stepped => done(stepped),
+        Stepped::NoMemory(upgrading) => take_result(upgrading.poll(vector)),
+        stepped => take_result(stepped),
     }
 }
 
@@ -133,7 +133,7 @@ fn check_uni_stop<R: Abort + AllocGlobal>(rt: &R, room: usize) -> Result<(), Fai
     let header = StreamHeader::new_webtransport(session_4()?);
     let stream = StreamUniLocalQuic::open_uni();
     let mut sink = Paced::new(rt.alloc(), stops_after(room));
-    let (upgrading, fault) = failed(stream.upgrade_async(header).poll(&mut sink))?;
+    let (upgrading, fault) = take_failed(stream.upgrade_async(header).poll(&mut sink))?;
     let stopped = IoWriteError::Stopped;
     same(
         rt,
@@ -142,7 +142,7 @@ fn check_uni_stop<R: Abort + AllocGlobal>(rt: &R, room: usize) -> Result<(), Fai
         room,
     );
     let mut vector = Vec::new(rt.alloc());
-    let stream = header_written(upgrading, &mut vector)?;
+    let stream = write_header(upgrading, &mut vector)?;
     same(
         rt,
         (Some(vector.as_slice()), stream.session_id()),
@@ -165,12 +165,12 @@ fn a_header_waits_for_its_sink(rt: HostRuntime) -> Result<(), Fail> {
     let header = StreamHeader::new_webtransport(session_4()?);
     let mut sink = Paced::new(rt.alloc(), &HALTS);
     let upgrading = StreamUniLocalQuic::open_uni().upgrade_async(header);
-    let upgrading = pending(upgrading.poll(&mut sink))?;
-    let upgrading = pending(upgrading.poll(&mut sink))?;
+    let upgrading = take_pending(upgrading.poll(&mut sink))?;
+    let upgrading = take_pending(upgrading.poll(&mut sink))?;
     same(&rt, sink.output(), [0x40, 0x54].as_slice(), "two bytes");
-    let (upgrading, fault) = failed(upgrading.poll(&mut sink))?;
+    let (upgrading, fault) = take_failed(upgrading.poll(&mut sink))?;
     same(&rt, fault, IoWriteError::NotConnected, "lost");
-    let stream = done(upgrading.poll(&mut sink))?;
+    let stream = take_result(upgrading.poll(&mut sink))?;
     same(
         &rt,
         (sink.output(), stream.kind()),
@@ -184,7 +184,7 @@ fn a_header_waits_for_its_sink(rt: HostRuntime) -> Result<(), Fail> {
 fn refused_memory_hands_back_the_header(rt: HostRuntime) -> Result<(), Fail> {
     let mut vector = Vec::new(rt.alloc());
     let upgrading = StreamUniLocalQuic::open_uni().upgrade_async(StreamHeader::new_control());
-    let stream = header_written(upgrading, &mut vector)?;
+    let stream = write_header(upgrading, &mut vector)?;
     same(
         &rt,
         (vector.as_slice(), stream.kind()),
@@ -201,23 +201,23 @@ fn check_failed<R: Abort, S: AsyncRead>(
     source: &mut S,
     wanted: IoReadError,
 ) -> Result<UniAccepting, Fail> {
-    let (accepting, fault) = failed(accepting.poll(source))?;
+    let (accepting, fault) = take_failed(accepting.poll(source))?;
     same(rt, fault, wanted, "the fault");
     Ok(accepting)
 }
 
 /// The stream of HTTP/3 that this poll makes.
-fn accepted<S: AsyncRead>(
+fn accept_stream<S: AsyncRead>(
     accepting: UniAccepting,
     source: &mut S,
 ) -> Result<StreamUniRemoteH3, Fail> {
-    done(accepting.poll(source))
+    take_result(accepting.poll(source))
 }
 
 /// The fault of a stream that is these bytes, and how many of them are left.
 fn fault_of(mut bytes: &[u8]) -> Result<(IoReadError, usize), Fail> {
     let accepting = StreamUniRemoteQuic::accept_uni().upgrade_async();
-    let (_, fault) = failed(accepting.poll(&mut bytes))?;
+    let (_, fault) = take_failed(accepting.poll(&mut bytes))?;
     Ok((fault, bytes.len()))
 }
 
@@ -250,7 +250,7 @@ fn faults_of_the_header_hand_it_back(rt: HostRuntime) -> Result<(), Fail> {
 fn headers_are_accepted(rt: HostRuntime) -> Result<(), Fail> {
     let mut source = b"\x00\x04\x00".as_slice();
     let accepting = StreamUniRemoteQuic::accept_uni().upgrade_async();
-    let stream = accepted(accepting, &mut source)?;
+    let stream = accept_stream(accepting, &mut source)?;
     same(
         &rt,
         (stream.kind(), source),
@@ -265,7 +265,7 @@ fn a_cut_header_is_accepted_from_a_second_source(rt: HostRuntime) -> Result<(), 
     let accepting = StreamUniRemoteQuic::accept_uni().upgrade_async();
     let cut = IoReadError::H3(ErrorCode::Frame);
     let accepting = check_failed(&rt, accepting, &mut b"\x40\x54".as_slice(), cut)?;
-    let stream = accepted(accepting, &mut b"\x04".as_slice())?;
+    let stream = accept_stream(accepting, &mut b"\x04".as_slice())?;
     same(
         &rt,
         (stream.kind(), stream.session_id()),
@@ -276,13 +276,13 @@ fn a_cut_header_is_accepted_from_a_second_source(rt: HostRuntime) -> Result<(), 
 }
 
 /// The state, after the waits before so many bytes and before the end.
-fn waited(
+fn wait_before(
     mut accepting: UniAccepting,
     source: &mut Trickle<'_>,
     len: usize,
 ) -> Result<UniAccepting, Fail> {
     for _turn in 0..=len {
-        accepting = pending(accepting.poll(source))?;
+        accepting = take_pending(accepting.poll(source))?;
     }
     Ok(accepting)
 }
@@ -302,11 +302,11 @@ fn check_header_stop<R: Abort>(rt: &R, len: usize, end: End) -> Result<(), Fail>
     let wire = b"\x40\x54\x04".as_slice();
     let mut source = Trickle::new(wire.get(..len).unwrap_or(&[]), end);
     let accepting = StreamUniRemoteQuic::accept_uni().upgrade_async();
-    let accepting = waited(accepting, &mut source, len)?;
+    let accepting = wait_before(accepting, &mut source, len)?;
     let accepting = check_failed(rt, accepting, &mut source, stop_fault(len, end))?;
     let accepting = check_failed(rt, accepting, &mut source, stop_fault(len, end))?;
     let mut rest = wire.get(len..).unwrap_or(&[]);
-    let stream = accepted(accepting, &mut rest)?;
+    let stream = accept_stream(accepting, &mut rest)?;
     same(rt, stream.session_id(), Some(session_4()?), len);
     Ok(())
 }

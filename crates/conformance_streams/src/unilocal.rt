@@ -2,7 +2,7 @@
 ghost use Rattle.wtransport_proto.specs.Streams.{CanWrite};
 
 use crate::answers::session_4;
-use crate::same::same;
+use crate::same::{fail, same};
 use std::borrow::CowSlice;
 use std::process::Abort;
 use std::test::Fail;
@@ -14,21 +14,21 @@ use wtransport_proto::stream_header::{StreamHeader, StreamKind};
 use wtransport_proto::varint::VarInt;
 
 /// The answer of an upgrade.
-type Upgraded = Result<StreamUniLocalH3, (StreamUniLocalQuic, PutError)>;
+type UpgradeAnswer = Result<StreamUniLocalH3, (StreamUniLocalQuic, PutError)>;
 
 /// The stream that was handed back, and why.
-fn handed_back(upgraded: Upgraded) -> Result<(StreamUniLocalQuic, PutError), Fail> {
+fn refusal_of(upgraded: UpgradeAnswer) -> Result<(StreamUniLocalQuic, PutError), Fail> {
     match upgraded {
-        Ok(_) => Err("too little room")?,
+        Ok(_) => fail("too little room"),
         Err(back) => Ok(back),
     }
 }
 
 /// The stream that was made.
-fn made(upgraded: Upgraded) -> Result<StreamUniLocalH3, Fail> {
+fn stream_of(upgraded: UpgradeAnswer) -> Result<StreamUniLocalH3, Fail> {
     match upgraded {
         Ok(stream) => Ok(stream),
-        Err(_) => Err("there is room")?,
+        Err(_) => fail("there is room"),
     }
 }
 
@@ -63,7 +63,7 @@ fn a_control_stream_writes_settings(rt: HostRuntime) -> Result<(), Fail> {
     same(&rt, StreamUniLocalQuic::upgrade_size(header), 1, "size");
     let mut buffer = [0; 5];
     let mut writer = BufferWriter::new(&mut buffer);
-    let mut stream = made(StreamUniLocalQuic::open_uni().upgrade(header, &mut writer))?;
+    let mut stream = stream_of(StreamUniLocalQuic::open_uni().upgrade(header, &mut writer))?;
     same(
         &rt,
         (writer.buffer_written(), stream.kind(), stream.session_id()),
@@ -84,7 +84,7 @@ fn it_is_upgraded_where_there_is_room(rt: HostRuntime) -> Result<(), Fail> {
     let mut buffer = [0; 2];
     let mut writer = BufferWriter::new(&mut buffer);
     let upgraded = StreamUniLocalQuic::open_uni().upgrade(header, &mut writer);
-    let (stream, error) = handed_back(upgraded)?;
+    let (stream, error) = refusal_of(upgraded)?;
     same(
         &rt,
         (error, writer.buffer_written()),
@@ -93,7 +93,7 @@ fn it_is_upgraded_where_there_is_room(rt: HostRuntime) -> Result<(), Fail> {
     );
     let mut buffer = [0; 3];
     let mut writer = BufferWriter::new(&mut buffer);
-    let stream = made(stream.upgrade(header, &mut writer))?;
+    let stream = stream_of(stream.upgrade(header, &mut writer))?;
     same(
         &rt,
         (writer.buffer_written(), stream.session_id()),

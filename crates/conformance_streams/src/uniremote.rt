@@ -1,7 +1,7 @@
 //! Streams in one direction that the peer opened.
 use crate::answers::session_4;
 use crate::reads::{ReadRow, check_buffer, check_reads};
-use crate::same::same;
+use crate::same::{fail, same};
 use std::process::Abort;
 use std::test::Fail;
 use wtransport_proto::bytes::BufferReader;
@@ -12,37 +12,37 @@ use wtransport_proto::stream_header::StreamKind;
 use wtransport_proto::varint::VarInt;
 
 /// The stream whose header is read from the front of the bytes.
-fn header_read(stream: StreamUniRemoteQuic, bytes: &mut &[u8]) -> Result<StreamUniRemoteH3, Fail> {
+fn read_header(stream: StreamUniRemoteQuic, bytes: &mut &[u8]) -> Result<StreamUniRemoteH3, Fail> {
     match stream.upgrade(bytes)? {
         MaybeUpgradeH3::H3(stream) => Ok(stream),
-        MaybeUpgradeH3::Quic(_) => Err("a whole header")?,
+        MaybeUpgradeH3::Quic(_) => fail("a whole header"),
     }
 }
 
 /// The stream whose header is read from these bytes.
-pub(crate) fn upgraded(mut header: &[u8]) -> Result<StreamUniRemoteH3, Fail> {
-    header_read(StreamUniRemoteQuic::accept_uni(), &mut header)
+pub(crate) fn accept_header(mut header: &[u8]) -> Result<StreamUniRemoteH3, Fail> {
+    read_header(StreamUniRemoteQuic::accept_uni(), &mut header)
 }
 
 /// A stream's kind, its session, and whether frames may be read.
-type Shown = (StreamKind, Option<SessionId>, bool);
+type Summary = (StreamKind, Option<SessionId>, bool);
 
 /// From the bytes such a stream is made, and these are left.
 fn check_header<R: Abort>(
     rt: &R,
     mut bytes: &[u8],
-    wanted: Shown,
+    wanted: Summary,
     left: &[u8],
     shows: &str,
 ) -> Result<(), Fail> {
-    let stream = header_read(StreamUniRemoteQuic::accept_uni(), &mut bytes)?;
+    let stream = read_header(StreamUniRemoteQuic::accept_uni(), &mut bytes)?;
     let came = (stream.kind(), stream.session_id(), stream.can_read());
     same(rt, (came, bytes), (wanted, left), shows);
     Ok(())
 }
 
 /// The bytes of a header and some after it, what they make, what is left, and what the row shows.
-type HeaderRow = (&'static [u8], Shown, &'static [u8], &'static str);
+type HeaderRow = (&'static [u8], Summary, &'static [u8], &'static str);
 
 /// From the bytes of each row such a stream is made.
 fn check_headers<R: Abort>(rt: &R, rows: &[HeaderRow]) -> Result<(), Fail> {
@@ -87,17 +87,17 @@ fn headers_are_read(rt: HostRuntime) -> Result<(), Fail> {
 }
 
 /// The stream, handed back since the bytes are too few for a header.
-fn cut(bytes: &mut &[u8]) -> Result<StreamUniRemoteQuic, Fail> {
+fn cut_header(bytes: &mut &[u8]) -> Result<StreamUniRemoteQuic, Fail> {
     match StreamUniRemoteQuic::accept_uni().upgrade(bytes)? {
-        MaybeUpgradeH3::H3(_) => Err("too few bytes")?,
+        MaybeUpgradeH3::H3(_) => fail("too few bytes"),
         MaybeUpgradeH3::Quic(stream) => Ok(stream),
     }
 }
 
 /// Of the cut header so many bytes are left; then a whole header is read.
 fn check_cut<R: Abort>(rt: &R, mut bytes: &[u8], left: usize) -> Result<(), Fail> {
-    let stream = cut(&mut bytes)?;
-    let stream = header_read(stream, &mut b"\x40\x54\x04".as_slice())?;
+    let stream = cut_header(&mut bytes)?;
+    let stream = read_header(stream, &mut b"\x40\x54\x04".as_slice())?;
     same(
         rt,
         (bytes.len(), stream.kind()),
@@ -116,7 +116,7 @@ fn a_cut_header_is_read_on(rt: HostRuntime) -> Result<(), Fail> {
 }
 
 /// What refuses the header at the front of the bytes, and how many bytes are left.
-fn refused(mut bytes: &[u8]) -> (Option<ErrorCode>, usize) {
+fn refusal_of(mut bytes: &[u8]) -> (Option<ErrorCode>, usize) {
     let code = StreamUniRemoteQuic::accept_uni().upgrade(&mut bytes).err();
     (code, bytes.len())
 }
@@ -135,13 +135,13 @@ static FAULTS: [(&[u8], ErrorCode, &str); 3] = [
 #[test]
 fn faults_of_the_header_are_named(rt: HostRuntime) {
     for (bytes, code, shows) in &FAULTS {
-        same(&rt, refused(bytes), (Some(*code), 0), shows);
+        same(&rt, refusal_of(bytes), (Some(*code), 0), shows);
     }
 }
 
 #[test]
 fn it_becomes_a_stream_of_its_session(rt: HostRuntime) -> Result<(), Fail> {
-    let stream = upgraded(&[0x40, 0x54, 0x04])?;
+    let stream = accept_header(&[0x40, 0x54, 0x04])?;
     if stream.kind() != StreamKind::WebTransport {
         return Err("a stream of a session")?;
     }
@@ -170,7 +170,7 @@ static FRAMES: [ReadRow; 5] = [
 
 #[test]
 fn frames_are_read_by_the_rule(rt: HostRuntime) -> Result<(), Fail> {
-    let mut stream = upgraded(&[0x00])?;
+    let mut stream = accept_header(&[0x00])?;
     same(&rt, stream.can_read(), true, "frames may be read");
     check_reads(&rt, &mut stream, &FRAMES);
     same(&rt, stream.can_read(), true, "frames may still be read");
@@ -179,7 +179,7 @@ fn frames_are_read_by_the_rule(rt: HostRuntime) -> Result<(), Fail> {
 
 #[test]
 fn an_unknown_frame_between_settings_is_passed_over_whole(rt: HostRuntime) -> Result<(), Fail> {
-    let mut stream = upgraded(&[0x00])?;
+    let mut stream = accept_header(&[0x00])?;
     let mut reader = BufferReader::new(b"\x04\x00\x07\x01\x00\x04\x00");
     let settings = Ok(Some((0x04, b"".as_slice())));
     check_buffer(&rt, &mut stream, &mut reader, settings, 2, "settings");

@@ -4,7 +4,7 @@ ghost use Rattle.wtransport_proto.specs.StreamWriting.{WritesPlain};
 ghost use Rattle.wtransport_proto.specs.Streams.{CanWrite};
 
 use crate::same::same;
-use crate::session::opened;
+use crate::session::open_session;
 use std::borrow::CowSlice;
 use std::process::Abort;
 use std::test::Fail;
@@ -18,13 +18,13 @@ use wtransport_proto::stream::unilocal::{StreamUniLocalH3, StreamUniLocalQuic};
 use wtransport_proto::stream_header::StreamHeader;
 
 /// The answer of one poll.
-type Sent = Polled<Result<(), IoWriteError>>;
+type SendAnswer = Polled<Result<(), IoWriteError>>;
 
-const DONE: Sent = Polled::Ready(Ok(()));
+const DONE: SendAnswer = Polled::Ready(Ok(()));
 
 /// A frame on its way to a stream, which writes it by its own call.
 trait Sends {
-    fn send<W: AsyncWrite>(&mut self, sink: &mut W) -> Sent;
+    fn send<W: AsyncWrite>(&mut self, sink: &mut W) -> SendAnswer;
 }
 
 /// A frame on its way to a stream in both directions that this end opened.
@@ -36,7 +36,7 @@ struct ToBoth<'a> {
 }
 
 impl Sends for ToBoth<'_> {
-    fn send<W: AsyncWrite>(&mut self, sink: &mut W) -> Sent {
+    fn send<W: AsyncWrite>(&mut self, sink: &mut W) -> SendAnswer {
         self.stream.write_frame_async(&mut self.writing, sink)
     }
 }
@@ -50,7 +50,7 @@ struct ToOne<'a> {
 }
 
 impl Sends for ToOne<'_> {
-    fn send<W: AsyncWrite>(&mut self, sink: &mut W) -> Sent {
+    fn send<W: AsyncWrite>(&mut self, sink: &mut W) -> SendAnswer {
         self.stream.write_frame_async(&mut self.writing, sink)
     }
 }
@@ -63,7 +63,7 @@ struct ToPeer<'a> {
 }
 
 impl Sends for ToPeer<'_> {
-    fn send<W: AsyncWrite>(&mut self, sink: &mut W) -> Sent {
+    fn send<W: AsyncWrite>(&mut self, sink: &mut W) -> SendAnswer {
         self.stream.write_frame_async(&mut self.writing, sink)
     }
 }
@@ -76,13 +76,13 @@ struct ToSession<'a> {
 }
 
 impl Sends for ToSession<'_> {
-    fn send<W: AsyncWrite>(&mut self, sink: &mut W) -> Sent {
+    fn send<W: AsyncWrite>(&mut self, sink: &mut W) -> SendAnswer {
         self.stream.write_frame_async(&mut self.writing, sink)
     }
 }
 
 /// Sends the frame; where allocation failed, a second poll sends it on.
-fn send_again<K: Sends, W: AsyncWrite>(sending: &mut K, sink: &mut W) -> Sent {
+fn send_again<K: Sends, W: AsyncWrite>(sending: &mut K, sink: &mut W) -> SendAnswer {
     match sending.send(sink) {
         Polled::NoMemory => sending.send(sink),
         answer => answer,
@@ -126,9 +126,20 @@ fn a_frame_goes_on_elsewhere(rt: HostRuntime) {
     }
 }
 
-/// What the polls answer over a sink that halts, whether the stream can be upgraded after each, and
+/// What a poll answers over a sink that halts, whether the stream can be upgraded after it, and
 /// what the poll does.
-static HALTING: [(Sent, bool, &str); 5] = [
+type HaltRow = (SendAnswer, bool, &'static str);
+
+/// A poll answers by its row.
+fn check_halt<R: Abort>(rt: &R, sending: &mut ToBoth<'_>, sink: &mut Paced<'_>, row: &HaltRow) {
+    let (answer, can_upgrade, shows) = row;
+    let came = sending.send(sink);
+    let upgradable = sending.stream.can_upgrade();
+    same(rt, (&came, upgradable), (answer, *can_upgrade), shows);
+}
+
+/// The polls over a sink that halts.
+static HALTING: [HaltRow; 5] = [
     (Polled::Pending, true, "not ready"),
     (Polled::Pending, true, "two bytes, and not ready"),
     (
@@ -157,10 +168,8 @@ fn a_frame_that_was_written_ends_upgrading(rt: HostRuntime) {
         writing: frame.write_async(),
     };
     let mut sink = Paced::new(rt.alloc(), &steps);
-    for (answer, can_upgrade, shows) in &HALTING {
-        let came = sending.send(&mut sink);
-        let upgradable = sending.stream.can_upgrade();
-        same(&rt, (&came, upgradable), (answer, *can_upgrade), shows);
+    for row in &HALTING {
+        check_halt(&rt, &mut sending, &mut sink, row);
     }
     same(
         &rt,
@@ -213,7 +222,7 @@ fn a_stream_that_was_opened_there_is_written(rt: HostRuntime) {
 fn the_stream_of_a_session_is_written(rt: HostRuntime) -> Result<(), Fail> {
     let frame = Frame::new_headers(CowSlice::Borrowed(&[0x00, 0x00]));
     let mut sending = ToSession {
-        stream: opened(rt.alloc())?,
+        stream: open_session(rt.alloc())?,
         writing: frame.write_async(),
     };
     check_rest(&rt, &mut sending, &[0x01, 0x02, 0x00, 0x00]);
@@ -249,7 +258,7 @@ static WAITS: [WriteStep; 3] = [
 ];
 
 /// Writes the frame, while the sink waits.
-fn write_on<K: Sends, W: AsyncWrite>(sending: &mut K, sink: &mut W) -> Sent {
+fn write_on<K: Sends, W: AsyncWrite>(sending: &mut K, sink: &mut W) -> SendAnswer {
     for _turn in 0..TURNS {
         match sending.send(sink) {
             Polled::Pending | Polled::NoMemory => {}

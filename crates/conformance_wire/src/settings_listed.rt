@@ -7,7 +7,7 @@ use std::process::Abort;
 use std::test::Fail;
 use wtp_core::error::Refused;
 use wtp_core::varint::VarInt;
-use wtp_wire::frame::{Frame, GenerateError};
+use wtp_wire::frame::{Frame, FrameOwned, GenerateError};
 use wtp_wire::settings::{SettingId, Settings};
 
 /// Numbers, and the names that the standards give them: RFC 9204, section 5; RFC 9114, sections
@@ -148,12 +148,17 @@ fn limited(alloc: Global) -> Result<Settings, AllocError> {
     )
 }
 
-/// Returns the payload of the frame of the settings; a second time if allocation failed.
+/// Returns the frame of the settings; a second time if allocation failed.
+fn frame_of(alloc: Global, settings: &Settings) -> Result<FrameOwned, GenerateError> {
+    match settings.generate_frame(alloc) {
+        Err(GenerateError::Memory) => settings.generate_frame(alloc),
+        answer => answer,
+    }
+}
+
+/// Returns the payload of the frame of the settings.
 fn payload_of(alloc: Global, settings: &Settings) -> Result<Vec<u8>, GenerateError> {
-    let frame = match settings.generate_frame(alloc) {
-        Err(GenerateError::Memory) => settings.generate_frame(alloc)?,
-        frame => frame?,
-    };
+    let frame = frame_of(alloc, settings)?;
     match frame.payload().to_vec(alloc) {
         Ok(payload) => Ok(payload),
         Err(_) => Err(GenerateError::Memory),

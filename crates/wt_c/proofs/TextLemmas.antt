@@ -9,3 +9,8 @@ pub record IsCollecting (texts : List ℕ) (pairs : List (Bor (List ℕ) × Bor 
   pub same : fields_of_texts pairs ++ lines_in texts left ≡ lines_in texts all
   pub good : AreTextFields texts left → AreTextFields texts all
   pub bad : AreTextFields texts all → AreTextFields texts left
+
+-- these are left of all, and the others are as they should be
+pub record AreLeft {A : Type 0} (good_all : List A → Type 0) (left all : List A) : Type 0 where
+  pub good : good_all left → good_all all
+  pub bad : good_all all → good_all left

@@ -9,3 +9,4 @@ pub mod Settings
 pub mod Texts
 pub mod Sessions
 pub mod Reader
+pub mod RequestFaults

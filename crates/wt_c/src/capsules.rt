@@ -1,6 +1,6 @@
 //! Capsules that close a session (WebTransport over HTTP/3, "Session Termination").
 ghost use Rattle.std.specs.Prelude.{◌≡◌, ◌⊎◌, ◌≤◌, ◌<◌, length, drop, MatchOption, Some, None};
-ghost use Rattle.std.specs.Prelude.{IsUtf8};
+ghost use Rattle.std.specs.Prelude.{◌≢◌, [], IsUtf8};
 ghost use Rattle.wtp_wire.specs.CloseSession.{close_in, close_wire};
 ghost use Rattle.wt_c.specs.Output.{Puts, Lacks};
 
@@ -60,7 +60,8 @@ pub extern "C" fn wt_close_read(value: &[u8], reset: &mut u32, code: &mut u64) -
 ///
 /// Returns `OK` with the size of the capsule in `used`. Returns `ROOM` if `out` is shorter than
 /// that size, which `used` then is; `out` does not change. Returns `INVALID` if the reason is not
-/// UTF-8 or has more than 1024 bytes, and `MEMORY` if allocation failed; then nothing changes.
+/// UTF-8 or has more than 1024 bytes. Otherwise returns `MEMORY` if allocation failed, which does
+/// not happen for an empty reason. Then nothing changes.
 #[unsafe(no_mangle)]
 pub extern "C" fn wt_close_write(
     alloc: Global,
@@ -76,7 +77,8 @@ pub extern "C" fn wt_close_write(
         × Lacks (close_wire (reset, reason.now)) out.old out.new used.new }
     ensures invalid { result ≡ INVALID → ((¬ (IsUtf8 reason.now)) ⊎ (1024 < length reason.now))
         × (out.new ≡ out.old) × (used.new ≡ used.old) }
-    ensures memory { result ≡ MEMORY → (out.new ≡ out.old) × (used.new ≡ used.old) }
+    ensures memory { result ≡ MEMORY → IsUtf8 reason.now × (length reason.now ≤ 1024)
+        × (reason.now ≢ []) × (out.new ≡ out.old) × (used.new ≡ used.old) }
 {
     let Ok(text) = str::from_utf8(reason) else {
         return INVALID;

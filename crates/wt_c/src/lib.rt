@@ -13,6 +13,7 @@ pub mod frames;
 pub mod numbers;
 mod output;
 pub mod reader;
+pub mod request_faults;
 pub mod sections;
 pub mod sessions;
 pub mod settings;

@@ -8,7 +8,7 @@ ghost use Rattle.wt_c.specs.Texts.{AreTextFields, lines_in};
 use crate::answers::{INVALID, MEMORY, OK, ROOM};
 use crate::fields::WtField;
 use crate::output::write_bytes;
-use crate::texts::{Unmade, texts_of};
+use crate::texts::{Unmade, refuse_texts, texts_of};
 use std::alloc::{AllocError, Global};
 use wtp_fields::qpack::Encoder;
 
@@ -22,6 +22,8 @@ fn text_pairs<'a>(
         × (fields_of_texts v.items ≡ lines_in texts.now fields.now)) }
     ensures invalid { IfErr result (λ e. e ≡ Unmade.Invalid
         → ¬ (AreTextFields texts.now fields.now)) }
+    ensures memory { IfErr result (λ e. e ≡ Unmade.Memory
+        → AreTextFields texts.now fields.now) }
 {
     let mut pairs = Vec::new(alloc);
     let mut left = fields;
@@ -30,7 +32,7 @@ fn text_pairs<'a>(
             return Err(Unmade::Invalid);
         };
         if pairs.push(pair).is_err() {
-            return Err(Unmade::Memory);
+            return Err(refuse_texts(fields, texts));
         }
         left = others;
     }
@@ -76,7 +78,7 @@ fn encode_pairs(alloc: Global, pairs: &[(&str, &str)]) -> Result<Vec<u8>, AllocE
 ///
 /// Returns `OK` with the size of the section in `used`. Returns `ROOM` if `out` is shorter than
 /// that size, which `used` then is; `out` does not change. Returns `INVALID` if a field is not
-/// within `texts` or is not UTF-8, and `MEMORY` if allocation failed; then nothing changes.
+/// within `texts` or is not UTF-8; otherwise `MEMORY` if allocation failed. Then nothing changes.
 #[unsafe(no_mangle)]
 pub extern "C" fn wt_fields_write(
     alloc: Global,
@@ -92,12 +94,12 @@ pub extern "C" fn wt_fields_write(
         × Lacks (section_of (lines_in texts.now fields.now)) out.old out.new used.new }
     ensures invalid { result ≡ INVALID → (¬ (AreTextFields texts.now fields.now))
         × (out.new ≡ out.old) × (used.new ≡ used.old) }
-    ensures memory { result ≡ MEMORY → (out.new ≡ out.old) × (used.new ≡ used.old) }
+    ensures memory { result ≡ MEMORY → AreTextFields texts.now fields.now
+        × (out.new ≡ out.old) × (used.new ≡ used.old) }
 {
     let pairs = match text_pairs(alloc, fields, texts) {
         Ok(pairs) => pairs,
-        Err(Unmade::Invalid) => return INVALID,
-        Err(Unmade::Memory) => return MEMORY,
+        Err(reason) => return reason.answer(),
     };
     match encode_pairs(alloc, pairs.as_slice()) {
         Ok(section) => write_bytes(section.as_slice(), out, used),

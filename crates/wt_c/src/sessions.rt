@@ -1,6 +1,7 @@
 //! Requests for sessions, and responses (RFC 9220, section 3; WebTransport over HTTP/3).
 ghost use Rattle.std.specs.Prelude.{◌≡◌, ◌≢◌, ◌⊎◌, ◌≤◌, ◌<◌, ◌^◌, ◌++◌, ℕ, List, length, Some};
 ghost use Rattle.std.specs.Prelude.{None, Ok, Err, IsUtf8, OnOk, IfOk, IfErr, codes, option_map};
+ghost use Rattle.std.specs.Prelude.{◌↔◌, IsTrue};
 ghost use Rattle.url.specs.Parser.{parse_url};
 ghost use Rattle.wtp_core.specs.declared.error.ErrorCode.{ErrorCode};
 ghost use Rattle.wtp_core.specs.declared.error.Refused.TheVariants.{Code};
@@ -15,7 +16,7 @@ ghost use Rattle.wtp_fields.specs.SessionResponse.{status_alone, status_value};
 ghost use Rattle.wtp_fields.specs.ResponseFrame.{ResponseIn};
 ghost use Rattle.wt_c.specs.Output.{Puts, Lacks};
 ghost use Rattle.wt_c.specs.Sessions.{IsNoUrl, AreRequestFields, AreResponseFields, IsRequestOf};
-ghost use Rattle.wt_c.specs.Sessions.{with_fields};
+ghost use Rattle.wt_c.specs.Sessions.{with_fields, IsRequestField, IsResponseField};
 
 use crate::answers::{FAULT, INVALID, MEMORY, OK, ROOM};
 use crate::fields::WtField;
@@ -33,6 +34,32 @@ use wtp_fields::session::{
 };
 use wtp_wire::frame::Frame;
 
+/// Returns whether a request can have a field.
+fn is_request_field(field: &WtField, texts: &[u8]) -> bool
+    ensures { IsTrue result ↔ IsRequestField texts.now field.now }
+{
+    match texts_of(field, texts) {
+        Some((name, _)) => !SessionRequest::RESERVED_HEADERS.contains(&name),
+        None => false,
+    }
+}
+
+/// Returns why no fields were put into a request where allocation failed: `Invalid` if it cannot
+/// have one of them all the same, and otherwise `Memory`.
+fn refuse_request(fields: &[WtField], texts: &[u8]) -> Unmade
+    ensures invalid { result ≡ Unmade.Invalid → ¬ (AreRequestFields texts.now fields.now) }
+    ensures memory { result ≡ Unmade.Memory → AreRequestFields texts.now fields.now }
+{
+    let mut left = fields;
+    'fields: while let Some((field, others)) = left.split_first() {
+        if !is_request_field(field, texts) {
+            return Unmade::Invalid;
+        }
+        left = others;
+    }
+    Unmade::Memory
+}
+
 /// Puts fields into a request, each in place of the previous one of its name.
 fn insert_fields(
     request: &mut SessionRequest,
@@ -43,6 +70,8 @@ fn insert_fields(
         × (request.new ≡ with_fields texts.now request.old fields.now)) }
     ensures invalid { IfErr result (λ e. e ≡ Unmade.Invalid
         → ¬ (AreRequestFields texts.now fields.now)) }
+    ensures memory { IfErr result (λ e. e ≡ Unmade.Memory
+        → AreRequestFields texts.now fields.now) }
 {
     let mut left = fields;
     'fields: while let Some((field, others)) = left.split_first() {
@@ -52,10 +81,36 @@ fn insert_fields(
         match request.insert(name, value) {
             Ok(()) => left = others,
             Err(InsertError::Reserved(_)) => return Err(Unmade::Invalid),
-            Err(InsertError::Memory) => return Err(Unmade::Memory),
+            Err(InsertError::Memory) => return Err(refuse_request(fields, texts)),
         }
     }
     Ok(())
+}
+
+/// Returns whether a response can have a field.
+fn is_response_field(field: &WtField, texts: &[u8]) -> bool
+    ensures { IsTrue result ↔ IsResponseField texts.now field.now }
+{
+    match texts_of(field, texts) {
+        Some((name, _)) => name != ":status",
+        None => false,
+    }
+}
+
+/// Returns why no fields were added to a response where allocation failed: `Invalid` if it cannot
+/// have one of them all the same, and otherwise `Memory`.
+fn refuse_response(fields: &[WtField], texts: &[u8]) -> Unmade
+    ensures invalid { result ≡ Unmade.Invalid → ¬ (AreResponseFields texts.now fields.now) }
+    ensures memory { result ≡ Unmade.Memory → AreResponseFields texts.now fields.now }
+{
+    let mut left = fields;
+    'fields: while let Some((field, others)) = left.split_first() {
+        if !is_response_field(field, texts) {
+            return Unmade::Invalid;
+        }
+        left = others;
+    }
+    Unmade::Memory
 }
 
 /// Adds fields to a response, each in place of the previous one of its name.
@@ -68,6 +123,8 @@ fn add_fields(
         × (response.new ≡ with_fields texts.now response.old fields.now)) }
     ensures invalid { IfErr result (λ e. e ≡ Unmade.Invalid
         → ¬ (AreResponseFields texts.now fields.now)) }
+    ensures memory { IfErr result (λ e. e ≡ Unmade.Memory
+        → AreResponseFields texts.now fields.now) }
 {
     let mut left = fields;
     'fields: while let Some((field, others)) = left.split_first() {
@@ -80,7 +137,7 @@ fn add_fields(
         match response.add(name, value) {
             Ok(()) => left = others,
             Err(AddError::InvalidStatusCode) => return Err(Unmade::Invalid),
-            Err(AddError::Memory) => return Err(Unmade::Memory),
+            Err(AddError::Memory) => return Err(refuse_response(fields, texts)),
         }
     }
     Ok(())
@@ -90,6 +147,8 @@ fn add_fields(
 fn request_for(alloc: Global, url: &[u8]) -> Result<SessionRequest, Unmade>
     ensures ok { IfOk result (λ request. request_at (parse_url None url.now) ≡ Ok request) }
     ensures invalid { IfErr result (λ e. e ≡ Unmade.Invalid → IsNoUrl url.now) }
+    ensures memory { IfErr result (λ e. e ≡ Unmade.Memory → IsUtf8 url.now) }
+    ensures utf8 { OnOk result (IsUtf8 url.now) }
 {
     let Ok(text) = str::from_utf8(url) else {
         return Err(Unmade::Invalid);
@@ -107,7 +166,8 @@ fn request_for(alloc: Global, url: &[u8]) -> Result<SessionRequest, Unmade>
 /// Returns `OK` with the size of the frame in `used`. Returns `ROOM` if `out` is shorter than that
 /// size, which `used` then is; `out` does not change. Returns `INVALID` if the URL is not one, or
 /// its scheme is not `https`; or if a field is not within `texts`, is not UTF-8, or has a name that
-/// a request sets itself. Returns `MEMORY` if allocation failed. Then nothing changes.
+/// a request sets itself. Returns `MEMORY` if allocation failed, which does not hide a fault of a
+/// field, or a URL that is not UTF-8. Then nothing changes.
 #[unsafe(no_mangle)]
 pub extern "C" fn wt_request_write(
     alloc: Global,
@@ -129,12 +189,13 @@ pub extern "C" fn wt_request_write(
     ensures invalid { result ≡ INVALID
         → (IsNoUrl url.now ⊎ ¬ (AreRequestFields texts.now fields.now))
         × (out.new ≡ out.old) × (used.new ≡ used.old) }
-    ensures memory { result ≡ MEMORY → (out.new ≡ out.old) × (used.new ≡ used.old) }
+    ensures memory { result ≡ MEMORY → IsUtf8 url.now × AreRequestFields texts.now fields.now
+        × (out.new ≡ out.old) × (used.new ≡ used.old) }
 {
     let mut request = match request_for(alloc, url) {
         Ok(request) => request,
         Err(Unmade::Invalid) => return INVALID,
-        Err(Unmade::Memory) => return MEMORY,
+        Err(Unmade::Memory) => return refuse_request(fields, texts).answer(),
     };
     match insert_fields(&mut request, fields, texts) {
         Ok(()) => match request.headers().generate_frame(alloc) {
@@ -151,8 +212,8 @@ pub extern "C" fn wt_request_write(
 ///
 /// Returns `OK` with the size of the frame in `used`. Returns `ROOM` if `out` is shorter than that
 /// size, which `used` then is; `out` does not change. Returns `INVALID` if the status is not from
-/// 100 to 599; or if a field is not within `texts`, is not UTF-8, or is another status. Returns
-/// `MEMORY` if allocation failed. Then nothing changes.
+/// 100 to 599; or if a field is not within `texts`, is not UTF-8, or is another status. Otherwise
+/// returns `MEMORY` if allocation failed. Then nothing changes.
 #[unsafe(no_mangle)]
 pub extern "C" fn wt_response_write(
     alloc: Global,
@@ -173,21 +234,21 @@ pub extern "C" fn wt_response_write(
     ensures invalid { result ≡ INVALID
         → ((¬ (IsStatus status)) ⊎ ¬ (AreResponseFields texts.now fields.now))
         × (out.new ≡ out.old) × (used.new ≡ used.old) }
-    ensures memory { result ≡ MEMORY → (out.new ≡ out.old) × (used.new ≡ used.old) }
+    ensures memory { result ≡ MEMORY → IsStatus status × AreResponseFields texts.now fields.now
+        × (out.new ≡ out.old) × (used.new ≡ used.old) }
 {
     let Ok(status_code) = StatusCode::try_from_u32(status) else {
         return INVALID;
     };
     let Ok(mut response) = SessionResponse::with_status_code(alloc, status_code) else {
-        return MEMORY;
+        return refuse_response(fields, texts).answer();
     };
     match add_fields(&mut response, fields, texts) {
         Ok(()) => match response.headers().generate_frame(alloc) {
             Ok(frame) => write_frame(&frame, out, used),
             Err(_) => MEMORY,
         },
-        Err(Unmade::Invalid) => INVALID,
-        Err(Unmade::Memory) => MEMORY,
+        Err(reason) => reason.answer(),
     }
 }
 

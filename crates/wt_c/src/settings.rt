@@ -12,6 +12,7 @@ ghost use Rattle.wt_c.specs.Settings.{HoldSettings, LackSettings, AreNumbers, pa
 
 use crate::answers::{FAULT, INVALID, MEMORY, OK, ROOM};
 use crate::output::write_bytes;
+use crate::texts::Unmade;
 use std::alloc::Global;
 use std::borrow::CowSlice;
 use wtp_core::bytes::BytesWriter;
@@ -105,34 +106,46 @@ pub extern "C" fn wt_settings_read(
     }
 }
 
-/// The reason no payload was made.
-enum Unwritten {
-    /// A number is 2^62 or more.
-    Range,
-    /// Memory allocation failed.
-    Memory,
+/// Returns why nothing was made of settings where allocation failed: `Invalid` if a number is 2^62
+/// or more all the same, and otherwise `Memory`.
+fn refuse_numbers(settings: &[WtSetting]) -> Unmade
+    ensures invalid { result ≡ Unmade.Invalid → ¬ (AreNumbers settings.now) }
+    ensures memory { result ≡ Unmade.Memory → AreNumbers settings.now }
+{
+    let mut left = settings;
+    'settings: while let Some((setting, others)) = left.split_first() {
+        if setting.id > VarInt::MAX.into_inner() {
+            return Unmade::Invalid;
+        }
+        if setting.value > VarInt::MAX.into_inner() {
+            return Unmade::Invalid;
+        }
+        left = others;
+    }
+    Unmade::Memory
 }
 
 /// Writes the numbers of settings and their values one after the other.
-fn write_pairs(alloc: Global, settings: &[WtSetting]) -> Result<Vec<u8>, Unwritten>
+fn write_pairs(alloc: Global, settings: &[WtSetting]) -> Result<Vec<u8>, Unmade>
     ensures pairs { IfOk result (λ v. AreNumbers settings.now
         × (v.items ≡ settings_wire (pairs_of settings.now))) }
-    ensures range { IfErr result (λ e. e ≡ Unwritten.Range → ¬ (AreNumbers settings.now)) }
+    ensures invalid { IfErr result (λ e. e ≡ Unmade.Invalid → ¬ (AreNumbers settings.now)) }
+    ensures memory { IfErr result (λ e. e ≡ Unmade.Memory → AreNumbers settings.now) }
 {
     let mut payload = Vec::new(alloc);
     let mut left = settings;
     'settings: while let Some((setting, others)) = left.split_first() {
         let Ok(id) = VarInt::try_from_u64(setting.id) else {
-            return Err(Unwritten::Range);
+            return Err(Unmade::Invalid);
         };
         let Ok(value) = VarInt::try_from_u64(setting.value) else {
-            return Err(Unwritten::Range);
+            return Err(Unmade::Invalid);
         };
         if payload.put_varint(id).is_err() {
-            return Err(Unwritten::Memory);
+            return Err(refuse_numbers(settings));
         }
         if payload.put_varint(value).is_err() {
-            return Err(Unwritten::Memory);
+            return Err(refuse_numbers(settings));
         }
         left = others;
     }
@@ -144,7 +157,8 @@ fn write_pairs(alloc: Global, settings: &[WtSetting]) -> Result<Vec<u8>, Unwritt
 /// Returns `OK` with the size of the payload in `used`. Returns `ROOM` if `out` is shorter than
 /// that size, which `used` then is; `out` does not change. Returns `INVALID` if a number is 2^62 or
 /// more, or if a peer would find a fault in the payload: an identifier of HTTP/2, or a known one
-/// that is repeated. Returns `MEMORY` if allocation failed. Then nothing changes.
+/// that is repeated. Returns `MEMORY` if allocation failed, which does not hide a number of 2^62 or
+/// more. Then nothing changes.
 #[unsafe(no_mangle)]
 pub extern "C" fn wt_settings_write(
     alloc: Global,
@@ -162,12 +176,12 @@ pub extern "C" fn wt_settings_write(
     ensures invalid { result ≡ INVALID → ((¬ (AreNumbers settings.now))
         ⊎ ((e : ErrorCode) × (settings_in (settings_wire (pairs_of settings.now)) ≡ Err e)))
         × (out.new ≡ out.old) × (used.new ≡ used.old) }
-    ensures memory { result ≡ MEMORY → (out.new ≡ out.old) × (used.new ≡ used.old) }
+    ensures memory { result ≡ MEMORY → AreNumbers settings.now
+        × (out.new ≡ out.old) × (used.new ≡ used.old) }
 {
     let payload = match write_pairs(alloc, settings) {
         Ok(payload) => payload,
-        Err(Unwritten::Range) => return INVALID,
-        Err(Unwritten::Memory) => return MEMORY,
+        Err(reason) => return reason.answer(),
     };
     if payload.len() as u64 > VarInt::MAX.into_inner() {
         return MEMORY;
@@ -185,7 +199,7 @@ pub extern "C" fn wt_settings_write(
 ///
 /// Returns `OK` with the size of the name in `used`. Returns `ROOM` if `out` is shorter than that
 /// size, which `used` then is; `out` does not change. Returns `INVALID` if the number is not that
-/// of a setting, and `MEMORY` if allocation failed; then nothing changes.
+/// of a setting; otherwise `MEMORY` if allocation failed. Then nothing changes.
 #[unsafe(no_mangle)]
 pub extern "C" fn wt_setting_name(alloc: Global, id: u64, out: &mut [u8], used: &mut usize) -> i32
     ensures answers { (result ≡ OK) ⊎ ((result ≡ ROOM) ⊎ ((result ≡ INVALID) ⊎ (result ≡ MEMORY))) }
@@ -195,7 +209,8 @@ pub extern "C" fn wt_setting_name(alloc: Global, id: u64, out: &mut [u8], used: 
         × Lacks (setting_name_of setting) out.old out.new used.new }
     ensures invalid { result ≡ INVALID → ((setting_id_of id ≡ None) ⊎ (2 ^ 62 ≤ id))
         × (out.new ≡ out.old) × (used.new ≡ used.old) }
-    ensures memory { result ≡ MEMORY → (out.new ≡ out.old) × (used.new ≡ used.old) }
+    ensures memory { result ≡ MEMORY → (setting : SettingId) × (setting_id_of id ≡ Some setting)
+        × (out.new ≡ out.old) × (used.new ≡ used.old) }
 {
     let Ok(number) = VarInt::try_from_u64(id) else {
         return INVALID;

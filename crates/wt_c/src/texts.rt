@@ -1,17 +1,31 @@
 //! The texts of fields.
 ghost use Rattle.std.specs.Prelude.{◌≡◌, ◌≤◌, ◌+◌, length, take, drop, IsUtf8, MatchOption};
 ghost use Rattle.wt_c.specs.Fields.{field_in};
-ghost use Rattle.wt_c.specs.Texts.{IsTextField};
+ghost use Rattle.wt_c.specs.Texts.{IsTextField, AreTextFields};
 
+use crate::answers::{INVALID, MEMORY};
 use crate::fields::WtField;
 
-/// The reason nothing was made of the fields.
+/// The reason nothing was made of the arguments.
 #[derive(Drop)]
 pub(crate) enum Unmade {
     /// An argument is out of its range.
     Invalid,
     /// Memory allocation failed.
     Memory,
+}
+
+impl Unmade {
+    /// Returns the answer in C.
+    pub(crate) fn answer(self) -> i32
+        ensures invalid { self ≡ Unmade.Invalid → result ≡ INVALID }
+        ensures memory { self ≡ Unmade.Memory → result ≡ MEMORY }
+    {
+        match self {
+            Unmade::Invalid => INVALID,
+            Unmade::Memory => MEMORY,
+        }
+    }
 }
 
 /// Returns the text at a place, if it is within the bytes and UTF-8.
@@ -41,4 +55,20 @@ pub(crate) fn texts_of<'a>(field: &WtField, texts: &'a [u8]) -> Option<(&'a str,
     let name = text_at(texts, field.name_offset, field.name_len)?;
     let value = text_at(texts, field.value_offset, field.value_len)?;
     Some((name, value))
+}
+
+/// Returns why nothing was made of fields where allocation failed: `Invalid` if one of them is not
+/// a pair of texts all the same, and otherwise `Memory`.
+pub(crate) fn refuse_texts(fields: &[WtField], texts: &[u8]) -> Unmade
+    ensures invalid { result ≡ Unmade.Invalid → ¬ (AreTextFields texts.now fields.now) }
+    ensures memory { result ≡ Unmade.Memory → AreTextFields texts.now fields.now }
+{
+    let mut left = fields;
+    'fields: while let Some((field, others)) = left.split_first() {
+        if texts_of(field, texts).is_none() {
+            return Unmade::Invalid;
+        }
+        left = others;
+    }
+    Unmade::Memory
 }

@@ -7,10 +7,11 @@ use std::borrow::CowSlice;
 use wtransport_proto::bytes::{AsyncRead, AsyncWrite, BytesWriter, Polled};
 use wtransport_proto::capsule::capsules::CloseWebTransportSession;
 use wtransport_proto::datagram::Datagram;
-use wtransport_proto::frame::{Frame, FrameReading};
+use wtransport_proto::frame::{Frame, FrameOwned, FrameReading};
 use wtransport_proto::ids::{QStreamId, SessionId};
 use wtransport_proto::journey::send;
 use wtransport_proto::session::{SessionRequest, SessionResponse, response_of_frame};
+use wtransport_proto::stream::IoReadError;
 use wtransport_proto::stream::bilocal::StreamBiLocalQuic;
 use wtransport_proto::stream::session::StreamSession;
 
@@ -32,12 +33,17 @@ pub fn read_response<S: AsyncRead>(
     let mut reading = FrameReading::new(alloc);
     for _turn in 0..TURNS {
         match session.read_frame_async(&mut reading, source) {
-            Polled::Ready(frame) => return Ok(response_of_frame(alloc, &frame?)?),
+            Polled::Ready(frame) => return response_in(alloc, frame),
             Polled::Pending | Polled::Again => {}
             Polled::NoMemory => bail!("out of memory"),
         }
     }
     bail!("the stream is not ready")
+}
+
+/// Reads the response of the frame that was read.
+fn response_in(alloc: Global, frame: Result<FrameOwned, IoReadError>) -> Result<SessionResponse> {
+    Ok(response_of_frame(alloc, &frame?)?)
 }
 
 /// Closes a session with a code and a reason of the application: a capsule, in DATA frames of at

@@ -14,8 +14,8 @@ mod streams;
 
 use crate::control::Control;
 use crate::pipes::{Incoming, Outgoing};
-use crate::quic::{QuicSink, QuicSource, Received, Sent};
-use crate::server::Opened;
+use crate::quic::{MemoryReceiver, MemorySender, QuicSink, QuicSource};
+use crate::server::PeerStream;
 use anyhow::{Context, Result, bail};
 use std::alloc::Global;
 use wtransport_proto::ids::SessionId;
@@ -60,7 +60,7 @@ fn request_session<R: Print>(rt: &R, alloc: Global, url: &str) -> Result<Option<
     let requested = client::request(alloc, url, &mut sink)?;
     let sent = sink.into_taken();
     let mut source = Incoming::new(sent.as_slice(), 5);
-    let Opened::Request(stream, request) = server::accept(alloc, &mut source)? else {
+    let PeerStream::Request(stream, request) = server::accept(alloc, &mut source)? else {
         bail!("not a request");
     };
     println!(rt; "  {} from {:?}", request.path(), request.origin())?;
@@ -106,12 +106,12 @@ fn echo(alloc: Global, id: SessionId, data: &[u8]) -> Result<Vec<u8>> {
 /// Opens a stream in one direction over a QUIC library, and sends data on it.
 fn send_one_way(alloc: Global, id: SessionId, data: &[u8]) -> Result<Vec<u8>> {
     let mut sink = QuicSink {
-        stream: Sent::new(alloc),
+        stream: MemorySender::new(alloc),
     };
     let opened = streams::open_unidirectional(id, &mut sink)?;
     streams::send(data, &mut sink)?;
     let mut source = QuicSource {
-        stream: Received::new(sink.stream.bytes()),
+        stream: MemoryReceiver::new(sink.stream.bytes()),
     };
     let accepted = control::accept_unidirectional(&mut source)?;
     if accepted.session_id() != opened.session_id() {

@@ -69,22 +69,22 @@ impl<T: SendStream> AsyncWrite for QuicSink<T> {
 
 /// A receiving stream whose bytes are in memory. It has at most 3 of them at a time.
 #[derive(Debug, Drop)]
-pub struct Received<'a> {
+pub struct MemoryReceiver<'a> {
     bytes: &'a [u8],
     is_woken: bool,
 }
 
-impl<'a> Received<'a> {
+impl<'a> MemoryReceiver<'a> {
     /// Creates a stream of these bytes.
     pub fn new(bytes: &'a [u8]) -> Self {
-        Received {
+        MemoryReceiver {
             bytes,
             is_woken: false,
         }
     }
 }
 
-impl ReceiveStream for Received<'_> {
+impl ReceiveStream for MemoryReceiver<'_> {
     fn receive(&mut self, buf: &mut [u8]) -> Result<usize, QuicError> {
         self.is_woken = !self.is_woken;
         if self.is_woken {
@@ -100,15 +100,15 @@ impl ReceiveStream for Received<'_> {
 
 /// A sending stream whose bytes stay in memory. It has room for at most 3 of them at a time.
 #[derive(Debug, Drop)]
-pub struct Sent {
+pub struct MemorySender {
     bytes: Vec<u8>,
     is_woken: bool,
 }
 
-impl Sent {
+impl MemorySender {
     /// Creates a stream to which nothing was sent.
     pub fn new(alloc: Global) -> Self {
-        Sent {
+        MemorySender {
             bytes: Vec::new(alloc),
             is_woken: false,
         }
@@ -120,7 +120,7 @@ impl Sent {
     }
 }
 
-impl SendStream for Sent {
+impl SendStream for MemorySender {
     fn send(&mut self, buf: &[u8]) -> Result<usize, QuicError> {
         self.is_woken = !self.is_woken;
         if self.is_woken {

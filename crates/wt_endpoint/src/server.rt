@@ -1,10 +1,10 @@
 //! A server of WebTransport sessions.
 
 use anyhow::{Result, bail};
-use std::alloc::Global;
+use std::alloc::{AllocError, Global};
 use wtransport_proto::bytes::{AsyncRead, AsyncWrite};
 use wtransport_proto::datagram::Datagram;
-use wtransport_proto::frame::FrameReading;
+use wtransport_proto::frame::{Frame, FrameReading};
 use wtransport_proto::ids::SessionId;
 use wtransport_proto::journey::send;
 use wtransport_proto::session::{SessionRequest, SessionResponse, request_of_frame};
@@ -25,15 +25,17 @@ pub fn write_control(alloc: Global, out: &mut Vec<u8>) -> Result<()> {
         .enable_h3_datagrams()?
         .enable_webtransport()?
         .build();
-    let stream = StreamUniLocalQuic::open_uni().upgrade(StreamHeader::new_control(), out);
-    let mut stream = stream.map_err(|(_, error)| error)?;
+    let quic = StreamUniLocalQuic::open_uni();
+    let Ok(mut stream) = quic.upgrade(StreamHeader::new_control(), out) else {
+        bail!("out of memory");
+    };
     stream.write_frame(settings.generate_frame(alloc)?, out)?;
     Ok(())
 }
 
 /// A bidirectional stream that the peer opened.
 #[derive(Debug, Drop)]
-pub enum Opened {
+pub enum PeerStream {
     /// A session is requested on it.
     Request(StreamBiRemoteH3, SessionRequest),
     /// It is a stream of a session: all bytes that follow are the application's.
@@ -41,21 +43,32 @@ pub enum Opened {
 }
 
 /// Accepts a bidirectional stream by its first frame.
-pub fn accept<S: AsyncRead>(alloc: Global, source: &mut S) -> Result<Opened> {
+pub fn accept<S: AsyncRead>(alloc: Global, source: &mut S) -> Result<PeerStream> {
     let stream = StreamBiRemoteQuic::accept_bi().upgrade();
     let mut accepting = stream.accept_async(FrameReading::new(alloc));
     for _turn in 0..TURNS {
         accepting = match accepting.poll(source) {
-            BiAccepted::WebTransport(stream) => return Ok(Opened::Stream(stream)),
-            BiAccepted::Request(stream, _, frame) => {
-                return Ok(Opened::Request(stream, request_of_frame(alloc, &frame)?));
-            }
+            BiAccepted::WebTransport(stream) => return Ok(PeerStream::Stream(stream)),
+            BiAccepted::Request(stream, _, frame) => return read_request(alloc, stream, &frame),
             BiAccepted::Again(state) | BiAccepted::Pending(state) => state,
             BiAccepted::NoMemory(_) => bail!("out of memory"),
             BiAccepted::Failed(_, fault) => return Err(fault.into()),
         };
     }
     bail!("the stream is not ready")
+}
+
+/// Reads the request of the first frame.
+fn read_request(alloc: Global, stream: StreamBiRemoteH3, frame: &Frame<'_>) -> Result<PeerStream> {
+    Ok(PeerStream::Request(stream, request_of_frame(alloc, frame)?))
+}
+
+/// Returns the response for a path.
+fn response_for(alloc: Global, path: &str) -> Result<SessionResponse, AllocError> {
+    match path {
+        "/chat" => SessionResponse::ok(alloc),
+        _ => SessionResponse::not_found(alloc),
+    }
 }
 
 /// Responds to a request. Returns the session, unless the path is unknown.
@@ -65,10 +78,7 @@ pub fn respond<W: AsyncWrite>(
     request: SessionRequest,
     sink: &mut W,
 ) -> Result<Option<StreamSession>> {
-    let mut response = match request.path() {
-        "/chat" => SessionResponse::ok(alloc)?,
-        _ => SessionResponse::not_found(alloc)?,
-    };
+    let mut response = response_for(alloc, request.path())?;
     response.add("server", "an endpoint")?;
     send(&response.headers().generate_frame(alloc)?, sink, TURNS)?;
     if !response.code().is_successful() {

@@ -1,6 +1,6 @@
 //! Streams of a session: their first bytes name the session, and the rest is the application's.
 
-use crate::server::{self, Opened, TURNS};
+use crate::server::{self, PeerStream, TURNS};
 use anyhow::{Result, bail};
 use std::alloc::Global;
 use wtransport_proto::bytes::{AsyncRead, AsyncWrite, BytesWriterAsync, Polled, ReadStep, Stepped};
@@ -53,7 +53,7 @@ pub fn accept_bidirectional<S: AsyncRead>(
     alloc: Global,
     source: &mut S,
 ) -> Result<StreamBiRemoteWT> {
-    let Opened::Stream(stream) = server::accept(alloc, source)? else {
+    let PeerStream::Stream(stream) = server::accept(alloc, source)? else {
         return Err(ErrorCode::StreamCreation.into());
     };
     Ok(stream)

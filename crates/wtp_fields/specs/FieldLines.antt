@@ -1,7 +1,8 @@
 -- Field lines one by one, as bytes (RFC 9204, section 4.5): their texts need not be UTF-8.
-use Rattle.std.specs.Prelude.{◌≡◌, ◌≢◌, ℕ, ◌<◌, if◌then◌else◌, Bool, false, ◌||◌, IsTrue, List, [], ◌∷◌, length, Option, Some, None, Result, Ok, Err, ◌&&◌}
+use Rattle.std.specs.Prelude.{◌≡◌, ◌≢◌, ℕ, ◌<◌, ◌≤◌, take, drop, if◌then◌else◌, Bool, false, ◌||◌, IsTrue, List, [], ◌∷◌, length, Option, Some, None, Result, Ok, Err, ◌&&◌}
 use Rattle.std.specs.Str.{is_utf8}
 use Rattle.std.specs.Borrow.{Bor}
+use Rattle.std.specs.Vec.{vec_capacity}
 use Rattle.wtp_fields.specs.declared.qpack.DecodingError.{DecodingError}
 use Rattle.wtp_fields.specs.declared.qpack.DecodingError.TheVariants.{UnexpectedFin, InvalidString, Memory}
 use Rattle.wtp_fields.specs.declared.qpack.field_line.Table.TheVariants.{Static}
@@ -60,9 +61,13 @@ as_texts line = if is_utf8_field line.0 then Ok line else Err InvalidString
 
 -- ---- one line taken
 
+-- how many bytes of memory a room has
+abbrev pub room_bytes : FieldRoom → ℕ
+room_bytes room = vec_capacity room.texts
+
 -- a room with no text in it
 abbrev pub IsEmptyRoom : FieldRoom → Type 0
-IsEmptyRoom room = (room.name.items ≡ []) × (room.value.items ≡ [])
+IsEmptyRoom room = (room.texts.items ≡ []) × (room_bytes room ≡ 0)
 
 abbrev pub seen_line : FieldLine → Field
 seen_line line = (line.name.now, line.value.now)
@@ -92,6 +97,13 @@ unfoldable pub is_coded_line : List ℕ → Bool
 is_coded_line [] = false
 is_coded_line (first ∷ bytes) = has_coded (representation_of first) (first ∷ bytes)
 
+-- How the memory of a room changes, in bytes: not at all; or, if a text is decoded and the room has
+-- less than `most` bytes, to at least these.
+abbrev pub Grows : Bool → ℕ → ℕ → ℕ → Type 0
+Grows is_coded most before after =
+    (before ≤ after)
+    × (before < after → IsTrue is_coded × (before < most) × (most ≤ after))
+
 -- ---- a text is in the section, or else in the room
 
 abbrev pub text_in : List ℕ → Option (Bor (List ℕ)) → List ℕ
@@ -102,10 +114,12 @@ abbrev pub seen_string : List ℕ → Option (Bor (List ℕ)) × Bor (List ℕ) 
 seen_string room string = (text_in room string.0, string.1.now)
 
 -- what was read of a line is the line, with its texts in this room, unless allocation failed
-abbrev pub seen_parts : FieldRoom → Parts → Field × List ℕ
-seen_parts room parts =
-    ((text_in room.name.items parts.name, text_in room.value.items parts.value), parts.rest.now)
+abbrev pub seen_parts : List ℕ → Parts → Field × List ℕ
+seen_parts room parts = (
+  (text_in (take parts.middle room) parts.name, text_in (drop parts.middle room) parts.value),
+  parts.rest.now,
+)
 
 abbrev pub GivesParts :
-    FieldRoom → Result Parts DecodingError → Result (Field × List ℕ) DecodingError → Type 0
+    List ℕ → Result Parts DecodingError → Result (Field × List ℕ) DecodingError → Type 0
 GivesParts room result line = GivesUnlessMemory (seen_parts room) result line

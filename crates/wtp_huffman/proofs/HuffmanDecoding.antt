@@ -4,7 +4,7 @@ use Rattle.std.proofs.Math.Nat.{suc-add, zero-add}
 use Rattle.std.proofs.lemmas.List.{length-append}
 use Rattle.wtp_huffman.specs.Huffman.{IsBytes, IsHuffman, IsPadding, bits_of, code, text_code, low_bits}
 use Rattle.wtp_huffman.specs.HuffmanRows.{row_at}
-use Rattle.wtp_huffman.specs.HuffmanDecoding.{Reads, waiting_bits, IsClear, IsWord, window_of, symbol_in}
+use Rattle.wtp_huffman.specs.HuffmanDecoding.{Reads, ReadsAfter, TellsAscii, waiting_bits, IsClear, IsWord, window_of, symbol_in}
 use Rattle.wtp_huffman.proofs.HuffmanBits.{bits_append, length_bits, low_bits_length}
 use Rattle.wtp_huffman.proofs.HuffmanWindows.{moved_on, shifted_in}
 use Rattle.wtp_huffman.proofs.HuffmanWords.{coded_end, coded_word, word_in_front}
@@ -52,6 +52,19 @@ bytes_push (y ∷ ys) x h small = (h.0, bytes_push ys x h.1 small)
 pub reads_none : (text : List ℕ) → Reads text [] (bits_of text)
 unfolding text_code
 reads_none text = record { bytes = tt; so_far = refl; each = λ t h. (t, refl, h) }
+
+-- the same after other bytes: some more were decoded and appended
+pub reads_on_after : {front text old new : List ℕ} {was_ascii is_ascii : Bool} {bits left : List Bool} (more : List ℕ) → new ≡ old ++ more
+    → ((out : List ℕ) → Reads text out bits → Reads text (out ++ more) left)
+    → ((out : List ℕ) → TellsAscii was_ascii out → TellsAscii is_ascii (out ++ more))
+    → ReadsAfter front text old was_ascii bits → ReadsAfter front text new is_ascii left
+reads_on_after {front} more appended reads ascii d =
+    record {
+      decoded = d.decoded ++ more;
+      appended = appended ∙ ap (λ z. z ++ more) d.appended ∙ append_assoc front d.decoded more;
+      reads = reads d.decoded d.reads;
+      ascii = ascii d.decoded d.ascii;
+    }
 
 pub reads_more : (text out : List ℕ) (bits : List Bool) (n symbol : ℕ) → Reads text out bits → IsWord (window_of 30 bits) n symbol → n ≤ length bits → symbol < 256
     → Reads text (out ++ symbol ∷ []) (drop n bits)

@@ -9,11 +9,11 @@ use Rattle.wtp_huffman.specs.Huffman.{low_bits}
 use Rattle.wtp_huffman.specs.HuffmanRows.{row_at, symbol_at}
 use Rattle.wtp_huffman.specs.HuffmanShort.{short_bits_at, short_byte_at}
 use Rattle.wtp_huffman.specs.HuffmanPairs.{pair_bits_at, pair_count_at, pair_first_at, pair_second_at}
-use Rattle.wtp_huffman.specs.HuffmanDecoding.{Reads, Decodes, waiting_bits, IsClear, IsWord, window_of, room}
+use Rattle.wtp_huffman.specs.HuffmanDecoding.{Reads, ReadsAfter, Decodes, TellsAscii, waiting_bits, IsClear, IsWord, window_of, room}
 use Rattle.wtp_huffman.specs.declared.huffman.pairs.TheConstants.{PAIRS}
 use Rattle.wtp_huffman.proofs.Chosen.{chosen}
 use Rattle.wtp_huffman.proofs.HuffmanBits.{window_below, window_low_bits, window_split, low_bits_append, low_bits_length}
-use Rattle.wtp_huffman.proofs.HuffmanDecoding.{drop_held, reads_more}
+use Rattle.wtp_huffman.proofs.HuffmanDecoding.{drop_held, reads_more, reads_on_after}
 use Rattle.wtp_huffman.proofs.HuffmanTable.{row_facts, top_of}
 use Rattle.wtp_huffman.proofs.HuffmanWindows.{moved_on, short_found}
 
@@ -246,30 +246,35 @@ pair_window held w behind h most small =
     let fits : x < 4096 = omega (arith, top) in
     rw (cut, append_assoc (low_bits 12 x) (low_bits m (v % 2 ^ m)) behind) (window_low_bits 12 x (low_bits m (v % 2 ^ m) ++ behind) fits ∙ top)
 
-pub takes_pair : (out : List ℕ) (held w i : ℕ) → 12 ≤ held → held < 64 → w < 18302628885633695744 → IsClear held w → w / 4503599627370496 ≡ i
+pub takes_pair : (old : List ℕ) (is_ascii : Bool) (held w i : ℕ) → 12 ≤ held → held < 64 → w < 18302628885633695744 → IsClear held w → w / 4503599627370496 ≡ i
     → short_byte_at (i / 16) < 256 → pair_second_at i < 256
-    → Decodes out held w (out ++ take (pair_count_at i) (short_byte_at (i / 16) ∷ pair_second_at i ∷ [])) (held - pair_bits_at i) (w * 2 ^ pair_bits_at i % 18446744073709551616)
-takes_pair out held w i enough few short clear e small small2 =
+    → ((t : List ℕ) → TellsAscii is_ascii t → TellsAscii is_ascii (t ++ take (pair_count_at i) (short_byte_at (i / 16) ∷ pair_second_at i ∷ [])))
+    → Decodes old is_ascii held w (old ++ take (pair_count_at i) (short_byte_at (i / 16) ∷ pair_second_at i ∷ [])) is_ascii (held - pair_bits_at i) (w * 2 ^ pair_bits_at i % 18446744073709551616)
+takes_pair old is_ascii held w i enough few short clear e small small2 ascii =
     let h : i < 4064 = omega (arith, e) in
     let limit = limits i h in
     let v : ℕ = w / 2 ^ (64 - held) in
     let fits : pair_bits_at i ≤ held = omega (arith, limit.most) in
     let moved = moved_on (pair_bits_at i) held w fits (omega arith) clear in
+    let more : List ℕ = take (pair_count_at i) (short_byte_at (i / 16) ∷ pair_second_at i ∷ []) in
     record {
-      reads = λ text behind d.
+      reads = λ front text behind d.
           let bits : List Bool = waiting_bits held w ++ behind in
           let long : 12 ≤ length bits = omega (arith, length-append (waiting_bits held w) behind, low_bits_length held v) in
-          let next = reads_pair text out bits i d (pair_window held w behind enough (omega arith) (omega arith) ∙ e) h long small small2 in
           let place : drop (pair_bits_at i) bits ≡ low_bits (held - pair_bits_at i) v ++ behind = drop_held (pair_bits_at i) held v behind fits in
-          subst (λ b. Reads text (out ++ take (pair_count_at i) (short_byte_at (i / 16) ∷ pair_second_at i ∷ [])) b) (place ∙ ap (λ b. b ++ behind) (sym moved.0)) next;
+          reads_on_after more refl
+          (λ out r. subst (λ b. Reads text (out ++ more) b) (place ∙ ap (λ b. b ++ behind) (sym moved.0))
+          (reads_pair text out bits i r (pair_window held w behind enough (omega arith) (omega arith) ∙ e) h long small small2))
+          ascii d;
       clear = moved.1;
       fewer = omega (arith, limit.least);
     }
 
-pub takes_both : {a b c : List ℕ} {held w held2 w2 left rest : ℕ} → Decodes a held w b held2 w2 → Decodes b held2 w2 c left rest → Decodes a held w c left rest
-takes_both one two = record { reads = λ text behind d. two.reads text behind (one.reads text behind d); clear = two.clear; fewer = omega (arith, one.fewer, two.fewer) }
+pub takes_both : {a b c : List ℕ} {f g k : Bool} {held w held2 w2 left rest : ℕ} → Decodes a f held w b g held2 w2 → Decodes b g held2 w2 c k left rest → Decodes a f held w c k left rest
+takes_both one two = record { reads = λ front text behind d. two.reads front text behind (one.reads front text behind d); clear = two.clear; fewer = omega (arith, one.fewer, two.fewer) }
 
 -- the same, where no bits come after those that wait
-pub takes_last : {old new : List ℕ} {held w left rest : ℕ} (text : List ℕ) → Decodes old held w new left rest → Reads text old (waiting_bits held w) → Reads text new (waiting_bits left rest)
-takes_last {old} {new} {held} {w} {left} {rest} text step d =
-    subst (λ b. Reads text new b) (append-nil (waiting_bits left rest)) (step.reads text [] (subst (λ b. Reads text old b) (sym (append-nil (waiting_bits held w))) d))
+pub takes_last : {old new : List ℕ} {was_ascii is_ascii : Bool} {held w left rest : ℕ} (front text : List ℕ) → Decodes old was_ascii held w new is_ascii left rest
+    → ReadsAfter front text old was_ascii (waiting_bits held w) → ReadsAfter front text new is_ascii (waiting_bits left rest)
+takes_last {old} {new} {was_ascii} {is_ascii} {held} {w} {left} {rest} front text step d =
+    subst (λ b. ReadsAfter front text new is_ascii b) (append-nil (waiting_bits left rest)) (step.reads front text [] (subst (λ b. ReadsAfter front text old was_ascii b) (sym (append-nil (waiting_bits held w))) d))

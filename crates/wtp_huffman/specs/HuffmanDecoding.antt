@@ -60,17 +60,33 @@ waiting_bits held waiting = low_bits held (waiting / 2 ^ (64 - held))
 abbrev pub IsClear : ℕ → ℕ → Type 0
 IsClear held waiting = waiting % 2 ^ (64 - held) ≡ 0
 
+-- out is front, followed by the bytes that were decoded so far from this Huffman text; the flag
+-- tells whether they are ASCII
+pub record ReadsAfter (front text out : List ℕ) (is_ascii : Bool) (bits : List Bool) : Type 0 where
+  pub decoded : List ℕ
+  pub appended : out ≡ front ++ decoded
+  pub reads : Reads text decoded bits
+  pub ascii : TellsAscii is_ascii decoded
+
 -- Some of the waiting bits were decoded to the bytes that were appended, whatever bits come after
--- those that wait.
-pub record Decodes (old : List ℕ) (held waiting : ℕ) (new : List ℕ) (left rest : ℕ) : Type 0 where
-  pub reads : (text : List ℕ) (behind : List Bool)
-      → Reads text old (waiting_bits held waiting ++ behind)
-      → Reads text new (waiting_bits left rest ++ behind)
+-- those that wait. The flags tell whether the text before and after is ASCII.
+pub record Decodes (old : List ℕ) (was_ascii : Bool) (held waiting : ℕ)
+    (new : List ℕ) (is_ascii : Bool) (left rest : ℕ) : Type 0 where
+  pub reads : (front text : List ℕ) (behind : List Bool)
+      → ReadsAfter front text old was_ascii (waiting_bits held waiting ++ behind)
+      → ReadsAfter front text new is_ascii (waiting_bits left rest ++ behind)
   pub clear : IsClear left rest
   pub fewer : left < held
 
--- out was decoded from the code of a text, and these bits of it wait
-abbrev pub IsCodedOn : List ℕ → ℕ → ℕ → Type 0
-IsCodedOn out held waiting =
-    (s : List ℕ) × (t : List ℕ) × (behind : List Bool)
+-- these bits wait, at some place within the code of a text
+abbrev pub IsCodedOn : ℕ → ℕ → Type 0
+IsCodedOn held waiting =
+    (s : List ℕ) × (out : List ℕ) × (t : List ℕ) × (behind : List Bool)
     × Reads s out (waiting_bits held waiting ++ behind) × IsHuffman t s
+
+-- new is old, followed by the text that these bytes encode; the flag tells whether it is ASCII
+pub record AppendsDecoded (bytes old : List ℕ) (is_ascii : Bool) (new : List ℕ) : Type 0 where
+  pub text : List ℕ
+  pub is_coded : IsHuffman text bytes
+  pub appended : new ≡ old ++ text
+  pub ascii : TellsAscii is_ascii text

@@ -15,7 +15,7 @@ mod pairs;
 mod rows;
 mod short;
 
-pub use decoding::{decode, decode_into};
+pub use decoding::{append_decoded, decode, decode_into};
 pub use encoding::{append, encode, encoded_len};
 
 /// The reason a text was not decoded.

@@ -25,6 +25,10 @@ pub front-head : (bytes rest : List ℕ) (s : Announcement) → head_at bytes �
 unfolding front
 front-head bytes rest s e = rw e refl
 
+pub front-headless : (bytes : List ℕ) → head_at bytes ≡ None → front bytes ≡ Short
+unfolding front
+front-headless bytes e = rw e refl
+
 -- the second number is missing, or the first
 pub front-none : (bytes : List ℕ) → number_at bytes ≡ None → front bytes ≡ Short
 unfolding front head_at

@@ -1,28 +1,28 @@
 -- A complete frame at the start of the bytes, and one that a source has buffered.
-use Rattle.std.proofs.Common.{◌≡◌, ℕ, ◌+◌, ◌-◌, ◌≤◌, List, [], ◌++◌, length, take, drop, refl, sym, ap, subst, ◌∙◌, arith, append_assoc, append-nil, length-append, inl, inr, Option, Some, None}
-use Rattle.std.proofs.lemmas.List.{append_cancel_left, drop-append-le, take-append-drop, take_at, drop_at}
+use Rattle.std.proofs.Common.{◌≡◌, ℕ, ◌+◌, ◌-◌, ◌<◌, ◌≤◌, List, [], ◌++◌, length, take, drop, refl, sym, ap, subst, ◌∙◌, arith, append_assoc, append-nil, length-append, length-drop, inl, inr, Option, Some, None}
+use Rattle.std.proofs.lemmas.Bool.{cases_lt, lt-ltb, le-ltb}
+use Rattle.std.proofs.lemmas.List.{append_cancel_left, drop-append-le, take-append-drop, drop_at, length-take-le}
 use Rattle.wtp_core.specs.declared.bytes.polled.Polled.TheVariants.{Ready}
 use Rattle.std.proofs.Common.{Ok}
+use Rattle.wtp_core.specs.Varint.{bytes_at}
 use Rattle.wtp_core.specs.Source.{Source, Telling, Shows, TakesBuffered}
 use Rattle.wtp_core.specs.Polled.{Asks}
 use Rattle.wtp_core.proofs.TellingLemmas.{telling_map}
 use Rattle.wtp_wire.specs.declared.frame.kind.FrameKind.{FrameKind}
-use Rattle.wtp_wire.specs.Content.{Content, PlainOf, WebTransportOf, content, kind_in, payload_in, session_in, IsProper}
-use Rattle.wtp_wire.specs.Front.{Front, Framed, Begins, IsFrame, extended, front}
+use Rattle.wtp_wire.specs.declared.frame.head.Announcement.{Announcement}
+use Rattle.wtp_wire.specs.declared.frame.head.Announcement.TheVariants as announces
+use Rattle.wtp_wire.specs.Content.{Content, PlainOf, payload_in}
+use Rattle.wtp_wire.specs.FrameHead.{head_at}
+use Rattle.wtp_wire.specs.Front.{Front, Framed, Unknown, BadId, TooBig, Short, Begins, IsFrame, extended, front}
 use Rattle.wtp_wire.specs.FramePart.{Part, bytes_in, IsReading}
 use Rattle.wtp_wire.specs.Limits.{max_calls}
 use Rattle.wtp_wire.specs.Held.{Held, new_held, front_held}
 use Rattle.wtp_wire.specs.FramePolling.{FramePolled}
 use Rattle.wtp_wire.specs.FrameSteps.{IsFramed, TakesFrame}
-use Rattle.wtp_wire.proofs.ContentLemmas.{kind_in-content, payload_in-content, session_in-content}
-use Rattle.wtp_wire.proofs.FrontLemmas.{front_holds, front-begins, front-more}
+use Rattle.wtp_wire.proofs.FrontLemmas.{front_holds, front-begins, front-more, front-head, front-headless, found}
 use Rattle.wtp_wire.proofs.FramePollLemmas.{Polls, hold, front_none, due_unfinished, none_taken}
 
--- ---- the position of the payload
-
-frame_payload : (f : Content) (s : List ℕ) → IsFrame f s → (head : List ℕ) × (s ≡ head ++ payload_in f)
-frame_payload (PlainOf kind payload) s h = (h.head, h.parts)
-frame_payload (WebTransportOf id) s h = (s, sym (append-nil s))
+-- ---- the bytes after a frame
 
 -- the frame's bytes before the rest
 stands : (bytes rest : List ℕ) (f : Content) → front bytes ≡ Framed f rest → (s : List ℕ) × IsFrame f s × (bytes ≡ s ++ rest)
@@ -36,56 +36,48 @@ after_frame bytes rest f size e sum =
     let (s, is, parts) = stands bytes rest f e in
     rw parts (drop_at s rest size (omega (arith, ap length parts ∙ length-append s rest)))
 
-pub record HasPayload (bytes payload : List ℕ) (size : ℕ) : Type 0 where
-  pub fits : length payload ≤ size
-  pub within : (size - length payload) + length payload ≤ length bytes
-  pub is : take (length payload) (drop (size - length payload) bytes) ≡ payload
+-- ---- the frame after a head
 
-pub payload_before : (bytes rest : List ℕ) (f : Content) (size : ℕ) → front bytes ≡ Framed f rest → size + length rest ≡ length bytes → HasPayload bytes (payload_in f) size
-payload_before bytes rest f size e sum =
-    let (s, is, parts) = stands bytes rest f e in
-    let (head, halves) = frame_payload f s is in
-    let p = payload_in f in
-    let whole : bytes ≡ head ++ (p ++ rest) = parts ∙ ap (λ (x : List ℕ). x ++ rest) halves ∙ append_assoc head p rest in
-    let long : length bytes ≡ (length head + length p) + length rest = omega (arith, ap length whole, length-append head (p ++ rest), length-append p rest) in
-    record {
-      fits = omega arith;
-      within = omega arith;
-      is = rw (whole, drop_at head (p ++ rest) (size - length p) (omega arith)) (take_at p rest (length p) refl);
-    }
+pub framed_payload : (bytes behind : List ℕ) (kind : FrameKind) (n : ℕ) → head_at bytes ≡ Some (announces.Payload kind n, behind) → n ≤ length behind → front bytes ≡ Framed (PlainOf kind (take n behind)) (drop n behind)
+unfolding bytes_at
+framed_payload bytes behind kind n h fits = front-head bytes behind (announces.Payload kind n) h ∙ rw (le-ltb (length behind) n fits) refl
+
+short_payload : (bytes behind : List ℕ) (kind : FrameKind) (n : ℕ) → head_at bytes ≡ Some (announces.Payload kind n, behind) → length behind < n → front bytes ≡ Short
+unfolding bytes_at
+short_payload bytes behind kind n h cut = front-head bytes behind (announces.Payload kind n) h ∙ rw (lt-ltb (length behind) n cut) refl
+
+no_frame : (bytes rest : List ℕ) (f : Content) → front bytes ≡ Short → front bytes ≡ Framed f rest → ⊥
+no_frame bytes rest f short e = cc
 
 -- if the payload is short, and enough bytes follow it
-pub enough_after : (bytes rest behind : List ℕ) (f g : Content) (size : ℕ) → front bytes ≡ Framed g behind → size + length behind ≡ length bytes
+pub enough_after : (bytes behind rest : List ℕ) (kind : FrameKind) (n : ℕ) (f : Content) → head_at bytes ≡ Some (announces.Payload kind n, behind)
     → front bytes ≡ Framed f rest → length (payload_in f) ≤ 40 → 40 ≤ length (payload_in f) + length rest
-    → (length (payload_in g) ≤ 40) × ((size - length (payload_in g)) + 40 ≤ length bytes)
-enough_after bytes rest behind f g size e sum e' small room =
-    let same : Framed f rest ≡ Framed g behind = sym e' ∙ e in
-    let frames : f ≡ g = cc in
-    let ends : rest ≡ behind = cc in
-    let p = payload_before bytes behind g size e sum in
-    let fits = p.fits in
-    let small' : length (payload_in g) ≤ 40 = rw frames at small in
-    let room' : 40 ≤ length (payload_in g) + length behind = rw (frames, ends) at room in
-    (small', omega arith)
+    → (n ≤ 40) × (40 ≤ length behind)
+enough_after bytes behind rest kind n f h e small room = elim (cases_lt (length behind) n) [
+  | inl cut ↦ absurd (no_frame bytes rest f (short_payload bytes behind kind n h cut) e)
+  | inr fits ↦
+      let same : Framed f rest ≡ Framed (PlainOf kind (take n behind)) (drop n behind) = sym e ∙ framed_payload bytes behind kind n h fits in
+      let frames : f ≡ PlainOf kind (take n behind) = cc in
+      let ends : rest ≡ drop n behind = cc in
+      let size : length (payload_in f) ≡ n = ap (λ (x : Content). length (payload_in x)) frames ∙ length-take-le n behind fits in
+      let left : length rest ≡ length behind - n = ap length ends ∙ length-drop n behind in
+      (omega arith, omega arith)
+]
 
--- ---- the same frame by its fields
+pub no_head : (bytes rest : List ℕ) (f : Content) → head_at bytes ≡ None → front bytes ≡ Framed f rest → ⊥
+no_head bytes rest f h e = no_frame bytes rest f (front-headless bytes h) e
 
-content_of : (f : Content) → content (kind_in f) (payload_in f) (session_in f) ≡ f
-content_of (PlainOf kind payload) = refl
-content_of (WebTransportOf id) = refl
-
-pub same_frame : (f : Content) (kind : FrameKind) (payload : List ℕ) (session : Option ℕ) → kind ≡ kind_in f → payload ≡ payload_in f → session ≡ session_in f → content kind payload session ≡ f
-same_frame f kind payload session k p s = rw (k, p, s) (content_of f)
-
--- k, p and s are the fields that the frame had
-pub same_proper : (f : Content) (k kind : FrameKind) (p payload : List ℕ) (s session : Option ℕ) → IsProper k p s → content k p s ≡ f
-    → kind ≡ kind_in f → payload ≡ payload_in f → session ≡ session_in f → IsProper kind payload session
-same_proper f k kind p payload s session h is e e' e'' =
-    rw (e, e', e'', ← is, kind_in-content k p s h, payload_in-content k p s h, session_in-content k p s) h
-
-pub no_payload : (f : Content) (id : ℕ) → session_in f ≡ Some id → payload_in f ≡ []
-no_payload (PlainOf kind payload) id e = absurd (cc)
-no_payload (WebTransportOf i) id e = refl
+pub no_plain : (s : Announcement) (bytes behind rest : List ℕ) (f : Content) → head_at bytes ≡ Some (s, behind) → front bytes ≡ Framed f rest
+    → ((kind : FrameKind) (n : ℕ) → s ≡ announces.Payload kind n → ⊥) → ((id : ℕ) → s ≡ announces.Session id → ⊥) → ⊥
+no_plain announces.Unfinished bytes behind rest f h e plain session = no_frame bytes rest f (front-head bytes behind announces.Unfinished h) e
+no_plain (announces.Payload kind n) bytes behind rest f h e plain session = plain kind n refl
+no_plain (announces.Session id) bytes behind rest f h e plain session = session id refl
+no_plain (announces.Skip n) bytes behind rest f h e plain session = elim (found (bytes_at n behind)) [
+  | inl none ↦ no_frame bytes rest f (front-head bytes behind (announces.Skip n) h ∙ rw none refl) e
+  | inr (x, is) ↦ let unknown : front bytes ≡ Unknown x.1 = front-head bytes behind (announces.Skip n) h ∙ rw is refl in cc
+]
+no_plain announces.BadSession bytes behind rest f h e plain session = let bad : front bytes ≡ BadId behind = front-head bytes behind announces.BadSession h in cc
+no_plain announces.TooLong bytes behind rest f h e plain session = let big : front bytes ≡ TooBig behind = front-head bytes behind announces.TooLong h in cc
 
 -- ---- taken from a source
 

@@ -165,15 +165,6 @@ impl<'a> Frame<'a> {
         self.kind.kind()
     }
 
-    // Returns the kind as it is stored.
-    #[inline(always)]
-    #[tactic(auto, using(crate::proofs::ContentLemmas::fields))]
-    fn kind_number(&self) -> KindNumber
-        ensures { result ≡ kind_in self.now }
-    {
-        self.kind
-    }
-
     /// Returns the payload, which is empty for a WebTransport frame.
     #[tactic(auto, using(crate::proofs::ContentLemmas::fields))]
     pub fn payload(&self) -> &[u8]

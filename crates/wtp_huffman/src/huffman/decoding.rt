@@ -1,11 +1,13 @@
 //! Decoding: from code words to a text.
 ghost use Rattle.std.specs.Prelude.{◌≡◌, ℕ, Bool, ◌+◌, ◌-◌, ◌*◌, ◌<◌, ◌≤◌, ◌^◌, List, [], ◌∷◌};
 ghost use Rattle.std.specs.Prelude.{◌++◌, length, take, IfOk, OnOk, OnErr, MatchResult, IsOk};
-ghost use Rattle.std.specs.Prelude.{IsTrue, ◌↔◌};
+ghost use Rattle.std.specs.Prelude.{IfErr, IsOkAnd, IsTrue, ◌↔◌, Err};
 ghost use Rattle.std.specs.Vec.{vec_len, vec_capacity};
 ghost use Rattle.wtp_huffman.specs.Huffman.{bits_of, low_bits, IsHuffman};
 ghost use Rattle.wtp_huffman.specs.HuffmanDecoding.{waiting_bits, IsClear, IsCodedOn, Decodes};
 ghost use Rattle.wtp_huffman.specs.HuffmanDecoding.{TellsAscii, window_of, InRow, IsWord};
+ghost use Rattle.wtp_huffman.specs.HuffmanDecoding.{AppendsDecoded};
+ghost use Rattle.wtp_huffman.specs.HuffmanEncoding.{BeginsWith};
 ghost use Rattle.wtp_huffman.specs.declared.huffman.HuffmanError.TheVariants.{Invalid, Memory};
 
 use super::HuffmanError;
@@ -59,7 +61,9 @@ pub fn decode(alloc: Global, text: &[u8]) -> Result<Vec<u8>, HuffmanError>
         → MatchResult result (λ v. v.items ≡ t) (λ e. e ≡ Memory) }
     ensures empty { length text.now ≡ 0 → IsOk result }
 {
-    Ok(decode_to(Vec::with_capacity(alloc, most_bytes(text))?, text)?.0)
+    let mut out = Vec::with_capacity(alloc, most_bytes(text))?;
+    decode_to(&mut out, text)?;
+    Ok(out)
 }
 
 /// Returns the greatest number of bytes that a Huffman text may have: one for every five bits.
@@ -87,25 +91,63 @@ pub fn decode_into(out: &mut Vec<u8>, text: &[u8]) -> Result<bool, HuffmanError>
     ensures empty { length text.now ≡ 0 → IsOk result }
 {
     out.clear();
-    out.reserve(text.len() * 2)?;
-    let none = Vec::new(*out.allocator());
-    let (decoded, is_ascii) = decode_to(replace(out, none), text)?;
-    *out = decoded;
-    Ok(is_ascii)
+    append_decoded(out, text)
 }
 
-/// Decodes a Huffman text into an empty vector that has room for a byte for every five bits.
-/// Returns the vector, and whether the text is ASCII. The vector is passed by value, so that the
-/// compiler keeps its length in a register.
-#[inline(always)]
-fn decode_to(mut out: Vec<u8>, text: &[u8]) -> Result<(Vec<u8>, bool), HuffmanError>
-    requires none { out.items ≡ [] }
-    requires len { vec_len out ≡ 0 }
-    requires room { 8 * length text.now < SHORTEST * vec_capacity out + SHORTEST }
-    ensures found { IfOk result (λ r. IsHuffman r.0.items text.now) }
+/// Appends the decoded text, and returns whether the text is ASCII, as [`decode_into`] does. If
+/// `out` has less room than twice the length of the code, it allocates once.
+///
+/// Returns [`HuffmanError::Invalid`] if the bytes are not code words followed by fewer than eight
+/// ones (RFC 7541, section 5.2), and [`HuffmanError::Memory`] if it allocates and that fails. The
+/// contents of `out` are then unchanged. An empty text never fails.
+pub fn append_decoded(out: &mut Vec<u8>, text: &[u8]) -> Result<bool, HuffmanError>
+    ensures found { IfOk result (λ is_ascii.
+        AppendsDecoded text.now out.old.items is_ascii out.new.items) }
     ensures only { (t : List ℕ) → IsHuffman t text.now
-        → MatchResult result (λ r. r.0.items ≡ t) (λ e. e ≡ Memory) }
-    ensures ascii { IfOk result (λ r. TellsAscii r.1 r.0.items) }
+        → MatchResult result (λ _. out.new.items ≡ out.old.items ++ t) (λ e. e ≡ Memory) }
+    ensures err { OnErr result (out.new.items ≡ out.old.items) }
+    ensures size { OnOk result (SHORTEST * vec_len out.new
+        ≤ SHORTEST * vec_len out.old + 8 * length text.now) }
+    // With room for twice the length of the code it allocates nothing.
+    ensures room { vec_len out.old + 2 * length text.now ≤ vec_capacity out.old
+        → vec_capacity out.new ≡ vec_capacity out.old }
+    ensures memory { result ≡ Err Memory
+        → vec_capacity out.old < vec_len out.old + 2 * length text.now }
+    ensures capacity { vec_capacity out.old ≤ vec_capacity out.new }
+    ensures empty { length text.now ≡ 0 → IsOk result }
+{
+    let start = out.len();
+    let most = text.len() * 2;
+    if out.capacity() - start < most {
+        out.reserve(most)?;
+    }
+    let none = Vec::new(*out.allocator());
+    let mut decoded = replace(out, none);
+    let is_ascii = decode_to(&mut decoded, text);
+    if is_ascii.is_err() {
+        decoded.truncate(start);
+    }
+    *out = decoded;
+    is_ascii
+}
+
+/// Appends the decoded text to a vector that has room for a byte for every five bits. Returns
+/// whether the text is ASCII. On an error `out` still begins with what it contained before.
+///
+/// The vector is a variable of the caller, so that the compiler keeps its length in a register.
+#[inline(always)]
+fn decode_to(out: &mut Vec<u8>, text: &[u8]) -> Result<bool, HuffmanError>
+    requires room { SHORTEST * vec_len out.old + 8 * length text.now
+        < SHORTEST * vec_capacity out.old + SHORTEST }
+    ensures found { IfOk result (λ is_ascii.
+        AppendsDecoded text.now out.old.items is_ascii out.new.items) }
+    ensures only { (t : List ℕ) → IsHuffman t text.now
+        → IsOkAnd result (λ _. out.new.items ≡ out.old.items ++ t) }
+    ensures fault { IfErr result (λ e. e ≡ Invalid) }
+    ensures front { BeginsWith out.old.items out.new.items }
+    ensures size { OnOk result (SHORTEST * vec_len out.new
+        ≤ SHORTEST * vec_len out.old + 8 * length text.now) }
+    ensures same { vec_capacity out.new ≡ vec_capacity out.old }
     ensures empty { length text.now ≡ 0 → IsOk result }
 {
     let mut rest = text;
@@ -117,22 +159,22 @@ fn decode_to(mut out: Vec<u8>, text: &[u8]) -> Result<(Vec<u8>, bool), HuffmanEr
         if held < WINDOW {
             break;
         }
-        (waiting, held, is_ascii) = take_words(&mut out, waiting, held, is_ascii)?;
+        (waiting, held, is_ascii) = take_words(out, waiting, held, is_ascii)?;
     }
     'last: loop {
         if held >= PAIR_BITS && waiting < SHORT_END {
-            (waiting, held) = take_short(&mut out, waiting, held);
+            (waiting, held) = take_short(out, waiting, held);
             continue;
         }
         let window = last_window(waiting, held);
         if is_padding(window, held) {
-            return Ok((out, is_ascii));
+            return Ok(is_ascii);
         }
         let word = word_at(window);
         if word.bits > held {
             return Err(HuffmanError::Invalid);
         }
-        is_ascii = push_any(&mut out, byte_of(word)?, is_ascii);
+        is_ascii = push_any(out, byte_of(word)?, is_ascii);
         held -= word.bits;
         waiting <<= word.bits;
     }
@@ -151,13 +193,14 @@ fn take_words(
     requires few { held < 64 }
     requires clear { IsClear held waiting }
     requires room { SHORTEST * vec_len out.old + held < SHORTEST * vec_capacity out.old + SHORTEST }
-    ensures taken { IfOk result (λ r. Decodes out.old.items held waiting out.new.items r.1 r.0) }
-    ensures fails { IsCodedOn out.old.items held waiting → IsOk result }
+    ensures taken { IfOk result (λ r.
+        Decodes out.old.items is_ascii held waiting out.new.items r.2 r.1 r.0) }
+    ensures fails { IsCodedOn held waiting → IsOk result }
+    ensures fault { IfErr result (λ e. e ≡ Invalid) }
+    ensures err { OnErr result (out.new.items ≡ out.old.items) }
     ensures room { IfOk result (λ r.
         SHORTEST * vec_len out.new + r.1 ≤ SHORTEST * vec_len out.old + held) }
     ensures same { vec_capacity out.new ≡ vec_capacity out.old }
-    ensures ascii { IfOk result (λ r.
-        TellsAscii is_ascii out.old.items → TellsAscii r.2 out.new.items) }
 {
     if waiting >= SHORT_END {
         return take_word(out, waiting, held, is_ascii);
@@ -182,13 +225,14 @@ fn take_word(
     requires few { held < 64 }
     requires clear { IsClear held waiting }
     requires room { vec_len out.old < vec_capacity out.old }
-    ensures taken { IfOk result (λ r. Decodes out.old.items held waiting out.new.items r.1 r.0) }
-    ensures fails { IsCodedOn out.old.items held waiting → IsOk result }
+    ensures taken { IfOk result (λ r.
+        Decodes out.old.items is_ascii held waiting out.new.items r.2 r.1 r.0) }
+    ensures fails { IsCodedOn held waiting → IsOk result }
+    ensures fault { IfErr result (λ e. e ≡ Invalid) }
+    ensures err { OnErr result (out.new.items ≡ out.old.items) }
     ensures room { IfOk result (λ r.
         SHORTEST * vec_len out.new + r.1 ≤ SHORTEST * vec_len out.old + held) }
     ensures same { vec_capacity out.new ≡ vec_capacity out.old }
-    ensures ascii { IfOk result (λ r.
-        TellsAscii is_ascii out.old.items → TellsAscii r.2 out.new.items) }
 {
     let word = word_at((waiting >> AFTER_WINDOW) as u32);
     let is_ascii = push_any(out, byte_of(word)?, is_ascii);
@@ -202,7 +246,8 @@ fn push_any(out: &mut Vec<u8>, byte: u8, is_ascii: bool) -> bool
     ensures items { out.new.items ≡ out.old.items ++ byte ∷ [] }
     ensures len { vec_len out.new ≡ vec_len out.old + 1 }
     ensures same { vec_capacity out.new ≡ vec_capacity out.old }
-    ensures ascii { TellsAscii is_ascii out.old.items → TellsAscii result out.new.items }
+    ensures ascii { (text : List ℕ) → TellsAscii is_ascii text
+        → TellsAscii result (text ++ byte ∷ []) }
 {
     out.push_reserved(byte);
     is_ascii && byte < 128
@@ -216,12 +261,11 @@ fn take_short(out: &mut Vec<u8>, waiting: u64, held: u32) -> (u64, u32)
     requires short { waiting < SHORT_END }
     requires clear { IsClear held waiting }
     requires room { vec_len out.old + 2 ≤ vec_capacity out.old }
-    ensures taken { Decodes out.old.items held waiting out.new.items result.1 result.0 }
+    ensures taken { (is_ascii : Bool)
+        → Decodes out.old.items is_ascii held waiting out.new.items is_ascii result.1 result.0 }
     ensures most { held ≤ result.1 + PAIR_BITS }
     ensures room { SHORTEST * vec_len out.new + result.1 ≤ SHORTEST * vec_len out.old + held }
     ensures same { vec_capacity out.new ≡ vec_capacity out.old }
-    ensures ascii { (is_ascii : Bool) → TellsAscii is_ascii out.old.items
-        → TellsAscii is_ascii out.new.items }
 {
     let (bits, spare, first, second) = pair_entry((waiting >> AFTER_PAIR) as usize);
     push_some(out, first, second, spare as usize);

@@ -1,5 +1,5 @@
 //! The capsules by their kinds.
-ghost use Rattle.std.specs.Prelude.{◌≡◌, ◌+◌, length};
+ghost use Rattle.std.specs.Prelude.{◌≡◌, ◌+◌, length, IfOk};
 ghost use Rattle.wtp_core.specs.Writer.{PutsParts, LacksRoom};
 
 use crate::capsule::{Capsule, CapsuleError, capsule_types};
@@ -38,7 +38,8 @@ impl CloseWebTransportSession {
     /// Returns `TooLong` if the reason has more than 1024 bytes, before it allocates. Returns
     /// `Memory` if allocation failed; only a reason that is not empty allocates.
     pub fn new(alloc: Global, error_code: u32, reason: &str) -> Result<Self, CapsuleError>
-        ensures { MakesClose error_code reason.now result }
+        ensures made { MakesClose error_code reason.now result }
+        ensures writable { IfOk result (λ close. IsWritableClose close) }
     {
         if reason.len() > Self::MAX_REASON_LEN {
             return Err(CapsuleError::TooLong);

@@ -1,5 +1,5 @@
 //! The part of a frame after its type.
-ghost use Rattle.std.specs.Prelude.{◌≡◌, ◌+◌, ◌≤◌, None, length, take, drop, IsSome, IfSome};
+ghost use Rattle.std.specs.Prelude.{◌≡◌, ◌≤◌, None, length, take, IsSome, IfSome};
 ghost use Rattle.wtp_wire.specs.Body.{payload_of, session_of};
 
 use crate::frame::short::Room;
@@ -61,20 +61,20 @@ impl<'a> Body<'a> {
 }
 
 impl Body<'static> {
-    /// Copies the `len` bytes at `start`. Returns `None` if allocation failed. A payload of at most
-    /// 40 bytes does not allocate, unless it is near the end of the bytes.
+    /// Copies the first `len` bytes. Returns `None` if there are fewer, and if allocation failed.
+    /// A payload of at most 40 bytes does not allocate if at least 40 bytes are given.
     #[inline(always)]
-    pub(crate) fn copy(alloc: Global, bytes: &[u8], start: usize, len: usize) -> Option<Self>
-        requires { start + len ≤ length bytes.now }
-        ensures copy { IfSome result (λ b. payload_of b ≡ take len (drop start bytes.now)) }
+    pub(crate) fn copy(alloc: Global, bytes: &[u8], len: usize) -> Option<Self>
+        ensures within { IfSome result (λ _. len ≤ length bytes.now) }
+        ensures copy { IfSome result (λ b. payload_of b ≡ take len bytes.now) }
         ensures plain { IfSome result (λ b. session_of b ≡ None) }
-        ensures short { len ≤ 40 → start + 40 ≤ length bytes.now → IsSome result }
+        ensures short { len ≤ 40 → 40 ≤ length bytes.now → IsSome result }
     {
-        let behind = &bytes[start..];
-        if let Some(room) = Room::front_of(behind, len) {
+        if let Some(room) = Room::front_of(bytes, len) {
             return Some(Body::Short(len as u8, room));
         }
-        match Vec::from_slice(alloc, behind.split_at(len).0) {
+        let (payload, _) = bytes.split_at_checked(len)?;
+        match Vec::from_slice(alloc, payload) {
             Ok(copy) => Some(Body::Owned(copy)),
             Err(_) => None,
         }

@@ -1,8 +1,8 @@
 //! The head of a frame, and what it announces. The head is the first two numbers: the type, and
 //! the length or session ID.
-ghost use Rattle.std.specs.Prelude.{◌≡◌, ◌+◌, ◌<◌, length};
+ghost use Rattle.std.specs.Prelude.{◌≡◌, ◌+◌, ◌<◌, ◌≤◌, length, Some, None, MatchOption, IfSome};
 ghost use Rattle.wtp_wire.specs.FrameNeed.{frame_need, frame_need_most, frame_need_grows};
-ghost use Rattle.wtp_wire.specs.FrameHead.{announcement_at, announcement_of, AnnouncesKind};
+ghost use Rattle.wtp_wire.specs.FrameHead.{head_at, announcement_at, announcement_of, AnnouncesKind};
 ghost use Rattle.wtp_wire.specs.Kind.{kind_of};
 
 use crate::frame::FrameKind;
@@ -51,19 +51,47 @@ impl Head for FrameHead {
     ghost need_grows = { frame_need_grows };
 }
 
+/// The head at the start of some bytes.
+#[derive(Clone, Copy)]
+pub(crate) struct FirstHead<'a> {
+    /// The type.
+    pub(crate) id: VarInt,
+    /// What the head announces.
+    pub(crate) announcement: Announcement,
+    /// The bytes after the head.
+    pub(crate) after: &'a [u8],
+}
+
+/// Returns the head at the start of these bytes, or `None` if its two numbers are not both
+/// complete.
+#[inline(always)]
+#[tactic(auto, unfolding(crate::specs::FrameHead::head_at))]
+pub(crate) fn first_head<'a>(bytes: &'a [u8]) -> Option<FirstHead<'a>>
+    ensures head { MatchOption result (head_at bytes.now ≡ None)
+        (λ h. head_at bytes.now ≡ Some (h.announcement, h.after.now)) }
+    ensures kind { IfSome result (λ h. AnnouncesKind (kind_of h.id) h.announcement) }
+    ensures within { IfSome result (λ h. length h.after.now ≤ length bytes.now) }
+{
+    let (id, id_size) = first_varint(bytes)?;
+    let behind = &bytes[id_size..];
+    let (number, size) = first_varint(behind)?;
+    Some(FirstHead {
+        id,
+        announcement: classify_head(id, number),
+        after: &behind[size..],
+    })
+}
+
 /// Returns what the head at the start of these bytes announces.
 #[inline(always)]
-#[tactic(auto, unfolding(crate::specs::FrameHead::announcement_at, crate::specs::FrameHead::head_at))]
+#[tactic(auto, unfolding(crate::specs::FrameHead::announcement_at))]
 pub(crate) fn read_head(held: &[u8]) -> Announcement
     ensures { result ≡ announcement_at held.now }
 {
-    let Some((id, size)) = first_varint(held) else {
-        return Announcement::Unfinished;
-    };
-    let Some((number, _)) = first_varint(&held[size..]) else {
-        return Announcement::Unfinished;
-    };
-    classify_head(id, number)
+    match first_head(held) {
+        Some(head) => head.announcement,
+        None => Announcement::Unfinished,
+    }
 }
 
 /// Returns what a head of these two numbers announces.

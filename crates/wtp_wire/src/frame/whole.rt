@@ -4,9 +4,10 @@ ghost use Rattle.wtp_wire.specs.Content.{Content, payload_in};
 ghost use Rattle.wtp_wire.specs.Front.{Framed, front};
 
 use crate::frame::body::Body;
+use crate::frame::head::{Announcement, first_head};
+use crate::frame::kind::KindNumber;
 use crate::frame::{Frame, FrameOwned};
 use std::alloc::Global;
-use wtp_core::bytes::BufferReader;
 
 /// Returns the first frame of the input, with a payload of its own, and the number of bytes it has.
 ///
@@ -19,18 +20,21 @@ pub(crate) fn front_frame(alloc: Global, bytes: &[u8]) -> Option<(FrameOwned, us
     ensures short { (f : Content) (rest : List ℕ) → front bytes.now ≡ Framed f rest
         → length (payload_in f) ≤ 40 → 40 ≤ length (payload_in f) + length rest → IsSome result }
 {
-    let mut reader = BufferReader::new(bytes);
-    let Ok(Some(frame)) = Frame::read(&mut reader) else {
+    let Some(head) = first_head(bytes) else {
         return None;
     };
-    let size = reader.offset();
-    let kind = frame.kind_number();
-    let body = match frame.session_id() {
-        Some(session_id) => Body::Session(session_id),
-        None => {
-            let len = frame.payload().len();
-            Body::copy(alloc, bytes, size - len, len)?
+    let announcement = head.announcement;
+    match announcement {
+        Announcement::Payload(kind, size) => {
+            let body = Body::copy(alloc, head.after, size as usize)?;
+            let kind = KindNumber::with_number(head.id, kind);
+            let rest = head.after.len() - size as usize;
+            Some((Frame { kind, body }, bytes.len() - rest))
         }
-    };
-    Some((Frame { kind, body }, size))
+        Announcement::Session(session_id) => {
+            let frame = Frame::new_webtransport(session_id);
+            Some((frame, bytes.len() - head.after.len()))
+        }
+        _ => None,
+    }
 }

@@ -10,3 +10,12 @@ returns-in_err-size-clause-memory g c = λ memory.
 
 pub has_flag-requires-clause-byte : goal.has_flag-requires-clause-byte
 has_flag-requires-clause-byte g c = omega (arith, int_shorter _ _ _ _ c.in_ok-size.ensures)
+
+pub returns-then-not-has_flag-clause-size : goal.returns-then-not-has_flag-clause-size
+returns-then-not-has_flag-clause-size g c = omega (arith, int_shorter _ _ _ _ c.in_ok-size.ensures, c.split_at.ensures.back_len)
+
+pub decode-requires : goal.decode-requires
+decode-requires g c = record { fits = omega (arith, int_shorter _ _ _ _ c.in_ok-size.ensures, c.split_at.ensures.front_len, c.if-size-rest.false, c.requires.fits) }
+
+pub returns-clause-size : goal.returns-clause-size
+returns-clause-size g c = omega (arith, int_shorter _ _ _ _ c.in_ok-size.ensures, c.split_at.ensures.front_len, c.split_at.ensures.back_len, c.if-size-rest.false, c.in_ok-decode.ensures.size)

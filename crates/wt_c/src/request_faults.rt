@@ -1,0 +1,178 @@
+//! The first fault of a request, by number and by name (RFC 9114, section 4.3.1; RFC 9220, section
+//! 3).
+ghost use Rattle.std.specs.Prelude.{◌≡◌, ◌≢◌, ◌⊎◌, ◌≤◌, ◌^◌, List, length, Ok, Err, MatchOption};
+ghost use Rattle.wtp_core.specs.declared.error.ErrorCode.{ErrorCode};
+ghost use Rattle.wtp_core.specs.declared.error.Refused.TheVariants.{Code};
+ghost use Rattle.wtp_core.specs.ErrorCodes.{code_number};
+ghost use Rattle.wtp_fields.specs.Field.{Field};
+ghost use Rattle.wtp_fields.specs.Headers.{headers_at, BeginsLine};
+ghost use Rattle.wtp_fields.specs.SessionRequest.{fault_of};
+ghost use Rattle.wtp_fields.specs.declared.session.HeadersParseError.{HeadersParseError};
+ghost use Rattle.wt_c.specs.Output.{Puts, Lacks};
+ghost use Rattle.wt_c.specs.RequestFaults.{IsFaultNumber, first_number, fault_number, fault_name};
+
+use crate::answers::{FAULT, INVALID, MEMORY, OK, ROOM};
+use crate::output::write_bytes;
+use std::alloc::Global;
+use std::borrow::CowSlice;
+use wtp_core::error::Refused;
+use wtp_core::varint::VarInt;
+use wtp_fields::headers::Headers;
+use wtp_fields::session::{HeadersParseError, SessionRequest};
+use wtp_wire::frame::Frame;
+
+/// The fields are those of a request.
+pub const REQUEST_OK: i32 = 0;
+
+/// There is no `:method`.
+pub const MISSING_METHOD: i32 = 1;
+
+/// `:method` is not `CONNECT`.
+pub const METHOD_NOT_CONNECT: i32 = 2;
+
+/// There is no `:scheme`.
+pub const MISSING_SCHEME: i32 = 3;
+
+/// `:scheme` is not `https`.
+pub const SCHEME_NOT_HTTPS: i32 = 4;
+
+/// There is no `:protocol`.
+pub const MISSING_PROTOCOL: i32 = 5;
+
+/// `:protocol` is not `webtransport`.
+pub const PROTOCOL_NOT_WEBTRANSPORT: i32 = 6;
+
+/// There is no `:authority`.
+pub const MISSING_AUTHORITY: i32 = 7;
+
+/// There is no `:path`.
+pub const MISSING_PATH: i32 = 8;
+
+/// Returns the number of a fault of a request, or `REQUEST_OK` for another.
+fn number_of(fault: &HeadersParseError) -> i32
+    ensures { result ≡ fault_number fault.now }
+{
+    match fault {
+        HeadersParseError::MissingMethod => MISSING_METHOD,
+        HeadersParseError::MethodNotConnect => METHOD_NOT_CONNECT,
+        HeadersParseError::MissingScheme => MISSING_SCHEME,
+        HeadersParseError::SchemeNotHttps => SCHEME_NOT_HTTPS,
+        HeadersParseError::MissingProtocol => MISSING_PROTOCOL,
+        HeadersParseError::ProtocolNotWebTransport => PROTOCOL_NOT_WEBTRANSPORT,
+        HeadersParseError::MissingAuthority => MISSING_AUTHORITY,
+        HeadersParseError::MissingPath => MISSING_PATH,
+        HeadersParseError::MissingStatusCode
+        | HeadersParseError::InvalidStatusCode
+        | HeadersParseError::Memory => REQUEST_OK,
+    }
+}
+
+/// Returns the number of the first fault of a request's fields, or `REQUEST_OK` if there is none.
+fn first_fault(headers: Headers) -> i32
+    ensures { result ≡ first_number (fault_of headers) }
+{
+    match SessionRequest::try_from(headers) {
+        Ok(_) => REQUEST_OK,
+        Err(fault) => number_of(&fault),
+    }
+}
+
+/// Finds the first fault of the request in a field section, the payload of a HEADERS frame, in the
+/// order of the numbers.
+///
+/// Returns `OK` with the number of the fault, or `REQUEST_OK` if the section is that of a request.
+/// Returns `FAULT` with the code `QPACK_DECOMPRESSION_FAILED` (0x200) for a section with a fault.
+/// Returns `MEMORY` if allocation failed, and `INVALID` for a section of 2^62 bytes or more. Then
+/// `fault` does not change.
+#[unsafe(no_mangle)]
+pub extern "C" fn wt_request_fault(
+    alloc: Global,
+    section: &[u8],
+    fault: &mut i32,
+    code: &mut u64,
+) -> i32
+    ensures answers { (result ≡ OK)
+        ⊎ ((result ≡ FAULT) ⊎ ((result ≡ MEMORY) ⊎ (result ≡ INVALID))) }
+    ensures fields { result ≡ OK → (m : List Field) × (headers_at section.now ≡ Ok m)
+        × (fault.new ≡ first_number (fault_of m)) }
+    ensures section { result ≡ FAULT → (e : ErrorCode)
+        × (headers_at section.now ≡ Err (Code e)) × (code.new ≡ code_number e) }
+    ensures memory { result ≡ MEMORY → BeginsLine section.now }
+    ensures invalid { result ≡ INVALID → 2 ^ 62 ≤ length section.now }
+    ensures none { result ≢ OK → fault.new ≡ fault.old }
+    ensures code { result ≢ FAULT → code.new ≡ code.old }
+{
+    if section.len() as u64 > VarInt::MAX.into_inner() {
+        return INVALID;
+    }
+    match Headers::with_frame(alloc, &Frame::new_headers(CowSlice::Borrowed(section))) {
+        Ok(headers) => {
+            *fault = first_fault(headers);
+            OK
+        }
+        Err(Refused::Code(refusal)) => {
+            *code = refusal.to_code().into_inner();
+            FAULT
+        }
+        Err(Refused::Memory) => MEMORY,
+    }
+}
+
+/// Returns the fault of a request that has this number.
+fn fault_of_number(number: i32) -> Option<HeadersParseError>
+    ensures { MatchOption result ((fault : HeadersParseError) → ¬ (IsFaultNumber number fault))
+        (λ fault. IsFaultNumber number fault) }
+{
+    match number {
+        MISSING_METHOD => Some(HeadersParseError::MissingMethod),
+        METHOD_NOT_CONNECT => Some(HeadersParseError::MethodNotConnect),
+        MISSING_SCHEME => Some(HeadersParseError::MissingScheme),
+        SCHEME_NOT_HTTPS => Some(HeadersParseError::SchemeNotHttps),
+        MISSING_PROTOCOL => Some(HeadersParseError::MissingProtocol),
+        PROTOCOL_NOT_WEBTRANSPORT => Some(HeadersParseError::ProtocolNotWebTransport),
+        MISSING_AUTHORITY => Some(HeadersParseError::MissingAuthority),
+        MISSING_PATH => Some(HeadersParseError::MissingPath),
+        _ => None,
+    }
+}
+
+/// Returns the name of a fault.
+fn name_of(fault: &HeadersParseError) -> &'static str
+    ensures { result.now ≡ fault_name fault.now }
+{
+    match fault {
+        HeadersParseError::MissingMethod => "MissingMethod",
+        HeadersParseError::MethodNotConnect => "MethodNotConnect",
+        HeadersParseError::MissingScheme => "MissingScheme",
+        HeadersParseError::SchemeNotHttps => "SchemeNotHttps",
+        HeadersParseError::MissingProtocol => "MissingProtocol",
+        HeadersParseError::ProtocolNotWebTransport => "ProtocolNotWebTransport",
+        HeadersParseError::MissingAuthority => "MissingAuthority",
+        HeadersParseError::MissingPath => "MissingPath",
+        HeadersParseError::MissingStatusCode => "MissingStatusCode",
+        HeadersParseError::InvalidStatusCode => "InvalidStatusCode",
+        HeadersParseError::Memory => "Memory",
+    }
+}
+
+/// Writes the name of a request's fault to the start of `out`, in ASCII and without a final zero:
+/// `MissingMethod` and its like.
+///
+/// Returns `OK` with the size of the name in `used`. Returns `ROOM` if `out` is shorter than that
+/// size, which `used` then is; `out` does not change. Returns `INVALID` if no fault has this
+/// number; then nothing changes.
+#[unsafe(no_mangle)]
+pub extern "C" fn wt_request_fault_name(fault: i32, out: &mut [u8], used: &mut usize) -> i32
+    ensures answers { (result ≡ OK) ⊎ ((result ≡ ROOM) ⊎ (result ≡ INVALID)) }
+    ensures name { result ≡ OK → (e : HeadersParseError) × IsFaultNumber fault e
+        × Puts (fault_name e) out.old out.new used.new }
+    ensures room { result ≡ ROOM → (e : HeadersParseError) × IsFaultNumber fault e
+        × Lacks (fault_name e) out.old out.new used.new }
+    ensures invalid { result ≡ INVALID → ((e : HeadersParseError) → ¬ (IsFaultNumber fault e))
+        × (out.new ≡ out.old) × (used.new ≡ used.old) }
+{
+    match fault_of_number(fault) {
+        Some(found) => write_bytes(name_of(&found).as_bytes(), out, used),
+        None => INVALID,
+    }
+}
