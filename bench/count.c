@@ -1,40 +1,45 @@
-/* count LIBRARY.so SYMBOL INPUT CALLS : makes one call of abi.h, over the bytes of a file, this many times after two
-   others, in a function of its own, `counted`, so that valgrind can count the instructions of that function alone. */
-#include "abi.h"
+/* count LIBRARY.so SYMBOL INPUT CALLS : makes one call of abi.h, over the bytes or the pairs of a file, this many times
+   after two others, in a function of its own, `counted`, so that valgrind can count the instructions of that function
+   alone. */
+#include "inputs.h"
 #include <dlfcn.h>
-#include <stdio.h>
-#include <stdlib.h>
 
 typedef int64_t (*reads)(const uint8_t *, size_t);
+typedef int64_t (*writes_pairs)(const bench_pair *, size_t, uint8_t *, size_t);
 
 static volatile int64_t sink;
 
-__attribute__((noinline)) static void counted(reads f, const uint8_t *bytes, size_t len, size_t calls) {
-  for (size_t i = 0; i < calls; ++i) sink += f(bytes, len);
+/* A call, over bytes or over pairs. */
+typedef struct {
+  void *f;
+  const uint8_t *bytes;
+  const bench_pair *pairs; /* or none */
+  size_t len;              /* of the bytes, or the count of pairs */
+} call;
+
+static int64_t make(const call *c) {
+  static uint8_t out[8192];
+  if (c->pairs) return ((writes_pairs)c->f)(c->pairs, c->len, out, sizeof out);
+  return ((reads)c->f)(c->bytes, c->len);
 }
 
-static uint8_t *load(const char *path, size_t *len) {
-  FILE *file = fopen(path, "rb");
-  if (!file) return NULL;
-  fseek(file, 0, SEEK_END);
-  *len = (size_t)ftell(file);
-  rewind(file);
-  uint8_t *bytes = malloc(*len + 1);
-  if (bytes && fread(bytes, 1, *len, file) != *len) return NULL;
-  fclose(file);
-  return bytes;
+__attribute__((noinline)) static void counted(const call *c, size_t calls) {
+  for (size_t i = 0; i < calls; ++i) sink += make(c);
 }
 
 int main(int argc, char **argv) {
   if (argc != 5) return 1;
+  static bench_pair pairs[PAIRS];
   void *library = dlopen(argv[1], RTLD_NOW | RTLD_LOCAL);
-  reads f = library ? (reads)dlsym(library, argv[2]) : NULL;
-  if (!f) return 2; /* the library lacks the call */
-  size_t len;
-  uint8_t *bytes = load(argv[3], &len);
-  if (!bytes) return 1;
+  call c = {.f = library ? dlsym(library, argv[2]) : NULL};
+  if (!c.f) return 2; /* the library lacks the call */
+  c.bytes = load(argv[3], &c.len);
+  if (!strcmp(argv[2], "bench_qpack_encode")) {
+    c.pairs = pairs;
+    c.len = pairs_of(c.bytes, pairs);
+  }
   /* The first call may take what later ones keep. */
-  if (f(bytes, len) < 0 || f(bytes, len) < 0) return 1;
-  counted(f, bytes, len, strtoul(argv[4], NULL, 10));
+  if (make(&c) < 0 || make(&c) < 0) return 1;
+  counted(&c, strtoul(argv[4], NULL, 10));
   return 0;
 }

@@ -1,16 +1,13 @@
 /* driver INPUTS NAME=LIBRARY.so .. : times each call of abi.h that a library has, over the same inputs, the libraries
-   in turn in each round, and prints the least time of each, and at the end how busy the machine was. A wrong answer ends
-   the run with status 1. */
+   in turn in each round. Prints the least time of each, how many times as long each takes as those before it, and at the
+   end how busy the machine was. A wrong answer ends the run with status 1. */
 #define _GNU_SOURCE
-#include "abi.h"
+#include "inputs.h"
 #include <dlfcn.h>
-#include <stdio.h>
-#include <stdlib.h>
-#include <string.h>
 #include <time.h>
 #include <unistd.h>
 
-enum { ROUNDS = 100, LIBRARIES = 4, PAIRS = 64, PIECES = 1024 };
+enum { ROUNDS = 100, LIBRARIES = 4, PIECES = 1024 };
 static const double ROUND = 0.005; /* seconds of the processor */
 
 typedef int64_t (*reads)(const uint8_t *, size_t);
@@ -37,6 +34,13 @@ typedef struct {
 
 static uint8_t out[1 << 21];
 static volatile int64_t sink;
+
+/* The bytes of a file in the folder of the inputs. */
+static uint8_t *load_input(const char *folder, const char *name, size_t *len) {
+  char path[4096];
+  snprintf(path, sizeof path, "%s/%s", folder, name);
+  return load(path, len);
+}
 
 static double now(void) {
   struct timespec t;
@@ -102,26 +106,15 @@ static void measure(const task *t, void **libraries, int count) {
     else
       printf(" %11s    %7s         %6s     ", "-", "-", "-");
   }
-  if (count > 1 && calls[0] && calls[1]) printf("  %5.2f x", least[1] / least[0]);
+  for (int i = 0; i < count; ++i)
+    for (int k = i + 1; k < count; ++k) {
+      if (calls[i] && calls[k])
+        printf("  %13.2f x", least[k] / least[i]);
+      else
+        printf("  %13s  ", "");
+    }
   printf("\n");
   fflush(stdout);
-}
-
-static uint8_t *load(const char *folder, const char *name, size_t *len) {
-  char path[4096];
-  snprintf(path, sizeof path, "%s/%s", folder, name);
-  FILE *file = fopen(path, "rb");
-  if (!file) {
-    perror(path);
-    exit(1);
-  }
-  fseek(file, 0, SEEK_END);
-  *len = (size_t)ftell(file);
-  rewind(file);
-  uint8_t *bytes = malloc(*len + 1);
-  if (fread(bytes, 1, *len, file) != *len) exit(1);
-  fclose(file);
-  return bytes;
 }
 
 static void frames(const char *folder, void **libraries, int count) {
@@ -132,7 +125,7 @@ static void frames(const char *folder, void **libraries, int count) {
       char label[64];
       snprintf(label, sizeof label, "%s, %s", symbols[s] + 6, files[f][1]);
       input in = {.wanted = -1};
-      in.bytes = load(folder, files[f][0], &in.len);
+      in.bytes = load_input(folder, files[f][0], &in.len);
       task t = {.label = label, .symbol = symbols[s], .inputs = &in, .count = 1, .bytes = in.len};
       measure(&t, libraries, count);
     }
@@ -164,7 +157,7 @@ static void pieces(const uint8_t *text, size_t len, size_t each, const char *nam
 static void huffman(const char *folder, void **libraries, int count) {
   static const struct { size_t len; const char *name; } sizes[] = {{8, "8 bytes"}, {64, "64 bytes"}, {4096, "4 KiB"}, {65536, "64 KiB"}};
   size_t len, coded_len;
-  uint8_t *text = load(folder, "header-text-64KiB.bin", &len), *coded = load(folder, "header-text-64KiB.huff", &coded_len);
+  uint8_t *text = load_input(folder, "header-text-64KiB.bin", &len), *coded = load_input(folder, "header-text-64KiB.huff", &coded_len);
   writes encode = NULL;
   for (int i = 0; i < count && !encode; ++i) encode = (writes)dlsym(libraries[i], "bench_huffman_encode");
   if (!encode) return;
@@ -176,20 +169,6 @@ static void huffman(const char *folder, void **libraries, int count) {
   uint8_t *whole = malloc(1 << 20);
   for (size_t i = 0; i < 1 << 20; ++i) whole[i] = text[i % len];
   pieces(whole, 1 << 20, 1 << 20, "1 MiB", encode, libraries, count);
-}
-
-/* A file of pairs: how many, then for each two lengths and its name and value; numbers of four bytes, lowest first. */
-static size_t pairs_of(const uint8_t *at, bench_pair *pairs) {
-  uint32_t count, name, value;
-  memcpy(&count, at, 4);
-  at += 4;
-  for (uint32_t i = 0; i < count; ++i) {
-    memcpy(&name, at, 4);
-    memcpy(&value, at + 4, 4);
-    pairs[i] = (bench_pair){at + 8, name, at + 8 + name, value};
-    at += 8 + name + value;
-  }
-  return count;
 }
 
 /* The size of a field list (RFC 9114, section 4.2.2). */
@@ -221,11 +200,11 @@ static void sections(const char *folder, void **libraries, int count) {
     char name[64], label[64];
     size_t len;
     snprintf(name, sizeof name, "pairs-%s.bin", sets[i]);
-    size_t fields = pairs_of(load(folder, name, &len), pairs);
+    size_t fields = pairs_of(load_input(folder, name, &len), pairs);
     cross(pairs, fields, libraries, count);
     input section = {.wanted = (int64_t)fields}, map = {.len = fields, .wanted = -1};
     snprintf(name, sizeof name, "section-%s.bin", sets[i]);
-    section.bytes = load(folder, name, &section.len);
+    section.bytes = load_input(folder, name, &section.len);
     task decode = {.label = label, .symbol = "bench_qpack_decode", .inputs = &section, .count = 1, .bytes = section.len};
     snprintf(label, sizeof label, "qpack decode, %s", sets[i]);
     measure(&decode, libraries, count);
@@ -275,9 +254,16 @@ static void tell_work(work before, double own) {
 
 static void settings(const char *folder, void **libraries, int count) {
   input in = {.wanted = 1};
-  in.bytes = load(folder, "settings.bin", &in.len);
+  in.bytes = load_input(folder, "settings.bin", &in.len);
   task t = {.label = "settings decode", .symbol = "bench_settings", .inputs = &in, .count = 1, .bytes = in.len};
   measure(&t, libraries, count);
+}
+
+/* The title of a column of ratios: how many times as long the later library takes as the earlier. */
+static const char *ratio_title(const char *later, const char *earlier) {
+  static char title[64];
+  snprintf(title, sizeof title, "%.*s : %.*s", (int)strcspn(later, "="), later, (int)strcspn(earlier, "="), earlier);
+  return title;
 }
 
 int main(int argc, char **argv) {
@@ -299,7 +285,9 @@ int main(int argc, char **argv) {
     }
     printf(" %-41s", argv[i + 2]);
   }
-  printf("%s\n", count > 1 ? " second : first" : "");
+  for (int i = 0; i < count; ++i)
+    for (int k = i + 1; k < count; ++k) printf("  %15s", ratio_title(argv[k + 2], argv[i + 2]));
+  printf("\n");
   work before = work_so_far();
   frames(argv[1], libraries, count);
   huffman(argv[1], libraries, count);

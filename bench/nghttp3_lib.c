@@ -1,71 +1,16 @@
 /* abi.h over nghttp3: QPACK with no dynamic table. Its Huffman code is not exported, so that is measured through a
    section of one line, a literal name "x" with the text as its value. It takes values of at most 64 KiB. */
+#include "../c/interop/sections.h"
 #include "abi.h"
-#include <nghttp3/nghttp3.h>
 #include <stdlib.h>
-#include <string.h>
 
-static const nghttp3_mem *mem(void) { return nghttp3_mem_default(); }
-
-/* What is done with each line of a section. */
-typedef void (*line_user)(nghttp3_vec name, nghttp3_vec value, void *data);
-
-/* Reads a section line by line, and hands each to use, if it is given. Returns the number of lines, or -1. */
-static int64_t read_lines(const uint8_t *section, size_t len, line_user use, void *data) {
-  static nghttp3_qpack_decoder *decoder;
-  static nghttp3_qpack_stream_context *context;
-  if (!decoder) {
-    nghttp3_qpack_decoder_new(&decoder, 0, 0, mem());
-    nghttp3_qpack_stream_context_new(&context, 0, mem());
-  } else {
-    nghttp3_qpack_stream_context_reset(context);
-  }
-  int64_t lines = 0;
-  const uint8_t *end = section + len;
-  for (;;) {
-    nghttp3_qpack_nv pair;
-    uint8_t flags = 0;
-    nghttp3_ssize taken =
-        nghttp3_qpack_decoder_read_request(decoder, context, &pair, &flags, section, (size_t)(end - section), 1);
-    if (taken < 0) return -1;
-    section += taken;
-    if (flags & NGHTTP3_QPACK_DECODE_FLAG_EMIT) {
-      ++lines;
-      if (use) use(nghttp3_rcbuf_get_buf(pair.name), nghttp3_rcbuf_get_buf(pair.value), data);
-      nghttp3_rcbuf_decref(pair.name);
-      nghttp3_rcbuf_decref(pair.value);
-    }
-    if (flags & NGHTTP3_QPACK_DECODE_FLAG_FINAL) return lines;
-  }
-}
-
-static int64_t encode(const nghttp3_nv *pairs, size_t count, uint8_t *out, size_t room) {
-  static nghttp3_qpack_encoder *encoder;
-  static nghttp3_buf prefix, lines, stream;
-  if (!encoder) {
-    nghttp3_qpack_encoder_new(&encoder, 0, mem());
-    nghttp3_buf_init(&prefix);
-    nghttp3_buf_init(&lines);
-    nghttp3_buf_init(&stream);
-  }
-  nghttp3_buf_reset(&prefix);
-  nghttp3_buf_reset(&lines);
-  nghttp3_buf_reset(&stream);
-  if (nghttp3_qpack_encoder_encode(encoder, &prefix, &lines, &stream, 0, pairs, count)) return -1;
-  size_t front = nghttp3_buf_len(&prefix), behind = nghttp3_buf_len(&lines);
-  if (front + behind > room) return -1;
-  memcpy(out, prefix.pos, front);
-  memcpy(out + front, lines.pos, behind);
-  return (int64_t)(front + behind);
-}
-
-int64_t bench_qpack_decode(const uint8_t *section, size_t len) { return read_lines(section, len, NULL, NULL); }
+int64_t bench_qpack_decode(const uint8_t *section, size_t len) { return read_section(section, len, NULL, NULL); }
 
 static void add_size(nghttp3_vec name, nghttp3_vec value, void *size) { *(size_t *)size += 32 + name.len + value.len; }
 
 int64_t bench_qpack_lines(const uint8_t *section, size_t len) {
   size_t size = 0;
-  return read_lines(section, len, add_size, &size) < 0 ? -1 : (int64_t)size;
+  return read_section(section, len, add_size, &size) < 0 ? -1 : (int64_t)size;
 }
 
 int64_t bench_qpack_encode(const bench_pair *pairs, size_t count, uint8_t *out, size_t room) {
@@ -75,7 +20,7 @@ int64_t bench_qpack_encode(const bench_pair *pairs, size_t count, uint8_t *out, 
     named[i] = (nghttp3_nv){(uint8_t *)pairs[i].name, (uint8_t *)pairs[i].value, pairs[i].name_len,
                             pairs[i].value_len, NGHTTP3_NV_FLAG_NONE};
   }
-  return encode(named, count, out, room);
+  return write_section(named, count, out, room);
 }
 
 /* The section that has this Huffman text as its value; made once for each text. */
@@ -123,14 +68,14 @@ int64_t bench_huffman_decode(const uint8_t *text, size_t len, uint8_t *out, size
   copy value = {out, 0};
   if (len > 65536 || room < 2 * len) return -1; /* at most 64 KiB once decoded, which header text is */
   uint8_t *section = section_of(text, len, &section_len);
-  return read_lines(section, section_len, copy_value, &value) == 1 ? (int64_t)value.len : -1;
+  return read_section(section, section_len, copy_value, &value) == 1 ? (int64_t)value.len : -1;
 }
 
 int64_t bench_huffman_encode(const uint8_t *text, size_t len, uint8_t *out, size_t room) {
   static uint8_t section[1 << 18];
   nghttp3_nv pair = {(uint8_t *)"x", (uint8_t *)text, 1, len, NGHTTP3_NV_FLAG_NONE};
   if (len > 65536) return -1;
-  int64_t section_len = encode(&pair, 1, section, sizeof section);
+  int64_t section_len = write_section(&pair, 1, section, sizeof section);
   if (section_len < 5) return -1;
   size_t head = 5; /* behind the prefix, the name, and the first byte of the value's length */
   if ((section[4] & 127) == 127) {

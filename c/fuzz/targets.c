@@ -1,16 +1,35 @@
 /* Fuzz targets, one for each call that reads: TARGET names it. Each input is in memory of its own
-   size, and what a call reports is checked against the sizes that it was given. */
+   size, and what a call reports is checked against the sizes that it was given, and against what the
+   call that writes the same makes of it. The library is not instrumented, so what counts as new for
+   the fuzzer is what the calls report (`note`). */
 #include <stdlib.h>
 #include <string.h>
 #include <wtransport.h>
 
 #define MUST(x) do { if (!(x)) abort(); } while (0)
 
+/* What was reported so far, as counters of libFuzzer. */
+__attribute__((section("__libfuzzer_extra_counters"))) static uint8_t reported[1 << 14];
+
+/* Notes that a call reported a number of some sort. */
+static void note(uint64_t sort, uint64_t number) {
+  uint64_t mixed = (sort + 1) * 0x9e3779b97f4a7c15u ^ (number + 1) * 0xc2b2ae3d27d4eb4fu;
+  reported[(mixed ^ mixed >> 29) % sizeof reported] = 1;
+}
+
+static void note_bytes(uint64_t sort, const uint8_t *bytes, size_t size) {
+  uint64_t sum = 14695981039346656037u;
+  for (size_t i = 0; i < size; i++) sum = (sum ^ bytes[i]) * 1099511628211u;
+  note(sort, sum);
+}
+
 static void varint(const uint8_t *d, size_t n) {
   uint64_t value;
   size_t consumed, used;
   uint8_t out[8];
-  if (wt_varint_read(d, n, &value, &consumed) == WT_OK) {
+  int answer = wt_varint_read(d, n, &value, &consumed);
+  note((uint64_t)answer, consumed);
+  if (answer == WT_OK) {
     MUST(consumed <= n && wt_varint_write(value, out, 8, &used) == WT_OK && used <= consumed);
   }
 }
@@ -20,7 +39,9 @@ static void stream_header(const uint8_t *d, size_t n) {
   size_t consumed, used;
   uint64_t code;
   uint8_t out[16];
-  if (wt_stream_header_read(d, n, &consumed, &header, &code) == WT_OK) {
+  int answer = wt_stream_header_read(d, n, &consumed, &header, &code);
+  note((uint64_t)answer, answer == WT_OK ? header.type : answer == WT_FAULT ? code : 0);
+  if (answer == WT_OK) {
     MUST(consumed <= n && wt_stream_header_write(&header, out, 16, &used) == WT_OK && used <= consumed);
   }
 }
@@ -29,7 +50,9 @@ static void datagram(const uint8_t *d, size_t n) {
   uint64_t session, code;
   size_t offset, used;
   uint8_t out[8];
-  if (wt_datagram_read(d, n, &session, &offset, &code) == WT_OK) {
+  int answer = wt_datagram_read(d, n, &session, &offset, &code);
+  note((uint64_t)answer, answer == WT_OK ? offset : code);
+  if (answer == WT_OK) {
     MUST(offset <= n && wt_datagram_write_head(session, out, 8, &used) == WT_OK && used <= offset);
   }
 }
@@ -47,6 +70,7 @@ static uint64_t walk(const uint8_t *d, size_t n, uint8_t kind, size_t step) {
     if (have > 0) memcpy(held, d + at, have);
     answer = wt_read_frame(&reader, held, have, &consumed, &frame, &code);
     MUST(answer == WT_FAULT || consumed <= have);
+    note((uint64_t)answer, answer == WT_OK ? frame.type : answer == WT_FAULT ? code : reader.due > 0);
     if (answer == WT_OK) {
       MUST(frame.offset + frame.length == consumed && frame.length <= 4096);
       sum = sum * 31 + frame.type + frame.session + frame.length + (frame.length ? held[frame.offset] : 0);
@@ -68,18 +92,60 @@ static void frames(const uint8_t *d, size_t n) {
   MUST(walk(d + 2, n - 2, d[0] & 3, n) == walk(d + 2, n - 2, d[0] & 3, (size_t)d[1] + 1));
 }
 
+/* Fields that were read are written, if they are UTF-8, to a section with the same fields. */
+static void write_again(const wt_field *some, size_t count, const uint8_t *texts, size_t used) {
+  static uint8_t section[8192], again_texts[4096];
+  wt_field again[64];
+  size_t size, again_count, again_used;
+  uint64_t code;
+  int answer = wt_fields_write(some, count, texts, used, section, sizeof section, &size);
+  note(100, (uint64_t)answer);
+  MUST(answer == WT_OK || answer == WT_INVALID || answer == WT_ROOM);
+  if (answer != WT_OK) return;
+  MUST(wt_fields_read(section, size, again, 64, again_texts, sizeof again_texts, &again_count, &again_used,
+                      &code) == WT_OK);
+  MUST(again_count == count && again_used == used && memcmp(again_texts, texts, used) == 0);
+  for (size_t i = 0; i < count; i++) {
+    MUST(again[i].name_length == some[i].name_length && again[i].value_length == some[i].value_length);
+  }
+}
+
+/* A request has a fault exactly where it is refused, and the fault has a name. */
+static void request_fault(const uint8_t *d, size_t n) {
+  uint8_t out[4096];
+  char name[64];
+  size_t authority, used, size;
+  int fault = -1;
+  uint64_t code, other;
+  int answer = wt_request_fault(d, n, &fault, &code);
+  int read = wt_request_read(d, n, out, sizeof out, &authority, &used, &other);
+  note((uint64_t)answer, (uint64_t)fault);
+  if (answer == WT_FAULT) {
+    MUST(fault == -1 && code == 0x200 && read == WT_FAULT && other == 0x200);
+  } else if (fault == WT_REQUEST_OK) {
+    MUST(read == WT_OK || read == WT_ROOM);
+  } else {
+    MUST(answer == WT_OK && read == WT_FAULT && other == 0x10e);
+    MUST(wt_request_fault_name(fault, name, sizeof name, &size) == WT_OK && size > 0);
+  }
+}
+
 static void fields(const uint8_t *d, size_t n) {
   wt_field some[64];
   uint8_t texts[4096];
   size_t count = 0, used = 0;
   uint64_t code;
   int answer = wt_fields_read(d, n, some, 64, texts, sizeof texts, &count, &used, &code);
+  note((uint64_t)answer, count);
   if (answer == WT_OK) {
     MUST(count <= 64 && used <= sizeof texts);
     for (size_t i = 0; i < count; i++) {
       MUST(some[i].name_offset + some[i].name_length <= used);
       MUST(some[i].value_offset + some[i].value_length <= used);
+      note_bytes(101, texts + some[i].name_offset, some[i].name_length);
+      note(102, some[i].value_length);
     }
+    write_again(some, count, texts, used);
   }
   MUST(answer != WT_ROOM || count > 64 || used > sizeof texts);
 }
@@ -90,7 +156,10 @@ static void settings(const uint8_t *d, size_t n) {
   uint64_t code;
   uint8_t out[1024];
   size_t used;
-  if (wt_settings_read(d, n, some, 64, &count, &code) == WT_OK) {
+  int answer = wt_settings_read(d, n, some, 64, &count, &code);
+  note((uint64_t)answer, answer == WT_FAULT ? code : 0);
+  if (answer == WT_OK) {
+    for (size_t i = 0; i < count; i++) note(100, some[i].id);
     MUST(count <= 64 && wt_settings_write(some, count, out, sizeof out, &used) == WT_OK && used <= n);
   }
 }
@@ -99,15 +168,17 @@ static void request(const uint8_t *d, size_t n) {
   uint8_t out[4096];
   size_t authority, used;
   uint64_t code;
-  if (wt_request_read(d, n, out, sizeof out, &authority, &used, &code) == WT_OK) {
-    MUST(authority <= used && used <= sizeof out);
-  }
+  int answer = wt_request_read(d, n, out, sizeof out, &authority, &used, &code);
+  note((uint64_t)answer, answer == WT_OK ? used : answer == WT_FAULT ? code : 0);
+  if (answer == WT_OK) MUST(authority <= used && used <= sizeof out);
 }
 
 static void response(const uint8_t *d, size_t n) {
   uint16_t status;
   uint64_t code;
-  if (wt_response_read(d, n, &status, &code) == WT_OK) MUST(status >= 100 && status <= 599);
+  int answer = wt_response_read(d, n, &status, &code);
+  note((uint64_t)answer, answer == WT_OK ? status : code);
+  if (answer == WT_OK) MUST(status >= 100 && status <= 599);
 }
 
 static void url(const uint8_t *d, size_t n) {
@@ -115,9 +186,12 @@ static void url(const uint8_t *d, size_t n) {
   size_t used, authority, both;
   uint64_t code;
   uint8_t parts[4096];
-  if (wt_request_write(d, n, NULL, 0, NULL, 0, out, sizeof out, &used) == WT_OK && used > 67) {
+  int answer = wt_request_write(d, n, NULL, 0, NULL, 0, out, sizeof out, &used);
+  note((uint64_t)answer, answer == WT_OK ? used : 0);
+  if (answer == WT_OK && used > 67) {
     /* the length of a payload of 64 to 16383 bytes has two bytes */
-    MUST(wt_request_read(out + 3, used - 3, parts, sizeof parts, &authority, &both, &code) == WT_OK);
+    answer = wt_request_read(out + 3, used - 3, parts, sizeof parts, &authority, &both, &code);
+    MUST(answer == WT_OK || (answer == WT_ROOM && both > sizeof parts));
   }
 }
 
@@ -126,10 +200,34 @@ static void close_value(const uint8_t *d, size_t n) {
   uint64_t code;
   uint8_t out[2048];
   size_t used;
-  if (wt_close_read(d, n, &reset, &code) == WT_OK) {
+  int answer = wt_close_read(d, n, &reset, &code);
+  note((uint64_t)answer, n < 5 ? n : 5 + (n > 1028));
+  if (answer == WT_OK) {
     MUST(n >= 4 && wt_close_write(reset, d + 4, n - 4, out, sizeof out, &used) == WT_OK);
     MUST(used > n && memcmp(out + used - n, d, n) == 0);
   }
+}
+
+/* Numbers that have names: of settings, of codes, and of applications' codes. */
+static void names(const uint8_t *d, size_t n) {
+  uint64_t number = 0;
+  uint32_t application;
+  char out[64], again[64];
+  size_t size, again_size;
+  int answer;
+  if (n > 8) return;
+  for (size_t i = 0; i < n; i++) number = number << 8 | d[i];
+  answer = wt_setting_name(number, out, sizeof out, &size);
+  note((uint64_t)answer, answer == WT_OK ? number : 0);
+  MUST(answer == WT_INVALID || (answer == WT_OK && wt_setting_name(number, again, size, &again_size) == WT_OK &&
+                                again_size == size && memcmp(out, again, size) == 0));
+  answer = wt_code_name(number, out, sizeof out, &size);
+  note(100, answer == WT_OK ? number : 0);
+  MUST(answer == WT_INVALID || (answer == WT_OK && size > 0));
+  MUST((wt_code_scope(number) == WT_INVALID) == (answer == WT_INVALID));
+  answer = wt_application_code_from_http3(number, &application);
+  note(200, (uint64_t)answer);
+  MUST(answer == WT_INVALID || wt_application_code_to_http3(application) == number);
 }
 
 int LLVMFuzzerTestOneInput(const uint8_t *data, size_t size);

@@ -230,6 +230,32 @@ int wt_request_write(const uint8_t *url, size_t url_length, const wt_field *fiel
 int wt_request_read(const uint8_t *section, size_t length, uint8_t *out, size_t room,
                     size_t *authority, size_t *used, uint64_t *code);
 
+/* The first fault that the fields of a section have as those of a request. The order is that in which
+   they are looked for (RFC 9114, section 4.3.1; RFC 9220, section 3). */
+enum {
+  WT_REQUEST_OK = 0,                        /* no fault: they are those of a request */
+  WT_REQUEST_MISSING_METHOD = 1,            /* no :method */
+  WT_REQUEST_METHOD_NOT_CONNECT = 2,        /* :method is not CONNECT */
+  WT_REQUEST_MISSING_SCHEME = 3,            /* no :scheme */
+  WT_REQUEST_SCHEME_NOT_HTTPS = 4,          /* :scheme is not https */
+  WT_REQUEST_MISSING_PROTOCOL = 5,          /* no :protocol */
+  WT_REQUEST_PROTOCOL_NOT_WEBTRANSPORT = 6, /* :protocol is not webtransport */
+  WT_REQUEST_MISSING_AUTHORITY = 7,         /* no :authority */
+  WT_REQUEST_MISSING_PATH = 8               /* no :path */
+};
+
+/* Finds the first fault of a request, so that the code 0x10e of wt_request_read can be explained. It
+   allocates.
+   WT_OK: *fault is one of WT_REQUEST_...
+   WT_FAULT: *code is 0x200 for a section with a fault. WT_MEMORY. WT_INVALID: the section has 2^62
+   bytes. Then *fault does not change. */
+int wt_request_fault(const uint8_t *section, size_t length, int *fault, uint64_t *code);
+
+/* Writes the name of a fault in ASCII, without a final zero, as MissingMethod for
+   WT_REQUEST_MISSING_METHOD.
+   WT_OK, WT_ROOM: as above. WT_INVALID: no fault has this number; WT_REQUEST_OK is none. */
+int wt_request_fault_name(int fault, char *out, size_t room, size_t *used);
+
 /* Writes the HEADERS frame of the response with a status, with these fields too. It allocates.
    WT_OK, WT_ROOM: as above. WT_INVALID: the status is not from 100 to 599, or a field is not within
    the texts, is not UTF-8, or is another :status. WT_MEMORY. */

@@ -33,6 +33,19 @@ static int read_fields(void) {
                         &count, &used, &code);
 }
 
+static int write_fields(void) {
+  static const wt_field field = {0, 6, 6, 19};
+  uint8_t out[64];
+  size_t used;
+  return wt_fields_write(&field, 1, (const uint8_t *)"originhttps://example.com", 25, out, sizeof out, &used);
+}
+
+static int write_close(void) {
+  uint8_t out[64];
+  size_t used;
+  return wt_close_write(1, (const uint8_t *)"bye", 3, out, sizeof out, &used);
+}
+
 static int read_settings(void) {
   wt_setting settings[4];
   size_t count;
@@ -62,20 +75,35 @@ static int write_request(void) {
                           (const uint8_t *)"originhttps://example.com", 25, out, sizeof out, &used);
 }
 
-static int read_request(void) {
+/* The HEADERS frame of a request; its payload has fewer than 64 bytes. */
+static const uint8_t *request_frame(size_t *size) {
   static uint8_t frame[256];
-  static size_t size = 0;
-  uint8_t out[64];
-  size_t authority, used;
-  uint64_t code;
-  if (size == 0) {
+  static size_t used = 0;
+  if (used == 0) {
     long k = left;
     left = -1;
     wt_request_write((const uint8_t *)"https://example.com/chat", 24, NULL, 0, NULL, 0, frame,
-                     sizeof frame, &size);
+                     sizeof frame, &used);
     left = k;
   }
+  *size = used;
+  return frame;
+}
+
+static int read_request(void) {
+  size_t size, authority, used;
+  const uint8_t *frame = request_frame(&size);
+  uint8_t out[64];
+  uint64_t code;
   return wt_request_read(frame + 2, size - 2, out, sizeof out, &authority, &used, &code);
+}
+
+static int find_fault(void) {
+  size_t size;
+  const uint8_t *frame = request_frame(&size);
+  int fault;
+  uint64_t code;
+  return wt_request_fault(frame + 2, size - 2, &fault, &code);
 }
 
 static int write_response(void) {
@@ -116,13 +144,16 @@ static void refuse(const char *name, int (*call)(void)) {
 
 int main(void) {
   refuse("wt_fields_read", read_fields);
+  refuse("wt_fields_write", write_fields);
   refuse("wt_settings_read", read_settings);
   refuse("wt_settings_write", write_settings);
   refuse("wt_setting_name", name_setting);
   refuse("wt_request_write", write_request);
   refuse("wt_request_read", read_request);
+  refuse("wt_request_fault", find_fault);
   refuse("wt_response_write", write_response);
   refuse("wt_response_read", read_response);
+  refuse("wt_close_write", write_close);
   printf("%lu passed, %lu failed\n", passed, failed);
   return failed > 0;
 }

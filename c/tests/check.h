@@ -30,5 +30,6 @@ void test_settings(void);
 void test_fields(void);
 void test_reader(void);
 void test_sessions(void);
+void test_request_faults(void);
 void test_closes(void);
 #endif

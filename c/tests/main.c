@@ -22,6 +22,7 @@ int main(void) {
   test_fields();
   test_reader();
   test_sessions();
+  test_request_faults();
   test_closes();
   printf("%lu passed, %lu failed\n", passed, failed);
   return failed > 0;

@@ -1,9 +1,8 @@
 /* Field sections beside nghttp3: of random lists of fields, what either encodes the other decodes to
    the same lines in the same order. Argument: how many lists (default: 1000000 each way). */
-#include <nghttp3/nghttp3.h>
+#include "sections.h"
 #include <stdio.h>
 #include <stdlib.h>
-#include <string.h>
 #include <wtransport.h>
 
 enum { MOST = 12, TEXTS = 4096 };
@@ -75,26 +74,14 @@ static int same(const uint8_t *name, size_t name_size, const uint8_t *value, siz
 }
 
 static int we_read(void) {
-  static nghttp3_qpack_encoder *encoder;
-  static nghttp3_buf prefix, lines, stream;
   static uint8_t section[2 * TEXTS], read_texts[TEXTS];
   static wt_field read[MOST];
   size_t found, used;
   uint64_t code;
-  if (!encoder) {
-    nghttp3_qpack_encoder_new(&encoder, 0, nghttp3_mem_default());
-    nghttp3_buf_init(&prefix);
-    nghttp3_buf_init(&lines);
-    nghttp3_buf_init(&stream);
-  }
-  nghttp3_buf_reset(&prefix);
-  nghttp3_buf_reset(&lines);
-  nghttp3_buf_reset(&stream);
-  if (nghttp3_qpack_encoder_encode(encoder, &prefix, &lines, &stream, 0, pairs, count)) return 0;
-  memcpy(section, prefix.pos, nghttp3_buf_len(&prefix));
-  memcpy(section + nghttp3_buf_len(&prefix), lines.pos, nghttp3_buf_len(&lines));
-  if (wt_fields_read(section, nghttp3_buf_len(&prefix) + nghttp3_buf_len(&lines), read, MOST, read_texts,
-                     TEXTS, &found, &used, &code) != WT_OK || found != count || used != size) {
+  int64_t section_size = write_section(pairs, count, section, sizeof section);
+  if (section_size < 0 ||
+      wt_fields_read(section, (size_t)section_size, read, MOST, read_texts, TEXTS, &found, &used,
+                     &code) != WT_OK || found != count || used != size) {
     return 0;
   }
   for (size_t i = 0; i < count; i++) {
@@ -106,35 +93,23 @@ static int we_read(void) {
   return 1;
 }
 
+/* How many lines there were so far, and whether each was the one of the list. */
+typedef struct {
+  size_t lines;
+  int good;
+} comparison;
+
+static void compare(nghttp3_vec name, nghttp3_vec value, void *data) {
+  comparison *with = data;
+  if (!same(name.base, name.len, value.base, value.len, with->lines++)) with->good = 0;
+}
+
 static int they_read(void) {
-  static nghttp3_qpack_decoder *decoder;
-  static nghttp3_qpack_stream_context *context;
   static uint8_t section[2 * TEXTS];
-  size_t used, i = 0;
-  const uint8_t *at = section;
+  size_t used;
+  comparison with = {0, 1};
   if (wt_fields_write(fields, count, texts, size, section, sizeof section, &used) != WT_OK) return 0;
-  if (!decoder) {
-    nghttp3_qpack_decoder_new(&decoder, 0, 0, nghttp3_mem_default());
-    nghttp3_qpack_stream_context_new(&context, 0, nghttp3_mem_default());
-  } else {
-    nghttp3_qpack_stream_context_reset(context);
-  }
-  for (;;) {
-    nghttp3_qpack_nv pair;
-    uint8_t flags = 0;
-    nghttp3_ssize taken = nghttp3_qpack_decoder_read_request(decoder, context, &pair, &flags, at,
-                                                             (size_t)(section + used - at), 1);
-    if (taken < 0) return 0;
-    at += taken;
-    if (flags & NGHTTP3_QPACK_DECODE_FLAG_EMIT) {
-      nghttp3_vec name = nghttp3_rcbuf_get_buf(pair.name), value = nghttp3_rcbuf_get_buf(pair.value);
-      int good = same(name.base, name.len, value.base, value.len, i++);
-      nghttp3_rcbuf_decref(pair.name);
-      nghttp3_rcbuf_decref(pair.value);
-      if (!good) return 0;
-    }
-    if (flags & NGHTTP3_QPACK_DECODE_FLAG_FINAL) return i == count;
-  }
+  return read_section(section, used, compare, &with) == (int64_t)count && with.good;
 }
 
 int main(int argc, char **argv) {
