@@ -1,0 +1,51 @@
+"""1,000 sessions and 10,000 streams of one client after another, and what they cost the server."""
+import asyncio
+import time
+
+from client import client_of, close_capsule, number
+
+CONNECTIONS, SESSIONS, STREAMS = 10, 100, 10  # sessions on each connection, streams in each session
+AT_ONCE = 10  # sessions at the same time
+
+
+def resident(pid):
+    """The memory of a process, in KiB."""
+    with open(f"/proc/{pid}/status", encoding="ascii") as file:
+        return next(int(line.split()[1]) for line in file if line.startswith("VmRSS:"))
+
+
+async def use_session(client, name):
+    """One session: streams both ways and one way, a datagram, the close. Returns what came back:
+    whether the close did, the streams, the datagram, and how often that was sent again."""
+    session = await client.open_session(b"/echo?load")
+    texts = [f"{name} stream {i}".encode() * (1 + i * i) for i in range(STREAMS)]
+    both = [client.open(number(0x41) + number(session) + text, end=True) for text in texts[::2]]
+    for text in texts[1::2]:
+        client.open(number(0x54) + number(session) + text, end=True, one_way=True)
+    await client.until(lambda: all(client.stream(stream).is_ended for stream in both))
+    came = [client.incoming.pop(stream).data == text for stream, text in zip(both, texts[::2])]
+    head = number(0x54) + number(session)
+    await client.until(lambda: all(client.one_way[head + text] for text in texts[1::2]))
+    came += [client.one_way.pop(head + text, 0) == 1 for text in texts[1::2]]
+    datagram, again = number(session // 4) + name.encode(), -1
+    while not client.datagrams[datagram] and again < 5:  # QUIC may lose it (RFC 9221, section 5)
+        client.send_datagram(datagram)
+        again += 1
+        await client.until(lambda: client.datagrams[datagram], 1)
+    client.send(session, close_capsule(7), end=True)
+    is_closed = await client.until(lambda: client.stream(session).is_ended)
+    client.incoming.pop(session)
+    return is_closed, sum(came), client.datagrams.pop(datagram, 0) > 0, again
+
+
+async def run(port, pid):
+    """Runs all; returns the counts, the memory after each connection in KiB, and the seconds."""
+    sums, memory, began = [0] * 4, [], time.monotonic()
+    for c in range(CONNECTIONS):
+        async with client_of(port) as client:
+            for s in range(0, SESSIONS, AT_ONCE):
+                names = [f"connection {c} session {s + i}" for i in range(AT_ONCE)]
+                done = await asyncio.gather(*(use_session(client, name) for name in names))
+                sums = [sum(column) for column in zip(sums, *done)]
+        memory.append(resident(pid))
+    return *sums, memory, time.monotonic() - began
