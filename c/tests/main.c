@@ -23,7 +23,6 @@ int main(void) {
   test_reader();
   test_sessions();
   test_request_faults();
-  test_capsules();
   test_closes();
   printf("%lu passed, %lu failed\n", passed, failed);
   return failed > 0;

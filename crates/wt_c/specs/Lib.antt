@@ -9,5 +9,4 @@ pub mod Settings
 pub mod Texts
 pub mod Sessions
 pub mod Reader
-pub mod CapsuleReader
 pub mod RequestFaults

@@ -5,7 +5,6 @@
 #![tactic(auto)]
 
 pub mod answers;
-pub mod capsule_reader;
 pub mod capsules;
 pub mod codes;
 pub mod datagrams;

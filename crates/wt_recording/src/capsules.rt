@@ -1,7 +1,7 @@
 //! The listing of capsules.
+use crate::escaped::add_escaped;
 use crate::recording::Data;
 use std::alloc::{AllocError, Global};
-use wt_inspection::escaped::add_escaped;
 use wt_listings::listing::lines::Lines;
 use wtransport_proto::capsule::capsules::CloseWebTransportSession;
 use wtransport_proto::capsule::{Capsule, CapsuleError, CapsuleKind, CapsuleReading};

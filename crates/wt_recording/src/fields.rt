@@ -1,6 +1,6 @@
 //! The listing of field lines.
+use crate::escaped::add_escaped;
 use std::alloc::{AllocError, Global};
-use wt_inspection::escaped::add_escaped;
 use wt_listings::listing::lines::Lines;
 use wtransport_proto::error::ErrorCode;
 use wtransport_proto::qpack::{DecodingError, FieldLine, FieldLines, FieldRoom};

@@ -6,6 +6,7 @@ ghost use Rattle.std.specs.Prelude.{◌≡◌, ◌≢◌, ◌⊎◌, IfOk, IfErr
 ghost use Rattle.wt_listings.specs.declared.program.Fault.TheVariants as fault;
 
 mod capsules;
+mod escaped;
 mod fields;
 mod frames;
 mod naming;

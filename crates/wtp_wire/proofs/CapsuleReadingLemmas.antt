@@ -63,9 +63,6 @@ unready h f = elim (cases_lt (length h) (varint_need h)) [
       record { says = one_unfinished h r one.0 one.1 none; cut = λ some. front_one h r one.0 one.1 none }
 ]
 
-pub head_cut : (h : List ℕ) → 0 < length h → length h < frame_need h → capsule_front h ≡ Cut
-head_cut h some l = (unready h l).cut some
-
 pub says_unfinished : (h : List ℕ) → length h < frame_need h → head_says h ≡ head-is.Unfinished
 says_unfinished h l = (unready h l).says
 
@@ -201,7 +198,7 @@ held_found h v k n d z size w e more =
     ∙ rw (bytes_at-append v more) refl
 
 -- too few bytes
-pub no_more : (n : ℕ) (s : List ℕ) → length s < n → bytes_at n s ≡ None
+no_more : (n : ℕ) (s : List ℕ) → length s < n → bytes_at n s ≡ None
 unfolding bytes_at
 no_more n s l = rw (lt-ltb (length s) n l) refl
 

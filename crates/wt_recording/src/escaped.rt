@@ -1,17 +1,15 @@
 //! Bytes as a part of one line.
-ghost use Rattle.std.specs.Prelude.{◌≡◌, ◌<◌, ◌++◌, IfOk, IsTrue, string_bytes};
-ghost use Rattle.std.specs.Char.{is_control};
-ghost use Rattle.std.specs.Str.{NoCharPasses};
-ghost use Rattle.wt_inspection.specs.Escaped.{AddsShown, digit_of, escaped_byte, is_plain_byte};
+ghost use Rattle.std.specs.Prelude.{◌≡◌, ◌≤◌, ◌<◌, ◌++◌, All, IfOk, IsTrue, string_bytes};
+ghost use Rattle.wt_recording.specs.Escaped.{AddsShown, digit_of, escaped_byte, is_plain_byte};
 
 use std::alloc::AllocError;
 
 /// Adds bytes to a line: as they are, if they are UTF-8 without control characters and without
 /// backslashes; otherwise each byte but the printable ones of ASCII as `\xNN`, a backslash too. So
-/// no control character is added, and different bytes are added differently.
+/// no line feed is added, and different bytes are added differently.
 ///
 /// Returns [`AllocError`] if allocation fails; then a part of the bytes may be added.
-pub fn add_escaped(line: &mut String, bytes: &[u8]) -> Result<(), AllocError>
+pub(crate) fn add_escaped(line: &mut String, bytes: &[u8]) -> Result<(), AllocError>
     ensures { IfOk result (λ _.
         AddsShown bytes.now (string_bytes line.old) (string_bytes line.new)) }
 {
@@ -28,15 +26,13 @@ pub fn add_escaped(line: &mut String, bytes: &[u8]) -> Result<(), AllocError>
 
 /// Returns whether a text has neither control characters nor backslashes.
 fn is_plain(text: &str) -> bool
-    ensures { IsTrue result → NoCharPasses is_control text.now }
+    ensures { IsTrue result → All (λ b. 32 ≤ b) text.now }
 {
-    has_no_control(text) && !text.as_bytes().contains(&b'\\')
-}
-
-/// Returns whether a text has no control characters.
-pub(crate) fn has_no_control(text: &str) -> bool
-    ensures { IsTrue result → NoCharPasses is_control text.now }
-{
+    let bytes = text.as_bytes();
+    if !bytes.iter().all(|&byte| byte >= 0x20) || bytes.contains(&b'\\') {
+        return false;
+    }
+    // The other control characters are those from 0x7f to 0x9f.
     !text.chars().any(|c| c.is_control())
 }
 
@@ -61,7 +57,7 @@ fn is_printable(byte: u8) -> bool
 }
 
 /// Returns a hexadecimal digit.
-pub(crate) fn hex_digit(value: u8) -> char
+fn hex_digit(value: u8) -> char
     requires { value < 16 }
     ensures digit { result ≡ digit_of value }
     ensures ascii { result < 128 }

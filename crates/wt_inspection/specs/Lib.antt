@@ -1,5 +1,0 @@
-pub mod Heads
-pub mod Pair
-pub mod Tiles
-pub mod Escaped
-pub mod Html
