@@ -2,181 +2,205 @@
 use crate::same::same;
 use std::alloc::Global;
 use std::process::Abort;
-use wtp_fields::qpack::{DecodingError, FieldLines, FieldRoom};
+use wtp_fields::qpack::{DecodingError, FieldLine, FieldLines, FieldRoom};
 
 /// What the next call answers: nothing, a fault, or whether the line is this field.
 type Taken = Option<Result<bool, DecodingError>>;
 
+/// Whether a line is this field.
+fn is_field(line: FieldLine<'_>, name: &[u8], value: &[u8]) -> bool {
+    line.name == name && line.value == value
+}
+
 /// Takes the next line.
-fn taken_once(
-    lines: &mut FieldLines<'_>,
-    room: &mut FieldRoom,
-    name: &[u8],
-    value: &[u8],
-) -> Taken {
-    match lines.next_line(room) {
-        None => None,
-        Some(Err(fault)) => Some(Err(fault)),
-        Some(Ok(line)) => Some(Ok(line.name == name && line.value == value)),
+fn take_once(lines: &mut FieldLines<'_>, room: &mut FieldRoom, name: &[u8], value: &[u8]) -> Taken {
+    match lines.next_line(room)? {
+        Ok(line) => Some(Ok(is_field(line, name, value))),
+        Err(fault) => Some(Err(fault)),
     }
 }
 
 /// Takes the next line, once more where memory was refused.
-fn taken(lines: &mut FieldLines<'_>, room: &mut FieldRoom, name: &[u8], value: &[u8]) -> Taken {
-    match taken_once(lines, room, name, value) {
-        Some(Err(DecodingError::Memory)) => taken_once(lines, room, name, value),
+fn take(lines: &mut FieldLines<'_>, room: &mut FieldRoom, name: &[u8], value: &[u8]) -> Taken {
+    match take_once(lines, room, name, value) {
+        Some(Err(DecodingError::Memory)) => take_once(lines, room, name, value),
         outcome => outcome,
     }
 }
 
-/// Asserts that a section has these lines, in this order, and then this fault or none. What comes
-/// after the last line comes again.
-fn assert_lines(
-    rt: &impl Abort,
-    alloc: Global,
-    section: &[u8],
-    wanted: &[(&[u8], &[u8])],
-    fault: Option<DecodingError>,
-    shows: &str,
-) {
-    let mut room = FieldRoom::new(alloc);
-    let mut lines = match FieldLines::new(section) {
-        Ok(lines) => lines,
-        Err(_) => panic!(rt; "{shows}: no prefix"),
-    };
-    for (name, value) in wanted {
-        let came = taken(&mut lines, &mut room, name, value);
-        same(rt, came, Some(Ok(true)), shows);
+/// What a row shows, a section, its fields up to the first fault or to the end, and what is
+/// answered there.
+type Row = (
+    &'static str,
+    &'static [u8],
+    &'static [(&'static [u8], &'static [u8])],
+    Taken,
+);
+
+/// Asserts that the next lines are the fields of a row. What comes after the last line comes again.
+fn assert_lines(rt: &impl Abort, lines: &mut FieldLines<'_>, room: &mut FieldRoom, row: &Row) {
+    let (shows, _, wanted, end) = row;
+    for (name, value) in *wanted {
+        same(rt, take(lines, room, name, value), Some(Ok(true)), shows);
     }
-    let end = fault.map(Err);
-    same(rt, taken(&mut lines, &mut room, b"", b""), end, shows);
-    same(rt, taken(&mut lines, &mut room, b"", b""), end, shows);
+    same(rt, take(lines, room, b"", b""), *end, shows);
+    same(rt, take(lines, room, b"", b""), *end, shows);
 }
 
-/// What a row shows, a section without a fault, and its lines. Texts in the Huffman code are those
-/// of RFC 7541, appendix C.4; indices are those of RFC 9204, appendix A.
-static LINES: [(&str, &[u8], &[(&[u8], &[u8])]); 11] = [
-    ("no line", b"\x00\x00", &[]),
-    ("a static entry", b"\x00\x00\xd9", &[(b":status", b"200")]),
+/// Asserts that a section has the lines of a row.
+fn assert_section(rt: &impl Abort, room: &mut FieldRoom, row: &Row) {
+    match FieldLines::new(row.1) {
+        Ok(mut lines) => assert_lines(rt, &mut lines, room, row),
+        Err(_) => panic!(rt; "{}: no prefix", row.0),
+    }
+}
+
+/// Asserts it in a new room.
+fn assert_row(rt: &impl Abort, alloc: Global, row: &Row) {
+    let mut room = FieldRoom::new(alloc);
+    assert_section(rt, &mut room, row);
+}
+
+/// Asserts it of each row.
+fn assert_rows(rt: &impl Abort, alloc: Global, rows: &[Row]) {
+    for row in rows {
+        assert_row(rt, alloc, row);
+    }
+}
+
+/// Sections without a fault. Texts in the Huffman code are those of RFC 7541, appendix C.4; indices
+/// are those of RFC 9204, appendix A.
+static LINES: [Row; 11] = [
+    ("no line", b"\x00\x00", &[], None),
+    (
+        "a static entry",
+        b"\x00\x00\xd9",
+        &[(b":status", b"200")],
+        None,
+    ),
     (
         "a static name",
         b"\x00\x00\x50\x0bexample.com",
         &[(b":authority", b"example.com")],
+        None,
     ),
     (
         "a name and a value",
         b"\x00\x00\x23abc\x03def",
         &[(b"abc", b"def")],
+        None,
     ),
-    ("empty texts", b"\x00\x00\x20\x00", &[(b"", b"")]),
+    ("empty texts", b"\x00\x00\x20\x00", &[(b"", b"")], None),
     (
         "both texts in the Huffman code",
         b"\x00\x00\x2f\x01\x25\xa8\x49\xe9\x5b\xa9\x7d\x7f\x89\x25\xa8\x49\xe9\x5b\xb8\xe8\xb4\xbf",
         &[(b"custom-key", b"custom-value")],
+        None,
     ),
     (
         "a Huffman text, a shorter one, and none",
         b"\x00\x00\x23abc\x89\x25\xa8\x49\xe9\x5b\xb8\xe8\xb4\xbf\x2a\x64\x02\x01d\x23abc\x01e",
         &[(b"abc", b"custom-value"), (b"302", b"d"), (b"abc", b"e")],
+        None,
     ),
     (
         "a name again, with another value",
         b"\x00\x00\x23abc\x01b\xd9\x23abc\x01a",
         &[(b"abc", b"b"), (b":status", b"200"), (b"abc", b"a")],
+        None,
     ),
     (
         "the same line again",
         b"\x00\x00\xd9\xd9",
         &[(b":status", b"200"), (b":status", b"200")],
+        None,
     ),
     (
         "a value that is not UTF-8",
         b"\x00\x00\x23abc\x01\xff",
         &[(b"abc", b"\xff")],
+        None,
     ),
     (
         "a name that is not UTF-8",
         b"\x00\x00\x21\xff\x01a",
         &[(b"\xff", b"a")],
+        None,
     ),
 ];
 
 #[test]
 fn lines_past_refused_memory(rt: HostRuntime) {
-    for (shows, section, lines) in &LINES {
-        assert_lines(&rt, rt.alloc(), section, lines, None, shows);
-    }
+    assert_rows(&rt, rt.alloc(), &LINES);
 }
 
-/// What a row shows, a section, the lines before its first fault, and that fault.
-static FAULTS: [(&str, &[u8], &[(&[u8], &[u8])], DecodingError); 10] = [
+/// Sections with a fault.
+static FAULTS: [Row; 10] = [
     (
         "a value is cut",
         b"\x00\x00\xd9\x23abc\x05de",
         &[(b":status", b"200")],
-        DecodingError::UnexpectedFin,
+        Some(Err(DecodingError::UnexpectedFin)),
     ),
     (
         "a name is cut",
         b"\x00\x00\x23ab",
         &[],
-        DecodingError::UnexpectedFin,
+        Some(Err(DecodingError::UnexpectedFin)),
     ),
     (
         "a name that is not UTF-8, and a cut value",
         b"\x00\x00\x21\xff\x02a",
         &[],
-        DecodingError::UnexpectedFin,
+        Some(Err(DecodingError::UnexpectedFin)),
     ),
     (
         "an entry of the dynamic table, and no more is read",
         b"\x00\x00\xd9\xbf",
         &[(b":status", b"200")],
-        DecodingError::DynamicNotSupported,
+        Some(Err(DecodingError::DynamicNotSupported)),
     ),
     (
         "a name of the dynamic table",
         b"\x00\x00\x40\x01a",
         &[],
-        DecodingError::DynamicNotSupported,
+        Some(Err(DecodingError::DynamicNotSupported)),
     ),
     (
         "an entry past the base",
         b"\x00\x00\x10",
         &[],
-        DecodingError::DynamicNotSupported,
+        Some(Err(DecodingError::DynamicNotSupported)),
     ),
     (
         "a name past the base",
         b"\x00\x00\x00\x01a",
         &[],
-        DecodingError::DynamicNotSupported,
+        Some(Err(DecodingError::DynamicNotSupported)),
     ),
     (
         "index 99",
         b"\x00\x00\xff\x24",
         &[],
-        DecodingError::IndexNotfound,
+        Some(Err(DecodingError::IndexNotfound)),
     ),
     (
         "padding of zeros",
         b"\x00\x00\x23abc\x81\x00",
         &[],
-        DecodingError::InvalidString,
+        Some(Err(DecodingError::InvalidString)),
     ),
     (
         "a length above 2^64",
         b"\x00\x00\x23abc\x7f\xff\xff\xff\xff\xff\xff\xff\xff\xff\xff\x01",
         &[],
-        DecodingError::IntegerOverflow,
+        Some(Err(DecodingError::IntegerOverflow)),
     ),
 ];
 
 #[test]
 fn faults_of_lines_past_refused_memory(rt: HostRuntime) {
-    for (shows, section, lines, fault) in &FAULTS {
-        assert_lines(&rt, rt.alloc(), section, lines, Some(*fault), shows);
-    }
+    assert_rows(&rt, rt.alloc(), &FAULTS);
 }
 
 /// Prefixes with a fault: no byte, one integer, and an integer without an end.
@@ -204,7 +228,7 @@ fn prefixes_have_faults(rt: HostRuntime) {
 
 /// Sections that nghttp3 1.8.0 sent, and the fields that were given to it: repeated ones, and a
 /// value of ISO 8859-1.
-static RECORDED: [(&str, &[u8], &[(&[u8], &[u8])]); 3] = [
+static RECORDED: [Row; 3] = [
     (
         "a response with two cookies",
         b"\x00\x00\xd9\x5f\x4d\x84\xae\xc3\xc6\x5f\xf4\x5e\x82\x1c\x01\x5e\x03\x62\x3d\x32\xff\x14",
@@ -216,6 +240,7 @@ static RECORDED: [(&str, &[u8], &[(&[u8], &[u8])]); 3] = [
             (b"set-cookie", b"b=2"),
             (b"alt-svc", b"clear"),
         ],
+        None,
     ),
     (
         "a request with two cookies",
@@ -231,6 +256,7 @@ static RECORDED: [(&str, &[u8], &[(&[u8], &[u8])]); 3] = [
             (b"wt-available-protocols", b"\"a\""),
             (b"wt-available-protocols", b"\"b\""),
         ],
+        None,
     ),
     (
         "a request with a value that is not UTF-8",
@@ -247,44 +273,46 @@ static RECORDED: [(&str, &[u8], &[(&[u8], &[u8])]); 3] = [
             (b"x-empty", b""),
             (b"x-latin", b"w\xf6rld"),
         ],
+        None,
     ),
 ];
 
 #[test]
 fn recorded_lines_past_refused_memory(rt: HostRuntime) {
-    for (shows, section, lines) in &RECORDED {
-        assert_lines(&rt, rt.alloc(), section, lines, None, shows);
-    }
+    assert_rows(&rt, rt.alloc(), &RECORDED);
 }
 
-/// Takes every line of a section, once more where memory was refused. Returns how often it was.
-fn refusals(rt: &impl Abort, room: &mut FieldRoom, section: &[u8], shows: &str) -> usize {
-    let mut lines = match FieldLines::new(section) {
-        Ok(lines) => lines,
-        Err(_) => panic!(rt; "{shows}: no prefix"),
-    };
-    let mut refused: usize = 0;
-    for _ in 0..=section.len() {
-        match lines.next_line(room) {
-            None => return refused,
-            Some(Ok(_)) => {}
-            Some(Err(fault)) => {
-                same(rt, fault, DecodingError::Memory, shows);
-                refused = refused.saturating_add(1);
-            }
-        }
+/// Asserts that lines have these fields and no more, and that no memory is refused for one.
+fn assert_served(
+    rt: &impl Abort,
+    lines: &mut FieldLines<'_>,
+    room: &mut FieldRoom,
+    wanted: &[(&[u8], &[u8])],
+    shows: &str,
+) {
+    for (name, value) in wanted {
+        let came = take_once(lines, room, name, value);
+        same(rt, came, Some(Ok(true)), shows);
     }
-    panic!(rt; "{shows}: the lines do not end")
+    same(rt, take_once(lines, room, b"", b""), None, shows);
+}
+
+/// Asserts that a section has the lines of a row, and that no memory is refused for one.
+fn assert_served_again(rt: &impl Abort, room: &mut FieldRoom, row: &Row) {
+    match FieldLines::new(row.1) {
+        Ok(mut lines) => assert_served(rt, &mut lines, room, row.2, row.0),
+        Err(_) => panic!(rt; "{}: no prefix", row.0),
+    }
 }
 
 /// A room that served some sections serves them again, and takes no memory.
 #[test]
 fn a_room_serves_again_past_refused_memory(rt: HostRuntime) {
     let mut room = FieldRoom::new(rt.alloc());
-    for (shows, section, _) in &RECORDED {
-        refusals(&rt, &mut room, section, shows);
+    for row in &RECORDED {
+        assert_section(&rt, &mut room, row);
     }
-    for (shows, section, _) in &RECORDED {
-        same(&rt, refusals(&rt, &mut room, section, shows), 0, shows);
+    for row in &RECORDED {
+        assert_served_again(&rt, &mut room, row);
     }
 }

@@ -1,103 +1,24 @@
 //! Worked rows of field sections: encoded, decoded and refused, what comes back, texts of errors,
 //! and refused memory.
 use crate::same::same;
+use crate::sections::{
+    FaultRow, assert_come_back, assert_decoded, assert_encoded, assert_faults, assert_map,
+};
 use std::alloc::{AllocError, Global};
 use std::collections::BTreeMap;
-use std::fmt::Display;
 use std::process::Abort;
 use std::test::Fail;
 use wtp_fields::laws::encode_and_decode;
 use wtp_fields::qpack::{Decoder, DecodingError, Encoder};
 
-/// The fields of a section, decoded once more where memory was refused.
-pub(crate) fn decoded(
-    alloc: Global,
-    section: &[u8],
-) -> Result<BTreeMap<String, String>, DecodingError> {
-    match Decoder::decode(alloc, section) {
-        Err(DecodingError::Memory) => Decoder::decode(alloc, section),
-        outcome => outcome,
-    }
-}
-
-/// The section of the pairs, encoded once more where memory was refused.
-pub(crate) fn encoded(alloc: Global, pairs: &[(&str, &str)]) -> Result<Vec<u8>, AllocError> {
-    match Encoder::encode(alloc, pairs.iter().copied()) {
-        Err(AllocError) => Encoder::encode(alloc, pairs.iter().copied()),
-        outcome => outcome,
-    }
-}
-
-/// The parts, one after another.
-fn joined_once(alloc: Global, parts: [&[u8]; 3]) -> Result<Vec<u8>, AllocError> {
-    let mut bytes = Vec::new(alloc);
-    for part in parts {
-        bytes.extend_from_slice(part)?;
-    }
-    Ok(bytes)
-}
-
-/// The same, made once more where memory was refused.
-pub(crate) fn joined(alloc: Global, parts: [&[u8]; 3]) -> Result<Vec<u8>, AllocError> {
-    match joined_once(alloc, parts) {
-        Err(AllocError) => joined_once(alloc, parts),
-        outcome => outcome,
-    }
-}
-
-/// Asserts that a map has these fields, in the order of their names, and no others.
-fn assert_map<S: Copy + Display + Drop>(
-    rt: &impl Abort,
-    fields: &BTreeMap<String, String>,
-    wanted: &[(&str, &str)],
-    shows: S,
-) {
-    same(rt, fields.len(), wanted.len(), shows);
-    for ((name, value), known) in fields.iter().zip(wanted) {
-        same(rt, (name.as_str(), value.as_str()), *known, shows);
-    }
-}
-
-/// Asserts that a section is decoded to these fields, in the order of their names, and to no
-/// others.
-pub(crate) fn assert_decoded<S: Copy + Display + Drop>(
-    rt: &impl Abort,
-    alloc: Global,
-    section: &[u8],
-    wanted: &[(&str, &str)],
-    shows: S,
-) -> Result<(), DecodingError> {
-    assert_map(rt, &decoded(alloc, section)?, wanted, shows);
-    Ok(())
-}
-
-/// Asserts that pairs are encoded to this section.
-pub(crate) fn assert_encoded(
-    rt: &impl Abort,
-    alloc: Global,
-    pairs: &[(&str, &str)],
-    section: &[u8],
-    shows: &str,
-) -> Result<(), AllocError> {
-    same(rt, encoded(alloc, pairs)?.as_slice(), section, shows);
-    Ok(())
-}
-
-/// Asserts that the section of the pairs is decoded to these fields, in the order of their names,
-/// and to no others.
-pub(crate) fn assert_come_back<S: Copy + Display + Drop>(
-    rt: &impl Abort,
-    alloc: Global,
-    pairs: &[(&str, &str)],
-    wanted: &[(&str, &str)],
-    shows: S,
-) -> Result<(), DecodingError> {
-    let section = encoded(alloc, pairs)?;
-    assert_decoded(rt, alloc, section.as_slice(), wanted, shows)
-}
+/// Pairs of names and values.
+type Pairs = &'static [(&'static str, &'static str)];
 
 /// What a row shows, pairs, and their section.
-static ENCODED: [(&str, &[(&str, &str)], &[u8]); 13] = [
+type EncodedRow = (&'static str, Pairs, &'static [u8]);
+
+/// Pairs that are encoded.
+static ENCODED: [EncodedRow; 13] = [
     ("no field", &[], b"\x00\x00"),
     ("a whole entry", &[(":method", "CONNECT")], b"\x00\x00\xcf"),
     (
@@ -151,16 +72,25 @@ static ENCODED: [(&str, &[(&str, &str)], &[u8]); 13] = [
     ),
 ];
 
-#[test]
-fn encoded_fields_past_refused_memory(rt: HostRuntime) -> Result<(), Fail> {
-    for (shows, pairs, section) in &ENCODED {
-        assert_encoded(&rt, rt.alloc(), pairs, section, shows)?;
+/// Asserts that the pairs of each row are encoded to its section.
+fn assert_sections(rt: &impl Abort, alloc: Global, rows: &[EncodedRow]) -> Result<(), AllocError> {
+    for (shows, pairs, section) in rows {
+        assert_encoded(rt, alloc, pairs, section, shows)?;
     }
     Ok(())
 }
 
+#[test]
+fn encoded_fields_past_refused_memory(rt: HostRuntime) -> Result<(), Fail> {
+    assert_sections(&rt, rt.alloc(), &ENCODED)?;
+    Ok(())
+}
+
 /// What a row shows, a section, and its fields in the order of their names.
-static DECODED: [(&str, &[u8], &[(&str, &str)]); 13] = [
+type DecodedRow = (&'static str, &'static [u8], Pairs);
+
+/// Sections that are decoded.
+static DECODED: [DecodedRow; 13] = [
     ("no line", b"\x00\x00", &[]),
     (
         "a whole entry",
@@ -230,150 +160,150 @@ static DECODED: [(&str, &[u8], &[(&str, &str)]); 13] = [
     ),
 ];
 
-#[test]
-fn decoded_sections_past_refused_memory(rt: HostRuntime) -> Result<(), Fail> {
-    for (shows, section, fields) in &DECODED {
-        assert_decoded(&rt, rt.alloc(), section, fields, *shows)?;
+/// Asserts that the section of each row is decoded to its fields.
+fn assert_maps(rt: &impl Abort, alloc: Global, rows: &[DecodedRow]) -> Result<(), DecodingError> {
+    for (shows, section, fields) in rows {
+        assert_decoded(rt, alloc, section, fields, *shows)?;
     }
     Ok(())
 }
 
-/// Asserts what fault is found in a section.
-pub(crate) fn assert_fault(
-    rt: &impl Abort,
-    alloc: Global,
-    section: &[u8],
-    fault: Option<DecodingError>,
-    shows: &str,
-) {
-    same(rt, decoded(alloc, section).err(), fault, shows);
+#[test]
+fn decoded_sections_past_refused_memory(rt: HostRuntime) -> Result<(), Fail> {
+    assert_maps(&rt, rt.alloc(), &DECODED)?;
+    Ok(())
 }
 
-/// What a row shows, a section that is refused, and why.
-static REFUSED: [(&str, &[u8], DecodingError); 24] = [
-    ("nothing", b"", DecodingError::UnexpectedFin),
-    ("no second integer", b"\x00", DecodingError::UnexpectedFin),
+/// Sections that are refused.
+static REFUSED: [FaultRow; 24] = [
+    ("nothing", b"", Some(DecodingError::UnexpectedFin)),
+    (
+        "no second integer",
+        b"\x00",
+        Some(DecodingError::UnexpectedFin),
+    ),
     (
         "index 99",
         b"\x00\x00\xff\x24",
-        DecodingError::IndexNotfound,
+        Some(DecodingError::IndexNotfound),
     ),
     (
         "an index of the dynamic table",
         b"\x00\x00\x80",
-        DecodingError::DynamicNotSupported,
+        Some(DecodingError::DynamicNotSupported),
     ),
     (
         "an index past the base",
         b"\x00\x00\x10",
-        DecodingError::DynamicNotSupported,
+        Some(DecodingError::DynamicNotSupported),
     ),
     (
         "a name past the base",
         b"\x00\x00\x00",
-        DecodingError::DynamicNotSupported,
+        Some(DecodingError::DynamicNotSupported),
     ),
     (
         "a dynamic name, its index cut",
         b"\x00\x00\x4f",
-        DecodingError::DynamicNotSupported,
+        Some(DecodingError::DynamicNotSupported),
     ),
     (
         "a dynamic name never to be indexed",
         b"\x00\x00\x60",
-        DecodingError::DynamicNotSupported,
+        Some(DecodingError::DynamicNotSupported),
     ),
     (
         "the same with an index and a value",
         b"\x00\x00\x6f\x00",
-        DecodingError::DynamicNotSupported,
+        Some(DecodingError::DynamicNotSupported),
     ),
     (
         "a name that is not UTF-8",
         b"\x00\x00\x21\x80",
-        DecodingError::InvalidString,
+        Some(DecodingError::InvalidString),
     ),
     (
         "a first integer past 2^64 - 1",
         b"\xff\x81\xfe\xff\xff\xff\xff\xff\xff\xff\x01\x00",
-        DecodingError::IntegerOverflow,
+        Some(DecodingError::IntegerOverflow),
     ),
     (
         "index 99 before its value",
         b"\x00\x00\x5f\x54",
-        DecodingError::IndexNotfound,
+        Some(DecodingError::IndexNotfound),
     ),
     (
         "index 98, no value",
         b"\x00\x00\x5f\x53",
-        DecodingError::UnexpectedFin,
+        Some(DecodingError::UnexpectedFin),
     ),
     (
         "a length of 2^64 - 1",
         b"\x00\x00\x27\xf8\xff\xff\xff\xff\xff\xff\xff\xff\x01",
-        DecodingError::UnexpectedFin,
+        Some(DecodingError::UnexpectedFin),
     ),
     (
         "a length of 2^64",
         b"\x00\x00\x27\xf9\xff\xff\xff\xff\xff\xff\xff\xff\x01",
-        DecodingError::IntegerOverflow,
+        Some(DecodingError::IntegerOverflow),
     ),
     (
         "the greatest index that fits",
         b"\x00\x00\xff\x80\x80\x80\x80\x80\x80\x80\x80\x80\x01",
-        DecodingError::IndexNotfound,
+        Some(DecodingError::IndexNotfound),
     ),
     (
         "an index one bit above",
         b"\x00\x00\xff\x80\x80\x80\x80\x80\x80\x80\x80\x80\x02",
-        DecodingError::IntegerOverflow,
+        Some(DecodingError::IntegerOverflow),
     ),
     (
         "an index that goes on",
         b"\x00\x00\xff\x80\x80\x80\x80\x80\x80\x80\x80\x80\x81",
-        DecodingError::UnexpectedFin,
+        Some(DecodingError::UnexpectedFin),
     ),
     (
         "an overflow though no byte follows",
         b"\x00\x00\xff\x80\x80\x80\x80\x80\x80\x80\x80\x80\x82",
-        DecodingError::IntegerOverflow,
+        Some(DecodingError::IntegerOverflow),
     ),
     (
         "padding of zeros",
         b"\x00\x00\x29\x00\x00",
-        DecodingError::InvalidString,
+        Some(DecodingError::InvalidString),
     ),
     (
         "padding of eight ones",
         b"\x00\x00\x29\x1f\x81\xff",
-        DecodingError::InvalidString,
+        Some(DecodingError::InvalidString),
     ),
     (
         "padding of eleven ones",
         b"\x00\x00\x29\x1f\x82\x1f\xff",
-        DecodingError::InvalidString,
+        Some(DecodingError::InvalidString),
     ),
     (
         "the word of the end of the string",
         b"\x00\x00\x29\x1f\x84\xff\xff\xff\xff",
-        DecodingError::InvalidString,
+        Some(DecodingError::InvalidString),
     ),
     (
         "a fault after a good line",
         b"\x00\x00\xd9\x10",
-        DecodingError::DynamicNotSupported,
+        Some(DecodingError::DynamicNotSupported),
     ),
 ];
 
 #[test]
 fn refused_sections_past_refused_memory(rt: HostRuntime) {
-    for (shows, section, fault) in &REFUSED {
-        assert_fault(&rt, rt.alloc(), section, Some(*fault), shows);
-    }
+    assert_faults(&rt, rt.alloc(), &REFUSED);
 }
 
 /// What a row shows, pairs, and the fields that come back, in the order of their names.
-static SENT: [(&str, &[(&str, &str)], &[(&str, &str)]); 3] = [
+type SentRow = (&'static str, Pairs, Pairs);
+
+/// Pairs that are encoded and decoded.
+static SENT: [SentRow; 3] = [
     (
         "the last value of a name",
         &[("key1", "a"), ("key1", "b")],
@@ -395,16 +325,26 @@ static SENT: [(&str, &[(&str, &str)], &[(&str, &str)]); 3] = [
     ("one field", &[("key1", "value1")], &[("key1", "value1")]),
 ];
 
-#[test]
-fn encoded_fields_come_back_past_refused_memory(rt: HostRuntime) -> Result<(), Fail> {
-    for (shows, pairs, fields) in &SENT {
-        assert_come_back(&rt, rt.alloc(), pairs, fields, *shows)?;
+/// Asserts that the fields of each row come back from its pairs.
+fn assert_all_come_back(
+    rt: &impl Abort,
+    alloc: Global,
+    rows: &[SentRow],
+) -> Result<(), DecodingError> {
+    for (shows, pairs, fields) in rows {
+        assert_come_back(rt, alloc, pairs, fields, *shows)?;
     }
     Ok(())
 }
 
+#[test]
+fn encoded_fields_come_back_past_refused_memory(rt: HostRuntime) -> Result<(), Fail> {
+    assert_all_come_back(&rt, rt.alloc(), &SENT)?;
+    Ok(())
+}
+
 /// What the law of sections answers, asked for once more where memory was refused.
-fn by_law(
+fn law_answer(
     alloc: Global,
     pairs: &[(&str, &str)],
 ) -> Result<BTreeMap<String, String>, DecodingError> {
@@ -414,18 +354,22 @@ fn by_law(
     }
 }
 
+/// Pairs with names that come again.
+static REPEATED: [(&str, &str); 5] = [
+    ("key1", "a"),
+    ("key1", "b"),
+    (":status", "not_found"),
+    ("key2", ""),
+    (":status", "404"),
+];
+
+/// The last value of each of these names, in the order of the names.
+static LAST: [(&str, &str); 3] = [(":status", "404"), ("key1", "b"), ("key2", "")];
+
 #[test]
 fn last_value_comes_back_past_refused_memory(rt: HostRuntime) -> Result<(), Fail> {
-    let pairs = [
-        ("key1", "a"),
-        ("key1", "b"),
-        (":status", "not_found"),
-        ("key2", ""),
-        (":status", "404"),
-    ];
-    let wanted = [(":status", "404"), ("key1", "b"), ("key2", "")];
-    let fields = by_law(rt.alloc(), &pairs)?;
-    assert_map(&rt, &fields, &wanted, "the last value of each name");
+    let fields = law_answer(rt.alloc(), &REPEATED)?;
+    assert_map(&rt, &fields, &LAST, "the last value of each name");
     Ok(())
 }
 
@@ -433,10 +377,10 @@ fn last_value_comes_back_past_refused_memory(rt: HostRuntime) -> Result<(), Fail
 fn decoders_and_encoders_are_copied(rt: HostRuntime) -> Result<(), Fail> {
     let (decoder, encoder) = (Decoder, Encoder);
     let copies = (decoder, encoder);
-    let shown = format!(in rt.alloc(); "{decoder:?} {encoder:?} {copies:?}")?;
+    let text = format!(in rt.alloc(); "{decoder:?} {encoder:?} {copies:?}")?;
     same(
         &rt,
-        shown.as_str(),
+        text.as_str(),
         "Decoder Encoder (Decoder, Encoder)",
         "copies",
     );
@@ -444,7 +388,7 @@ fn decoders_and_encoders_are_copied(rt: HostRuntime) -> Result<(), Fail> {
 }
 
 /// An error's text, asked for once more where memory was refused.
-fn shown(alloc: Global, error: DecodingError) -> Result<String, AllocError> {
+fn text_of(alloc: Global, error: DecodingError) -> Result<String, AllocError> {
     match error.to_string(alloc) {
         Ok(text) => Ok(text),
         Err(AllocError) => error.to_string(alloc),
@@ -458,7 +402,7 @@ fn assert_shown(
     error: DecodingError,
     text: &str,
 ) -> Result<(), AllocError> {
-    same(rt, shown(alloc, error)?.as_str(), text, text);
+    same(rt, text_of(alloc, error)?.as_str(), text, text);
     Ok(())
 }
 

@@ -1,7 +1,7 @@
 //! Each first byte of a field line: what the line is by bits 7 to 4 (RFC 9204, sections 4.5.2 to
 //! 4.5.6), and what its low bits say.
-use crate::field_sections::{assert_decoded, decoded, joined};
 use crate::same::same;
+use crate::sections::{assert_decoded, decode, join};
 use std::alloc::Global;
 use std::process::Abort;
 use std::test::Fail;
@@ -76,7 +76,7 @@ fn assert_form(
     form: &str,
     fault: Option<DecodingError>,
 ) {
-    let came = decoded(alloc, &[0, 0, first]).err();
+    let came = decode(alloc, &[0, 0, first]).err();
     same(rt, (first, came), (first, fault), form);
 }
 
@@ -106,22 +106,28 @@ fn first_bytes_past_refused_memory(rt: HostRuntime) {
     same(&rt, bytes, 256, "each first byte");
 }
 
-/// Asserts that the section of one line is decoded to this field.
-fn assert_line(
-    rt: &impl Abort,
-    alloc: Global,
-    (first, rest): (u8, &[u8]),
-    field: (&str, &str),
-) -> Result<(), Fail> {
-    let section = joined(alloc, [b"\x00\x00", &[first], rest])?;
-    assert_decoded(rt, alloc, section.as_slice(), &[field], first)?;
+/// The first byte of a line, the rest of the line, and its field.
+type Row = (u8, &'static [u8], &'static str, &'static str);
+
+/// Asserts that the section of one line is decoded to its field.
+fn assert_line(rt: &impl Abort, alloc: Global, row: &Row) -> Result<(), DecodingError> {
+    let (first, rest, name, value) = *row;
+    let section = join(alloc, [b"\x00\x00", &[first], rest])?;
+    assert_decoded(rt, alloc, section.as_slice(), &[(name, value)], first)
+}
+
+/// Asserts it of each row.
+fn assert_lines(rt: &impl Abort, alloc: Global, rows: &[Row]) -> Result<(), DecodingError> {
+    for row in rows {
+        assert_line(rt, alloc, row)?;
+    }
     Ok(())
 }
 
 /// The first byte of a line of a literal name, the rest of the line, and its field. The byte `&` is
 /// as long in the Huffman code, where it is 0xf8.
 #[rattlefmt::skip]
-static LITERAL: [(u8, &[u8], &str, &str); 32] = [
+static LITERAL: [Row; 32] = [
     (0x20, b"\x01v", "", "v"),
     (0x21, b"&\x01v", "&", "v"),
     (0x22, b"&&\x01v", "&&", "v"),
@@ -158,15 +164,13 @@ static LITERAL: [(u8, &[u8], &str, &str); 32] = [
 
 #[test]
 fn lines_of_literal_names_past_refused_memory(rt: HostRuntime) -> Result<(), Fail> {
-    for (first, rest, name, value) in &LITERAL {
-        assert_line(&rt, rt.alloc(), (*first, rest), (name, value))?;
-    }
+    assert_lines(&rt, rt.alloc(), &LITERAL)?;
     Ok(())
 }
 
 /// The same of lines of the name of a static entry.
 #[rattlefmt::skip]
-static NAMED: [(u8, &[u8], &str, &str); 32] = [
+static NAMED: [Row; 32] = [
     (0x50, b"\x01v", ":authority", "v"),
     (0x51, b"\x01v", ":path", "v"),
     (0x52, b"\x01v", "age", "v"),
@@ -203,15 +207,13 @@ static NAMED: [(u8, &[u8], &str, &str); 32] = [
 
 #[test]
 fn lines_of_static_names_past_refused_memory(rt: HostRuntime) -> Result<(), Fail> {
-    for (first, rest, name, value) in &NAMED {
-        assert_line(&rt, rt.alloc(), (*first, rest), (name, value))?;
-    }
+    assert_lines(&rt, rt.alloc(), &NAMED)?;
     Ok(())
 }
 
 /// The same of lines of a static entry.
 #[rattlefmt::skip]
-static INDEXED: [(u8, &[u8], &str, &str); 64] = [
+static INDEXED: [Row; 64] = [
     (0xc0, b"", ":authority", ""),
     (0xc1, b"", ":path", "/"),
     (0xc2, b"", "age", "0"),
@@ -280,8 +282,6 @@ static INDEXED: [(u8, &[u8], &str, &str); 64] = [
 
 #[test]
 fn lines_of_static_entries_past_refused_memory(rt: HostRuntime) -> Result<(), Fail> {
-    for (first, rest, name, value) in &INDEXED {
-        assert_line(&rt, rt.alloc(), (*first, rest), (name, value))?;
-    }
+    assert_lines(&rt, rt.alloc(), &INDEXED)?;
     Ok(())
 }

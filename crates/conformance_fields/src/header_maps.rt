@@ -1,5 +1,6 @@
 //! Payloads of header maps, faults of sections, inserted fields, and refused memory.
 use crate::same::same;
+use crate::sections::assert_map;
 use std::alloc::{AllocError, Global};
 use std::borrow::CowSlice;
 use std::process::Abort;
@@ -8,30 +9,49 @@ use wtp_core::error::{ErrorCode, Refused};
 use wtp_fields::headers::Headers;
 use wtp_wire::frame::{Frame, FrameKind, FrameOwned, GenerateError};
 
-/// The map of the pairs, made once more where memory was refused.
-pub(crate) fn made(alloc: Global, pairs: &[(&str, &str)]) -> Result<Headers, AllocError> {
-    match Headers::from_iter(alloc, pairs.iter().copied()) {
-        Err(AllocError) => Headers::from_iter(alloc, pairs.iter().copied()),
+/// The map of the pairs.
+fn map_once(alloc: Global, pairs: &[(&str, &str)]) -> Result<Headers, AllocError> {
+    Headers::from_iter(alloc, pairs.iter().copied())
+}
+
+/// The same, made once more where memory was refused.
+pub(crate) fn map_of(alloc: Global, pairs: &[(&str, &str)]) -> Result<Headers, AllocError> {
+    match map_once(alloc, pairs) {
+        Err(AllocError) => map_once(alloc, pairs),
         outcome => outcome,
     }
 }
 
-/// The frame of a map, made once more where memory was refused.
-pub(crate) fn framed(alloc: Global, headers: &Headers) -> Result<FrameOwned, GenerateError> {
-    match headers.generate_frame(alloc) {
-        Err(GenerateError::Memory) => headers.generate_frame(alloc),
+/// The frame of a map.
+fn frame_once(alloc: Global, headers: &Headers) -> Result<FrameOwned, GenerateError> {
+    headers.generate_frame(alloc)
+}
+
+/// The same, made once more where memory was refused.
+pub(crate) fn frame_of(alloc: Global, headers: &Headers) -> Result<FrameOwned, GenerateError> {
+    match frame_once(alloc, headers) {
+        Err(GenerateError::Memory) => frame_once(alloc, headers),
         outcome => outcome,
     }
 }
 
-/// The map of a payload, read once more where memory was refused.
-fn read(rt: &impl Abort, alloc: Global, payload: &[u8]) -> Result<Headers, Refused> {
+/// The map of a payload.
+fn read_once(rt: &impl Abort, alloc: Global, payload: &[u8]) -> Result<Headers, Refused> {
     assert!(rt; payload.len() < 64);
-    let frame = Frame::new_headers(CowSlice::Borrowed(payload));
-    match Headers::with_frame(alloc, &frame) {
-        Err(Refused::Memory) => Headers::with_frame(alloc, &frame),
+    Headers::with_frame(alloc, &Frame::new_headers(CowSlice::Borrowed(payload)))
+}
+
+/// The same, read once more where memory was refused.
+fn read(rt: &impl Abort, alloc: Global, payload: &[u8]) -> Result<Headers, Refused> {
+    match read_once(rt, alloc, payload) {
+        Err(Refused::Memory) => read_once(rt, alloc, payload),
         outcome => outcome,
     }
+}
+
+/// Asserts the value of a name in a map.
+fn assert_value(rt: &impl Abort, headers: &Headers, (name, value): (&str, &str), shows: &str) {
+    same(rt, headers.get(name), Some(value), shows);
 }
 
 /// Asserts that a map has these fields and no other.
@@ -42,14 +62,21 @@ pub(crate) fn assert_fields(
     shows: &str,
 ) {
     same(rt, headers.as_ref().len(), expected.len(), shows);
-    for (name, value) in expected {
-        same(rt, headers.get(name), Some(*value), shows);
+    for field in expected {
+        assert_value(rt, headers, *field, shows);
     }
 }
 
 /// What a row shows, pairs, and the payload of their map, which is the map of these pairs and no
 /// others.
-static PAYLOADS: [(&str, &[(&str, &str)], &[u8]); 4] = [
+type PayloadRow = (
+    &'static str,
+    &'static [(&'static str, &'static str)],
+    &'static [u8],
+);
+
+/// Maps that are sent and read.
+static PAYLOADS: [PayloadRow; 4] = [
     ("no field", &[], b"\x00\x00"),
     (
         "names with a colon first, each group by bytes",
@@ -76,21 +103,16 @@ fn assert_sent(
     payload: &[u8],
     shows: &str,
 ) -> Result<(), Fail> {
-    let headers = made(alloc, pairs)?;
-    let frame = framed(alloc, &headers)?;
+    let headers = map_of(alloc, pairs)?;
+    let frame = frame_of(alloc, &headers)?;
     same(rt, frame.kind(), FrameKind::Headers, shows);
     same(rt, frame.payload(), payload, shows);
     Ok(())
 }
 
-/// Asserts the same, and that the map of this payload has these fields and no other.
-fn assert_sent_and_read(
-    rt: &impl Abort,
-    alloc: Global,
-    pairs: &[(&str, &str)],
-    payload: &[u8],
-    shows: &str,
-) -> Result<(), Fail> {
+/// Asserts the same of a row, and that the map of this payload has these fields and no other.
+fn assert_sent_and_read(rt: &impl Abort, alloc: Global, row: &PayloadRow) -> Result<(), Fail> {
+    let (shows, pairs, payload) = *row;
     assert_sent(rt, alloc, pairs, payload, shows)?;
     let back = read(rt, alloc, payload)?;
     assert_fields(rt, &back, pairs, shows);
@@ -99,8 +121,8 @@ fn assert_sent_and_read(
 
 #[test]
 fn payloads_past_refused_memory(rt: HostRuntime) -> Result<(), Fail> {
-    for (shows, pairs, payload) in &PAYLOADS {
-        assert_sent_and_read(&rt, rt.alloc(), pairs, payload, shows)?;
+    for row in &PAYLOADS {
+        assert_sent_and_read(&rt, rt.alloc(), row)?;
     }
     Ok(())
 }
@@ -163,25 +185,45 @@ fn assert_comes_back(
     headers: &Headers,
     pairs: &[(&str, &str)],
 ) -> Result<(), Fail> {
-    let frame = framed(alloc, headers)?;
+    let frame = frame_of(alloc, headers)?;
     let back = read(rt, alloc, frame.payload())?;
     assert_fields(rt, &back, pairs, "what was sent");
-    for ((name, value), expected) in back.as_ref().iter().zip(pairs) {
-        same(rt, (name.as_str(), value.as_str()), *expected, "in order");
-    }
+    assert_map(rt, back.as_ref(), pairs, "in order");
+    Ok(())
+}
+
+/// Pairs, one name of which comes again.
+static GIVEN: [(&str, &str); 3] = [("key1", "value0"), ("key1", "value1"), ("key2", "value2")];
+
+/// The fields of their map.
+static FIRST: [(&str, &str); 2] = [("key1", "value1"), ("key2", "value2")];
+
+/// The fields after a new value.
+static CHANGED: [(&str, &str); 2] = [("key1", "other"), ("key2", "value2")];
+
+/// The fields after a new name.
+static LAST: [(&str, &str); 3] = [("key1", "other"), ("key2", "value2"), ("key3", "")];
+
+/// The map of the pairs that are given.
+fn first_map(rt: &impl Abort, alloc: Global) -> Result<Headers, AllocError> {
+    let headers = map_of(alloc, &GIVEN)?;
+    assert_fields(rt, &headers, &FIRST, "the last value of a name");
+    same(rt, headers.get("key3"), None, "no such name");
+    Ok(headers)
+}
+
+/// Asserts what a new value and a new name change in that map.
+fn assert_inserts(rt: &impl Abort, headers: &mut Headers) -> Result<(), AllocError> {
+    insert(rt, headers, ("key1", "other"), &FIRST)?;
+    assert_fields(rt, headers, &CHANGED, "a new value of an old name");
+    insert(rt, headers, ("key3", ""), &CHANGED)?;
+    assert_fields(rt, headers, &LAST, "a new name");
     Ok(())
 }
 
 #[test]
 fn inserts_past_refused_memory(rt: HostRuntime) -> Result<(), Fail> {
-    let pairs = [("key1", "value1"), ("key2", "value2")];
-    let mut headers = made(rt.alloc(), &[("key1", "value0"), pairs[0], pairs[1]])?;
-    assert_fields(&rt, &headers, &pairs, "the last value of a name");
-    same(&rt, headers.get("key3"), None, "no such name");
-    insert(&rt, &mut headers, ("key1", "other"), &pairs)?;
-    let pairs = [("key1", "other"), ("key2", "value2"), ("key3", "")];
-    assert_fields(&rt, &headers, &pairs[..2], "a new value of an old name");
-    insert(&rt, &mut headers, ("key3", ""), &pairs[..2])?;
-    assert_fields(&rt, &headers, &pairs, "a new name");
-    assert_comes_back(&rt, rt.alloc(), &headers, &pairs)
+    let mut headers = first_map(&rt, rt.alloc())?;
+    assert_inserts(&rt, &mut headers)?;
+    assert_comes_back(&rt, rt.alloc(), &headers, &LAST)
 }

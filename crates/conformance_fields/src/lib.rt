@@ -24,6 +24,8 @@ mod responses;
 #[cfg(test)]
 mod same;
 #[cfg(test)]
+mod sections;
+#[cfg(test)]
 mod session_errors;
 #[cfg(test)]
 mod static_table;

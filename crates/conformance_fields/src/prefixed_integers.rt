@@ -1,8 +1,8 @@
 //! Prefixed integers (RFC 7541, section 5.1) as the integers of sections, lengths and indices, and
 //! string literals whose lengths they are.
-use crate::field_sections::{assert_come_back, assert_decoded, assert_fault, encoded, joined};
 use crate::same::same;
-use std::alloc::Global;
+use crate::sections::{FaultRow, assert_come_back, assert_decoded, assert_faults, encode, join};
+use std::alloc::{AllocError, Global};
 use std::process::Abort;
 use std::test::Fail;
 use wtp_fields::qpack::DecodingError;
@@ -22,7 +22,10 @@ fn text_of(letter: u8, len: usize) -> Result<&'static str, Fail> {
 
 /// What a row shows, the letter of a name and how many, the same of a value, the front of the
 /// section of this field, and the length of the section.
-static WRITTEN: [(&str, (u8, usize), (u8, usize), &[u8], usize); 12] = [
+type WrittenRow = (&'static str, (u8, usize), (u8, usize), &'static [u8], usize);
+
+/// Integers that are written.
+static WRITTEN: [WrittenRow; 12] = [
     ("no letter", (b'Z', 0), (b'Z', 0), b"\x00\x00\x20\x00", 4),
     ("a name of 6", (b'Z', 6), (b'Z', 0), b"\x00\x00\x26Z", 10),
     (
@@ -104,22 +107,16 @@ fn assert_written(
     field: (&str, &str),
     (front, len): (&[u8], usize),
     shows: &str,
-) -> Result<(), Fail> {
-    let section = encoded(alloc, &[field])?;
-    let came = section.as_slice().split_at_checked(front.len());
-    same(rt, came.map(|parts| parts.0), Some(front), shows);
-    same(rt, section.len(), len, shows);
+) -> Result<(), AllocError> {
+    let section = encode(alloc, &[field])?;
+    let came = (section.as_slice().get(..front.len()), section.len());
+    same(rt, came, (Some(front), len), shows);
     Ok(())
 }
 
-/// Asserts the same of a name and a value of letters, and that their field comes back.
-fn assert_written_and_read(
-    rt: &impl Abort,
-    alloc: Global,
-    [name, value]: [(u8, usize); 2],
-    (front, len): (&[u8], usize),
-    shows: &str,
-) -> Result<(), Fail> {
+/// Asserts the same of a row, and that its field comes back.
+fn assert_written_and_read(rt: &impl Abort, alloc: Global, row: &WrittenRow) -> Result<(), Fail> {
+    let (shows, name, value, front, len) = *row;
     let field = (text_of(name.0, name.1)?, text_of(value.0, value.1)?);
     assert_written(rt, alloc, field, (front, len), shows)?;
     assert_come_back(rt, alloc, &[field], &[field], shows)?;
@@ -128,14 +125,17 @@ fn assert_written_and_read(
 
 #[test]
 fn written_integers_past_refused_memory(rt: HostRuntime) -> Result<(), Fail> {
-    for (shows, name, value, front, len) in &WRITTEN {
-        assert_written_and_read(&rt, rt.alloc(), [*name, *value], (front, *len), shows)?;
+    for row in &WRITTEN {
+        assert_written_and_read(&rt, rt.alloc(), row)?;
     }
     Ok(())
 }
 
 /// What a row shows, and a section up to an integer of 1337, and a byte that follows so many times.
-static NAMES_OF_1337: [(&str, &[u8], u8); 4] = [
+type FlagRow = (&'static str, &'static [u8], u8);
+
+/// Names of 1337 bytes.
+static NAMES_OF_1337: [FlagRow; 4] = [
     ("a name", b"\x00\x00\x27\xb2\x0a", b'Z'),
     ("a name in the code", b"\x00\x00\x2f\xb2\x0a", 0xfd),
     ("a name never to be indexed", b"\x00\x00\x37\xb2\x0a", b'Z'),
@@ -143,7 +143,7 @@ static NAMES_OF_1337: [(&str, &[u8], u8); 4] = [
 ];
 
 /// The same of values.
-static VALUES_OF_1337: [(&str, &[u8], u8); 6] = [
+static VALUES_OF_1337: [FlagRow; 6] = [
     ("a value", b"\x00\x00\x20\x7f\xba\x09", b'Z'),
     ("a value in the code", b"\x00\x00\x20\xff\xba\x09", 0xfd),
     ("never to be indexed", b"\x00\x00\x30\x7f\xba\x09", b'Z'),
@@ -156,34 +156,52 @@ static VALUES_OF_1337: [(&str, &[u8], u8); 6] = [
     ("both in the code", b"\x00\x00\x38\xff\xba\x09", 0xfd),
 ];
 
+/// A section with a byte 1337 times in it.
+fn section_of(
+    alloc: Global,
+    (front, byte, end): (&[u8], u8, &[u8]),
+) -> Result<Vec<u8>, AllocError> {
+    join(alloc, [front, &[byte; 1337], end])
+}
+
 /// Asserts that a section with a byte 1337 times in it is decoded to this field.
 fn assert_read(
     rt: &impl Abort,
     alloc: Global,
-    (front, byte, end): (&[u8], u8, &[u8]),
+    row: &FlagRow,
+    end: &[u8],
     field: (&str, &str),
-    shows: &str,
-) -> Result<(), Fail> {
-    let section = joined(alloc, [front, &[byte; 1337], end])?;
-    assert_decoded(rt, alloc, section.as_slice(), &[field], shows)?;
+) -> Result<(), DecodingError> {
+    let (shows, front, byte) = *row;
+    let section = section_of(alloc, (front, byte, end))?;
+    assert_decoded(rt, alloc, section.as_slice(), &[field], shows)
+}
+
+/// Asserts it of each row.
+fn assert_all_read(
+    rt: &impl Abort,
+    alloc: Global,
+    rows: &[FlagRow],
+    end: &[u8],
+    field: (&str, &str),
+) -> Result<(), DecodingError> {
+    for row in rows {
+        assert_read(rt, alloc, row, end, field)?;
+    }
     Ok(())
 }
 
 #[test]
 fn integers_under_each_flag_past_refused_memory(rt: HostRuntime) -> Result<(), Fail> {
     let text = text_of(b'Z', 1337)?;
-    for (shows, front, byte) in &NAMES_OF_1337 {
-        assert_read(&rt, rt.alloc(), (front, *byte, b"\x00"), (text, ""), shows)?;
-    }
-    for (shows, front, byte) in &VALUES_OF_1337 {
-        assert_read(&rt, rt.alloc(), (front, *byte, b""), ("", text), shows)?;
-    }
+    assert_all_read(&rt, rt.alloc(), &NAMES_OF_1337, b"\x00", (text, ""))?;
+    assert_all_read(&rt, rt.alloc(), &VALUES_OF_1337, b"", ("", text))?;
     Ok(())
 }
 
 /// What a row shows, a section, and the fault of its last integer; none of 2^64 - 1 in the prefix
 /// of a section, where each integer is passed over.
-static ANSWERS: [(&str, &[u8], Option<DecodingError>); 27] = [
+static ANSWERS: [FaultRow; 27] = [
     ("nothing", b"", Some(DecodingError::UnexpectedFin)),
     ("no group", b"\xff", Some(DecodingError::UnexpectedFin)),
     (
@@ -315,9 +333,7 @@ static ANSWERS: [(&str, &[u8], Option<DecodingError>); 27] = [
 
 #[test]
 fn cut_and_great_integers_past_refused_memory(rt: HostRuntime) {
-    for (shows, section, fault) in &ANSWERS {
-        assert_fault(&rt, rt.alloc(), section, *fault, shows);
-    }
+    assert_faults(&rt, rt.alloc(), &ANSWERS);
 }
 
 /// Lengths within the prefixes of names and values, at their edges, and of one and two groups after

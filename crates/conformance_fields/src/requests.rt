@@ -1,20 +1,26 @@
 //! Requests for URLs and of header maps, their frames, their fields, and refused memory.
-use crate::header_maps::{assert_fields, framed, made};
+use crate::header_maps::{assert_fields, frame_of, map_of};
 use crate::same::same;
 use std::alloc::{AllocError, Global};
 use std::borrow::CowSlice;
 use std::process::Abort;
 use std::test::Fail;
 use wtp_core::error::{ErrorCode, Refused};
+use wtp_fields::headers::Headers;
 use wtp_fields::session::{
     HeadersParseError, InsertError, ReservedHeader, SessionRequest, UrlParseError, request_of_frame,
 };
-use wtp_wire::frame::{Frame, FrameKind};
+use wtp_wire::frame::{Frame, FrameKind, FrameOwned};
 
 /// The request for a URL.
-fn requested(alloc: Global, url: &str) -> Result<SessionRequest, UrlParseError> {
-    match SessionRequest::new(alloc, url) {
-        Err(UrlParseError::Memory) => SessionRequest::new(alloc, url),
+fn request_once(alloc: Global, url: &str) -> Result<SessionRequest, UrlParseError> {
+    SessionRequest::new(alloc, url)
+}
+
+/// The same, made once more where memory was refused.
+fn request_for(alloc: Global, url: &str) -> Result<SessionRequest, UrlParseError> {
+    match request_once(alloc, url) {
+        Err(UrlParseError::Memory) => request_once(alloc, url),
         outcome => outcome,
     }
 }
@@ -44,7 +50,10 @@ fn assert_request(
 }
 
 /// What a row shows, a URL, and the authority and path of its request.
-static URLS: [(&str, &str, &str, &str); 4] = [
+type UrlRow = (&'static str, &'static str, &'static str, &'static str);
+
+/// URLs of requests.
+static URLS: [UrlRow; 4] = [
     (
         "a port, and a query",
         "https://localhost:4433/foo/bar?p1=1&p2=2",
@@ -71,23 +80,18 @@ static URLS: [(&str, &str, &str, &str); 4] = [
     ),
 ];
 
-/// Asserts that the request for a URL has this authority and path.
-fn assert_requested(
-    rt: &impl Abort,
-    alloc: Global,
-    url: &str,
-    (authority, path): (&'static str, &'static str),
-    shows: &str,
-) -> Result<(), UrlParseError> {
-    let request = requested(alloc, url)?;
+/// Asserts that the request for the URL of a row has its authority and path.
+fn assert_requested(rt: &impl Abort, alloc: Global, row: &UrlRow) -> Result<(), UrlParseError> {
+    let (shows, url, authority, path) = *row;
+    let request = request_for(alloc, url)?;
     assert_request(rt, &request, authority, path, shows);
     Ok(())
 }
 
 #[test]
 fn urls_past_refused_memory(rt: HostRuntime) -> Result<(), Fail> {
-    for (shows, url, authority, path) in &URLS {
-        assert_requested(&rt, rt.alloc(), url, (*authority, *path), shows)?;
+    for row in &URLS {
+        assert_requested(&rt, rt.alloc(), row)?;
     }
     Ok(())
 }
@@ -107,7 +111,7 @@ static REFUSED_URLS: [(&str, UrlParseError); 9] = [
 
 /// Asserts that there is no request for a URL, and why.
 fn assert_refused_url(rt: &impl Abort, alloc: Global, url: &str, fault: &UrlParseError) {
-    same(rt, requested(alloc, url).err().as_ref(), Some(fault), url);
+    same(rt, request_for(alloc, url).err().as_ref(), Some(fault), url);
 }
 
 #[test]
@@ -117,19 +121,23 @@ fn refused_urls_past_refused_memory(rt: HostRuntime) {
     }
 }
 
+/// Inserts a field into a request.
+fn insert_once(request: &mut SessionRequest, name: &str, value: &str) -> Result<(), InsertError> {
+    request.insert(name, value)
+}
+
 /// Inserts a field into a request. Where memory was refused the field must be as it was, and is
 /// inserted once more.
 fn insert(
     rt: &impl Abort,
     request: &mut SessionRequest,
-    name: &str,
-    value: &str,
-    before: Option<&str>,
+    row: &InsertedRow,
 ) -> Result<(), InsertError> {
-    match request.insert(name, value) {
+    let (name, value, before) = *row;
+    match insert_once(request, name, value) {
         Err(InsertError::Memory) => {
             same(rt, request.get(name), before, "nothing is changed");
-            request.insert(name, value)
+            insert_once(request, name, value)
         }
         outcome => outcome,
     }
@@ -147,7 +155,10 @@ fn assert_given(
 }
 
 /// A field, its value, and the value that it had before.
-static INSERTED: [(&str, &str, Option<&str>); 4] = [
+type InsertedRow = (&'static str, &'static str, Option<&'static str>);
+
+/// Fields that are inserted, one after another.
+static INSERTED: [InsertedRow; 4] = [
     ("origin", "https://a.example", None),
     ("user-agent", "agent", None),
     ("x", "y", None),
@@ -156,10 +167,10 @@ static INSERTED: [(&str, &str, Option<&str>); 4] = [
 
 /// The request for a URL, with the inserted fields.
 fn request_with_fields(rt: &impl Abort, alloc: Global) -> Result<SessionRequest, Fail> {
-    let mut request = requested(alloc, "https://example.com/")?;
+    let mut request = request_for(alloc, "https://example.com/")?;
     assert_given(rt, &request, [None, None, None], "no field is inserted");
-    for (name, value, before) in &INSERTED {
-        insert(rt, &mut request, name, value, *before)?;
+    for row in &INSERTED {
+        insert(rt, &mut request, row)?;
     }
     Ok(request)
 }
@@ -198,28 +209,25 @@ fn fields_of_a_request_past_refused_memory(rt: HostRuntime) -> Result<(), Fail> 
     for name in &RESERVED {
         assert_reserved(&rt, &mut request, name);
     }
-    let came = (
-        request.authority(),
-        request.path(),
-        request.headers().as_ref().len(),
-    );
-    same(
-        &rt,
-        came,
-        ("example.com", "/", 8),
-        "no reserved field is changed",
-    );
+    let wanted = ("example.com", "/", 8);
+    assert_parts(&rt, &request, wanted, "no reserved field is changed");
     Ok(())
 }
 
-/// The fault of the request with these fields.
-fn fault(alloc: Global, pairs: &[(&str, &str)]) -> Result<Option<HeadersParseError>, AllocError> {
-    Ok(SessionRequest::try_from(made(alloc, pairs)?).err())
+/// Why there is no request with these fields.
+fn fault_of(headers: Headers) -> Option<HeadersParseError> {
+    SessionRequest::try_from(headers).err()
 }
 
-/// Pairs, and the fault of the request with these fields. Faults are looked for in the order of the
-/// first five.
-static FAULTS: [(&str, &[(&str, &str)], Option<HeadersParseError>); 10] = [
+/// What a row shows, pairs, and the fault of the request with these fields.
+type FaultRow = (
+    &'static str,
+    &'static [(&'static str, &'static str)],
+    Option<HeadersParseError>,
+);
+
+/// Faults are looked for in the order of the first five.
+static FAULTS: [FaultRow; 10] = [
     (
         "a request",
         &[
@@ -298,48 +306,59 @@ static FAULTS: [(&str, &[(&str, &str)], Option<HeadersParseError>); 10] = [
     ("no field", &[], Some(HeadersParseError::MissingMethod)),
 ];
 
-/// Asserts what fault the request with these fields has.
-fn assert_fault(
-    rt: &impl Abort,
-    alloc: Global,
-    pairs: &[(&str, &str)],
-    first: Option<&HeadersParseError>,
-    shows: &str,
-) -> Result<(), AllocError> {
-    same(rt, fault(alloc, pairs)?.as_ref(), first, shows);
+/// Asserts what fault the request with the fields of a row has.
+fn assert_fault(rt: &impl Abort, alloc: Global, row: &FaultRow) -> Result<(), AllocError> {
+    let (shows, pairs, first) = row;
+    same(rt, &fault_of(map_of(alloc, pairs)?), first, shows);
     Ok(())
 }
 
 #[test]
 fn faults_of_requests_past_refused_memory(rt: HostRuntime) -> Result<(), Fail> {
-    for (shows, pairs, first) in &FAULTS {
-        assert_fault(&rt, rt.alloc(), pairs, first.as_ref(), shows)?;
+    for row in &FAULTS {
+        assert_fault(&rt, rt.alloc(), row)?;
     }
     Ok(())
 }
 
 /// The request of a frame.
-fn received(alloc: Global, frame: &Frame<'_>) -> Result<SessionRequest, Refused> {
-    match request_of_frame(alloc, frame) {
-        Err(Refused::Memory) => request_of_frame(alloc, frame),
+fn receive_once(alloc: Global, frame: &Frame<'_>) -> Result<SessionRequest, Refused> {
+    request_of_frame(alloc, frame)
+}
+
+/// The same, read once more where memory was refused.
+fn receive(alloc: Global, frame: &Frame<'_>) -> Result<SessionRequest, Refused> {
+    match receive_once(alloc, frame) {
+        Err(Refused::Memory) => receive_once(alloc, frame),
         outcome => outcome,
     }
 }
 
+/// The frame of the request for `https://example.com/`.
+fn request_frame(alloc: Global) -> Result<FrameOwned, Fail> {
+    let request = request_for(alloc, "https://example.com/")?;
+    Ok(frame_of(alloc, request.headers())?)
+}
+
+/// Asserts the authority and the path of a request, and how many fields it has.
+fn assert_parts(
+    rt: &impl Abort,
+    request: &SessionRequest,
+    wanted: (&str, &str, usize),
+    shows: &str,
+) {
+    let fields = request.headers().as_ref().len();
+    let came = (request.authority(), request.path(), fields);
+    same(rt, came, wanted, shows);
+}
+
 #[test]
 fn sent_request_past_refused_memory(rt: HostRuntime) -> Result<(), Fail> {
-    let request = requested(rt.alloc(), "https://example.com/")?;
-    let frame = framed(rt.alloc(), request.headers())?;
-    same(
-        &rt,
-        (frame.kind(), frame.write_size()),
-        (FrameKind::Headers, 42),
-        "the frame",
-    );
-    same(&rt, frame.payload(), PAYLOAD, "the payload");
-    let back = received(rt.alloc(), &frame)?;
-    let came = (back.authority(), back.path(), back.headers().as_ref().len());
-    same(&rt, came, ("example.com", "/", 5), "what comes back");
+    let frame = request_frame(rt.alloc())?;
+    let came = (frame.kind(), frame.write_size(), frame.payload());
+    same(&rt, came, (FrameKind::Headers, 42, PAYLOAD), "the frame");
+    let back = receive(rt.alloc(), &frame)?;
+    assert_parts(&rt, &back, ("example.com", "/", 5), "what comes back");
     Ok(())
 }
 
@@ -366,7 +385,7 @@ static REFUSED_PAYLOADS: [(&str, &[u8], ErrorCode); 3] = [
 fn assert_refused(rt: &impl Abort, alloc: Global, frame: &Frame<'_>, code: ErrorCode, shows: &str) {
     same(
         rt,
-        received(alloc, frame).err(),
+        receive(alloc, frame).err(),
         Some(Refused::Code(code)),
         shows,
     );

@@ -1,5 +1,5 @@
 //! Responses in frames, their fields, copies of header maps, and refused memory.
-use crate::header_maps::{assert_fields, made};
+use crate::header_maps::{assert_fields, map_of};
 use crate::same::same;
 use std::alloc::{AllocError, Global};
 use std::borrow::CowSlice;
@@ -11,27 +11,35 @@ use wtp_fields::headers::Headers;
 use wtp_fields::session::{SessionResponse, response_of_frame};
 use wtp_wire::frame::Frame;
 
-/// The response of a frame, read once more where memory was refused.
-fn received(alloc: Global, frame: &Frame<'_>) -> Result<SessionResponse, Refused> {
-    match response_of_frame(alloc, frame) {
-        Err(Refused::Memory) => response_of_frame(alloc, frame),
+/// The response of a frame.
+fn receive_once(alloc: Global, frame: &Frame<'_>) -> Result<SessionResponse, Refused> {
+    response_of_frame(alloc, frame)
+}
+
+/// The same, read once more where memory was refused.
+fn receive(alloc: Global, frame: &Frame<'_>) -> Result<SessionResponse, Refused> {
+    match receive_once(alloc, frame) {
+        Err(Refused::Memory) => receive_once(alloc, frame),
         outcome => outcome,
     }
 }
 
 /// The response in the HEADERS frame of a payload.
-fn received_payload(
-    rt: &impl Abort,
-    alloc: Global,
-    payload: &[u8],
-) -> Result<SessionResponse, Refused> {
+fn response_of(rt: &impl Abort, alloc: Global, payload: &[u8]) -> Result<SessionResponse, Refused> {
     assert!(rt; payload.len() < 2048);
-    received(alloc, &Frame::new_headers(CowSlice::Borrowed(payload)))
+    receive(alloc, &Frame::new_headers(CowSlice::Borrowed(payload)))
 }
 
-/// What a row shows, a payload, the status code of its response, and all of its fields. The last is
-/// what nghttp3 1.8.0 sent.
-static RESPONSES: [(&str, &[u8], u16, &[(&str, &str)]); 4] = [
+/// What a row shows, a payload, the status code of its response, and all of its fields.
+type ResponseRow = (
+    &'static str,
+    &'static [u8],
+    u16,
+    &'static [(&'static str, &'static str)],
+);
+
+/// Payloads of responses. The last is what nghttp3 1.8.0 sent.
+static RESPONSES: [ResponseRow; 4] = [
     (
         "a static entry",
         b"\x00\x00\xd9",
@@ -64,29 +72,33 @@ static RESPONSES: [(&str, &[u8], u16, &[(&str, &str)]); 4] = [
     ),
 ];
 
-/// Asserts that a payload is a response with this status code and these fields.
-fn assert_response(
+/// Asserts the values of a response by their names.
+fn assert_values(
     rt: &impl Abort,
-    alloc: Global,
-    payload: &[u8],
-    code: u16,
+    response: &SessionResponse,
     fields: &[(&str, &str)],
     shows: &str,
-) -> Result<(), Refused> {
-    let response = received_payload(rt, alloc, payload)?;
-    same(rt, response.code().into_inner(), code, shows);
-    assert_fields(rt, response.headers(), fields, shows);
+) {
     for (name, value) in fields {
         same(rt, response.get(name), Some(*value), shows);
     }
     same(rt, response.get("absent"), None, shows);
+}
+
+/// Asserts that the payload of a row is a response with its status code and its fields.
+fn assert_response(rt: &impl Abort, alloc: Global, row: &ResponseRow) -> Result<(), Refused> {
+    let (shows, payload, code, fields) = *row;
+    let response = response_of(rt, alloc, payload)?;
+    same(rt, response.code().into_inner(), code, shows);
+    assert_fields(rt, response.headers(), fields, shows);
+    assert_values(rt, &response, fields, shows);
     Ok(())
 }
 
 #[test]
 fn received_responses_past_refused_memory(rt: HostRuntime) -> Result<(), Fail> {
-    for (shows, payload, code, fields) in &RESPONSES {
-        assert_response(&rt, rt.alloc(), payload, *code, fields, shows)?;
+    for row in &RESPONSES {
+        assert_response(&rt, rt.alloc(), row)?;
     }
     Ok(())
 }
@@ -108,7 +120,7 @@ static REFUSED_PAYLOADS: [(&str, &[u8], ErrorCode); 7] = [
 
 /// Asserts that a payload is refused as a response, with this code.
 fn assert_refused(rt: &impl Abort, alloc: Global, payload: &[u8], code: ErrorCode, shows: &str) {
-    let refused = received_payload(rt, alloc, payload).err();
+    let refused = response_of(rt, alloc, payload).err();
     same(rt, refused, Some(Refused::Code(code)), shows);
 }
 
@@ -119,50 +131,54 @@ fn refused_responses_past_refused_memory(rt: HostRuntime) {
     }
 }
 
-#[test]
-fn other_frames_are_not_responses(rt: HostRuntime) {
+/// Asserts that a frame of another kind is not a response.
+fn assert_unexpected(rt: &impl Abort, alloc: Global, frame: &Frame<'_>, shows: &str) {
     let unexpected = Some(Refused::Code(ErrorCode::FrameUnexpected));
-    let data = Frame::new_data(CowSlice::Borrowed(b"\x00\x00\xd9"));
-    same(&rt, received(rt.alloc(), &data).err(), unexpected, "DATA");
-    let unexpected = Some(Refused::Code(ErrorCode::FrameUnexpected));
-    let settings = Frame::new_settings(CowSlice::Borrowed(b"\x00\x00\xd9"));
-    same(
-        &rt,
-        received(rt.alloc(), &settings).err(),
-        unexpected,
-        "SETTINGS",
-    );
-    let unexpected = Some(Refused::Code(ErrorCode::FrameUnexpected));
-    let exercise = Frame::new_exercise(VarInt::from_u32(0x21), CowSlice::Borrowed(b"\x00\x00\xd9"));
-    same(
-        &rt,
-        received(rt.alloc(), &exercise).err(),
-        unexpected,
-        "a reserved frame",
-    );
+    same(rt, receive(alloc, frame).err(), unexpected, shows);
 }
 
-/// The copy of a map, made once more where memory was refused.
-fn copied(headers: &Headers) -> Result<Headers, AllocError> {
-    let copy: Result<Headers, AllocError> = headers.clone();
-    match copy {
-        Err(AllocError) => Ok(headers.clone()?),
+#[test]
+fn other_frames_are_not_responses(rt: HostRuntime) {
+    let data = Frame::new_data(CowSlice::Borrowed(b"\x00\x00\xd9"));
+    assert_unexpected(&rt, rt.alloc(), &data, "DATA");
+    let settings = Frame::new_settings(CowSlice::Borrowed(b"\x00\x00\xd9"));
+    assert_unexpected(&rt, rt.alloc(), &settings, "SETTINGS");
+    let exercise = Frame::new_exercise(VarInt::from_u32(0x21), CowSlice::Borrowed(b"\x00\x00\xd9"));
+    assert_unexpected(&rt, rt.alloc(), &exercise, "a reserved frame");
+}
+
+/// The copy of a map.
+fn copy_once(headers: &Headers) -> Result<Headers, AllocError> {
+    headers.clone()
+}
+
+/// The same, made once more where memory was refused.
+fn copy(headers: &Headers) -> Result<Headers, AllocError> {
+    match copy_once(headers) {
+        Err(AllocError) => copy_once(headers),
         outcome => outcome,
     }
 }
 
+/// The fields of the map that is copied.
+static FIELDS: [(&str, &str); 3] = [(":status", "200"), ("a", "1"), ("b", "2")];
+
+/// Asserts that a field of a copy is changed. Where memory was refused it is inserted once more.
+fn assert_changed(rt: &impl Abort, second: &mut Headers) -> Result<(), AllocError> {
+    if second.insert("a", "3").is_err() {
+        second.insert("a", "3")?;
+    }
+    same(rt, second.get("a"), Some("3"), "the copy changed");
+    Ok(())
+}
+
 #[test]
 fn copies_past_refused_memory(rt: HostRuntime) -> Result<(), Fail> {
-    let pairs = [(":status", "200"), ("a", "1"), ("b", "2")];
-    let first = made(rt.alloc(), &pairs)?;
-    let mut second = copied(&first)?;
-    assert_fields(&rt, &second, &pairs, "the copy");
-    let _again = match second.insert("a", "3") {
-        Err(AllocError) => second.insert("a", "3")?,
-        Ok(()) => (),
-    };
-    same(&rt, second.get("a"), Some("3"), "the copy changed");
-    assert_fields(&rt, &first, &pairs, "the first map");
+    let first = map_of(rt.alloc(), &FIELDS)?;
+    let mut second = copy(&first)?;
+    assert_fields(&rt, &second, &FIELDS, "the copy");
+    assert_changed(&rt, &mut second)?;
+    assert_fields(&rt, &first, &FIELDS, "the first map");
     assert_fields(&rt, &Headers::new(rt.alloc()), &[], "an empty map");
     Ok(())
 }

@@ -1,6 +1,6 @@
 //! Responses by their status codes and of header maps, their frames, their fields, and refused
 //! memory.
-use crate::header_maps::{assert_fields, framed, made};
+use crate::header_maps::{assert_fields, frame_of, map_of};
 use crate::same::same;
 use std::alloc::{AllocError, Global};
 use std::process::Abort;
@@ -19,7 +19,7 @@ enum Call {
 }
 
 /// What a call answers.
-fn called(alloc: Global, call: Call) -> Result<SessionResponse, AllocError> {
+fn call_once(alloc: Global, call: Call) -> Result<SessionResponse, AllocError> {
     match call {
         Call::WithStatusCode => SessionResponse::with_status_code(alloc, StatusCode::OK),
         Call::Ok => SessionResponse::ok(alloc),
@@ -31,14 +31,17 @@ fn called(alloc: Global, call: Call) -> Result<SessionResponse, AllocError> {
 
 /// The response of a call.
 fn response(alloc: Global, call: Call) -> Result<SessionResponse, AllocError> {
-    match called(alloc, call) {
-        Err(AllocError) => called(alloc, call),
+    match call_once(alloc, call) {
+        Err(AllocError) => call_once(alloc, call),
         outcome => outcome,
     }
 }
 
 /// A call, and the status code and the payload of its response.
-static CALLS: [(Call, u16, &[u8]); 5] = [
+type CallRow = (Call, u16, &'static [u8]);
+
+/// Each call.
+static CALLS: [CallRow; 5] = [
     (Call::WithStatusCode, 200, b"\x00\x00\x5f\x09\x82\x10\x01"),
     (Call::Ok, 200, b"\x00\x00\x5f\x09\x82\x10\x01"),
     (Call::Forbidden, 403, b"\x00\x00\x5f\x09\x03403"),
@@ -46,27 +49,27 @@ static CALLS: [(Call, u16, &[u8]); 5] = [
     (Call::TooManyRequests, 429, b"\x00\x00\x5f\x09\x03429"),
 ];
 
-/// Asserts that the response of a call has this status code and this payload.
-fn assert_response(
-    rt: &impl Abort,
-    alloc: Global,
-    call: Call,
-    code: u16,
-    payload: &[u8],
-) -> Result<(), Fail> {
+/// Asserts that the response of the call of a row has its status code and its payload.
+fn assert_response(rt: &impl Abort, alloc: Global, row: &CallRow) -> Result<(), Fail> {
+    let (call, code, payload) = *row;
     let response = response(alloc, call)?;
-    let frame = framed(alloc, response.headers())?;
-    same(rt, response.code().into_inner(), code, code);
-    same(rt, frame.payload(), payload, code);
+    let frame = frame_of(alloc, response.headers())?;
+    let came = (response.code().into_inner(), frame.payload());
+    same(rt, came, (code, payload), code);
     Ok(())
 }
 
 #[test]
 fn responses_past_refused_memory(rt: HostRuntime) -> Result<(), Fail> {
-    for (call, code, payload) in &CALLS {
-        assert_response(&rt, rt.alloc(), *call, *code, payload)?;
+    for row in &CALLS {
+        assert_response(&rt, rt.alloc(), row)?;
     }
     Ok(())
+}
+
+/// Adds a field to a response.
+fn add_once(response: &mut SessionResponse, name: &str, value: &str) -> Result<(), AddError> {
+    response.add(name, value)
 }
 
 /// Adds a field to a response. Where memory was refused the field must be as it was, and is added
@@ -74,19 +77,14 @@ fn responses_past_refused_memory(rt: HostRuntime) -> Result<(), Fail> {
 fn add(
     rt: &impl Abort,
     response: &mut SessionResponse,
-    name: &str,
-    value: &str,
+    (name, value): (&str, &str),
     before: Option<&str>,
 ) -> Result<(), AddError> {
-    match response.add(name, value) {
+    match add_once(response, name, value) {
         Err(AddError::Memory) => {
-            same(
-                rt,
-                response.headers().get(name),
-                before,
-                "nothing is changed",
-            );
-            response.add(name, value)
+            let came = response.headers().get(name);
+            same(rt, came, before, "nothing is changed");
+            add_once(response, name, value)
         }
         outcome => outcome,
     }
@@ -98,47 +96,67 @@ static NO_CODES: [&str; 7] = ["abc", "", "+", "99", "600", "65736", "2 00"];
 /// Asserts that a text is not added as the status of a response, whose status code is 200 before
 /// and after.
 fn assert_no_code(rt: &impl Abort, response: &mut SessionResponse, text: &str) {
-    let outcome = response.add(":status", text);
-    same(rt, outcome, Err(AddError::InvalidStatusCode), text);
-    same(rt, response.code(), StatusCode::OK, text);
+    let outcome = add_once(response, ":status", text);
+    let wanted = (Err(AddError::InvalidStatusCode), StatusCode::OK);
+    same(rt, (outcome, response.code()), wanted, text);
+}
+
+/// Asserts it of each text that is no status code.
+fn assert_no_codes(rt: &impl Abort, response: &mut SessionResponse) {
+    for text in &NO_CODES {
+        assert_no_code(rt, response, text);
+    }
+}
+
+/// The fields after a status and another field were added.
+static ADDED: [(&str, &str); 2] = [(":status", "0404"), ("x", "y")];
+
+/// Asserts that a status and another field are added to a response.
+fn assert_added(rt: &impl Abort, response: &mut SessionResponse) -> Result<(), AddError> {
+    add(rt, response, ("x", "y"), None)?;
+    add(rt, response, (":status", "0404"), Some("200"))?;
+    same(rt, response.code(), StatusCode::NOT_FOUND, "0404");
+    let shows = "a good text is kept as it is written";
+    assert_fields(rt, response.headers(), &ADDED, shows);
+    Ok(())
 }
 
 #[test]
 fn fields_of_a_response_past_refused_memory(rt: HostRuntime) -> Result<(), Fail> {
     let mut response = response(rt.alloc(), Call::Ok)?;
-    for text in &NO_CODES {
-        assert_no_code(&rt, &mut response, text);
-    }
-    add(&rt, &mut response, "x", "y", None)?;
-    add(&rt, &mut response, ":status", "0404", Some("200"))?;
-    same(&rt, response.code(), StatusCode::NOT_FOUND, "0404");
-    assert_fields(
-        &rt,
-        response.headers(),
-        &[(":status", "0404"), ("x", "y")],
-        "a good text is kept as it is written",
-    );
+    assert_no_codes(&rt, &mut response);
+    assert_added(&rt, &mut response)?;
     Ok(())
 }
 
 /// The response of a map of the pairs.
-fn answered_once(
+fn response_once(
     alloc: Global,
     pairs: &[(&str, &str)],
 ) -> Result<SessionResponse, HeadersParseError> {
-    SessionResponse::try_from(made(alloc, pairs)?)
+    SessionResponse::try_from(map_of(alloc, pairs)?)
 }
 
 /// The same, made once more where memory was refused.
-fn answered(alloc: Global, pairs: &[(&str, &str)]) -> Result<SessionResponse, HeadersParseError> {
-    match answered_once(alloc, pairs) {
-        Err(HeadersParseError::Memory) => answered_once(alloc, pairs),
+fn response_of(
+    alloc: Global,
+    pairs: &[(&str, &str)],
+) -> Result<SessionResponse, HeadersParseError> {
+    match response_once(alloc, pairs) {
+        Err(HeadersParseError::Memory) => response_once(alloc, pairs),
         outcome => outcome,
     }
 }
 
 /// What a row shows, pairs, and the fault of the response with these fields.
-static NO_RESPONSES: [(&str, &[(&str, &str)], HeadersParseError); 4] = [
+type NoResponseRow = (
+    &'static str,
+    &'static [(&'static str, &'static str)],
+    HeadersParseError,
+);
+
+/// Maps of no response.
+static NO_RESPONSES: [NoResponseRow; 4] = [
     (
         "no status",
         &[("x", "y")],
@@ -161,20 +179,11 @@ static NO_RESPONSES: [(&str, &[(&str, &str)], HeadersParseError); 4] = [
     ),
 ];
 
-/// Asserts that there is no response with these fields, and why.
-fn assert_no_response(
-    rt: &impl Abort,
-    alloc: Global,
-    pairs: &[(&str, &str)],
-    fault: &HeadersParseError,
-    shows: &str,
-) {
-    same(
-        rt,
-        answered(alloc, pairs).err().as_ref(),
-        Some(fault),
-        shows,
-    );
+/// Asserts that there is no response with the fields of a row, and why.
+fn assert_no_response(rt: &impl Abort, alloc: Global, row: &NoResponseRow) {
+    let (shows, pairs, fault) = row;
+    let came = response_of(alloc, pairs).err();
+    same(rt, came.as_ref(), Some(fault), shows);
 }
 
 /// A text of a status, and its digits in the response.
@@ -184,21 +193,20 @@ static STATUSES: [(&str, &str); 3] = [("0200", "200"), ("+403", "403"), ("599", 
 fn assert_status(
     rt: &impl Abort,
     alloc: Global,
-    text: &str,
-    digits: &str,
+    (text, digits): (&str, &str),
 ) -> Result<(), HeadersParseError> {
-    let response = answered(alloc, &[(":status", text), ("x", "y")])?;
+    let response = response_of(alloc, &[(":status", text), ("x", "y")])?;
     assert_fields(rt, response.headers(), &[(":status", digits)], text);
     Ok(())
 }
 
 #[test]
 fn responses_of_maps_past_refused_memory(rt: HostRuntime) -> Result<(), Fail> {
-    for (text, digits) in &STATUSES {
-        assert_status(&rt, rt.alloc(), text, digits)?;
+    for row in &STATUSES {
+        assert_status(&rt, rt.alloc(), *row)?;
     }
-    for (shows, pairs, fault) in &NO_RESPONSES {
-        assert_no_response(&rt, rt.alloc(), pairs, fault, shows);
+    for row in &NO_RESPONSES {
+        assert_no_response(&rt, rt.alloc(), row);
     }
     Ok(())
 }

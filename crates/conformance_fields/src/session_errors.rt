@@ -9,7 +9,7 @@ use wtp_fields::session::{
 };
 
 /// An error's text, asked for once more where memory was refused.
-fn shown(alloc: Global, error: &impl Display) -> Result<String, AllocError> {
+fn text_of(alloc: Global, error: &impl Display) -> Result<String, AllocError> {
     match error.to_string(alloc) {
         Err(AllocError) => error.to_string(alloc),
         outcome => outcome,
@@ -23,7 +23,19 @@ fn assert_shown(
     error: &impl Display,
     text: &str,
 ) -> Result<(), AllocError> {
-    same(rt, shown(alloc, error)?.as_str(), text, text);
+    same(rt, text_of(alloc, error)?.as_str(), text, text);
+    Ok(())
+}
+
+/// Asserts it of each error.
+fn assert_texts<E: Display>(
+    rt: &impl Abort,
+    alloc: Global,
+    rows: &[(E, &str)],
+) -> Result<(), AllocError> {
+    for (error, text) in rows {
+        assert_shown(rt, alloc, error, text)?;
+    }
     Ok(())
 }
 
@@ -71,9 +83,7 @@ static ERRORS_OF_MAPS: [(HeadersParseError, &str); 11] = [
 
 #[test]
 fn printed_errors_of_maps_past_refused_memory(rt: HostRuntime) -> Result<(), Fail> {
-    for (error, text) in &ERRORS_OF_MAPS {
-        assert_shown(&rt, rt.alloc(), error, text)?;
-    }
+    assert_texts(&rt, rt.alloc(), &ERRORS_OF_MAPS)?;
     Ok(())
 }
 
@@ -114,9 +124,7 @@ static ERRORS_OF_URLS: [(UrlParseError, &str); 13] = [
 
 #[test]
 fn printed_errors_of_urls_past_refused_memory(rt: HostRuntime) -> Result<(), Fail> {
-    for (error, text) in &ERRORS_OF_URLS {
-        assert_shown(&rt, rt.alloc(), error, text)?;
-    }
+    assert_texts(&rt, rt.alloc(), &ERRORS_OF_URLS)?;
     Ok(())
 }
 
@@ -137,11 +145,7 @@ static ERRORS_OF_ADDS: [(AddError, &str); 2] = [
 
 #[test]
 fn printed_errors_of_fields_past_refused_memory(rt: HostRuntime) -> Result<(), Fail> {
-    for (error, text) in &ERRORS_OF_INSERTS {
-        assert_shown(&rt, rt.alloc(), error, text)?;
-    }
-    for (error, text) in &ERRORS_OF_ADDS {
-        assert_shown(&rt, rt.alloc(), error, text)?;
-    }
+    assert_texts(&rt, rt.alloc(), &ERRORS_OF_INSERTS)?;
+    assert_texts(&rt, rt.alloc(), &ERRORS_OF_ADDS)?;
     Ok(())
 }

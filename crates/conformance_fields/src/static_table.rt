@@ -1,10 +1,13 @@
 //! All 99 entries of the static table and all 52 names, by lines that refer to them.
-use crate::field_sections::{assert_decoded, assert_encoded, decoded, joined};
 use crate::same::same;
+use crate::sections::{FaultRow, assert_decoded, assert_encoded, assert_faults, join};
 use std::alloc::{AllocError, Global};
 use std::process::Abort;
 use std::test::Fail;
 use wtp_fields::qpack::DecodingError;
+
+/// The names and values of a table.
+type Entries = &'static [(&'static str, &'static str)];
 
 /// The static table as RFC 9204, Appendix A, lists it.
 static APPENDIX_A: [(&str, &str); 99] = [
@@ -118,46 +121,38 @@ static APPENDIX_A: [(&str, &str); 99] = [
     ("x-frame-options", "sameorigin"),
 ];
 
+/// The line of an index: one byte below 63, and a byte more from there on.
+fn whole_line(alloc: Global, index: usize) -> Result<Vec<u8>, AllocError> {
+    let rest = index.wrapping_sub(63) % 128;
+    if index < 63 {
+        join(alloc, [b"\x00\x00", &[0xc0 | index as u8], b""])
+    } else {
+        join(alloc, [b"\x00\x00\xff", &[rest as u8], b""])
+    }
+}
+
+/// The section of one line that refers to the name of an entry, and has the value `~`, which no
+/// entry has.
+fn name_line(alloc: Global, index: usize) -> Result<Vec<u8>, AllocError> {
+    let rest = index.wrapping_sub(15) % 128;
+    if index < 15 {
+        join(alloc, [b"\x00\x00", &[0x50 | index as u8], b"\x01~"])
+    } else {
+        join(alloc, [b"\x00\x00\x5f", &[rest as u8], b"\x01~"])
+    }
+}
+
 /// Asserts that an index refers to this entry, as a whole and by its name.
 fn assert_entry(
     rt: &impl Abort,
     alloc: Global,
     index: usize,
     (name, value): (&str, &str),
-) -> Result<(), Fail> {
-    let whole = if index < 63 {
-        joined(alloc, [b"\x00\x00", &[0xc0 | index as u8], b""])?
-    } else {
-        joined(
-            alloc,
-            [
-                b"\x00\x00\xff",
-                &[(index.wrapping_sub(63) % 128) as u8],
-                b"",
-            ],
-        )?
-    };
+) -> Result<(), DecodingError> {
+    let whole = whole_line(alloc, index)?;
     assert_decoded(rt, alloc, whole.as_slice(), &[(name, value)], index)?;
-    let named = named(alloc, index)?;
-    assert_decoded(rt, alloc, named.as_slice(), &[(name, "~")], index)?;
-    Ok(())
-}
-
-/// The section of one line that refers to the name of an entry, and has the value `~`, which no
-/// entry has.
-fn named(alloc: Global, index: usize) -> Result<Vec<u8>, AllocError> {
-    if index < 15 {
-        joined(alloc, [b"\x00\x00", &[0x50 | index as u8], b"\x01~"])
-    } else {
-        joined(
-            alloc,
-            [
-                b"\x00\x00\x5f",
-                &[(index.wrapping_sub(15) % 128) as u8],
-                b"\x01~",
-            ],
-        )
-    }
+    let named = name_line(alloc, index)?;
+    assert_decoded(rt, alloc, named.as_slice(), &[(name, "~")], index)
 }
 
 /// Asserts that a name is encoded by the index of its first entry.
@@ -167,52 +162,71 @@ fn assert_first_entry(
     first: usize,
     name: &str,
 ) -> Result<(), AllocError> {
-    let section = named(alloc, first)?;
+    let section = name_line(alloc, first)?;
     assert_encoded(rt, alloc, &[(name, "~")], section.as_slice(), name)
+}
+
+/// Lines of an index after the last.
+static NO_ENTRIES: [FaultRow; 2] = [
+    (
+        "index 99",
+        b"\x00\x00\xff\x24",
+        Some(DecodingError::IndexNotfound),
+    ),
+    (
+        "the name of index 99",
+        b"\x00\x00\x5f\x54",
+        Some(DecodingError::IndexNotfound),
+    ),
+];
+
+/// Asserts it of each entry, by its place.
+fn assert_entries(rt: &impl Abort, alloc: Global, entries: Entries) -> Result<(), DecodingError> {
+    for (index, entry) in entries.iter().enumerate() {
+        assert_entry(rt, alloc, index, *entry)?;
+    }
+    Ok(())
 }
 
 #[test]
 fn whole_table_past_refused_memory(rt: HostRuntime) -> Result<(), Fail> {
-    for (index, (name, value)) in APPENDIX_A.iter().enumerate() {
-        assert_entry(&rt, rt.alloc(), index, (*name, *value))?;
-    }
-    let fault = Some(DecodingError::IndexNotfound);
-    same(
-        &rt,
-        decoded(rt.alloc(), b"\x00\x00\xff\x24").err(),
-        fault,
-        "index 99",
-    );
-    same(
-        &rt,
-        decoded(rt.alloc(), b"\x00\x00\x5f\x54").err(),
-        fault,
-        "the name of index 99",
-    );
+    assert_entries(&rt, rt.alloc(), &APPENDIX_A)?;
+    assert_faults(&rt, rt.alloc(), &NO_ENTRIES);
     Ok(())
 }
 
-/// Asserts the same of the name of an entry, and answers whether the entry is the first of this
-/// name.
+/// The first entry of a name.
+fn first_entry(entries: Entries, name: &str) -> Option<usize> {
+    entries.iter().position(|entry| entry.0 == name)
+}
+
+/// Asserts that a name is encoded by the index of its first entry, and answers whether this is that
+/// entry.
 fn assert_name(
     rt: &impl Abort,
     alloc: Global,
-    index: usize,
-    name: &str,
+    entries: Entries,
+    (index, name): (usize, &str),
 ) -> Result<bool, AllocError> {
-    let first = APPENDIX_A.iter().position(|e| e.0 == name).unwrap_or(index);
+    let first = first_entry(entries, name).unwrap_or(index);
     assert_first_entry(rt, alloc, first, name)?;
     Ok(first == index)
 }
 
-#[test]
-fn names_past_refused_memory(rt: HostRuntime) -> Result<(), Fail> {
+/// Asserts it of the name of each entry, and answers how many names there are.
+fn assert_names(rt: &impl Abort, alloc: Global, entries: Entries) -> Result<u8, AllocError> {
     let mut names = 0u8;
-    for (index, (name, _)) in APPENDIX_A.iter().enumerate() {
-        if assert_name(&rt, rt.alloc(), index, name)? {
+    for (index, entry) in entries.iter().enumerate() {
+        if assert_name(rt, alloc, entries, (index, entry.0))? {
             names = names.wrapping_add(1);
         }
     }
+    Ok(names)
+}
+
+#[test]
+fn names_past_refused_memory(rt: HostRuntime) -> Result<(), Fail> {
+    let names = assert_names(&rt, rt.alloc(), &APPENDIX_A)?;
     same(&rt, names, 52, "names");
     Ok(())
 }

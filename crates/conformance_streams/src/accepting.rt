@@ -1,15 +1,15 @@
 //! Accepting a bidirectional stream: what comes first in it decides whether it is a stream of a
 //! session or of a request.
-use crate::answers::{ENDS, pad};
+use crate::opened::opened_there;
 use crate::same::{fail, same};
 use std::alloc::{AllocError, Global};
+use std::fmt::Display;
 use std::process::Abort;
 use std::test::Fail;
 use test_io::{Answers, End, Trickle};
 use wtransport_proto::bytes::{AsyncRead, IoReadError as Fault, Polled, ReadStep};
 use wtransport_proto::error::ErrorCode;
 use wtransport_proto::frame::Frame;
-use wtransport_proto::stream::biremote::{StreamBiRemoteH3, StreamBiRemoteQuic};
 use wtransport_proto::stream::{BiAccepted, BiAccepting, IoReadError};
 
 /// What a stream is found to be: one of this session, with no section, or that of a request with
@@ -28,8 +28,7 @@ fn outcome_of(accepted: &BiAccepted) -> Outcome<'_> {
 
 /// A new stream that the peer opened.
 fn accepting(alloc: Global) -> BiAccepting {
-    let stream = StreamBiRemoteQuic::accept_bi().upgrade();
-    stream.accept_async(Frame::read_async(alloc))
+    opened_there().accept_async(Frame::read_async(alloc))
 }
 
 /// Polls until the stream is found to be something, or is at fault.
@@ -156,45 +155,52 @@ static ROWS: [Row; 21] = [
     (b"\x01\x02a", Err(&LATE), b"", "half a request"),
 ];
 
+/// The stream is found to be this.
+fn check_found<R: Abort, S: AsyncRead, N: Display + Drop>(
+    rt: &R,
+    accepting: BiAccepting,
+    source: &mut S,
+    wanted: Outcome<'_>,
+    shows: N,
+) {
+    let found = poll_on(accepting, source);
+    same(rt, outcome_of(&found), wanted, shows);
+}
+
 /// Over the bytes of a row in a slice the stream is found to be what it says.
 fn check_slice<R: Abort + AllocGlobal>(rt: &R, row: &Row) {
     let (mut source, outcome, left, shows) = *row;
-    let found = poll_on(accepting(rt.alloc()), &mut source);
-    same(rt, (outcome_of(&found), source), (outcome, left), shows);
+    check_found(rt, accepting(rt.alloc()), &mut source, outcome, shows);
+    same(rt, source, left, shows);
 }
 
 /// The same over bytes that come one by one, each of them late.
 fn check_trickle<R: Abort + AllocGlobal>(rt: &R, row: &Row) {
     let (bytes, outcome, left, shows) = *row;
     let mut source = Trickle::new(bytes, End::Fin);
-    let found = poll_on(accepting(rt.alloc()), &mut source);
-    same(
-        rt,
-        (outcome_of(&found), source.rest()),
-        (outcome, left),
-        shows,
-    );
+    check_found(rt, accepting(rt.alloc()), &mut source, outcome, shows);
+    same(rt, source.rest(), left, shows);
 }
 
 /// The same over a source that gives its bytes in these steps.
 fn check_steps<R: Abort + AllocGlobal>(rt: &R, steps: &[ReadStep], row: &Row) {
     let (bytes, outcome, left, shows) = *row;
     let mut source = Answers::new(bytes, steps);
-    let found = poll_on(accepting(rt.alloc()), &mut source);
-    same(
-        rt,
-        (outcome_of(&found), source.rest()),
-        (outcome, left),
-        shows,
-    );
+    check_found(rt, accepting(rt.alloc()), &mut source, outcome, shows);
+    same(rt, source.rest(), left, shows);
+}
+
+/// The stream is found to be what each row says, over bytes that are there and that trickle.
+fn check_each<R: Abort + AllocGlobal>(rt: &R, rows: &[Row]) {
+    for row in rows {
+        check_slice(rt, row);
+        check_trickle(rt, row);
+    }
 }
 
 #[test]
 fn the_first_frame_decides(rt: HostRuntime) {
-    for row in &ROWS {
-        check_slice(&rt, row);
-        check_trickle(&rt, row);
-    }
+    check_each(&rt, &ROWS);
 }
 
 /// Two and three bytes a call, not ready before each; the rest then comes at once.
@@ -204,8 +210,8 @@ static CUTS: [[[ReadStep; 2]; 12]; 2] = [
 ];
 
 /// The stream is found to be what each row says, over sources of these steps.
-fn check_rows<R: Abort + AllocGlobal>(rt: &R, steps: &[ReadStep]) {
-    for row in &ROWS {
+fn check_rows<R: Abort + AllocGlobal>(rt: &R, steps: &[ReadStep], rows: &[Row]) {
+    for row in rows {
         check_steps(rt, steps, row);
     }
 }
@@ -213,7 +219,7 @@ fn check_rows<R: Abort + AllocGlobal>(rt: &R, steps: &[ReadStep]) {
 #[test]
 fn bytes_may_be_cut_anywhere(rt: HostRuntime) {
     for cuts in &CUTS {
-        check_rows(&rt, cuts.as_flattened());
+        check_rows(&rt, cuts.as_flattened(), &ROWS);
     }
 }
 
@@ -261,28 +267,35 @@ static TURNS: [(&[u8], usize, usize, &str); 4] = [
     (b"\x21\x00\x00\x00", 4, 1, "data"),
 ];
 
+/// Over a source of these bytes, one by one and each of them late, a new stream takes these turns.
+fn check_turns<R: Abort + AllocGlobal>(rt: &R, bytes: &[u8], wanted: Turns, shows: &str) {
+    let mut source = Trickle::new(bytes, End::Fin);
+    let turns = count_turns(accepting(rt.alloc()), &mut source);
+    same(rt, turns, wanted, shows);
+}
+
 #[test]
 fn each_poll_takes_one_frame(rt: HostRuntime) {
     for (bytes, waits, skipped, shows) in &TURNS {
-        let mut source = Trickle::new(bytes, End::Fin);
-        let turns = count_turns(accepting(rt.alloc()), &mut source);
-        same(&rt, turns, (*waits, *skipped), shows);
+        check_turns(&rt, bytes, (*waits, *skipped), shows);
     }
 }
 
 /// An unknown frame of 8192 bytes, and these bytes.
 fn after_unknown(alloc: Global, bytes: &[u8]) -> Result<Vec<u8>, AllocError> {
-    let mut all = pad(alloc, &[0x0a, 0x60, 0x00], 3 + 8192)?;
+    let mut all = Vec::from_slice(alloc, &[0x0a, 0x60, 0x00])?;
+    all.resize(3 + 8192, 0)?;
     all.extend_from_slice(bytes)?;
     Ok(all)
 }
 
 #[test]
-fn a_long_unknown_frame_is_skipped_in_parts(rt: HostRuntime) -> Result<(), Fail> {
+fn a_long_unknown_frame_is_skipped_in_parts(rt: HostRuntime) -> Result<(), AllocError> {
     let bytes = after_unknown(rt.alloc(), b"\x40\x41\x04rest")?;
     let mut source = bytes.as_slice();
     let turns = count_turns(accepting(rt.alloc()), &mut source);
-    same(&rt, (turns, source), ((0, 2), b"rest".as_slice()), "parts");
+    same(&rt, turns, (0, 2), "parts");
+    same(&rt, source, b"rest".as_slice(), "bytes left");
     Ok(())
 }
 
@@ -296,22 +309,35 @@ fn stop_fault(len: usize, end: End) -> IoReadError {
     }
 }
 
+/// The stream fails with this fault, and is handed back.
+fn check_fault<R: Abort, S: AsyncRead>(
+    rt: &R,
+    accepting: BiAccepting,
+    source: &mut S,
+    fault: &IoReadError,
+    len: usize,
+) -> Result<BiAccepting, Fail> {
+    let found = poll_on(accepting, source);
+    same(rt, outcome_of(&found), Err(fault), len);
+    state_of(found)
+}
+
 /// The first so many bytes of the frame of session 4, each of them late, and then this end, twice;
 /// then the others, and what follows them.
 fn check_stop<R: Abort + AllocGlobal>(rt: &R, len: usize, end: End) -> Result<(), Fail> {
     let wire = b"\x40\x41\x04a".as_slice();
     let mut source = Trickle::new(wire.get(..len).unwrap_or(&[]), end);
-    let found = poll_on(accepting(rt.alloc()), &mut source);
     let fault = stop_fault(len, end);
-    same(rt, outcome_of(&found), Err(&fault), len);
-    let found = poll_on(state_of(found)?, &mut source);
-    same(rt, outcome_of(&found), Err(&fault), len);
+    let state = check_fault(rt, accepting(rt.alloc()), &mut source, &fault, len)?;
+    let state = check_fault(rt, state, &mut source, &fault, len)?;
     let mut rest = wire.get(len..).unwrap_or(&[]);
-    let found = poll_on(state_of(found)?, &mut rest);
-    let wanted: (Outcome<'_>, &[u8]) = (Ok((Some(4), b"")), b"a");
-    same(rt, (outcome_of(&found), rest), wanted, len);
+    check_found(rt, state, &mut rest, Ok((Some(4), b"")), len);
+    same(rt, rest, b"a".as_slice(), len);
     Ok(())
 }
+
+/// Every ending of a source.
+static ENDS: [End; 3] = End::EACH;
 
 #[test]
 fn a_second_source_goes_on(rt: HostRuntime) -> Result<(), Fail> {
@@ -323,33 +349,34 @@ fn a_second_source_goes_on(rt: HostRuntime) -> Result<(), Fail> {
     Ok(())
 }
 
-/// Reads a reserved frame by the stream's own call, before it is accepted.
-fn read_before(alloc: Global) -> StreamBiRemoteH3 {
-    let mut stream = StreamBiRemoteQuic::accept_bi().upgrade();
+/// A stream of which a reserved frame was read by its own call, before it is accepted.
+fn read_before(alloc: Global) -> BiAccepting {
+    let mut stream = opened_there();
     let mut reading = Frame::read_async(alloc);
     let _read = stream.read_frame_async(&mut reading, &mut b"\x21\x00".as_slice());
-    stream
+    stream.accept_async(Frame::read_async(alloc))
 }
 
 #[test]
 fn frames_read_before_count(rt: HostRuntime) {
-    let accepting = read_before(rt.alloc()).accept_async(Frame::read_async(rt.alloc()));
-    let found = poll_on(accepting, &mut b"\x40\x41\x04".as_slice());
-    same(&rt, outcome_of(&found), Err(&LATE), "a late session");
+    let mut source = b"\x40\x41\x04".as_slice();
+    let wanted = Err(&LATE);
+    check_found(&rt, read_before(rt.alloc()), &mut source, wanted, "late");
+}
+
+/// A stream of which half a type was read by its own call, before it is accepted.
+fn held_before(alloc: Global) -> BiAccepting {
+    let mut stream = opened_there();
+    let mut reading = Frame::read_async(alloc);
+    let _cut = stream.read_frame_async(&mut reading, &mut b"\x40".as_slice());
+    stream.accept_async(reading)
 }
 
 #[test]
 fn bytes_held_before_count(rt: HostRuntime) {
-    let mut stream = StreamBiRemoteQuic::accept_bi().upgrade();
-    let mut reading = Frame::read_async(rt.alloc());
-    let _cut = stream.read_frame_async(&mut reading, &mut b"\x40".as_slice());
-    let found = poll_on(stream.accept_async(reading), &mut b"\x41\x04".as_slice());
-    same(
-        &rt,
-        outcome_of(&found),
-        Ok((Some(4), b"")),
-        "the second part",
-    );
+    let mut source = b"\x41\x04".as_slice();
+    let wanted: Outcome<'_> = Ok((Some(4), b""));
+    check_found(&rt, held_before(rt.alloc()), &mut source, wanted, "held");
 }
 
 /// A reserved frame, and a HEADERS frame of 48 bytes and a byte after it.

@@ -1,42 +1,13 @@
 //! Streams in both directions that this end opened.
-use crate::reads::{FRAMES_OF_BOTH, Wanted, check_buffer, check_reads};
+use crate::opened::{opened_here, session_of_stream};
 use crate::same::{fail, same};
 use std::borrow::CowSlice;
 use std::process::Abort;
 use std::test::Fail;
-use wtransport_proto::bytes::{BufferReader, BufferWriter, EndOfBuffer, PutError};
-use wtransport_proto::error::ErrorCode;
+use wtransport_proto::bytes::{BufferWriter, EndOfBuffer, PutError};
 use wtransport_proto::frame::Frame;
-use wtransport_proto::ids::{SessionId, StreamId};
-use wtransport_proto::stream::bilocal::{StreamBiLocalH3, StreamBiLocalQuic, StreamBiLocalWT};
-use wtransport_proto::varint::VarInt;
-
-#[test]
-fn frames_are_read_by_the_rule(rt: HostRuntime) {
-    let mut stream = StreamBiLocalQuic::open_bi().upgrade();
-    check_reads(&rt, &mut stream, &FRAMES_OF_BOTH);
-    same(&rt, stream.can_upgrade(), true, "reading does not count");
-}
-
-/// Bytes, and what a read of them from a buffer answers, whose reader stays before them.
-static STAYS: [(&[u8], Wanted<'static>, &str); 3] = [
-    (b"\x0a\x00\x00\x05a", Ok(None), "too few bytes"),
-    (b"\x40\x41\x01", Err(ErrorCode::Id), "no session"),
-    (
-        b"\x00\x50\x01",
-        Err(ErrorCode::ExcessiveLoad),
-        "length 4097",
-    ),
-];
-
-#[test]
-fn too_few_bytes_and_faults_stay(rt: HostRuntime) {
-    let mut stream = StreamBiLocalQuic::open_bi().upgrade();
-    for (bytes, wanted, shows) in &STAYS {
-        let mut reader = BufferReader::new(bytes);
-        check_buffer(&rt, &mut stream, &mut reader, *wanted, 0, shows);
-    }
-}
+use wtransport_proto::ids::SessionId;
+use wtransport_proto::stream::bilocal::{StreamBiLocalH3, StreamBiLocalWT};
 
 /// A data frame of one byte is written to this room: the answer, what is written, and whether the
 /// stream can be upgraded.
@@ -55,7 +26,7 @@ fn check_put<R: Abort>(
 
 #[test]
 fn a_frame_that_was_written_ends_upgrading(rt: HostRuntime) {
-    let mut stream = StreamBiLocalQuic::open_bi().upgrade();
+    let mut stream = opened_here();
     let wanted = (Err(PutError::EndOfBuffer), b"\x00\x01".as_slice(), true);
     check_put(&rt, &mut stream, &mut [0; 2], wanted, "too little room");
     let wanted = (Ok(()), b"\x00\x01a".as_slice(), false);
@@ -80,7 +51,7 @@ fn put_headers(
 
 #[test]
 fn a_frame_that_was_written_whole_ends_upgrading(rt: HostRuntime) {
-    let mut stream = StreamBiLocalQuic::open_bi().upgrade();
+    let mut stream = opened_here();
     let mut buffer = [0; 2];
     let mut writer = BufferWriter::new(&mut buffer);
     let answer = put_data(&mut stream, &mut writer);
@@ -110,66 +81,69 @@ fn refusal_of(upgraded: UpgradeAnswer) -> Result<(StreamBiLocalH3, PutError), Fa
     }
 }
 
-/// The session of the stream that was upgraded.
-fn session_of(upgraded: UpgradeAnswer) -> Result<SessionId, Fail> {
+/// The stream that was upgraded.
+fn stream_of(upgraded: UpgradeAnswer) -> Result<StreamBiLocalWT, Fail> {
     match upgraded {
-        Ok(stream) => Ok(stream.session_id()),
+        Ok(stream) => Ok(stream),
         Err(_) => fail("there is room"),
     }
 }
 
-#[test]
-fn it_is_upgraded_where_there_is_room(rt: HostRuntime) -> Result<(), Fail> {
-    let session = SessionId::try_from_session_stream(StreamId::new(VarInt::from_u32(0)))?;
-    let stream = StreamBiLocalQuic::open_bi().upgrade();
-    same(&rt, stream.upgrade_size(session), 3, "size");
+/// The stream is handed back, since two bytes are too little room for its session frame.
+fn check_too_little<R: Abort>(rt: &R, session: SessionId) -> Result<StreamBiLocalH3, Fail> {
     let mut buffer = [0; 2];
     let mut writer = BufferWriter::new(&mut buffer);
-    let (stream, error) = refusal_of(stream.upgrade(session, &mut writer))?;
-    same(
-        &rt,
-        (error, writer.buffer_written()),
-        (PutError::EndOfBuffer, [0x40, 0x41].as_slice()),
-        "too little room",
-    );
+    let (stream, error) = refusal_of(opened_here().upgrade(session, &mut writer))?;
+    same(rt, error, PutError::EndOfBuffer, "too little room");
+    let parts = [0x40, 0x41].as_slice();
+    same(rt, writer.buffer_written(), parts, "the parts");
+    Ok(stream)
+}
+
+#[test]
+fn it_is_upgraded_where_there_is_room(rt: HostRuntime) -> Result<(), Fail> {
+    let session = session_of_stream(0)?;
+    same(&rt, opened_here().upgrade_size(session), 3, "size");
+    let stream = check_too_little(&rt, session)?;
     assert!(rt; stream.can_upgrade());
     let mut buffer = [0; 4];
     let mut writer = BufferWriter::new(&mut buffer);
-    let came = session_of(stream.upgrade(session, &mut writer))?;
-    same(
-        &rt,
-        (came, writer.buffer_written()),
-        (session, [0x40, 0x41, 0x00].as_slice()),
-        "there is room",
-    );
+    let stream = stream_of(stream.upgrade(session, &mut writer))?;
+    same(&rt, stream.session_id(), session, "its session");
+    let wire = [0x40, 0x41, 0x00].as_slice();
+    same(&rt, writer.buffer_written(), wire, "the frame");
     Ok(())
+}
+
+/// What memory was refused to: the error, and whole parts of the frame of session 64.
+fn check_refused<R: Abort>(rt: &R, error: PutError, written: &[u8]) {
+    same(rt, error, PutError::Memory, "error");
+    assert!(rt; written == [].as_slice() || written == [0x40, 0x41].as_slice());
+}
+
+/// Upgrades the stream into the vector; where allocation failed, once more.
+fn upgrade_again<R: Abort>(
+    rt: &R,
+    session: SessionId,
+    vector: &mut Vec<u8>,
+) -> Result<StreamBiLocalWT, Fail> {
+    match opened_here().upgrade(session, vector) {
+        Ok(stream) => Ok(stream),
+        Err((stream, error)) => {
+            check_refused(rt, error, vector.as_slice());
+            vector.clear();
+            stream_of(stream.upgrade(session, vector))
+        }
+    }
 }
 
 #[test]
 fn refused_memory_hands_the_stream_back(rt: HostRuntime) -> Result<(), Fail> {
-    let session = SessionId::try_from_session_stream(StreamId::new(VarInt::from_u32(64)))?;
+    let session = session_of_stream(64)?;
     let mut vector = Vec::new(rt.alloc());
-    let upgraded = match StreamBiLocalQuic::open_bi()
-        .upgrade()
-        .upgrade(session, &mut vector)
-    {
-        Ok(upgraded) => upgraded,
-        Err((stream, error)) => {
-            same(&rt, error, PutError::Memory, "error");
-            let written = vector.as_slice();
-            assert!(rt; written == [].as_slice() || written == [0x40, 0x41].as_slice());
-            vector.clear();
-            match stream.upgrade(session, &mut vector) {
-                Ok(upgraded) => upgraded,
-                Err((_, error)) => return Err(error)?,
-            }
-        }
-    };
-    same(
-        &rt,
-        (vector.as_slice(), upgraded.session_id()),
-        ([0x40, 0x41, 0x40, 0x40].as_slice(), session),
-        "upgraded",
-    );
+    let stream = upgrade_again(&rt, session, &mut vector)?;
+    same(&rt, stream.session_id(), session, "its session");
+    let wire = [0x40, 0x41, 0x40, 0x40].as_slice();
+    same(&rt, vector.as_slice(), wire, "the frame");
     Ok(())
 }

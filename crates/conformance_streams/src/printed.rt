@@ -1,15 +1,15 @@
 //! What streams, upgrades and their answers print for debugging.
-use crate::answers::session_4;
+use crate::opened::{opened_here, opened_there, session_4};
 use crate::same::same;
 use std::alloc::AllocError;
 use std::fmt::Debug;
 use std::process::Abort;
 use std::test::Fail;
-use wtransport_proto::bytes::Polled;
+use wtransport_proto::bytes::{IoReadError as Fault, Polled};
+use wtransport_proto::error::ErrorCode;
 use wtransport_proto::frame::{FrameOwned, FrameReading};
 use wtransport_proto::stream::IoReadError;
 use wtransport_proto::stream::bilocal::StreamBiLocalQuic;
-use wtransport_proto::stream::biremote::StreamBiRemoteQuic;
 use wtransport_proto::stream::unilocal::StreamUniLocalQuic;
 use wtransport_proto::stream::uniremote::StreamUniRemoteQuic;
 
@@ -26,22 +26,19 @@ fn check_printed<R: Abort + AllocGlobal, T: Debug>(
 
 #[test]
 fn streams_are_printed(rt: HostRuntime) -> Result<(), Fail> {
-    let quic = StreamBiLocalQuic::open_bi();
     check_printed(
         &rt,
-        &quic,
+        &StreamBiLocalQuic::open_bi(),
         "Stream { kind: BiLocal(Bi, Local), stage: Quic }",
     )?;
     check_printed(
         &rt,
-        &quic.upgrade(),
+        &opened_here(),
         "Stream { kind: BiLocal(Bi, Local), stage: H3 { header: (), first_frame_done: false } }",
     )?;
     check_printed(
         &rt,
-        &StreamBiRemoteQuic::accept_bi()
-            .upgrade()
-            .upgrade(session_4()?),
+        &opened_there().upgrade(session_4()?),
         "Stream { kind: BiRemote(Bi, Remote), stage: WT { session_id: 4 } }",
     )?;
     check_printed(
@@ -71,7 +68,7 @@ fn upgrades_are_printed(rt: HostRuntime) -> Result<(), Fail> {
 
 #[test]
 fn an_answer_is_printed(rt: HostRuntime) -> Result<(), AllocError> {
-    let mut stream = StreamBiRemoteQuic::accept_bi().upgrade();
+    let mut stream = opened_there();
     let mut reading = FrameReading::new(rt.alloc());
     let mut source = b"\x04\x00".as_slice();
     let answer: Polled<Result<FrameOwned, IoReadError>> = stream.read_frame_async(
@@ -83,4 +80,18 @@ fn an_answer_is_printed(rt: HostRuntime) -> Result<(), AllocError> {
         &answer,
         "Ready(Err(H3(FrameUnexpectedError (code: 261))))",
     )
+}
+
+#[test]
+fn faults_of_a_stream_are_printed(rt: HostRuntime) -> Result<(), AllocError> {
+    let code = IoReadError::H3(ErrorCode::FrameUnexpected);
+    let fault = IoReadError::IO(Fault::UnexpectedFin);
+    let text = format!(in rt.alloc(); "{code}; {fault}")?;
+    same(
+        &rt,
+        text.as_str(),
+        "FrameUnexpectedError; read operation failed because EOF reached after first byte",
+        "printed",
+    );
+    Ok(())
 }

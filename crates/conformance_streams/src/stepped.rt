@@ -1,14 +1,16 @@
 //! Upgrading streams, poll by poll.
-use crate::answers::{ENDS, session_4};
+use crate::opened::{opened_here, session_4};
 use crate::same::{fail, same};
+use std::fmt::Display;
 use std::process::Abort;
 use std::test::Fail;
 use test_io::{End, Paced, Trickle, stops_after};
 use wtransport_proto::bytes::{AsyncRead, IoReadError as Fault, IoWriteError, Stepped, WriteStep};
 use wtransport_proto::error::ErrorCode;
-use wtransport_proto::stream::bilocal::{StreamBiLocalQuic, StreamBiLocalWT};
+use wtransport_proto::ids::SessionId;
+use wtransport_proto::stream::bilocal::StreamBiLocalWT;
 use wtransport_proto::stream::unilocal::{StreamUniLocalH3, StreamUniLocalQuic};
-use wtransport_proto::stream::uniremote::{StreamUniRemoteH3, StreamUniRemoteQuic};
+use wtransport_proto::stream::uniremote::StreamUniRemoteQuic;
 use wtransport_proto::stream::{BiUpgrading, IoReadError, UniAccepting, UniUpgrading};
 use wtransport_proto::stream_header::{StreamHeader, StreamKind};
 
@@ -44,29 +46,39 @@ fn make_session(upgrading: BiUpgrading, vector: &mut Vec<u8>) -> Result<StreamBi
     }
 }
 
-/// Of the frame of session 4 so many bytes go to a sink that stops, and the others elsewhere.
-fn check_bi_stop<R: Abort + AllocGlobal>(rt: &R, room: usize) -> Result<(), Fail> {
-    let wire = [0x40, 0x41, 0x04];
-    let session = session_4()?;
-    let stream = StreamBiLocalQuic::open_bi().upgrade();
-    let mut sink = Paced::new(rt.alloc(), stops_after(room));
-    let (upgrading, fault) = take_failed(stream.upgrade_async(session).poll(&mut sink))?;
-    let stopped = IoWriteError::Stopped;
-    same(
-        rt,
-        (fault, Some(sink.output())),
-        (stopped, wire.get(..room)),
-        room,
-    );
+/// The state failed since its sink stopped, which took these bytes.
+fn check_stopped<R: Abort, P: Drop, T: Drop>(
+    rt: &R,
+    stepped: Stepped<P, T, IoWriteError>,
+    sink: &Paced<'_>,
+    taken: &[u8],
+) -> Result<P, Fail> {
+    let (state, fault) = take_failed(stepped)?;
+    same(rt, fault, IoWriteError::Stopped, taken.len());
+    same(rt, sink.output(), taken, "the sink took");
+    Ok(state)
+}
+
+/// These bytes go to a vector, and the stream of session 4 is made.
+fn check_session_made<R: Abort + AllocGlobal>(
+    rt: &R,
+    upgrading: BiUpgrading,
+    wire: &[u8],
+) -> Result<(), Fail> {
     let mut vector = Vec::new(rt.alloc());
     let stream = make_session(upgrading, &mut vector)?;
-    same(
-        rt,
-        (Some(vector.as_slice()), stream.session_id()),
-        (wire.get(room..), session),
-        room,
-    );
+    same(rt, vector.as_slice(), wire, "to a vector");
+    same(rt, stream.session_id(), session_4()?, wire.len());
     Ok(())
+}
+
+/// Of the frame of session 4 so many bytes go to a sink that stops, and the others elsewhere.
+fn check_bi_stop<R: Abort + AllocGlobal>(rt: &R, room: usize) -> Result<(), Fail> {
+    let wire = [0x40, 0x41, 0x04].as_slice();
+    let mut sink = Paced::new(rt.alloc(), stops_after(room));
+    let stepped = opened_here().upgrade_async(session_4()?).poll(&mut sink);
+    let upgrading = check_stopped(rt, stepped, &sink, wire.get(..room).unwrap_or(&[]))?;
+    check_session_made(rt, upgrading, wire.get(room..).unwrap_or(&[]))
 }
 
 #[test]
@@ -87,9 +99,9 @@ static HALTS: [WriteStep; 4] = [
 
 #[test]
 fn a_session_frame_waits_for_its_sink(rt: HostRuntime) -> Result<(), Fail> {
-    let stream = StreamBiLocalQuic::open_bi().upgrade();
     let mut sink = Paced::new(rt.alloc(), &HALTS);
-    let upgrading = take_pending(stream.upgrade_async(session_4()?).poll(&mut sink))?;
+    let upgrading = opened_here().upgrade_async(session_4()?);
+    let upgrading = take_pending(upgrading.poll(&mut sink))?;
     let upgrading = take_pending(upgrading.poll(&mut sink))?;
     same(&rt, sink.output(), [0x40, 0x41].as_slice(), "two bytes");
     let (upgrading, fault) = take_failed(upgrading.poll(&mut sink))?;
@@ -106,17 +118,8 @@ fn a_session_frame_waits_for_its_sink(rt: HostRuntime) -> Result<(), Fail> {
 
 #[test]
 fn refused_memory_hands_back_the_session_frame(rt: HostRuntime) -> Result<(), Fail> {
-    let session = session_4()?;
-    let stream = StreamBiLocalQuic::open_bi().upgrade();
-    let mut vector = Vec::new(rt.alloc());
-    let stream = make_session(stream.upgrade_async(session), &mut vector)?;
-    same(
-        &rt,
-        (vector.as_slice(), stream.session_id()),
-        ([0x40, 0x41, 0x04].as_slice(), session),
-        "made",
-    );
-    Ok(())
+    let upgrading = opened_here().upgrade_async(session_4()?);
+    check_session_made(&rt, upgrading, &[0x40, 0x41, 0x04])
 }
 
 /// Polls into the vector until it is done; twice, where allocation failed.
@@ -127,29 +130,38 @@ fn write_header(upgrading: UniUpgrading, vector: &mut Vec<u8>) -> Result<StreamU
     }
 }
 
-/// Of the header of session 4 so many bytes go to a sink that stops, and the others elsewhere.
-fn check_uni_stop<R: Abort + AllocGlobal>(rt: &R, room: usize) -> Result<(), Fail> {
-    let wire = [0x40, 0x54, 0x04];
-    let header = StreamHeader::new_webtransport(session_4()?);
-    let stream = StreamUniLocalQuic::open_uni();
-    let mut sink = Paced::new(rt.alloc(), stops_after(room));
-    let (upgrading, fault) = take_failed(stream.upgrade_async(header).poll(&mut sink))?;
-    let stopped = IoWriteError::Stopped;
-    same(
-        rt,
-        (fault, Some(sink.output())),
-        (stopped, wire.get(..room)),
-        room,
-    );
+/// What a stream in one direction is: its kind, and its session.
+type Made = (StreamKind, Option<SessionId>);
+
+/// These bytes go to a vector, and such a stream is made.
+fn check_header_made<R: Abort + AllocGlobal>(
+    rt: &R,
+    upgrading: UniUpgrading,
+    wire: &[u8],
+    wanted: Made,
+) -> Result<(), Fail> {
     let mut vector = Vec::new(rt.alloc());
     let stream = write_header(upgrading, &mut vector)?;
-    same(
-        rt,
-        (Some(vector.as_slice()), stream.session_id()),
-        (wire.get(room..), header.session_id()),
-        room,
-    );
+    same(rt, vector.as_slice(), wire, "to a vector");
+    let came = (stream.kind(), stream.session_id());
+    same(rt, came, wanted, wire.len());
     Ok(())
+}
+
+/// The header of session 4 on its way to a new stream.
+fn header_4() -> Result<UniUpgrading, Fail> {
+    let header = StreamHeader::new_webtransport(session_4()?);
+    Ok(StreamUniLocalQuic::open_uni().upgrade_async(header))
+}
+
+/// Of the header of session 4 so many bytes go to a sink that stops, and the others elsewhere.
+fn check_uni_stop<R: Abort + AllocGlobal>(rt: &R, room: usize) -> Result<(), Fail> {
+    let wire = [0x40, 0x54, 0x04].as_slice();
+    let mut sink = Paced::new(rt.alloc(), stops_after(room));
+    let stepped = header_4()?.poll(&mut sink);
+    let upgrading = check_stopped(rt, stepped, &sink, wire.get(..room).unwrap_or(&[]))?;
+    let wanted = (StreamKind::WebTransport, Some(session_4()?));
+    check_header_made(rt, upgrading, wire.get(room..).unwrap_or(&[]), wanted)
 }
 
 #[test]
@@ -162,10 +174,8 @@ fn a_header_goes_on_elsewhere(rt: HostRuntime) -> Result<(), Fail> {
 
 #[test]
 fn a_header_waits_for_its_sink(rt: HostRuntime) -> Result<(), Fail> {
-    let header = StreamHeader::new_webtransport(session_4()?);
     let mut sink = Paced::new(rt.alloc(), &HALTS);
-    let upgrading = StreamUniLocalQuic::open_uni().upgrade_async(header);
-    let upgrading = take_pending(upgrading.poll(&mut sink))?;
+    let upgrading = take_pending(header_4()?.poll(&mut sink))?;
     let upgrading = take_pending(upgrading.poll(&mut sink))?;
     same(&rt, sink.output(), [0x40, 0x54].as_slice(), "two bytes");
     let (upgrading, fault) = take_failed(upgrading.poll(&mut sink))?;
@@ -182,16 +192,8 @@ fn a_header_waits_for_its_sink(rt: HostRuntime) -> Result<(), Fail> {
 
 #[test]
 fn refused_memory_hands_back_the_header(rt: HostRuntime) -> Result<(), Fail> {
-    let mut vector = Vec::new(rt.alloc());
     let upgrading = StreamUniLocalQuic::open_uni().upgrade_async(StreamHeader::new_control());
-    let stream = write_header(upgrading, &mut vector)?;
-    same(
-        &rt,
-        (vector.as_slice(), stream.kind()),
-        ([0x00].as_slice(), StreamKind::Control),
-        "made",
-    );
-    Ok(())
+    check_header_made(&rt, upgrading, &[0x00], (StreamKind::Control, None))
 }
 
 /// The stream fails with this fault, and is handed back.
@@ -206,12 +208,17 @@ fn check_failed<R: Abort, S: AsyncRead>(
     Ok(accepting)
 }
 
-/// The stream of HTTP/3 that this poll makes.
-fn accept_stream<S: AsyncRead>(
+/// The next poll makes such a stream.
+fn check_accepted<R: Abort, N: Display + Drop>(
+    rt: &R,
     accepting: UniAccepting,
-    source: &mut S,
-) -> Result<StreamUniRemoteH3, Fail> {
-    take_result(accepting.poll(source))
+    source: &mut &[u8],
+    wanted: Made,
+    shows: N,
+) -> Result<(), Fail> {
+    let stream = take_result(accepting.poll(source))?;
+    same(rt, (stream.kind(), stream.session_id()), wanted, shows);
+    Ok(())
 }
 
 /// The fault of a stream that is these bytes, and how many of them are left.
@@ -250,13 +257,9 @@ fn faults_of_the_header_hand_it_back(rt: HostRuntime) -> Result<(), Fail> {
 fn headers_are_accepted(rt: HostRuntime) -> Result<(), Fail> {
     let mut source = b"\x00\x04\x00".as_slice();
     let accepting = StreamUniRemoteQuic::accept_uni().upgrade_async();
-    let stream = accept_stream(accepting, &mut source)?;
-    same(
-        &rt,
-        (stream.kind(), source),
-        (StreamKind::Control, b"\x04\x00".as_slice()),
-        "control, and the bytes left",
-    );
+    let wanted = (StreamKind::Control, None);
+    check_accepted(&rt, accepting, &mut source, wanted, "control")?;
+    same(&rt, source, b"\x04\x00".as_slice(), "bytes left");
     Ok(())
 }
 
@@ -265,14 +268,8 @@ fn a_cut_header_is_accepted_from_a_second_source(rt: HostRuntime) -> Result<(), 
     let accepting = StreamUniRemoteQuic::accept_uni().upgrade_async();
     let cut = IoReadError::H3(ErrorCode::Frame);
     let accepting = check_failed(&rt, accepting, &mut b"\x40\x54".as_slice(), cut)?;
-    let stream = accept_stream(accepting, &mut b"\x04".as_slice())?;
-    same(
-        &rt,
-        (stream.kind(), stream.session_id()),
-        (StreamKind::WebTransport, Some(session_4()?)),
-        "a session",
-    );
-    Ok(())
+    let wanted = (StreamKind::WebTransport, Some(session_4()?));
+    check_accepted(&rt, accepting, &mut b"\x04".as_slice(), wanted, "a session")
 }
 
 /// The state, after the waits before so many bytes and before the end.
@@ -306,10 +303,12 @@ fn check_header_stop<R: Abort>(rt: &R, len: usize, end: End) -> Result<(), Fail>
     let accepting = check_failed(rt, accepting, &mut source, stop_fault(len, end))?;
     let accepting = check_failed(rt, accepting, &mut source, stop_fault(len, end))?;
     let mut rest = wire.get(len..).unwrap_or(&[]);
-    let stream = accept_stream(accepting, &mut rest)?;
-    same(rt, stream.session_id(), Some(session_4()?), len);
-    Ok(())
+    let wanted = (StreamKind::WebTransport, Some(session_4()?));
+    check_accepted(rt, accepting, &mut rest, wanted, len)
 }
+
+/// Every ending of a source.
+static ENDS: [End; 3] = End::EACH;
 
 #[test]
 fn a_header_may_stop_at_each_place(rt: HostRuntime) -> Result<(), Fail> {

@@ -1,10 +1,8 @@
 //! Streams in one direction that the peer opened.
-use crate::answers::session_4;
-use crate::reads::{ReadRow, check_buffer, check_reads};
+use crate::opened::session_4;
 use crate::same::{fail, same};
 use std::process::Abort;
 use std::test::Fail;
-use wtransport_proto::bytes::BufferReader;
 use wtransport_proto::error::ErrorCode;
 use wtransport_proto::ids::SessionId;
 use wtransport_proto::stream::uniremote::{MaybeUpgradeH3, StreamUniRemoteH3, StreamUniRemoteQuic};
@@ -17,11 +15,6 @@ fn read_header(stream: StreamUniRemoteQuic, bytes: &mut &[u8]) -> Result<StreamU
         MaybeUpgradeH3::H3(stream) => Ok(stream),
         MaybeUpgradeH3::Quic(_) => fail("a whole header"),
     }
-}
-
-/// The stream whose header is read from these bytes.
-pub(crate) fn accept_header(mut header: &[u8]) -> Result<StreamUniRemoteH3, Fail> {
-    read_header(StreamUniRemoteQuic::accept_uni(), &mut header)
 }
 
 /// A stream's kind, its session, and whether frames may be read.
@@ -37,7 +30,8 @@ fn check_header<R: Abort>(
 ) -> Result<(), Fail> {
     let stream = read_header(StreamUniRemoteQuic::accept_uni(), &mut bytes)?;
     let came = (stream.kind(), stream.session_id(), stream.can_read());
-    same(rt, (came, bytes), (wanted, left), shows);
+    same(rt, came, wanted, shows);
+    same(rt, bytes, left, shows);
     Ok(())
 }
 
@@ -98,12 +92,8 @@ fn cut_header(bytes: &mut &[u8]) -> Result<StreamUniRemoteQuic, Fail> {
 fn check_cut<R: Abort>(rt: &R, mut bytes: &[u8], left: usize) -> Result<(), Fail> {
     let stream = cut_header(&mut bytes)?;
     let stream = read_header(stream, &mut b"\x40\x54\x04".as_slice())?;
-    same(
-        rt,
-        (bytes.len(), stream.kind()),
-        (left, StreamKind::WebTransport),
-        "bytes left, and the kind",
-    );
+    same(rt, bytes.len(), left, "bytes left");
+    same(rt, stream.kind(), StreamKind::WebTransport, "the kind");
     Ok(())
 }
 
@@ -141,50 +131,12 @@ fn faults_of_the_header_are_named(rt: HostRuntime) {
 
 #[test]
 fn it_becomes_a_stream_of_its_session(rt: HostRuntime) -> Result<(), Fail> {
-    let stream = accept_header(&[0x40, 0x54, 0x04])?;
+    let quic = StreamUniRemoteQuic::accept_uni();
+    let stream = read_header(quic, &mut b"\x40\x54\x04".as_slice())?;
     if stream.kind() != StreamKind::WebTransport {
-        return Err("a stream of a session")?;
+        return fail("a stream of a session");
     }
-    same(
-        &rt,
-        stream.upgrade().session_id(),
-        session_4()?,
-        "its session",
-    );
-    Ok(())
-}
-
-/// What is read of a control stream.
-static FRAMES: [ReadRow; 5] = [
-    (b"\x00\x01a", Err(ErrorCode::FrameUnexpected), 0, "data"),
-    (b"\x01\x01a", Err(ErrorCode::FrameUnexpected), 0, "headers"),
-    (b"\x04\x00", Ok(Some((0x04, b""))), 2, "settings"),
-    (
-        b"\x40\x41\x04",
-        Err(ErrorCode::FrameUnexpected),
-        0,
-        "a session",
-    ),
-    (b"\x21\x01a", Ok(Some((0x21, b"a"))), 3, "exercise"),
-];
-
-#[test]
-fn frames_are_read_by_the_rule(rt: HostRuntime) -> Result<(), Fail> {
-    let mut stream = accept_header(&[0x00])?;
-    same(&rt, stream.can_read(), true, "frames may be read");
-    check_reads(&rt, &mut stream, &FRAMES);
-    same(&rt, stream.can_read(), true, "frames may still be read");
-    Ok(())
-}
-
-#[test]
-fn an_unknown_frame_between_settings_is_passed_over_whole(rt: HostRuntime) -> Result<(), Fail> {
-    let mut stream = accept_header(&[0x00])?;
-    let mut reader = BufferReader::new(b"\x04\x00\x07\x01\x00\x04\x00");
-    let settings = Ok(Some((0x04, b"".as_slice())));
-    check_buffer(&rt, &mut stream, &mut reader, settings, 2, "settings");
-    check_buffer(&rt, &mut stream, &mut reader, settings, 7, "settings again");
-    check_buffer(&rt, &mut stream, &mut reader, Ok(None), 7, "the end");
-    same(&rt, reader.capacity(), 0, "bytes left");
+    let session = stream.upgrade().session_id();
+    same(&rt, session, session_4()?, "its session");
     Ok(())
 }

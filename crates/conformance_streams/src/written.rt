@@ -3,16 +3,16 @@
 ghost use Rattle.wtransport_proto.specs.StreamWriting.{WritesPlain};
 ghost use Rattle.wtransport_proto.specs.Streams.{CanWrite};
 
-use crate::same::same;
-use crate::session::open_session;
+use crate::opened::{open_session, opened_here, opened_there};
+use crate::same::{fail, same};
 use std::borrow::CowSlice;
 use std::process::Abort;
 use std::test::Fail;
 use test_io::{Paced, stops_after};
-use wtransport_proto::bytes::{AsyncWrite, BufferWriter, IoWriteError, Polled, Stepped, WriteStep};
+use wtransport_proto::bytes::{AsyncWrite, IoWriteError, Polled, Stepped, WriteStep};
 use wtransport_proto::frame::{Frame, FrameWriting};
-use wtransport_proto::stream::bilocal::{StreamBiLocalH3, StreamBiLocalQuic};
-use wtransport_proto::stream::biremote::{StreamBiRemoteH3, StreamBiRemoteQuic};
+use wtransport_proto::stream::bilocal::StreamBiLocalH3;
+use wtransport_proto::stream::biremote::StreamBiRemoteH3;
 use wtransport_proto::stream::session::StreamSession;
 use wtransport_proto::stream::unilocal::{StreamUniLocalH3, StreamUniLocalQuic};
 use wtransport_proto::stream_header::StreamHeader;
@@ -102,18 +102,14 @@ fn check_stop<R: Abort + AllocGlobal>(rt: &R, room: usize) {
     let wire = b"\x00\x03abc".as_slice();
     let frame = Frame::new_data(CowSlice::Borrowed(b"abc"));
     let mut sending = ToBoth {
-        stream: StreamBiLocalQuic::open_bi().upgrade(),
+        stream: opened_here(),
         writing: frame.write_async(),
     };
     let mut sink = Paced::new(rt.alloc(), stops_after(room));
     let answer = sending.send(&mut sink);
     let stopped = Polled::Ready(Err(IoWriteError::Stopped));
-    same(
-        rt,
-        (answer, Some(sink.output())),
-        (stopped, wire.get(..room)),
-        room,
-    );
+    same(rt, answer, stopped, room);
+    same(rt, sink.output(), wire.get(..room).unwrap_or(&[]), room);
     same(rt, sending.stream.can_upgrade(), true, room);
     check_rest(rt, &mut sending, wire.get(room..).unwrap_or(&[]));
     same(rt, sending.stream.can_upgrade(), false, room);
@@ -164,7 +160,7 @@ fn a_frame_that_was_written_ends_upgrading(rt: HostRuntime) {
     ];
     let frame = Frame::new_data(CowSlice::Borrowed(b"a"));
     let mut sending = ToBoth {
-        stream: StreamBiLocalQuic::open_bi().upgrade(),
+        stream: opened_here(),
         writing: frame.write_async(),
     };
     let mut sink = Paced::new(rt.alloc(), &steps);
@@ -183,7 +179,7 @@ fn a_frame_that_was_written_ends_upgrading(rt: HostRuntime) {
 fn refused_memory_for_a_frame_is_asked_for_again(rt: HostRuntime) {
     let frame = Frame::new_data(CowSlice::Borrowed(b"abc"));
     let mut sending = ToBoth {
-        stream: StreamBiLocalQuic::open_bi().upgrade(),
+        stream: opened_here(),
         writing: frame.write_async(),
     };
     let mut vector = Vec::new(rt.alloc());
@@ -201,7 +197,7 @@ fn refused_memory_for_a_frame_is_asked_for_again(rt: HostRuntime) {
 fn a_frame_is_written_whole(rt: HostRuntime) {
     let frame = Frame::new_data(CowSlice::Borrowed(b"a"));
     let mut sending = ToBoth {
-        stream: StreamBiLocalQuic::open_bi().upgrade(),
+        stream: opened_here(),
         writing: frame.write_async(),
     };
     check_rest(&rt, &mut sending, b"\x00\x01a");
@@ -212,7 +208,7 @@ fn a_frame_is_written_whole(rt: HostRuntime) {
 fn a_stream_that_was_opened_there_is_written(rt: HostRuntime) {
     let frame = Frame::new_data(CowSlice::Borrowed(b"abc"));
     let mut sending = ToPeer {
-        stream: StreamBiRemoteQuic::accept_bi().upgrade(),
+        stream: opened_there(),
         writing: frame.write_async(),
     };
     check_rest(&rt, &mut sending, b"\x00\x03abc");
@@ -229,21 +225,26 @@ fn the_stream_of_a_session_is_written(rt: HostRuntime) -> Result<(), Fail> {
     Ok(())
 }
 
+/// A frame on its way to a control stream, whose type goes to the vector.
+fn to_control<'a>(frame: &'a Frame<'_>, vector: &mut Vec<u8>) -> Result<ToOne<'a>, Fail> {
+    let upgrading = StreamUniLocalQuic::open_uni().upgrade_async(StreamHeader::new_control());
+    let Stepped::Done(stream) = upgrading.poll(vector) else {
+        return fail("a control stream");
+    };
+    Ok(ToOne {
+        stream,
+        writing: frame.write_async(),
+    })
+}
+
 #[test]
 fn a_control_stream_is_written(rt: HostRuntime) -> Result<(), Fail> {
     let frame = Frame::new_settings(CowSlice::Borrowed(&[0x33, 0x01]));
     let mut vector = Vec::new(rt.alloc());
-    let upgrading = StreamUniLocalQuic::open_uni().upgrade_async(StreamHeader::new_control());
-    let Stepped::Done(stream) = upgrading.poll(&mut vector) else {
-        return Err("a control stream")?;
-    };
-    let mut sending = ToOne {
-        stream,
-        writing: frame.write_async(),
-    };
-    let answer = send_again(&mut sending, &mut vector);
+    let mut sending = to_control(&frame, &mut vector)?;
+    same(&rt, send_again(&mut sending, &mut vector), DONE, "settings");
     let wire = [0x00, 0x04, 0x02, 0x33, 0x01].as_slice();
-    same(&rt, (answer, vector.as_slice()), (DONE, wire), "settings");
+    same(&rt, vector.as_slice(), wire, "the vector");
     Ok(())
 }
 
@@ -270,10 +271,10 @@ fn write_on<K: Sends, W: AsyncWrite>(sending: &mut K, sink: &mut W) -> SendAnswe
 
 #[test]
 fn a_frame_is_written_in_a_loop(rt: HostRuntime) {
-    let frame = Frame::new_data(CowSlice::Borrowed(b"abc"));
     let mut sink = Paced::new(rt.alloc(), &WAITS);
+    let frame = Frame::new_data(CowSlice::Borrowed(b"abc"));
     let mut sending = ToBoth {
-        stream: StreamBiLocalQuic::open_bi().upgrade(),
+        stream: opened_here(),
         writing: frame.write_async(),
     };
     let answer = write_on(&mut sending, &mut sink);
@@ -288,19 +289,10 @@ fn a_frame_is_written_in_a_loop(rt: HostRuntime) {
 #[test]
 fn settings_are_written_in_a_loop(rt: HostRuntime) -> Result<(), Fail> {
     let frame = Frame::new_settings(CowSlice::Borrowed(&[0x33, 0x01]));
-    let mut room = [0x00; 1];
-    let mut writer = BufferWriter::new(&mut room);
-    let quic = StreamUniLocalQuic::open_uni();
-    let Ok(stream) = quic.upgrade(StreamHeader::new_control(), &mut writer) else {
-        return Err("a control stream")?;
-    };
+    let mut sending = to_control(&frame, &mut Vec::new(rt.alloc()))?;
     let mut sink = Paced::new(rt.alloc(), &WAITS);
-    let mut sending = ToOne {
-        stream,
-        writing: frame.write_async(),
-    };
-    let answer = write_on(&mut sending, &mut sink);
+    same(&rt, write_on(&mut sending, &mut sink), DONE, "settings");
     let wire = [0x04, 0x02, 0x33, 0x01].as_slice();
-    same(&rt, (answer, sink.output()), (DONE, wire), "settings");
+    same(&rt, sink.output(), wire, "the sink");
     Ok(())
 }

@@ -1,5 +1,6 @@
 //! Capsules read from data that is cut anywhere, and close capsules that are written.
 use crate::same::same;
+use std::alloc::Global;
 use std::process::Abort;
 use wtp_core::bytes::PutError;
 use wtp_wire::capsule::capsules::CloseWebTransportSession;
@@ -13,13 +14,18 @@ enum Ending {
     TooLong,
 }
 
-/// The next capsule; asked a second time if memory was refused.
-fn next(
-    reading: &mut CapsuleReading,
-    bytes: &mut &[u8],
-) -> Result<Option<CapsuleOwned>, CapsuleError> {
-    match reading.next(bytes) {
-        Err(CapsuleError::Memory) => reading.next(bytes),
+/// What is read of a piece of data.
+type Answer = Result<Option<CapsuleOwned>, CapsuleError>;
+
+/// The next capsule.
+fn next_once(reading: &mut CapsuleReading, bytes: &mut &[u8]) -> Answer {
+    reading.next(bytes)
+}
+
+/// The same; asked a second time if memory was refused.
+fn next(reading: &mut CapsuleReading, bytes: &mut &[u8]) -> Answer {
+    match next_once(reading, bytes) {
+        Err(CapsuleError::Memory) => next_once(reading, bytes),
         answer => answer,
     }
 }
@@ -277,20 +283,24 @@ fn values_have_a_limit(rt: HostRuntime) {
     same(&rt, limit, 1028, "the limit");
 }
 
-/// A close with this reason; asked a second time if memory was refused.
-fn close<R: AllocGlobal>(
-    rt: &R,
-    code: u32,
-    reason: &str,
-) -> Result<CloseWebTransportSession, CapsuleError> {
-    match CloseWebTransportSession::new(rt.alloc(), code, reason) {
-        Err(CapsuleError::Memory) => CloseWebTransportSession::new(rt.alloc(), code, reason),
+/// What making a close answers.
+type Made = Result<CloseWebTransportSession, CapsuleError>;
+
+/// A close with this reason.
+fn close_once(alloc: Global, code: u32, reason: &str) -> Made {
+    CloseWebTransportSession::new(alloc, code, reason)
+}
+
+/// The same; asked a second time if memory was refused.
+fn close<R: AllocGlobal>(rt: &R, code: u32, reason: &str) -> Made {
+    match close_once(rt.alloc(), code, reason) {
+        Err(CapsuleError::Memory) => close_once(rt.alloc(), code, reason),
         made => made,
     }
 }
 
 /// Writes a close; a second time if memory was refused.
-fn written<R: AllocGlobal>(rt: &R, close: &CloseWebTransportSession) -> Vec<u8> {
+fn write<R: AllocGlobal>(rt: &R, close: &CloseWebTransportSession) -> Vec<u8> {
     let mut bytes = Vec::new(rt.alloc());
     if close.write(&mut bytes) == Err(PutError::Memory) {
         bytes = Vec::new(rt.alloc());
@@ -304,7 +314,7 @@ fn check_written<R: Abort + AllocGlobal>(rt: &R, code: u32, reason: &str, wanted
     let Ok(close) = close(rt, code, reason) else {
         panic!(rt; "no close: {code}");
     };
-    let bytes = written(rt, &close);
+    let bytes = write(rt, &close);
     same(rt, bytes.as_slice(), wanted, reason);
     same(rt, close.write_size(), wanted.len(), reason);
 }

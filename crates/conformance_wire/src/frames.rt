@@ -13,10 +13,7 @@ use wtp_wire::frame::{Frame, FrameKind, ParseError, frame_kind_ids};
 fn check_kind<R: Abort>(rt: &R, kind: FrameKind, constant: VarInt, number: u64) {
     let came = (kind.id(), constant.into_inner());
     same(rt, came, (constant, number), number);
-    match FrameKind::parse(constant) {
-        Some(parsed) => same(rt, &parsed, &kind, number),
-        None => panic!(rt; "{number}: no kind"),
-    }
+    same(rt, FrameKind::parse(constant).as_ref(), Some(&kind), number);
 }
 
 #[test]
@@ -37,31 +34,40 @@ fn check_no_kind<R: Abort>(rt: &R, number: u32) {
     same(rt, came, (None, false), number);
 }
 
+/// Numbers of no kind.
+static NO_KINDS: [u32; 5] = [0x02, 0x0a, 0x20, 0x22, 0x3f];
+
 #[test]
 fn other_numbers_are_no_kind(rt: HostRuntime) {
-    for number in [0x02, 0x0a, 0x20, 0x22, 0x3f] {
-        check_no_kind(&rt, number);
+    for number in &NO_KINDS {
+        check_no_kind(&rt, *number);
     }
     let is_exercise = FrameKind::is_id_exercise(VarInt::from_u32(0x21));
     same(&rt, is_exercise, true, "the least of an exercise");
 }
 
+/// What is read from bytes.
+type Outcome<'a> = Result<Option<Frame<'a>>, ParseError>;
+
 /// What is read from these bytes by a reader, and where that reader is then.
-fn from_reader<'a>(bytes: &'a [u8]) -> (Result<Option<Frame<'a>>, ParseError>, usize) {
+fn from_reader<'a>(bytes: &'a [u8]) -> (Outcome<'a>, usize) {
     let mut reader = BufferReader::new(bytes);
     let outcome = Frame::read_from_buffer(&mut reader);
     (outcome, reader.offset())
 }
 
 /// What is read from these bytes, and the bytes that are left.
-fn from_slice<'a>(bytes: &'a [u8]) -> (Result<Option<Frame<'a>>, ParseError>, &'a [u8]) {
+fn from_slice<'a>(bytes: &'a [u8]) -> (Outcome<'a>, &'a [u8]) {
     let mut rest = bytes;
     let outcome = Frame::read(&mut rest);
     (outcome, rest)
 }
 
 /// Bytes, the frame's type number, payload and size, and what the row shows.
-const READ: [(&[u8], u64, &[u8], usize, &str); 6] = [
+type ReadRow = (&'static [u8], u64, &'static [u8], usize, &'static str);
+
+/// Bytes with a frame at their front.
+static READ: [ReadRow; 6] = [
     (&[0x00, 0x01, 0x61], 0x00, b"a", 3, "data"),
     (
         &[0x01, 0x00, 0x02],
@@ -88,45 +94,45 @@ const READ: [(&[u8], u64, &[u8], usize, &str); 6] = [
     ),
 ];
 
-/// Asserts that this is a frame of this number and payload.
-fn check_frame<R: Abort>(
-    rt: &R,
-    outcome: Result<Option<Frame<'_>>, ParseError>,
-    wanted: (u64, &[u8]),
-    word: &str,
-) {
+/// The number and the payload of a frame.
+fn parts<'f>(frame: &'f Frame<'_>) -> (u64, &'f [u8]) {
+    (frame.kind().id().into_inner(), frame.payload())
+}
+
+/// What is read, with the frame as its parts.
+fn by_parts<'f>(outcome: &'f Outcome<'_>) -> Result<Option<(u64, &'f [u8])>, &'f ParseError> {
     match outcome {
-        Ok(Some(frame)) => {
-            let came = (frame.kind().id().into_inner(), frame.payload());
-            same(rt, came, wanted, word);
-        }
-        Ok(None) => panic!(rt; "{word}: no frame"),
-        Err(fault) => same(rt, Some(fault), None, word),
+        Ok(Some(frame)) => Ok(Some(parts(frame))),
+        Ok(None) => Ok(None),
+        Err(fault) => Err(fault),
     }
 }
 
-/// Asserts that a frame is read, by a reader and from a slice, and how far.
-fn check_read<R: Abort>(
-    rt: &R,
-    bytes: &[u8],
-    number: u64,
-    payload: &[u8],
-    size: usize,
-    word: &str,
-) {
+/// Asserts that this is a frame of this number and payload.
+fn check_frame<R: Abort>(rt: &R, outcome: &Outcome<'_>, wanted: (u64, &[u8]), word: &str) {
+    same(rt, by_parts(outcome), Ok(Some(wanted)), word);
+}
+
+/// Asserts that the frame of a row is read, by a reader and from a slice, and how far.
+fn check_read<R: Abort>(rt: &R, row: &ReadRow) {
+    let (bytes, number, payload, size, word) = *row;
     let (outcome, offset) = from_reader(bytes);
-    check_frame(rt, outcome, (number, payload), word);
+    check_frame(rt, &outcome, (number, payload), word);
     let (outcome, rest) = from_slice(bytes);
-    check_frame(rt, outcome, (number, payload), word);
-    let wanted = (size, bytes.get(size..).unwrap_or(&[]));
-    same(rt, (offset, rest), wanted, word);
+    check_frame(rt, &outcome, (number, payload), word);
+    same(rt, (offset, Some(rest)), (size, bytes.get(size..)), word);
+}
+
+/// Asserts it of each row.
+fn check_all_read<R: Abort>(rt: &R, rows: &[ReadRow]) {
+    for row in rows {
+        check_read(rt, row);
+    }
 }
 
 #[test]
 fn frames_are_read(rt: HostRuntime) {
-    for (bytes, number, payload, size, word) in READ {
-        check_read(&rt, bytes, number, payload, size, word);
-    }
+    check_all_read(&rt, &READ);
 }
 
 /// Asserts that these bytes are too few for a frame and that the reader stays.
@@ -140,20 +146,24 @@ fn check_front<R: Abort>(rt: &R, front: &[u8]) {
     }
 }
 
-#[test]
-fn too_few_bytes_are_no_frame(rt: HostRuntime) {
-    let data = b"\x00\x16This is a test payload";
-    for len in 0..24usize {
-        check_front(&rt, data.get(..len).unwrap_or(&[]));
-    }
-    let session = [0x40, 0x41, 0x00];
-    for len in 0..3usize {
-        check_front(&rt, session.get(..len).unwrap_or(&[]));
+/// Asserts it of each front of the bytes of a frame.
+fn check_fronts<R: Abort>(rt: &R, frame: &[u8]) {
+    for len in 0..frame.len() {
+        check_front(rt, frame.get(..len).unwrap_or(&[]));
     }
 }
 
+#[test]
+fn too_few_bytes_are_no_frame(rt: HostRuntime) {
+    check_fronts(&rt, b"\x00\x16This is a test payload");
+    check_fronts(&rt, &[0x40, 0x41, 0x00]);
+}
+
 /// Bytes, the fault, how many bytes it takes, and what the row shows.
-const FAULTS: [(&[u8], ParseError, usize, &str); 5] = [
+type FaultRow = (&'static [u8], ParseError, usize, &'static str);
+
+/// Bytes with a fault at their front.
+static FAULTS: [FaultRow; 5] = [
     (
         b"\x80\x42\x42\x42\x16This is a test payload",
         ParseError::UnknownFrame,
@@ -186,20 +196,26 @@ const FAULTS: [(&[u8], ParseError, usize, &str); 5] = [
     ),
 ];
 
-/// Asserts that a fault is answered, by a reader, which stays, and from a slice.
-fn check_fault<R: Abort>(rt: &R, bytes: &[u8], fault: ParseError, size: usize, word: &str) {
+/// Asserts that the fault of a row is answered, by a reader, which stays, and from a slice.
+fn check_fault<R: Abort>(rt: &R, row: &FaultRow) {
+    let (bytes, fault, size, word) = row;
     let (outcome, offset) = from_reader(bytes);
-    same(rt, (outcome.err(), offset), (Some(fault), 0), word);
+    same(rt, (by_parts(&outcome), offset), (Err(fault), 0), word);
     let (outcome, rest) = from_slice(bytes);
-    let wanted = (true, bytes.get(size..).unwrap_or(&[]));
-    same(rt, (outcome.is_err(), rest), wanted, word);
+    let wanted = (true, bytes.get(*size..));
+    same(rt, (outcome.is_err(), Some(rest)), wanted, word);
+}
+
+/// Asserts it of each row.
+fn check_faults<R: Abort>(rt: &R, rows: &[FaultRow]) {
+    for row in rows {
+        check_fault(rt, row);
+    }
 }
 
 #[test]
 fn faults_are_named(rt: HostRuntime) {
-    for (bytes, fault, size, word) in FAULTS {
-        check_fault(&rt, bytes, fault, size, word);
-    }
+    check_faults(&rt, &FAULTS);
 }
 
 /// Asserts that the frame is written as these bytes into a vector, and that its size is theirs.
@@ -220,16 +236,19 @@ fn check_slice<R: Abort>(rt: &R, frame: &Frame<'_>, bytes: &[u8], word: &str) {
     same(rt, came, (Ok(()), bytes), word);
 }
 
+/// Asserts that two frames have the same kind, payload and session.
+fn check_alike<R: Abort>(rt: &R, read: &Frame<'_>, frame: &Frame<'_>, word: &str) {
+    let came = (read.kind(), read.payload(), read.session_id());
+    let wanted = (frame.kind(), frame.payload(), frame.session_id());
+    same(rt, came, wanted, word);
+}
+
 /// Asserts that the frame is read from these bytes, and that no byte is left.
 fn check_read_back<R: Abort>(rt: &R, frame: &Frame<'_>, bytes: &[u8], word: &str) {
     let (outcome, rest) = from_slice(bytes);
     same(rt, rest.len(), 0, word);
-    match outcome {
-        Ok(Some(read)) => {
-            let came = (read.kind(), read.payload(), read.session_id());
-            let wanted = (frame.kind(), frame.payload(), frame.session_id());
-            same(rt, came, wanted, word);
-        }
+    match &outcome {
+        Ok(Some(read)) => check_alike(rt, read, frame, word),
         _ => panic!(rt; "{word}: what was written is no frame"),
     }
 }
@@ -242,15 +261,19 @@ fn check_written<R: Abort + AllocGlobal>(rt: &R, frame: &Frame<'_>, bytes: &[u8]
 }
 
 /// Asserts how the frame is written that opens a stream of the session of this number.
-fn check_opening<R: Abort + AllocGlobal>(rt: &R, number: u32, bytes: &[u8]) {
-    match SessionId::try_from_session_stream(StreamId::new(VarInt::from_u32(number))) {
-        Ok(session) => check_written(rt, &Frame::new_webtransport(session), bytes, "opening"),
-        Err(InvalidSessionId) => panic!(rt; "{number}: no session"),
-    }
+fn check_opening<R: Abort + AllocGlobal>(
+    rt: &R,
+    number: u32,
+    bytes: &[u8],
+) -> Result<(), InvalidSessionId> {
+    let stream = StreamId::new(VarInt::from_u32(number));
+    let frame = Frame::new_webtransport(SessionId::try_from_session_stream(stream)?);
+    check_written(rt, &frame, bytes, "opening");
+    Ok(())
 }
 
 #[test]
-fn frames_are_written(rt: HostRuntime) {
+fn frames_are_written(rt: HostRuntime) -> Result<(), Fail> {
     let headers = Frame::new_headers(CowSlice::Borrowed(&[0, 0]));
     check_written(&rt, &headers, &[0x01, 0x02, 0, 0], "headers");
     let settings = Frame::new_settings(CowSlice::Borrowed(&[0x33, 1]));
@@ -260,17 +283,18 @@ fn frames_are_written(rt: HostRuntime) {
     check_written(&rt, &exercise, b"\x21\x07Payload", "exercise");
     let data = Frame::new_data(CowSlice::Borrowed(&[]));
     check_written(&rt, &data, &[0x00, 0x00], "data");
-    check_opening(&rt, 4, &[0x40, 0x41, 0x04]);
-    check_opening(&rt, 0, &[0x40, 0x41, 0x00]);
+    check_opening(&rt, 4, &[0x40, 0x41, 0x04])?;
+    check_opening(&rt, 0, &[0x40, 0x41, 0x00])?;
+    Ok(())
 }
 
 #[test]
 fn a_longer_encoding_is_written_in_the_shortest(rt: HostRuntime) {
     let bytes = b"\xc0\0\0\0\0\0\0\0\xc0\0\0\0\0\0\0\x01a";
     let (outcome, _rest) = from_slice(bytes);
-    match outcome {
+    match &outcome {
         Ok(Some(frame)) => {
-            check_written(&rt, &frame, &[0x00, 0x01, 0x61], "two of eight bytes each");
+            check_written(&rt, frame, &[0x00, 0x01, 0x61], "two of eight bytes each");
         }
         _ => panic!(rt; "no frame"),
     }
@@ -287,28 +311,31 @@ fn a_length_of_64_takes_two_bytes(rt: HostRuntime) {
     check_written(&rt, &frame, LONG, "64 bytes");
 }
 
-/// The room, and what is written into it of a frame of nine bytes.
-const ROOMS: [(usize, &[u8]); 4] = [(0, b""), (1, b"\x21"), (2, b"\x21\x07"), (8, b"\x21\x07")];
+/// Asserts that a frame does not fit, and that nothing of it is written.
+fn check_nothing<R: Abort>(rt: &R, frame: &Frame<'_>, writer: &mut BufferWriter<'_>, room: usize) {
+    let outcome = frame.write_to_buffer(writer);
+    same(rt, (outcome, writer.offset()), (Err(EndOfBuffer), 0), room);
+}
 
 /// Asserts that so little room is answered, and that whole parts are written by the second call.
-fn check_room<R: Abort>(rt: &R, room: usize, written: &[u8]) {
-    let exercise = VarInt::from_u32(0x21);
-    let frame = Frame::new_exercise(exercise, CowSlice::Borrowed(b"Payload"));
-    let mut buffer = [0; 9];
-    let mut writer = BufferWriter::new(buffer.get_mut(..room).unwrap_or(&mut []));
-    let outcome = frame.write_to_buffer(&mut writer);
-    let place = writer.offset();
-    same(rt, (outcome, place), (Err(EndOfBuffer), 0), room);
+fn check_room<R: Abort>(rt: &R, frame: &Frame<'_>, buffer: &mut [u8], written: &[u8]) {
+    let room = buffer.len();
+    let mut writer = BufferWriter::new(buffer);
+    check_nothing(rt, frame, &mut writer, room);
     let outcome = frame.write(&mut writer);
     let wanted = (Err(PutError::EndOfBuffer), written);
     same(rt, (outcome, writer.buffer_written()), wanted, room);
 }
 
+/// Each room, and what is written into it of a frame of nine bytes.
 #[test]
 fn too_little_room_keeps_whole_parts(rt: HostRuntime) {
-    for (room, written) in ROOMS {
-        check_room(&rt, room, written);
-    }
+    let id = VarInt::from_u32(0x21);
+    let frame = Frame::new_exercise(id, CowSlice::Borrowed(b"Payload"));
+    check_room(&rt, &frame, &mut [], b"");
+    check_room(&rt, &frame, &mut [0; 1], b"\x21");
+    check_room(&rt, &frame, &mut [0; 2], b"\x21\x07");
+    check_room(&rt, &frame, &mut [0; 8], b"\x21\x07");
 }
 
 #[test]

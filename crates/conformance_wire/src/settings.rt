@@ -38,7 +38,7 @@ fn steps(alloc: Global) -> Result<Settings, AllocError> {
 }
 
 /// Settings of each step but one; from the start again where memory was refused.
-fn built(alloc: Global) -> Result<Settings, AllocError> {
+fn build(alloc: Global) -> Result<Settings, AllocError> {
     match steps(alloc) {
         Ok(settings) => Ok(settings),
         Err(_) => steps(alloc),
@@ -72,26 +72,26 @@ fn connect(alloc: Global) -> Result<Settings, AllocError> {
 }
 
 /// The frame of the settings.
-fn frame_of(alloc: Global, settings: &Settings) -> Result<FrameOwned, GenerateError> {
+fn frame_once(alloc: Global, settings: &Settings) -> Result<FrameOwned, GenerateError> {
     settings.generate_frame(alloc)
 }
 
 /// The frame of the settings; a second time where memory was refused.
-fn framed(alloc: Global, settings: &Settings) -> Result<FrameOwned, GenerateError> {
-    match frame_of(alloc, settings) {
-        Err(GenerateError::Memory) => frame_of(alloc, settings),
+pub fn frame_of(alloc: Global, settings: &Settings) -> Result<FrameOwned, GenerateError> {
+    match frame_once(alloc, settings) {
+        Err(GenerateError::Memory) => frame_once(alloc, settings),
         frame => frame,
     }
 }
 
 /// Asserts the payload of the frame of the settings.
-fn check_frame<R: Abort + AllocGlobal>(
+pub fn check_frame<R: Abort + AllocGlobal>(
     rt: &R,
     settings: &Settings,
     payload: &[u8],
     shows: &str,
 ) -> Result<(), GenerateError> {
-    let frame = framed(rt.alloc(), settings)?;
+    let frame = frame_of(rt.alloc(), settings)?;
     same(rt, frame.payload(), payload, shows);
     Ok(())
 }
@@ -102,7 +102,7 @@ fn put(frame: &Frame<'_>, out: &mut Vec<u8>) -> Result<(), PutError> {
 }
 
 /// Puts the whole frame into the empty vector; from the start again where memory was refused.
-fn written(frame: &Frame<'_>, out: &mut Vec<u8>) -> Result<(), PutError> {
+fn write(frame: &Frame<'_>, out: &mut Vec<u8>) -> Result<(), PutError> {
     match put(frame, out) {
         Err(PutError::Memory) => {
             out.clear();
@@ -120,7 +120,7 @@ fn check_written<R: Abort + AllocGlobal>(
     shows: &str,
 ) -> Result<(), PutError> {
     let mut whole = Vec::new(rt.alloc());
-    written(frame, &mut whole)?;
+    write(frame, &mut whole)?;
     same(rt, whole.as_slice(), bytes, shows);
     Ok(())
 }
@@ -216,7 +216,7 @@ fn put_in_buffer(frame: &Frame<'_>, buffer: &mut [u8]) -> Result<(), EndOfBuffer
 
 /// Asserts the frame of `steps`, put into a buffer and into a vector.
 fn check_whole<R: Abort + AllocGlobal>(rt: &R, settings: &Settings) -> Result<(), Fail> {
-    let frame = framed(rt.alloc(), settings)?;
+    let frame = frame_of(rt.alloc(), settings)?;
     let mut room = [0x00; 22];
     put_in_buffer(&frame, &mut room)?;
     same(rt, &room[..2], &[0x04, 0x14], "type and length");
@@ -269,7 +269,7 @@ const VALUES: [(SettingId, u64); 5] = [
 
 #[test]
 fn settings_are_written_by_rising_number_past_refused_memory(rt: HostRuntime) -> Result<(), Fail> {
-    let settings = built(rt.alloc())?;
+    let settings = build(rt.alloc())?;
     check_whole(&rt, &settings)?;
     check_lent(&rt, &settings, &mut [0x55; 24], &STEPS, "in a buffer")?;
     check_alone(&rt, &settings, &mut [0x55; 40])?;
@@ -282,7 +282,7 @@ fn settings_are_written_by_rising_number_past_refused_memory(rt: HostRuntime) ->
 
 /// A copy of the settings of the connect protocol; a second time where memory was refused, which
 /// leaves them as they were.
-fn copied<R: Abort + AllocGlobal>(rt: &R, connect: &Settings) -> Result<Settings, Fail> {
+fn copy<R: Abort + AllocGlobal>(rt: &R, connect: &Settings) -> Result<Settings, Fail> {
     match connect.clone(rt.alloc()) {
         Ok(copy) => Ok(copy),
         Err(_) => {
@@ -298,7 +298,7 @@ fn check_connect<R: Abort + AllocGlobal>(
     settings: &Settings,
     shows: &str,
 ) -> Result<(), Fail> {
-    let frame = framed(rt.alloc(), settings)?;
+    let frame = frame_of(rt.alloc(), settings)?;
     same(rt, frame.payload(), &[0x08, 0x01], shows);
     check_written(rt, &frame, &[0x04, 0x02, 0x08, 0x01], shows)?;
     check_value(
@@ -314,9 +314,9 @@ fn check_connect<R: Abort + AllocGlobal>(
 #[test]
 fn a_step_sets_one_setting_past_refused_memory(rt: HostRuntime) -> Result<(), Fail> {
     let connect = connect(rt.alloc())?;
-    let copy = copied(&rt, &connect)?;
+    let second = copy(&rt, &connect)?;
     check_connect(&rt, &connect, "the settings")?;
-    check_connect(&rt, &copy, "their copy")?;
+    check_connect(&rt, &second, "their copy")?;
     Ok(())
 }
 
@@ -340,7 +340,7 @@ fn a_buffer_may_be_too_short_past_refused_memory(rt: HostRuntime) -> Result<(), 
     check_value(&rt, &settings, exercise, None, "no exercise setting");
     check_lent(&rt, &settings, &mut [0x55; 2], &[0x33, 0x01], "enough")?;
     check_short(&rt, &settings, &mut [0x55; 1], &[0x33], "what fits");
-    let long = built(rt.alloc())?;
+    let long = build(rt.alloc())?;
     let cut = &STEPS[..10];
     check_short(&rt, &long, &mut [0x55; 10], cut, "too short for the value");
     let cut = &[0x01, 0x02, 0x07, 0x01, 0x33, 0x01, 0x55, 0x55, 0x55];

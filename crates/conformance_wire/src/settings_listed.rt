@@ -1,5 +1,6 @@
 //! The names of settings in the standards, and settings one by one.
 use crate::same::same;
+use crate::settings::check_frame;
 use crate::texts::prints;
 use std::alloc::{AllocError, Global};
 use std::borrow::CowSlice;
@@ -7,8 +8,8 @@ use std::process::Abort;
 use std::test::Fail;
 use wtp_core::error::Refused;
 use wtp_core::varint::VarInt;
-use wtp_wire::frame::{Frame, FrameOwned, GenerateError};
-use wtp_wire::settings::{SettingId, Settings};
+use wtp_wire::frame::Frame;
+use wtp_wire::settings::{SettingId, Settings, SettingsIter};
 
 /// Numbers, and the names that the standards give them: RFC 9204, section 5; RFC 9114, sections
 /// 7.2.4.1 and 11.2.2; RFC 9220, section 3; RFC 9297, section 2.1.1;
@@ -69,7 +70,10 @@ fn other_numbers_have_no_setting(rt: HostRuntime) -> Result<(), Fail> {
 
 /// Payloads of SETTINGS frames, the settings that they set, in ascending order of the numbers, and
 /// what the row shows.
-static PAYLOADS: [(&[u8], &[(u64, u64)], &str); 5] = [
+type Row = (&'static [u8], &'static [(u64, u64)], &'static str);
+
+/// Payloads of frames.
+static PAYLOADS: [Row; 5] = [
     (&[], &[], "no setting"),
     (
         &[0x0a, 0x01, 0x0a, 0x02],
@@ -114,27 +118,42 @@ fn read(alloc: Global, payload: &[u8]) -> Result<Settings, Refused> {
     }
 }
 
+/// The next pair of a listing, as numbers.
+fn next_pair(listed: &mut SettingsIter<'_>) -> Option<(u64, u64)> {
+    let (id, value) = listed.next()?;
+    Some((id.id().into_inner(), value.into_inner()))
+}
+
 /// Asserts the settings that are listed: each pair, how many are left before it, and the end.
 fn check_listed<R: Abort>(rt: &R, settings: &Settings, pairs: &[(u64, u64)], shows: &str) {
     let mut listed = settings.iter();
     let mut left = pairs.len();
     for pair in pairs {
-        same(rt, listed.size_hint(), (left, Some(left)), shows);
-        let came = match listed.next() {
-            Some((id, value)) => Some((id.id().into_inner(), value.into_inner())),
-            None => None,
-        };
-        same(rt, came, Some(*pair), shows);
+        let came = (listed.size_hint(), next_pair(&mut listed));
+        same(rt, came, ((left, Some(left)), Some(*pair)), shows);
         left = left.saturating_sub(1);
     }
-    same(rt, (listed.len(), listed.next()), (0, None), shows);
+    same(rt, (listed.len(), next_pair(&mut listed)), (0, None), shows);
+}
+
+/// Asserts the settings that the payload of a row sets.
+fn check_row<R: Abort>(rt: &R, alloc: Global, row: &Row) -> Result<(), Refused> {
+    let (payload, pairs, shows) = *row;
+    check_listed(rt, &read(alloc, payload)?, pairs, shows);
+    Ok(())
+}
+
+/// Asserts it of each row.
+fn check_rows<R: Abort>(rt: &R, alloc: Global, rows: &[Row]) -> Result<(), Refused> {
+    for row in rows {
+        check_row(rt, alloc, row)?;
+    }
+    Ok(())
 }
 
 #[test]
 fn settings_are_listed_past_refused_memory(rt: HostRuntime) -> Result<(), Fail> {
-    for (payload, pairs, shows) in &PAYLOADS {
-        check_listed(&rt, &read(rt.alloc(), payload)?, pairs, shows);
-    }
+    check_rows(&rt, rt.alloc(), &PAYLOADS)?;
     Ok(())
 }
 
@@ -148,30 +167,11 @@ fn limited(alloc: Global) -> Result<Settings, AllocError> {
     )
 }
 
-/// Returns the frame of the settings; a second time if allocation failed.
-fn frame_of(alloc: Global, settings: &Settings) -> Result<FrameOwned, GenerateError> {
-    match settings.generate_frame(alloc) {
-        Err(GenerateError::Memory) => settings.generate_frame(alloc),
-        answer => answer,
-    }
-}
-
-/// Returns the payload of the frame of the settings.
-fn payload_of(alloc: Global, settings: &Settings) -> Result<Vec<u8>, GenerateError> {
-    let frame = frame_of(alloc, settings)?;
-    match frame.payload().to_vec(alloc) {
-        Ok(payload) => Ok(payload),
-        Err(_) => Err(GenerateError::Memory),
-    }
-}
-
 #[test]
 fn the_size_of_field_sections_is_limited(rt: HostRuntime) -> Result<(), Fail> {
     let settings = limited(rt.alloc())?;
     check_listed(&rt, &settings, &[(0x06, 16384)], "one setting");
-    let payload = payload_of(rt.alloc(), &settings)?;
-    let wanted = b"\x06\x80\x00\x40\x00".as_slice();
-    same(&rt, payload.as_slice(), wanted, "its payload");
+    check_frame(&rt, &settings, b"\x06\x80\x00\x40\x00", "its payload")?;
     Ok(())
 }
 

@@ -11,12 +11,14 @@ use wtp_wire::stream_header::{ParseError, StreamHeader, StreamKind};
 /// What a reading answers: the kind and the session of a header.
 type Answer = Result<Option<(StreamKind, Option<u64>)>, ParseError>;
 
+/// The session of a header.
+fn session_of(header: &StreamHeader) -> Option<u64> {
+    Some(header.session_id()?.into_u64())
+}
+
 /// The kind and the session of a header.
 fn parts(header: StreamHeader) -> (StreamKind, Option<u64>) {
-    match header.session_id() {
-        Some(session) => (header.kind(), Some(session.into_u64())),
-        None => (header.kind(), None),
-    }
+    (header.kind(), session_of(&header))
 }
 
 /// The answer, by the parts of the header.
@@ -49,7 +51,10 @@ fn session(number: u64) -> Result<SessionId, Fail> {
 }
 
 /// Bytes of a header, its kind, its session, and what the row shows.
-const HEADERS: [(&[u8], StreamKind, Option<u64>, &str); 5] = [
+type HeaderRow = (&'static [u8], StreamKind, Option<u64>, &'static str);
+
+/// Headers of each kind but one.
+const HEADERS: [HeaderRow; 5] = [
     (&[0x00], StreamKind::Control, None, "control"),
     (
         &[0x40, 0x00],
@@ -67,11 +72,16 @@ const HEADERS: [(&[u8], StreamKind, Option<u64>, &str); 5] = [
     ),
 ];
 
+/// Asserts that the header of each row is read.
+fn check_rows<R: Abort>(rt: &R, rows: &[HeaderRow]) {
+    for (bytes, kind, session, word) in rows {
+        check(rt, bytes, Ok(Some((*kind, *session))), bytes.len(), word);
+    }
+}
+
 #[test]
 fn headers_are_read(rt: HostRuntime) {
-    for (bytes, kind, session, word) in HEADERS {
-        check(&rt, bytes, Ok(Some((kind, session))), bytes.len(), word);
-    }
+    check_rows(&rt, &HEADERS);
     let exercise = StreamKind::Exercise(VarInt::from_u32(0x21));
     let wanted = Ok(Some((exercise, None)));
     check(&rt, &[0x21], wanted, 1, "exercise");
@@ -150,18 +160,21 @@ fn headers_are_written(rt: HostRuntime) -> Result<(), Fail> {
     Ok(())
 }
 
+/// Asserts that a header is written into a buffer of two bytes whole or not at all, and by parts.
+fn check_room<R: Abort>(rt: &R, header: &StreamHeader, two: &mut [u8; 2]) {
+    let mut writer = BufferWriter::new(two);
+    let whole = header.write_to_buffer(&mut writer);
+    let wanted = (Err(EndOfBuffer), 0);
+    same(rt, (whole, writer.offset()), wanted, "whole or not at all");
+    let by_parts = header.write(&mut writer);
+    let wanted = (Err(PutError::EndOfBuffer), [0x40, 0x54].as_slice());
+    same(rt, (by_parts, writer.buffer_written()), wanted, "by parts");
+}
+
 #[test]
 fn headers_need_their_room(rt: HostRuntime) -> Result<(), Fail> {
     let header = StreamHeader::new_webtransport(session(4)?);
-    let mut two = [0x55; 2];
-    let mut writer = BufferWriter::new(&mut two);
-    let whole = header.write_to_buffer(&mut writer);
-    same(&rt, whole, Err(EndOfBuffer), "whole or not at all");
-    same(&rt, writer.offset(), 0, "nothing was written");
-    let by_parts = header.write(&mut writer);
-    same(&rt, by_parts, Err(PutError::EndOfBuffer), "by parts");
-    let written = writer.buffer_written();
-    same(&rt, written, &[0x40, 0x54], "the type number was written");
+    check_room(&rt, &header, &mut [0x55; 2]);
     Ok(())
 }
 

@@ -1,13 +1,15 @@
 -- Frames that were counted, and those that are left.
-use Rattle.std.proofs.Common.{◌≡◌, ℕ, zero, suc, ◌+◌, ◌≤◌, Bool, List, length, refl, sym, ap, ◌∙◌, arith, Option, Some, None}
+use Rattle.std.proofs.Common.{◌≡◌, ℕ, zero, suc, ◌+◌, ◌≤◌, Bool, List, [], length, drop, length-append, refl, sym, ap, ◌∙◌, arith, Option, Some, None}
 use Rattle.std.specs.Prelude.{pos}
 use Rattle.wtp_core.specs.declared.error.ErrorCode.{ErrorCode}
 use Rattle.wtp_core.specs.Source.{all_ahead}
 use Rattle.wtp_wire.specs.Content.{Content, kind_in}
 use Rattle.wtp_wire.specs.Front.{Front, Framed, Unknown, BadId, TooBig, Short, front}
 use Rattle.wtp_wire.specs.Held.{new_held}
+use Rattle.wtransport_proto.specs.declared.stream.polled.IoReadError.{IoReadError}
 use Rattle.wtransport_proto.specs.declared.stream.polled.IoReadError.TheVariants.{IO}
 use Rattle.wtp_core.specs.declared.bytes.polled.IoReadError.TheVariants as io
+use Rattle.wtransport_proto.specs.Driving.{after}
 use Rattle.wtransport_proto.specs.HeldRun.{run_of}
 use Rattle.wtransport_proto.specs.Rule.{Role, RemoteBi, rule}
 use Rattle.wtransport_proto.specs.Run.{Run, Tail, Ended, Ending, ends, follows, judged, next_run, run_within, run, past_unknown}
@@ -31,6 +33,12 @@ counted_frame n f old new whole e c = record {
 
 pub counted_same : (n : ℕ) (old new whole : Run) → old ≡ new → IsCounted n old whole → IsCounted n new whole
 counted_same n old new whole e c = rw (← e) c
+
+pub counted_more : (n k : ℕ) (fs : List Content) (old new whole : Run) → old ≡ after fs new → length fs ≡ k → IsCounted n old whole → IsCounted (n + k) new whole
+counted_more n k fs old new whole e is c = record {
+  frames = let one = c.frames in omega (arith, ap (λ (r : Run). length r.frames) e, length-append fs new.frames, is);
+  ending = sym (ap (λ (r : Run). r.ending) e) ∙ c.ending;
+}
 
 -- ---- a frame has a byte, so there are no more frames than bytes
 
@@ -68,8 +76,16 @@ counted_all n left whole e is c =
 pub run_ahead : (role : Role) (first : Bool) (bytes : List ℕ) → run_of role first new_held (all_ahead bytes) ≡ run role first bytes Ended
 run_ahead role first bytes = run_new role first new_held (all_ahead bytes) refl
 
--- the frames that a drive produces from such a run
-pub ended_count : (fs : List Content) (n : ℕ) (first : Bool) (bytes : List ℕ) → EndsSo (run_of RemoteBi first new_held (all_ahead bytes)) fs (IO io.ImmediateFin) → length fs ≡ n → pos n ≡ count_of (run RemoteBi first bytes Ended)
-ended_count fs n first bytes e is =
-    let w = rw (run_ahead RemoteBi first bytes) at e in
-    rw (w.fault, w.frames, is) refl
+-- the last frames, which a drive produces before the end
+pub counted_end : (n k : ℕ) (fs : List Content) (left whole : Run) (x : IoReadError) → EndsSo left fs x → x ≡ IO io.ImmediateFin → length fs ≡ k → IsCounted n left whole → pos (n + k) ≡ count_of whole
+counted_end n k fs left whole x e fin is c =
+    let ended = rw fin at e in
+    let all : length whole.frames ≡ n + k = let one = c.frames in omega (arith, ap length ended.frames, is) in
+    rw (all, sym c.ending ∙ ended.fault) refl
+
+pub ended_few : (n k : ℕ) (fs : List Content) (left : Run) (x : IoReadError) (role : Role) (first : Bool) (bytes : List ℕ) (tail : Tail) → EndsSo left fs x → length fs ≡ k → IsCounted n left (run role first bytes tail) → n + k ≤ length bytes
+ended_few n k fs left x role first bytes tail e is c = let one = c.frames in omega (arith, ap length e.frames, is, few_frames role first bytes tail)
+
+-- all that a drive left in an empty list
+pub all_driven : (was now : List Content) (k : ℕ) → was ≡ [] → length now ≡ k → length (drop (length was) now) ≡ k
+all_driven was now k none is = rw none is

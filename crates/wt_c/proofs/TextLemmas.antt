@@ -1,16 +1,34 @@
--- Fields whose texts are collected one after the other.
-use Rattle.std.proofs.Common.{◌≡◌, ℕ, List, ◌++◌, Bor}
-use Rattle.wtp_fields.specs.Field.{fields_of_texts}
-use Rattle.wt_c.specs.Texts.{AreTextFields, lines_in}
+-- Fields that are looked at one after the other, and texts that are ASCII.
+use Rattle.std.proofs.Common.{ℕ, List, [], ◌∷◌, Bool, true, false, length, take, drop}
+use Rattle.std.specs.Prelude.{MatchBool, IsUtf8}
+use Rattle.std.specs.Str.{IsAscii}
+use Rattle.std.proofs.lemmas.Str.{IsUtf8-from_ascii, IsAscii-take, IsAscii-drop}
+use Rattle.wt_c.specs.Fields.{AreWithin}
+use Rattle.wt_c.specs.Texts.{AreTextFields}
 use Rattle.wt_c.specs.declared.fields.WtField.{WtField}
-
--- these fields are left of all, and the others were collected
-pub record IsCollecting (texts : List ℕ) (pairs : List (Bor (List ℕ) × Bor (List ℕ))) (left all : List WtField) : Type 0 where
-  pub same : fields_of_texts pairs ++ lines_in texts left ≡ lines_in texts all
-  pub good : AreTextFields texts left → AreTextFields texts all
-  pub bad : AreTextFields texts all → AreTextFields texts left
 
 -- these are left of all, and the others are as they should be
 pub record AreLeft {A : Type 0} (good_all : List A → Type 0) (left all : List A) : Type 0 where
   pub good : good_all left → good_all all
   pub bad : good_all all → good_all left
+
+part_is_utf8 : (texts : List ℕ) (offset len : ℕ) → IsAscii texts → IsUtf8 (take len (drop offset texts))
+part_is_utf8 texts offset len a = IsUtf8-from_ascii _ (IsAscii-take (drop offset texts) len (IsAscii-drop texts offset a))
+
+texts_of_within : (texts : List ℕ) (fields : List WtField) → IsAscii texts → AreWithin (length texts) fields → AreTextFields texts fields
+texts_of_within texts [] a h = tt
+texts_of_within texts (w ∷ ws) a h = (
+  record { within = h.0; name = part_is_utf8 texts w.name_offset w.name_len a; value = part_is_utf8 texts w.value_offset w.value_len a },
+  texts_of_within texts ws a h.1,
+)
+
+within_of_texts : (texts : List ℕ) (fields : List WtField) → AreTextFields texts fields → AreWithin (length texts) fields
+within_of_texts texts [] h = tt
+within_of_texts texts (w ∷ ws) h = (h.0.within, within_of_texts texts ws h.1)
+
+-- of ASCII bytes only the places matter
+pub texts_by_places : (test : Bool) (texts : List ℕ) (fields : List WtField) → IsAscii texts
+    → MatchBool test (AreWithin (length texts) fields) (¬ (AreWithin (length texts) fields))
+    → MatchBool test (AreTextFields texts fields) (¬ (AreTextFields texts fields))
+texts_by_places true texts fields a h = texts_of_within texts fields a h
+texts_by_places false texts fields a h = λ all. h (within_of_texts texts fields all)

@@ -9,4 +9,5 @@ pub mod Settings
 pub mod Texts
 pub mod Sessions
 pub mod Reader
+pub mod CapsuleReader
 pub mod RequestFaults

@@ -5,6 +5,7 @@
 #![tactic(auto)]
 
 pub mod answers;
+pub mod capsule_reader;
 pub mod capsules;
 pub mod codes;
 pub mod datagrams;

@@ -1,10 +1,16 @@
 //! The texts of fields.
-ghost use Rattle.std.specs.Prelude.{◌≡◌, ◌≤◌, ◌+◌, length, take, drop, IsUtf8, MatchOption};
-ghost use Rattle.wt_c.specs.Fields.{field_in};
+ghost use Rattle.std.specs.Prelude.{◌≡◌, ◌≤◌, ◌+◌, length, take, drop, IsUtf8, IsTrue};
+ghost use Rattle.std.specs.Prelude.{MatchOption, MatchBool};
+ghost use Rattle.std.specs.Str.{IsAscii};
+ghost use Rattle.wt_c.specs.Fields.{field_in, AreWithin};
 ghost use Rattle.wt_c.specs.Texts.{IsTextField, AreTextFields};
 
 use crate::answers::{INVALID, MEMORY};
 use crate::fields::WtField;
+
+/// The bytes of an array of texts are tested for ASCII at once if they are at most this many for
+/// each field.
+const NEAR: usize = 128;
 
 /// The reason nothing was made of the arguments.
 #[derive(Drop)]
@@ -28,22 +34,58 @@ impl Unmade {
     }
 }
 
+/// Returns the bytes as a text, if they are UTF-8.
+#[cold]
+#[inline(never)]
+fn validate(bytes: &[u8]) -> Option<&str>
+    ensures { MatchOption result (¬ (IsUtf8 bytes.now))
+        (λ text. (text.now ≡ bytes.now) × IsUtf8 bytes.now) }
+{
+    str::from_utf8(bytes).ok()
+}
+
+/// The same, sooner for ASCII, as nearly every text is.
+#[inline(always)]
+fn text_of(bytes: &[u8]) -> Option<&str>
+    ensures { MatchOption result (¬ (IsUtf8 bytes.now))
+        (λ text. (text.now ≡ bytes.now) × IsUtf8 bytes.now) }
+{
+    if bytes.is_ascii() {
+        return Some(unsafe { str::from_utf8_unchecked(bytes) });
+    }
+    validate(bytes)
+}
+
+/// Returns the bytes at a place.
+#[inline(always)]
+fn bytes_at(bytes: &[u8], offset: usize, len: usize) -> &[u8]
+    requires { offset + len ≤ length bytes.now }
+    ensures { result.now ≡ take len (drop offset bytes.now) }
+{
+    let (_, behind) = bytes.split_at(offset);
+    behind.split_at(len).0
+}
+
+/// Returns whether a place is within this many bytes.
+#[inline(always)]
+fn is_within(size: usize, offset: usize, len: usize) -> bool
+    ensures { MatchBool result (offset + len ≤ size) (¬ (offset + len ≤ size)) }
+{
+    offset <= size && len <= size - offset
+}
+
 /// Returns the text at a place, if it is within the bytes and UTF-8.
+#[inline(always)]
 fn text_at(bytes: &[u8], offset: usize, len: usize) -> Option<&str>
     ensures { MatchOption result
         (¬ ((offset + len ≤ length bytes.now) × IsUtf8 (take len (drop offset bytes.now))))
         (λ text. (offset + len ≤ length bytes.now) × (text.now ≡ take len (drop offset bytes.now))
         × IsUtf8 text.now) }
 {
-    if offset > bytes.len() {
+    if !is_within(bytes.len(), offset, len) {
         return None;
     }
-    let (_, behind) = bytes.split_at(offset);
-    if len > behind.len() {
-        return None;
-    }
-    let (text, _) = behind.split_at(len);
-    str::from_utf8(text).ok()
+    text_of(bytes_at(bytes, offset, len))
 }
 
 /// Returns the name and the value of a field, if they are texts.
@@ -57,18 +99,101 @@ pub(crate) fn texts_of<'a>(field: &WtField, texts: &'a [u8]) -> Option<(&'a str,
     Some((name, value))
 }
 
-/// Returns why nothing was made of fields where allocation failed: `Invalid` if one of them is not
-/// a pair of texts all the same, and otherwise `Memory`.
-pub(crate) fn refuse_texts(fields: &[WtField], texts: &[u8]) -> Unmade
-    ensures invalid { result ≡ Unmade.Invalid → ¬ (AreTextFields texts.now fields.now) }
-    ensures memory { result ≡ Unmade.Memory → AreTextFields texts.now fields.now }
+/// Returns the name and the value of a field whose texts are known to be valid.
+#[inline(always)]
+fn known_texts<'a>(field: &WtField, texts: &'a [u8]) -> (&'a str, &'a str)
+    requires { IsTextField texts.now field.now }
+    ensures { (result.0.now, result.1.now) ≡ field_in texts.now field.now }
+{
+    let name = bytes_at(texts, field.name_offset, field.name_len);
+    let value = bytes_at(texts, field.value_offset, field.value_len);
+    unsafe {
+        (
+            str::from_utf8_unchecked(name),
+            str::from_utf8_unchecked(value),
+        )
+    }
+}
+
+/// Returns whether bytes are ASCII. If they are more than `most`, it returns `false` in any case.
+fn is_short_ascii(bytes: &[u8], most: usize) -> bool
+    ensures { IsTrue result → IsAscii bytes.now }
+{
+    bytes.len() <= most && bytes.is_ascii()
+}
+
+/// Returns whether all names and values are within this many bytes.
+fn are_within(fields: &[WtField], size: usize) -> bool
+    ensures { MatchBool result (AreWithin size fields.now) (¬ (AreWithin size fields.now)) }
+{
+    let mut left = fields;
+    'fields: while let Some((field, others)) = left.split_first() {
+        if !is_within(size, field.name_offset, field.name_len) {
+            return false;
+        }
+        if !is_within(size, field.value_offset, field.value_len) {
+            return false;
+        }
+        left = others;
+    }
+    true
+}
+
+/// Returns whether all fields are pairs of texts, by a look at each text.
+fn are_each_texts(fields: &[WtField], texts: &[u8]) -> bool
+    ensures { MatchBool result (AreTextFields texts.now fields.now)
+        (¬ (AreTextFields texts.now fields.now)) }
 {
     let mut left = fields;
     'fields: while let Some((field, others)) = left.split_first() {
         if texts_of(field, texts).is_none() {
-            return Unmade::Invalid;
+            return false;
         }
         left = others;
     }
-    Unmade::Memory
+    true
+}
+
+/// Returns whether all fields are pairs of texts.
+///
+/// Mostly the bytes are ASCII and contain little besides the texts. So they are tested at once,
+/// unless they are many.
+pub(crate) fn are_texts(fields: &[WtField], texts: &[u8]) -> bool
+    ensures { MatchBool result (AreTextFields texts.now fields.now)
+        (¬ (AreTextFields texts.now fields.now)) }
+{
+    if is_short_ascii(texts, fields.len().saturating_mul(NEAR)) {
+        return are_within(fields, texts.len());
+    }
+    are_each_texts(fields, texts)
+}
+
+/// The names and the values of fields, one after the other.
+#[derive(Drop)]
+pub(crate) struct TextPairs<'s, 'a> {
+    /// The fields that are left, all of which are pairs of texts.
+    pub(crate) left: &'s [WtField],
+    /// The bytes that the texts are in.
+    pub(crate) texts: &'a [u8],
+}
+
+impl<'s, 'a> Iterator for TextPairs<'s, 'a> {
+    type Item = (&'a str, &'a str);
+
+    ghost use Rattle.std.specs.Iterator.{YieldsFirstBy, item_count};
+    ghost use Rattle.wtp_fields.specs.Field.{field_of_texts};
+    ghost use Rattle.wt_c.specs.Texts.{AreTextFields, lines_in};
+
+    ghost can_next = { λ s. AreTextFields s.texts.now s.left.now };
+
+    ghost next_gives = { YieldsFirstBy field_of_texts (λ s. lines_in s.texts.now s.left.now) };
+
+    ghost remaining = { item_count (λ s. lines_in s.texts.now s.left.now) };
+
+    #[inline(always)]
+    fn next(&mut self) -> Option<(&'a str, &'a str)> {
+        let (field, others) = self.left.split_first()?;
+        self.left = others;
+        Some(known_texts(field, self.texts))
+    }
 }

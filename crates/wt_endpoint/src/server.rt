@@ -26,9 +26,8 @@ pub fn write_control(alloc: Global, out: &mut Vec<u8>) -> Result<()> {
         .enable_webtransport()?
         .build();
     let quic = StreamUniLocalQuic::open_uni();
-    let Ok(mut stream) = quic.upgrade(StreamHeader::new_control(), out) else {
-        bail!("out of memory");
-    };
+    let upgraded = quic.upgrade(StreamHeader::new_control(), out);
+    let mut stream = upgraded.map_err(|(_, error)| error)?;
     stream.write_frame(settings.generate_frame(alloc)?, out)?;
     Ok(())
 }

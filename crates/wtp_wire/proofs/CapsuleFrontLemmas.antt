@@ -50,7 +50,7 @@ front_one bytes r id e f = front_some bytes (omega (arith, number_shorter bytes 
 pub front_two : (bytes r rest : List ℕ) (id n : ℕ) → number_at bytes ≡ Some (id, r) → number_at r ≡ Some (n, rest) → capsule_front bytes ≡ value_front (capsule_kind_of id) n rest
 front_two bytes r rest id n e f = front_some bytes (omega (arith, number_shorter bytes r id e)) ∙ some_two bytes r rest id n e f
 
-front_encoded : (id n : ℕ) (head rest bytes : List ℕ) (s : EncodesPair id n head) → bytes ≡ head ++ rest → capsule_front bytes ≡ value_front (capsule_kind_of id) n rest
+pub front_encoded : (id n : ℕ) (head rest bytes : List ℕ) (s : EncodesPair id n head) → bytes ≡ head ++ rest → capsule_front bytes ≡ value_front (capsule_kind_of id) n rest
 front_encoded id n head rest bytes s e =
     let behind : List ℕ = s.second ++ rest in
     let all : bytes ≡ s.first ++ behind = e ∙ ap (λ (x : List ℕ). x ++ rest) s.parts ∙ append_assoc s.first s.second rest in

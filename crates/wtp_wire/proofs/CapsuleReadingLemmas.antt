@@ -32,7 +32,7 @@ one_unfinished : (bytes r : List ℕ) (id : ℕ) → number_at bytes ≡ Some (i
 unfolding head_says
 one_unfinished bytes r id e f = rw (e, f) refl
 
-two_say : (bytes r rest : List ℕ) (id n : ℕ) → number_at bytes ≡ Some (id, r) → number_at r ≡ Some (n, rest) → head_says bytes ≡ length_says (capsule_kind_of id) n
+pub two_say : (bytes r rest : List ℕ) (id n : ℕ) → number_at bytes ≡ Some (id, r) → number_at r ≡ Some (n, rest) → head_says bytes ≡ length_says (capsule_kind_of id) n
 unfolding head_says
 two_say bytes r rest id n e f = rw (e, f) refl
 
@@ -63,24 +63,27 @@ unready h f = elim (cases_lt (length h) (varint_need h)) [
       record { says = one_unfinished h r one.0 one.1 none; cut = λ some. front_one h r one.0 one.1 none }
 ]
 
+pub head_cut : (h : List ℕ) → 0 < length h → length h < frame_need h → capsule_front h ≡ Cut
+head_cut h some l = (unready h l).cut some
+
 pub says_unfinished : (h : List ℕ) → length h < frame_need h → head_says h ≡ head-is.Unfinished
 says_unfinished h l = (unready h l).says
 
 -- a complete head says something
+pub says_something : (k : Option CapsuleKind) (n : ℕ) → length_says k n ≡ head-is.Unfinished → ⊥
+says_something None n e = cc
+says_something (Some kind) n e = elim (cases_Bool (nat_lt (longest_value kind) n)) [ inl t ↦ cc (rw t at e) | inr t ↦ cc (rw t at e) ]
+
 pub says_whole : (h : List ℕ) → frame_need h ≡ length h → head_says h ≡ head-is.Unfinished → ⊥
-says_whole h w e = let p = parts_of h w in whole (capsule_kind_of p.id) p.n (sym (two_say h p.behind [] p.id p.n p.first p.second) ∙ e)
-  where
-    whole : (k : Option CapsuleKind) (n : ℕ) → length_says k n ≡ head-is.Unfinished → ⊥
-    whole None n e = cc
-    whole (Some kind) n e = elim (cases_Bool (nat_lt (longest_value kind) n)) [ inl t ↦ cc (rw t at e) | inr t ↦ cc (rw t at e) ]
+says_whole h w e = let p = parts_of h w in says_something (capsule_kind_of p.id) p.n (sym (two_say h p.behind [] p.id p.n p.first p.second) ∙ e)
 
 -- the head of a capsule of a known kind
-record KeepIs (o : Option CapsuleKind) (k : CapsuleKind) (n m : ℕ) : Type 0 where
-  size : n ≡ m
-  kind : o ≡ Some k
-  small : m ≤ longest_value k
+pub record KeepIs (o : Option CapsuleKind) (k : CapsuleKind) (n m : ℕ) : Type 0 where
+  pub size : n ≡ m
+  pub kind : o ≡ Some k
+  pub small : m ≤ longest_value k
 
-keep_is : (o : Option CapsuleKind) (k : CapsuleKind) (n m : ℕ) → length_says o n ≡ head-is.Keep k m → KeepIs o k n m
+pub keep_is : (o : Option CapsuleKind) (k : CapsuleKind) (n m : ℕ) → length_says o n ≡ head-is.Keep k m → KeepIs o k n m
 keep_is None k n m e = absurd (cc)
 keep_is (Some kind) k n m e = elim (cases_Bool (nat_lt (longest_value kind) n)) [
   | inl t ↦ absurd (cc (rw t at e))
@@ -198,7 +201,7 @@ held_found h v k n d z size w e more =
     ∙ rw (bytes_at-append v more) refl
 
 -- too few bytes
-no_more : (n : ℕ) (s : List ℕ) → length s < n → bytes_at n s ≡ None
+pub no_more : (n : ℕ) (s : List ℕ) → length s < n → bytes_at n s ≡ None
 unfolding bytes_at
 no_more n s l = rw (lt-ltb (length s) n l) refl
 

@@ -132,11 +132,11 @@ joined (Err error-is.Memory) old new a b more g = same_held old new (a ++ more) 
 -- ---- data that arrives piece by piece
 
 -- capsules before others
-abbrev preceded : List (CapsuleKind × List ℕ) → Capsules → Capsules
+abbrev pub preceded : List (CapsuleKind × List ℕ) → Capsules → Capsules
 preceded [] all = all
 preceded (c ∷ cs) all = follows c (preceded cs all)
 
-preceded-ends : (cs : List (CapsuleKind × List ℕ)) (e : CapsuleEnding) → preceded cs (ends e) ≡ record { found = cs; ending = e }
+pub preceded-ends : (cs : List (CapsuleKind × List ℕ)) (e : CapsuleEnding) → preceded cs (ends e) ≡ record { found = cs; ending = e }
 preceded-ends [] e = refl
 preceded-ends (c ∷ cs) e = ap (λ (all : Capsules). follows c all) (preceded-ends cs e)
 

@@ -26,6 +26,7 @@ pub mod CapsuleLemmas
 pub mod CapsuleFrontLemmas
 pub mod CapsuleStreamLemmas
 pub mod CapsuleReadingLemmas
+pub mod CapsuleCursorLemmas
 pub mod WritingLemmas
 pub mod HeaderPollLemmas
 pub mod DatagramLemmas

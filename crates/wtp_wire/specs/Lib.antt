@@ -28,5 +28,6 @@ pub mod Codes
 pub mod CapsuleFront
 pub mod CapsuleStream
 pub mod CapsuleSteps
+pub mod CapsuleCursor
 pub mod HeaderNeed
 pub mod HeaderPolling

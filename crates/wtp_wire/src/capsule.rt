@@ -2,8 +2,10 @@
 ghost use Rattle.std.specs.Prelude.{◌≡◌};
 
 pub mod capsules;
+mod cursor;
 mod reading;
 
+pub use crate::capsule::cursor::{CapsuleCursor, CapsulePlace, CapsuleStep};
 pub use crate::capsule::reading::{CapsuleReading, CutCapsule};
 use crate::frame::{Frame, FrameKind};
 use std::borrow::CowSlice;
@@ -21,8 +23,19 @@ pub enum CapsuleKind {
 }
 
 impl CapsuleKind {
-    ghost use Rattle.wtp_wire.specs.Capsule.{capsule_kind_of};
+    ghost use Rattle.wtp_wire.specs.Capsule.{capsule_kind_of, capsule_number_of};
     ghost use Rattle.wtp_wire.specs.CapsuleFront.{longest_value};
+
+    /// Returns the type. Not in the Rust crate.
+    pub fn id(self) -> VarInt
+        ensures { result ≡ capsule_number_of self }
+    {
+        match self {
+            CapsuleKind::CloseWebTransportSession => {
+                capsule_types::CAPSULE_TYPE_CLOSE_WEBTRANSPORT_SESSION
+            }
+        }
+    }
 
     /// Returns the length of the longest value that is read from a stream's data, in bytes: for a
     /// capsule that closes a session 1028, a code of 4 and a reason of at most 1024. Not in the

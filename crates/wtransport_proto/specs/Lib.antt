@@ -61,6 +61,7 @@ pub use Rattle.wtp_wire.specs.CloseSession
 pub use Rattle.wtp_wire.specs.Codes as WireCodes
 pub use Rattle.wtp_wire.specs.CapsuleFront
 pub use Rattle.wtp_wire.specs.CapsuleStream
+pub use Rattle.wtp_wire.specs.CapsuleCursor
 pub use Rattle.wtp_huffman.specs.HuffmanRows
 pub use Rattle.wtp_huffman.specs.Huffman
 pub use Rattle.wtp_fields.specs.Qpack

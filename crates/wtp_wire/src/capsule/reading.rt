@@ -204,15 +204,22 @@ impl Head for CapsuleHeadSize {
 
     ghost most = { 16 };
 
-    #[tactic(auto, unfolding(crate::specs::FrameNeed::frame_need))]
     fn need(held: &[u8]) -> usize {
-        let first = varint_need(held);
-        first + varint_need(held.get(first..).unwrap_or(&[]))
+        head_size(held)
     }
 
     ghost need_most = { frame_need_most };
 
     ghost need_grows = { frame_need_grows };
+}
+
+/// Returns the least size of a type and a length that start with these bytes.
+#[tactic(auto, unfolding(crate::specs::FrameNeed::frame_need))]
+pub(crate) fn head_size(bytes: &[u8]) -> usize
+    ensures { result ≡ frame_need bytes.now }
+{
+    let first = varint_need(bytes);
+    first + varint_need(bytes.get(first..).unwrap_or(&[]))
 }
 
 /// Takes bytes until the type and the length are complete. Returns whether they are.
@@ -238,7 +245,7 @@ fn take_head(bytes: &mut &[u8], head: &mut [u8; 16], len: &mut usize) -> bool
 
 /// What the type and the length of a capsule say about the value after them.
 #[derive(Clone, Copy)]
-enum CapsuleHead {
+pub(crate) enum CapsuleHead {
     /// They are not both complete.
     Unfinished,
     /// It has this length, and the capsule is of this kind.
@@ -251,7 +258,7 @@ enum CapsuleHead {
 
 /// Returns what the type and the length say.
 #[tactic(auto, unfolding(crate::specs::CapsuleSteps::head_says))]
-fn read_head(held: &[u8]) -> CapsuleHead
+pub(crate) fn read_head(held: &[u8]) -> CapsuleHead
     ensures { result ≡ head_says held.now }
 {
     let Some((id, size)) = first_varint(held) else {

@@ -1,12 +1,15 @@
 //! Laws of capsules.
 ghost use Rattle.std.specs.Prelude.{◌≡◌, ◌≢◌, ◌++◌, ◌⊎◌, ℕ, List, [], Option, Some, Result, Err};
 ghost use Rattle.wtp_wire.specs.Capsule.{BeginsWithCapsule, capsule_in};
+ghost use Rattle.wtp_wire.specs.CapsuleCursor.{CursorEvent, LeadsTo, StepIs, capsules_from, data_in, found_in};
 ghost use Rattle.wtp_wire.specs.CapsuleFront.{CapsuleFront, Found, Unknown, TooLong, Cut, End, StartsWith, capsule_front};
-ghost use Rattle.wtp_wire.specs.CapsuleStream.{Between, Within, AtTooLong, Step, Leads, data_of, returned, next_capsule, next_held, ends, follows, by_front, capsules, capsules_held, NextGiven, with_result};
+ghost use Rattle.wtp_wire.specs.CapsuleStream.{CapsuleEnding, Between, Within, AtTooLong, Step, Leads, data_of, returned, next_capsule, next_held, ends, follows, by_front, capsules, capsules_held, NextGiven, with_result};
 ghost use Rattle.wtp_wire.specs.CloseSession.{IsClose, IsWritableClose, close_in, close_value, close_wire};
 ghost use Rattle.wtp_wire.specs.Held.{Held, new_held};
 ghost use Rattle.wtp_wire.specs.declared.capsule.CapsuleError.{CapsuleError};
 ghost use Rattle.wtp_wire.specs.declared.capsule.CapsuleKind.{CapsuleKind};
+ghost use Rattle.wtp_wire.specs.declared.capsule.cursor.CapsuleCursor.{CapsuleCursor};
+ghost use Rattle.wtp_wire.specs.declared.capsule.cursor.CapsuleStep.{CapsuleStep};
 
 /// The capsule at the start of the input is computed, and what is computed is at its start: so the
 /// input starts with at most one capsule.
@@ -82,6 +85,20 @@ pub fn pieces_make_no_difference()
         → Leads steps new_held [] held left → NextGiven (Err CapsuleError.TooLong) held left new b
         → capsules (data_of steps ++ more)
         ≡ record { found = returned steps; ending = AtTooLong } }
+{}
+
+/// A new cursor finds the capsules of the data, and how it ends, whatever pieces the data comes in
+/// and however often it is called. The events are what happened at the cursor; the cursor and the
+/// bytes that are left are those after them, of which `finish` returns the ending.
+pub fn held_pieces_make_no_difference()
+    ensures end { (events : List CursorEvent) (cursor : CapsuleCursor) (rest : List ℕ)
+        (ending : CapsuleEnding) → LeadsTo events (record { due = 0 }) [] cursor rest
+        → capsules_from cursor rest ≡ ends ending
+        → capsules (data_in events) ≡ record { found = found_in events []; ending = ending } }
+    ensures too_long { (events : List CursorEvent) (old new : CapsuleCursor) (rest more : List ℕ)
+        → LeadsTo events (record { due = 0 }) [] old rest → StepIs CapsuleStep.TooLong old rest new
+        → capsules (data_in events ++ more)
+        ≡ record { found = found_in events []; ending = AtTooLong } }
 {}
 
 /// A close capsule that is written is read again, whatever follows, and so are its code and reason.

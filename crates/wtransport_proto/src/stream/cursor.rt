@@ -187,6 +187,8 @@ fn read_known<'a>(rest: &mut &'a [u8]) -> Result<Option<Frame<'a>>, ErrorCode>
 
 /// Returns how many payload bytes are missing if the bytes start with an unknown frame that they
 /// cut, or 0.
+#[cold]
+#[inline(never)]
 #[tactic(auto, unfolding(crate::specs::CutFrame::due_in))]
 fn payload_due(bytes: &[u8]) -> u64
     ensures { result ≡ due_in bytes.now }

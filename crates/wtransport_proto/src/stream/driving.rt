@@ -191,10 +191,7 @@ pub fn drive<K: ReadsFrames, S: AsyncRead>(
             return Driven::NoMemory;
         }
         match stream.read_frame_async(reading, source) {
-            Polled::Ready(Ok(frame)) => match out.push(frame) {
-                Ok(()) => {}
-                Err(_) => unreachable!(),
-            },
+            Polled::Ready(Ok(frame)) => out.push_reserved(frame),
             Polled::Ready(Err(fault)) => return Driven::Ended(fault),
             Polled::Pending => return Driven::Waiting,
             Polled::Again => {}

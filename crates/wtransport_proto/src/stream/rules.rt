@@ -1,7 +1,7 @@
 //! Which frames a stream allows, by its role (RFC 9114, sections 6.2.1 and 7.2).
 ghost use Rattle.std.specs.Prelude.{◌≡◌};
 ghost use Rattle.wtransport_proto.specs.Role.{role_of};
-ghost use Rattle.wtransport_proto.specs.Rule.{control_rule, request_rule, rule};
+ghost use Rattle.wtransport_proto.specs.Rule.{rule};
 
 use wtp_core::error::ErrorCode;
 use wtp_wire::frame::FrameKind;
@@ -27,41 +27,28 @@ pub enum StreamRole {
 /// other fault is `FrameUnexpected` (RFC 9114, sections 6.2.1, 7.2 and table 1;
 /// draft-ietf-webtrans-http3-02, section 4.2). Not in the Rust crate.
 #[inline(always)]
-#[tactic(auto, using(crate::proofs::RuleLemmas::rules_of_requests))]
+#[tactic(auto, using(crate::proofs::RuleLemmas::rules_of_kinds))]
 pub fn fault_of(role: StreamRole, first: bool, kind: FrameKind) -> Option<ErrorCode>
     ensures { result ≡ rule (role_of role) first kind }
 {
-    match role {
-        StreamRole::BiRemote => match kind {
-            FrameKind::WebTransport if first => None,
-            FrameKind::WebTransport => Some(ErrorCode::Frame),
-            _ => request_fault(kind),
+    match kind {
+        FrameKind::Exercise(_) => None,
+        FrameKind::Data | FrameKind::Headers => match role {
+            StreamRole::UniRemote => Some(ErrorCode::FrameUnexpected),
+            StreamRole::BiRemote | StreamRole::BiLocal | StreamRole::Session => None,
         },
-        StreamRole::BiLocal | StreamRole::Session => request_fault(kind),
-        StreamRole::UniRemote => control_fault(kind),
-    }
-}
-
-/// Returns the fault of a frame of this kind on a stream for a request and its response.
-#[inline(always)]
-fn request_fault(kind: FrameKind) -> Option<ErrorCode>
-    ensures { result ≡ request_rule kind }
-{
-    match kind {
-        FrameKind::Data | FrameKind::Headers | FrameKind::Exercise(_) => None,
-        FrameKind::Settings | FrameKind::WebTransport => Some(ErrorCode::FrameUnexpected),
-    }
-}
-
-/// Returns the fault of a frame of this kind on a control stream.
-#[inline(always)]
-fn control_fault(kind: FrameKind) -> Option<ErrorCode>
-    ensures { result ≡ control_rule kind }
-{
-    match kind {
-        FrameKind::Settings | FrameKind::Exercise(_) => None,
-        FrameKind::Data | FrameKind::Headers | FrameKind::WebTransport => {
-            Some(ErrorCode::FrameUnexpected)
-        }
+        FrameKind::Settings => match role {
+            StreamRole::UniRemote => None,
+            StreamRole::BiRemote | StreamRole::BiLocal | StreamRole::Session => {
+                Some(ErrorCode::FrameUnexpected)
+            }
+        },
+        FrameKind::WebTransport => match role {
+            StreamRole::BiRemote if first => None,
+            StreamRole::BiRemote => Some(ErrorCode::Frame),
+            StreamRole::BiLocal | StreamRole::UniRemote | StreamRole::Session => {
+                Some(ErrorCode::FrameUnexpected)
+            }
+        },
     }
 }

@@ -1,7 +1,7 @@
 use Rattle.std.proofs.Common.{◌≡◌, [], ◌∷◌, ◌++◌, length, drop, refl, sym, ap, ◌∙◌, arith, append-nil}
 use Rattle.wtransport_proto.proofs.DriveLemmas.{first_same, first_on, none_yet, pushed, pushed_appends, pushed_most, told_start, told_still, told_waiting, told_ended, told_frame, told_unknown}
 use Rattle.wtransport_proto.proofs.stream.driving.drive.Goals as goal
-use Rattle.wtransport_proto.proofs.stream.driving.drive.Goals.{in-Ready-Ok+in-Ok, in-Again}
+use Rattle.wtransport_proto.proofs.stream.driving.drive.Goals.{in-Ready-Ok, in-Again}
 
 pub loop-turn-init : goal.loop-turn-init
 loop-turn-init g c = record {
@@ -31,8 +31,8 @@ returns-in-NoMemory-clause-did g c =
 pub loop-turn-preserved : goal.loop-turn-preserved
 loop-turn-preserved g c =
     elim c.match-read_frame_async.branch [
-      | in-Ready-Ok+in-Ok w ↦
-          let p : c.match-read_frame_async.out.items ≡ c.loop-turn.out.items ++ w.in-Ready-Ok.frame ∷ [] = rw w.out-is (w.in-Ok.ensures.items ∙ ap (λ l. l ++ w.in-Ready-Ok.frame ∷ []) c.reserve.ensures.items) in
+      | in-Ready-Ok w ↦
+          let p : c.match-read_frame_async.out.items ≡ c.loop-turn.out.items ++ w.in-Ready-Ok.frame ∷ [] = rw w.out-is (w.push_reserved.ensures.items ∙ ap (λ l. l ++ w.in-Ready-Ok.frame ∷ []) c.reserve.ensures.items) in
           record {
             can = c.read_frame_async.ensures.can;
             changes = first_on g.K.ReadsFrames.first _ _ _ c.loop-turn.invariant.changes c.read_frame_async.ensures.changes;

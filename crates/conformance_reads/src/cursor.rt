@@ -1,0 +1,365 @@
+//! Reading frames from bytes that the caller holds, however they are cut.
+use crate::answers::{PollAnswer, number_and_payload, pad};
+use crate::opened::{control, of_session, opened_here, opened_there};
+use crate::reads::Reads;
+use crate::same::same;
+use std::process::Abort;
+use std::test::Fail;
+use wtransport_proto::bytes::{IoReadError as Fault, Polled};
+use wtransport_proto::error::ErrorCode;
+use wtransport_proto::frame::{Frame, FrameReading};
+use wtransport_proto::stream::{CursorStep, FrameCursor, IoReadError, StreamRole};
+
+/// How the reading of a stream ends: cleanly, or with the code of its first fault. An end inside a
+/// frame is the fault `Frame` (RFC 9114, section 7.1).
+type Ending = Result<(), ErrorCode>;
+
+/// A frame by its type and payload, or how the stream ends.
+type Next<'a> = Result<(u64, &'a [u8]), Ending>;
+
+/// The bytes of a stream, its frames by their type and payload, how they end, and what the row
+/// shows.
+type Row<'a> = (&'a [u8], &'a [(u64, &'a [u8])], Ending, &'a str);
+
+/// The bytes of a stream, of which some have come, and the first of those are consumed.
+#[derive(Drop)]
+struct Coming<'a> {
+    bytes: &'a [u8],
+    come: usize,
+    consumed: usize,
+    cursor: FrameCursor,
+}
+
+impl<'a> Coming<'a> {
+    /// No byte has come yet.
+    fn new(bytes: &'a [u8], role: StreamRole) -> Self {
+        Coming {
+            bytes,
+            come: 0,
+            consumed: 0,
+            cursor: FrameCursor::new(role),
+        }
+    }
+
+    /// The bytes that the caller holds.
+    fn held(&self) -> &'a [u8] {
+        self.bytes.get(self.consumed..self.come).unwrap_or(&[])
+    }
+
+    /// One call over the bytes that the caller holds: a frame by its type and payload, a fault, or
+    /// nothing.
+    fn step(&mut self) -> Option<Next<'a>> {
+        let held = self.held();
+        match self.cursor.next(held) {
+            CursorStep::Frame(place) => {
+                self.consumed = self.consumed.saturating_add(place.end);
+                Some(Ok((place.kind.id().into_inner(), place.payload(held))))
+            }
+            CursorStep::Fault(code) => Some(Err(Err(code))),
+            CursorStep::More(n) => {
+                self.consumed = self.consumed.saturating_add(n);
+                None
+            }
+        }
+    }
+
+    /// So many bytes come. If all have come, this is how the stream ends.
+    fn receive(&mut self, size: usize) -> Option<Ending> {
+        if self.come >= self.bytes.len() {
+            return Some(self.cursor.finish(self.held()));
+        }
+        self.come = self.come.saturating_add(size).min(self.bytes.len());
+        None
+    }
+
+    /// The next frame, or how the stream ends. Bytes come so many at a time.
+    fn next<R: Abort>(&mut self, rt: &R, size: usize) -> Next<'a> {
+        for _turn in 0..10000 {
+            if let Some(found) = self.step() {
+                return found;
+            }
+            assert!(rt; self.held().len() <= 4111);
+            if let Some(ending) = self.receive(size) {
+                return Err(ending);
+            }
+        }
+        Err(Err(ErrorCode::NoError))
+    }
+
+    /// The next frame is this one, or the stream ends so.
+    fn check<R: Abort>(&mut self, rt: &R, size: usize, wanted: Next<'_>, shows: &str) {
+        same(rt, (self.next(rt, size), size), (wanted, size), shows);
+    }
+}
+
+/// The stream has the row's frames and ending where its bytes come so many at a time.
+fn check_cut<R: Abort>(rt: &R, role: StreamRole, row: &Row<'_>, size: usize) {
+    let (bytes, frames, ending, shows) = *row;
+    let mut coming = Coming::new(bytes, role);
+    for frame in frames {
+        coming.check(rt, size, Ok(*frame), shows);
+    }
+    coming.check(rt, size, Err(ending), shows);
+}
+
+/// The same, cut in pieces of each size.
+fn check_cuts<R: Abort>(rt: &R, role: StreamRole, row: &Row<'_>) {
+    for size in 1..=row.0.len() {
+        check_cut(rt, role, row, size);
+    }
+}
+
+/// Each row, cut in pieces of each size.
+fn check_rows<R: Abort>(rt: &R, role: StreamRole, rows: &[Row<'_>]) {
+    for row in rows {
+        check_cuts(rt, role, row);
+    }
+}
+
+/// What one poll answered, as a frame or an end. Where it is neither, it is what no row wants.
+fn next_of(answered: &PollAnswer) -> Next<'_> {
+    match answered {
+        Polled::Ready(Ok(frame)) => Ok(number_and_payload(frame)),
+        Polled::Ready(Err(IoReadError::H3(code))) => Err(Err(*code)),
+        Polled::Ready(Err(IoReadError::IO(Fault::ImmediateFin))) => Err(Ok(())),
+        _ => Err(Err(ErrorCode::NoError)),
+    }
+}
+
+/// The next answer of a poll, but that a frame was skipped or that allocation failed.
+fn poll_next<K: Reads>(
+    stream: &mut K,
+    reading: &mut FrameReading,
+    bytes: &mut &[u8],
+) -> PollAnswer {
+    for _turn in 0..20 {
+        match stream.poll(reading, bytes) {
+            Polled::Again | Polled::NoMemory => {}
+            answered => return answered,
+        }
+    }
+    Polled::Pending
+}
+
+/// The next frame that is polled is this one, or the stream ends so.
+fn check_next<R: Abort, K: Reads>(
+    rt: &R,
+    stream: &mut K,
+    reading: &mut FrameReading,
+    bytes: &mut &[u8],
+    wanted: Next<'_>,
+    shows: &str,
+) {
+    let answered = poll_next(stream, reading, bytes);
+    same(rt, next_of(&answered), wanted, shows);
+}
+
+/// The polls of the stream read the row's frames, and then its ending.
+fn check_polled<R: Abort + AllocGlobal, K: Reads>(rt: &R, stream: &mut K, row: &Row<'_>) {
+    let (mut bytes, frames, ending, shows) = *row;
+    let mut reading = Frame::read_async(rt.alloc());
+    for frame in frames {
+        check_next(rt, stream, &mut reading, &mut bytes, Ok(*frame), shows);
+    }
+    check_next(rt, stream, &mut reading, &mut bytes, Err(ending), shows);
+}
+
+/// The polls of the stream read each row.
+fn check_polled_rows<R: Abort + AllocGlobal, K: Reads>(rt: &R, stream: &mut K, rows: &[Row<'_>]) {
+    for row in rows {
+        check_polled(rt, stream, row);
+    }
+}
+
+/// A stream that the peer opened: a session may come first, and not after another frame.
+static OPENED_THERE: [Row<'static>; 16] = [
+    (b"\x00\x01a", &[(0x00, b"a")], Ok(()), "data"),
+    (
+        b"\x01\x01a\x00\x00",
+        &[(0x01, b"a"), (0x00, b"")],
+        Ok(()),
+        "headers and data",
+    ),
+    (
+        b"\x04\x00",
+        &[],
+        Err(ErrorCode::FrameUnexpected),
+        "settings",
+    ),
+    (b"\x40\x41\x04", &[(0x41, b"")], Ok(()), "a session"),
+    (b"\x21\x01a", &[(0x21, b"a")], Ok(()), "exercise"),
+    (
+        b"\x0a\x03\x00\x00\x00\x40\x41\x04",
+        &[(0x41, b"")],
+        Ok(()),
+        "a session after an unknown frame",
+    ),
+    (
+        b"\x00\x00\x40\x41\x04",
+        &[(0x00, b"")],
+        Err(ErrorCode::Frame),
+        "a session after data",
+    ),
+    (
+        b"\x40\x41\x00\x40\x41\x00",
+        &[(0x41, b"")],
+        Err(ErrorCode::Frame),
+        "a second session",
+    ),
+    (
+        b"\x40\x41\x01",
+        &[],
+        Err(ErrorCode::Id),
+        "a number that is none",
+    ),
+    (
+        b"\x00\x50\x01",
+        &[],
+        Err(ErrorCode::ExcessiveLoad),
+        "length 4097",
+    ),
+    (
+        b"\x00\xff\xff\xff\xff\xff\xff\xff\xff",
+        &[],
+        Err(ErrorCode::ExcessiveLoad),
+        "the largest length",
+    ),
+    (
+        b"\xc0\x00\x00\x00\x00\x00\x00\x00\x80\x00\x00\x02ab\x00\x01c",
+        &[(0x00, b"ab"), (0x00, b"c")],
+        Ok(()),
+        "long encodings",
+    ),
+    (
+        b"\x00\x02a",
+        &[],
+        Err(ErrorCode::Frame),
+        "an end in a payload",
+    ),
+    (
+        b"\x00\x00\x40",
+        &[(0x00, b"")],
+        Err(ErrorCode::Frame),
+        "an end in a number",
+    ),
+    (
+        b"\x0a\x02a",
+        &[],
+        Err(ErrorCode::Frame),
+        "an end in an unknown frame",
+    ),
+    (b"\x0a\x02ab\x0a\x00", &[], Ok(()), "unknown frames alone"),
+];
+
+#[test]
+fn a_stream_opened_there_is_read_however_cut(rt: HostRuntime) {
+    check_rows(&rt, StreamRole::BiRemote, &OPENED_THERE);
+}
+
+/// The polls of a new stream that the peer opened read each row.
+fn check_new<R: Abort + AllocGlobal>(rt: &R, rows: &[Row<'_>]) {
+    for row in rows {
+        check_polled(rt, &mut opened_there(), row);
+    }
+}
+
+#[test]
+fn a_stream_opened_there_is_polled_so(rt: HostRuntime) {
+    check_new(&rt, &OPENED_THERE);
+}
+
+/// A stream in both directions that was opened here, or that has its session.
+static OPENED_HERE: [Row<'static>; 5] = [
+    (
+        b"\x01\x01a\x00\x01b\x21\x01c",
+        &[(0x01, b"a"), (0x00, b"b"), (0x21, b"c")],
+        Ok(()),
+        "headers, data and exercise",
+    ),
+    (
+        b"\x04\x00",
+        &[],
+        Err(ErrorCode::FrameUnexpected),
+        "settings",
+    ),
+    (
+        b"\x40\x41\x04",
+        &[],
+        Err(ErrorCode::FrameUnexpected),
+        "a session",
+    ),
+    (b"\x40\x41\x01", &[], Err(ErrorCode::Id), "no session"),
+    (
+        b"\x00\x50\x01",
+        &[],
+        Err(ErrorCode::ExcessiveLoad),
+        "length 4097",
+    ),
+];
+
+#[test]
+fn streams_opened_here_are_read_however_cut(rt: HostRuntime) {
+    check_rows(&rt, StreamRole::BiLocal, &OPENED_HERE);
+    check_rows(&rt, StreamRole::Session, &OPENED_HERE);
+}
+
+#[test]
+fn streams_opened_here_are_polled_so(rt: HostRuntime) -> Result<(), Fail> {
+    check_polled_rows(&rt, &mut opened_here(), &OPENED_HERE);
+    check_polled_rows(&rt, &mut of_session(rt.alloc())?, &OPENED_HERE);
+    Ok(())
+}
+
+/// A control stream that the peer opened, after its type.
+static CONTROL: [Row<'static>; 6] = [
+    (
+        b"\x04\x02\x33\x01\x07\x01\x00\x21\x00",
+        &[(0x04, b"\x33\x01"), (0x21, b"")],
+        Ok(()),
+        "settings, an unknown frame and exercise",
+    ),
+    (b"\x00\x00", &[], Err(ErrorCode::FrameUnexpected), "data"),
+    (b"\x01\x00", &[], Err(ErrorCode::FrameUnexpected), "headers"),
+    (
+        b"\x40\x41\x04",
+        &[],
+        Err(ErrorCode::FrameUnexpected),
+        "a session",
+    ),
+    (b"\x40\x41\x01", &[], Err(ErrorCode::Id), "no session"),
+    (
+        b"\x04\x50\x01",
+        &[],
+        Err(ErrorCode::ExcessiveLoad),
+        "length 4097",
+    ),
+];
+
+#[test]
+fn a_control_stream_is_read_however_cut(rt: HostRuntime) {
+    check_rows(&rt, StreamRole::UniRemote, &CONTROL);
+}
+
+#[test]
+fn a_control_stream_is_polled_so(rt: HostRuntime) -> Result<(), Fail> {
+    check_polled_rows(&rt, &mut control()?, &CONTROL);
+    Ok(())
+}
+
+/// How many bytes come at a time.
+static SIZES: [usize; 9] = [1, 2, 7, 100, 4096, 4111, 4999, 5003, 9105];
+
+#[test]
+fn long_frames_are_read_however_cut(rt: HostRuntime) -> Result<(), Fail> {
+    let mut bytes = pad(rt.alloc(), b"\x0a\x53\x88", 5003)?;
+    bytes.extend_from_slice(b"\x00\x50\x00")?;
+    bytes.resize(9102, 7)?;
+    bytes.extend_from_slice(b"\x01\x01a")?;
+    let payload = bytes.get(5006..9102).ok_or("a payload")?;
+    let frames = [(0x00, payload), (0x01, b"a".as_slice())];
+    let row: Row<'_> = (&bytes, &frames, Ok(()), "unknown, data, headers");
+    for size in &SIZES {
+        check_cut(&rt, StreamRole::BiRemote, &row, *size);
+    }
+    Ok(())
+}

@@ -1,0 +1,251 @@
+//! Driving streams.
+use crate::answers::{number_and_payload, pad};
+use crate::opened::{control, of_session, opened_here, opened_there};
+use crate::same::same;
+use std::alloc::{AllocError, Global};
+use std::process::Abort;
+use std::test::Fail;
+use test_io::{End, Trickle};
+use wtransport_proto::bytes::{AsyncRead, IoReadError as Fault};
+use wtransport_proto::error::ErrorCode;
+use wtransport_proto::frame::{Frame, FrameOwned, FrameReading};
+use wtransport_proto::stream::biremote::StreamBiRemoteH3;
+use wtransport_proto::stream::{Driven, IoReadError, ReadsFrames, drive};
+
+const FIN: Driven = Driven::Ended(IoReadError::IO(Fault::ImmediateFin));
+
+const CUT: Driven = Driven::Ended(IoReadError::H3(ErrorCode::Frame));
+
+/// Drives the stream; where allocation failed, once more.
+fn drive_again<K: ReadsFrames, S: AsyncRead>(
+    stream: &mut K,
+    reading: &mut FrameReading,
+    source: &mut S,
+    out: &mut Vec<FrameOwned>,
+    polls: u32,
+) -> Driven
+    requires { K.can stream.old }
+{
+    match drive(stream, reading, source, out, polls) {
+        Driven::NoMemory => drive(stream, reading, source, out, polls),
+        driven => driven,
+    }
+}
+
+/// The frames put out are these, by type number and payload.
+fn check_frames<R: Abort>(rt: &R, out: &Vec<FrameOwned>, frames: &[(u64, &[u8])]) {
+    same(rt, out.len(), frames.len(), "frames put out");
+    for (place, wanted) in frames.iter().enumerate() {
+        same(rt, frame_at(out, place), Some(*wanted), place);
+    }
+}
+
+/// The frame that was put out at this place, by type number and payload.
+fn frame_at(out: &Vec<FrameOwned>, place: usize) -> Option<(u64, &[u8])> {
+    match out.get(place) {
+        Some(frame) => Some(number_and_payload(frame)),
+        None => None,
+    }
+}
+
+/// A stream that the peer opened, and what was driven out of it.
+#[derive(Drop)]
+struct Driving {
+    stream: StreamBiRemoteH3,
+    reading: FrameReading,
+    out: Vec<FrameOwned>,
+}
+
+impl Driving {
+    /// A new stream, of which nothing was read.
+    fn new(alloc: Global) -> Self {
+        Driving {
+            stream: opened_there(),
+            reading: Frame::read_async(alloc),
+            out: Vec::new(alloc),
+        }
+    }
+
+    /// Drives it on, with ten polls, and stops where allocation fails.
+    fn once<S: AsyncRead>(&mut self, source: &mut S) -> Driven {
+        drive(
+            &mut self.stream,
+            &mut self.reading,
+            source,
+            &mut self.out,
+            10,
+        )
+    }
+
+    /// Drives it on, with so many polls.
+    fn on<S: AsyncRead>(&mut self, source: &mut S, polls: u32) -> Driven {
+        drive_again(
+            &mut self.stream,
+            &mut self.reading,
+            source,
+            &mut self.out,
+            polls,
+        )
+    }
+
+    /// Drives it on, with so many polls: this is how it ends, how many frames it has put out since
+    /// it was new, and how many bytes are left.
+    fn check<R: Abort>(
+        &mut self,
+        rt: &R,
+        bytes: &mut &[u8],
+        polls: u32,
+        wanted: (&Driven, usize, usize),
+        shows: &str,
+    ) {
+        let end = self.on(bytes, polls);
+        same(rt, (&end, self.out.len(), bytes.len()), wanted, shows);
+    }
+}
+
+const TWO: &[u8] = b"\x00\x01a\x00\x01b";
+
+static TWO_FRAMES: [(u64, &[u8]); 2] = [(0x00, b"a"), (0x00, b"b")];
+
+#[test]
+fn refused_memory_loses_no_frame(rt: HostRuntime) {
+    let mut driving = Driving::new(rt.alloc());
+    let mut source = TWO;
+    let mut end = driving.once(&mut source);
+    if end == Driven::NoMemory {
+        assert!(rt; driving.out.len() < 2);
+        end = driving.once(&mut source);
+    }
+    same(&rt, end, FIN, "the end");
+    check_frames(&rt, &driving.out, &TWO_FRAMES);
+}
+
+/// How a drive of one poll ends, how many frames were put out then, and how many bytes are left.
+static ONE_BY_ONE: [(Driven, usize, usize); 3] = [
+    (Driven::Spent, 1, 3),
+    (Driven::Spent, 2, 0),
+    (FIN, 2, 0),
+];
+
+#[test]
+fn polls_are_spent_one_by_one(rt: HostRuntime) {
+    let mut driving = Driving::new(rt.alloc());
+    let mut bytes = TWO;
+    for (end, frames, left) in &ONE_BY_ONE {
+        let wanted = (end, *frames, *left);
+        driving.check(&rt, &mut bytes, 1, wanted, "one poll");
+    }
+    check_frames(&rt, &driving.out, &TWO_FRAMES);
+}
+
+#[test]
+fn a_cut_unknown_frame_ends_it(rt: HostRuntime) {
+    let mut driving = Driving::new(rt.alloc());
+    let mut bytes = [0x0a, 0x0a, 0x00, 0x00].as_slice();
+    driving.check(&rt, &mut bytes, 2, (&CUT, 0, 0), "a cut unknown frame");
+}
+
+/// How many polls are made, how many frames were put out then, and how many bytes are left.
+type Part = (u32, usize, usize);
+
+/// The drives over an unknown frame of 8192 bytes and a data frame of none, one for each part.
+fn check_parts<R: Abort + AllocGlobal>(rt: &R, parts: &[Part]) -> Result<(), AllocError> {
+    let unknown = pad(rt.alloc(), &[0x0a, 0x60, 0x00], 3 + 8192 + 2)?;
+    let mut driving = Driving::new(rt.alloc());
+    let mut bytes = unknown.as_slice();
+    for (polls, frames, left) in parts {
+        let wanted = (&Driven::Spent, *frames, *left);
+        driving.check(rt, &mut bytes, *polls, wanted, "part");
+    }
+    check_frames(rt, &driving.out, &[(0x00, b"")]);
+    Ok(())
+}
+
+#[test]
+fn each_part_of_an_unknown_frame_is_a_poll(rt: HostRuntime) -> Result<(), AllocError> {
+    check_parts(&rt, &[(0, 0, 8197), (1, 0, 4098), (1, 0, 2), (1, 1, 0)])?;
+    check_parts(&rt, &[(3, 1, 0)])
+}
+
+#[test]
+fn waits_lose_no_frame(rt: HostRuntime) {
+    let mut driving = Driving::new(rt.alloc());
+    let mut source = Trickle::new(b"\x21\x07Payload\x40\x41\x00", End::Fin);
+    for turn in 0..12usize {
+        same(&rt, driving.on(&mut source, 10), Driven::Waiting, turn);
+    }
+    same(&rt, driving.on(&mut source, 10), CUT, "after all waits");
+    check_frames(&rt, &driving.out, &[(0x21, b"Payload")]);
+}
+
+/// How the drives over a source of one byte and a reset end, and where they do.
+static CUT_SOURCE: [(Driven, &str); 3] = [
+    (Driven::Waiting, "before the byte"),
+    (Driven::Waiting, "before the end"),
+    (Driven::Ended(IoReadError::IO(Fault::Reset)), "at the end"),
+];
+
+#[test]
+fn a_drive_goes_on_over_a_second_source(rt: HostRuntime) {
+    let mut driving = Driving::new(rt.alloc());
+    let mut source = Trickle::new(b"\x00", End::Reset);
+    for (end, shows) in &CUT_SOURCE {
+        same(&rt, &driving.on(&mut source, 10), end, shows);
+    }
+    let mut bytes = b"\x01a".as_slice();
+    driving.check(&rt, &mut bytes, 10, (&FIN, 1, 0), "the second source");
+    check_frames(&rt, &driving.out, &[(0x00, b"a")]);
+}
+
+/// The bytes of a stream, the frames put out of them, how a drive ends, and the stream's name.
+type Row = (
+    &'static [u8],
+    &'static [(u64, &'static [u8])],
+    Driven,
+    &'static str,
+);
+
+/// Driven over the bytes of the row, the stream puts out its frames and ends by it.
+fn check_driven<R: Abort + AllocGlobal, K: ReadsFrames>(rt: &R, stream: &mut K, row: &Row) {
+    let (bytes, frames, wanted, word) = row;
+    let mut reading = Frame::read_async(rt.alloc());
+    let mut out = Vec::new(rt.alloc());
+    let mut source = *bytes;
+    assert!(rt; stream.can_read());
+    let end = drive_again(stream, &mut reading, &mut source, &mut out, 10);
+    same(rt, &end, wanted, word);
+    check_frames(rt, &out, frames);
+}
+
+/// A frame came that may not.
+const UNEXPECTED: Driven = Driven::Ended(IoReadError::H3(ErrorCode::FrameUnexpected));
+
+/// A session frame, and another.
+const SESSIONS: &[u8] = b"\x40\x41\x00\x40\x41\x00";
+
+static THERE: Row = (SESSIONS, &[(0x41, b"")], CUT, "opened there");
+
+static HERE: Row = (SESSIONS, &[], UNEXPECTED, "opened here");
+
+static SESSION: Row = (
+    b"\x01\x01a\x04\x00",
+    &[(0x01, b"a")],
+    UNEXPECTED,
+    "of a session",
+);
+
+static CONTROL: Row = (
+    b"\x04\x00\x07\x01\x00\x04\x00",
+    &[(0x04, b""), (0x04, b"")],
+    FIN,
+    "control",
+);
+
+#[test]
+fn each_reading_state_is_driven(rt: HostRuntime) -> Result<(), Fail> {
+    check_driven(&rt, &mut opened_there(), &THERE);
+    check_driven(&rt, &mut opened_here(), &HERE);
+    check_driven(&rt, &mut of_session(rt.alloc())?, &SESSION);
+    check_driven(&rt, &mut control()?, &CONTROL);
+    Ok(())
+}

@@ -1,0 +1,60 @@
+//! Reading in a loop. What each poll requires holds after the one before it, so a struct keeps it.
+ghost use Rattle.wtransport_proto.specs.Streams.{CanRead};
+
+use crate::answers::{Answer, PollAnswer, check_answer};
+use crate::opened::control;
+use crate::same::{fail, same};
+use std::alloc::Global;
+use std::test::Fail;
+use test_io::{End, Trickle};
+use wtransport_proto::bytes::{AsyncRead, Polled};
+use wtransport_proto::frame::{Frame, FrameReading};
+use wtransport_proto::stream::uniremote::StreamUniRemoteH3;
+
+/// How often a source may wait.
+const TURNS: usize = 20;
+
+/// A stream in one direction, from which frames are read.
+#[derive(Drop)]
+struct FromOne {
+    stream: StreamUniRemoteH3,
+    reading: FrameReading,
+    ghost readable: { CanRead stream },
+}
+
+/// Reads the next frame, while the source waits.
+fn read_one<S: AsyncRead>(receiving: &mut FromOne, source: &mut S) -> PollAnswer {
+    for _turn in 0..TURNS {
+        match receiving
+            .stream
+            .read_frame_async(&mut receiving.reading, source)
+        {
+            Polled::Pending | Polled::Again | Polled::NoMemory => {}
+            answer => return answer,
+        }
+    }
+    Polled::Pending
+}
+
+/// A control stream, of which no frame was read.
+fn receiving(alloc: Global) -> Result<FromOne, Fail> {
+    let stream = control()?;
+    if !stream.can_read() {
+        return fail("frames may be read");
+    }
+    Ok(FromOne {
+        stream,
+        reading: Frame::read_async(alloc),
+    })
+}
+
+#[test]
+fn settings_are_read_in_a_loop(rt: HostRuntime) -> Result<(), Fail> {
+    let mut receiving = receiving(rt.alloc())?;
+    let mut source = Trickle::new(&[0x04, 0x02, 0x33, 0x01, 0x0d, 0x00], End::Fin);
+    let came = read_one(&mut receiving, &mut source);
+    let settings = Answer::Frame(0x04, b"\x33\x01");
+    check_answer(&rt, &came, &settings, "settings", 0);
+    same(&rt, source.rest(), b"\x0d\x00".as_slice(), "bytes left");
+    Ok(())
+}

@@ -1,0 +1,33 @@
+//! Streams of which nothing was read yet.
+use crate::same::fail;
+use std::alloc::Global;
+use std::test::Fail;
+use wtransport_proto::session::{SessionRequest, UrlParseError};
+use wtransport_proto::stream::bilocal::{StreamBiLocalH3, StreamBiLocalQuic};
+use wtransport_proto::stream::biremote::{StreamBiRemoteH3, StreamBiRemoteQuic};
+use wtransport_proto::stream::session::StreamSession;
+use wtransport_proto::stream::uniremote::{MaybeUpgradeH3, StreamUniRemoteH3, StreamUniRemoteQuic};
+
+/// A stream in both directions that the peer opened.
+pub(crate) fn opened_there() -> StreamBiRemoteH3 {
+    StreamBiRemoteQuic::accept_bi().upgrade()
+}
+
+/// A stream in both directions that this end opened.
+pub(crate) fn opened_here() -> StreamBiLocalH3 {
+    StreamBiLocalQuic::open_bi().upgrade()
+}
+
+/// The stream of a session, opened at this end.
+pub(crate) fn of_session(alloc: Global) -> Result<StreamSession, UrlParseError> {
+    let request = SessionRequest::new(alloc, "https://example.com/a?b")?;
+    Ok(opened_here().into_session(request))
+}
+
+/// A control stream that the peer opened, after its type.
+pub(crate) fn control() -> Result<StreamUniRemoteH3, Fail> {
+    match StreamUniRemoteQuic::accept_uni().upgrade(&mut [0x00].as_slice())? {
+        MaybeUpgradeH3::H3(stream) => Ok(stream),
+        MaybeUpgradeH3::Quic(_) => fail("a whole header"),
+    }
+}

@@ -1,0 +1,311 @@
+//! Reading frames from streams, poll by poll.
+use crate::answers::{Answer, CUT, ENDS, FIN, PollAnswer, check_answer, pad};
+use crate::opened::opened_there;
+use crate::reads::{check_poll, check_polls, check_source};
+use crate::same::same;
+use std::alloc::AllocError;
+use std::process::Abort;
+use test_io::{Answers, End, Trickle};
+use wtransport_proto::bytes::{IoReadError as Fault, Polled, ReadStep};
+use wtransport_proto::error::ErrorCode;
+use wtransport_proto::frame::{Frame, FrameReading};
+use wtransport_proto::stream::IoReadError;
+use wtransport_proto::stream::biremote::StreamBiRemoteH3;
+
+/// What a source gives, and in which steps; the answers of the polls, and what the row shows.
+type Row = (
+    &'static [u8],
+    &'static [ReadStep],
+    &'static [Answer<'static>],
+    &'static str,
+);
+
+static ROWS: [Row; 9] = [
+    (b"", &[], &[FIN], "nothing"),
+    (b"\x00", &[], &[CUT], "a cut frame"),
+    (
+        b"\x00",
+        &[ReadStep::Bytes(1), ReadStep::Reset],
+        &[Answer::Fault(IoReadError::IO(Fault::Reset))],
+        "a cut frame and a reset",
+    ),
+    (b"\x0a", &[], &[CUT], "an unknown type alone"),
+    (
+        b"\x0a\x00\x00\x01a",
+        &[],
+        &[Answer::Again, Answer::Frame(0x00, b"a"), FIN],
+        "unknown and empty, then data",
+    ),
+    (
+        b"\x04\x02\x33\x01\x40\x41\x00",
+        &[],
+        &[
+            Answer::Fault(IoReadError::H3(ErrorCode::FrameUnexpected)),
+            CUT,
+            FIN,
+        ],
+        "a refused frame counts as the first",
+    ),
+    (
+        b"\x0a\xff\xff\xff\xff\xff\xff\xff\xff",
+        &[],
+        &[CUT],
+        "unknown, of the largest length",
+    ),
+    (
+        b"\x0a\x05abcde\x00\x00",
+        &[ReadStep::Bytes(3), ReadStep::NotReady],
+        &[
+            Answer::Pending,
+            Answer::Again,
+            Answer::Frame(0x00, b""),
+            FIN,
+        ],
+        "not ready inside an unknown frame",
+    ),
+    (
+        b"\x00\x01a",
+        &[
+            ReadStep::Reset,
+            ReadStep::Bytes(1),
+            ReadStep::NotConnected,
+            ReadStep::Bytes(1),
+            ReadStep::Reset,
+        ],
+        &[
+            Answer::Fault(IoReadError::IO(Fault::Reset)),
+            Answer::Fault(IoReadError::IO(Fault::NotConnected)),
+            Answer::Fault(IoReadError::IO(Fault::Reset)),
+            Answer::Frame(0x00, b"a"),
+            FIN,
+        ],
+        "faults that pass",
+    ),
+];
+
+/// The polls of a stream that the peer opened answer by the row.
+fn check_row<R: Abort + AllocGlobal>(rt: &R, row: &Row) {
+    let (bytes, steps, answers, word) = *row;
+    let mut stream = opened_there();
+    let mut reading = Frame::read_async(rt.alloc());
+    let mut source = Answers::new(bytes, steps);
+    check_polls(rt, &mut stream, &mut reading, &mut source, answers, word);
+}
+
+/// The polls answer by each row.
+fn check_rows<R: Abort + AllocGlobal>(rt: &R, rows: &[Row]) {
+    for row in rows {
+        check_row(rt, row);
+    }
+}
+
+#[test]
+fn polls_answer_by_the_bytes(rt: HostRuntime) {
+    check_rows(&rt, &ROWS);
+}
+
+/// The front of the bytes, after which come zeros, how many bytes there are in all, the answers of
+/// the polls, and what the row shows.
+type LongRow = ([u8; 3], usize, &'static [Answer<'static>], &'static str);
+
+/// A data frame of no bytes is two zeros.
+static LONG: [LongRow; 4] = [
+    (
+        [0x0a, 0x50, 0x00],
+        3 + 4096 + 2,
+        &[Answer::Again, Answer::Frame(0x00, b""), FIN],
+        "4096 bytes are one part",
+    ),
+    (
+        [0x0a, 0x50, 0x01],
+        3 + 4097 + 2,
+        &[Answer::Again, Answer::Again, Answer::Frame(0x00, b""), FIN],
+        "4097 bytes are two parts",
+    ),
+    (
+        [0x0a, 0x60, 0x00],
+        3 + 8192 + 2,
+        &[Answer::Again, Answer::Again, Answer::Frame(0x00, b""), FIN],
+        "8192 bytes are two parts",
+    ),
+    (
+        [0x0a, 0x50, 0x01],
+        3 + 4096,
+        &[Answer::Again, CUT],
+        "the last byte is missing",
+    ),
+];
+
+/// The polls of a stream that the peer opened answer by the row.
+fn check_long<R: Abort + AllocGlobal>(rt: &R, row: &LongRow) -> Result<(), AllocError> {
+    let (front, len, answers, word) = row;
+    let bytes = pad(rt.alloc(), front, *len)?;
+    check_source(rt, &mut opened_there(), &(bytes.as_slice(), answers, word));
+    Ok(())
+}
+
+/// The polls answer by each row of long bytes.
+fn check_longs<R: Abort + AllocGlobal>(rt: &R, rows: &[LongRow]) -> Result<(), AllocError> {
+    for row in rows {
+        check_long(rt, row)?;
+    }
+    Ok(())
+}
+
+#[test]
+fn long_unknown_frames_are_passed_in_parts(rt: HostRuntime) -> Result<(), AllocError> {
+    check_longs(&rt, &LONG)
+}
+
+/// After so many waits, the next poll answers this.
+fn check_late<R: Abort>(
+    rt: &R,
+    stream: &mut StreamBiRemoteH3,
+    reading: &mut FrameReading,
+    source: &mut Trickle<'_>,
+    waits: usize,
+    answer: &Answer<'_>,
+) {
+    for _turn in 0..waits {
+        check_poll(rt, stream, reading, source, &Answer::Pending, ("late", 0));
+    }
+    check_poll(rt, stream, reading, source, answer, ("there", 0));
+}
+
+/// How often the source is not ready, and what the next poll answers.
+type LateRow = (usize, Answer<'static>);
+
+static LATE: [LateRow; 3] = [(9, Answer::Frame(0x21, b"Payload")), (3, CUT), (1, FIN)];
+
+/// The polls of a stream that the peer opened answer by each row, one after the other, over bytes
+/// that each come late.
+fn check_lates<R: Abort + AllocGlobal>(rt: &R, rows: &[LateRow]) {
+    let mut stream = opened_there();
+    let mut reading = Frame::read_async(rt.alloc());
+    let mut source = Trickle::new(EXERCISE_THEN_SESSION, End::Fin);
+    for (waits, answer) in rows {
+        check_late(rt, &mut stream, &mut reading, &mut source, *waits, answer);
+    }
+}
+
+#[test]
+fn each_byte_may_come_late(rt: HostRuntime) {
+    check_lates(&rt, &LATE);
+}
+
+#[test]
+fn a_second_source_goes_on(rt: HostRuntime) {
+    let mut stream = opened_there();
+    let mut reading = Frame::read_async(rt.alloc());
+    let steps = [ReadStep::Bytes(3), ReadStep::Reset];
+    let mut source = Answers::new(b"\x0a\x05a", &steps);
+    let reset = [Answer::Fault(IoReadError::IO(Fault::Reset))];
+    check_polls(&rt, &mut stream, &mut reading, &mut source, &reset, "first");
+    let mut source = b"bcde\x00\x00".as_slice();
+    let rest = [Answer::Again, Answer::Frame(0x00, b""), FIN];
+    check_polls(&rt, &mut stream, &mut reading, &mut source, &rest, "second");
+}
+
+/// An exercise frame of nine bytes, and a frame of session 0 that comes too late.
+const EXERCISE_THEN_SESSION: &[u8] = b"\x21\x07Payload\x40\x41\x00";
+
+/// What a stream answers last over the first so many of these bytes, which end so.
+fn last_answer(len: usize, end: End) -> Answer<'static> {
+    match (len, end) {
+        (12, _) => CUT,
+        (0 | 9, End::Fin) => FIN,
+        (_, End::Fin) => CUT,
+        (_, End::Reset) => Answer::Fault(IoReadError::IO(Fault::Reset)),
+        (_, End::NotConnected) => Answer::Fault(IoReadError::IO(Fault::NotConnected)),
+    }
+}
+
+/// The next answer but that the source is not ready, or that allocation failed.
+fn next_answer(
+    stream: &mut StreamBiRemoteH3,
+    reading: &mut FrameReading,
+    source: &mut Trickle<'_>,
+) -> PollAnswer {
+    for _turn in 0..20 {
+        match stream.read_frame_async(reading, source) {
+            Polled::Pending | Polled::NoMemory => {}
+            answered => return answered,
+        }
+    }
+    Polled::Pending
+}
+
+/// The next such answer is this one.
+fn check_next<R: Abort>(
+    rt: &R,
+    stream: &mut StreamBiRemoteH3,
+    reading: &mut FrameReading,
+    source: &mut Trickle<'_>,
+    answer: Answer<'_>,
+    place: (&str, usize),
+) {
+    let (word, len) = place;
+    let came = next_answer(stream, reading, source);
+    check_answer(rt, &came, &answer, word, len);
+}
+
+/// Over the first so many of the bytes the stream answers by the table, and then the same again.
+fn check_stop<R: Abort + AllocGlobal>(rt: &R, len: usize, end: End) {
+    let mut stream = opened_there();
+    let mut reading = Frame::read_async(rt.alloc());
+    let mut source = Trickle::new(EXERCISE_THEN_SESSION.get(..len).unwrap_or(&[]), end);
+    if len >= 9 {
+        let first = Answer::Frame(0x21, b"Payload");
+        check_next(
+            rt,
+            &mut stream,
+            &mut reading,
+            &mut source,
+            first,
+            ("first", len),
+        );
+    }
+    let last = last_answer(len, end);
+    check_next(
+        rt,
+        &mut stream,
+        &mut reading,
+        &mut source,
+        last,
+        ("last", len),
+    );
+    if len < 12 {
+        let again = last_answer(len, end);
+        check_next(
+            rt,
+            &mut stream,
+            &mut reading,
+            &mut source,
+            again,
+            ("again", len),
+        );
+    }
+}
+
+#[test]
+fn bytes_may_stop_at_each_place(rt: HostRuntime) {
+    for len in 0..13usize {
+        for end in &ENDS {
+            check_stop(&rt, len, *end);
+        }
+    }
+}
+
+#[test]
+fn refused_memory_for_a_payload_is_asked_for_again(rt: HostRuntime) {
+    let mut stream = opened_there();
+    let mut reading = Frame::read_async(rt.alloc());
+    let mut source = b"\x00\x03abc".as_slice();
+    let mut answered = stream.read_frame_async(&mut reading, &mut source);
+    if let Polled::NoMemory = answered {
+        same(&rt, source, b"abc".as_slice(), "rest of the source");
+        answered = stream.read_frame_async(&mut reading, &mut source);
+    }
+    check_answer(&rt, &answered, &Answer::Frame(0x00, b"abc"), "data", 0);
+    assert!(rt; source.is_empty());
+}

@@ -1,0 +1,258 @@
+//! Reading frames from a buffer and from a slice, by the rule of each state.
+use crate::answers::number_and_payload;
+use crate::opened::{control, of_session, opened_here, opened_there};
+use crate::reads::{Read, Reads};
+use crate::same::same;
+use std::process::Abort;
+use std::test::Fail;
+use wtransport_proto::bytes::BufferReader;
+use wtransport_proto::error::ErrorCode;
+
+/// What one read is to answer: a frame by its type number and payload.
+type Wanted<'a> = Result<Option<(u64, &'a [u8])>, ErrorCode>;
+
+/// The frame that was read, by its type number and payload.
+fn answer_of<'a>(read: &'a Read<'_>) -> Wanted<'a> {
+    match read {
+        Ok(Some(frame)) => Ok(Some(number_and_payload(frame))),
+        Ok(None) => Ok(None),
+        Err(code) => Err(*code),
+    }
+}
+
+/// The read answers this, and its source is here after it.
+fn check_read<R: Abort>(
+    rt: &R,
+    read: &Read<'_>,
+    place: usize,
+    wanted: (Wanted<'_>, usize),
+    shows: &str,
+) {
+    same(rt, (answer_of(read), place), wanted, shows);
+}
+
+/// The next read from the buffer answers this, and the reader is here after it.
+fn check_buffer<R: Abort, K: Reads>(
+    rt: &R,
+    stream: &mut K,
+    reader: &mut BufferReader<'_>,
+    wanted: (Wanted<'_>, usize),
+    shows: &str,
+) {
+    let read = stream.read_buffer(reader);
+    check_read(rt, &read, reader.offset(), wanted, shows);
+}
+
+/// The next read from the slice answers this, and leaves so many bytes.
+fn check_slice<R: Abort, K: Reads>(
+    rt: &R,
+    stream: &mut K,
+    bytes: &mut &[u8],
+    wanted: (Wanted<'_>, usize),
+    shows: &str,
+) {
+    let read = stream.read_slice(bytes);
+    check_read(rt, &read, bytes.len(), wanted, shows);
+}
+
+/// Bytes of a frame, what a read of them answers, where the reader of a buffer is after it, and
+/// what the row shows. Of a slice nothing is left.
+type ReadRow = (&'static [u8], Wanted<'static>, usize, &'static str);
+
+/// The stream reads the row from a buffer, and then from a slice.
+fn check_both<R: Abort, K: Reads>(rt: &R, stream: &mut K, row: &ReadRow) {
+    let (mut bytes, wanted, offset, shows) = *row;
+    let mut reader = BufferReader::new(bytes);
+    check_buffer(rt, stream, &mut reader, (wanted, offset), shows);
+    check_slice(rt, stream, &mut bytes, (wanted, 0), shows);
+}
+
+/// The stream reads each row.
+fn check_rows<R: Abort, K: Reads>(rt: &R, stream: &mut K, rows: &[ReadRow]) {
+    for row in rows {
+        check_both(rt, stream, row);
+    }
+}
+
+/// What is read of a stream in both directions that was opened here, or that has its session.
+static OF_BOTH: [ReadRow; 5] = [
+    (b"\x00\x01a", Ok(Some((0x00, b"a"))), 3, "data"),
+    (b"\x01\x01a", Ok(Some((0x01, b"a"))), 3, "headers"),
+    (b"\x04\x00", Err(ErrorCode::FrameUnexpected), 0, "settings"),
+    (
+        b"\x40\x41\x04",
+        Err(ErrorCode::FrameUnexpected),
+        0,
+        "a session",
+    ),
+    (b"\x21\x01a", Ok(Some((0x21, b"a"))), 3, "exercise"),
+];
+
+/// What is read of a control stream.
+static OF_CONTROL: [ReadRow; 5] = [
+    (b"\x00\x01a", Err(ErrorCode::FrameUnexpected), 0, "data"),
+    (b"\x01\x01a", Err(ErrorCode::FrameUnexpected), 0, "headers"),
+    (b"\x04\x00", Ok(Some((0x04, b""))), 2, "settings"),
+    (
+        b"\x40\x41\x04",
+        Err(ErrorCode::FrameUnexpected),
+        0,
+        "a session",
+    ),
+    (b"\x21\x01a", Ok(Some((0x21, b"a"))), 3, "exercise"),
+];
+
+/// The largest length that there is.
+static LARGEST: [ReadRow; 1] = [(
+    b"\x00\xff\xff\xff\xff\xff\xff\xff\xff",
+    Err(ErrorCode::ExcessiveLoad),
+    0,
+    "the largest length is too big",
+)];
+
+#[test]
+fn frames_are_read_by_the_rule(rt: HostRuntime) -> Result<(), Fail> {
+    let mut local = opened_here();
+    check_rows(&rt, &mut local, &OF_BOTH);
+    same(&rt, local.can_upgrade(), true, "reading does not count");
+    check_rows(&rt, &mut of_session(rt.alloc())?, &OF_BOTH);
+    check_rows(&rt, &mut opened_there(), &LARGEST);
+    Ok(())
+}
+
+#[test]
+fn frames_of_a_control_stream_are_read_by_the_rule(rt: HostRuntime) -> Result<(), Fail> {
+    let mut stream = control()?;
+    same(&rt, stream.can_read(), true, "frames may be read");
+    check_rows(&rt, &mut stream, &OF_CONTROL);
+    same(&rt, stream.can_read(), true, "frames may still be read");
+    Ok(())
+}
+
+/// How many bytes are passed over before a read, what it answers, where the reader is after it, and
+/// what it shows.
+type Step = (usize, Wanted<'static>, usize, &'static str);
+
+/// The bytes of a buffer, the reads of it, and how many bytes are left.
+type BufferRow = (&'static [u8], &'static [Step], usize);
+
+/// One read of a buffer answers by its row.
+fn check_step<R: Abort, K: Reads>(
+    rt: &R,
+    stream: &mut K,
+    reader: &mut BufferReader<'_>,
+    step: &Step,
+) -> Result<(), Fail> {
+    let (passed, wanted, offset, shows) = *step;
+    reader.skip(passed)?;
+    check_buffer(rt, stream, reader, (wanted, offset), shows);
+    Ok(())
+}
+
+/// The reads of one buffer, one after the other.
+fn check_steps<R: Abort, K: Reads>(rt: &R, stream: &mut K, row: &BufferRow) -> Result<(), Fail> {
+    let (bytes, steps, left) = *row;
+    let mut reader = BufferReader::new(bytes);
+    for step in steps {
+        check_step(rt, stream, &mut reader, step)?;
+    }
+    same(rt, reader.capacity(), left, "bytes left");
+    Ok(())
+}
+
+/// A stream that the peer opened, new for each row.
+static THERE: [BufferRow; 2] = [
+    (
+        b"\x04\x02\x33\x01\x40\x41\x00",
+        &[
+            (0, Err(ErrorCode::FrameUnexpected), 0, "settings"),
+            (4, Err(ErrorCode::Frame), 4, "a session after it"),
+        ],
+        3,
+    ),
+    (
+        b"\x21\x07Payload\x40\x41\x00",
+        &[
+            (0, Ok(Some((0x21, b"Payload"))), 9, "exercise"),
+            (0, Err(ErrorCode::Frame), 9, "a late session"),
+        ],
+        3,
+    ),
+];
+
+#[test]
+fn each_frame_of_a_stream_opened_there_counts(rt: HostRuntime) -> Result<(), Fail> {
+    for row in &THERE {
+        check_steps(&rt, &mut opened_there(), row)?;
+    }
+    Ok(())
+}
+
+/// Too few bytes and faults, on a stream that was opened here: the reader stays before them.
+static HERE: [BufferRow; 3] = [
+    (
+        b"\x0a\x00\x00\x05a",
+        &[(0, Ok(None), 0, "too few bytes")],
+        5,
+    ),
+    (
+        b"\x40\x41\x01",
+        &[(0, Err(ErrorCode::Id), 0, "no session")],
+        3,
+    ),
+    (
+        b"\x00\x50\x01",
+        &[(0, Err(ErrorCode::ExcessiveLoad), 0, "length 4097")],
+        3,
+    ),
+];
+
+#[test]
+fn too_few_bytes_and_faults_stay(rt: HostRuntime) -> Result<(), Fail> {
+    let mut stream = opened_here();
+    for row in &HERE {
+        check_steps(&rt, &mut stream, row)?;
+    }
+    Ok(())
+}
+
+/// A control stream: an unknown frame between settings.
+static BETWEEN: BufferRow = (
+    b"\x04\x00\x07\x01\x00\x04\x00",
+    &[
+        (0, Ok(Some((0x04, b""))), 2, "settings"),
+        (0, Ok(Some((0x04, b""))), 7, "settings again"),
+        (0, Ok(None), 7, "the end"),
+    ],
+    0,
+);
+
+#[test]
+fn an_unknown_frame_between_settings_is_passed_over_whole(rt: HostRuntime) -> Result<(), Fail> {
+    check_steps(&rt, &mut control()?, &BETWEEN)
+}
+
+/// The next read from the slice answers this, and leaves these bytes.
+fn check_left<R: Abort, K: Reads>(
+    rt: &R,
+    stream: &mut K,
+    bytes: &mut &[u8],
+    wanted: Wanted<'_>,
+    left: &[u8],
+    shows: &str,
+) {
+    check_slice(rt, stream, bytes, (wanted, left.len()), shows);
+    same(rt, *bytes, left, shows);
+}
+
+#[test]
+fn an_unknown_frame_and_a_fault_do_not_count(rt: HostRuntime) {
+    let mut bytes = b"\x0a\x00\x00\x50\x01\x40\x41\x00\x00".as_slice();
+    let mut stream = opened_there();
+    let (fault, left) = (Err(ErrorCode::ExcessiveLoad), b"\x40\x41\x00\x00");
+    check_left(&rt, &mut stream, &mut bytes, fault, left, "length 4097");
+    let (session, left) = (Ok(Some((0x41, b"".as_slice()))), b"\x00");
+    check_left(&rt, &mut stream, &mut bytes, session, left, "a session");
+    let read = stream.read_slice(&mut bytes);
+    same(&rt, answer_of(&read), Ok(None), "too few bytes");
+}

@@ -1,0 +1,41 @@
+//! Streams of which nothing was read or written yet, and a session.
+ghost use Rattle.std.specs.Prelude.{IsTrue};
+ghost use Rattle.wtransport_proto.specs.Streams.{can_upgrade};
+
+use std::alloc::Global;
+use std::test::Fail;
+use wtransport_proto::ids::{SessionId, StreamId};
+use wtransport_proto::session::{SessionRequest, UrlParseError};
+use wtransport_proto::stream::bilocal::{StreamBiLocalH3, StreamBiLocalQuic};
+use wtransport_proto::stream::biremote::{StreamBiRemoteH3, StreamBiRemoteQuic};
+use wtransport_proto::stream::session::StreamSession;
+use wtransport_proto::varint::VarInt;
+
+/// The session of this stream.
+pub(crate) fn session_of_stream(id: u32) -> Result<SessionId, Fail> {
+    let stream = StreamId::new(VarInt::from_u32(id));
+    Ok(SessionId::try_from_session_stream(stream)?)
+}
+
+/// The session of stream 4.
+pub(crate) fn session_4() -> Result<SessionId, Fail> {
+    session_of_stream(4)
+}
+
+/// A stream in both directions that the peer opened.
+pub(crate) fn opened_there() -> StreamBiRemoteH3 {
+    StreamBiRemoteQuic::accept_bi().upgrade()
+}
+
+/// A stream in both directions that this end opened.
+pub(crate) fn opened_here() -> StreamBiLocalH3
+    ensures { IsTrue (can_upgrade result) }
+{
+    StreamBiLocalQuic::open_bi().upgrade()
+}
+
+/// The stream of a session, opened at this end.
+pub(crate) fn open_session(alloc: Global) -> Result<StreamSession, UrlParseError> {
+    let request = SessionRequest::new(alloc, "https://example.com/a?b")?;
+    Ok(opened_here().into_session(request))
+}

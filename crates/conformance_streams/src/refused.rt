@@ -1,0 +1,122 @@
+//! What every writing state does into a vector whose allocation fails.
+use crate::opened::{open_session, opened_here, opened_there};
+use crate::same::{fail, same};
+use std::borrow::CowSlice;
+use std::process::Abort;
+use std::test::Fail;
+use wtransport_proto::bytes::{BufferWriter, PutError};
+use wtransport_proto::frame::Frame;
+use wtransport_proto::stream::bilocal::StreamBiLocalH3;
+use wtransport_proto::stream::biremote::StreamBiRemoteH3;
+use wtransport_proto::stream::session::StreamSession;
+use wtransport_proto::stream::unilocal::{StreamUniLocalH3, StreamUniLocalQuic};
+use wtransport_proto::stream_header::{StreamHeader, StreamKind};
+
+/// The payload of the frame that is written.
+static PAYLOAD: [u8; 100] = [9; 100];
+
+/// A writing state, which puts a data frame of these 100 bytes by its own call.
+trait Writes {
+    fn write(&mut self, out: &mut Vec<u8>) -> Result<(), PutError>;
+}
+
+impl Writes for StreamBiRemoteH3 {
+    fn write(&mut self, out: &mut Vec<u8>) -> Result<(), PutError> {
+        self.write_frame(Frame::new_data(CowSlice::Borrowed(&PAYLOAD)), out)
+    }
+}
+
+impl Writes for StreamBiLocalH3 {
+    fn write(&mut self, out: &mut Vec<u8>) -> Result<(), PutError> {
+        self.write_frame(Frame::new_data(CowSlice::Borrowed(&PAYLOAD)), out)
+    }
+}
+
+impl Writes for StreamSession {
+    fn write(&mut self, out: &mut Vec<u8>) -> Result<(), PutError> {
+        self.write_frame(Frame::new_data(CowSlice::Borrowed(&PAYLOAD)), out)
+    }
+}
+
+impl Writes for StreamUniLocalH3 {
+    fn write(&mut self, out: &mut Vec<u8>) -> Result<(), PutError> {
+        if self.kind() == StreamKind::WebTransport {
+            return Err(PutError::EndOfBuffer);
+        }
+        self.write_frame(Frame::new_data(CowSlice::Borrowed(&PAYLOAD)), out)
+    }
+}
+
+/// Whether the bytes are the first parts of the frame: its type number and its length.
+fn are_parts(written: &[u8]) -> bool {
+    written == [].as_slice()
+        || written == [0x00].as_slice()
+        || written == [0x00, 0x40, 0x64].as_slice()
+}
+
+/// The state writes its frame into a vector; where memory was refused, whole parts of the frame are
+/// there, and the frame is written anew.
+fn check_refused<R: Abort + AllocGlobal, K: Writes>(
+    rt: &R,
+    stream: &mut K,
+) -> Result<(), PutError> {
+    let mut out = Vec::new(rt.alloc());
+    if let Err(error) = stream.write(&mut out) {
+        same(rt, error, PutError::Memory, "fault");
+        assert!(rt; are_parts(out.as_slice()));
+        out.clear();
+        stream.write(&mut out)?;
+    }
+    same(
+        rt,
+        out.get(..3),
+        Some([0x00, 0x40, 0x64].as_slice()),
+        "head",
+    );
+    same(rt, out.get(3..), Some(PAYLOAD.as_slice()), "payload");
+    Ok(())
+}
+
+#[test]
+fn refused_memory_writes_whole_parts_to_a_stream_opened_there(
+    rt: HostRuntime,
+) -> Result<(), PutError> {
+    check_refused(&rt, &mut opened_there())
+}
+
+#[test]
+fn refused_memory_leaves_a_stream_opened_here(rt: HostRuntime) -> Result<(), PutError> {
+    let mut stream = opened_here();
+    let mut out = Vec::new(rt.alloc());
+    if stream.write(&mut out).is_err() {
+        assert!(rt; are_parts(out.as_slice()));
+        assert!(rt; stream.can_upgrade());
+        check_refused(&rt, &mut stream)?;
+    }
+    assert!(rt; !stream.can_upgrade());
+    check_refused(&rt, &mut stream)
+}
+
+#[test]
+fn refused_memory_writes_whole_parts_to_the_stream_of_a_session(
+    rt: HostRuntime,
+) -> Result<(), Fail> {
+    let mut stream = match open_session(rt.alloc()) {
+        Ok(stream) => stream,
+        Err(_) => open_session(rt.alloc())?,
+    };
+    check_refused(&rt, &mut stream)?;
+    Ok(())
+}
+
+#[test]
+fn refused_memory_writes_whole_parts_to_a_control_stream(rt: HostRuntime) -> Result<(), Fail> {
+    let mut head = [0; 1];
+    let mut writer = BufferWriter::new(&mut head);
+    let header = StreamHeader::new_control();
+    let Ok(mut stream) = StreamUniLocalQuic::open_uni().upgrade(header, &mut writer) else {
+        return fail("there is room");
+    };
+    check_refused(&rt, &mut stream)?;
+    Ok(())
+}

@@ -1,0 +1,121 @@
+//! Capsules that are read from the data of a session's stream (RFC 9297, section 3.2).
+ghost use Rattle.std.specs.Prelude.{◌≡◌, ◌≢◌, ◌⊎◌, ◌≤◌, length};
+ghost use Rattle.wtp_wire.specs.declared.capsule.cursor.CapsulePlace.{CapsulePlace};
+ghost use Rattle.wtp_wire.specs.declared.capsule.cursor.CapsuleStep.{CapsuleStep};
+ghost use Rattle.wt_c.specs.CapsuleReader.{Stepped, c_capsule, cursor_of, IsEnd};
+
+use crate::answers::{FAULT, MORE, OK};
+use wtp_core::error::ErrorCode;
+use wtp_wire::capsule::{CapsuleCursor, CapsulePlace, CapsuleStep};
+
+/// All that reading the capsules of a stream remembers between two calls. Every value is valid.
+#[repr(C)]
+#[derive(Clone, Copy)]
+pub struct WtCapsuleReader {
+    /// How many bytes of an unknown capsule's value are still to be skipped.
+    pub due: u64,
+}
+
+/// A capsule, whose value is in the bytes that were read.
+#[repr(C)]
+#[derive(Clone, Copy)]
+pub struct WtCapsule {
+    /// The type.
+    pub kind: u64,
+    /// The offset of the value.
+    pub offset: usize,
+    /// The size of the value in bytes.
+    pub len: usize,
+}
+
+/// Returns the cursor of a reader.
+fn cursor_of(reader: &WtCapsuleReader) -> CapsuleCursor
+    ensures { result ≡ cursor_of reader.now }
+{
+    CapsuleCursor { due: reader.due }
+}
+
+/// Returns a capsule's place as C has it.
+fn capsule_at(place: &CapsulePlace) -> WtCapsule
+    ensures { result ≡ c_capsule place.now }
+{
+    WtCapsule {
+        kind: place.kind.id().into_inner(),
+        offset: place.start,
+        len: place.end - place.start,
+    }
+}
+
+/// Reads the next capsule of a known type from the data of a session's stream, the payloads of its
+/// DATA frames: from the bytes after those that were consumed before. Capsules of unknown types are
+/// skipped, also piece by piece (RFC 9297, section 3.2).
+///
+/// - `OK`: the next capsule. `consumed` is the offset after its value.
+/// - `MORE`: there is no complete capsule. The bytes after the first `consumed` have to be given
+///   again with more bytes after them; they are at most 1043.
+/// - `FAULT`: the value of the next capsule has more than 1028 bytes; the code is
+///   `H3_DATAGRAM_ERROR` (0x33). The reader does not change, and `consumed` is 0.
+///
+/// However the data is cut, the capsules and the fault are the same. `capsule` changes for `OK`
+/// alone, and `code` for `FAULT` alone.
+#[unsafe(no_mangle)]
+pub extern "C" fn wt_capsule_read(
+    reader: &mut WtCapsuleReader,
+    bytes: &[u8],
+    consumed: &mut usize,
+    capsule: &mut WtCapsule,
+    code: &mut u64,
+) -> i32
+    ensures answers { (result ≡ OK) ⊎ ((result ≡ MORE) ⊎ (result ≡ FAULT)) }
+    ensures capsule { result ≡ OK → (p : CapsulePlace) × (capsule.new ≡ c_capsule p)
+        × (consumed.new ≡ p.end)
+        × Stepped (CapsuleStep.Capsule p) reader.old bytes.now reader.new }
+    ensures more { result ≡ MORE
+        → Stepped (CapsuleStep.More consumed.new) reader.old bytes.now reader.new }
+    ensures fault { result ≡ FAULT → Stepped CapsuleStep.TooLong reader.old bytes.now reader.new
+        × (code.new ≡ 0x33) × (reader.new ≡ reader.old) × (consumed.new ≡ 0) }
+    ensures within { consumed.new ≤ length bytes.now }
+    ensures none { result ≢ OK → capsule.new ≡ capsule.old }
+    ensures code { result ≢ FAULT → code.new ≡ code.old }
+{
+    let mut cursor = cursor_of(reader);
+    let step = cursor.next(bytes);
+    match step {
+        CapsuleStep::Capsule(place) => {
+            reader.due = cursor.due;
+            *consumed = place.end;
+            *capsule = capsule_at(&place);
+            OK
+        }
+        CapsuleStep::More(passed) => {
+            reader.due = cursor.due;
+            *consumed = passed;
+            MORE
+        }
+        CapsuleStep::TooLong => {
+            *consumed = 0;
+            *code = ErrorCode::Datagram.to_code().into_inner();
+            FAULT
+        }
+    }
+}
+
+/// Returns what it means that the stream ends here, after `MORE`, with `rest` left over.
+///
+/// Returns `OK` if the stream may end here. Returns `FAULT` with the code `H3_MESSAGE_ERROR`
+/// (0x10e) if a capsule has begun (RFC 9297, section 3.3); `code` changes for `FAULT` alone.
+#[unsafe(no_mangle)]
+pub extern "C" fn wt_capsule_end(reader: &WtCapsuleReader, rest: &[u8], code: &mut u64) -> i32
+    ensures answers { (result ≡ OK) ⊎ (result ≡ FAULT) }
+    ensures clean { result ≡ OK → IsEnd reader.now rest.now }
+    ensures fault { result ≡ FAULT → (¬ (IsEnd reader.now rest.now)) × (code.new ≡ 0x10e) }
+    ensures code { result ≢ FAULT → code.new ≡ code.old }
+{
+    match cursor_of(reader).finish(rest) {
+        Ok(()) => OK,
+        Err(fault) => {
+            *code = ErrorCode::from(fault).to_code().into_inner();
+            FAULT
+        }
+    }
+}

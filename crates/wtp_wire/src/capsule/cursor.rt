@@ -1,0 +1,172 @@
+//! Reading capsules from bytes that the caller holds, with no memory. Not in the Rust crate.
+ghost use Rattle.std.specs.Prelude.{◌≡◌, ◌≤◌, ◌-◌, ◌↔◌, length, IsOk};
+
+use crate::capsule::reading::{CapsuleHead, head_size, read_head};
+use crate::capsule::{CapsuleKind, CutCapsule};
+
+/// All that reading the capsules of a stream's data remembers between two calls. Not in the Rust
+/// crate.
+///
+/// It holds no bytes: the caller does, and gives those after the ones that were consumed. Each
+/// value is a valid one.
+#[derive(Clone, Copy, Debug, PartialEq, Eq)]
+pub struct CapsuleCursor {
+    /// How many bytes of an unknown capsule's value are still to be skipped.
+    pub due: u64,
+}
+
+/// A capsule by its place in the bytes given to `CapsuleCursor::next`. Not in the Rust crate.
+#[derive(Clone, Copy, Debug, PartialEq, Eq)]
+pub struct CapsulePlace {
+    /// The kind.
+    pub kind: CapsuleKind,
+    /// The offset of the value.
+    pub start: usize,
+    /// The offset of the byte after the value, which is the number of bytes consumed.
+    pub end: usize,
+    ghost ordered: { start ≤ end },
+}
+
+/// What a cursor finds next. Not in the Rust crate.
+#[derive(Clone, Copy, Debug, PartialEq, Eq)]
+pub enum CapsuleStep {
+    /// A capsule of a known kind. The bytes up to its end are consumed.
+    Capsule(CapsulePlace),
+    /// More bytes are needed, after this many that are consumed.
+    More(usize),
+    /// A value that is too long. No byte is consumed.
+    TooLong,
+}
+
+impl CapsulePlace {
+    ghost use Rattle.wtp_wire.specs.CapsuleCursor.{capsule_value};
+
+    /// Returns the value of the capsule. Requires that these are the bytes given to
+    /// `CapsuleCursor::next`, or at least as many.
+    pub fn value<'a>(&self, bytes: &'a [u8]) -> &'a [u8]
+        requires { self.now.end ≤ length bytes.now }
+        ensures { result.now ≡ capsule_value self.now bytes.now }
+    {
+        &bytes[self.start..self.end]
+    }
+}
+
+impl CapsuleCursor {
+    ghost use Rattle.wtp_wire.specs.CapsuleCursor.{StepIs, CapsulesGoOn, IsLeftOver};
+    ghost use Rattle.wtp_wire.specs.CapsuleCursor.{capsules_from, ending_of};
+    ghost use Rattle.wtp_wire.specs.CapsuleStream.{ends};
+
+    /// Creates a cursor at the first capsule of a stream's data.
+    pub fn new() -> Self
+        ensures { result ≡ record { due = 0 } }
+    {
+        CapsuleCursor { due: 0 }
+    }
+
+    /// Finds the next capsule of a known kind in the bytes that follow those consumed before. It
+    /// does not allocate.
+    ///
+    /// The bytes are the payloads of DATA frames, joined. Capsules of unknown types are skipped,
+    /// also piece by piece (RFC 9297, section 3.2).
+    ///
+    /// - `Capsule(place)`: the next capsule. The bytes up to `place.end` are consumed.
+    /// - `More(n)`: there is no complete capsule. The first `n` bytes are consumed; at most 1043
+    ///   are left, which have to be given again with more bytes after them.
+    /// - `TooLong`: the value of the next capsule is longer than `CapsuleKind::longest_value`. The
+    ///   cursor does not change.
+    ///
+    /// However the data is cut into pieces, the capsules are the same, and so is the ending.
+    pub fn next(&mut self, bytes: &[u8]) -> CapsuleStep
+        ensures step { StepIs result self.old bytes.now self.new }
+        ensures capsules { CapsulesGoOn result self.old bytes.now self.new }
+    {
+        self.find(bytes)
+    }
+
+    /// Finds the next capsule of a known kind.
+    fn find(&mut self, bytes: &[u8]) -> CapsuleStep
+        ensures { StepIs result self.old bytes.now self.new }
+    {
+        let mut due = self.due;
+        let mut at: usize = 0;
+        'capsules: loop {
+            let left = (bytes.len() - at) as u64;
+            if due > left {
+                self.due = due - left;
+                return CapsuleStep::More(bytes.len());
+            }
+            at += due as usize;
+            match Start::read(bytes.split_at(at).1) {
+                Start::Unknown(head, size) => {
+                    at += head;
+                    due = size;
+                }
+                Start::Value(kind, start, end) => {
+                    self.due = 0;
+                    return CapsuleStep::Capsule(CapsulePlace {
+                        kind,
+                        start: at + start,
+                        end: at + end,
+                    });
+                }
+                Start::TooLong => return CapsuleStep::TooLong,
+                Start::Cut => {
+                    self.due = 0;
+                    return CapsuleStep::More(at);
+                }
+            }
+        }
+    }
+
+    /// Returns an error if the data may not end here, with `rest` left over, because a capsule has
+    /// begun (RFC 9297, section 3.3). The rest are the bytes after the first `n`, after `More(n)`.
+    #[tactic(auto, using(crate::proofs::CapsuleCursorLemmas::endings))]
+    pub fn finish(&self, rest: &[u8]) -> Result<(), CutCapsule>
+        ensures clean { IsOk result ↔ ((self.now.due ≡ 0) × (length rest.now ≡ 0)) }
+        ensures ending { IsLeftOver self.now rest.now
+            → capsules_from self.now rest.now ≡ ends (ending_of result) }
+    {
+        if self.due > 0 {
+            return Err(CutCapsule);
+        }
+        if rest.len() > 0 {
+            return Err(CutCapsule);
+        }
+        Ok(())
+    }
+}
+
+/// What bytes start with.
+#[derive(Clone, Copy)]
+enum Start {
+    /// The type and the length of an unknown capsule, which have this size; the length.
+    Unknown(usize, u64),
+    /// A capsule of this kind; the offset of its value, and that of the byte after it.
+    Value(CapsuleKind, usize, usize),
+    /// The type and the length of a value that is too long.
+    TooLong,
+    /// Fewer bytes than a type, a length, and a value of a known kind.
+    Cut,
+}
+
+impl Start {
+    ghost use Rattle.wtp_wire.specs.CapsuleCursor.{StartIs};
+
+    /// Returns what the bytes start with.
+    fn read(bytes: &[u8]) -> Start
+        ensures { StartIs result bytes.now }
+    {
+        let start = head_size(bytes);
+        match read_head(bytes) {
+            CapsuleHead::Unfinished => Start::Cut,
+            CapsuleHead::TooLong => Start::TooLong,
+            CapsuleHead::Skip(size) => Start::Unknown(start, size),
+            CapsuleHead::Keep(kind, size) => {
+                if size > bytes.len() - start {
+                    return Start::Cut;
+                }
+                Start::Value(kind, start, start + size)
+            }
+        }
+    }
+}
