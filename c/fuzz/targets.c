@@ -110,6 +110,40 @@ static void write_again(const wt_field *some, size_t count, const uint8_t *texts
   }
 }
 
+/* as walk, for capsules */
+static uint64_t walk_capsules(const uint8_t *d, size_t n, size_t step) {
+  wt_capsule_reader reader = {0};
+  uint64_t sum = 0, code = 0;
+  size_t at = 0, have = 0, consumed;
+  wt_capsule capsule;
+  for (;;) {
+    uint8_t *held = malloc(have > 0 ? have : 1);
+    int answer;
+    if (have > 0) memcpy(held, d + at, have);
+    answer = wt_capsule_read(&reader, held, have, &consumed, &capsule, &code);
+    MUST(consumed <= have);
+    note((uint64_t)answer, answer == WT_OK ? capsule.length : reader.due > 0);
+    if (answer == WT_OK) {
+      MUST(capsule.offset + capsule.length == consumed && capsule.length <= 1028);
+      sum = sum * 31 + capsule.type + capsule.length + (capsule.length ? held[capsule.offset] : 0);
+    }
+    free(held);
+    if (answer == WT_FAULT) return sum * 31 + code;
+    at += consumed;
+    have -= consumed;
+    if (answer == WT_MORE) {
+      MUST(have <= 1043);
+      if (at + have == n) return sum * 31 + (uint64_t)wt_capsule_end(&reader, d + at, have, &code);
+      have += step < n - at - have ? step : n - at - have;
+    }
+  }
+}
+
+static void capsules(const uint8_t *d, size_t n) {
+  if (n < 1) return;
+  MUST(walk_capsules(d + 1, n - 1, n) == walk_capsules(d + 1, n - 1, (size_t)d[0] + 1));
+}
+
 /* A request has a fault exactly where it is refused, and the fault has a name. */
 static void request_fault(const uint8_t *d, size_t n) {
   uint8_t out[4096];

@@ -268,6 +268,39 @@ int wt_response_write(uint32_t status, const wt_field *fields, size_t count, con
    599. WT_MEMORY. WT_INVALID: the section has 2^62 bytes. */
 int wt_response_read(const uint8_t *section, size_t length, uint16_t *status, uint64_t *code);
 
+/* ---- Capsules (RFC 9297, section 3.2) ---- */
+
+enum { WT_CAPSULE_CLOSE_SESSION = 0x2843 };
+
+/* All that reading the capsules of a stream remembers between two calls. It begins as {0}; every value
+   is valid. */
+typedef struct wt_capsule_reader {
+  uint64_t due; /* bytes of an unknown capsule's value that are still to be skipped */
+} wt_capsule_reader;
+
+/* A capsule. Its value is in the bytes that were read: `length` bytes from `offset` on. */
+typedef struct wt_capsule {
+  uint64_t type; /* WT_CAPSULE_CLOSE_SESSION */
+  size_t offset;
+  size_t length; /* at most 1028 */
+} wt_capsule;
+
+/* Reads the next capsule from the payloads of the DATA frames of a session's stream, joined: from the
+   bytes after those that were consumed before. Capsules of unknown types are skipped, also piece by
+   piece, whatever their length.
+   WT_OK: *capsule is the next capsule. The next call begins after the first *consumed bytes.
+   WT_MORE: there is no complete capsule. The bytes after the first *consumed, at most 1043, are to be
+   given again, with those of the next payload after them.
+   WT_FAULT: *code is 0x33 for a value above 1028 bytes; *consumed is 0, and the reader stays.
+   However the bytes are cut into payloads and pieces, the capsules and the fault are the same. */
+int wt_capsule_read(wt_capsule_reader *reader, const uint8_t *bytes, size_t length, size_t *consumed,
+                    wt_capsule *capsule, uint64_t *code);
+
+/* Tells what it means that the stream ends here, with these bytes left over after WT_MORE.
+   WT_OK: it may. WT_FAULT: a capsule has begun; *code is 0x10e (RFC 9297, section 3.3). */
+int wt_capsule_end(const wt_capsule_reader *reader, const uint8_t *rest, size_t length,
+                   uint64_t *code);
+
 /* ---- The end of a session (WebTransport over HTTP/3, "Session Termination") ---- */
 
 /* Reads the value of a capsule of type 0x2843, which closes a session.

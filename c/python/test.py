@@ -35,6 +35,14 @@ class Setting(C.Structure):
     _fields_ = [("id", C.c_uint64), ("value", C.c_uint64)]
 
 
+class CapsuleReader(C.Structure):
+    _fields_ = [("due", C.c_uint64)]
+
+
+class Capsule(C.Structure):
+    _fields_ = [("type", C.c_uint64), ("offset", C.c_size_t), ("length", C.c_size_t)]
+
+
 lib = C.CDLL(os.path.join(sys.argv[1], "libwtransport.so"))
 size_ref, u64_ref = C.POINTER(C.c_size_t), C.POINTER(C.c_uint64)
 lib.wt_varint_read.argtypes = [C.c_char_p, C.c_size_t, u64_ref, size_ref]
@@ -43,6 +51,8 @@ lib.wt_datagram_read.argtypes = [C.c_char_p, C.c_size_t, u64_ref, size_ref, u64_
 lib.wt_reader_new.argtypes = [C.c_uint8, C.POINTER(Reader)]
 lib.wt_read_frame.argtypes = [C.POINTER(Reader), C.c_char_p, C.c_size_t, size_ref, C.POINTER(Frame), u64_ref]
 lib.wt_read_end.argtypes = [C.POINTER(Reader), C.c_char_p, C.c_size_t, u64_ref]
+lib.wt_capsule_read.argtypes = [C.POINTER(CapsuleReader), C.c_char_p, C.c_size_t, size_ref, C.POINTER(Capsule), u64_ref]
+lib.wt_capsule_end.argtypes = [C.POINTER(CapsuleReader), C.c_char_p, C.c_size_t, u64_ref]
 lib.wt_settings_read.argtypes = [C.c_char_p, C.c_size_t, C.POINTER(Setting), C.c_size_t, size_ref, u64_ref]
 lib.wt_fields_read.argtypes = [C.c_char_p, C.c_size_t, C.POINTER(Field), C.c_size_t, C.c_char_p, C.c_size_t, size_ref, size_ref, u64_ref]
 
@@ -86,6 +96,26 @@ def frames(kind, data, step):
             at = min(at + step, len(data))
         if found and found[-1][0] == WEBTRANSPORT:
             return found, held + data[at:], None
+
+
+def closes(pieces):
+    """The values of the capsules that close a session, in data that comes in these pieces, and a code."""
+    reader, consumed, capsule, code = CapsuleReader(0), C.c_size_t(), Capsule(), C.c_uint64()
+    found, held, coming = [], b"", iter(pieces)
+    while True:
+        answer = lib.wt_capsule_read(reader, held, len(held), consumed, capsule, code)
+        if answer == FAULT:
+            return found, code.value
+        if answer == OK:
+            found.append(held[capsule.offset :][: capsule.length])
+        held = held[consumed.value :]
+        if answer == MORE:
+            assert len(held) <= 1043
+            piece = next(coming, None)
+            if piece is None:
+                answer = lib.wt_capsule_end(reader, held, len(held), code)
+                return found, code.value if answer == FAULT else None
+            held += piece
 
 
 def lines(section):
@@ -159,6 +189,30 @@ def recorded_stream(name, data, kind, said, index):
     return found, held
 
 
+def cuts(payloads):
+    """The data of these payloads: in these, byte by byte, and cut in two at each place."""
+    data = b"".join(payloads)
+    yield payloads
+    yield [data[at : at + 1] for at in range(len(data))]
+    for at in range(len(data) + 1):
+        yield [data[:at], data[at:]]
+
+
+def recorded_capsules(name, payloads, index):
+    for item in index:
+        if "capsules" not in item:
+            continue
+        is_cut = any(isinstance(it, str) for it in item["capsules"])
+        wanted = [it[1:] for it in item["capsules"] if it[0] == "CLOSE_WEBTRANSPORT_SESSION"]
+        for pieces in cuts(payloads):
+            shows = f"{name}: capsules of {[len(piece) for piece in pieces]}"
+            found, code = closes(pieces)
+            check(f"{shows}: code", code, 0x10E if is_cut else None)
+            check(shows, len(found), len(wanted))
+            for value, (number, reason) in zip(found, wanted):
+                check(shows, (int.from_bytes(value[:4], "big"), is_text(value[4:], reason)), (number, True))
+
+
 def recorded(folder, row):
     name, _, _, _, kind, _, _, said, index = row
     data = open(os.path.join(folder, name), "rb").read()
@@ -185,7 +239,8 @@ def recorded(folder, row):
         found, held, code = frames(BI_REMOTE, data, 1)
         check(name, (found[0][0], found[0][1], len(held), code), (WEBTRANSPORT, index[0]["WEBTRANSPORT"], index[0]["application bytes"], None))
     elif kind.startswith(("session", "request")):
-        recorded_stream(name, data, BI_REMOTE, said, index)
+        found, _ = recorded_stream(name, data, BI_REMOTE, said, index)
+        recorded_capsules(name, [f[2] for f in found if f[0] == DATA], index)
     elif kind.startswith("response"):
         recorded_stream(name, data, BI_LOCAL, said, index)
 

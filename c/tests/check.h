@@ -31,5 +31,6 @@ void test_fields(void);
 void test_reader(void);
 void test_sessions(void);
 void test_request_faults(void);
+void test_capsules(void);
 void test_closes(void);
 #endif

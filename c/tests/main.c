@@ -23,6 +23,7 @@ int main(void) {
   test_reader();
   test_sessions();
   test_request_faults();
+  test_capsules();
   test_closes();
   printf("%lu passed, %lu failed\n", passed, failed);
   return failed > 0;
