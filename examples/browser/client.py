@@ -4,17 +4,31 @@ It takes nothing from the C library: its frames and field lines are written here
 aioquic's QUIC, and reads no more of HTTP/3 than where a frame ends.
 """
 import asyncio
+import json
 import ssl
+import time
+import urllib.request
 from collections import Counter
 
 from aioquic.asyncio import QuicConnectionProtocol, connect
 from aioquic.quic import events
 from aioquic.quic.configuration import QuicConfiguration
 
-# The line `:status: 200` (RFC 9204, section 4.5 and appendix A): indexed, or with the name of entry 24
-# and the value in plain text or in the Huffman code.
+# The line `:status: 200` (RFC 9204, section 4.5 and appendix A): indexed, or with the name of entry
+# 24 and the value in plain text or in the Huffman code.
 STATUS_200 = (b"\xd9", b"\x5f\x09\x03200", b"\x5f\x09\x82\x10\x01")
 PATIENCE = 10  # seconds
+
+
+def ask(port, path, data=None):
+    """Asks the server by plain HTTP; `data` is posted."""
+    with urllib.request.urlopen(f"http://127.0.0.1:{port + 1}{path}", data, timeout=10) as answer:
+        return answer.read()
+
+
+def log_of(port):
+    """What the server saw so far."""
+    return json.loads(ask(port, "/log"))
 
 
 def number(value):
@@ -66,8 +80,18 @@ def close_capsule(code, reason=b""):
     return frame(0x00, number(0x2843) + number(len(value)) + value)
 
 
-# A control stream: ENABLE_CONNECT_PROTOCOL, H3_DATAGRAM and ENABLE_WEBTRANSPORT of draft 02, each 1.
+# A control stream: ENABLE_CONNECT_PROTOCOL, H3_DATAGRAM, ENABLE_WEBTRANSPORT of draft 02, each 1.
 SETTINGS = b"\x00" + frame(0x04, b"\x08\x01\x33\x01" + number(0x2B603742) + b"\x01")
+
+
+def settle(port):
+    """Waits until the server holds nothing of a connection: a close takes it some round trips, and
+    it forgets a client that does not close after a minute. Returns what it saw."""
+    deadline, log = time.monotonic() + 70, log_of(port)
+    while log["sessions"] + log["readers"] and time.monotonic() < deadline:
+        time.sleep(0.2)
+        log = log_of(port)
+    return log
 
 
 class Incoming:

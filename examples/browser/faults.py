@@ -1,15 +1,16 @@
 """Peers with faults: what each sends, and the code by which the server has to answer.
 
-The codes are those that RFC 9114, RFC 9204, RFC 9297 and draft-ietf-webtrans-http3-02 name. Where the
-fault is one of frames alone, the same bytes are given to the program wt_frames, which names the code
-too: with its arguments in `listing`.
+The codes are those that RFC 9114, RFC 9204, RFC 9297 and draft-ietf-webtrans-http3-02 name. Where
+the fault is one of frames alone, the same bytes are given to the program wt_frames, which names the
+code too: with its arguments in `listing`.
 """
 import subprocess
 from dataclasses import dataclass
 
 from client import SETTINGS, client_of, frame, number, section, session_lines, session_request
 
-BI, UNI, CONTROL, SESSION, DATAGRAM = "bidirectional", "unidirectional", "control", "session", "datagram"
+BI, UNI, CONTROL = "bidirectional", "unidirectional", "control"
+SESSION, DATAGRAM = "session", "datagram"
 REQUEST = session_request(b"/echo")
 
 
@@ -50,7 +51,9 @@ ROWS = [
     Row("DATA before HEADERS", BI, frame(0x00, b"x"), 0x105),
     Row("SETTINGS in a session", SESSION, settings(), 0x105, REMOTE),
     Row("a WebTransport frame in a session", SESSION, number(0x41) + b"\x00", 0x106, REMOTE),
-    Row("a payload above the limit", BI, number(0x01) + number(5000), 0x107, REMOTE),
+    Row("a request above 4096 bytes", BI, number(0x01) + number(4097), 0x107, REMOTE),
+    Row("settings above 4096 bytes", CONTROL, number(0x04) + number(4097), 0x107, CONTROLLED),
+    Row("DATA above 4096 bytes", SESSION, number(0x00) + number(4097), 0x107, REMOTE),
     Row("a frame that is cut by the end", BI, b"\x01\x28\x00\x00\x50", 0x106, ENDED, end=True),
     Row("a DATA frame that is cut", SESSION, b"\x00\x05a", 0x106, ENDED, end=True),
     Row("a session ID of a server's stream", BI, number(0x41) + b"\x01", 0x108, REMOTE),
@@ -60,9 +63,14 @@ ROWS = [
     Row("a request without a path", BI, without(b":path"), 0x10E, ends_stream=True),
     Row("a request without a scheme", BI, without(b":scheme"), 0x10E, ends_stream=True),
     Row("a stream that ends before its request", BI, b"", 0x10D, end=True, ends_stream=True),
-    Row("a close capsule of 3 bytes", SESSION, frame(0x00, b"\x68\x43\x03abc"), 0x33, ends_stream=True),
+    Row("a close capsule of 3 bytes", SESSION, frame(0x00, b"\x68\x43\x03abc"), 0x33,
+        ends_stream=True),
+    Row("a close capsule of 1029 bytes", SESSION, frame(0x00, b"\x68\x43\x44\x05"), 0x33,
+        ends_stream=True),
     Row("DATA after the close capsule", SESSION,
         frame(0x00, b"\x68\x43\x04\0\0\0\0") + frame(0x00, b"x"), 0x10E, ends_stream=True),
+    Row("a stream before its session, of 4112 bytes", BI,
+        number(0x41) + number(400) + bytes(4112), 0x3994BD84, ends_stream=True),
     Row("an unknown type of stream", UNI, number(0x1F) + b"x", 0x103, ends_stream=True),
     Row("a stream of a session that is over", SESSION,
         frame(0x00, b"\x68\x43\x04\0\0\0\0"), 0x170D7B68, ends_stream=True),

@@ -23,9 +23,9 @@ def is_reserved(number):
 
 
 class Sender(quic_stream.QuicStreamSender):
-    """aioquic's sending part of a stream, with two changes. It is reset when the peer stops it, before
-    that is reported: what is written from then on is dropped, and a second reset changes nothing. An
-    end without bytes waits for a packet with room, where aioquic 1.2 forgets it."""
+    """aioquic's sending part of a stream, with two changes. It is reset when the peer stops it,
+    before that is reported: what is written from then on is dropped, and a second reset changes
+    nothing. An end without bytes waits for a packet with room, where aioquic 1.2 forgets it."""
 
     def get_frame(self, max_size, max_offset=None):
         return super().get_frame(max_size, max_offset) if max_size >= 0 else None
@@ -65,6 +65,10 @@ class Application:
 class Ignored:
     """A stream whose bytes are dropped."""
 
+    def held(self):
+        """How many bytes of the stream wait for more."""
+        return 0
+
     def receive(self, data, end): ...
     def was_reset(self, code): ...
 
@@ -102,6 +106,9 @@ class Stream:
             self.connection.readers[self.id] = Ignored()
         self._reset(number)
         self._forget()
+
+    def held(self):
+        return len(self.early)
 
     def _reset(self, number):
         if self.can_send:
@@ -188,6 +195,9 @@ class UniStream:
     def __init__(self, connection, number):
         self.connection, self.id, self.rest = connection, number, b""
 
+    def held(self):
+        return len(self.rest)
+
     def receive(self, data, end):
         self.rest += data
         try:
@@ -217,6 +227,9 @@ class CriticalStream:
     def __init__(self, connection, kind):
         self.connection, self.kind = connection, kind
         self.frames, self.settings = FrameReader(wt.CONTROL), None
+
+    def held(self):
+        return len(self.frames.rest)
 
     def receive(self, data, end):
         if self.kind == wt.STREAM_CONTROL:
@@ -250,6 +263,9 @@ class BiStream:
         self.connection, self.id = connection, number
         self.frames, self.capsules = FrameReader(wt.BI_REMOTE), wt.CapsuleReader()
         self.fields = self.session = None
+
+    def held(self):
+        return len(self.frames.rest) + len(self.capsules.rest)
 
     def receive(self, data, end):
         for kind, session, payload in self.frames.read(data):
@@ -343,6 +359,11 @@ class Connection:
         head = wt.write_stream_header(wt.STREAM_CONTROL) + wt.write_settings(SETTINGS)
         self.quic.send_stream_data(number, head + wt.write_frame(0x21, b"grease"))
 
+    def held(self):
+        """How many bytes wait for more, of the stream of which most do."""
+        waiting = [stream for _, stream in self.waiting]
+        return max((reader.held() for reader in [*self.readers.values(), *waiting]), default=0)
+
     def handle(self, event):
         if self.is_closed:
             return
@@ -401,7 +422,8 @@ class Connection:
         self.waiting = [entry for entry in self.waiting if entry[0] != session.id]
         for stream in early:
             stream.session, session.streams[stream.id] = session, stream
-            stream.receive(stream.early, stream.early_end)
+            early, stream.early = stream.early, b""
+            stream.receive(early, stream.early_end)
 
     def _reader(self, number):
         if number not in self.readers:

@@ -2,7 +2,7 @@
 import asyncio
 import time
 
-from client import client_of, close_capsule, number
+from client import ask, client_of, close_capsule, log_of, number, settle
 
 CONNECTIONS, SESSIONS, STREAMS = 10, 100, 10  # sessions on each connection, streams in each session
 AT_ONCE = 10  # sessions at the same time
@@ -39,13 +39,20 @@ async def use_session(client, name):
 
 
 async def run(port, pid):
-    """Runs all; returns the counts, the memory after each connection in KiB, and the seconds."""
-    sums, memory, began = [0] * 4, [], time.monotonic()
+    """Runs all; returns the counts, the seconds, and for each connection: the sessions, streams and
+    readers that the server has when all sessions are closed, and its memory in KiB and the bytes of
+    its heap when the connection is."""
+    settle(port)
+    sums, left, memory, heap, began = [0] * 4, [], [], [], time.monotonic()
     for c in range(CONNECTIONS):
         async with client_of(port) as client:
             for s in range(0, SESSIONS, AT_ONCE):
                 names = [f"connection {c} session {s + i}" for i in range(AT_ONCE)]
                 done = await asyncio.gather(*(use_session(client, name) for name in names))
                 sums = [sum(column) for column in zip(sums, *done)]
+            log = log_of(port)
+            left.append([log["sessions"], log["streams"], log["readers"]])
+        settle(port)
         memory.append(resident(pid))
-    return *sums, memory, time.monotonic() - began
+        heap.append(int(ask(port, "/heap")))
+    return *sums, time.monotonic() - began, left, memory, heap

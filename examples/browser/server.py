@@ -7,11 +7,13 @@ server ends after SECONDS, or when it is told to (SIGTERM). Sessions, by the pat
 
     /echo          each stream and datagram comes back; a reset comes back with its code
     /commands      'reset N', 'stop N' on a stream, 'close N TEXT' end the stream or the session
-    /push          the server opens streams of SIZES both ways and one way; when those both ways have
-                   come back, it sends a datagram
+    /push          the server opens streams of SIZES both ways and one way; when those both ways
+                   have come back, it sends a datagram
+    /push?empty    the same with streams of no bytes
     /deny/403, /deny/404, and all others: the request is denied
 """
 import asyncio
+import ctypes
 import functools
 import gc
 import json
@@ -28,7 +30,23 @@ import http3
 from wtransport import FrameReader
 
 HERE = os.path.dirname(os.path.abspath(__file__))
-SIZES = (0, 1, 4096, 100_000)
+SIZES = (1, 4096, 100_000)
+
+
+class MallInfo(ctypes.Structure):
+    """What glibc says of its heap (mallinfo2)."""
+    _fields_ = [(name, ctypes.c_size_t) for name in (
+        "arena", "ordblks", "smblks", "hblks", "hblkhd", "usmblks", "fsmblks", "uordblks",
+        "fordblks", "keepcost")]
+
+
+def heap():
+    """The bytes that the process has from malloc: all of Python's too with PYTHONMALLOC=malloc."""
+    gc.collect()
+    libc = ctypes.CDLL(None)
+    libc.mallinfo2.restype = MallInfo
+    info = libc.mallinfo2()
+    return info.uordblks + info.hblkhd
 
 
 def pattern(size):
@@ -40,6 +58,10 @@ class Log:
     """What the server saw, for a test: rows of sessions, and for those of a load only counts."""
 
     def __init__(self):
+        self.clear()
+
+    def clear(self):
+        """Begins anew, for another browser."""
         self.rows, self.counts = deque(maxlen=4096), Counter()
         self.page_rows, self.is_done = deque(maxlen=256), False
 
@@ -56,6 +78,7 @@ class Log:
             "counts": self.counts,
             "page": list(self.page_rows),
             "done": self.is_done,
+            "held": max((c.held() for c in live), default=0),
             "undecided": FrameReader.most_undecided,
             "sessions": sum(len(c.sessions) for c in live),
             "readers": sum(len(c.readers) for c in live),
@@ -66,7 +89,8 @@ class Log:
 class Pages:
     """The files of this folder that a browser may have."""
 
-    files = {"/": ("page.html",), "/test": ("test.html",), "/picture": ("page.html", "picture.html")}
+    files = {"/": ("page.html",), "/test": ("test.html",),
+             "/picture": ("page.html", "picture.html")}
 
     def __init__(self, port, digest):
         self.port, self.digest = port, digest
@@ -107,7 +131,7 @@ class Site(http3.Application):
     def opened(self, session):
         self.log.add(session, "opened", session.connection.serial)
         if session.command == "/push":
-            for size in SIZES:
+            for size in SIZES if session.path == "/push" else (0,):
                 stream = session.open_stream(bidirectional=True)
                 self.pushed[stream] = [pattern(size), b""]
                 stream.send(pattern(size), True)
@@ -198,8 +222,12 @@ def respond(method, path, body, log, live, pages):
     if method == "POST":
         if path == "/say":
             log.page_rows.append(json.loads(body))
+        elif path == "/clear":
+            log.clear()
         log.is_done = log.is_done or path == "/done"
         return "text/plain", b""
+    if path == "/heap":
+        return "text/plain", str(heap()).encode()
     if path == "/log":
         return "application/json", json.dumps(log.summary(live)).encode()
     page = pages.get(path)
@@ -215,7 +243,8 @@ async def exchange(reader, writer, log, live, pages):
         return
     lines = head.decode("latin-1").split("\r\n")
     method, path, _ = lines[0].split(" ")
-    lengths = [int(line.split(":")[1]) for line in lines if line.lower().startswith("content-length:")]
+    lengths = [int(line.split(":")[1]) for line in lines
+               if line.lower().startswith("content-length:")]
     body = await reader.readexactly(lengths[0]) if lengths else b""
     if path == "/late":  # what a picture waits for
         await asyncio.sleep(4)

@@ -10,7 +10,6 @@ OK, MORE, FAULT, ROOM, INVALID, MEMORY = 0, 1, -1, -2, -3, -4
 STREAM_CONTROL, STREAM_ENCODER, STREAM_DECODER, STREAM_WEBTRANSPORT = 0x00, 0x02, 0x03, 0x54
 BI_REMOTE, CONTROL = 0, 2
 DATA, HEADERS, SETTINGS, WEBTRANSPORT = 0x00, 0x01, 0x04, 0x41
-CAPSULE_CLOSE = 0x2843
 SCOPE_STREAM = 0
 # RFC 9114, section 8.1; RFC 9204, section 6; WebTransport over HTTP/3
 NO_ERROR, STREAM_CREATION_ERROR, CLOSED_CRITICAL_STREAM = 0x100, 0x103, 0x104
@@ -34,6 +33,14 @@ class _Frame(C.Structure):
                 ("length", C.c_size_t)]
 
 
+class _CapsuleReader(C.Structure):
+    _fields_ = [("due", C.c_uint64)]
+
+
+class _Capsule(C.Structure):
+    _fields_ = [("type", C.c_uint64), ("offset", C.c_size_t), ("length", C.c_size_t)]
+
+
 class _Field(C.Structure):
     _fields_ = [("name_offset", C.c_size_t), ("name_length", C.c_size_t),
                 ("value_offset", C.c_size_t), ("value_length", C.c_size_t)]
@@ -48,8 +55,6 @@ _SIZE_REF, _U64_REF, _U32_REF = C.POINTER(_SIZE), C.POINTER(_U64), C.POINTER(C.c
 _IN, _OUT = [_BYTES, _SIZE], [_BYTES, _SIZE, _SIZE_REF]
 _FIELDS, _SETTINGS = [C.POINTER(_Field), _SIZE], [C.POINTER(_Setting), _SIZE]
 _ARGUMENTS = {
-    "wt_varint_read": _IN + [_U64_REF, _SIZE_REF],
-    "wt_varint_write": [_U64] + _OUT,
     "wt_stream_header_read": _IN + [_SIZE_REF, C.POINTER(_Header), _U64_REF],
     "wt_stream_header_write": [C.POINTER(_Header)] + _OUT,
     "wt_datagram_read": _IN + [_U64_REF, _SIZE_REF, _U64_REF],
@@ -64,6 +69,9 @@ _ARGUMENTS = {
     "wt_fields_read": _IN + _FIELDS + [_BYTES, _SIZE, _SIZE_REF, _SIZE_REF, _U64_REF],
     "wt_request_read": _IN + [_BYTES, _SIZE, _SIZE_REF, _SIZE_REF, _U64_REF],
     "wt_response_write": [C.c_uint32] + _FIELDS + _IN + _OUT,
+    "wt_capsule_read": [C.POINTER(_CapsuleReader)] + _IN + [
+        _SIZE_REF, C.POINTER(_Capsule), _U64_REF],
+    "wt_capsule_end": [C.POINTER(_CapsuleReader)] + _IN + [_U64_REF],
     "wt_close_read": _IN + [_U32_REF, _U64_REF],
     "wt_close_write": [C.c_uint32] + _IN + _OUT,
     "wt_code_name": [_U64] + _OUT,
@@ -145,15 +153,8 @@ def to_application(number):
 
 # ---- Stream headers, datagrams, settings ----
 
-def read_number(data):
-    """The number at the start of the bytes and its size, or None if there are too few."""
-    value, consumed = _U64(), _SIZE()
-    answer = _lib.wt_varint_read(data, len(data), value, consumed)
-    return None if answer == MORE else (value.value, consumed.value)
-
-
 def read_stream_header(data):
-    """(type, session, size) of a unidirectional stream's header, or None if there are too few bytes."""
+    """(type, session, size) of a unidirectional stream's header, or None without enough bytes."""
     consumed, header, code = _SIZE(), _Header(), _U64()
     answer = _lib.wt_stream_header_read(data, len(data), consumed, header, code)
     if _accept(answer, code) == MORE:
@@ -275,7 +276,8 @@ class FrameReader:
         consumed, frame, code = _SIZE(), _Frame(), _U64()
         self.rest += data
         while True:
-            answer = _lib.wt_read_frame(self._state, self.rest, len(self.rest), consumed, frame, code)
+            answer = _lib.wt_read_frame(self._state, self.rest, len(self.rest), consumed, frame,
+                                        code)
             _accept(answer, code)
             payload = self.rest[frame.offset :][: frame.length] if answer == OK else b""
             self.rest = self.rest[consumed.value :]
@@ -291,33 +293,30 @@ class FrameReader:
 
 
 class CapsuleReader:
-    """Reads the capsules in the payloads of a session's DATA frames, joined, however they are cut."""
+    """Reads the capsules in the joined payloads of a session's DATA frames, cut anywhere."""
 
     def __init__(self):
-        self.rest, self.due, self.unknown = b"", 0, 0
+        self.rest, self.unknown = b"", 0
+        self._state = _CapsuleReader()
 
     def read(self, data):
-        """Yields the value of each close capsule. Others are skipped, whatever their length."""
+        """Yields the value of each close capsule. Others are skipped, whatever their length;
+        `unknown` counts the reads that end after one was skipped."""
+        consumed, capsule, code = _SIZE(), _Capsule(), _U64()
         self.rest += data
         while True:
-            skipped = min(self.due, len(self.rest))
-            self.rest, self.due = self.rest[skipped:], self.due - skipped
-            kind = read_number(self.rest)
-            size = kind and read_number(self.rest[kind[1] :])
-            if not size:
+            due = self._state.due
+            answer = _lib.wt_capsule_read(self._state, self.rest, len(self.rest), consumed, capsule,
+                                          code)
+            _accept(answer, code)
+            self.unknown += answer == MORE and consumed.value > due
+            value = self.rest[capsule.offset :][: capsule.length] if answer == OK else b""
+            self.rest = self.rest[consumed.value :]
+            if answer == MORE:
                 return
-            start, length = kind[1] + size[1], size[0]
-            if kind[0] != CAPSULE_CLOSE:
-                self.rest, self.due, self.unknown = self.rest[start:], length, self.unknown + 1
-            elif length > 1028:
-                raise Fault(0x33, everything=False)
-            elif len(self.rest) < start + length:
-                return
-            else:
-                yield self.rest[start : start + length]
-                self.rest = self.rest[start + length :]
+            yield value
 
     def end(self):
         """Raises a fault if a capsule has begun (RFC 9297, section 3.3)."""
-        if self.rest or self.due:
-            raise Fault(MESSAGE_ERROR)
+        code = _U64()
+        _accept(_lib.wt_capsule_end(self._state, self.rest, len(self.rest), code), code)
