@@ -3,6 +3,8 @@
 #![tactic(auto)]
 
 #[cfg(test)]
+mod inspections;
+#[cfg(test)]
 mod listings;
 #[cfg(test)]
 mod programs;

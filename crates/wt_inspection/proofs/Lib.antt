@@ -1,0 +1,9 @@
+pub mod TilesLemmas
+pub mod SectionLemmas
+pub mod SettingLemmas
+pub mod PairLemmas
+pub mod RecordingLemmas
+pub mod CleanLemmas
+pub mod ItemFrameLemmas
+pub mod ItemStopLemmas
+pub mod CapsuleLemmas

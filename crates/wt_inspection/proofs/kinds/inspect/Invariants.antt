@@ -1,0 +1,12 @@
+use Rattle.std.proofs.Common.{length, drop, Ok}
+use Rattle.wt_inspection.specs.Tiles.{IsTiling}
+use Rattle.wt_inspection.specs.Recording.{Reads, start_of}
+use Rattle.wt_inspection.proofs.kinds.inspect.Given as goal
+
+abbrev pub invariant-items : goal.invariant-items
+invariant-items l =
+    IsTiling l.bytes l.tiling
+    × Reads (Ok (start_of l.fn.kind)) l.bytes l.tiling.items.items l.state (drop l.tiling.at l.bytes)
+
+abbrev pub decreases-items : goal.decreases-items
+decreases-items l = length (drop l.tiling.at l.bytes)

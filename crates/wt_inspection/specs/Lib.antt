@@ -1,0 +1,11 @@
+pub mod SettingLines
+pub mod Sections
+pub mod Heads
+pub mod Pair
+pub mod Tiles
+pub mod Names
+pub mod Recording
+pub mod Turns
+pub mod Escaped
+pub mod Html
+pub mod ItemFrames

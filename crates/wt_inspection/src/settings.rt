@@ -1,0 +1,108 @@
+//! Settings (RFC 9114, section 7.2.4).
+ghost use Rattle.std.specs.Prelude.{◌≡◌, ◌<◌, ◌^◌, length, Ok, IfOk};
+ghost use Rattle.wtransport_proto.specs.Settings.{AnswersSettings, settings_in};
+ghost use Rattle.wt_inspection.specs.Recording.{AfterSettings, HasFault};
+ghost use Rattle.wt_inspection.specs.SettingLines.{AreSettings};
+
+use crate::item::{End, SettingFlag, SettingLine};
+use crate::numbers::{Pair, first_pair};
+use crate::reading::{Next, fault};
+use std::alloc::{AllocError, Global};
+use std::borrow::CowSlice;
+use std::collections::BTreeMap;
+use wtransport_proto::error::{ErrorCode, Refused};
+use wtransport_proto::frame::Frame;
+use wtransport_proto::settings::Settings;
+
+/// Returns the settings of a payload in their order, up to one that is cut.
+pub(crate) fn read_settings(alloc: Global, bytes: &[u8]) -> Result<Vec<SettingLine>, AllocError>
+    ensures { IfOk result (λ lines. AreSettings bytes.now lines.items) }
+{
+    let mut lines = Vec::new(alloc);
+    let mut seen = BTreeMap::new(alloc);
+    let mut rest = bytes;
+    'settings: loop {
+        let Some(pair) = first_pair(rest) else {
+            return Ok(lines);
+        };
+        let (alone, others) = rest.split_at(pair.size);
+        let repeated = seen.insert(pair.number.into_inner(), ())?.is_some();
+        let line = line_of(alloc, pair, alone, repeated)?;
+        lines.push(line)?;
+        rest = others;
+    }
+}
+
+/// Returns the line of a setting, which these bytes are.
+fn line_of(
+    alloc: Global,
+    pair: Pair,
+    alone: &[u8],
+    repeated: bool,
+) -> Result<SettingLine, AllocError>
+    ensures id { IfOk result (λ line. line.id ≡ pair.number) }
+    ensures value { IfOk result (λ line. line.value ≡ pair.second) }
+{
+    // An identifier that is refused in settings without any other is a reserved one.
+    let flag = if refusal(alloc, alone)?.is_some() {
+        Some(SettingFlag::Reserved)
+    } else if repeated {
+        Some(SettingFlag::Repeated)
+    } else {
+        None
+    };
+    Ok(SettingLine {
+        id: pair.number.into_inner(),
+        value: pair.second.into_inner(),
+        flag,
+    })
+}
+
+/// Returns what follows settings: these bytes, or the end of the reading if they have a fault.
+#[tactic(auto, using(crate::proofs::SettingLemmas::settings_go_on, crate::proofs::SettingLemmas::settings_stop))]
+pub(crate) fn settings_then(
+    at: usize,
+    alloc: Global,
+    bytes: &[u8],
+    next: Next,
+) -> Result<Result<Next, End>, AllocError>
+    ensures { IfOk result (λ after. length bytes.now < 2 ^ 62
+        → AfterSettings (settings_in bytes.now) (Ok next) after) }
+{
+    match refusal(alloc, bytes)? {
+        None => Ok(Ok(next)),
+        Some(code) => Ok(Err(fault(at, code, sentence(code)))),
+    }
+}
+
+/// Returns why settings are refused with this code.
+fn sentence(code: ErrorCode) -> &'static str {
+    match code {
+        ErrorCode::Frame => "the payload ends within a setting (RFC 9114, section 7.1)",
+        _ => "an identifier is reserved or repeated (RFC 9114, section 7.2.4)",
+    }
+}
+
+/// Returns the first fault of a payload.
+#[tactic(auto, using(crate::proofs::SettingLemmas::settings_good, crate::proofs::SettingLemmas::settings_bad))]
+fn refusal(alloc: Global, bytes: &[u8]) -> Result<Option<ErrorCode>, AllocError>
+    ensures { IfOk result (λ found. length bytes.now < 2 ^ 62
+        → HasFault (settings_in bytes.now) found) }
+{
+    if bytes.len() >= 1 << 62 {
+        return Ok(Some(ErrorCode::ExcessiveLoad));
+    }
+    match settings_of(alloc, bytes) {
+        Ok(_) => Ok(None),
+        Err(Refused::Code(code)) => Ok(Some(code)),
+        Err(Refused::Memory) => Err(AllocError),
+    }
+}
+
+/// Reads a payload.
+fn settings_of(alloc: Global, bytes: &[u8]) -> Result<Settings, Refused>
+    requires { length bytes.now < 2 ^ 62 }
+    ensures { AnswersSettings bytes.now result }
+{
+    Settings::with_frame(alloc, &Frame::new_settings(CowSlice::Borrowed(bytes)))
+}
