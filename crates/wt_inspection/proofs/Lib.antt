@@ -7,3 +7,4 @@ pub mod CleanLemmas
 pub mod ItemFrameLemmas
 pub mod ItemStopLemmas
 pub mod CapsuleLemmas
+pub mod FlagLemmas

@@ -83,11 +83,11 @@ same_number bytes mid other a b e f =
 
 -- a head with a session ID is the head of a unidirectional stream whose type has one
 pub head_session : (bytes mid : List ℕ) (len number : ℕ) (content : Content) (after : Then) → number_at bytes ≡ Some (number, mid) → has_session (stream_kind_of number) ≡ true → IsSessionHead bytes len content after → IsNext next-is.Head bytes len content after
-head_session bytes mid len number (content-is.Stream head) after e k ((id, p, m, s), a) =
+head_session bytes mid len number (content-is.Stream head) after e k ((id, p, m, s, named), a) =
     let n = pair_numbers bytes (drop len bytes) head.number id p in
     let same : head.number ≡ number = same_number bytes n.mid mid head.number number n.first e in
     let kind : has_session (stream_kind_of head.number) ≡ true = rw same k in
-    (rw kind (id, p, m, s), a ∙ ap (λ (x : Next). Ok x) (sym (payload_after (stream_kind_of head.number) kind)))
+    (rw kind (id, p, m, s, named), a ∙ ap (λ (x : Next). Ok x) (sym (payload_after (stream_kind_of head.number) kind)))
 head_session bytes mid len number content-is.Unread after e k (all, none) = (all, rw e (k, none))
 head_session bytes mid len number content-is.Payload after e k none = absurd none
 head_session bytes mid len number (content-is.Frame f) after e k none = absurd none

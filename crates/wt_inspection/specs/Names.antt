@@ -1,7 +1,12 @@
--- The names of frame types (RFC 9114, section 7.2; RFC 9218, section 7.2).
+-- The names of frame types (RFC 9114, section 7.2; RFC 9218, section 7.2) and of stream types (RFC
+-- 9114, section 6.2).
 use Rattle.std.specs.Prelude.{ℕ, Bool, ◌||◌, ◌==◌, if◌then◌else◌, Option, Some, None}
 use Rattle.wtransport_proto.specs.Kind.{kind_of}
 use Rattle.wtp_wire.specs.declared.frame.kind.FrameKind.{FrameKind}
+use Rattle.wtransport_proto.specs.StreamKind.{stream_kind_of}
+use Rattle.wtp_wire.specs.declared.stream_header.StreamKind.{StreamKind}
+use Rattle.wt_inspection.specs.declared.item.names.StreamName.{StreamName}
+use Rattle.wt_inspection.specs.declared.item.names.StreamName.TheVariants as stream-name-is
 use Rattle.wt_inspection.specs.declared.item.names.FrameName.{FrameName}
 use Rattle.wt_inspection.specs.declared.item.names.FrameName.TheVariants.{Read, CancelPush, PushPromise, Goaway, MaxPushId, PriorityUpdate, Http2, Unknown}
 
@@ -31,3 +36,11 @@ named None n = other_name n
 -- the name of a type
 unfoldable pub frame_name_of : ℕ → FrameName
 frame_name_of n = named (kind_of n) n
+
+abbrev pub stream_named : Option StreamKind → ℕ → StreamName
+stream_named (Some kind) n = stream-name-is.Read kind
+stream_named None n = if n == 0x01 then stream-name-is.Push else stream-name-is.Unknown
+
+-- the name of the type of a unidirectional stream
+unfoldable pub stream_name_of : ℕ → StreamName
+stream_name_of n = stream_named (stream_kind_of n) n

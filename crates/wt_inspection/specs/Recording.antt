@@ -39,7 +39,7 @@ use Rattle.wt_inspection.specs.declared.reading.Next.TheVariants as next-is
 use Rattle.wt_inspection.specs.declared.reading.Recorded.{Recorded}
 use Rattle.wt_inspection.specs.declared.reading.Recorded.TheVariants as recorded-is
 use Rattle.wt_inspection.specs.Heads.{IsSessionItem, IsDatagramItem}
-use Rattle.wt_inspection.specs.Names.{frame_name_of}
+use Rattle.wt_inspection.specs.Names.{frame_name_of, stream_name_of}
 use Rattle.wt_inspection.specs.Pair.{pair_at}
 use Rattle.wt_inspection.specs.Sections.{IsSection}
 use Rattle.wt_inspection.specs.SettingLines.{AreSettings}
@@ -161,9 +161,10 @@ has_session other = false
 abbrev pub IsHead : Bool → List ℕ → ℕ → StreamHead → Type 0
 IsHead true bytes len head =
     (id : ℕ) × (pair_at bytes ≡ Some (head.number, id, drop len bytes)) × (id % 4 ≡ 0)
-    × (head.session ≡ Some id)
+    × (head.session ≡ Some id) × (head.name ≡ stream_name_of head.number)
 IsHead false bytes len head =
     (number_at bytes ≡ Some (head.number, drop len bytes)) × (head.session ≡ None)
+    × (head.name ≡ stream_name_of head.number)
 
 -- no session ID can be read from these two numbers, or from too few bytes
 abbrev pub IsNoSession : Option (ℕ × ℕ × List ℕ) → Then → Type 0

@@ -1,61 +1,65 @@
 //! Settings (RFC 9114, section 7.2.4).
-ghost use Rattle.std.specs.Prelude.{◌≡◌, ◌<◌, ◌^◌, length, Ok, IfOk};
+ghost use Rattle.std.specs.Prelude.{◌≡◌, ◌<◌, ◌^◌, length, not, Ok, IfOk};
+ghost use Rattle.wtransport_proto.specs.SettingId.{is_reserved};
 ghost use Rattle.wtransport_proto.specs.Settings.{AnswersSettings, settings_in};
 ghost use Rattle.wt_inspection.specs.Recording.{AfterSettings, HasFault};
-ghost use Rattle.wt_inspection.specs.SettingLines.{AreSettings};
+ghost use Rattle.wt_inspection.specs.SettingLines.{AreSettings, flag_of};
 
 use crate::item::{End, SettingFlag, SettingLine};
 use crate::numbers::{Pair, first_pair};
 use crate::reading::{Next, fault};
 use std::alloc::{AllocError, Global};
 use std::borrow::CowSlice;
-use std::collections::BTreeMap;
+use std::collections::BTreeSet;
 use wtransport_proto::error::{ErrorCode, Refused};
 use wtransport_proto::frame::Frame;
 use wtransport_proto::settings::Settings;
+use wtransport_proto::varint::VarInt;
 
 /// Returns the settings of a payload in their order, up to one that is cut.
 pub(crate) fn read_settings(alloc: Global, bytes: &[u8]) -> Result<Vec<SettingLine>, AllocError>
     ensures { IfOk result (λ lines. AreSettings bytes.now lines.items) }
 {
     let mut lines = Vec::new(alloc);
-    let mut seen = BTreeMap::new(alloc);
+    let mut seen = BTreeSet::new(alloc);
     let mut rest = bytes;
     'settings: loop {
         let Some(pair) = first_pair(rest) else {
             return Ok(lines);
         };
-        let (alone, others) = rest.split_at(pair.size);
-        let repeated = seen.insert(pair.number.into_inner(), ())?.is_some();
-        let line = line_of(alloc, pair, alone, repeated)?;
-        lines.push(line)?;
+        let (_, others) = rest.split_at(pair.size);
+        let is_new = seen.insert(pair.number.into_inner())?;
+        lines.push(line_of(pair, is_new))?;
         rest = others;
     }
 }
 
-/// Returns the line of a setting, which these bytes are.
-fn line_of(
-    alloc: Global,
-    pair: Pair,
-    alone: &[u8],
-    repeated: bool,
-) -> Result<SettingLine, AllocError>
-    ensures id { IfOk result (λ line. line.id ≡ pair.number) }
-    ensures value { IfOk result (λ line. line.value ≡ pair.second) }
+/// Returns the line of a setting, whose identifier is new if no earlier one has it.
+fn line_of(pair: Pair, is_new: bool) -> SettingLine
+    ensures id { result.id ≡ pair.number }
+    ensures value { result.value ≡ pair.second }
+    ensures flag { result.flag ≡ flag_of (is_reserved pair.number) (not is_new) }
 {
-    // An identifier that is refused in settings without any other is a reserved one.
-    let flag = if refusal(alloc, alone)?.is_some() {
+    let flag = if is_reserved(pair.number) {
         Some(SettingFlag::Reserved)
-    } else if repeated {
-        Some(SettingFlag::Repeated)
-    } else {
+    } else if is_new {
         None
+    } else {
+        Some(SettingFlag::Repeated)
     };
-    Ok(SettingLine {
+    SettingLine {
         id: pair.number.into_inner(),
         value: pair.second.into_inner(),
         flag,
-    })
+    }
+}
+
+/// Returns whether an identifier is one of HTTP/2 that must not be sent (RFC 9114, section
+/// 7.2.4.1).
+fn is_reserved(id: VarInt) -> bool
+    ensures { result ≡ is_reserved id }
+{
+    matches!(id.into_inner(), 0x00 | 0x02..=0x05)
 }
 
 /// Returns what follows settings: these bytes, or the end of the reading if they have a fault.

@@ -1,6 +1,6 @@
 //! Names of frame types and stream types.
 ghost use Rattle.std.specs.Prelude.{◌≡◌};
-ghost use Rattle.wt_inspection.specs.Names.{frame_name_of};
+ghost use Rattle.wt_inspection.specs.Names.{frame_name_of, stream_name_of};
 
 use wtransport_proto::frame::FrameKind;
 use wtransport_proto::stream_header::StreamKind;
@@ -79,7 +79,10 @@ pub enum StreamName {
 
 impl StreamName {
     /// Returns the name of this type.
-    pub fn of(number: VarInt) -> Self {
+    #[tactic(auto, unfolding(crate::specs::Names::stream_name_of))]
+    pub fn of(number: VarInt) -> Self
+        ensures { result ≡ stream_name_of number }
+    {
         if let Some(kind) = StreamKind::parse(number) {
             return StreamName::Read(kind);
         }
