@@ -5,37 +5,24 @@ use std::process::Abort;
 use std::test::Fail;
 use wtp_huffman::huffman::{HuffmanError, decode, encode, encoded_len};
 
-/// Encodes a text.
-fn encode_once(alloc: Global, text: &[u8]) -> Result<Vec<u8>, AllocError> {
-    encode(alloc, text)
-}
-
-/// The same, and once more where memory was refused.
-fn encode_again(alloc: Global, text: &[u8]) -> Result<Vec<u8>, AllocError> {
-    match encode_once(alloc, text) {
+/// Encodes, and once more where memory was refused.
+fn encoded(alloc: Global, text: &[u8]) -> Result<Vec<u8>, AllocError> {
+    match encode(alloc, text) {
         Ok(coded) => Ok(coded),
-        Err(AllocError) => encode_once(alloc, text),
+        Err(AllocError) => encode(alloc, text),
     }
 }
 
-/// Decodes a string.
-fn decode_once(alloc: Global, coded: &[u8]) -> Result<Vec<u8>, HuffmanError> {
-    decode(alloc, coded)
-}
-
-/// The same, and once more where memory was refused.
-fn decode_again(alloc: Global, coded: &[u8]) -> Result<Vec<u8>, HuffmanError> {
-    match decode_once(alloc, coded) {
-        Err(HuffmanError::Memory) => decode_once(alloc, coded),
+/// Decodes, and once more where memory was refused.
+fn decoded(alloc: Global, coded: &[u8]) -> Result<Vec<u8>, HuffmanError> {
+    match decode(alloc, coded) {
+        Err(HuffmanError::Memory) => decode(alloc, coded),
         outcome => outcome,
     }
 }
 
 /// What a row shows, a text, and the string that it and no other is coded to.
-type TextRow = (&'static str, &'static [u8], &'static [u8]);
-
-/// Texts and their strings.
-static TEXTS: [TextRow; 18] = [
+static TEXTS: [(&str, &[u8], &[u8]); 18] = [
     // RFC 7541, Appendix C.
     (
         "C.4.1",
@@ -93,8 +80,8 @@ fn assert_coded(
     coded: &[u8],
     shows: &str,
 ) -> Result<(), Fail> {
-    same(rt, encode_again(alloc, text)?.as_slice(), coded, shows);
-    same(rt, decode_again(alloc, coded)?.as_slice(), text, shows);
+    same(rt, encoded(alloc, text)?.as_slice(), coded, shows);
+    same(rt, decoded(alloc, coded)?.as_slice(), text, shows);
     Ok(())
 }
 
@@ -110,17 +97,12 @@ fn assert_measured(
     assert_coded(rt, alloc, text, coded, shows)
 }
 
-/// Asserts it of each row.
-fn assert_texts(rt: &impl Abort, alloc: Global, rows: &[TextRow]) -> Result<(), Fail> {
-    for (shows, text, coded) in rows {
-        assert_measured(rt, alloc, text, coded, shows)?;
-    }
-    Ok(())
-}
-
 #[test]
 fn texts_and_their_strings_past_refused_memory(rt: HostRuntime) -> Result<(), Fail> {
-    assert_texts(&rt, rt.alloc(), &TEXTS)
+    for (shows, text, coded) in &TEXTS {
+        assert_measured(&rt, rt.alloc(), text, coded, shows)?;
+    }
+    Ok(())
 }
 
 /// What a row shows, and a string that no text is coded to.
@@ -137,7 +119,7 @@ static REFUSED: [(&str, &[u8]); 6] = [
 fn assert_refused(rt: &impl Abort, alloc: Global, coded: &[u8], shows: &str) {
     same(
         rt,
-        decode_again(alloc, coded).err(),
+        decoded(alloc, coded).err(),
         Some(HuffmanError::Invalid),
         shows,
     );
@@ -167,7 +149,7 @@ fn refused_memory(rt: HostRuntime) -> Result<(), Fail> {
 /// Whether a text of one byte is coded to this string of one byte, which must be no text's string
 /// otherwise.
 fn is_text(rt: &impl Abort, alloc: Global, byte: u8) -> bool {
-    match decode_again(alloc, &[byte]) {
+    match decoded(alloc, &[byte]) {
         Ok(text) => {
             same(rt, text.len(), 1, byte);
             true
@@ -195,9 +177,9 @@ fn strings_of_one_byte_past_refused_memory(rt: HostRuntime) {
 /// Asserts that a string of two bytes is refused, or is the string of what it is decoded to.
 fn assert_only(rt: &impl Abort, alloc: Global, coded: [u8; 2]) -> Result<(), AllocError> {
     let number = u16::from_be_bytes(coded);
-    match decode_again(alloc, &coded) {
+    match decoded(alloc, &coded) {
         Ok(text) => {
-            let again = encode_again(alloc, text.as_slice())?;
+            let again = encoded(alloc, text.as_slice())?;
             same(rt, again.as_slice(), coded.as_slice(), number);
         }
         Err(e) => same(rt, e, HuffmanError::Invalid, number),
@@ -216,18 +198,16 @@ fn strings_of_two_bytes_past_refused_memory(rt: HostRuntime) -> Result<(), Fail>
 }
 
 /// A word at the front of 32 bits, with ones after it, and how many bytes it begins in.
-fn pad(bits: u32, number: u32) -> ([u8; 4], usize) {
+fn padded(bits: u32, number: u32) -> ([u8; 4], usize) {
     let left = 32u32.saturating_sub(bits);
     let ones = 1u32.wrapping_shl(left).wrapping_sub(1);
     let window = number.wrapping_shl(left).wrapping_add(ones);
     (window.to_be_bytes(), bits.div_ceil(8) as usize)
 }
 
-/// A length, the first word that has it, and its symbols in the order of their words.
-type Length = (u32, u32, &'static [u8]);
-
-/// RFC 7541, Appendix B. The end of the string follows the last word.
-static LENGTHS: [Length; 21] = [
+/// RFC 7541, Appendix B: a length, the first word that has it, and its symbols in the order of
+/// their words. The end of the string follows the last.
+static LENGTHS: [(u32, u32, &[u8]); 21] = [
     (5, 0x0, b"012aceiost"),
     (6, 0x14, b" %-./3456789=A_bdfghlmnpru"),
     (7, 0x5c, b":BCDEFGHIJKLMNOPQRSTUVWYjkqvwxyz"),
@@ -303,20 +283,15 @@ fn assert_word(
     bits: u32,
     number: u32,
 ) -> Result<(), Fail> {
-    let (window, len) = pad(bits, number);
+    let (window, len) = padded(bits, number);
     let (coded, _) = window
         .as_slice()
         .split_at_checked(len)
         .ok_or("at most 30 bits")?;
+    same(rt, encoded(alloc, &[symbol])?.as_slice(), coded, symbol);
     same(
         rt,
-        encode_again(alloc, &[symbol])?.as_slice(),
-        coded,
-        symbol,
-    );
-    same(
-        rt,
-        decode_again(alloc, coded)?.as_slice(),
+        decoded(alloc, coded)?.as_slice(),
         [symbol].as_slice(),
         symbol,
     );
@@ -340,27 +315,21 @@ fn assert_words(
     Ok(symbols)
 }
 
-/// Asserts it of each length, and answers how many symbols there are.
-fn assert_lengths(rt: &impl Abort, alloc: Global, rows: &[Length]) -> Result<u32, Fail> {
-    let mut symbols = 0u32;
-    for (bits, first, row) in rows {
-        let few = assert_words(rt, alloc, row, *bits, *first)?;
-        symbols = symbols.wrapping_add(few);
-    }
-    Ok(symbols)
-}
-
 #[test]
 fn words_past_refused_memory(rt: HostRuntime) -> Result<(), Fail> {
-    let symbols = assert_lengths(&rt, rt.alloc(), &LENGTHS)?;
+    let mut symbols = 0u32;
+    for (bits, first, row) in &LENGTHS {
+        let few = assert_words(&rt, rt.alloc(), row, *bits, *first)?;
+        symbols = symbols.wrapping_add(few);
+    }
     same(&rt, symbols, 256, "each symbol");
     Ok(())
 }
 
 #[test]
 fn end_of_the_string_past_refused_memory(rt: HostRuntime) {
-    let (end, _) = pad(30, 0x3fff_ffff);
-    let fault = decode_again(rt.alloc(), &end).err();
+    let (end, _) = padded(30, 0x3fff_ffff);
+    let fault = decoded(rt.alloc(), &end).err();
     same(
         &rt,
         fault,
@@ -370,7 +339,7 @@ fn end_of_the_string_past_refused_memory(rt: HostRuntime) {
 }
 
 /// An error's text, asked for once more where memory was refused.
-fn text_of(alloc: Global, error: HuffmanError) -> Result<String, AllocError> {
+fn shown(alloc: Global, error: HuffmanError) -> Result<String, AllocError> {
     match error.to_string(alloc) {
         Ok(text) => Ok(text),
         Err(AllocError) => error.to_string(alloc),
@@ -384,7 +353,7 @@ fn assert_shown(
     error: HuffmanError,
     text: &str,
 ) -> Result<(), AllocError> {
-    same(rt, text_of(alloc, error)?.as_str(), text, "a message");
+    same(rt, shown(alloc, error)?.as_str(), text, "a message");
     Ok(())
 }
 

@@ -3,8 +3,6 @@
 #![tactic(auto)]
 
 #[cfg(test)]
-mod inspections;
-#[cfg(test)]
 mod listings;
 #[cfg(test)]
 mod programs;

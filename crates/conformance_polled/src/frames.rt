@@ -60,7 +60,7 @@ fn check_read<R: Abort + AllocGlobal>(rt: &R, bytes: &[u8], answer: &Answer<'sta
 }
 
 /// Frames as bytes, and what is read.
-static FRAMES: [(&[u8], Answer<'static>); 5] = [
+const FRAMES: [(&[u8], Answer<'static>); 5] = [
     (SETTINGS, Polled::Ready(Ok((0x04, None, TABLE)))),
     (HEADERS, Polled::Ready(Ok((0x01, None, FIELDS)))),
     (SESSION, Polled::Ready(Ok((0x41, Some(0), b"")))),
@@ -73,14 +73,14 @@ static FRAMES: [(&[u8], Answer<'static>); 5] = [
 
 #[test]
 fn frames_are_read(rt: HostRuntime) {
-    for (bytes, answer) in &FRAMES {
-        check_read(&rt, bytes, answer);
+    for (bytes, answer) in FRAMES {
+        check_read(&rt, bytes, &answer);
     }
 }
 
 /// Faulty frames, and their faults: an unknown type, a session that is none, a length of 4097, and
 /// the largest length.
-static FAULTS: [(&[u8], Answer<'static>); 4] = [
+const FAULTS: [(&[u8], Answer<'static>); 4] = [
     (b"\x80\x42\x42\x42\x16This is a test payload", UNKNOWN),
     (&[0x40, 0x41, 0x01], NO_SESSION),
     (&[0x00, 0x50, 0x01], TOO_BIG),
@@ -92,8 +92,8 @@ static FAULTS: [(&[u8], Answer<'static>); 4] = [
 
 #[test]
 fn faults_are_named(rt: HostRuntime) {
-    for (bytes, fault) in &FAULTS {
-        check_read(&rt, bytes, fault);
+    for (bytes, fault) in FAULTS {
+        check_read(&rt, bytes, &fault);
     }
 }
 
@@ -110,24 +110,19 @@ fn check_cut<R: Abort + AllocGlobal>(rt: &R, front: &[u8]) {
 }
 
 /// Frames of which every front is cut.
-static CUT: [&[u8]; 4] = [
+const CUT: [&[u8]; 4] = [
     b"\x00\x16This is a test payload",
     SESSION,
     &[0x0a, 0x05, 0x61],
     &[0x0a, 0xff, 0xff, 0xff, 0xff, 0xff, 0xff, 0xff, 0xff, 0x00],
 ];
 
-/// Each front of a frame.
-fn check_fronts<R: Abort + AllocGlobal>(rt: &R, frame: &[u8]) {
-    for len in 0..frame.len() {
-        check_cut(rt, frame.get(..len).unwrap_or(&[]));
-    }
-}
-
 #[test]
 fn cut_frames_end(rt: HostRuntime) {
-    for frame in &CUT {
-        check_fronts(&rt, frame);
+    for frame in CUT {
+        for len in 0..frame.len() {
+            check_cut(&rt, frame.get(..len).unwrap_or(&[]));
+        }
     }
 }
 

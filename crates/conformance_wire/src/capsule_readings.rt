@@ -8,7 +8,7 @@ use wtp_wire::capsule::{CapsuleError, CapsuleKind, CapsuleOwned, CapsuleReading}
 
 /// How data ends.
 #[derive(Clone, Copy, Debug, PartialEq, Eq)]
-pub enum Ending {
+enum Ending {
     Clean,
     Cut,
     TooLong,
@@ -90,7 +90,7 @@ fn check_pieces<R: Abort + AllocGlobal>(
 }
 
 /// A row: data, the values of its close capsules, how it ends, and what the row shows.
-pub type Row = (
+type Row = (
     &'static [u8],
     &'static [&'static [u8]],
     Ending,
@@ -112,7 +112,7 @@ const BYE: &[u8] = b"\x00\x00\x12\x34bye, w\xc3\xb6rld";
 const END: &[u8] = b"\x00\x00\x00\x07end";
 
 /// Worked rows. Types 0x17, 0x40 and 0x69 are reserved: 0x29 * N + 0x17 (RFC 9297, section 5.4).
-pub static ROWS: [Row; 14] = [
+static ROWS: [Row; 14] = [
     (&[], &[], Ending::Clean, "no data"),
     (
         &[0x68, 0x43, 0x07, 0, 0, 0, 7, 0x65, 0x6e, 0x64],
@@ -209,7 +209,7 @@ fn a_cut_close_is_found_past_refused_memory(rt: HostRuntime) {
 }
 
 /// DATA frames' payloads of recorded sessions, and the values of their close capsules.
-pub static RECORDED: [(&[&[u8]], &[u8], &str); 5] = [
+static RECORDED: [(&[&[u8]], &[u8], &str); 5] = [
     (
         &[
             &[

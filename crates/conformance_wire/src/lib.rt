@@ -3,8 +3,6 @@
 #![tactic(auto)]
 
 #[cfg(test)]
-mod capsule_cursors;
-#[cfg(test)]
 mod capsule_readings;
 #[cfg(test)]
 mod capsules;
