@@ -12,7 +12,8 @@
    elements as its length says, or to one. What a call writes overlaps nothing else that it is given.
    A call breaks these rules at the caller's own risk, as with any C library.
 
-   Answers. A call returns 0 or above if it found no fault, and below 0 otherwise: */
+   Answers. A call that returns an int returns 0 or above if it found no fault, and below 0
+   otherwise: one of WT_OK to WT_MEMORY below, if its comment names no other numbers. */
 #ifndef WTRANSPORT_H
 #define WTRANSPORT_H
 #include <stddef.h>
@@ -94,10 +95,12 @@ int wt_datagram_write_head(uint64_t session, uint8_t *out, size_t room, size_t *
 /* ---- Frames that are read (RFC 9114, section 7.1) ---- */
 
 enum {
-  WT_READ_BI_REMOTE = 0, /* a bidirectional stream that the peer opened */
-  WT_READ_BI_LOCAL = 1,  /* a bidirectional stream that was opened here */
-  WT_READ_CONTROL = 2,   /* the peer's control stream, after its header */
-  WT_READ_SESSION = 3    /* the stream of a session, after its request or response */
+  WT_READ_BI_REMOTE = 0, /* a bidirectional stream that the peer opened: DATA, HEADERS, and a
+                            WebTransport frame as the first */
+  WT_READ_BI_LOCAL = 1,  /* a bidirectional stream that was opened here: DATA, HEADERS */
+  WT_READ_CONTROL = 2,   /* the peer's control stream, after its header: SETTINGS */
+  WT_READ_SESSION = 3    /* the stream of a session, after its request or response: DATA, HEADERS. A
+                            reader of the whole stream may also go on */
 };
 
 /* All that reading the frames of a stream remembers between two calls. wt_reader_new makes one, and
@@ -108,7 +111,8 @@ typedef struct wt_reader {
   uint64_t due;  /* payload bytes of an unknown frame that are still to be skipped */
 } wt_reader;
 
-/* A frame. Its payload is in the bytes that were read: `length` bytes from `offset` on. */
+/* A frame. Its payload is `length` bytes from bytes[offset] on, of the bytes given to the call that
+   found it, and is consumed with it. */
 typedef struct wt_frame {
   uint64_t type;    /* one of WT_FRAME_.., or one reserved for exercise: 0x21 + 0x1f * n */
   uint64_t session; /* of a WebTransport frame, which has no payload; otherwise 0 */
@@ -120,7 +124,9 @@ typedef struct wt_frame {
 int wt_reader_new(uint8_t kind, wt_reader *reader);
 
 /* Reads the next frame from the bytes after those that were consumed before. Frames of unknown types
-   are skipped, also piece by piece.
+   are skipped, also piece by piece. Those of types reserved for exercise are returned, and are to be
+   ignored (RFC 9114, section 7.2.8). Which frame may follow which is for the caller to check, as that
+   HEADERS come before DATA, but for a WebTransport frame, which has to be the first.
    WT_OK: *frame is the next frame. The next call begins after the first *consumed bytes.
    WT_MORE: there is no complete frame. The bytes after the first *consumed, at most 4111, are to be
    given again, with more bytes after them.
@@ -128,11 +134,12 @@ int wt_reader_new(uint8_t kind, wt_reader *reader);
    session ID, or 0x107 for a payload above 4096 bytes; *consumed is 0, and the reader stays.
    WT_INVALID: *reader is not a reader.
    However a stream is cut into pieces, its frames and its first fault are the same. After a
-   WebTransport frame all bytes are the application's, and no frame follows. */
+   WebTransport frame all bytes are the application's: do not call this for them. */
 int wt_read_frame(wt_reader *reader, const uint8_t *bytes, size_t length, size_t *consumed,
                   wt_frame *frame, uint64_t *code);
 
-/* Tells what it means that the stream ends here, with these bytes left over after WT_MORE.
+/* Tells what it means that the stream ends here, with these bytes left over: those after the first
+   *consumed of the last WT_MORE, or none.
    WT_OK: it may. WT_FAULT: a frame has begun; *code is 0x106. WT_INVALID: *reader is not a reader. */
 int wt_read_end(const wt_reader *reader, const uint8_t *rest, size_t length, uint64_t *code);
 
@@ -146,7 +153,7 @@ enum {
 };
 
 /* Writes a frame with a payload: DATA, HEADERS, SETTINGS, or of a type that is reserved for exercise
-   (0x21 + 0x1f * n).
+   (0x21 + 0x1f * n). A payload may be longer than the 4096 bytes that wt_read_frame reads.
    WT_OK, WT_ROOM: as above. WT_INVALID: the type is another, or the payload has 2^62 bytes. */
 int wt_frame_write(uint64_t type, const uint8_t *payload, size_t length, uint8_t *out, size_t room,
                    size_t *used);
@@ -189,7 +196,7 @@ int wt_setting_name(uint64_t id, char *out, size_t room, size_t *used);
 
 /* ---- Field sections of QPACK, with the static table only (RFC 9204, section 4.5) ---- */
 
-/* A field line: places in an array of bytes, the texts. */
+/* A field line: where its name and its value are in an array of bytes, `texts`. */
 typedef struct wt_field {
   size_t name_offset, name_length, value_offset, value_length;
 } wt_field;
@@ -212,8 +219,9 @@ int wt_fields_write(const wt_field *fields, size_t count, const uint8_t *texts, 
 
 /* ---- Sessions (RFC 9220, section 3; WebTransport over HTTP/3) ---- */
 
-/* Writes the HEADERS frame of the request for the session at a URL, with these fields too: each is in
-   place of the previous one of its name. Pseudo-header fields come first, and each group is in the
+/* Writes the HEADERS frame of the request for the session at a URL, with these fields too. Of fields
+   with the same name the last one alone is written. Names are written as they are: HTTP/3 wants them
+   in lower case (RFC 9114, section 4.2). Pseudo-header fields come first, and each group is in the
    byte order of the names. It allocates.
    WT_OK, WT_ROOM: as above. WT_INVALID: the URL is not one or its scheme is not https, or a field is
    not within the texts, is not UTF-8, or has a name that a request sets itself (:method, :scheme,
@@ -223,7 +231,8 @@ int wt_request_write(const uint8_t *url, size_t url_length, const wt_field *fiel
                      size_t *used);
 
 /* Reads the request in a field section, and writes its authority and then its path to `out`. Its
-   other fields are read by wt_fields_read. It allocates.
+   other fields are read by wt_fields_read. Of a repeated name, that of a pseudo-header field too, the
+   last value counts; wt_fields_read shows all. It allocates.
    WT_OK, WT_ROOM: as above, and *authority is the size of the authority.
    WT_FAULT: *code is 0x200 for a section with a fault, or 0x10e for one that is not a request.
    WT_MEMORY. WT_INVALID: the section has 2^62 bytes. */
@@ -318,7 +327,8 @@ int wt_close_write(uint32_t reset, const uint8_t *reason, size_t length, uint8_t
 
 /* ---- Error codes (RFC 9114, section 8) ---- */
 
-/* Writes the name of a code in ASCII, without a final zero.
+/* Writes the name of a code in ASCII, without a final zero, as FrameUnexpectedError for 0x105. Numbers
+   reserved for exercise have no name.
    WT_OK, WT_ROOM: as above. WT_INVALID: no code has this number. */
 int wt_code_name(uint64_t code, char *out, size_t room, size_t *used);
 
