@@ -7,7 +7,10 @@ use wtp_core::varint::VarInt;
 
 /// A number, its code (RFC 9114, section 8.1; RFC 9297, section 5.2; RFC 9204, section 6;
 /// WebTransport over HTTP/3), and what it shows.
-static NUMBERS: [(u64, Option<ErrorCode>, &str); 29] = [
+type NumberRow = (u64, Option<ErrorCode>, &'static str);
+
+/// Numbers that are codes, and others.
+static NUMBERS: [NumberRow; 29] = [
     (0x33, Some(ErrorCode::Datagram), "H3_DATAGRAM_ERROR"),
     (0x100, Some(ErrorCode::NoError), "H3_NO_ERROR"),
     (
@@ -80,15 +83,23 @@ fn check_number<R: Abort>(rt: &R, number: u64, wanted: Option<ErrorCode>, shows:
     same(rt, came, wanted, shows);
 }
 
-#[test]
-fn numbers_are_those_of_codes(rt: HostRuntime) {
-    for (number, code, shows) in &NUMBERS {
-        check_number(&rt, *number, *code, shows);
+/// Asserts it of each row.
+fn check_numbers<R: Abort>(rt: &R, rows: &[NumberRow]) {
+    for (number, code, shows) in rows {
+        check_number(rt, *number, *code, shows);
     }
 }
 
+#[test]
+fn numbers_are_those_of_codes(rt: HostRuntime) {
+    check_numbers(&rt, &NUMBERS);
+}
+
 /// A code, and what it ends (RFC 9114, section 8).
-static SCOPES: [(ErrorCode, ErrorScope, &str); 15] = [
+type ScopeRow = (ErrorCode, ErrorScope, &'static str);
+
+/// Each code.
+static SCOPES: [ScopeRow; 15] = [
     (ErrorCode::Datagram, ErrorScope::Either, "Datagram"),
     (ErrorCode::NoError, ErrorScope::Either, "NoError"),
     (
@@ -138,11 +149,16 @@ static SCOPES: [(ErrorCode, ErrorScope, &str); 15] = [
     (ErrorCode::SessionGone, ErrorScope::Stream, "SessionGone"),
 ];
 
+/// Asserts what the code of each row ends.
+fn check_scopes<R: Abort>(rt: &R, rows: &[ScopeRow]) {
+    for (code, scope, shows) in rows {
+        same(rt, code.scope(), *scope, shows);
+    }
+}
+
 #[test]
 fn codes_end_a_stream_or_the_connection(rt: HostRuntime) {
-    for (code, scope, shows) in &SCOPES {
-        same(&rt, code.scope(), *scope, shows);
-    }
+    check_scopes(&rt, &SCOPES);
 }
 
 #[test]

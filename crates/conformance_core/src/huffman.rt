@@ -5,24 +5,37 @@ use std::process::Abort;
 use std::test::Fail;
 use wtp_huffman::huffman::{HuffmanError, decode, encode, encoded_len};
 
-/// Encodes, and once more where memory was refused.
-fn encoded(alloc: Global, text: &[u8]) -> Result<Vec<u8>, AllocError> {
-    match encode(alloc, text) {
+/// Encodes a text.
+fn encode_once(alloc: Global, text: &[u8]) -> Result<Vec<u8>, AllocError> {
+    encode(alloc, text)
+}
+
+/// The same, and once more where memory was refused.
+fn encode_again(alloc: Global, text: &[u8]) -> Result<Vec<u8>, AllocError> {
+    match encode_once(alloc, text) {
         Ok(coded) => Ok(coded),
-        Err(AllocError) => encode(alloc, text),
+        Err(AllocError) => encode_once(alloc, text),
     }
 }
 
-/// Decodes, and once more where memory was refused.
-fn decoded(alloc: Global, coded: &[u8]) -> Result<Vec<u8>, HuffmanError> {
-    match decode(alloc, coded) {
-        Err(HuffmanError::Memory) => decode(alloc, coded),
+/// Decodes a string.
+fn decode_once(alloc: Global, coded: &[u8]) -> Result<Vec<u8>, HuffmanError> {
+    decode(alloc, coded)
+}
+
+/// The same, and once more where memory was refused.
+fn decode_again(alloc: Global, coded: &[u8]) -> Result<Vec<u8>, HuffmanError> {
+    match decode_once(alloc, coded) {
+        Err(HuffmanError::Memory) => decode_once(alloc, coded),
         outcome => outcome,
     }
 }
 
 /// What a row shows, a text, and the string that it and no other is coded to.
-static TEXTS: [(&str, &[u8], &[u8]); 18] = [
+type TextRow = (&'static str, &'static [u8], &'static [u8]);
+
+/// Texts and their strings.
+static TEXTS: [TextRow; 18] = [
     // RFC 7541, Appendix C.
     (
         "C.4.1",
@@ -80,8 +93,8 @@ fn assert_coded(
     coded: &[u8],
     shows: &str,
 ) -> Result<(), Fail> {
-    same(rt, encoded(alloc, text)?.as_slice(), coded, shows);
-    same(rt, decoded(alloc, coded)?.as_slice(), text, shows);
+    same(rt, encode_again(alloc, text)?.as_slice(), coded, shows);
+    same(rt, decode_again(alloc, coded)?.as_slice(), text, shows);
     Ok(())
 }
 
@@ -97,12 +110,17 @@ fn assert_measured(
     assert_coded(rt, alloc, text, coded, shows)
 }
 
-#[test]
-fn texts_and_their_strings_past_refused_memory(rt: HostRuntime) -> Result<(), Fail> {
-    for (shows, text, coded) in &TEXTS {
-        assert_measured(&rt, rt.alloc(), text, coded, shows)?;
+/// Asserts it of each row.
+fn assert_texts(rt: &impl Abort, alloc: Global, rows: &[TextRow]) -> Result<(), Fail> {
+    for (shows, text, coded) in rows {
+        assert_measured(rt, alloc, text, coded, shows)?;
     }
     Ok(())
+}
+
+#[test]
+fn texts_and_their_strings_past_refused_memory(rt: HostRuntime) -> Result<(), Fail> {
+    assert_texts(&rt, rt.alloc(), &TEXTS)
 }
 
 /// What a row shows, and a string that no text is coded to.
@@ -119,7 +137,7 @@ static REFUSED: [(&str, &[u8]); 6] = [
 fn assert_refused(rt: &impl Abort, alloc: Global, coded: &[u8], shows: &str) {
     same(
         rt,
-        decoded(alloc, coded).err(),
+        decode_again(alloc, coded).err(),
         Some(HuffmanError::Invalid),
         shows,
     );
@@ -149,7 +167,7 @@ fn refused_memory(rt: HostRuntime) -> Result<(), Fail> {
 /// Whether a text of one byte is coded to this string of one byte, which must be no text's string
 /// otherwise.
 fn is_text(rt: &impl Abort, alloc: Global, byte: u8) -> bool {
-    match decoded(alloc, &[byte]) {
+    match decode_again(alloc, &[byte]) {
         Ok(text) => {
             same(rt, text.len(), 1, byte);
             true
@@ -177,9 +195,9 @@ fn strings_of_one_byte_past_refused_memory(rt: HostRuntime) {
 /// Asserts that a string of two bytes is refused, or is the string of what it is decoded to.
 fn assert_only(rt: &impl Abort, alloc: Global, coded: [u8; 2]) -> Result<(), AllocError> {
     let number = u16::from_be_bytes(coded);
-    match decoded(alloc, &coded) {
+    match decode_again(alloc, &coded) {
         Ok(text) => {
-            let again = encoded(alloc, text.as_slice())?;
+            let again = encode_again(alloc, text.as_slice())?;
             same(rt, again.as_slice(), coded.as_slice(), number);
         }
         Err(e) => same(rt, e, HuffmanError::Invalid, number),
@@ -198,16 +216,18 @@ fn strings_of_two_bytes_past_refused_memory(rt: HostRuntime) -> Result<(), Fail>
 }
 
 /// A word at the front of 32 bits, with ones after it, and how many bytes it begins in.
-fn padded(bits: u32, number: u32) -> ([u8; 4], usize) {
+fn pad(bits: u32, number: u32) -> ([u8; 4], usize) {
     let left = 32u32.saturating_sub(bits);
     let ones = 1u32.wrapping_shl(left).wrapping_sub(1);
     let window = number.wrapping_shl(left).wrapping_add(ones);
     (window.to_be_bytes(), bits.div_ceil(8) as usize)
 }
 
-/// RFC 7541, Appendix B: a length, the first word that has it, and its symbols in the order of
-/// their words. The end of the string follows the last.
-static LENGTHS: [(u32, u32, &[u8]); 21] = [
+/// A length, the first word that has it, and its symbols in the order of their words.
+type Length = (u32, u32, &'static [u8]);
+
+/// RFC 7541, Appendix B. The end of the string follows the last word.
+static LENGTHS: [Length; 21] = [
     (5, 0x0, b"012aceiost"),
     (6, 0x14, b" %-./3456789=A_bdfghlmnpru"),
     (7, 0x5c, b":BCDEFGHIJKLMNOPQRSTUVWYjkqvwxyz"),
@@ -283,15 +303,20 @@ fn assert_word(
     bits: u32,
     number: u32,
 ) -> Result<(), Fail> {
-    let (window, len) = padded(bits, number);
+    let (window, len) = pad(bits, number);
     let (coded, _) = window
         .as_slice()
         .split_at_checked(len)
         .ok_or("at most 30 bits")?;
-    same(rt, encoded(alloc, &[symbol])?.as_slice(), coded, symbol);
     same(
         rt,
-        decoded(alloc, coded)?.as_slice(),
+        encode_again(alloc, &[symbol])?.as_slice(),
+        coded,
+        symbol,
+    );
+    same(
+        rt,
+        decode_again(alloc, coded)?.as_slice(),
         [symbol].as_slice(),
         symbol,
     );
@@ -315,21 +340,27 @@ fn assert_words(
     Ok(symbols)
 }
 
-#[test]
-fn words_past_refused_memory(rt: HostRuntime) -> Result<(), Fail> {
+/// Asserts it of each length, and answers how many symbols there are.
+fn assert_lengths(rt: &impl Abort, alloc: Global, rows: &[Length]) -> Result<u32, Fail> {
     let mut symbols = 0u32;
-    for (bits, first, row) in &LENGTHS {
-        let few = assert_words(&rt, rt.alloc(), row, *bits, *first)?;
+    for (bits, first, row) in rows {
+        let few = assert_words(rt, alloc, row, *bits, *first)?;
         symbols = symbols.wrapping_add(few);
     }
+    Ok(symbols)
+}
+
+#[test]
+fn words_past_refused_memory(rt: HostRuntime) -> Result<(), Fail> {
+    let symbols = assert_lengths(&rt, rt.alloc(), &LENGTHS)?;
     same(&rt, symbols, 256, "each symbol");
     Ok(())
 }
 
 #[test]
 fn end_of_the_string_past_refused_memory(rt: HostRuntime) {
-    let (end, _) = padded(30, 0x3fff_ffff);
-    let fault = decoded(rt.alloc(), &end).err();
+    let (end, _) = pad(30, 0x3fff_ffff);
+    let fault = decode_again(rt.alloc(), &end).err();
     same(
         &rt,
         fault,
@@ -339,7 +370,7 @@ fn end_of_the_string_past_refused_memory(rt: HostRuntime) {
 }
 
 /// An error's text, asked for once more where memory was refused.
-fn shown(alloc: Global, error: HuffmanError) -> Result<String, AllocError> {
+fn text_of(alloc: Global, error: HuffmanError) -> Result<String, AllocError> {
     match error.to_string(alloc) {
         Ok(text) => Ok(text),
         Err(AllocError) => error.to_string(alloc),
@@ -353,7 +384,7 @@ fn assert_shown(
     error: HuffmanError,
     text: &str,
 ) -> Result<(), AllocError> {
-    same(rt, shown(alloc, error)?.as_str(), text, "a message");
+    same(rt, text_of(alloc, error)?.as_str(), text, "a message");
     Ok(())
 }
 

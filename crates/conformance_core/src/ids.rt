@@ -11,7 +11,7 @@ use wtp_core::ids::{
 use wtp_core::varint::VarInt;
 
 /// Who opened the stream and how it goes, by its two lowest bits.
-const KINDS: [(u32, bool, bool); 4] = [
+static KINDS: [(u32, bool, bool); 4] = [
     (0, true, true),
     (1, false, true),
     (2, true, false),
@@ -34,8 +34,8 @@ fn check_stream<A: Abort>(rt: &A, number: u32, by_client: bool, both_ways: bool)
 #[test]
 fn the_two_lowest_bits_say_who_and_how(rt: HostRuntime) {
     for four in 0..256u32 {
-        for (bits, by_client, both_ways) in KINDS {
-            check_stream(&rt, four.wrapping_mul(4) | bits, by_client, both_ways);
+        for (bits, by_client, both_ways) in &KINDS {
+            check_stream(&rt, four.wrapping_mul(4) | *bits, *by_client, *both_ways);
         }
     }
 }
@@ -97,16 +97,19 @@ fn check_status<A: Abort>(rt: &A, number: u32, is_good: bool) {
     same(rt, came, (is_good, &code, &code), number);
 }
 
+/// A number, and whether it is a status code.
+static BOUNDS: [(u32, bool); 5] = [
+    (0, false),
+    (99, false),
+    (100, true),
+    (599, true),
+    (600, false),
+];
+
 #[test]
 fn status_codes_are_100_to_599(rt: HostRuntime) {
-    for (number, is_good) in [
-        (0, false),
-        (99, false),
-        (100, true),
-        (599, true),
-        (600, false),
-    ] {
-        check_status(&rt, number, is_good);
+    for (number, is_good) in &BOUNDS {
+        check_status(&rt, *number, *is_good);
     }
     let came = (StatusCode::try_from(65736u64), StatusCode::try_from(200u8));
     let wanted = (Err(InvalidStatusCode), Ok(StatusCode::OK));
@@ -136,7 +139,7 @@ fn status(text: &str) -> Option<u16> {
 }
 
 /// A text, and the status code that it says.
-const TEXTS: [(&str, Option<u16>); 10] = [
+static TEXTS: [(&str, Option<u16>); 10] = [
     ("200", Some(200)),
     ("0200", Some(200)),
     ("+200", Some(200)),
@@ -151,8 +154,8 @@ const TEXTS: [(&str, Option<u16>); 10] = [
 
 #[test]
 fn status_texts_are_read(rt: HostRuntime) {
-    for (text, number) in TEXTS {
-        same(&rt, status(text), number, text);
+    for (text, number) in &TEXTS {
+        same(&rt, status(text), *number, text);
     }
 }
 

@@ -10,7 +10,7 @@ const BYTES: [u8; 27] = [
     101, 98, 84, 114, 97, 110, 115, 112, 111, 114, 116,
 ];
 
-const NUMBERS: [u64; 4] = [37, 15293, 494878333, 151288809941952652];
+static NUMBERS: [u64; 4] = [37, 15293, 494878333, 151288809941952652];
 
 /// The next number of a reader.
 pub fn number<'a, R: BytesReader<'a>>(reader: &mut R) -> Option<u64> {
@@ -29,8 +29,8 @@ fn after_one<'a, R: Abort>(rt: &R, bytes: &'a [u8]) -> BufferReader<'a> {
 
 /// Asserts that the numbers and the text are read, and nothing after them.
 fn check_all_is_read<'a, A: Abort, R: BytesReader<'a>>(rt: &A, reader: &mut R, word: &str) {
-    for wanted in NUMBERS {
-        same(rt, number(reader), Some(wanted), word);
+    for wanted in &NUMBERS {
+        same(rt, number(reader), Some(*wanted), word);
     }
     let text = reader.get_bytes(12);
     let after = (number(reader), reader.get_bytes(1));

@@ -2,13 +2,17 @@
 use crate::readers::number;
 use crate::same::same;
 use crate::texts::{debugs, displays};
+use std::process::Abort;
 use wtp_core::ids::StreamId;
 use wtp_core::varint::{VarInt, VarIntBoundsExceeded};
 
 const LARGEST: u64 = 4_611_686_018_427_387_903;
 
 /// Bytes, the number that is read, how many bytes are left, and what the row shows.
-const ENCODINGS: [(&[u8], Option<u64>, usize, &str); 9] = [
+type Encoding = (&'static [u8], Option<u64>, usize, &'static str);
+
+/// The standard's examples, and cut ones.
+static ENCODINGS: [Encoding; 9] = [
     (&[0x25], Some(37), 0, "one byte"),
     (&[0x40, 0x25], Some(37), 0, "two bytes for a small number"),
     (
@@ -35,17 +39,23 @@ const ENCODINGS: [(&[u8], Option<u64>, usize, &str); 9] = [
     ),
 ];
 
+/// Asserts what is read of an encoding, and how many bytes are left.
+fn check_encoding<R: Abort>(rt: &R, row: &Encoding) {
+    let (bytes, wanted, left, word) = *row;
+    let mut reader = bytes;
+    let came = number(&mut reader);
+    same(rt, (came, reader.len()), (wanted, left), word);
+}
+
 #[test]
 fn encodings_are_read(rt: HostRuntime) {
-    for (bytes, wanted, left, word) in ENCODINGS {
-        let mut reader = bytes;
-        let came = number(&mut reader);
-        same(&rt, (came, reader.len()), (wanted, left), word);
+    for row in &ENCODINGS {
+        check_encoding(&rt, row);
     }
 }
 
 /// A number, and the bytes of its shortest encoding.
-const SIZES: [(u64, usize); 8] = [
+static SIZES: [(u64, usize); 8] = [
     (0, 1),
     (63, 1),
     (64, 2),
@@ -64,13 +74,16 @@ fn size_of(number: u64) -> Option<usize> {
     }
 }
 
+/// A first byte, and how many bytes its encoding has.
+static FIRST_BYTES: [(u8, usize); 4] = [(0xc2, 8), (0x9d, 4), (0x7b, 2), (0x25, 1)];
+
 #[test]
 fn sizes_are_least(rt: HostRuntime) {
-    for (number, size) in SIZES {
-        same(&rt, size_of(number), Some(size), number);
+    for (number, size) in &SIZES {
+        same(&rt, size_of(*number), Some(*size), number);
     }
-    for (first, size) in [(0xc2, 8), (0x9d, 4), (0x7b, 2), (0x25, 1)] {
-        same(&rt, VarInt::parse_size(first), size, first);
+    for (first, size) in &FIRST_BYTES {
+        same(&rt, VarInt::parse_size(*first), *size, first);
     }
 }
 

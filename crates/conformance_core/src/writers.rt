@@ -7,7 +7,7 @@ use wtp_core::bytes::{BufferWriter, BytesWriter, PutError};
 use wtp_core::varint::{VarInt, VarIntBoundsExceeded};
 
 /// A number, its shortest encoding, and the room that this leaves of nine bytes.
-const ROWS: [(u64, &[u8], usize); 6] = [
+static ROWS: [(u64, &[u8], usize); 6] = [
     (37, &[0x25], 8),
     (15293, &[0x7b, 0xbd], 7),
     (16384, &[0x80, 0x00, 0x40, 0x00], 5),
@@ -50,8 +50,8 @@ fn check_written<R: Abort + AllocGlobal>(rt: &R, number: u64, bytes: &[u8], left
 
 #[test]
 fn the_shortest_encoding_is_written(rt: HostRuntime) {
-    for (number, bytes, left) in ROWS {
-        check_written(&rt, number, bytes, left);
+    for (number, bytes, left) in &ROWS {
+        check_written(&rt, *number, bytes, *left);
     }
 }
 

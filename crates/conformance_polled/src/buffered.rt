@@ -35,25 +35,30 @@ impl AsyncRead for Window<'_> {
 }
 
 /// How many bytes are taken from a slice, whether they are taken, and what is then left.
-const TAKES: [(usize, bool, &[u8]); 4] = [
+type Take = (usize, bool, &'static [u8]);
+
+/// Takes, one after another.
+static TAKES: [Take; 4] = [
     (6, false, b"abcde"),
     (3, true, b"de"),
     (2, true, b""),
     (0, true, b""),
 ];
 
+/// So many bytes are taken from a slice, or none.
+fn check_take<R: Abort>(rt: &R, source: &mut &[u8], row: &Take) {
+    let (count, takes, left) = *row;
+    let is_taken = source.take_buffered(count);
+    let came = (is_taken, *source, source.buffered());
+    same(rt, came, (takes, left, left), count);
+}
+
 #[test]
 fn a_slice_has_buffered_all_of_its_bytes(rt: HostRuntime) {
     let mut source = b"abcde".as_slice();
     same(&rt, source.buffered(), b"abcde".as_slice(), "the whole");
-    for (count, takes, left) in TAKES {
-        let taken = source.take_buffered(count);
-        same(
-            &rt,
-            (taken, source, source.buffered()),
-            (takes, left, left),
-            count,
-        );
+    for row in &TAKES {
+        check_take(&rt, &mut source, row);
     }
 }
 
@@ -99,9 +104,9 @@ fn a_frame_has_56_bytes(rt: HostRuntime) {
 }
 
 /// The payload sizes, and how many bytes come after the frame.
-const SIZES: [u8; 15] = [0, 1, 2, 24, 25, 31, 32, 33, 34, 39, 40, 41, 48, 64, 128];
+static SIZES: [u8; 15] = [0, 1, 2, 24, 25, 31, 32, 33, 34, 39, 40, 41, 48, 64, 128];
 
-const AFTER: [usize; 13] = [0, 1, 2, 29, 30, 31, 32, 33, 38, 39, 40, 41, 100];
+static AFTER: [usize; 13] = [0, 1, 2, 29, 30, 31, 32, 33, 38, 39, 40, 41, 100];
 
 /// The head of a DATA frame, whose length is set in the third byte, and bytes after it.
 const NUMBERED: [u8; 256] = [
@@ -123,14 +128,19 @@ const NUMBERED: [u8; 256] = [
     0xf0, 0xf1, 0xf2, 0xf3, 0xf4, 0xf5, 0xf6, 0xf7, 0xf8, 0xf9, 0xfa, 0xfb, 0xfc, 0xfd, 0xfe, 0xff,
 ];
 
+/// The same with each number of bytes after it.
+fn check_all_after<R: Abort + AllocGlobal>(rt: &R, bytes: &[u8], len: usize) {
+    for after in &AFTER {
+        check_sizes(rt, bytes, len, *after);
+    }
+}
+
 #[test]
 fn payloads_of_all_sizes_are_read_from_a_slice(rt: HostRuntime) {
     let mut bytes = NUMBERED;
-    for len in SIZES {
-        bytes[2] = len;
-        for after in AFTER {
-            check_sizes(&rt, &bytes, usize::from(len), after);
-        }
+    for len in &SIZES {
+        bytes[2] = *len;
+        check_all_after(&rt, &bytes, usize::from(*len));
     }
 }
 
@@ -152,13 +162,18 @@ const EACH: [Answer<'static>; 7] = [
     UNEXPECTED_FIN,
 ];
 
+/// The frames are read of a source that shows at most so many buffered bytes.
+fn check_window<R: Abort + AllocGlobal>(rt: &R, most: usize) {
+    let mut source = Window { rest: FRAMES, most };
+    let mut reading = FrameReading::new(rt.alloc());
+    let shown = FRAMES.get(..most).unwrap_or(&[]);
+    check_each(rt, &mut reading, &mut source, &EACH, shown);
+    same(rt, source.rest, [].as_slice(), most);
+}
+
 #[test]
 fn frames_are_the_same_however_much_is_buffered(rt: HostRuntime) {
     for most in 0..=FRAMES.len() {
-        let mut source = Window { rest: FRAMES, most };
-        let mut reading = FrameReading::new(rt.alloc());
-        let shown = FRAMES.get(..most).unwrap_or(&[]);
-        check_each(&rt, &mut reading, &mut source, &EACH, shown);
-        same(&rt, source.rest, [].as_slice(), most);
+        check_window(&rt, most);
     }
 }

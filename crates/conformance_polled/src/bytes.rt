@@ -1,7 +1,8 @@
 //! Numbers and buffers, read and written poll by poll.
-use crate::readings::{Reading, check_end, check_pending};
+use crate::readings::{check_end, check_pending, poll_buffer, poll_number};
 use crate::same::same;
 use crate::writings::{DONE, Writing, check_refused, check_stopped, check_written};
+use std::alloc::AllocError;
 use std::fmt::Display;
 use std::io;
 use std::io::ErrorKind;
@@ -19,7 +20,7 @@ type Number = Polled<Result<u64, IoReadError>>;
 
 /// One poll of a reading of a number.
 fn polled<S: AsyncRead>(reading: &mut GetVarint, source: &mut S) -> Number {
-    match reading.poll(source) {
+    match poll_number(reading, source) {
         Polled::Ready(Ok(number)) => Polled::Ready(Ok(number.into_inner())),
         Polled::Ready(Err(stop)) => Polled::Ready(Err(stop)),
         Polled::Pending => Polled::Pending,
@@ -41,7 +42,7 @@ fn check_each<R: Abort, S: AsyncRead>(
 }
 
 /// Numbers, and their shortest encodings.
-const ROWS: [(u64, &[u8]); 4] = [
+static ROWS: [(u64, &[u8]); 4] = [
     (37, &[0x25]),
     (15293, &[0x7b, 0xbd]),
     (494878333, &[0x9d, 0x7f, 0x3e, 0x7d]),
@@ -77,8 +78,8 @@ fn check_number<R: Abort>(rt: &R, number: u64, bytes: &[u8]) {
 
 #[test]
 fn numbers_are_read(rt: HostRuntime) {
-    for (number, bytes) in ROWS {
-        check_number(&rt, number, bytes);
+    for (number, bytes) in &ROWS {
+        check_number(&rt, *number, bytes);
     }
 }
 
@@ -93,12 +94,17 @@ fn check_cut_number<R: Abort>(rt: &R, front: &[u8]) {
     same(rt, (front, came), (front, fault), "whole");
 }
 
+/// Each front of a number's bytes.
+fn check_cut_numbers<R: Abort>(rt: &R, bytes: &[u8]) {
+    for len in 0..bytes.len() {
+        check_cut_number(rt, bytes.get(..len).unwrap_or(&[]));
+    }
+}
+
 #[test]
 fn cut_numbers_end(rt: HostRuntime) {
-    for (_, bytes) in ROWS {
-        for len in 0..bytes.len() {
-            check_cut_number(&rt, bytes.get(..len).unwrap_or(&[]));
-        }
+    for (_, bytes) in &ROWS {
+        check_cut_numbers(&rt, bytes);
     }
 }
 
@@ -163,7 +169,7 @@ fn check_fills<R: Abort, S: AsyncRead>(
     each: &[Filled],
 ) {
     for (at, wanted) in each.iter().enumerate() {
-        same(rt, &reading.poll(source), wanted, at);
+        same(rt, &poll_buffer(reading, source), wanted, at);
     }
 }
 
@@ -260,8 +266,8 @@ fn check_number_written<R: Abort + AllocGlobal>(
 
 #[test]
 fn numbers_are_written(rt: HostRuntime) -> Result<(), Fail> {
-    for (number, bytes) in ROWS {
-        check_number_written(&rt, number, bytes)?;
+    for (number, bytes) in &ROWS {
+        check_number_written(&rt, *number, bytes)?;
     }
     Ok(())
 }
@@ -319,61 +325,77 @@ fn check_error<R: Abort>(rt: &R, kind: ErrorKind, read: IoReadError, write: IoWr
     same(rt, came, (kind, read, write), "the error");
 }
 
+/// Errors of the system by which a connection is lost.
+static LOST: [ErrorKind; 5] = [
+    ErrorKind::NotConnected,
+    ErrorKind::ConnectionAborted,
+    ErrorKind::BrokenPipe,
+    ErrorKind::UnexpectedEof,
+    ErrorKind::Other,
+];
+
+/// Such an error is a lost connection for a reading and for a writing.
+fn check_lost<R: Abort>(rt: &R, kind: ErrorKind) {
+    let lost = IoReadError::NotConnected;
+    check_error(rt, kind, lost, IoWriteError::NotConnected);
+}
+
 #[test]
 fn errors_of_the_system_are_stops(rt: HostRuntime) {
     let reset = ErrorKind::ConnectionReset;
     check_error(&rt, reset, IoReadError::Reset, IoWriteError::Stopped);
-    for kind in [
-        ErrorKind::NotConnected,
-        ErrorKind::ConnectionAborted,
-        ErrorKind::BrokenPipe,
-        ErrorKind::UnexpectedEof,
-        ErrorKind::Other,
-    ] {
-        check_error(
-            &rt,
-            kind,
-            IoReadError::NotConnected,
-            IoWriteError::NotConnected,
-        );
+    for kind in &LOST {
+        check_lost(&rt, *kind);
     }
 }
 
 /// The stop is printed as this text.
-fn check_printed<R: Abort + AllocGlobal, T: Display + Drop>(
+fn check_printed<R: Abort + AllocGlobal, T: Display>(
     rt: &R,
-    stop: T,
+    stop: &T,
     text: &str,
-) -> Result<(), Fail> {
+) -> Result<(), AllocError> {
     let shown = format!(in rt.alloc(); "{stop}")?;
     same(rt, shown.as_str(), text, "printed");
     Ok(())
 }
 
-#[test]
-fn stops_are_printed(rt: HostRuntime) -> Result<(), Fail> {
-    for (stop, text) in [
-        (
-            IoReadError::ImmediateFin,
-            "read operation failed because EOF reached on first byte",
-        ),
-        (
-            IoReadError::UnexpectedFin,
-            "read operation failed because EOF reached after first byte",
-        ),
-        (
-            IoReadError::Reset,
-            "read operation failed because interrupted",
-        ),
-        (
-            IoReadError::NotConnected,
-            "read operation failed because not connected",
-        ),
-    ] {
-        check_printed(&rt, stop, text)?;
+/// Stops of a reading, and their texts.
+static PRINTED: [(IoReadError, &str); 4] = [
+    (
+        IoReadError::ImmediateFin,
+        "read operation failed because EOF reached on first byte",
+    ),
+    (
+        IoReadError::UnexpectedFin,
+        "read operation failed because EOF reached after first byte",
+    ),
+    (
+        IoReadError::Reset,
+        "read operation failed because interrupted",
+    ),
+    (
+        IoReadError::NotConnected,
+        "read operation failed because not connected",
+    ),
+];
+
+/// Each stop is printed as its text.
+fn check_stops_printed<R: Abort + AllocGlobal>(
+    rt: &R,
+    rows: &[(IoReadError, &str)],
+) -> Result<(), AllocError> {
+    for (stop, text) in rows {
+        check_printed(rt, stop, text)?;
     }
+    Ok(())
+}
+
+#[test]
+fn stops_are_printed(rt: HostRuntime) -> Result<(), AllocError> {
+    check_stops_printed(&rt, &PRINTED)?;
     let stopped = "write operation failed because operation has been stopped";
-    check_printed(&rt, IoWriteError::Stopped, stopped)?;
+    check_printed(&rt, &IoWriteError::Stopped, stopped)?;
     let lost = "write operation failed because not connected";
-    check_printed(&rt, IoWriteError::NotConnected, lost)
+    check_printed(&rt, &IoWriteError::NotConnected, lost)
 }

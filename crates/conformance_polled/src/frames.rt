@@ -6,7 +6,7 @@ use crate::frame_answers::{
 use crate::readings::{check_end, check_pending, check_stops};
 use crate::same::same;
 use crate::writings::{Writing, Written, check_refused, check_stopped, check_written};
-use std::alloc::AllocError;
+use std::alloc::{AllocError, Global};
 use std::borrow::CowSlice;
 use std::process::Abort;
 use std::test::Fail;
@@ -15,7 +15,7 @@ use wtp_core::bytes;
 use wtp_core::bytes::{IoWriteError, Polled, ReadStep, WriteStep};
 use wtp_core::ids::{SessionId, StreamId};
 use wtp_core::varint::VarInt;
-use wtp_wire::frame::{Frame, FrameReading, IoReadError, ParseError};
+use wtp_wire::frame::{Frame, FrameOwned, FrameReading, IoReadError, ParseError};
 
 /// A table of 2 bytes, one blocked stream, datagrams, WebTransport and three sessions.
 const SETTINGS: &[u8; 22] = &[
@@ -42,25 +42,51 @@ const FIELDS: &[u8; 12] = &[
 /// The stream is one of session 0.
 const SESSION: &[u8; 3] = &[0x40, 0x41, 0x00];
 
+/// The frame's bytes at once, and then no more.
+fn check_whole<R: Abort>(
+    rt: &R,
+    reading: &mut FrameReading,
+    bytes: &[u8],
+    answer: &Answer<'static>,
+) {
+    let mut whole = bytes;
+    check(rt, reading, &mut whole, answer, bytes, "whole");
+    same(rt, (bytes, whole), (bytes, &[]), "whole");
+    check(rt, reading, &mut whole, &IMMEDIATE_FIN, bytes, "the end");
+}
+
+/// The frame's bytes one by one, and then no more.
+fn check_slow<R: Abort>(
+    rt: &R,
+    reading: &mut FrameReading,
+    bytes: &[u8],
+    answer: &Answer<'static>,
+) {
+    let row = (bytes, End::Fin);
+    let mut slow = Trickle::new(bytes, End::Fin);
+    check_pending(rt, reading, &mut slow, row, bytes.len());
+    check(rt, reading, &mut slow, answer, bytes, "byte by byte");
+    same(rt, (bytes, slow.rest()), (bytes, &[]), "byte by byte");
+    check_pending(rt, reading, &mut slow, row, 1);
+    check(
+        rt,
+        reading,
+        &mut slow,
+        &IMMEDIATE_FIN,
+        bytes,
+        "the slow end",
+    );
+}
+
 /// The frame's bytes, whole and byte by byte, and then no more.
 fn check_read<R: Abort + AllocGlobal>(rt: &R, bytes: &[u8], answer: &Answer<'static>) {
     let mut reading = Frame::read_async(rt.alloc());
-    let mut whole = bytes;
-    check(rt, &mut reading, &mut whole, answer, bytes, "whole");
-    same(rt, (bytes, whole), (bytes, &[]), "whole");
-    let end = &IMMEDIATE_FIN;
-    check(rt, &mut reading, &mut whole, end, bytes, "the end");
-    let row = (bytes, End::Fin);
-    let mut slow = Trickle::new(bytes, End::Fin);
-    check_pending(rt, &mut reading, &mut slow, row, bytes.len());
-    check(rt, &mut reading, &mut slow, answer, bytes, "byte by byte");
-    same(rt, (bytes, slow.rest()), (bytes, &[]), "byte by byte");
-    check_pending(rt, &mut reading, &mut slow, row, 1);
-    check(rt, &mut reading, &mut slow, end, bytes, "the slow end");
+    check_whole(rt, &mut reading, bytes, answer);
+    check_slow(rt, &mut reading, bytes, answer);
 }
 
 /// Frames as bytes, and what is read.
-const FRAMES: [(&[u8], Answer<'static>); 5] = [
+static FRAMES: [(&[u8], Answer<'static>); 5] = [
     (SETTINGS, Polled::Ready(Ok((0x04, None, TABLE)))),
     (HEADERS, Polled::Ready(Ok((0x01, None, FIELDS)))),
     (SESSION, Polled::Ready(Ok((0x41, Some(0), b"")))),
@@ -73,14 +99,14 @@ const FRAMES: [(&[u8], Answer<'static>); 5] = [
 
 #[test]
 fn frames_are_read(rt: HostRuntime) {
-    for (bytes, answer) in FRAMES {
-        check_read(&rt, bytes, &answer);
+    for (bytes, answer) in &FRAMES {
+        check_read(&rt, bytes, answer);
     }
 }
 
 /// Faulty frames, and their faults: an unknown type, a session that is none, a length of 4097, and
 /// the largest length.
-const FAULTS: [(&[u8], Answer<'static>); 4] = [
+static FAULTS: [(&[u8], Answer<'static>); 4] = [
     (b"\x80\x42\x42\x42\x16This is a test payload", UNKNOWN),
     (&[0x40, 0x41, 0x01], NO_SESSION),
     (&[0x00, 0x50, 0x01], TOO_BIG),
@@ -92,8 +118,8 @@ const FAULTS: [(&[u8], Answer<'static>); 4] = [
 
 #[test]
 fn faults_are_named(rt: HostRuntime) {
-    for (bytes, fault) in FAULTS {
-        check_read(&rt, bytes, &fault);
+    for (bytes, fault) in &FAULTS {
+        check_read(&rt, bytes, fault);
     }
 }
 
@@ -102,27 +128,32 @@ fn faults_are_named(rt: HostRuntime) {
 fn check_cut<R: Abort + AllocGlobal>(rt: &R, front: &[u8]) {
     let mut reading = FrameReading::new(rt.alloc());
     let mut whole = front;
-    let fins = [End::Fin.fault(front.len()), End::Fin.fault(front.len())];
-    check_stops(rt, &mut reading, &mut whole, (front, End::Fin), fins);
+    let fin = End::Fin.fault(front.len());
+    check_stops(rt, &mut reading, &mut whole, (front, End::Fin), fin);
     for end in End::EACH {
         check_end(rt, &mut FrameReading::new(rt.alloc()), front, end);
     }
 }
 
 /// Frames of which every front is cut.
-const CUT: [&[u8]; 4] = [
+static CUT: [&[u8]; 4] = [
     b"\x00\x16This is a test payload",
     SESSION,
     &[0x0a, 0x05, 0x61],
     &[0x0a, 0xff, 0xff, 0xff, 0xff, 0xff, 0xff, 0xff, 0xff, 0x00],
 ];
 
+/// Each front of a frame.
+fn check_fronts<R: Abort + AllocGlobal>(rt: &R, frame: &[u8]) {
+    for len in 0..frame.len() {
+        check_cut(rt, frame.get(..len).unwrap_or(&[]));
+    }
+}
+
 #[test]
 fn cut_frames_end(rt: HostRuntime) {
-    for frame in CUT {
-        for len in 0..frame.len() {
-            check_cut(&rt, frame.get(..len).unwrap_or(&[]));
-        }
+    for frame in &CUT {
+        check_fronts(&rt, frame);
     }
 }
 
@@ -151,6 +182,15 @@ fn unknown_frames_are_passed_over_whole(rt: HostRuntime) {
 
 static ZEROS: [u8; 8192] = [0; 8192];
 
+/// The parts, one after another.
+fn join(alloc: Global, parts: [&[u8]; 4]) -> Result<Vec<u8>, AllocError> {
+    let mut bytes = Vec::new(alloc);
+    for part in &parts {
+        bytes.extend_from_slice(part)?;
+    }
+    Ok(bytes)
+}
+
 /// An unknown frame with these bytes for its length and so many zeros, what comes after it, and
 /// then an end.
 fn check_long<R: Abort + AllocGlobal>(
@@ -160,11 +200,8 @@ fn check_long<R: Abort + AllocGlobal>(
     after: &[u8],
     each: &[Answer<'static>],
 ) -> Result<(), AllocError> {
-    let mut bytes = Vec::new(rt.alloc());
-    bytes.push(0x0a)?;
-    bytes.extend_from_slice(length)?;
-    bytes.extend_from_slice(ZEROS.get(..zeros).unwrap_or(&[]))?;
-    bytes.extend_from_slice(after)?;
+    let zeros = ZEROS.get(..zeros).unwrap_or(&[]);
+    let bytes = join(rt.alloc(), [&[0x0a], length, zeros, after])?;
     let mut reading = FrameReading::new(rt.alloc());
     check_each(rt, &mut reading, &mut bytes.as_slice(), each, length);
     Ok(())
@@ -183,17 +220,27 @@ fn long_unknown_frames_take_more_polls(rt: HostRuntime) -> Result<(), Fail> {
     Ok(())
 }
 
+/// The bytes come by these steps.
+fn check_answers<R: Abort>(
+    rt: &R,
+    reading: &mut FrameReading,
+    (bytes, steps): (&[u8], &[ReadStep]),
+    each: &[Answer<'static>],
+) {
+    let mut source = Answers::new(bytes, steps);
+    check_each(rt, reading, &mut source, each, bytes);
+}
+
 /// The bytes come by these steps, and then the other bytes from a slice, to one new reading.
 fn check_steps<R: Abort + AllocGlobal>(
     rt: &R,
-    (bytes, steps): (&[u8], &[ReadStep]),
+    row: (&[u8], &[ReadStep]),
     first: &[Answer<'static>],
     other: &[u8],
     second: &[Answer<'static>],
 ) {
     let mut reading = FrameReading::new(rt.alloc());
-    let mut source = Answers::new(bytes, steps);
-    check_each(rt, &mut reading, &mut source, first, bytes);
+    check_answers(rt, &mut reading, row, first);
     let mut source = other;
     check_each(rt, &mut reading, &mut source, second, other);
 }
@@ -256,8 +303,7 @@ fn check_stop<R: Abort + AllocGlobal>(rt: &R, front: &[u8], end: End) {
     }
     check_pending(rt, &mut reading, &mut source, row, held);
     check_pending(rt, &mut reading, &mut source, row, 1);
-    let stops = [end.fault(held), end.fault(held)];
-    check_stops(rt, &mut reading, &mut source, row, stops);
+    check_stops(rt, &mut reading, &mut source, row, end.fault(held));
 }
 
 #[test]
@@ -314,7 +360,7 @@ const STEPS: [WriteStep; 4] = [
 ];
 
 /// What the polls answer at these steps, and what the sink has then taken.
-const WAITS: [(Written, &[u8]); 2] = [
+static WAITS: [(Written, &[u8]); 2] = [
     (Polled::Pending, &[0x00, 0x03]),
     (
         Polled::Ready(Err(IoWriteError::Stopped)),
@@ -322,19 +368,26 @@ const WAITS: [(Written, &[u8]); 2] = [
     ),
 ];
 
+/// A poll answers so, and the sink has then taken these bytes.
+fn check_wait<R: Abort, K: Writing>(
+    rt: &R,
+    writing: &mut K,
+    sink: &mut Paced<'_>,
+    answer: &Written,
+    taken: &[u8],
+) {
+    let came = writing.write_on(sink);
+    let shows = "the answer, what is taken";
+    same(rt, (&came, sink.output()), (answer, taken), shows);
+}
+
 #[test]
 fn a_waiting_and_stopped_frame_is_written(rt: HostRuntime) {
     let frame = Frame::new_data(CowSlice::Borrowed(b"abc"));
     let mut sink = Paced::new(rt.alloc(), &STEPS);
     let mut writing = frame.write_async();
-    for (answer, taken) in WAITS {
-        let came = writing.write_on(&mut sink);
-        same(
-            &rt,
-            (came, sink.output()),
-            (answer, taken),
-            "the answer, what is taken",
-        );
+    for (answer, taken) in &WAITS {
+        check_wait(&rt, &mut writing, &mut sink, answer, taken);
     }
 }
 
@@ -346,18 +399,25 @@ fn a_stopped_frame_is_written_on(rt: HostRuntime) {
     }
 }
 
-/// A poll, and another where memory was refused after the head.
-fn check_read_again<R: Abort>(rt: &R, reading: &mut FrameReading, source: &mut &[u8]) {
-    let mut answer = polled(reading, source);
-    if let Polled::NoMemory = answer {
-        same(
-            rt,
-            *source,
-            b"abc".as_slice(),
-            "the room before the first byte",
-        );
-        answer = polled(reading, source);
+/// A poll, or another where memory was refused after the head.
+fn read_again<R: Abort>(
+    rt: &R,
+    reading: &mut FrameReading,
+    source: &mut &[u8],
+) -> Polled<Result<FrameOwned, IoReadError>> {
+    match polled(reading, source) {
+        Polled::NoMemory => {
+            let shows = "the room before the first byte";
+            same(rt, *source, b"abc".as_slice(), shows);
+            polled(reading, source)
+        }
+        answer => answer,
     }
+}
+
+/// A frame is read, also where memory was refused after the head.
+fn check_read_again<R: Abort>(rt: &R, reading: &mut FrameReading, source: &mut &[u8]) {
+    let answer = read_again(rt, reading, source);
     let wanted = Polled::Ready(Ok((0x00, None, b"abc".as_slice())));
     same(rt, seen(&answer), wanted, "the frame");
 }

@@ -2,11 +2,13 @@
 //! ends.
 use crate::frame_answers;
 use crate::same::same;
+use std::fmt::Display;
 use std::process::Abort;
 use test_io::{End, Trickle};
 use wtp_core::bytes::{AsyncRead, GetBuffer, GetVarint, IoReadError, Polled};
+use wtp_core::varint::VarInt;
 use wtp_wire::frame::{self, FrameReading};
-use wtp_wire::stream_header::{self, HeaderReading};
+use wtp_wire::stream_header::{self, HeaderReading, StreamHeader};
 
 /// A reading of numbers, buffers, frames or headers.
 pub(crate) trait Reading {
@@ -15,9 +17,17 @@ pub(crate) trait Reading {
     fn stop<S: AsyncRead>(&mut self, source: &mut S) -> Polled<Option<IoReadError>>;
 }
 
+/// One poll of a reading of a number.
+pub(crate) fn poll_number<S: AsyncRead>(
+    reading: &mut GetVarint,
+    source: &mut S,
+) -> Polled<Result<VarInt, IoReadError>> {
+    reading.poll(source)
+}
+
 impl Reading for GetVarint {
     fn stop<S: AsyncRead>(&mut self, source: &mut S) -> Polled<Option<IoReadError>> {
-        match self.poll(source) {
+        match poll_number(self, source) {
             Polled::Ready(Ok(_)) => Polled::Ready(None),
             Polled::Ready(Err(stop)) => Polled::Ready(Some(stop)),
             Polled::Pending => Polled::Pending,
@@ -27,9 +37,17 @@ impl Reading for GetVarint {
     }
 }
 
+/// One poll of a reading into a buffer.
+pub(crate) fn poll_buffer<S: AsyncRead>(
+    reading: &mut GetBuffer<'_>,
+    source: &mut S,
+) -> Polled<Result<(), IoReadError>> {
+    reading.poll(source)
+}
+
 impl Reading for GetBuffer<'_> {
     fn stop<S: AsyncRead>(&mut self, source: &mut S) -> Polled<Option<IoReadError>> {
-        match self.poll(source) {
+        match poll_buffer(self, source) {
             Polled::Ready(Ok(())) => Polled::Ready(None),
             Polled::Ready(Err(stop)) => Polled::Ready(Some(stop)),
             Polled::Pending => Polled::Pending,
@@ -39,11 +57,19 @@ impl Reading for GetBuffer<'_> {
     }
 }
 
+/// Why the source gave no more, or `None` where the fault is one of the bytes.
+fn stop_of(fault: frame::IoReadError) -> Option<IoReadError> {
+    match fault {
+        frame::IoReadError::IO(stop) => Some(stop),
+        frame::IoReadError::Parse(_) => None,
+    }
+}
+
 impl Reading for FrameReading {
     fn stop<S: AsyncRead>(&mut self, source: &mut S) -> Polled<Option<IoReadError>> {
         match frame_answers::polled(self, source) {
-            Polled::Ready(Err(frame::IoReadError::IO(stop))) => Polled::Ready(Some(stop)),
-            Polled::Ready(_) => Polled::Ready(None),
+            Polled::Ready(Err(fault)) => Polled::Ready(stop_of(fault)),
+            Polled::Ready(Ok(_)) => Polled::Ready(None),
             Polled::Pending => Polled::Pending,
             Polled::Again => Polled::Again,
             Polled::NoMemory => Polled::NoMemory,
@@ -51,16 +77,45 @@ impl Reading for FrameReading {
     }
 }
 
+/// The same of a header.
+fn header_stop_of(fault: stream_header::IoReadError) -> Option<IoReadError> {
+    match fault {
+        stream_header::IoReadError::IO(stop) => Some(stop),
+        stream_header::IoReadError::Parse(_) => None,
+    }
+}
+
+/// One poll of a reading of a header.
+pub(crate) fn poll_header<S: AsyncRead>(
+    reading: &mut HeaderReading,
+    source: &mut S,
+) -> Polled<Result<StreamHeader, stream_header::IoReadError>> {
+    reading.poll(source)
+}
+
 impl Reading for HeaderReading {
     fn stop<S: AsyncRead>(&mut self, source: &mut S) -> Polled<Option<IoReadError>> {
-        match self.poll(source) {
-            Polled::Ready(Err(stream_header::IoReadError::IO(stop))) => Polled::Ready(Some(stop)),
-            Polled::Ready(_) => Polled::Ready(None),
+        match poll_header(self, source) {
+            Polled::Ready(Err(fault)) => Polled::Ready(header_stop_of(fault)),
+            Polled::Ready(Ok(_)) => Polled::Ready(None),
             Polled::Pending => Polled::Pending,
             Polled::Again => Polled::Again,
             Polled::NoMemory => Polled::NoMemory,
         }
     }
+}
+
+/// One poll, whose answer is wanted.
+fn check_poll<R: Abort, K: Reading, S: AsyncRead, N: Display + Drop>(
+    rt: &R,
+    reading: &mut K,
+    source: &mut S,
+    row: (&[u8], End),
+    wanted: &Polled<Option<IoReadError>>,
+    shows: N,
+) {
+    let came = reading.stop(source);
+    same(rt, (row, &came), (row, wanted), shows);
 }
 
 /// So many polls that are all answered `Pending`, over a source of these bytes.
@@ -72,22 +127,21 @@ pub(crate) fn check_pending<R: Abort, K: Reading>(
     polls: usize,
 ) {
     for at in 0..polls {
-        same(rt, (row, reading.stop(source)), (row, Polled::Pending), at);
+        check_poll(rt, reading, source, row, &Polled::Pending, at);
     }
 }
 
-/// Polls that are each answered that the source gave no more, for this reason.
+/// Two polls that are each answered that the source gave no more, for this reason.
 pub(crate) fn check_stops<R: Abort, K: Reading, S: AsyncRead>(
     rt: &R,
     reading: &mut K,
     source: &mut S,
     row: (&[u8], End),
-    stops: [IoReadError; 2],
+    stop: IoReadError,
 ) {
-    for stop in stops {
-        let came = reading.stop(source);
-        same(rt, (row, came), (row, Polled::Ready(Some(stop))), "stops");
-    }
+    let wanted = Polled::Ready(Some(stop));
+    check_poll(rt, reading, source, row, &wanted, "stops");
+    check_poll(rt, reading, source, row, &wanted, "stops again");
 }
 
 /// The front of what is read, byte by byte up to this end: the end is answered once, and then
@@ -97,7 +151,5 @@ pub(crate) fn check_end<R: Abort, K: Reading>(rt: &R, reading: &mut K, front: &[
     let mut source = Trickle::new(front, end);
     check_pending(rt, reading, &mut source, row, front.len());
     check_pending(rt, reading, &mut source, row, 1);
-    let len = front.len();
-    let stops = [end.fault(len), end.fault(len)];
-    check_stops(rt, reading, &mut source, row, stops);
+    check_stops(rt, reading, &mut source, row, end.fault(front.len()));
 }

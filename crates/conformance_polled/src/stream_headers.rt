@@ -1,5 +1,5 @@
 //! Headers of streams, read and written poll by poll.
-use crate::readings::{check_end, check_pending};
+use crate::readings::{check_end, check_pending, poll_header};
 use crate::same::same;
 use crate::writings::{check_refused, check_stopped, check_written};
 use std::process::Abort;
@@ -29,7 +29,7 @@ fn session_of(header: &StreamHeader) -> Option<u64> {
 
 /// One poll.
 fn polled<S: AsyncRead>(reading: &mut HeaderReading, source: &mut S) -> Answer {
-    match reading.poll(source) {
+    match poll_header(reading, source) {
         Polled::Ready(Ok(header)) => Polled::Ready(Ok((number(&header), session_of(&header)))),
         Polled::Ready(Err(error)) => Polled::Ready(Err(error)),
         Polled::Pending => Polled::Pending,
@@ -81,18 +81,20 @@ const SESSION: &[u8; 3] = &[0x40, 0x54, 0x00];
 /// The header of session 2^62 - 4.
 const LAST_SESSION: &[u8; 10] = &[0x40, 0x54, 0xff, 0xff, 0xff, 0xff, 0xff, 0xff, 0xff, 0xfc];
 
+/// Headers, their type numbers, and their sessions.
+static HEADERS: [(&[u8], u64, Option<u64>); 6] = [
+    (&[0x00], 0x00, None),
+    (&[0x02], 0x02, None),
+    (&[0x03], 0x03, None),
+    (&[0x21], 0x21, None),
+    (SESSION, 0x54, Some(0)),
+    (LAST_SESSION, 0x54, Some(4611686018427387900)),
+];
+
 #[test]
 fn headers_are_read(rt: HostRuntime) {
-    let rows: [(&[u8], u64, Option<u64>); 6] = [
-        (&[0x00], 0x00, None),
-        (&[0x02], 0x02, None),
-        (&[0x03], 0x03, None),
-        (&[0x21], 0x21, None),
-        (SESSION, 0x54, Some(0)),
-        (LAST_SESSION, 0x54, Some(4611686018427387900)),
-    ];
-    for (bytes, number, session) in rows {
-        check_read(&rt, bytes, &Polled::Ready(Ok((number, session))));
+    for (bytes, number, session) in &HEADERS {
+        check_read(&rt, bytes, &Polled::Ready(Ok((*number, *session))));
     }
 }
 
@@ -119,18 +121,18 @@ fn check_cut<R: Abort>(rt: &R, front: &[u8]) {
     }
 }
 
+/// Each front of a header.
+fn check_fronts<R: Abort>(rt: &R, header: &[u8]) {
+    for len in 0..header.len() {
+        check_cut(rt, header.get(..len).unwrap_or(&[]));
+    }
+}
+
 #[test]
 fn cut_headers_end(rt: HostRuntime) {
-    let unknown = [0x80, 0x42, 0x42, 0x42];
-    for header in [
-        unknown.as_slice(),
-        SESSION.as_slice(),
-        LAST_SESSION.as_slice(),
-    ] {
-        for len in 0..header.len() {
-            check_cut(&rt, header.get(..len).unwrap_or(&[]));
-        }
-    }
+    check_fronts(&rt, &[0x80, 0x42, 0x42, 0x42]);
+    check_fronts(&rt, SESSION);
+    check_fronts(&rt, LAST_SESSION);
 }
 
 /// Stops before each byte.

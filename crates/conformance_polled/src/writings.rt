@@ -1,5 +1,6 @@
 //! What every writing does, whatever it writes, into vectors and into sinks that wait or stop.
 use crate::same::same;
+use std::fmt::Display;
 use std::process::Abort;
 use test_io::{BYTE_BY_BYTE, Paced, stops_after};
 use wtp_core::bytes::{AsyncWrite, IoWriteError, Polled, PutBuffer, PutVarint};
@@ -42,6 +43,37 @@ impl Writing for HeaderWriting {
     }
 }
 
+/// One poll, whose answer is wanted.
+fn check_poll<R: Abort, K: Writing, W: AsyncWrite, S: Display + Drop>(
+    rt: &R,
+    writing: &mut K,
+    sink: &mut W,
+    row: &[u8],
+    wanted: &Written,
+    shows: S,
+) {
+    let came = writing.write_on(sink);
+    same(rt, (row, &came), (row, wanted), shows);
+}
+
+/// A writing into a vector, polled twice.
+fn check_whole<R: Abort + AllocGlobal, K: Writing>(rt: &R, writing: &mut K, bytes: &[u8]) {
+    let mut vector = Vec::new(rt.alloc());
+    check_poll(rt, writing, &mut vector, bytes, &DONE, "whole");
+    check_poll(rt, writing, &mut vector, bytes, &DONE, "finished");
+    same(rt, vector.as_slice(), bytes, "whole");
+}
+
+/// A writing into a sink that takes a byte a poll.
+fn check_slow<R: Abort + AllocGlobal, K: Writing>(rt: &R, writing: &mut K, bytes: &[u8]) {
+    let mut sink = Paced::new(rt.alloc(), BYTE_BY_BYTE.as_flattened());
+    for at in 0..bytes.len() {
+        check_poll(rt, writing, &mut sink, bytes, &Polled::Pending, at);
+    }
+    check_poll(rt, writing, &mut sink, bytes, &DONE, "byte by byte");
+    same(rt, sink.output(), bytes, "byte by byte");
+}
+
 /// A writing into a vector, polled twice, and another into a sink that takes a byte a poll.
 pub(crate) fn check_written<R: Abort + AllocGlobal, K: Writing>(
     rt: &R,
@@ -49,37 +81,39 @@ pub(crate) fn check_written<R: Abort + AllocGlobal, K: Writing>(
     slow: &mut K,
     bytes: &[u8],
 ) {
-    let mut vector = Vec::new(rt.alloc());
-    same(
-        rt,
-        (bytes, whole.write_on(&mut vector)),
-        (bytes, DONE),
-        "whole",
-    );
-    same(
-        rt,
-        (bytes, whole.write_on(&mut vector)),
-        (bytes, DONE),
-        "finished",
-    );
-    same(rt, vector.as_slice(), bytes, "whole");
-    let mut sink = Paced::new(rt.alloc(), BYTE_BY_BYTE.as_flattened());
-    for at in 0..bytes.len() {
-        same(
-            rt,
-            (bytes, slow.write_on(&mut sink)),
-            (bytes, Polled::Pending),
-            at,
-        );
-    }
-    same(
-        rt,
-        (bytes, slow.write_on(&mut sink)),
-        (bytes, DONE),
-        "byte by byte",
-    );
-    same(rt, sink.output(), bytes, "byte by byte");
+    check_whole(rt, whole, bytes);
+    check_slow(rt, slow, bytes);
 }
+
+/// Into a sink that took so many bytes and gives no more room, for this reason.
+fn check_fault<R: Abort, K: Writing>(
+    rt: &R,
+    writing: &mut K,
+    sink: &mut Paced<'_>,
+    (bytes, sent): (&[u8], usize),
+    fault: &Written,
+) {
+    check_poll(rt, writing, sink, bytes, fault, sent);
+    same(rt, Some(sink.output()), bytes.get(..sent), sent);
+}
+
+/// The rest of a writing into a vector, after so many bytes.
+fn check_rest<R: Abort + AllocGlobal, K: Writing>(
+    rt: &R,
+    writing: &mut K,
+    bytes: &[u8],
+    sent: usize,
+) {
+    let mut vector = Vec::new(rt.alloc());
+    check_poll(rt, writing, &mut vector, bytes, &DONE, sent);
+    same(rt, Some(vector.as_slice()), bytes.get(sent..), sent);
+}
+
+/// The sink stopped.
+const STOPPED: Written = Polled::Ready(Err(IoWriteError::Stopped));
+
+/// The sink is lost.
+const LOST: Written = Polled::Ready(Err(IoWriteError::NotConnected));
 
 /// A writing into a sink that takes so many bytes, one a call, then stops, and is then lost; and
 /// the rest into a vector.
@@ -90,23 +124,30 @@ pub(crate) fn check_stopped<R: Abort + AllocGlobal, K: Writing>(
     sent: usize,
 ) {
     let mut sink = Paced::new(rt.alloc(), stops_after(sent));
-    for fault in [IoWriteError::Stopped, IoWriteError::NotConnected] {
-        let came = writing.write_on(&mut sink);
-        same(
-            rt,
-            (bytes, came, Some(sink.output())),
-            (bytes, Polled::Ready(Err(fault)), bytes.get(..sent)),
-            sent,
-        );
+    check_fault(rt, writing, &mut sink, (bytes, sent), &STOPPED);
+    check_fault(rt, writing, &mut sink, (bytes, sent), &LOST);
+    check_rest(rt, writing, bytes, sent);
+}
+
+/// Where memory was refused, nothing was sent, or the head.
+fn check_sent<R: Abort>(rt: &R, sent: &[u8], head: &[u8]) {
+    assert!(rt; sent.is_empty() || sent == head);
+}
+
+/// What a poll into a vector answers, or another where memory was refused.
+fn write_again<R: Abort, K: Writing>(
+    rt: &R,
+    writing: &mut K,
+    vector: &mut Vec<u8>,
+    head: &[u8],
+) -> Written {
+    match writing.write_on(vector) {
+        Polled::NoMemory => {
+            check_sent(rt, vector.as_slice(), head);
+            writing.write_on(vector)
+        }
+        answer => answer,
     }
-    let mut other = Vec::new(rt.alloc());
-    let came = writing.write_on(&mut other);
-    same(
-        rt,
-        (bytes, came, Some(other.as_slice())),
-        (bytes, DONE, bytes.get(sent..)),
-        sent,
-    );
 }
 
 /// A writing into a vector, polled again where memory was refused, before the head or after it.
@@ -117,12 +158,7 @@ pub(crate) fn check_refused<R: Abort + AllocGlobal, K: Writing>(
     rest: &[u8],
 ) {
     let mut vector = Vec::new(rt.alloc());
-    let mut answer = writing.write_on(&mut vector);
-    if answer == Polled::NoMemory {
-        let sent = vector.as_slice();
-        assert!(rt; sent.is_empty() || sent == head);
-        answer = writing.write_on(&mut vector);
-    }
+    let answer = write_again(rt, writing, &mut vector, head);
     same(rt, (head, answer), (head, DONE), "written");
     same(rt, vector.get(..head.len()), Some(head), "head");
     same(rt, vector.get(head.len()..), Some(rest), "rest");

@@ -25,8 +25,13 @@ fn step_of(step: CursorStep) -> Step {
 
 /// The frame's type, its session and the place of its payload.
 fn found_at(place: FramePlace) -> (u64, Option<u64>, usize) {
-    let session = place.session_id.map(SessionId::into_u64);
+    let session = number_of(place.session_id);
     (place.kind.id().into_inner(), session, place.start)
+}
+
+/// The number of a session.
+fn number_of(session: Option<SessionId>) -> Option<u64> {
+    Some(session?.into_u64())
 }
 
 /// Whether no frame was read and the bytes due before a call, its bytes, its answer, the same two

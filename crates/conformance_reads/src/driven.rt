@@ -120,51 +120,59 @@ fn refused_memory_loses_no_frame(rt: HostRuntime) {
     check_frames(&rt, &driving.out, &TWO_FRAMES);
 }
 
-/// How a drive of one poll ends, how many frames were put out then, and how many bytes are left.
-static ONE_BY_ONE: [(Driven, usize, usize); 3] = [
-    (Driven::Spent, 1, 3),
-    (Driven::Spent, 2, 0),
-    (FIN, 2, 0),
+/// How many polls are made, how the drive ends, how many frames were put out then, and how many
+/// bytes are left.
+type Part = (u32, Driven, usize, usize);
+
+/// The drives of a new stream over the bytes, one for each part, and the frames put out of them.
+fn check_parts<R: Abort + AllocGlobal>(
+    rt: &R,
+    bytes: &[u8],
+    parts: &[Part],
+    frames: &[(u64, &[u8])],
+) {
+    let mut driving = Driving::new(rt.alloc());
+    let mut rest = bytes;
+    for (polls, end, count, left) in parts {
+        driving.check(rt, &mut rest, *polls, (end, *count, *left), "part");
+    }
+    check_frames(rt, &driving.out, frames);
+}
+
+static ONE_BY_ONE: [Part; 3] = [
+    (1, Driven::Spent, 1, 3),
+    (1, Driven::Spent, 2, 0),
+    (1, FIN, 2, 0),
 ];
 
 #[test]
 fn polls_are_spent_one_by_one(rt: HostRuntime) {
-    let mut driving = Driving::new(rt.alloc());
-    let mut bytes = TWO;
-    for (end, frames, left) in &ONE_BY_ONE {
-        let wanted = (end, *frames, *left);
-        driving.check(&rt, &mut bytes, 1, wanted, "one poll");
-    }
-    check_frames(&rt, &driving.out, &TWO_FRAMES);
+    check_parts(&rt, TWO, &ONE_BY_ONE, &TWO_FRAMES);
 }
 
 #[test]
 fn a_cut_unknown_frame_ends_it(rt: HostRuntime) {
-    let mut driving = Driving::new(rt.alloc());
-    let mut bytes = [0x0a, 0x0a, 0x00, 0x00].as_slice();
-    driving.check(&rt, &mut bytes, 2, (&CUT, 0, 0), "a cut unknown frame");
+    check_parts(&rt, b"\x0a\x0a\x00\x00", &[(2, CUT, 0, 0)], &[]);
 }
 
-/// How many polls are made, how many frames were put out then, and how many bytes are left.
-type Part = (u32, usize, usize);
-
 /// The drives over an unknown frame of 8192 bytes and a data frame of none, one for each part.
-fn check_parts<R: Abort + AllocGlobal>(rt: &R, parts: &[Part]) -> Result<(), AllocError> {
+fn check_unknown<R: Abort + AllocGlobal>(rt: &R, parts: &[Part]) -> Result<(), AllocError> {
     let unknown = pad(rt.alloc(), &[0x0a, 0x60, 0x00], 3 + 8192 + 2)?;
-    let mut driving = Driving::new(rt.alloc());
-    let mut bytes = unknown.as_slice();
-    for (polls, frames, left) in parts {
-        let wanted = (&Driven::Spent, *frames, *left);
-        driving.check(rt, &mut bytes, *polls, wanted, "part");
-    }
-    check_frames(rt, &driving.out, &[(0x00, b"")]);
+    check_parts(rt, unknown.as_slice(), parts, &[(0x00, b"")]);
     Ok(())
 }
 
+static IN_PARTS: [Part; 4] = [
+    (0, Driven::Spent, 0, 8197),
+    (1, Driven::Spent, 0, 4098),
+    (1, Driven::Spent, 0, 2),
+    (1, Driven::Spent, 1, 0),
+];
+
 #[test]
 fn each_part_of_an_unknown_frame_is_a_poll(rt: HostRuntime) -> Result<(), AllocError> {
-    check_parts(&rt, &[(0, 0, 8197), (1, 0, 4098), (1, 0, 2), (1, 1, 0)])?;
-    check_parts(&rt, &[(3, 1, 0)])
+    check_unknown(&rt, &IN_PARTS)?;
+    check_unknown(&rt, &[(3, Driven::Spent, 1, 0)])
 }
 
 #[test]

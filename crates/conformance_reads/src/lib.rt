@@ -1,5 +1,7 @@
 //! The frames that are read from a stream of each kind: from a buffer or a slice, poll by poll,
-//! driven, and by a cursor over bytes cut anywhere. There is no product code here.
+//! driven, and by a cursor over bytes cut anywhere. Datagrams, the way of a header map over
+//! streams, the first steps of a server, and recordings of real stacks. There is no product code
+//! here.
 #![tactic(auto)]
 
 #[cfg(test)]
@@ -9,7 +11,13 @@ mod cursor;
 #[cfg(test)]
 mod cursor_steps;
 #[cfg(test)]
+mod datagrams;
+#[cfg(test)]
 mod driven;
+#[cfg(test)]
+mod fault_codes;
+#[cfg(test)]
+mod journey;
 #[cfg(test)]
 mod looped;
 #[cfg(test)]
@@ -19,9 +27,13 @@ mod polled;
 #[cfg(test)]
 mod reads;
 #[cfg(test)]
+mod recordings;
+#[cfg(test)]
 mod rules;
 #[cfg(test)]
 mod same;
+#[cfg(test)]
+mod server;
 #[cfg(test)]
 mod states;
 #[cfg(test)]

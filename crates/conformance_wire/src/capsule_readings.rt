@@ -8,7 +8,7 @@ use wtp_wire::capsule::{CapsuleError, CapsuleKind, CapsuleOwned, CapsuleReading}
 
 /// How data ends.
 #[derive(Clone, Copy, Debug, PartialEq, Eq)]
-enum Ending {
+pub enum Ending {
     Clean,
     Cut,
     TooLong,
@@ -30,6 +30,35 @@ fn next(reading: &mut CapsuleReading, bytes: &mut &[u8]) -> Answer {
     }
 }
 
+/// What was found of a piece of data.
+#[derive(Clone, Copy)]
+enum Found {
+    Value,
+    Nothing,
+    Fault,
+}
+
+/// Asserts that a capsule that is read has this value, and that a fault is a value that is too
+/// long.
+fn check_answer<R: Abort>(
+    rt: &R,
+    answer: Answer,
+    value: Option<&'static [u8]>,
+    shows: &str,
+) -> Found {
+    match answer {
+        Ok(Some(capsule)) => {
+            same(rt, Some(capsule.payload()), value, shows);
+            Found::Value
+        }
+        Ok(None) => Found::Nothing,
+        Err(fault) => {
+            same(rt, fault, CapsuleError::TooLong, shows);
+            Found::Fault
+        }
+    }
+}
+
 /// Asserts the values of the capsules in a piece of data, which come after `count` others. Returns
 /// how many there are then, and whether a value is too long.
 fn check_piece<R: Abort>(
@@ -43,21 +72,11 @@ fn check_piece<R: Abort>(
     let mut rest = piece;
     let mut count = count;
     for _ in 0..=values.len() {
-        match next(reading, &mut rest) {
-            Ok(None) => break,
-            Ok(Some(capsule)) => {
-                same(
-                    rt,
-                    Some(capsule.payload()),
-                    values.get(count).copied(),
-                    shows,
-                );
-                count = count.saturating_add(1);
-            }
-            Err(fault) => {
-                same(rt, fault, CapsuleError::TooLong, shows);
-                return (count, true);
-            }
+        let answer = next(reading, &mut rest);
+        match check_answer(rt, answer, values.get(count).copied(), shows) {
+            Found::Value => count = count.saturating_add(1),
+            Found::Nothing => break,
+            Found::Fault => return (count, true),
         }
     }
     same(rt, rest, [].as_slice(), shows);
@@ -77,20 +96,25 @@ fn check_pieces<R: Abort + AllocGlobal>(
     for piece in pieces {
         let (found, too_long) = check_piece(rt, &mut reading, piece, values, count, shows);
         if too_long {
-            same(rt, (ending, found), (Ending::TooLong, values.len()), shows);
+            same(rt, (Ending::TooLong, found), (ending, values.len()), shows);
             return;
         }
         count = found;
     }
-    let came = match reading.finish() {
+    let came = (ending_of(&reading), count);
+    same(rt, came, (ending, values.len()), shows);
+}
+
+/// How data ends after which the reading is this one.
+fn ending_of(reading: &CapsuleReading) -> Ending {
+    match reading.finish() {
         Ok(()) => Ending::Clean,
         Err(_) => Ending::Cut,
-    };
-    same(rt, (came, count), (ending, values.len()), shows);
+    }
 }
 
 /// A row: data, the values of its close capsules, how it ends, and what the row shows.
-type Row = (
+pub type Row = (
     &'static [u8],
     &'static [&'static [u8]],
     Ending,
@@ -111,15 +135,18 @@ const BYE: &[u8] = b"\x00\x00\x12\x34bye, w\xc3\xb6rld";
 
 const END: &[u8] = b"\x00\x00\x00\x07end";
 
+/// One close capsule.
+const CLOSE: Row = (
+    &[0x68, 0x43, 0x07, 0, 0, 0, 7, 0x65, 0x6e, 0x64],
+    &[END],
+    Ending::Clean,
+    "a close",
+);
+
 /// Worked rows. Types 0x17, 0x40 and 0x69 are reserved: 0x29 * N + 0x17 (RFC 9297, section 5.4).
-static ROWS: [Row; 14] = [
+pub static ROWS: [Row; 14] = [
     (&[], &[], Ending::Clean, "no data"),
-    (
-        &[0x68, 0x43, 0x07, 0, 0, 0, 7, 0x65, 0x6e, 0x64],
-        &[END],
-        Ending::Clean,
-        "a close",
-    ),
+    CLOSE,
     (
         &[0x17, 0x00, 0x68, 0x43, 0x07, 0, 0, 0, 7, 0x65, 0x6e, 0x64],
         &[END],
@@ -205,11 +232,11 @@ fn data_may_be_cut_anywhere(rt: HostRuntime) {
 
 #[test]
 fn a_cut_close_is_found_past_refused_memory(rt: HostRuntime) {
-    check_cuts(&rt, &ROWS[1]);
+    check_cuts(&rt, &CLOSE);
 }
 
 /// DATA frames' payloads of recorded sessions, and the values of their close capsules.
-static RECORDED: [(&[&[u8]], &[u8], &str); 5] = [
+pub static RECORDED: [(&[&[u8]], &[u8], &str); 5] = [
     (
         &[
             &[
@@ -299,24 +326,41 @@ fn close<R: AllocGlobal>(rt: &R, code: u32, reason: &str) -> Made {
     }
 }
 
-/// Writes a close; a second time if memory was refused.
-fn write<R: AllocGlobal>(rt: &R, close: &CloseWebTransportSession) -> Vec<u8> {
-    let mut bytes = Vec::new(rt.alloc());
-    if close.write(&mut bytes) == Err(PutError::Memory) {
-        bytes = Vec::new(rt.alloc());
-        let _ = close.write(&mut bytes);
+/// Writes a close.
+fn write_once(close: &CloseWebTransportSession, bytes: &mut Vec<u8>) -> Result<(), PutError> {
+    close.write(bytes)
+}
+
+/// The same into an empty vector; from the start again if memory was refused.
+fn write(close: &CloseWebTransportSession, bytes: &mut Vec<u8>) -> Result<(), PutError> {
+    match write_once(close, bytes) {
+        Err(PutError::Memory) => {
+            bytes.clear();
+            write_once(close, bytes)
+        }
+        answer => answer,
     }
-    bytes
 }
 
 /// Asserts the bytes of a close that is written.
+fn check_bytes<R: Abort + AllocGlobal>(
+    rt: &R,
+    close: &CloseWebTransportSession,
+    wanted: &[u8],
+    shows: &str,
+) {
+    let mut bytes = Vec::new(rt.alloc());
+    let outcome = write(close, &mut bytes);
+    let came = (outcome, bytes.as_slice(), close.write_size());
+    same(rt, came, (Ok(()), wanted, wanted.len()), shows);
+}
+
+/// Asserts the bytes of the close with this code and this reason.
 fn check_written<R: Abort + AllocGlobal>(rt: &R, code: u32, reason: &str, wanted: &[u8]) {
-    let Ok(close) = close(rt, code, reason) else {
-        panic!(rt; "no close: {code}");
-    };
-    let bytes = write(rt, &close);
-    same(rt, bytes.as_slice(), wanted, reason);
-    same(rt, close.write_size(), wanted.len(), reason);
+    match close(rt, code, reason) {
+        Ok(close) => check_bytes(rt, &close, wanted, reason),
+        Err(fault) => same(rt, Some(fault), None, reason),
+    }
 }
 
 /// Codes and reasons, and the bytes of their capsules.

@@ -3,7 +3,6 @@ use crate::same::same;
 use std::borrow::CowSlice;
 use std::process::Abort;
 use wtp_core::error::{ErrorCode, Refused};
-use wtp_core::varint::VarInt;
 use wtp_wire::capsule::capsules::CloseWebTransportSession;
 use wtp_wire::capsule::{Capsule, CapsuleKind, capsule_types};
 use wtp_wire::frame::Frame;
@@ -88,7 +87,7 @@ fn sessions_are_closed_past_refused_memory(rt: HostRuntime) {
 #[test]
 fn the_close_capsule_has_its_number(rt: HostRuntime) {
     let number = capsule_types::CAPSULE_TYPE_CLOSE_WEBTRANSPORT_SESSION;
-    same(&rt, number, VarInt::from_u32(0x2843), "the number");
+    same(&rt, number.into_inner(), 0x2843, "the number");
 }
 
 /// The answer to a payload that is at fault.

@@ -3,6 +3,8 @@
 #![tactic(auto)]
 
 #[cfg(test)]
+mod capsule_cursors;
+#[cfg(test)]
 mod capsule_readings;
 #[cfg(test)]
 mod capsules;

@@ -1,4 +1,5 @@
 //! Worked rows of settings, and what stands where memory is refused.
+use crate::frames::put;
 use crate::same::same;
 use crate::texts::has_text;
 use std::alloc::{AllocError, Global};
@@ -19,7 +20,7 @@ fn read<R: Abort + AllocGlobal>(rt: &R, payload: &[u8]) -> Result<Settings, Refu
 }
 
 /// As `read`; a second time where memory was refused.
-fn answer<R: Abort + AllocGlobal>(rt: &R, payload: &[u8]) -> Result<Settings, Refused> {
+pub fn answer<R: Abort + AllocGlobal>(rt: &R, payload: &[u8]) -> Result<Settings, Refused> {
     match read(rt, payload) {
         Err(Refused::Memory) => read(rt, payload),
         answer => answer,
@@ -96,11 +97,6 @@ pub fn check_frame<R: Abort + AllocGlobal>(
     Ok(())
 }
 
-/// Puts the whole frame into the vector.
-fn put(frame: &Frame<'_>, out: &mut Vec<u8>) -> Result<(), PutError> {
-    frame.write(out)
-}
-
 /// Puts the whole frame into the empty vector; from the start again where memory was refused.
 fn write(frame: &Frame<'_>, out: &mut Vec<u8>) -> Result<(), PutError> {
     match put(frame, out) {
@@ -166,11 +162,16 @@ fn fault_of(read: Result<Settings, Refused>) -> Option<Refused> {
     }
 }
 
+/// Asserts the fault of a payload.
+fn check_fault<R: Abort + AllocGlobal>(rt: &R, payload: &[u8], code: ErrorCode, shows: &str) {
+    let fault = fault_of(answer(rt, payload));
+    same(rt, fault, Some(Refused::Code(code)), shows);
+}
+
 #[test]
 fn faults_are_found_in_order_past_refused_memory(rt: HostRuntime) {
     for (payload, code, word) in &FAULTS {
-        let fault = fault_of(answer(&rt, payload));
-        same(&rt, fault, Some(Refused::Code(*code)), word);
+        check_fault(&rt, payload, *code, word);
     }
 }
 
@@ -267,6 +268,13 @@ const VALUES: [(SettingId, u64); 5] = [
     (SettingId::WebTransportMaxSessions, 3),
 ];
 
+/// Asserts the values of settings.
+fn check_values<R: Abort>(rt: &R, settings: &Settings, values: &[(SettingId, u64)]) {
+    for (id, value) in values {
+        check_value(rt, settings, *id, Some(*value), "read back");
+    }
+}
+
 #[test]
 fn settings_are_written_by_rising_number_past_refused_memory(rt: HostRuntime) -> Result<(), Fail> {
     let settings = build(rt.alloc())?;
@@ -274,9 +282,7 @@ fn settings_are_written_by_rising_number_past_refused_memory(rt: HostRuntime) ->
     check_lent(&rt, &settings, &mut [0x55; 24], &STEPS, "in a buffer")?;
     check_alone(&rt, &settings, &mut [0x55; 40])?;
     let read = answer(&rt, &STEPS)?;
-    for (id, value) in VALUES {
-        check_value(&rt, &read, id, Some(value), "read back");
-    }
+    check_values(&rt, &read, &VALUES);
     Ok(())
 }
 

@@ -1,14 +1,12 @@
 //! The names of settings in the standards, and settings one by one.
 use crate::same::same;
-use crate::settings::check_frame;
+use crate::settings::{answer, check_frame};
 use crate::texts::prints;
 use std::alloc::{AllocError, Global};
-use std::borrow::CowSlice;
 use std::process::Abort;
 use std::test::Fail;
 use wtp_core::error::Refused;
-use wtp_core::varint::VarInt;
-use wtp_wire::frame::Frame;
+use wtp_core::varint::{VarInt, VarIntBoundsExceeded};
 use wtp_wire::settings::{SettingId, Settings, SettingsIter};
 
 /// Numbers, and the names that the standards give them: RFC 9204, section 5; RFC 9114, sections
@@ -39,15 +37,27 @@ static UNKNOWN: [(u64, &str); 8] = [
     (0x3fff_ffff_ffff_ffff, "the largest number"),
 ];
 
-/// Asserts the name of the setting of a number, and its number.
-fn check_name<R: Abort + AllocGlobal>(rt: &R, number: u64, name: &str) -> Result<(), Fail> {
-    let found = SettingId::parse(VarInt::try_from_u64(number)?);
-    let Some(id) = found else {
-        same(rt, "unknown", name, "the setting");
-        return Ok(());
-    };
+/// The setting of a number.
+fn setting_of(number: u64) -> Result<Option<SettingId>, VarIntBoundsExceeded> {
+    Ok(SettingId::parse(VarInt::try_from_u64(number)?))
+}
+
+/// Asserts the name of a setting, and its number.
+fn check_setting<R: Abort + AllocGlobal>(
+    rt: &R,
+    id: SettingId,
+    number: u64,
+    name: &str,
+) -> Result<(), AllocError> {
     same(rt, id.id().into_inner(), number, name);
     same(rt, id.to_string(rt.alloc())?.as_str(), name, "its name");
+    Ok(())
+}
+
+/// Asserts the name of the setting of a number, and its number.
+fn check_name<R: Abort + AllocGlobal>(rt: &R, number: u64, name: &str) -> Result<(), Fail> {
+    let id = setting_of(number)?.ok_or("no such setting")?;
+    check_setting(rt, id, number, name)?;
     Ok(())
 }
 
@@ -59,11 +69,16 @@ fn settings_have_their_names(rt: HostRuntime) -> Result<(), Fail> {
     Ok(())
 }
 
+/// Asserts that a number has no setting.
+fn check_unknown<R: Abort>(rt: &R, number: u64, shows: &str) -> Result<(), VarIntBoundsExceeded> {
+    same(rt, setting_of(number)?, None, shows);
+    Ok(())
+}
+
 #[test]
 fn other_numbers_have_no_setting(rt: HostRuntime) -> Result<(), Fail> {
     for (number, shows) in &UNKNOWN {
-        let found = SettingId::parse(VarInt::try_from_u64(*number)?);
-        same(&rt, found, None, shows);
+        check_unknown(&rt, *number, shows)?;
     }
     Ok(())
 }
@@ -106,18 +121,6 @@ static PAYLOADS: [Row; 5] = [
     ),
 ];
 
-/// Returns the settings of a payload; a second time if allocation failed.
-fn read(alloc: Global, payload: &[u8]) -> Result<Settings, Refused> {
-    if payload.len() >= 64 {
-        return Err(Refused::Memory);
-    }
-    let frame = Frame::new_settings(CowSlice::Borrowed(payload));
-    match Settings::with_frame(alloc, &frame) {
-        Err(Refused::Memory) => Settings::with_frame(alloc, &frame),
-        answer => answer,
-    }
-}
-
 /// The next pair of a listing, as numbers.
 fn next_pair(listed: &mut SettingsIter<'_>) -> Option<(u64, u64)> {
     let (id, value) = listed.next()?;
@@ -137,23 +140,23 @@ fn check_listed<R: Abort>(rt: &R, settings: &Settings, pairs: &[(u64, u64)], sho
 }
 
 /// Asserts the settings that the payload of a row sets.
-fn check_row<R: Abort>(rt: &R, alloc: Global, row: &Row) -> Result<(), Refused> {
+fn check_row<R: Abort + AllocGlobal>(rt: &R, row: &Row) -> Result<(), Refused> {
     let (payload, pairs, shows) = *row;
-    check_listed(rt, &read(alloc, payload)?, pairs, shows);
+    check_listed(rt, &answer(rt, payload)?, pairs, shows);
     Ok(())
 }
 
 /// Asserts it of each row.
-fn check_rows<R: Abort>(rt: &R, alloc: Global, rows: &[Row]) -> Result<(), Refused> {
+fn check_rows<R: Abort + AllocGlobal>(rt: &R, rows: &[Row]) -> Result<(), Refused> {
     for row in rows {
-        check_row(rt, alloc, row)?;
+        check_row(rt, row)?;
     }
     Ok(())
 }
 
 #[test]
 fn settings_are_listed_past_refused_memory(rt: HostRuntime) -> Result<(), Fail> {
-    check_rows(&rt, rt.alloc(), &PAYLOADS)?;
+    check_rows(&rt, &PAYLOADS)?;
     Ok(())
 }
 
@@ -177,7 +180,7 @@ fn the_size_of_field_sections_is_limited(rt: HostRuntime) -> Result<(), Fail> {
 
 #[test]
 fn settings_are_printed(rt: HostRuntime) -> Result<(), Fail> {
-    let settings = read(rt.alloc(), &[0x33, 0x01, 0x21, 0x05, 0x06, 0x07])?;
+    let settings = answer(&rt, &[0x33, 0x01, 0x21, 0x05, 0x06, 0x07])?;
     let text = "Settings({MaxFieldSectionSize: 7, Exercise(33): 5, H3Datagram: 1})";
     prints(&rt, &settings, text, "settings")?;
     let mut listed = settings.iter();

@@ -150,12 +150,18 @@ static WRITTEN: [(u64, &[u8], &str); 3] = [
     ),
 ];
 
+/// Asserts it of the header of the session of this number.
+fn check_session<R: Abort>(rt: &R, number: u64, bytes: &[u8], shows: &str) -> Result<(), Fail> {
+    let header = StreamHeader::new_webtransport(session(number)?);
+    check_written(rt, header, bytes, shows)?;
+    Ok(())
+}
+
 #[test]
 fn headers_are_written(rt: HostRuntime) -> Result<(), Fail> {
     check_written(&rt, StreamHeader::new_control(), &[0x00], "control")?;
     for (number, bytes, word) in &WRITTEN {
-        let header = StreamHeader::new_webtransport(session(*number)?);
-        check_written(&rt, header, bytes, word)?;
+        check_session(&rt, *number, bytes, word)?;
     }
     Ok(())
 }
@@ -203,21 +209,41 @@ fn kind_number(id: VarInt) -> Option<VarInt> {
     Some(StreamKind::parse(id)?.id())
 }
 
+/// Asserts that a number is that of a kind.
+fn check_kind<R: Abort>(rt: &R, number: u32) {
+    let id = VarInt::from_u32(number);
+    same(rt, kind_number(id), Some(id), number);
+}
+
+/// Numbers of kinds.
+static KINDS: [u32; 7] = [0x00, 0x02, 0x03, 0x54, 0x21, 0x40, 0x5f];
+
 #[test]
 fn kinds_have_their_numbers(rt: HostRuntime) {
-    for number in [0x00, 0x02, 0x03, 0x54, 0x21, 0x40, 0x5f] {
-        let id = VarInt::from_u32(number);
-        same(&rt, kind_number(id), Some(id), number);
+    for number in &KINDS {
+        check_kind(&rt, *number);
     }
-    for (number, wanted) in [
-        (0x20, false),
-        (0x21, true),
-        (0x22, false),
-        (0x40, true),
-        (0x54, false),
-    ] {
-        let id = VarInt::from_u32(number);
-        same(&rt, StreamKind::is_id_exercise(id), wanted, number);
+}
+
+/// Asserts whether a number is that of an exercise kind.
+fn check_exercise<R: Abort>(rt: &R, number: u32, wanted: bool) {
+    let id = VarInt::from_u32(number);
+    same(rt, StreamKind::is_id_exercise(id), wanted, number);
+}
+
+/// Numbers, and whether they are those of exercise kinds.
+static EXERCISES: [(u32, bool); 5] = [
+    (0x20, false),
+    (0x21, true),
+    (0x22, false),
+    (0x40, true),
+    (0x54, false),
+];
+
+#[test]
+fn exercise_kinds_have_their_numbers(rt: HostRuntime) {
+    for (number, wanted) in &EXERCISES {
+        check_exercise(&rt, *number, *wanted);
     }
 }
 

@@ -6,14 +6,14 @@ use std::io;
 use wtransport_proto::bytes::Stepped;
 use wtransport_proto::datagram::Datagram;
 use wtransport_proto::error::Refused;
-use wtransport_proto::frame::FrameReading;
+use wtransport_proto::frame::{Frame, FrameReading};
 use wtransport_proto::session::request_of_frame;
 use wtransport_proto::stream::BiAccepted;
 use wtransport_proto::stream::biremote::StreamBiRemoteQuic;
 use wtransport_proto::stream::uniremote::StreamUniRemoteQuic;
 
 /// Bidirectional streams that are closed, and what is wrong with each.
-const STREAMS: [(&[u8], &str); 7] = [
+static STREAMS: [(&[u8], &str); 7] = [
     (b"", "an empty stream"),
     (b"\x00\x00", "DATA before HEADERS"),
     (b"\x04\x00", "SETTINGS on a request stream"),
@@ -25,31 +25,49 @@ const STREAMS: [(&[u8], &str); 7] = [
 
 /// Prints what is closed after each wrong input.
 pub fn print_each<R: Print>(rt: &R, alloc: Global) -> io::Result<()> {
-    for (bytes, fault) in STREAMS {
-        println!(rt; "  {fault}: {:?}", bidirectional(alloc, bytes))?;
+    for (bytes, fault) in &STREAMS {
+        print_one(rt, fault, bidirectional(alloc, bytes))?;
     }
-    println!(rt; "  an unknown stream type: {:?}", unidirectional(b"\x07"))?;
-    let datagram = match Datagram::read(b"") {
+    print_one(rt, "an unknown stream type", unidirectional(b"\x07"))?;
+    print_one(rt, "an empty datagram", datagram(b""))
+}
+
+/// Prints a fault and what is closed after it.
+fn print_one<R: Print>(rt: &R, fault: &str, closing: Closing) -> io::Result<()> {
+    println!(rt; "  {fault}: {closing:?}")
+}
+
+/// Returns what is closed after a datagram.
+fn datagram(bytes: &[u8]) -> Closing {
+    match Datagram::read(bytes) {
         Ok(_) => Closing::Nothing,
         Err(code) => after_code(code),
-    };
-    println!(rt; "  an empty datagram: {datagram:?}")
+    }
 }
 
 /// Returns what is closed after the first frame of a bidirectional stream.
 fn bidirectional(alloc: Global, bytes: &[u8]) -> Closing {
+    match accept(alloc, bytes) {
+        BiAccepted::Failed(_, fault) => after_fault(&fault),
+        BiAccepted::Request(_, _, frame) => after_request(alloc, &frame),
+        _ => Closing::Nothing,
+    }
+}
+
+/// Accepts a bidirectional stream of these bytes.
+fn accept(alloc: Global, bytes: &[u8]) -> BiAccepted {
     let stream = StreamBiRemoteQuic::accept_bi().upgrade();
     let mut source = bytes;
-    match stream
+    stream
         .accept_async(FrameReading::new(alloc))
         .poll(&mut source)
-    {
-        BiAccepted::Failed(_, fault) => after_fault(&fault),
-        BiAccepted::Request(_, _, frame) => match request_of_frame(alloc, &frame) {
-            Err(Refused::Code(code)) => after_code(code),
-            Ok(_) | Err(Refused::Memory) => Closing::Nothing,
-        },
-        _ => Closing::Nothing,
+}
+
+/// Returns what is closed after a request.
+fn after_request(alloc: Global, frame: &Frame<'_>) -> Closing {
+    match request_of_frame(alloc, frame) {
+        Err(Refused::Code(code)) => after_code(code),
+        Ok(_) | Err(Refused::Memory) => Closing::Nothing,
     }
 }
 

@@ -18,7 +18,11 @@ use crate::quic::{MemoryReceiver, MemorySender, QuicSink, QuicSource};
 use crate::server::PeerStream;
 use anyhow::{Context, Result, bail};
 use std::alloc::Global;
+use std::io;
+use wtransport_proto::capsule::capsules::CloseWebTransportSession;
 use wtransport_proto::ids::SessionId;
+use wtransport_proto::session::{SessionRequest, SessionResponse};
+use wtransport_proto::settings::Settings;
 use wtransport_proto::stream::session::StreamSession;
 
 fn main(rt: HostRuntime) -> Result<()> {
@@ -48,6 +52,12 @@ fn exchange_settings<R: Print>(rt: &R, alloc: Global) -> Result<()> {
     let stream = control::accept_unidirectional(&mut source)?;
     let mut control = Control::new(stream).context("not a control stream")?;
     let settings = control.read_settings(alloc, &mut source)?;
+    print_settings(rt, &settings)?;
+    Ok(())
+}
+
+/// Prints each setting and its value.
+fn print_settings<R: Print>(rt: &R, settings: &Settings) -> io::Result<()> {
     for (id, value) in settings.iter() {
         println!(rt; "  {id} = {value}")?;
     }
@@ -59,29 +69,66 @@ fn request_session<R: Print>(rt: &R, alloc: Global, url: &str) -> Result<Option<
     let mut sink = Outgoing::new(Vec::new(alloc), 7);
     let requested = client::request(alloc, url, &mut sink)?;
     let sent = sink.into_taken();
-    let mut source = Incoming::new(sent.as_slice(), 5);
+    let (session, sent) = accept_session(rt, alloc, sent.as_slice())?;
+    read_response(rt, alloc, &requested, sent.as_slice())?;
+    Ok(session)
+}
+
+/// The server reads the request of these bytes. Returns the session, unless it refuses that, and
+/// the bytes of its response.
+fn accept_session<R: Print>(
+    rt: &R,
+    alloc: Global,
+    sent: &[u8],
+) -> Result<(Option<StreamSession>, Vec<u8>)> {
+    let mut source = Incoming::new(sent, 5);
     let PeerStream::Request(stream, request) = server::accept(alloc, &mut source)? else {
         bail!("not a request");
     };
-    println!(rt; "  {} from {:?}", request.path(), request.origin())?;
+    print_request(rt, &request)?;
     let mut sink = Outgoing::new(Vec::new(alloc), 1);
     let session = server::respond(alloc, stream, request, &mut sink)?;
-    let sent = sink.into_taken();
-    let mut source = Incoming::new(sent.as_slice(), 1);
-    let response = client::read_response(alloc, &requested, &mut source)?;
-    println!(rt; "  {} from {:?}", response.code(), response.get("server"))?;
+    Ok((session, sink.into_taken()))
+}
+
+/// Prints the path and the origin of a request.
+fn print_request<R: Print>(rt: &R, request: &SessionRequest) -> io::Result<()> {
+    println!(rt; "  {} from {:?}", request.path(), request.origin())
+}
+
+/// The client reads the response of these bytes.
+fn read_response<R: Print>(
+    rt: &R,
+    alloc: Global,
+    requested: &StreamSession,
+    sent: &[u8],
+) -> Result<()> {
+    let mut source = Incoming::new(sent, 1);
+    let response = client::read_response(alloc, requested, &mut source)?;
+    print_response(rt, &response)?;
     println!(rt; "  read after {} waits", source.waits())?;
-    Ok(session)
+    Ok(())
+}
+
+/// Prints the status code of a response and the server's name.
+fn print_response<R: Print>(rt: &R, response: &SessionResponse) -> io::Result<()> {
+    println!(rt; "  {} from {:?}", response.code(), response.get("server"))
 }
 
 /// Each end opens a stream in both directions, and one in its own direction.
 fn use_streams<R: Print>(rt: &R, alloc: Global, id: SessionId) -> Result<()> {
     for opener in ["the client", "the server"] {
         let echoed = echo(alloc, id, opener.as_bytes())?;
-        println!(rt; "  back to {}", str::from_utf8(echoed.as_slice())?)?;
+        print_data(rt, "back to", echoed.as_slice())?;
         let received = send_one_way(alloc, id, opener.as_bytes())?;
-        println!(rt; "  one way from {}", str::from_utf8(received.as_slice())?)?;
+        print_data(rt, "one way from", received.as_slice())?;
     }
+    Ok(())
+}
+
+/// Prints data, which must be text.
+fn print_data<R: Print>(rt: &R, label: &str, data: &[u8]) -> Result<()> {
+    println!(rt; "  {label} {}", str::from_utf8(data)?)?;
     Ok(())
 }
 
@@ -91,14 +138,24 @@ fn echo(alloc: Global, id: SessionId, data: &[u8]) -> Result<Vec<u8>> {
     let opened = streams::open_bidirectional(id, &mut sink)?;
     streams::send(data, &mut sink)?;
     let sent = sink.into_taken();
-    let mut source = Incoming::new(sent.as_slice(), 4);
+    let received = accept_data(alloc, opened.session_id(), sent.as_slice())?;
+    send_back(alloc, received.as_slice())
+}
+
+/// Accepts a stream of these bytes, which must be one of the session, and receives its data.
+fn accept_data(alloc: Global, id: SessionId, sent: &[u8]) -> Result<Vec<u8>> {
+    let mut source = Incoming::new(sent, 4);
     let accepted = streams::accept_bidirectional(alloc, &mut source)?;
-    if accepted.session_id() != opened.session_id() {
+    if accepted.session_id() != id {
         bail!("a stream of another session");
     }
-    let received = streams::receive(alloc, &mut source)?;
+    streams::receive(alloc, &mut source)
+}
+
+/// Sends data to the end that opened the stream, which receives it.
+fn send_back(alloc: Global, data: &[u8]) -> Result<Vec<u8>> {
     let mut sink = Outgoing::new(Vec::new(alloc), 2);
-    streams::send(received.as_slice(), &mut sink)?;
+    streams::send(data, &mut sink)?;
     let sent = sink.into_taken();
     streams::receive(alloc, &mut Incoming::new(sent.as_slice(), 2))
 }
@@ -137,9 +194,15 @@ fn close_session<R: Print>(rt: &R, alloc: Global, session: &mut StreamSession) -
     let mut sent = Vec::new(alloc);
     client::close(alloc, 7, "bye", &mut sent)?;
     let mut source = Incoming::new(sent.as_slice(), 3);
-    match session::read_close(alloc, session, &mut source)? {
-        Some(close) => println!(rt; "  closed with {}: {}", close.error_code(), close.reason())?,
-        None => println!(rt; "  closed")?,
-    }
+    let close = session::read_close(alloc, session, &mut source)?;
+    print_close(rt, close.as_ref())?;
     Ok(())
+}
+
+/// Prints why a session was closed.
+fn print_close<R: Print>(rt: &R, close: Option<&CloseWebTransportSession>) -> io::Result<()> {
+    match close {
+        Some(close) => println!(rt; "  closed with {}: {}", close.error_code(), close.reason()),
+        None => println!(rt; "  closed"),
+    }
 }

@@ -1,6 +1,7 @@
 //! A server's first steps over slices: a request is read and answered.
 use crate::same::same;
 use std::alloc::{AllocError, Global};
+use std::process::Abort;
 use std::test::Fail;
 use wtransport_proto::bytes::BufferReader;
 use wtransport_proto::session::{SessionRequest, SessionResponse, request_of_frame};
@@ -49,7 +50,10 @@ fn send(alloc: Global, request: &SessionRequest, bytes: &mut Vec<u8>) -> Result<
 /// A client's URL, the path that the server sees, and the bytes that answer it: the name `:status`
 /// at index 24 of the static table (RFC 9204, appendix A), 200 in the Huffman code, and 404 plain,
 /// which is as short.
-const ANSWERS: [(&str, &str, &[u8]); 2] = [
+type AnswerRow = (&'static str, &'static str, &'static [u8]);
+
+/// Requests and their answers.
+static ANSWERS: [AnswerRow; 2] = [
     (
         "https://example.com/chat",
         "/chat",
@@ -62,15 +66,22 @@ const ANSWERS: [(&str, &str, &[u8]); 2] = [
     ),
 ];
 
+/// Asserts how the request of a row is answered.
+fn check_answer<R: Abort + AllocGlobal>(rt: &R, row: &AnswerRow) -> Result<(), Fail> {
+    let (url, path, expected) = *row;
+    let bytes = request_bytes(rt.alloc(), url)?;
+    let mut answer = Vec::new(rt.alloc());
+    let stream = serve(rt.alloc(), bytes.as_slice(), &mut answer)?.ok_or("a session")?;
+    let request = stream.request();
+    let came = (request.authority(), request.path(), answer.as_slice());
+    same(rt, came, ("example.com", path, expected), url);
+    Ok(())
+}
+
 #[test]
 fn a_request_is_answered(rt: HostRuntime) -> Result<(), Fail> {
-    for (url, path, expected) in ANSWERS {
-        let bytes = request_bytes(rt.alloc(), url)?;
-        let mut answer = Vec::new(rt.alloc());
-        let stream = serve(rt.alloc(), bytes.as_slice(), &mut answer)?.ok_or("a session")?;
-        let request = stream.request();
-        let came = (request.authority(), request.path(), answer.as_slice());
-        same(&rt, came, ("example.com", path, expected), url);
+    for row in &ANSWERS {
+        check_answer(&rt, row)?;
     }
     Ok(())
 }

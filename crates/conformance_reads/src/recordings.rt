@@ -10,7 +10,7 @@ use wtransport_proto::datagram::Datagram;
 use wtransport_proto::error::ErrorCode;
 use wtransport_proto::frame::{Frame, FrameKind};
 use wtransport_proto::qpack::{FieldLines, FieldRoom};
-use wtransport_proto::settings::Settings;
+use wtransport_proto::settings::{Settings, SettingsIter};
 use wtransport_proto::stream::bilocal::StreamBiLocalQuic;
 use wtransport_proto::stream::biremote::StreamBiRemoteQuic;
 use wtransport_proto::stream_header::StreamHeader;
@@ -178,21 +178,32 @@ static REQUESTS: [Row; 4] = [
     ),
 ];
 
-#[test]
-fn requests_are_read(rt: HostRuntime) -> Result<(), Fail> {
-    for row in &REQUESTS {
-        let mut stream = StreamBiRemoteQuic::accept_bi().upgrade();
-        let mut reader = BufferReader::new(row.1);
-        let mut reading = CapsuleReading::new(rt.alloc());
-        let mut is_closed = false;
-        for wanted in row.2 {
-            let outcome = stream.read_frame_from_buffer(&mut reader);
-            is_closed = check_frame(&rt, &mut reading, outcome, *wanted, row)?;
-        }
-        let came = (reader.capacity(), is_closed, reading.finish().is_ok());
-        same(&rt, came, (0, row.4.is_some(), true), row.0);
+/// Asserts the frames of a stream that a client opened, and that its data ends as the row says.
+fn check_request<R: Abort + AllocGlobal>(rt: &R, row: &Row) -> Result<(), Fail> {
+    let mut stream = StreamBiRemoteQuic::accept_bi().upgrade();
+    let mut reader = BufferReader::new(row.1);
+    let mut reading = CapsuleReading::new(rt.alloc());
+    let mut is_closed = false;
+    for wanted in row.2 {
+        let outcome = stream.read_frame_from_buffer(&mut reader);
+        is_closed = check_frame(rt, &mut reading, outcome, *wanted, row)?;
+    }
+    let came = (reader.capacity(), is_closed, reading.finish().is_ok());
+    same(rt, came, (0, row.4.is_some(), true), row.0);
+    Ok(())
+}
+
+/// Asserts it of each row.
+fn check_requests<R: Abort + AllocGlobal>(rt: &R, rows: &[Row]) -> Result<(), Fail> {
+    for row in rows {
+        check_request(rt, row)?;
     }
     Ok(())
+}
+
+#[test]
+fn requests_are_read(rt: HostRuntime) -> Result<(), Fail> {
+    check_requests(&rt, &REQUESTS)
 }
 
 /// Streams of the other end.
@@ -236,24 +247,33 @@ static RESPONSES: [Row; 2] = [
     ),
 ];
 
+/// Asserts the frames of a stream of the other end.
+fn check_response<R: Abort + AllocGlobal>(rt: &R, row: &Row) -> Result<(), Fail> {
+    let stream = StreamBiLocalQuic::open_bi().upgrade();
+    let mut reader = BufferReader::new(row.1);
+    let mut reading = CapsuleReading::new(rt.alloc());
+    for wanted in row.2 {
+        let outcome = stream.read_frame_from_buffer(&mut reader);
+        check_frame(rt, &mut reading, outcome, *wanted, row)?;
+    }
+    same(rt, reader.capacity(), 0, row.0);
+    Ok(())
+}
+
 #[test]
 fn responses_are_read(rt: HostRuntime) -> Result<(), Fail> {
     for row in &RESPONSES {
-        let stream = StreamBiLocalQuic::open_bi().upgrade();
-        let mut reader = BufferReader::new(row.1);
-        let mut reading = CapsuleReading::new(rt.alloc());
-        for wanted in row.2 {
-            let outcome = stream.read_frame_from_buffer(&mut reader);
-            check_frame(&rt, &mut reading, outcome, *wanted, row)?;
-        }
-        same(&rt, reader.capacity(), 0, row.0);
+        check_response(&rt, row)?;
     }
     Ok(())
 }
 
 /// Who sent a control stream, its bytes, and the settings that the library knows and those that are
 /// reserved, by rising identifier.
-static SETTINGS: [(&str, &[u8], &[(u64, u64)]); 3] = [
+type ControlRow = (&'static str, &'static [u8], &'static [(u64, u64)]);
+
+/// Recorded control streams.
+static SETTINGS: [ControlRow; 3] = [
     (
         "Chromium 156",
         b"\x00\x04\x32\x01\x80\x01\x00\x00\x06\x80\x00\x40\x00\x07\x40\x64\x33\x01\x80\xff\xd2\
@@ -281,6 +301,12 @@ static SETTINGS: [(&str, &[u8], &[(u64, u64)]); 3] = [
     ),
 ];
 
+/// The next setting, as numbers.
+fn next_pair(left: &mut SettingsIter<'_>) -> Option<(u64, u64)> {
+    let (id, value) = left.next()?;
+    Some((id.id().into_inner(), value.into_inner()))
+}
+
 /// Asserts the settings in a frame.
 fn check_settings<R: Abort + AllocGlobal>(
     rt: &R,
@@ -294,38 +320,41 @@ fn check_settings<R: Abort + AllocGlobal>(
     let settings = Settings::with_frame(rt.alloc(), frame)?;
     let mut left = settings.iter();
     for pair in wanted {
-        let came = match left.next() {
-            Some((id, value)) => Some((id.id().into_inner(), value.into_inner())),
-            None => None,
-        };
-        same(rt, came, Some(*pair), sender);
+        same(rt, next_pair(&mut left), Some(*pair), sender);
     }
-    same(rt, left.next().is_none(), true, sender);
+    same(rt, next_pair(&mut left), None, sender);
     Ok(())
+}
+
+/// Asserts the header and the settings of a control stream.
+fn check_control<R: Abort + AllocGlobal>(rt: &R, row: &ControlRow) -> Result<(), Fail> {
+    let (sender, bytes, wanted) = *row;
+    let mut reader = BufferReader::new(bytes);
+    let header = StreamHeader::read_from_buffer(&mut reader)?;
+    same(rt, type_and_session(header), Some((0, None)), sender);
+    match Frame::read_from_buffer(&mut reader)? {
+        Some(frame) => check_settings(rt, &frame, wanted, sender),
+        None => panic!(rt; "{sender}: no frame"),
+    }
 }
 
 #[test]
 fn settings_are_read(rt: HostRuntime) -> Result<(), Fail> {
-    for (sender, bytes, wanted) in &SETTINGS {
-        let mut reader = BufferReader::new(bytes);
-        let header = StreamHeader::read_from_buffer(&mut reader)?;
-        same(&rt, type_and_session(header), Some((0, None)), sender);
-        match Frame::read_from_buffer(&mut reader)? {
-            Some(frame) => check_settings(&rt, &frame, wanted, sender)?,
-            None => panic!(rt; "{sender}: no frame"),
-        }
+    for row in &SETTINGS {
+        check_control(&rt, row)?;
     }
     Ok(())
+}
+
+/// Returns the session of a stream.
+fn session_of(header: &StreamHeader) -> Option<u64> {
+    Some(header.session_id()?.into_u64())
 }
 
 /// Returns the type of a unidirectional stream, and its session.
 fn type_and_session(header: Option<StreamHeader>) -> Option<(u64, Option<u64>)> {
     let header = header?;
-    let session = match header.session_id() {
-        Some(session) => Some(session.into_u64()),
-        None => None,
-    };
-    Some((header.kind().id().into_inner(), session))
+    Some((header.kind().id().into_inner(), session_of(&header)))
 }
 
 #[test]
