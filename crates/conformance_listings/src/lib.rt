@@ -3,6 +3,8 @@
 #![tactic(auto)]
 
 #[cfg(test)]
+mod inspections;
+#[cfg(test)]
 mod listings;
 #[cfg(test)]
 mod programs;
@@ -12,5 +14,7 @@ mod requests;
 mod rows;
 #[cfg(test)]
 mod same;
+#[cfg(test)]
+mod shown;
 #[cfg(test)]
 mod stepped;

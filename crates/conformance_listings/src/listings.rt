@@ -1,5 +1,5 @@
 //! Listings of recorded streams.
-use crate::rows::{Row, check_listing, joined};
+use crate::rows::{Row, check_listing, join};
 use std::alloc::{AllocError, Global};
 use std::process::Abort;
 use std::test::Fail;
@@ -187,7 +187,10 @@ fn control_streams_are_listed(rt: HostRuntime) -> Result<(), Fail> {
 }
 
 /// Inputs of a peer's stream in parts, their listings, and what the row shows.
-static LONG: [(&[&[u8]], &str, &str); 2] = [
+type Long = (&'static [&'static [u8]], &'static str, &'static str);
+
+/// Inputs of thousands of bytes.
+static LONG: [Long; 2] = [
     (&[b"\x00\x50\x00", &[7; 4096]], "DATA 4096\nEND 0\n", "data"),
     (
         &[b"\x0a\x50\x01", &[0; 4097], b"\x00\x00"],
@@ -196,11 +199,17 @@ static LONG: [(&[&[u8]], &str, &str); 2] = [
     ),
 ];
 
+/// Asserts the listing of a row.
+fn check_long<R: Abort + AllocGlobal>(rt: &R, row: &Long) -> Result<(), AllocError> {
+    let (parts, text, word) = *row;
+    let input = join(rt.alloc(), parts)?;
+    check(rt, ListKind::BiRemote, input.as_slice(), text, 0, word)
+}
+
 #[test]
 fn the_longest_payloads_are_listed(rt: HostRuntime) -> Result<(), Fail> {
-    for (parts, text, word) in &LONG {
-        let input = joined(rt.alloc(), parts)?;
-        check(&rt, ListKind::BiRemote, input.as_slice(), text, 0, word)?;
+    for row in &LONG {
+        check_long(&rt, row)?;
     }
     Ok(())
 }

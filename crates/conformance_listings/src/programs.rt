@@ -122,7 +122,10 @@ const FAULT: &str = "FAULT FrameUnexpectedError 261\n";
 const CUT: &str = "FAULT FrameError 262\n";
 
 /// Words that name a listing, input, status and text.
-static NAMED: [(&[&str], &[u8], u8, &str); 17] = [
+type Named = (&'static [&'static str], &'static [u8], u8, &'static str);
+
+/// Each listing.
+static NAMED: [Named; 17] = [
     (&[], &INPUT, 0, LISTING),
     (&["buffer"], &INPUT, 0, LISTING),
     (&["buffer", "bi-remote"], &INPUT, 0, LISTING),
@@ -163,11 +166,17 @@ fn check_listing<R: Abort + AllocGlobal>(
     check(rt, words, &mut input, (200, 100), (status, text, ""))
 }
 
+/// Asserts it of each row.
+fn check_listings<R: Abort + AllocGlobal>(rt: &R, rows: &[Named]) -> Result<(), AllocError> {
+    for (words, bytes, status, text) in rows {
+        check_listing(rt, words, bytes, *status, text)?;
+    }
+    Ok(())
+}
+
 #[test]
 fn the_words_choose_the_listing(rt: HostRuntime) -> Result<(), Fail> {
-    for (words, bytes, status, text) in &NAMED {
-        check_listing(&rt, words, bytes, *status, text)?;
-    }
+    check_listings(&rt, &NAMED)?;
     Ok(())
 }
 
@@ -209,11 +218,17 @@ fn check_usage<R: Abort + AllocGlobal>(rt: &R, words: &[&str]) -> Result<(), All
     Ok(())
 }
 
+/// Asserts it of each of these words.
+fn check_usages<R: Abort + AllocGlobal>(rt: &R, rows: &[&[&str]]) -> Result<(), AllocError> {
+    for words in rows {
+        check_usage(rt, words)?;
+    }
+    Ok(())
+}
+
 #[test]
 fn other_words_are_refused(rt: HostRuntime) -> Result<(), Fail> {
-    for words in &OTHERS {
-        check_usage(&rt, words)?;
-    }
+    check_usages(&rt, &OTHERS)?;
     Ok(())
 }
 

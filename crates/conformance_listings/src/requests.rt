@@ -1,5 +1,5 @@
 //! Listings of the request for a session.
-use crate::rows::{REQUEST, REQUEST_LISTING, Row, check_listing, joined};
+use crate::rows::{REQUEST, REQUEST_LISTING, Row, check_listing, join};
 use crate::same::same;
 use std::alloc::{AllocError, Global};
 use std::process::Abort;
@@ -71,11 +71,24 @@ static ROWS: [Row; 15] = [
     ),
 ];
 
+/// Asserts the listing of the input of a row.
+fn check_row<R: Abort + AllocGlobal>(rt: &R, row: &Row) -> Result<(), AllocError> {
+    let (input, text, status, word) = *row;
+    check_listing(rt, list_request(rt.alloc(), input)?, text, status, word);
+    Ok(())
+}
+
+/// Asserts it of each row.
+fn check_rows<R: Abort + AllocGlobal>(rt: &R, rows: &[Row]) -> Result<(), AllocError> {
+    for row in rows {
+        check_row(rt, row)?;
+    }
+    Ok(())
+}
+
 #[test]
 fn frames_that_are_no_request(rt: HostRuntime) -> Result<(), Fail> {
-    for (input, text, status, word) in &ROWS {
-        check_listing(&rt, list_request(rt.alloc(), input)?, text, *status, word);
-    }
+    check_rows(&rt, &ROWS)?;
     Ok(())
 }
 
@@ -87,8 +100,8 @@ fn check_fields<R: Abort + AllocGlobal>(
     end: &str,
     shows: &str,
 ) -> Result<(), AllocError> {
-    let input = joined(rt.alloc(), parts)?;
-    let text = joined(rt.alloc(), &[fields.as_bytes(), end.as_bytes()])?;
+    let input = join(rt.alloc(), parts)?;
+    let text = join(rt.alloc(), &[fields.as_bytes(), end.as_bytes()])?;
     let listing = list_request(rt.alloc(), input.as_slice())?;
     let came = (listing.text.as_slice(), listing.status);
     same(rt, came, (text.as_slice(), 0), shows);
@@ -100,7 +113,10 @@ const FIELDS: &str =
     "FIELD :authority=example.com\nFIELD :method=CONNECT\nFIELD :path=/\nFIELD :protocol=webtransport\nFIELD :scheme=https\n";
 
 /// The request and what is before and after it, the end of the listing, and what the row shows.
-static AROUND: [(&[&[u8]], &str, &str); 5] = [
+type Around = (&'static [&'static [u8]], &'static str, &'static str);
+
+/// The request among other frames.
+static AROUND: [Around; 5] = [
     (&[&REQUEST], "END 0\n", "the request alone"),
     (
         &[&REQUEST, b"\x00\x01a"],
@@ -124,11 +140,17 @@ static AROUND: [(&[&[u8]], &str, &str); 5] = [
     ),
 ];
 
+/// Asserts the listing of each row.
+fn check_around<R: Abort + AllocGlobal>(rt: &R, rows: &[Around]) -> Result<(), AllocError> {
+    for (parts, end, word) in rows {
+        check_fields(rt, parts, FIELDS, end, word)?;
+    }
+    Ok(())
+}
+
 #[test]
 fn fields_and_what_stands_after(rt: HostRuntime) -> Result<(), Fail> {
-    for (parts, end, word) in &AROUND {
-        check_fields(&rt, parts, FIELDS, end, word)?;
-    }
+    check_around(&rt, &AROUND)?;
     Ok(())
 }
 

@@ -22,7 +22,7 @@ pub fn check_listing<R: Abort>(rt: &R, listing: Listing, text: &str, status: u8,
 }
 
 /// The parts, one after the other.
-pub fn joined(alloc: Global, parts: &[&[u8]]) -> Result<Vec<u8>, AllocError> {
+pub fn join(alloc: Global, parts: &[&[u8]]) -> Result<Vec<u8>, AllocError> {
     let mut whole = Vec::new(alloc);
     for part in parts {
         whole.extend_from_slice(part)?;

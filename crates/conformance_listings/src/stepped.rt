@@ -1,7 +1,7 @@
 //! Listings of recorded streams that come a few bytes at a time and then end.
 ghost use Rattle.std.specs.Prelude.{◌<◌};
 
-use crate::rows::{Row, check_listing, joined};
+use crate::rows::{Row, check_listing, join};
 use crate::same::same;
 use std::alloc::{AllocError, Global};
 use std::process::Abort;
@@ -124,16 +124,25 @@ fn check<R: Abort + AllocGlobal>(
     Ok(())
 }
 
-#[test]
-fn streams_are_listed_step_by_step(rt: HostRuntime) -> Result<(), Fail> {
-    for (input, text, status, word) in &ROWS {
-        check(&rt, input, text, *status, word)?;
+/// Asserts the listing of each row.
+fn check_rows<R: Abort + AllocGlobal>(rt: &R, rows: &[Row]) -> Result<(), AllocError> {
+    for (input, text, status, word) in rows {
+        check(rt, input, text, *status, word)?;
     }
     Ok(())
 }
 
+#[test]
+fn streams_are_listed_step_by_step(rt: HostRuntime) -> Result<(), Fail> {
+    check_rows(&rt, &ROWS)?;
+    Ok(())
+}
+
 /// So many bytes of an exercise frame and a late session, the listing and the status.
-static STOPS: [(usize, &str, u8); 13] = [
+type Stop = (usize, &'static str, u8);
+
+/// Each place at which the frames may end.
+static STOPS: [Stop; 13] = [
     (0, "END 0\n", 0),
     (1, CUT, 2),
     (2, CUT, 2),
@@ -162,16 +171,24 @@ fn check_stop<R: Abort + AllocGlobal>(
     Ok(())
 }
 
-#[test]
-fn streams_that_end_at_each_place_are_listed(rt: HostRuntime) -> Result<(), Fail> {
-    for (size, text, status) in &STOPS {
-        check_stop(&rt, *size, text, *status)?;
+/// Asserts the listing of each row.
+fn check_stops<R: Abort + AllocGlobal>(rt: &R, rows: &[Stop]) -> Result<(), Fail> {
+    for (size, text, status) in rows {
+        check_stop(rt, *size, text, *status)?;
     }
     Ok(())
 }
 
+#[test]
+fn streams_that_end_at_each_place_are_listed(rt: HostRuntime) -> Result<(), Fail> {
+    check_stops(&rt, &STOPS)
+}
+
 /// Inputs in parts, their listings, and their status.
-static LONG: [(&[&[u8]], &str, u8); 5] = [
+type Long = (&'static [&'static [u8]], &'static str, u8);
+
+/// Inputs of thousands of bytes.
+static LONG: [Long; 5] = [
     (&[b"\x00\x50\x00", &[0; 4096]], "DATA 4096\nEND 0\n", 0),
     (
         &[b"\x0a\x50\x00", &[0; 4096], b"\x00\x00"],
@@ -191,11 +208,17 @@ static LONG: [(&[&[u8]], &str, u8); 5] = [
     (&[b"\x0a\x50\x01", &[0; 4096]], CUT, 2),
 ];
 
+/// Asserts the listing of a row.
+fn check_long<R: Abort + AllocGlobal>(rt: &R, row: &Long) -> Result<(), AllocError> {
+    let (parts, text, status) = *row;
+    let input = join(rt.alloc(), parts)?;
+    check(rt, input.as_slice(), text, status, "zeros")
+}
+
 #[test]
 fn the_longest_payloads_are_listed_step_by_step(rt: HostRuntime) -> Result<(), Fail> {
-    for (parts, text, status) in &LONG {
-        let input = joined(rt.alloc(), parts)?;
-        check(&rt, input.as_slice(), text, *status, "zeros")?;
+    for row in &LONG {
+        check_long(&rt, row)?;
     }
     Ok(())
 }

@@ -1,0 +1,266 @@
+//! Inspections of recorded streams and datagrams. The recordings are those of
+//! `tools/recordings.d`, and the expected items are what their index says.
+use crate::same::same;
+use std::alloc::{AllocError, Global};
+use std::process::Abort;
+use std::test::Fail;
+use wt_inspection::item::Parts;
+use wt_inspection::{Content, End, Inspection, Item, Recorded, inspect};
+
+/// What was recorded, its bytes, whether more may follow, the place, the length and the name of
+/// each item, how it ends, and what the row shows.
+type Row = (
+    Recorded,
+    &'static [u8],
+    bool,
+    &'static [(usize, usize, &'static str)],
+    (&'static str, u64),
+    &'static str,
+);
+
+static STREAMS: [Row; 20] = [
+    (
+        Recorded::Bi,
+        b"\x01\x40\x55\x00\x00\xd7\xcf\x50\x8a\x08\x9d\x5c\x0b\x81\x70\xdc\x69\xa6\x59\x51\x84\x62\x42\xd5\xeb\x2f\x00\xb9\x5d\x87\x49\xc8\x7a\x3f\x89\xf0\x58\xd3\x60\xea\x45\x67\xb1\x3f\x2f\x0e\x41\x48\xb7\x82\xc6\x9b\x07\x52\x2b\x3d\x89\x5a\x74\xa6\xb6\x56\x92\xc1\xca\x90\x0b\x01\x31\x5f\x4b\x90\x9d\x29\xae\xe3\x0c\x04\x4e\xae\x05\xc0\xb8\x6e\x34\xd3\x2d\x7f\x00\x1b\xca\xe5\xd2\x4c\x4c\xb7\xcf\xfb\x12\x72\xf4\x7e\xf4\x67\x8e\x73\xa1\x6c\x16\xec\x42\x85\xb2\x11\x8e\x9f\x5a",
+        false,
+        &[(0, 88, "HEADERS"), (88, 29, "DATA")],
+        ("whole", 0),
+        "a session request of Chromium, and a reserved capsule",
+    ),
+    (
+        Recorded::Bi,
+        b"\x01\x0a\x07\x00\xd7\xcf\x85\x84\x83\x82\x81\x80\x00\x34\xc6\xe1\xff\xfd\xf6\xd8\x78\x63\x2b\x7d\xf1\xbc\x7a\x62\xb9\x55\x56\x96\xe7\x3c\x20\xf3\xe2\x0d\x4b\x90\x21\x78\x37\x29\xf5\xe8\x0d\x7d\x54\xe1\xb0\xcd\x47\x8f\x47\xe0\xa5\xb0\x6d\x94\xc6\x74\x85\x24\x4b\xbf\x00\x12\x68\x43\x0f\x00\x00\x12\x34\x62\x79\x65\x2c\x20\x77\xc3\xb6\x72\x6c\x64",
+        false,
+        &[(0, 12, "HEADERS"), (12, 54, "DATA"), (66, 20, "DATA")],
+        ("whole", 0),
+        "a section that needs the dynamic table, and what follows it",
+    ),
+    (
+        Recorded::Bi,
+        b"\x40\x41\x00\x00\x05ab",
+        false,
+        &[(0, 3, "WEBTRANSPORT_STREAM"), (3, 4, "payload")],
+        ("whole", 0),
+        "payload is not read as frames",
+    ),
+    (
+        Recorded::Bi,
+        b"\x40\x41\x01\x00\x05ab",
+        false,
+        &[(0, 7, "unread")],
+        ("fault", 0x108),
+        "an invalid session ID",
+    ),
+    (
+        Recorded::Bi,
+        b"\x00\x05a",
+        false,
+        &[(0, 3, "DATA")],
+        ("fault", 0x106),
+        "a stream that ends within a frame",
+    ),
+    (
+        Recorded::Bi,
+        b"\x00\x01a\x06\x00\x00\x00",
+        false,
+        &[(0, 3, "DATA"), (3, 2, "HTTP/2"), (5, 2, "unread")],
+        ("fault", 0x105),
+        "a frame type of HTTP/2",
+    ),
+    (
+        Recorded::Answer,
+        b"\x01\x1f\x00\x00\xd9\x2f\x0d\x41\x48\xb7\x82\xc6\x9b\x07\x52\x2b\x3d\x89\x5a\x74\xa6\xb6\x56\x92\xc1\xca\x9f\x85\x92\xc1\xca\x90\x0b",
+        false,
+        &[(0, 33, "HEADERS")],
+        ("whole", 0),
+        "a response of aioquic",
+    ),
+    (
+        Recorded::Uni,
+        b"\x00\x04\x1b\x01\x80\x01\x00\x00\x06\x80\x04\x00\x00\x07\x40\x64\x33\x01\xc0\x00\x00\x11\x7b\x2b\x8c\xe8\xbe\xd1\x10\x0f\xc0\x00\x00\x0f\x7c\xde\x1f\xb4\x01\x29\x80\x0f\x07\x00\x07\x00\x75\x3d\x31\x2c\x20\x69",
+        false,
+        &[
+            (0, 1, "control"),
+            (1, 29, "SETTINGS"),
+            (30, 10, "reserved"),
+            (40, 12, "PRIORITY_UPDATE"),
+        ],
+        ("whole", 0),
+        "the start of a control stream of Chromium",
+    ),
+    (
+        Recorded::Uni,
+        b"\x00\x04\x02\x02\x00",
+        false,
+        &[(0, 1, "control"), (1, 4, "SETTINGS")],
+        ("fault", 0x109),
+        "a setting of HTTP/2",
+    ),
+    (
+        Recorded::Uni,
+        b"\x40\x54\x00\x68\x65\x6c\x6c\x6f\x20\x6f\x6e\x65\x20\x77\x61\x79",
+        false,
+        &[(0, 3, "WebTransport"), (3, 13, "payload")],
+        ("whole", 0),
+        "a unidirectional stream of Chromium",
+    ),
+    (
+        Recorded::Datagram,
+        b"\x00\x65\x63\x68\x6f\x3a",
+        false,
+        &[(0, 6, "datagram")],
+        ("whole", 0),
+        "a datagram of aioquic",
+    ),
+    (
+        Recorded::Datagram,
+        b"",
+        false,
+        &[],
+        ("fault", 0x33),
+        "an empty datagram",
+    ),
+    (
+        Recorded::Bi,
+        b"\x00\x05a",
+        true,
+        &[(0, 3, "DATA")],
+        ("cut", 0),
+        "an open stream within a frame",
+    ),
+    (
+        Recorded::Uni,
+        b"\x02\x3f\xe1\x1f",
+        true,
+        &[(0, 1, "QPACK encoder"), (1, 3, "payload")],
+        ("whole", 0),
+        "instructions of an encoder are not read",
+    ),
+    (
+        Recorded::Uni,
+        b"\x01\x05ab",
+        false,
+        &[(0, 1, "push"), (1, 3, "payload")],
+        ("whole", 0),
+        "a push stream is not read",
+    ),
+    (
+        Recorded::Uni,
+        b"\x40\x54\x01ab",
+        false,
+        &[(0, 5, "unread")],
+        ("fault", 0x108),
+        "an invalid session ID of a unidirectional stream",
+    ),
+    (
+        Recorded::Capsules,
+        b"\xc6\xe1\xff\xfd\xf6\xd8\x78\x63\x2b\x7d\xf1\xbc\x7a\x62\xb9\x55\x56\x96\xe7\x3c\x20\xf3\xe2\x0d\x4b\x90\x21\x78\x37\x29\xf5\xe8\x0d\x7d\x54\xe1\xb0\xcd\x47\x8f\x47\xe0\xa5\xb0\x6d\x94\xc6\x74\x85\x24\x4b\xbf\x68\x43\x0f\x00\x00\x12\x34\x62\x79\x65\x2c\x20\x77\xc3\xb6\x72\x6c\x64",
+        false,
+        &[(0, 52, "reserved"), (52, 18, "CLOSE_WEBTRANSPORT_SESSION")],
+        ("whole", 0),
+        "the content of two DATA frames of Chromium",
+    ),
+    (
+        Recorded::Capsules,
+        b"\x68\x43\x03abc",
+        false,
+        &[(0, 6, "CLOSE_WEBTRANSPORT_SESSION")],
+        ("fault", 0x33),
+        "a close capsule without room for its code",
+    ),
+    (
+        Recorded::Section,
+        b"\x00\x00\xd9",
+        false,
+        &[(0, 3, "section")],
+        ("whole", 0),
+        "a field section alone",
+    ),
+    (
+        Recorded::Settings,
+        b"\x33\x01\x33\x01",
+        false,
+        &[(0, 4, "settings")],
+        ("fault", 0x109),
+        "a setting twice",
+    ),
+];
+
+/// Returns what an item is called in the rows.
+fn name_of(item: &Item) -> &'static str {
+    match &item.content {
+        Content::Stream(head) => head.name.as_str(),
+        Content::Frame(frame) => frame.name.as_str(),
+        Content::Session(_) => "WEBTRANSPORT_STREAM",
+        Content::Payload => "payload",
+        Content::Capsule(capsule) => capsule.name,
+        Content::Datagram(_) => "datagram",
+        Content::Section(_) => "section",
+        Content::Settings(_) => "settings",
+        Content::Unread => "unread",
+    }
+}
+
+/// Returns the state of an end, and the error code of a fault.
+fn state_of(end: End) -> (&'static str, u64) {
+    match end {
+        End::Whole => ("whole", 0),
+        End::Cut(_) => ("cut", 0),
+        End::Fault(fault) => ("fault", fault.code.to_code().into_inner()),
+    }
+}
+
+/// Asserts the items of a row and its end.
+fn check_row<R: Abort>(rt: &R, found: &Inspection, row: &Row) {
+    let (_, _, _, items, end, shows) = *row;
+    same(rt, found.items.len(), items.len(), shows);
+    for (item, wanted) in found.items.iter().zip(items.iter()) {
+        let came = (item.at, item.length, name_of(item));
+        same(rt, came, *wanted, shows);
+    }
+    same(rt, state_of(found.end), end, shows);
+}
+
+/// Asserts the items of each row and its end.
+fn check_rows<R: Abort>(rt: &R, alloc: Global, rows: &[Row]) -> Result<(), AllocError> {
+    for row in rows {
+        let (kind, bytes, open, ..) = *row;
+        check_row(rt, &inspect(alloc, kind, bytes, open)?, row);
+    }
+    Ok(())
+}
+
+#[test]
+fn streams_are_inspected(rt: HostRuntime) -> Result<(), Fail> {
+    check_rows(&rt, rt.alloc(), &STREAMS)?;
+    Ok(())
+}
+
+/// Returns the close code of the capsules in the last item, and their number.
+fn capsules_in(found: &Inspection) -> (usize, Option<u64>) {
+    let Some(item) = found.items.last() else {
+        return (0, None);
+    };
+    let Content::Frame(frame) = &item.content else {
+        return (0, None);
+    };
+    let Parts::Capsules(capsules) = &frame.parts else {
+        return (0, None);
+    };
+    let close = capsules.last().and_then(|capsule| capsule.close.as_ref());
+    (capsules.len(), close.map(|close| close.code))
+}
+
+/// The capsules that end in the last item of each of the first recordings: how many, and the code
+/// of a close.
+static CAPSULES: [(usize, Option<u64>); 2] = [(1, None), (1, Some(4660))];
+
+#[test]
+fn capsules_are_found(rt: HostRuntime) -> Result<(), Fail> {
+    for (row, wanted) in STREAMS.iter().zip(CAPSULES.iter()) {
+        let (kind, bytes, open, _, _, shows) = *row;
+        let found = inspect(rt.alloc(), kind, bytes, open)?;
+        same(&rt, capsules_in(&found), *wanted, shows);
+    }
+    Ok(())
+}

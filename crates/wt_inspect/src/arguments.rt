@@ -1,0 +1,144 @@
+//! The arguments.
+
+use clap::{Arg, ArgAction, ArgMatches, Command, Error};
+use std::alloc::Global;
+use wt_inspection::Recorded;
+
+/// What the help says after the arguments.
+const MORE: &str = "\
+KIND says what the bytes are, from the first one on, in one direction of one stream:
+  bi        a bidirectional stream, by the end that opened it: a request, or a WebTransport stream
+  answer    the other direction of a request: a response
+  uni       a unidirectional stream: control, QPACK encoder or decoder, WebTransport, push
+  datagram  the payload of one QUIC datagram
+  capsules  the content of the DATA frames of a session
+  section   an encoded field section, which is the payload of a HEADERS frame
+  settings  the payload of a SETTINGS frame
+The other direction of a WebTransport stream is the application's bytes alone, so it has no KIND.
+
+What is written: a line for each item, with its place in bytes, what it is, and its size; below it,
+indented, the field lines, settings or capsules that it contains. A line 'warning' below an item
+says what a standard forbids, though reading went on. The last line says how the bytes end: 'end',
+'cut' within an item, or 'fault' with the error code and why; bytes after a fault are 'not read'.
+A 'reserved' setting, frame or stream is one that peers send to be ignored; an 'unknown' one has no
+name here.
+
+To find a wrong setting in a recorded control stream, such as control.bin:
+  wt_inspect uni --open control.bin
+The settings are below the frame SETTINGS, each with its name, identifier and value. One that must
+not be sent, or is there twice, says so in its line, and the last line says 'fault'. Values are not
+judged.
+
+The same, with the bytes as text:
+  echo 00 04 04 33 01 33 01 | wt_inspect uni --open --hex
+
+Exit status: 0 the bytes were shown, 1 wrong arguments, 2 the bytes have a fault, 3 input or output
+failed, 4 out of memory.";
+
+/// The names of what can be recorded.
+static KINDS: [&str; 7] = [
+    "bi", "answer", "uni", "datagram", "capsules", "section", "settings",
+];
+
+/// How an inspection is shown.
+#[derive(Clone, Copy)]
+pub enum Output {
+    /// As text for people.
+    Text,
+    /// As JSON, one object a line.
+    Json,
+    /// As a page of HTML.
+    Html,
+}
+
+/// What the arguments say.
+#[derive(Clone, Copy)]
+pub struct Arguments<'a> {
+    /// What was recorded.
+    pub recorded: Recorded,
+    /// How it is shown.
+    pub output: Output,
+    /// Whether the input is hexadecimal text.
+    pub is_hex: bool,
+    /// Whether more bytes may follow.
+    pub is_open: bool,
+    /// Whether payload is shown.
+    pub has_payload: bool,
+    /// The file, or none for standard input.
+    pub file: Option<&'a str>,
+}
+
+/// Returns an option that takes no value.
+fn flag<'a>(alloc: Global, name: &'static str, help: &'static str) -> Arg<'a> {
+    Arg::new(alloc, name)
+        .long(name)
+        .action(ArgAction::SetTrue)
+        .help(help)
+}
+
+/// Returns the command line that the program takes.
+pub fn command<'a>(alloc: Global) -> Result<Command<'a>, Error> {
+    let kind = Arg::new(alloc, "kind")
+        .value_name("KIND")
+        .required(true)
+        .help("What was recorded")
+        .value_parser(KINDS.as_slice());
+    let file = Arg::new(alloc, "file").value_name("FILE").help(
+        "The recording, of at most 64 MiB; standard input if there is none",
+    );
+    let command = Command::new(alloc, "wt_inspect")
+        .version("0.1.0")
+        .about("Shows what a recorded stream or datagram of HTTP/3 or WebTransport contains")
+        .after_help(MORE)
+        .arg(kind)?
+        .arg(file)?
+        .arg(flag(
+            alloc,
+            "hex",
+            "The input is hexadecimal text; blanks, line ends and 0x are ignored",
+        ))?
+        .arg(flag(alloc, "json", "Write JSON, one object a line"))?
+        .arg(flag(
+            alloc,
+            "html",
+            "Write one page of HTML: bytes on the left, items on the right",
+        )
+        .conflicts_with("json")?)?
+        .arg(flag(
+            alloc,
+            "open",
+            "The stream was still open, so more bytes may follow",
+        ))?
+        .arg(flag(
+            alloc,
+            "payload",
+            "In text and JSON, show the bytes of payloads too",
+        ))?;
+    Ok(command)
+}
+
+/// Returns what the arguments say.
+pub fn read_arguments<'a>(matches: &ArgMatches<'a>) -> Arguments<'a> {
+    Arguments {
+        recorded: match matches.get_str("kind") {
+            Some("answer") => Recorded::Answer,
+            Some("uni") => Recorded::Uni,
+            Some("datagram") => Recorded::Datagram,
+            Some("capsules") => Recorded::Capsules,
+            Some("section") => Recorded::Section,
+            Some("settings") => Recorded::Settings,
+            _ => Recorded::Bi,
+        },
+        output: if matches.get_flag("json") {
+            Output::Json
+        } else if matches.get_flag("html") {
+            Output::Html
+        } else {
+            Output::Text
+        },
+        is_hex: matches.get_flag("hex"),
+        is_open: matches.get_flag("open"),
+        has_payload: matches.get_flag("payload"),
+        file: matches.get_str("file"),
+    }
+}

@@ -1,0 +1,46 @@
+//! Why the program shows nothing.
+
+use std::alloc::AllocError;
+
+/// Why the program shows nothing.
+#[derive(Clone, Copy, Debug, thiserror::Error)]
+pub enum Failure {
+    /// The arguments are not UTF-8, or could not be read.
+    #[error("the arguments cannot be read as text")]
+    Arguments,
+    /// The file could not be opened.
+    #[error("the file cannot be opened: is there a file of this name that you may read?")]
+    Open,
+    /// Reading failed.
+    #[error("the input cannot be read: is it a folder?")]
+    Input,
+    /// The input is too long.
+    #[error("the input is longer than 64 MiB (67108864 bytes)")]
+    TooLong,
+    /// The input is not hexadecimal text.
+    #[error("the input is not hexadecimal text: pairs of digits, blanks, line ends and 0x alone")]
+    NotHex,
+    /// Writing failed.
+    #[error("the output cannot be written")]
+    Output,
+    /// Allocation failed.
+    #[error("out of memory")]
+    Memory,
+}
+
+impl Failure {
+    /// Returns the status with which the program ends.
+    pub fn status(self) -> u8 {
+        match self {
+            Failure::Arguments => 1,
+            Failure::Memory => 4,
+            _ => 3,
+        }
+    }
+}
+
+impl From<AllocError> for Failure {
+    fn from(_: AllocError) -> Self {
+        Failure::Memory
+    }
+}

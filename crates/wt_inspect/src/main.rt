@@ -1,0 +1,104 @@
+//! The program `wt_inspect`: shows what the bytes of a recorded stream or datagram contain.
+#![tactic(auto)]
+
+mod arguments;
+mod failure;
+mod input;
+
+use crate::arguments::{Arguments, Output, command, read_arguments};
+use crate::failure::Failure;
+use crate::input::{read_all, read_hex};
+use std::alloc::Global;
+use std::io::{self, Write};
+use std::process::ExitCode;
+use std::{env, fs};
+use wt_inspection::html::write_html;
+use wt_inspection::json_lines::write_json;
+use wt_inspection::text::write_text;
+use wt_inspection::{End, inspect};
+
+fn main(rt: HostRuntime) -> ExitCode {
+    ExitCode::from(match run(&rt) {
+        Ok(status) => status,
+        Err(failure) => {
+            let _ = writeln!(rt.stderr(), "wt_inspect: {failure}");
+            failure.status()
+        }
+    })
+}
+
+/// Shows what the arguments name, and returns the status with which the program ends: 0, 1 for
+/// wrong arguments, and 2 where the bytes have a fault.
+fn run(rt: &HostRuntime) -> Result<u8, Failure> {
+    let words = read_words(rt).map_err(|_| Failure::Arguments)?;
+    run_words(rt, words.as_slice())
+}
+
+/// The same, where the name of the program and its arguments are these words.
+fn run_words<'a>(rt: &HostRuntime, words: &'a [String]) -> Result<u8, Failure> {
+    let command = command(rt.alloc()).map_err(|_| Failure::Memory)?;
+    match command.try_get_matches_from(words) {
+        Ok(matches) => show_input(rt, &read_arguments(&matches)),
+        Err(error) => {
+            error.print(rt).map_err(|_| Failure::Output)?;
+            Ok(if error.use_stderr() { 1 } else { 0 })
+        }
+    }
+}
+
+/// Shows the bytes that the arguments name, and returns the status: 0, or 2 where the bytes have a
+/// fault.
+fn show_input(rt: &HostRuntime, arguments: &Arguments<'_>) -> Result<u8, Failure> {
+    let alloc = rt.alloc();
+    let bytes = read_input(rt, alloc, arguments)?;
+    let (text, status) = show(alloc, arguments, bytes.as_slice())?;
+    let mut output = rt.stdout();
+    output
+        .write_all(text.as_slice())
+        .map_err(|_| Failure::Output)?;
+    output.flush().map_err(|_| Failure::Output)?;
+    Ok(status)
+}
+
+/// Returns the name of the program and its arguments.
+fn read_words(rt: &HostRuntime) -> io::Result<Vec<String>> {
+    let words = env::args(rt)?.collect(rt.alloc())?;
+    Ok(words)
+}
+
+/// Returns the bytes that the arguments name: those of a file, or of standard input.
+fn read_input(
+    rt: &HostRuntime,
+    alloc: Global,
+    arguments: &Arguments<'_>,
+) -> Result<Vec<u8>, Failure> {
+    let bytes = match arguments.file {
+        Some(path) => {
+            let mut file = fs::open(rt, path).map_err(|_| Failure::Open)?;
+            read_all(alloc, &mut file)?
+        }
+        None => read_all(alloc, &mut rt.stdin())?,
+    };
+    if arguments.is_hex {
+        read_hex(alloc, bytes.as_slice())
+    } else {
+        Ok(bytes)
+    }
+}
+
+/// Returns what is written of the bytes, and the status with which the program ends.
+fn show(alloc: Global, arguments: &Arguments<'_>, bytes: &[u8]) -> Result<(Vec<u8>, u8), Failure> {
+    let inspection = inspect(alloc, arguments.recorded, bytes, arguments.is_open)?;
+    let text = match arguments.output {
+        Output::Text => {
+            write_text(alloc, &inspection, bytes, arguments.has_payload)?.into_bytes()
+        }
+        Output::Json => write_json(alloc, &inspection, bytes, arguments.has_payload)?,
+        Output::Html => write_html(alloc, &inspection, bytes)?,
+    };
+    let status = match inspection.end {
+        End::Fault(_) => 2,
+        End::Whole | End::Cut(_) => 0,
+    };
+    Ok((text, status))
+}

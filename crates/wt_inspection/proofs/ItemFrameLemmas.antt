@@ -1,0 +1,282 @@
+-- The frames of items are those of the run, as long as the reading goes on.
+use Rattle.std.proofs.Common.{◌≡◌, ℕ, ◌+◌, ◌%◌, ◌≤◌, cond, Bool, true, false, List, [], ◌∷◌, ◌++◌, length, take, drop, Option, Some, None, Result, Ok, Err, refl, sym, ap, subst, ◌∙◌, arith, inl, inr, ◌⊎◌, append_assoc, length-drop}
+use Rattle.std.specs.Prelude.{◌==◌, ◌||◌}
+use Rattle.std.proofs.lemmas.Bool.{cases_lt, le-ltb}
+use Rattle.std.proofs.lemmas.List.{drop-drop}
+use Rattle.wtp_core.specs.Varint.{bytes_at}
+use Rattle.wtp_core.specs.declared.error.ErrorCode.{ErrorCode}
+use Rattle.wtp_wire.specs.Front.{Front, Framed, Unknown, BadId, TooBig, Short, front_after, front}
+use Rattle.wtp_wire.specs.FrameHead.{announcement_of}
+use Rattle.wtp_wire.specs.declared.frame.kind.FrameKind.{FrameKind}
+use Rattle.wtp_wire.specs.declared.frame.kind.FrameKind.TheVariants as kind-is
+use Rattle.wtp_wire.proofs.FrontLemmas.{head_at-numbers, front-head}
+use Rattle.wtransport_proto.specs.Content.{Content as Frame, PlainOf}
+use Rattle.wtransport_proto.specs.Kind.{kind_of}
+use Rattle.wtransport_proto.specs.Role.{role_of}
+use Rattle.wtransport_proto.specs.Rule.{Role, rule}
+use Rattle.wtransport_proto.specs.Run.{Run, Tail, past_unknown, run, next_run}
+use Rattle.wtransport_proto.specs.Settings.{settings_in}
+use Rattle.wtransport_proto.specs.declared.stream.rules.StreamRole.{StreamRole}
+use Rattle.wtransport_proto.proofs.RunLaws.{run-allowed}
+use Rattle.wtransport_proto.proofs.RunLemmas.{past_unknown-unknown, run-step}
+use Rattle.wt_inspection.specs.declared.item.Content.{Content}
+use Rattle.wt_inspection.specs.declared.item.Content.TheVariants as content-is
+use Rattle.wt_inspection.specs.declared.item.Item.{Item}
+use Rattle.wt_inspection.specs.declared.item.FrameItem.{FrameItem}
+use Rattle.wt_inspection.specs.declared.item.Parts.{Parts}
+use Rattle.wt_inspection.specs.declared.item.Parts.TheVariants as parts-is
+use Rattle.wt_inspection.specs.declared.item.ending.End.{End}
+use Rattle.wt_inspection.specs.declared.item.fields.SectionFault.{SectionFault}
+use Rattle.wt_inspection.specs.declared.item.fields.SectionFault.TheVariants as fault-is
+use Rattle.wt_inspection.specs.declared.item.names.FrameName.{FrameName}
+use Rattle.wt_inspection.specs.declared.item.names.FrameName.TheVariants as name-is
+use Rattle.wt_inspection.specs.declared.reading.Next.{Next}
+use Rattle.wt_inspection.specs.declared.reading.Next.TheVariants as next-is
+use Rattle.wt_inspection.specs.DataCapsules.{Stage}
+use Rattle.wt_inspection.specs.ItemFrames.{frame_of, frames_at, frames_in, IsWithin, IsReadable, AreReadable}
+use Rattle.wt_inspection.specs.Names.{frame_name_of, named, other_name, is_http2}
+use Rattle.wt_inspection.specs.Pair.{pair_at}
+use Rattle.wt_inspection.specs.Recording.{Then, AfterSection, AfterSettings, HasParts, Judged, IsFrameAt, IsNext, IsNoFrame, IsRefused, Reads, is_session, name_fault, still_first}
+use Rattle.wt_inspection.proofs.PairLemmas.{pair_numbers}
+
+-- ---- where the reading goes on, it goes on as after a frame that is allowed
+
+section_on : (fault : Option SectionFault) (on : Then) (next : Next) → AfterSection fault on (Ok next) → Ok next ≡ on
+section_on None on next h = h
+section_on (Some fault-is.NeedsDynamicTable) on next h = h
+section_on (Some (fault-is.Malformed cause)) on next h = absurd h
+
+settings_on : {A : Type 0} (r : Result A ErrorCode) (on : Then) (next : Next) → AfterSettings r on (Ok next) → Ok next ≡ on
+settings_on (Ok settings) on next h = h
+settings_on (Err c) on next h = absurd h
+
+parts_on : (name : FrameName) (payload : List ℕ) (parts : Parts) (on : Then) (next : Next) → HasParts name payload parts on (Ok next) → Ok next ≡ on
+parts_on (name-is.Read kind-is.Data) payload parts-is.Opaque on next h = h
+parts_on (name-is.Read kind-is.Data) payload (parts-is.Fields section) on next h = absurd h
+parts_on (name-is.Read kind-is.Data) payload (parts-is.Settings lines) on next h = absurd h
+parts_on (name-is.Read kind-is.Data) payload (parts-is.Capsules capsules) on next (inl e) = e
+parts_on (name-is.Read kind-is.Data) payload (parts-is.Capsules capsules) on next (inr stops) = absurd stops
+parts_on (name-is.Read kind-is.Headers) payload parts-is.Opaque on next h = absurd h
+parts_on (name-is.Read kind-is.Headers) payload (parts-is.Fields section) on next h = section_on section.fault on next h.1
+parts_on (name-is.Read kind-is.Headers) payload (parts-is.Settings lines) on next h = absurd h
+parts_on (name-is.Read kind-is.Headers) payload (parts-is.Capsules capsules) on next h = absurd h
+parts_on (name-is.Read kind-is.Settings) payload parts-is.Opaque on next h = absurd h
+parts_on (name-is.Read kind-is.Settings) payload (parts-is.Fields section) on next h = absurd h
+parts_on (name-is.Read kind-is.Settings) payload (parts-is.Settings lines) on next h = settings_on (settings_in payload) on next h.1
+parts_on (name-is.Read kind-is.Settings) payload (parts-is.Capsules capsules) on next h = absurd h
+parts_on (name-is.Read kind-is.WebTransport) payload parts-is.Opaque on next h = h
+parts_on (name-is.Read kind-is.WebTransport) payload (parts-is.Fields section) on next h = absurd h
+parts_on (name-is.Read kind-is.WebTransport) payload (parts-is.Settings lines) on next h = absurd h
+parts_on (name-is.Read kind-is.WebTransport) payload (parts-is.Capsules capsules) on next h = absurd h
+parts_on (name-is.Read (kind-is.Exercise number)) payload parts-is.Opaque on next h = h
+parts_on (name-is.Read (kind-is.Exercise number)) payload (parts-is.Fields section) on next h = absurd h
+parts_on (name-is.Read (kind-is.Exercise number)) payload (parts-is.Settings lines) on next h = absurd h
+parts_on (name-is.Read (kind-is.Exercise number)) payload (parts-is.Capsules capsules) on next h = absurd h
+parts_on name-is.CancelPush payload parts-is.Opaque on next h = h
+parts_on name-is.CancelPush payload (parts-is.Fields section) on next h = absurd h
+parts_on name-is.CancelPush payload (parts-is.Settings lines) on next h = absurd h
+parts_on name-is.CancelPush payload (parts-is.Capsules capsules) on next h = absurd h
+parts_on name-is.PushPromise payload parts-is.Opaque on next h = h
+parts_on name-is.PushPromise payload (parts-is.Fields section) on next h = absurd h
+parts_on name-is.PushPromise payload (parts-is.Settings lines) on next h = absurd h
+parts_on name-is.PushPromise payload (parts-is.Capsules capsules) on next h = absurd h
+parts_on name-is.Goaway payload parts-is.Opaque on next h = h
+parts_on name-is.Goaway payload (parts-is.Fields section) on next h = absurd h
+parts_on name-is.Goaway payload (parts-is.Settings lines) on next h = absurd h
+parts_on name-is.Goaway payload (parts-is.Capsules capsules) on next h = absurd h
+parts_on name-is.MaxPushId payload parts-is.Opaque on next h = h
+parts_on name-is.MaxPushId payload (parts-is.Fields section) on next h = absurd h
+parts_on name-is.MaxPushId payload (parts-is.Settings lines) on next h = absurd h
+parts_on name-is.MaxPushId payload (parts-is.Capsules capsules) on next h = absurd h
+parts_on name-is.PriorityUpdate payload parts-is.Opaque on next h = h
+parts_on name-is.PriorityUpdate payload (parts-is.Fields section) on next h = absurd h
+parts_on name-is.PriorityUpdate payload (parts-is.Settings lines) on next h = absurd h
+parts_on name-is.PriorityUpdate payload (parts-is.Capsules capsules) on next h = absurd h
+parts_on name-is.Http2 payload parts-is.Opaque on next h = h
+parts_on name-is.Http2 payload (parts-is.Fields section) on next h = absurd h
+parts_on name-is.Http2 payload (parts-is.Settings lines) on next h = absurd h
+parts_on name-is.Http2 payload (parts-is.Capsules capsules) on next h = absurd h
+parts_on name-is.Unknown payload parts-is.Opaque on next h = h
+parts_on name-is.Unknown payload (parts-is.Fields section) on next h = absurd h
+parts_on name-is.Unknown payload (parts-is.Settings lines) on next h = absurd h
+parts_on name-is.Unknown payload (parts-is.Capsules capsules) on next h = absurd h
+
+-- a frame that is not refused
+judged_on : (fault : Option ErrorCode) (name : FrameName) (payload : List ℕ) (parts : Parts) (on : Then) (next : Next) → Judged fault name payload parts on (Ok next) → (fault ≡ None) × (Ok next ≡ on)
+judged_on (Some c) name payload parts on next h = absurd h.1
+judged_on None name payload parts on next h = (refl, parts_on name payload parts on next h)
+
+-- ---- the first frame of the bytes
+
+bytes_there : (n : ℕ) (bytes : List ℕ) → n ≤ length bytes → bytes_at n bytes ≡ Some (take n bytes, drop n bytes)
+unfolding bytes_at
+bytes_there n bytes h = rw (le-ltb (length bytes) n h) refl
+
+plain_front : (kind : FrameKind) (n : ℕ) (rest : List ℕ) → is_session (Some kind) ≡ false → n ≤ 4096 → n ≤ length rest → front_after (announcement_of (Some kind) n) rest ≡ Framed (PlainOf kind (take n rest)) (drop n rest)
+plain_front kind-is.WebTransport n rest plain h there = absurd (cc plain)
+plain_front kind-is.Data n rest plain h there = rw (le-ltb 4096 n h, bytes_there n rest there) refl
+plain_front kind-is.Headers n rest plain h there = rw (le-ltb 4096 n h, bytes_there n rest there) refl
+plain_front kind-is.Settings n rest plain h there = rw (le-ltb 4096 n h, bytes_there n rest there) refl
+plain_front (kind-is.Exercise number) n rest plain h there = rw (le-ltb 4096 n h, bytes_there n rest there) refl
+
+skipped_front : (n : ℕ) (rest : List ℕ) → n ≤ length rest → front_after (announcement_of None n) rest ≡ Unknown (drop n rest)
+skipped_front n rest there = rw (bytes_there n rest there) refl
+
+pub front_of_pair : (bytes rest : List ℕ) (number n : ℕ) → pair_at bytes ≡ Some (number, n, rest) → front bytes ≡ front_after (announcement_of (kind_of number) n) rest
+front_of_pair bytes rest number n e =
+    let p = pair_numbers bytes rest number n e in
+    front-head bytes rest (announcement_of (kind_of number) n) (head_at-numbers bytes p.mid rest number n p.first p.second)
+
+-- ---- the frames of the run
+
+same_frames : (more : Bool → List ℕ → Run) (role : Role) (first : Bool) (a b rest : List ℕ) (tail : Tail) (c : Front) → (next_run more role first a rest tail c).frames ≡ (next_run more role first b rest tail c).frames
+same_frames more role first a b rest tail (Framed f behind) = refl
+same_frames more role first a b rest tail (Unknown behind) = refl
+same_frames more role first a b rest tail (BadId behind) = refl
+same_frames more role first a b rest tail (TooBig behind) = refl
+same_frames more role first a b rest tail Short = refl
+
+unknown_frames : (role : Role) (first : Bool) (bytes rest : List ℕ) (tail : Tail) → front bytes ≡ Unknown rest → (run role first bytes tail).frames ≡ (run role first rest tail).frames
+unknown_frames role first bytes rest tail e =
+    let more = λ (f : Bool) (r : List ℕ). run role f r tail in
+    ap (λ (r : Run). r.frames) (run-step role first bytes tail)
+    ∙ ap (λ (b : List ℕ). (next_run more role first bytes b tail (front b)).frames) (past_unknown-unknown bytes rest e)
+    ∙ same_frames more role first bytes rest (past_unknown rest) tail (front (past_unknown rest))
+    ∙ ap (λ (r : Run). r.frames) (sym (run-step role first rest tail))
+
+-- ---- names without a kind
+
+pick : (P : FrameName → Type 0) (b : Bool) (x y : FrameName) → P x → P y → P (cond b x y)
+pick P true x y p q = p
+pick P false x y p q = q
+
+-- a stream skips a frame of this name
+abbrev IsSkipped : FrameName → Type 0
+IsSkipped name = ((first : Bool) → still_first first name ≡ first) × ((payload : List ℕ) → frame_of name payload ≡ [])
+
+skipped : (n : ℕ) → IsSkipped (other_name n)
+skipped n =
+    pick IsSkipped (is_http2 n) name-is.Http2 _ ((λ first. refl), (λ payload. refl))
+    (pick IsSkipped (n == 0x03) name-is.CancelPush _ ((λ first. refl), (λ payload. refl))
+    (pick IsSkipped (n == 0x05) name-is.PushPromise _ ((λ first. refl), (λ payload. refl))
+    (pick IsSkipped (n == 0x07) name-is.Goaway _ ((λ first. refl), (λ payload. refl))
+    (pick IsSkipped (n == 0x0d) name-is.MaxPushId _ ((λ first. refl), (λ payload. refl))
+    (pick IsSkipped ((n == 0xf0700) || (n == 0xf0701)) name-is.PriorityUpdate name-is.Unknown ((λ first. refl), (λ payload. refl)) ((λ first. refl), (λ payload. refl)))))))
+
+-- ---- one item
+
+-- what the run finds at an item after which the reading goes on: the item's frame, if a stream does
+-- not skip it, and then the run of the bytes behind it
+record Goes (role : StreamRole) (first : Bool) (bytes : List ℕ) (len : ℕ) (content : Content) (next : Next) (tail : Tail) : Type 0 where
+  pub still : Bool
+  pub on : next ≡ next-is.Frames role still
+  pub frames : (run (role_of role) first bytes tail).frames ≡ frames_at bytes content ++ (run (role_of role) still (drop len bytes) tail).frames
+
+ok_is : {A E : Type 0} (x y : A) → ◌≡◌ {A = Result A E} (Ok x) (Ok y) → x ≡ y
+ok_is x y e = cc e
+
+name_is : (n : ℕ) (k : Option FrameKind) → kind_of n ≡ k → frame_name_of n ≡ named k n
+unfolding frame_name_of
+name_is n k e = ap (λ (o : Option FrameKind). named o n) e
+
+frame_goes : (k : Option FrameKind) (f : FrameItem) (role : StreamRole) (first : Bool) (bytes : List ℕ) (len : ℕ) (next : Next) (tail : Tail) → kind_of f.number ≡ k → IsFrameAt role first bytes len f (Ok next) → len ≤ length bytes → f.present ≡ f.announced → name_fault role first f.name ≡ None → next ≡ next-is.Frames role (still_first first f.name) → IsWithin f.name f.announced → Goes role first bytes len (content-is.Frame f) next tail
+frame_goes None f role first bytes len next tail e r within whole allowed goes readable =
+    let name : f.name ≡ other_name f.number = r.name ∙ name_is f.number None e in
+    let s = skipped f.number in
+    let there : f.announced ≤ length (drop f.head bytes) = omega (arith, length-drop f.head bytes, r.size, whole) in
+    let sum : f.head + f.announced ≡ len = omega (arith, r.size, whole) in
+    let behind : drop f.announced (drop f.head bytes) ≡ drop len bytes = drop-drop f.announced f.head bytes ∙ ap (λ (x : ℕ). drop x bytes) sum in
+    let at : front bytes ≡ Unknown (drop len bytes) =
+    front_of_pair bytes (drop f.head bytes) f.number f.announced r.numbers
+    ∙ ap (λ (k : Option FrameKind). front_after (announcement_of k f.announced) (drop f.head bytes)) e
+    ∙ skipped_front f.announced (drop f.head bytes) there
+    ∙ ap (λ (x : List ℕ). Unknown x) behind in
+    let none : frame_of f.name (take f.present (drop f.head bytes)) ≡ [] = ap (λ (x : FrameName). frame_of x (take f.present (drop f.head bytes))) name ∙ s.1 (take f.present (drop f.head bytes)) in
+    record {
+      still = first;
+      on = goes ∙ ap (λ (x : Bool). next-is.Frames role x) (ap (λ (x : FrameName). still_first first x) name ∙ s.0 first);
+      frames = unknown_frames (role_of role) first bytes (drop len bytes) tail at ∙ ap (λ (fs : List Frame). fs ++ (run (role_of role) first (drop len bytes) tail).frames) (sym none);
+    }
+frame_goes (Some kind) f role first bytes len next tail e r within whole allowed goes readable =
+    let name : f.name ≡ name-is.Read kind = r.name ∙ name_is f.number (Some kind) e in
+    let plain : is_session (Some kind) ≡ false = ap is_session (sym e) ∙ r.plain in
+    let small : f.announced ≤ 4096 = subst (λ (x : FrameName). IsWithin x f.announced) name readable in
+    let rule_none : rule (role_of role) first kind ≡ None = ap (λ (x : FrameName). name_fault role first x) (sym name) ∙ allowed in
+    let there : f.announced ≤ length (drop f.head bytes) = omega (arith, length-drop f.head bytes, r.size, whole) in
+    let sum : f.head + f.announced ≡ len = omega (arith, r.size, whole) in
+    let behind : drop f.announced (drop f.head bytes) ≡ drop len bytes = drop-drop f.announced f.head bytes ∙ ap (λ (x : ℕ). drop x bytes) sum in
+    let at : front bytes ≡ Framed (PlainOf kind (take f.announced (drop f.head bytes))) (drop len bytes) =
+    front_of_pair bytes (drop f.head bytes) f.number f.announced r.numbers
+    ∙ ap (λ (k : Option FrameKind). front_after (announcement_of k f.announced) (drop f.head bytes)) e
+    ∙ plain_front kind f.announced (drop f.head bytes) plain small there
+    ∙ ap (λ (x : List ℕ). Framed (PlainOf kind (take f.announced (drop f.head bytes))) x) behind in
+    let one : PlainOf kind (take f.announced (drop f.head bytes)) ∷ [] ≡ frame_of f.name (take f.present (drop f.head bytes)) = ap (λ (n : ℕ). PlainOf kind (take n (drop f.head bytes)) ∷ []) (sym whole) ∙ ap (λ (x : FrameName). frame_of x (take f.present (drop f.head bytes))) (sym name) in
+    record {
+      still = false;
+      on = goes ∙ ap (λ (x : FrameName). next-is.Frames role (still_first first x)) name;
+      frames = ap (λ (x : Run). x.frames) (run-allowed (role_of role) first bytes (drop len bytes) tail (PlainOf kind (take f.announced (drop f.head bytes))) at rule_none) ∙ ap (λ (fs : List Frame). fs ++ (run (role_of role) false (drop len bytes) tail).frames) one;
+    }
+
+refused_on : (even : Bool) (fault : Option ErrorCode) (next : Next) → IsRefused even fault (Ok next) → ⊥
+refused_on false fault next h = h
+refused_on true None next h = h
+refused_on true (Some c) next h = h
+
+no_frame_on : (role : StreamRole) (first : Bool) (pair : Option (ℕ × ℕ × List ℕ)) (next : Next) → IsNoFrame role first pair (Ok next) → ⊥
+no_frame_on role first None next h = h
+no_frame_on role first (Some (number, id, rest)) next h = refused_on (id % 4 == 0) (rule (role_of role) first kind-is.WebTransport) next h.1
+
+one_item : (content : Content) (role : StreamRole) (first : Bool) (bytes : List ℕ) (len : ℕ) (next : Next) (tail : Tail) → len ≤ length bytes → IsNext (next-is.Frames role first) bytes len content (Ok next) → IsReadable content → (next ≡ next-is.Payload) ⊎ Goes role first bytes len content next tail
+one_item (content-is.Frame f) role first bytes len next tail within r readable = elim (cases_lt f.present f.announced) [
+  | inl cut ↦ absurd ((r.cut cut).1)
+  | inr full ↦
+      let whole : f.present ≡ f.announced = omega (arith, r.most, full) in
+      let (allowed, on) = judged_on (name_fault role first f.name) f.name (take f.present (drop f.head bytes)) f.parts (Ok (next-is.Frames role (still_first first f.name))) next (r.whole whole) in
+      inr (frame_goes (kind_of f.number) f role first bytes len next tail refl r within whole allowed (ok_is {E = End} next (next-is.Frames role (still_first first f.name)) on) readable)
+]
+one_item (content-is.Session id) role first bytes len next tail within h readable = inl (ok_is {E = End} next next-is.Payload h.2)
+one_item content-is.Unread role first bytes len next tail within h readable = absurd (no_frame_on role first (pair_at bytes) next h.1)
+one_item (content-is.Stream head) role first bytes len next tail within h readable = absurd h
+one_item content-is.Payload role first bytes len next tail within h readable = absurd h
+one_item (content-is.Capsule c) role first bytes len next tail within h readable = absurd h
+one_item (content-is.Datagram d) role first bytes len next tail within h readable = absurd h
+one_item (content-is.Section section) role first bytes len next tail within h readable = absurd h
+one_item (content-is.Settings lines) role first bytes len next tail within h readable = absurd h
+
+-- ---- what follows payload, or the end of the reading
+
+payload_stays : (content : Content) (bytes : List ℕ) (len : ℕ) (after : Then) → IsNext next-is.Payload bytes len content after → after ≡ Ok next-is.Payload
+payload_stays content-is.Payload bytes len after h = h.1
+payload_stays (content-is.Frame f) bytes len after h = absurd h
+payload_stays (content-is.Session id) bytes len after h = absurd h
+payload_stays content-is.Unread bytes len after h = absurd h
+payload_stays (content-is.Stream head) bytes len after h = absurd h
+payload_stays (content-is.Capsule c) bytes len after h = absurd h
+payload_stays (content-is.Datagram d) bytes len after h = absurd h
+payload_stays (content-is.Section section) bytes len after h = absurd h
+payload_stays (content-is.Settings lines) bytes len after h = absurd h
+
+never_back : (items : List Item) (role : StreamRole) (first : Bool) (stage final : Stage) (bytes rest : List ℕ) → Reads (Ok next-is.Payload) stage bytes items (Ok (next-is.Frames role first)) final rest → ⊥
+never_back [] role first stage final bytes rest (same, still, all) = cc same
+never_back (item ∷ items) role first stage final bytes rest (after, next, within, step, moves, reads) =
+    never_back items role first next final (drop item.length bytes) rest (subst (λ (a : Then). Reads a next (drop item.length bytes) items (Ok (next-is.Frames role first)) final rest) (payload_stays item.content bytes item.length after step) reads)
+
+stopped : (items : List Item) (end : End) (next : Next) (stage final : Stage) (bytes rest : List ℕ) → Reads (Err end) stage bytes items (Ok next) final rest → ⊥
+stopped [] end next stage final bytes rest (same, still, all) = cc same
+stopped (item ∷ items) end next stage final bytes rest (after, mid, within, (unread, all, same), moves, reads) =
+    stopped items end next mid final (drop item.length bytes) rest (subst (λ (a : Then). Reads a mid (drop item.length bytes) items (Ok next) final rest) same reads)
+
+-- ---- all items
+
+pub frames_of_run : (items : List Item) (role : StreamRole) (first still : Bool) (stage final : Stage) (bytes rest : List ℕ) (tail : Tail) → Reads (Ok (next-is.Frames role first)) stage bytes items (Ok (next-is.Frames role still)) final rest → AreReadable items → (run (role_of role) first bytes tail).frames ≡ frames_in bytes items ++ (run (role_of role) still rest tail).frames
+frames_of_run [] role first still stage final bytes rest tail (same, kept, all) readable =
+    let one : first ≡ still = cc same in
+    rw (one, all) refl
+frames_of_run (item ∷ items) role first still stage final bytes rest tail (Err end, mid, within, step, moves, reads) readable =
+    absurd (stopped items end (next-is.Frames role still) mid final (drop item.length bytes) rest reads)
+frames_of_run (item ∷ items) role first still stage final bytes rest tail (Ok next, mid, within, step, moves, reads) (one, others) = elim (one_item item.content role first bytes item.length next tail within step one) [
+  | inl is ↦ absurd (never_back items role still mid final (drop item.length bytes) rest (subst (λ (n : Next). Reads (Ok n) mid (drop item.length bytes) items (Ok (next-is.Frames role still)) final rest) is reads))
+  | inr g ↦
+      let more = frames_of_run items role g.still still mid final (drop item.length bytes) rest tail (subst (λ (n : Next). Reads (Ok n) mid (drop item.length bytes) items (Ok (next-is.Frames role still)) final rest) g.on reads) others in
+      g.frames ∙ ap (λ (fs : List Frame). frames_at bytes item.content ++ fs) more ∙ sym (append_assoc (frames_at bytes item.content) (frames_in (drop item.length bytes) items) (run (role_of role) still rest tail).frames)
+]

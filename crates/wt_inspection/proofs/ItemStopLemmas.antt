@@ -1,0 +1,69 @@
+-- Where bytes are not read as a frame, the run ends.
+use Rattle.std.proofs.Common.{◌≡◌, ℕ, ◌%◌, Bool, true, false, List, Option, Some, None, refl, ap, ◌∙◌, inl, inr, ◌⊎◌}
+use Rattle.std.specs.Prelude.{◌==◌}
+use Rattle.wtp_core.specs.Varint.{number_at}
+use Rattle.wtp_core.specs.declared.error.ErrorCode.{ErrorCode}
+use Rattle.wtp_core.specs.declared.error.ErrorCode.TheVariants as code-is
+use Rattle.wtp_wire.specs.Front.{Framed, BadId, Short, front_after, front}
+use Rattle.wtp_wire.specs.FrameHead.{announcement_of, and_then}
+use Rattle.wtp_wire.specs.declared.frame.kind.FrameKind.{FrameKind}
+use Rattle.wtp_wire.specs.declared.frame.kind.FrameKind.TheVariants as kind-is
+use Rattle.wtp_wire.proofs.FrontLemmas.{front-none, front-cut}
+use Rattle.wtransport_proto.specs.Content.{WebTransportOf}
+use Rattle.wtransport_proto.specs.Role.{role_of}
+use Rattle.wtransport_proto.specs.Rule.{rule}
+use Rattle.wtransport_proto.specs.Run.{Tail, H3, run, ends, run_stop}
+use Rattle.wtransport_proto.specs.declared.stream.rules.StreamRole.{StreamRole}
+use Rattle.wtransport_proto.proofs.RunLaws.{run-refused, run-bad_id, run-short}
+use Rattle.wt_inspection.specs.declared.item.Content.TheVariants.{Unread}
+use Rattle.wt_inspection.specs.declared.reading.Next.TheVariants.{Frames}
+use Rattle.wt_inspection.specs.Pair.{pair_at}
+use Rattle.wt_inspection.specs.Recording.{Then, IsNext, IsNoFrame, IsRefused, StopsWith}
+use Rattle.wt_inspection.proofs.ItemFrameLemmas.{front_of_pair}
+use Rattle.wt_inspection.proofs.RecordingLemmas.{session_kind}
+
+-- ---- too few bytes
+
+second_short : (bytes mid : List ℕ) (id : ℕ) (o : Option (ℕ × List ℕ)) → number_at bytes ≡ Some (id, mid) → number_at mid ≡ o → and_then {B = ℕ × ℕ × List ℕ} o (λ s. Some (id, s.0, s.1)) ≡ None → front bytes ≡ Short
+second_short bytes mid id None first second e = front-cut bytes mid id first second
+second_short bytes mid id (Some s) first second e = absurd (cc e)
+
+first_short : (bytes : List ℕ) (o : Option (ℕ × List ℕ)) → number_at bytes ≡ o → and_then {B = ℕ × ℕ × List ℕ} o (λ f. and_then {B = ℕ × ℕ × List ℕ} (number_at f.1) (λ s. Some (f.0, s.0, s.1))) ≡ None → front bytes ≡ Short
+first_short bytes None first e = front-none bytes first
+first_short bytes (Some (id, mid)) first e = second_short bytes mid id (number_at mid) first refl e
+
+front_short : (bytes : List ℕ) → pair_at bytes ≡ None → front bytes ≡ Short
+unfolding pair_at
+front_short bytes e = first_short bytes (number_at bytes) refl e
+
+-- ---- the head of a WebTransport stream that is refused
+
+even_front : (id : ℕ) (rest : List ℕ) → (id % 4 == 0) ≡ true → front_after (announcement_of (Some kind-is.WebTransport) id) rest ≡ Framed (WebTransportOf id) rest
+even_front id rest even = rw even refl
+
+odd_front : (id : ℕ) (rest : List ℕ) → (id % 4 == 0) ≡ false → front_after (announcement_of (Some kind-is.WebTransport) id) rest ≡ BadId rest
+odd_front id rest odd = rw odd refl
+
+-- the run has no frame
+abbrev HasNone : StreamRole → Bool → List ℕ → Tail → Then → Type 0
+HasNone role first bytes tail after =
+    (run (role_of role) first bytes tail ≡ ends (run_stop bytes bytes tail))
+    ⊎ ((c : ErrorCode) × (run (role_of role) first bytes tail ≡ ends (H3 c)) × StopsWith c after)
+
+refused : (even : Bool) (fault : Option ErrorCode) (role : StreamRole) (first : Bool) (bytes rest : List ℕ) (id : ℕ) (after : Then) (tail : Tail) → (id % 4 == 0) ≡ even → rule (role_of role) first kind-is.WebTransport ≡ fault → front bytes ≡ front_after (announcement_of (Some kind-is.WebTransport) id) rest → IsRefused even fault after → HasNone role first bytes tail after
+refused false fault role first bytes rest id after tail e is begins stops =
+    inr (code-is.Id, run-bad_id (role_of role) first bytes rest tail (begins ∙ odd_front id rest e), stops)
+refused true (Some c) role first bytes rest id after tail e is begins stops =
+    inr (c, run-refused (role_of role) first bytes rest tail (WebTransportOf id) c (begins ∙ even_front id rest e) is, stops)
+refused true None role first bytes rest id after tail e is begins stops = absurd stops
+
+no_frame : (pair : Option (ℕ × ℕ × List ℕ)) (role : StreamRole) (first : Bool) (bytes : List ℕ) (after : Then) (tail : Tail) → pair_at bytes ≡ pair → IsNoFrame role first pair after → HasNone role first bytes tail after
+no_frame None role first bytes after tail e stops = inl (run-short (role_of role) first bytes tail (front_short bytes e))
+no_frame (Some (number, id, rest)) role first bytes after tail e (session, stops) =
+    let begins : front bytes ≡ front_after (announcement_of (Some kind-is.WebTransport) id) rest =
+    front_of_pair bytes rest number id e
+    ∙ ap (λ (k : Option FrameKind). front_after (announcement_of k id) rest) (session_kind number session) in
+    refused (id % 4 == 0) (rule (role_of role) first kind-is.WebTransport) role first bytes rest id after tail refl refl begins stops
+
+pub unread_stops : (role : StreamRole) (first : Bool) (bytes : List ℕ) (len : ℕ) (after : Then) (tail : Tail) → IsNext (Frames role first) bytes len Unread after → HasNone role first bytes tail after
+unread_stops role first bytes len after tail (all, none) = no_frame (pair_at bytes) role first bytes after tail refl none

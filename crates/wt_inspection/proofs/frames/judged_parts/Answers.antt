@@ -1,0 +1,12 @@
+use Rattle.std.proofs.Common.{Ok, Err}
+use Rattle.wt_inspection.specs.Names.{frame_name_of}
+use Rattle.wt_inspection.specs.Recording.{name_fault, still_first}
+use Rattle.wt_inspection.specs.declared.item.Parts.TheVariants.{Opaque}
+use Rattle.wt_inspection.specs.declared.reading.Next.TheVariants.{Frames}
+use Rattle.wt_inspection.proofs.WalkLemmas.{refused_takes}
+use Rattle.wt_inspection.proofs.frames.judged_parts.Goals as goal
+
+pub returns-in-Some-clause-stage : goal.returns-in-Some-clause-stage
+returns-in-Some-clause-stage c = λ stage h.
+    let name = frame_name_of c.args.number in
+    (stage, refused_takes (name_fault c.args.role c.args.first name) c.in-Some.code name c.args.payload.now Opaque (Ok (Frames c.args.role (still_first c.args.first name))) (Err c.fault-end.result) stage (cc), tt)

@@ -1,0 +1,50 @@
+-- The capsules that the DATA frames of a session have, wherever they are cut (RFC 9297, section
+-- 3.2).
+use Rattle.std.specs.Prelude.{◌≡◌, ℕ, List, [], ◌∷◌, ◌++◌, string_bytes, Option, Some, None}
+use Rattle.wtp_core.specs.declared.error.ErrorCode.{ErrorCode}
+use Rattle.wtp_core.specs.declared.error.ErrorCode.TheVariants as code-is
+use Rattle.wtransport_proto.specs.CapsuleFront.{CapsuleFront, Found, Unknown, TooLong, Cut, End, capsule_front}
+use Rattle.wtransport_proto.specs.CloseSession.{close_in}
+use Rattle.wt_inspection.specs.declared.item.capsule.CapsuleItem.{CapsuleItem}
+use Rattle.wt_inspection.specs.declared.item.capsule.CloseReason.{CloseReason}
+use Rattle.wt_inspection.specs.Pair.{pair_at}
+
+-- the code and the reason of a close
+abbrev pub Says : Option (ℕ × List ℕ) → Option CloseReason → Type 0
+Says (Some close) (Some found) = (found.code ≡ close.0) × (string_bytes found.reason ≡ close.1)
+Says (Some close) None = ⊥
+Says None found = ⊥
+
+-- the first capsule has this close, if it has one, and these bytes are behind it
+abbrev pub IsFirst : CapsuleFront → Option CloseReason → List ℕ → Type 0
+IsFirst (Found kind value rest) close behind = Says (close_in value) close × (rest ≡ behind)
+IsFirst (Unknown rest) close behind = (close ≡ None) × (rest ≡ behind)
+IsFirst other close behind = ⊥
+
+-- the bytes start with this capsule, and these bytes are behind it
+pub record StartsCapsule (bytes : List ℕ) (c : CapsuleItem) (behind : List ℕ) : Type 0 where
+  pub value : List ℕ
+  pub numbers : pair_at bytes ≡ Some (c.number, c.announced, value)
+  pub first : IsFirst (capsule_front bytes) c.close behind
+
+-- the bytes start with these capsules, one after the other, followed by the rest
+abbrev pub StartsCapsules : List ℕ → List CapsuleItem → List ℕ → Type 0
+StartsCapsules bytes [] rest = bytes ≡ rest
+StartsCapsules bytes (c ∷ cs) rest =
+    (behind : List ℕ) × StartsCapsule bytes c behind × StartsCapsules behind cs rest
+
+-- the first capsule is not complete, or it has this fault
+abbrev pub EndsWith : CapsuleFront → Option ErrorCode → Type 0
+EndsWith Cut fault = fault ≡ None
+EndsWith End fault = fault ≡ None
+EndsWith (TooLong rest) fault = fault ≡ Some code-is.Datagram
+EndsWith (Found kind value rest) fault = (close_in value ≡ None) × (fault ≡ Some code-is.Datagram)
+EndsWith (Unknown rest) fault = ⊥
+
+-- How far the message of a stream went: before its header section; after that of a message whose
+-- DATA frames have bytes of an application; or after that of a session, whose DATA frames had these
+-- bytes after the last complete capsule.
+pub data Stage : Type 0 where
+  Opening : Stage
+  Plain : Stage
+  Session : List ℕ → Stage

@@ -1,0 +1,43 @@
+-- Bytes as a part of one line, and texts without control characters.
+use Rattle.std.specs.Prelude.{◌≡◌, ◌⊎◌, ℕ, ◌+◌, ◌/◌, ◌%◌, if◌then◌else◌, Bool, ◌&&◌, not}
+use Rattle.std.specs.Prelude.{List, [], ◌∷◌, ◌++◌, nat_eq, nat_lt, nat_le, codes}
+use Rattle.std.specs.Char.{is_control}
+use Rattle.std.specs.List.{flat_map}
+use Rattle.std.specs.Str.{NoCharPasses}
+
+-- a hexadecimal digit, as a character
+abbrev pub digit_of : ℕ → ℕ
+digit_of n = if nat_lt n 10 then 48 + n else 87 + n
+
+-- a printable byte of ASCII, and not a backslash
+abbrev pub is_plain_byte : ℕ → Bool
+is_plain_byte b = nat_le 32 b && nat_lt b 127 && not (nat_eq b 92)
+
+-- a byte: as it is, if it is plain; otherwise \xNN
+abbrev pub escaped_byte : ℕ → List ℕ
+escaped_byte b =
+    if is_plain_byte b then b ∷ [] else codes "\\x" ++ digit_of (b / 16) ∷ digit_of (b % 16) ∷ []
+
+-- bytes were added to a line: as they are, which only a text without control characters is; or
+-- each escaped
+abbrev pub AddsShown : List ℕ → List ℕ → List ℕ → Type 0
+AddsShown bytes old new =
+    ((new ≡ old ++ bytes) × NoCharPasses is_control bytes)
+    ⊎ (new ≡ old ++ flat_map escaped_byte bytes)
+
+-- a control character (Unicode's category Cc) other than a line feed
+abbrev pub is_hidden : ℕ → Bool
+is_hidden c = is_control c && not (nat_eq c 10)
+
+-- a text whose only control characters are line feeds
+abbrev pub IsClean : List ℕ → Type 0
+IsClean = NoCharPasses is_hidden
+
+-- a line of these words: the words as they are, or escaped, and a line feed
+abbrev pub IsLine : List ℕ → List ℕ → Type 0
+IsLine words line =
+    (shown : List ℕ) × AddsShown words [] shown × (line ≡ shown ++ codes "\n")
+
+-- a line of these words was added to a text
+abbrev pub AddsLine : List ℕ → List ℕ → List ℕ → Type 0
+AddsLine words old new = (line : List ℕ) × IsLine words line × (new ≡ old ++ line)

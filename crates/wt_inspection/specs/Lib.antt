@@ -1,0 +1,13 @@
+pub mod SettingLines
+pub mod Sections
+pub mod Heads
+pub mod Pair
+pub mod Tiles
+pub mod Names
+pub mod DataCapsules
+pub mod Recording
+pub mod Walks
+pub mod Escaped
+pub mod Html
+pub mod JsonLines
+pub mod ItemFrames

@@ -1,0 +1,41 @@
+-- Field sections, line by line (RFC 9204, section 4.5).
+use Rattle.std.specs.Prelude.{◌≡◌, ℕ, List, [], map, Option, Some, None, Result, Ok, Err}
+use Rattle.wtp_fields.specs.declared.qpack.DecodingError.{DecodingError}
+use Rattle.wtp_fields.specs.declared.qpack.DecodingError.TheVariants.{DynamicNotSupported}
+use Rattle.wtransport_proto.specs.Field.{Field}
+use Rattle.wtransport_proto.specs.FieldLines.{AreOctetLines, octet_line_at}
+use Rattle.wtransport_proto.specs.FieldSection.{after_prefix}
+use Rattle.wt_inspection.specs.declared.item.fields.FieldSection.{FieldSection}
+use Rattle.wt_inspection.specs.declared.item.fields.Line.{Line}
+use Rattle.wt_inspection.specs.declared.item.fields.SectionFault.{SectionFault}
+use Rattle.wt_inspection.specs.declared.item.fields.SectionFault.TheVariants.{NeedsDynamicTable, Malformed}
+
+-- the name and the value
+abbrev pub field_of : Line → Field
+field_of line = (line.name.items, line.value.items)
+
+-- what a fault of decoding means for a section
+abbrev pub fault_of : DecodingError → SectionFault
+fault_of DynamicNotSupported = NeedsDynamicTable
+fault_of cause = Malformed cause
+
+-- the lines end here: there are no more bytes, or the next line has this fault
+abbrev pub EndsLines : List ℕ → Option SectionFault → Type 0
+EndsLines rest None = rest ≡ []
+EndsLines rest (Some fault) =
+    (cause : DecodingError) × (octet_line_at rest ≡ Err cause) × (fault ≡ fault_of cause)
+
+-- the bytes start with these lines, after which they end so
+abbrev pub HasLines : List ℕ → List Line → Option SectionFault → Type 0
+HasLines bytes lines fault =
+    (rest : List ℕ) × AreOctetLines bytes (map field_of lines) rest × EndsLines rest fault
+
+-- the section has these lines after its prefix; or none, if the prefix has a fault
+abbrev pub IsSectionOf : Result (List ℕ) DecodingError → FieldSection → Type 0
+IsSectionOf (Ok bytes) section = HasLines bytes section.lines.items section.fault
+IsSectionOf (Err cause) section =
+    (section.lines.items ≡ []) × (section.fault ≡ Some (fault_of cause))
+
+-- the bytes are this section
+abbrev pub IsSection : List ℕ → FieldSection → Type 0
+IsSection bytes section = IsSectionOf (after_prefix bytes) section

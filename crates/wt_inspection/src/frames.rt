@@ -1,0 +1,447 @@
+//! Frames (RFC 9114, section 7).
+ghost use Rattle.std.specs.Prelude.{◌≡◌, ◌≤◌, ◌<◌, ◌+◌, ◌^◌, true, false, Some, Ok, Err, IfOk, length, drop};
+ghost use Rattle.wtransport_proto.specs.Kind.{kind_of};
+ghost use Rattle.wt_inspection.specs.Names.{frame_name_of};
+ghost use Rattle.wt_inspection.specs.Walks.{Leads};
+ghost use Rattle.wt_inspection.specs.Pair.{pair_at};
+ghost use Rattle.wt_inspection.specs.Recording.{HasNoFrame, HasParts, IsNext, Judged, Moves, Stops, Takes, TakesWhole, is_data, is_session, is_whole, name_fault, still_first};
+
+mod warnings;
+
+use crate::capsules::Taken;
+use crate::fields::{read_section, section_then};
+use crate::frames::warnings::warn_of_frame;
+use crate::item::{Content, End, FrameItem, FrameName, Parts};
+use crate::message::take_section;
+use crate::numbers::{Pair, first_pair, missing_of_pair};
+use crate::reading::{Next, Phase, Reading, Step, fault};
+use crate::settings::{read_settings, settings_then};
+use std::alloc::AllocError;
+use wtransport_proto::error::ErrorCode;
+use wtransport_proto::frame::FrameKind;
+use wtransport_proto::ids::SessionId;
+use wtransport_proto::stream::{StreamRole, fault_of};
+use wtransport_proto::varint::VarInt;
+
+/// What the payload of a frame contains, and what follows the frame.
+#[derive(Drop)]
+struct Found {
+    parts: Parts,
+    after: Result<Next, End>,
+}
+
+/// Where a frame is, and how many bytes its type and its length have.
+#[derive(Clone, Copy)]
+struct Place {
+    at: usize,
+    head: usize,
+}
+
+/// Returns the next frame.
+#[tactic(auto, using(crate::proofs::RecordingLemmas::no_frame_cut))]
+pub(crate) fn next_frame(
+    reading: &mut Reading,
+    role: StreamRole,
+    first: bool,
+    at: usize,
+    rest: &[u8],
+) -> Result<Step, AllocError>
+    requires { 0 < length rest.now }
+    ensures within { IfOk result (λ s. s.length ≤ length rest.now) }
+    ensures some { IfOk result (λ s. 0 < s.length) }
+    ensures read { IfOk result (λ s. IsNext (Next.Frames role first) rest.now s.length s.content
+        s.after) }
+    ensures stage { IfOk result (λ s. Leads reading.old.phase reading.new.phase
+        (Moves (Ok (Next.Frames role first)) rest.now s.content s.after) s.after) }
+{
+    let Some(pair) = first_pair(rest) else {
+        let end = reading.cut(at, "frame", missing_of_pair(rest));
+        return Ok(Step::last(rest.len(), Content::Unread, end));
+    };
+    if is_session(pair.number) {
+        return Ok(session_frame(role, first, at, pair, rest));
+    }
+    let left = rest.len() - pair.size;
+    if pair.second.into_inner() > left as u64 {
+        return cut_frame(reading, role, first, at, pair, rest);
+    }
+    whole_frame(reading, role, first, at, pair, rest)
+}
+
+/// Returns whether a session ID follows the type of a frame, in place of a length.
+fn is_session(number: VarInt) -> bool
+    ensures { result ≡ is_session (kind_of number) }
+{
+    match FrameKind::parse(number) {
+        Some(FrameKind::WebTransport) => true,
+        Some(FrameKind::Data) => false,
+        Some(FrameKind::Headers) => false,
+        Some(FrameKind::Settings) => false,
+        Some(FrameKind::Exercise(_)) => false,
+        None => false,
+    }
+}
+
+/// Returns the head of a WebTransport stream (draft-ietf-webtrans-http3-02, section 4.2).
+#[tactic(auto, using(crate::proofs::RecordingLemmas::no_frame_refused, crate::proofs::RecordingLemmas::session_kind))]
+fn session_frame(role: StreamRole, first: bool, at: usize, pair: Pair, rest: &[u8]) -> Step
+    requires nonempty { 0 < length rest.now }
+    requires within { pair.size ≤ length rest.now }
+    requires some { 0 < pair.size }
+    requires pair { pair_at rest.now ≡ Some (pair.number, pair.second, drop pair.size rest.now) }
+    requires kind { is_session (kind_of pair.number) ≡ true }
+    ensures within { result.length ≤ length rest.now }
+    ensures some { 0 < result.length }
+    ensures read { IsNext (Next.Frames role first) rest.now result.length result.content
+        result.after }
+    ensures plain { HasNoFrame result.content }
+{
+    let Ok(session) = SessionId::try_from_varint(pair.second) else {
+        let why = "a session ID is a multiple of 4 (draft-ietf-webtrans-http3-02, section 4)";
+        return Step::last(rest.len(), Content::Unread, fault(at, ErrorCode::Id, why));
+    };
+    if let Some(code) = fault_of(role, first, FrameKind::WebTransport) {
+        let why =
+            "only the first frame may begin a WebTransport stream (draft-ietf-webtrans-http3-02, 4.2)";
+        return Step::last(rest.len(), Content::Unread, fault(at, code, why));
+    }
+    Step::go_on(
+        pair.size,
+        Content::Session(session.into_u64()),
+        Next::Payload,
+    )
+}
+
+/// Returns a frame whose payload the bytes cut.
+fn cut_frame(
+    reading: &mut Reading,
+    role: StreamRole,
+    first: bool,
+    at: usize,
+    pair: Pair,
+    rest: &[u8],
+) -> Result<Step, AllocError>
+    requires within { pair.size ≤ length rest.now }
+    requires some { 0 < pair.size }
+    requires pair { pair_at rest.now ≡ Some (pair.number, pair.second, drop pair.size rest.now) }
+    requires kind { is_session (kind_of pair.number) ≡ false }
+    requires cut { length rest.now < pair.size + pair.second }
+    ensures within { IfOk result (λ s. s.length ≤ length rest.now) }
+    ensures some { IfOk result (λ s. 0 < s.length) }
+    ensures read { IfOk result (λ s. IsNext (Next.Frames role first) rest.now s.length s.content
+        s.after) }
+    ensures stage { IfOk result (λ s. Leads reading.old.phase reading.new.phase
+        (Moves (Ok (Next.Frames role first)) rest.now s.content s.after) s.after) }
+{
+    let Pair {
+        number,
+        second,
+        size,
+    } = pair;
+    let present = rest.split_at(size).1;
+    let missing = second.into_inner().saturating_sub(present.len() as u64);
+    let end = reading.cut(at, "frame", missing);
+    let Found { parts, after } = cut_parts(reading, at.saturating_add(size), number, present, end)?;
+    let frame = FrameItem {
+        number: number.into_inner(),
+        name: FrameName::of(number),
+        head: size,
+        announced: second.into_inner(),
+        present: present.len(),
+        parts,
+    };
+    Ok(Step {
+        length: rest.len(),
+        content: Content::Frame(frame),
+        after,
+    })
+}
+
+/// Returns a complete frame.
+fn whole_frame(
+    reading: &mut Reading,
+    role: StreamRole,
+    first: bool,
+    at: usize,
+    pair: Pair,
+    rest: &[u8],
+) -> Result<Step, AllocError>
+    requires within { pair.size + pair.second ≤ length rest.now }
+    requires some { 0 < pair.size }
+    requires pair { pair_at rest.now ≡ Some (pair.number, pair.second, drop pair.size rest.now) }
+    requires kind { is_session (kind_of pair.number) ≡ false }
+    ensures within { IfOk result (λ s. s.length ≤ length rest.now) }
+    ensures some { IfOk result (λ s. 0 < s.length) }
+    ensures read { IfOk result (λ s. IsNext (Next.Frames role first) rest.now s.length s.content
+        s.after) }
+    ensures stage { IfOk result (λ s. Leads reading.old.phase reading.new.phase
+        (Moves (Ok (Next.Frames role first)) rest.now s.content s.after) s.after) }
+{
+    let Pair {
+        number,
+        second,
+        size,
+    } = pair;
+    let present = second.into_inner() as usize;
+    let (_, body) = rest.split_at(size);
+    let (payload, _) = body.split_at(present);
+    let place = Place { at, head: size };
+    let Found { parts, after } = judged_parts(reading, role, first, place, number, payload)?;
+    let frame = FrameItem {
+        number: number.into_inner(),
+        name: FrameName::of(number),
+        head: size,
+        announced: second.into_inner(),
+        present,
+        parts,
+    };
+    Ok(Step {
+        length: size + present,
+        content: Content::Frame(frame),
+        after,
+    })
+}
+
+/// Returns what the present payload of a cut frame contains, which begins at this place. The
+/// reading ends so, unless there is a fault before.
+#[tactic(auto, using(crate::proofs::WalkLemmas::data_leads, crate::proofs::WalkLemmas::data_has, crate::proofs::WalkLemmas::opaque_leads))]
+fn cut_parts(
+    reading: &mut Reading,
+    at: usize,
+    number: VarInt,
+    present: &[u8],
+    end: End,
+) -> Result<Found, AllocError>
+    requires { is_whole end ≡ false }
+    ensures stops { IfOk result (λ f. Stops f.after) }
+    ensures stage { IfOk result (λ f. Leads reading.old.phase reading.new.phase
+        (Takes (frame_name_of number) present.now f.parts (Err end) f.after) f.after) }
+{
+    if is_data(number) {
+        return data_parts(reading, at, present, Err(end));
+    }
+    Ok(Found {
+        parts: Parts::Opaque,
+        after: Err(end),
+    })
+}
+
+/// Returns whether a frame is a DATA frame.
+fn is_data(number: VarInt) -> bool
+    ensures { result ≡ is_data (frame_name_of number) }
+{
+    match FrameName::of(number) {
+        FrameName::Read(FrameKind::Data) => true,
+        FrameName::Read(FrameKind::Headers)
+        | FrameName::Read(FrameKind::Settings)
+        | FrameName::Read(FrameKind::WebTransport)
+        | FrameName::Read(FrameKind::Exercise(_))
+        | FrameName::CancelPush
+        | FrameName::PushPromise
+        | FrameName::Goaway
+        | FrameName::MaxPushId
+        | FrameName::PriorityUpdate
+        | FrameName::Http2
+        | FrameName::Unknown => false,
+    }
+}
+
+/// Returns what a complete frame contains, and whether the reading goes on after it. A frame that
+/// is not allowed here is not read.
+fn judged_parts(
+    reading: &mut Reading,
+    role: StreamRole,
+    first: bool,
+    place: Place,
+    number: VarInt,
+    payload: &[u8],
+) -> Result<Found, AllocError>
+    requires { length payload.now < 2 ^ 62 }
+    ensures parts { IfOk result (λ f. let name = frame_name_of number in
+        Judged (name_fault role first name) name payload.now f.parts
+        (Ok (Next.Frames role (still_first first name))) f.after) }
+    ensures stage { IfOk result (λ f. let name = frame_name_of number in
+        Leads reading.old.phase reading.new.phase
+        (TakesWhole (name_fault role first name) name payload.now f.parts
+        (Ok (Next.Frames role (still_first first name))) f.after) f.after) }
+{
+    let Place { at, head } = place;
+    if let Some(code) = name_fault(role, first, number) {
+        let end = fault(at, code, sentence(number));
+        return Ok(Found {
+            parts: Parts::Opaque,
+            after: Err(end),
+        });
+    }
+    let next = Next::Frames(role, still_first(first, number));
+    warn_of_frame(reading, role, at, number)?;
+    parts_of(reading, at, head, number, payload, next)
+}
+
+/// Returns the fault of a frame of this type, if it may not be here.
+fn name_fault(role: StreamRole, first: bool, number: VarInt) -> Option<ErrorCode>
+    ensures { result ≡ name_fault role first (frame_name_of number) }
+{
+    match FrameName::of(number) {
+        FrameName::Read(kind) => fault_of(role, first, kind),
+        FrameName::Http2 => Some(ErrorCode::FrameUnexpected),
+        FrameName::CancelPush
+        | FrameName::PushPromise
+        | FrameName::Goaway
+        | FrameName::MaxPushId
+        | FrameName::PriorityUpdate
+        | FrameName::Unknown => None,
+    }
+}
+
+/// Returns why a frame of this type may not be here.
+fn sentence(number: VarInt) -> &'static str {
+    match FrameName::of(number) {
+        FrameName::Http2 => "the frame type is one of HTTP/2 (RFC 9114, section 7.2.8)",
+        _ => "the frame is not allowed on this stream (RFC 9114, section 7, table 1)",
+    }
+}
+
+/// Returns whether the next frame would be the first after one of this type, other than unknown
+/// ones.
+fn still_first(first: bool, number: VarInt) -> bool
+    ensures { result ≡ still_first first (frame_name_of number) }
+{
+    match FrameName::of(number) {
+        FrameName::Read(_) => false,
+        FrameName::CancelPush
+        | FrameName::PushPromise
+        | FrameName::Goaway
+        | FrameName::MaxPushId
+        | FrameName::PriorityUpdate
+        | FrameName::Http2
+        | FrameName::Unknown => first,
+    }
+}
+
+/// Returns what the payload of a complete frame contains. A fault in it ends the reading.
+#[tactic(auto, using(crate::proofs::WalkLemmas::data_leads, crate::proofs::WalkLemmas::data_has, crate::proofs::WalkLemmas::opaque_leads))]
+fn parts_of(
+    reading: &mut Reading,
+    at: usize,
+    head: usize,
+    number: VarInt,
+    payload: &[u8],
+    next: Next,
+) -> Result<Found, AllocError>
+    requires { length payload.now < 2 ^ 62 }
+    ensures parts { IfOk result (λ f. HasParts (frame_name_of number) payload.now f.parts
+        (Ok next) f.after) }
+    ensures stage { IfOk result (λ f. Leads reading.old.phase reading.new.phase
+        (Takes (frame_name_of number) payload.now f.parts (Ok next) f.after) f.after) }
+{
+    if is_data(number) {
+        return data_parts(reading, at.saturating_add(head), payload, Ok(next));
+    }
+    other_parts(reading, at, number, payload, next)
+}
+
+/// Returns what the payload of a complete frame contains, if it is not a DATA frame.
+#[tactic(auto, using(crate::proofs::WalkLemmas::opaque_leads))]
+fn other_parts(
+    reading: &mut Reading,
+    at: usize,
+    number: VarInt,
+    payload: &[u8],
+    next: Next,
+) -> Result<Found, AllocError>
+    requires small { length payload.now < 2 ^ 62 }
+    requires other { is_data (frame_name_of number) ≡ false }
+    ensures parts { IfOk result (λ f. HasParts (frame_name_of number) payload.now f.parts
+        (Ok next) f.after) }
+    ensures stage { IfOk result (λ f. Leads reading.old.phase reading.new.phase
+        (Takes (frame_name_of number) payload.now f.parts (Ok next) f.after) f.after) }
+{
+    match FrameName::of(number) {
+        FrameName::Read(FrameKind::Headers) => headers_parts(reading, at, payload, next),
+        FrameName::Read(FrameKind::Settings) => settings_parts(reading, at, payload, next),
+        FrameName::Read(FrameKind::Data)
+        | FrameName::Read(FrameKind::WebTransport)
+        | FrameName::Read(FrameKind::Exercise(_))
+        | FrameName::CancelPush
+        | FrameName::PushPromise
+        | FrameName::Goaway
+        | FrameName::MaxPushId
+        | FrameName::PriorityUpdate
+        | FrameName::Http2
+        | FrameName::Unknown => Ok(Found {
+            parts: Parts::Opaque,
+            after: Ok(next),
+        }),
+    }
+}
+
+/// Returns the field section of a HEADERS frame. It ends the reading if it is malformed.
+fn headers_parts(
+    reading: &mut Reading,
+    at: usize,
+    payload: &[u8],
+    next: Next,
+) -> Result<Found, AllocError>
+    ensures parts { IfOk result (λ f. HasParts (FrameName.Read FrameKind.Headers) payload.now
+        f.parts (Ok next) f.after) }
+    ensures stage { IfOk result (λ f. Leads reading.old.phase reading.new.phase
+        (Takes (FrameName.Read FrameKind.Headers) payload.now f.parts (Ok next) f.after) f.after) }
+{
+    let section = read_section(reading.alloc, payload)?;
+    take_section(reading, at, &section)?;
+    let after = section_then(at, &section, next);
+    Ok(Found {
+        parts: Parts::Fields(section),
+        after,
+    })
+}
+
+/// Returns the settings of a SETTINGS frame. Their first fault ends the reading.
+fn settings_parts(
+    reading: &Reading,
+    at: usize,
+    payload: &[u8],
+    next: Next,
+) -> Result<Found, AllocError>
+    requires { length payload.now < 2 ^ 62 }
+    ensures { IfOk result (λ f. HasParts (FrameName.Read FrameKind.Settings) payload.now f.parts
+        (Ok next) f.after) }
+{
+    let settings = read_settings(reading.alloc, payload)?;
+    let after = settings_then(at, reading.alloc, payload, next)?;
+    Ok(Found {
+        parts: Parts::Settings(settings),
+        after,
+    })
+}
+
+/// Returns the capsules that end in the payload of a DATA frame, which begins at this place. Their
+/// first fault ends the reading; without one, this follows.
+fn data_parts(
+    reading: &mut Reading,
+    at: usize,
+    payload: &[u8],
+    on: Result<Next, End>,
+) -> Result<Found, AllocError>
+    ensures parts { IfOk result (λ f. HasParts (FrameName.Read FrameKind.Data) payload.now f.parts
+        on f.after) }
+    ensures stage { IfOk result (λ f. Leads reading.old.phase reading.new.phase
+        (Takes (FrameName.Read FrameKind.Data) payload.now f.parts on f.after) f.after) }
+{
+    let Phase::Session(walk) = &mut reading.phase else {
+        return Ok(Found {
+            parts: Parts::Opaque,
+            after: on,
+        });
+    };
+    let Taken { items, fault } = walk.add(at, payload)?;
+    let after = match fault {
+        Some(fault) => Err(End::Fault(fault)),
+        None => on,
+    };
+    Ok(Found {
+        parts: Parts::Capsules(items),
+        after,
+    })
+}

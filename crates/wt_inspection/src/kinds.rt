@@ -1,0 +1,259 @@
+//! From bytes to items.
+ghost use Rattle.std.specs.Prelude.{◌≡◌, ◌≤◌, ◌<◌, ◌==◌, false, IfOk, Ok, length};
+ghost use Rattle.wt_inspection.specs.Recording.{EndsSo, IsNext, IsRecording, IsSessionHead, IsStep, Moves, after_head, has_session, is_whole};
+ghost use Rattle.wt_inspection.specs.DataCapsules.{Stage};
+ghost use Rattle.wt_inspection.specs.Tiles.{Tiles};
+ghost use Rattle.wt_inspection.specs.Walks.{IsStageAt, LeadsAt};
+ghost use Rattle.wtransport_proto.specs.StreamKind.{stream_kind_of};
+
+use crate::capsules::next_capsule;
+use crate::fields::{read_section, section_then};
+use crate::frames::next_frame;
+use crate::item::{Content, Cut, DatagramHead, End, Inspection, StreamHead, StreamName};
+use crate::message::warn_of_section;
+use crate::numbers::{first_pair, missing_of_pair};
+use crate::reading::{Next, Reading, Recorded, Step, end_of_nothing, fault, start_of};
+use crate::settings::{read_settings, settings_then};
+use crate::tiling::Tiling;
+use std::alloc::{AllocError, Global};
+use wtransport_proto::datagram::Datagram;
+use wtransport_proto::error::ErrorCode;
+use wtransport_proto::ids::SessionId;
+use wtransport_proto::stream::StreamRole;
+use wtransport_proto::stream_header::StreamKind;
+use wtransport_proto::varint::{VarInt, first_varint};
+
+/// Returns what the bytes contain. If `open`, more bytes may follow them.
+///
+/// The items tile the bytes: each byte belongs to exactly one item, and the items are in order.
+/// Each is what the bytes at its place are after the items before it. The bytes after the first
+/// fault, and too few bytes for an item, are one item that is not read; the end is then that fault,
+/// or where the bytes are cut.
+///
+/// Returns [`AllocError`] if allocation fails.
+pub fn inspect(
+    alloc: Global,
+    kind: Recorded,
+    bytes: &[u8],
+    open: bool,
+) -> Result<Inspection, AllocError>
+    ensures tiles { IfOk result (λ i. Tiles 0 i.items.items (length bytes.now)) }
+    ensures read { IfOk result (λ i. IsRecording kind bytes.now i.items.items i.end) }
+{
+    let mut tiling = Tiling::new(alloc, bytes);
+    let mut reading = Reading::new(alloc, kind, open);
+    let mut state = Ok(start_of(kind));
+    'items: loop {
+        let rest = tiling.rest();
+        if rest.is_empty() {
+            break;
+        }
+        let Step {
+            length,
+            content,
+            after,
+        } = next_step(&mut reading, state, tiling.at(), rest)?;
+        tiling.push(length, content)?;
+        state = after;
+    }
+    let end = end_of(&reading, kind, state, bytes);
+    Ok(Inspection {
+        items: tiling.into_items(),
+        warnings: reading.warnings,
+        end,
+    })
+}
+
+/// Returns how these bytes end, if this follows their last item.
+fn end_of(reading: &Reading, kind: Recorded, state: Result<Next, End>, bytes: &[u8]) -> End
+    ensures { (stage : Stage) → IsStageAt state reading.now.phase stage
+        → EndsSo kind (length bytes.now == 0) state stage result }
+{
+    match state {
+        Err(end) => end,
+        Ok(_) => {
+            if bytes.is_empty() {
+                end_of_nothing(kind)
+            } else {
+                reading.finish()
+            }
+        }
+    }
+}
+
+/// Returns the next item. After the end of the reading it is all bytes that are left.
+fn next_step(
+    reading: &mut Reading,
+    state: Result<Next, End>,
+    at: usize,
+    rest: &[u8],
+) -> Result<Step, AllocError>
+    requires { 0 < length rest.now }
+    ensures within { IfOk result (λ s. s.length ≤ length rest.now) }
+    ensures some { IfOk result (λ s. 0 < s.length) }
+    ensures read { IfOk result (λ s. IsStep state rest.now s.length s.content s.after) }
+    ensures stage { IfOk result (λ s. LeadsAt state reading.old.phase reading.new.phase
+        (Moves state rest.now s.content s.after) s.after) }
+{
+    match state {
+        Ok(next) => next_item(reading, next, at, rest),
+        Err(end) => Ok(Step::last(rest.len(), Content::Unread, end)),
+    }
+}
+
+/// Returns the next item, as long as the reading goes on.
+fn next_item(reading: &mut Reading, next: Next, at: usize, rest: &[u8]) -> Result<Step, AllocError>
+    requires { 0 < length rest.now }
+    ensures within { IfOk result (λ s. s.length ≤ length rest.now) }
+    ensures some { IfOk result (λ s. 0 < s.length) }
+    ensures read { IfOk result (λ s. IsNext next rest.now s.length s.content s.after) }
+    ensures stage { IfOk result (λ s. LeadsAt (Ok next) reading.old.phase reading.new.phase
+        (Moves (Ok next) rest.now s.content s.after) s.after) }
+{
+    match next {
+        Next::Head => Ok(head_step(rest)),
+        Next::Frames(role, first) => next_frame(reading, role, first, at, rest),
+        Next::Payload => Ok(Step::go_on(rest.len(), Content::Payload, Next::Payload)),
+        Next::Capsules => next_capsule(reading, at, rest),
+        Next::Datagram => Ok(datagram_step(rest)),
+        Next::Section => section_step(reading, rest),
+        Next::Settings => settings_step(reading, rest),
+    }
+}
+
+/// Returns the head of a unidirectional stream (RFC 9114, section 6.2).
+#[tactic(auto, using(crate::proofs::RecordingLemmas::no_head_cut))]
+fn head_step(rest: &[u8]) -> Step
+    requires { 0 < length rest.now }
+    ensures within { result.length ≤ length rest.now }
+    ensures some { 0 < result.length }
+    ensures read { IsNext Next.Head rest.now result.length result.content result.after }
+{
+    let Some((number, size)) = first_varint(rest) else {
+        return Step::last(rest.len(), Content::Unread, cut_head(rest));
+    };
+    if has_session(number) {
+        return session_head(rest);
+    }
+    let head = StreamHead {
+        number: number.into_inner(),
+        name: StreamName::of(number),
+        session: None,
+    };
+    Step::go_on(size, Content::Stream(head), after_head(number))
+}
+
+/// Returns whether a session ID follows the type of a unidirectional stream.
+fn has_session(number: VarInt) -> bool
+    ensures { result ≡ has_session (stream_kind_of number) }
+{
+    match StreamKind::parse(number) {
+        Some(StreamKind::WebTransport) => true,
+        Some(StreamKind::Control) => false,
+        Some(StreamKind::QPackEncoder) => false,
+        Some(StreamKind::QPackDecoder) => false,
+        Some(StreamKind::Exercise(_)) => false,
+        None => false,
+    }
+}
+
+/// Returns what follows the type of a unidirectional stream.
+fn after_head(number: VarInt) -> Next
+    ensures { result ≡ after_head (stream_kind_of number) }
+{
+    match StreamKind::parse(number) {
+        Some(StreamKind::Control) => Next::Frames(StreamRole::UniRemote, true),
+        Some(StreamKind::WebTransport) => Next::Payload,
+        Some(StreamKind::QPackEncoder) => Next::Payload,
+        Some(StreamKind::QPackDecoder) => Next::Payload,
+        Some(StreamKind::Exercise(_)) => Next::Payload,
+        None => Next::Payload,
+    }
+}
+
+/// Returns the head of a WebTransport stream (draft-ietf-webtrans-http3-02, section 4.1).
+#[tactic(auto, using(crate::proofs::RecordingLemmas::no_session_cut, crate::proofs::RecordingLemmas::no_session_id))]
+fn session_head(rest: &[u8]) -> Step
+    requires nonempty { 0 < length rest.now }
+    ensures within { result.length ≤ length rest.now }
+    ensures some { 0 < result.length }
+    ensures read { IsSessionHead rest.now result.length result.content result.after }
+{
+    let Some(pair) = first_pair(rest) else {
+        return Step::last(rest.len(), Content::Unread, cut_head(rest));
+    };
+    let Ok(session) = SessionId::try_from_varint(pair.second) else {
+        let why = "a session ID is a multiple of 4 (draft-ietf-webtrans-http3-02, section 4)";
+        return Step::last(rest.len(), Content::Unread, fault(0, ErrorCode::Id, why));
+    };
+    let head = StreamHead {
+        number: pair.number.into_inner(),
+        name: StreamName::of(pair.number),
+        session: Some(session.into_u64()),
+    };
+    Step::go_on(pair.size, Content::Stream(head), Next::Payload)
+}
+
+/// Returns the end within the head of a unidirectional stream, which may end there (RFC 9114,
+/// section 6.2).
+fn cut_head(rest: &[u8]) -> End
+    ensures { is_whole result ≡ false }
+{
+    let missing = missing_of_pair(rest);
+    End::Cut(Cut {
+        at: 0,
+        item: "stream type",
+        missing,
+    })
+}
+
+/// Returns the only item of a datagram (RFC 9297, section 2.1).
+fn datagram_step(rest: &[u8]) -> Step
+    ensures length { result.length ≡ length rest.now }
+    ensures read { IsNext Next.Datagram rest.now result.length result.content result.after }
+{
+    match Datagram::read(rest) {
+        Ok(datagram) => {
+            let head = DatagramHead {
+                quarter: datagram.qstream_id().into_u64(),
+                session: datagram.qstream_id().into_session_id().into_u64(),
+                payload: datagram.payload().len(),
+            };
+            Step::go_on(rest.len(), Content::Datagram(head), Next::Datagram)
+        }
+        Err(code) => {
+            let why = "a quarter stream ID is below 2^60 (RFC 9297, section 2.1)";
+            Step::last(rest.len(), Content::Unread, fault(0, code, why))
+        }
+    }
+}
+
+/// Returns the only item of a field section.
+fn section_step(reading: &mut Reading, rest: &[u8]) -> Result<Step, AllocError>
+    ensures length { IfOk result (λ s. s.length ≡ length rest.now) }
+    ensures read { IfOk result (λ s. IsNext Next.Section rest.now s.length s.content s.after) }
+    ensures phase { IfOk result (λ _. reading.new.phase ≡ reading.old.phase) }
+{
+    let section = read_section(reading.alloc, rest)?;
+    warn_of_section(reading, 0, &section)?;
+    let after = section_then(0, &section, Next::Section);
+    Ok(Step {
+        length: rest.len(),
+        content: Content::Section(section),
+        after,
+    })
+}
+
+/// Returns the only item of settings.
+fn settings_step(reading: &Reading, rest: &[u8]) -> Result<Step, AllocError>
+    ensures length { IfOk result (λ s. s.length ≡ length rest.now) }
+    ensures read { IfOk result (λ s. IsNext Next.Settings rest.now s.length s.content s.after) }
+{
+    let settings = read_settings(reading.alloc, rest)?;
+    let after = settings_then(0, reading.alloc, rest, Next::Settings)?;
+    Ok(Step {
+        length: rest.len(),
+        content: Content::Settings(settings),
+        after,
+    })
+}

@@ -1,0 +1,35 @@
+//! Laws of the definitions that the contract of [`inspect`](crate::inspect) cites. Each function
+//! does nothing: its contract is the law.
+ghost use Rattle.std.specs.Prelude.{◌≡◌, ◌⊎◌, ◌++◌, ℕ, List, Bool, Option, Some, Ok};
+ghost use Rattle.wtp_core.specs.declared.error.ErrorCode.{ErrorCode};
+ghost use Rattle.wtransport_proto.specs.Role.{role_of};
+ghost use Rattle.wtransport_proto.specs.Run.{Tail, H3, run, ends, run_stop};
+ghost use Rattle.wtransport_proto.specs.declared.stream.rules.StreamRole.{StreamRole};
+ghost use Rattle.wt_inspection.specs.DataCapsules.{Stage};
+ghost use Rattle.wt_inspection.specs.ItemFrames.{AreReadable, frames_in};
+ghost use Rattle.wt_inspection.specs.Recording.{IsNext, Reads, StopsWith, Then};
+ghost use Rattle.wt_inspection.specs.declared.item.Content.TheVariants.{Unread};
+ghost use Rattle.wt_inspection.specs.declared.item.Item.{Item};
+ghost use Rattle.wt_inspection.specs.declared.reading.Next.TheVariants.{Frames};
+
+/// As long as the reading goes on, the frames of the items are the frames with which the run of
+/// the bytes begins, and the run of the bytes behind them follows. The payloads that a stream reads
+/// must be within its limit.
+pub fn frames_are_those_of_the_run()
+    ensures { (items : List Item) (role : StreamRole) (first still : Bool) (stage final : Stage)
+        (bytes rest : List ℕ) (tail : Tail)
+        → Reads (Ok (Frames role first)) stage bytes items (Ok (Frames role still)) final rest
+        → AreReadable items
+        → (run (role_of role) first bytes tail).frames
+        ≡ frames_in bytes items ++ (run (role_of role) still rest tail).frames }
+{}
+
+/// Where bytes are not read as a frame, the run has no frame either: it ends at the same fault, or
+/// as too few bytes do.
+pub fn no_frame_is_none_of_the_run()
+    ensures { (role : StreamRole) (first : Bool) (bytes : List ℕ) (len : ℕ) (after : Then)
+        (tail : Tail) → IsNext (Frames role first) bytes len Unread after
+        → (run (role_of role) first bytes tail ≡ ends (run_stop bytes bytes tail))
+        ⊎ ((c : ErrorCode) × (run (role_of role) first bytes tail ≡ ends (H3 c))
+        × StopsWith c after) }
+{}

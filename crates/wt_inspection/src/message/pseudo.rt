@@ -1,0 +1,133 @@
+//! Pseudo-header fields (RFC 9114, section 4.3).
+
+use crate::item::Line;
+use crate::message::Purpose;
+
+/// The pseudo-header fields of a section so far.
+#[derive(Clone, Copy)]
+pub(crate) struct Pseudo {
+    method: bool,
+    scheme: bool,
+    authority: bool,
+    path: bool,
+    protocol: bool,
+    status: bool,
+    /// Whether the method is CONNECT.
+    connect: bool,
+    /// Whether a field that is no pseudo-header was read.
+    regular: bool,
+}
+
+impl Pseudo {
+    /// Creates the state before the first line.
+    pub(crate) fn new() -> Self {
+        Pseudo {
+            method: false,
+            scheme: false,
+            authority: false,
+            path: false,
+            protocol: false,
+            status: false,
+            connect: false,
+            regular: false,
+        }
+    }
+
+    /// Returns which mark belongs to a pseudo-header, if it is defined.
+    fn mark(&mut self, name: &str) -> Option<&mut bool> {
+        match name {
+            ":method" => Some(&mut self.method),
+            ":scheme" => Some(&mut self.scheme),
+            ":authority" => Some(&mut self.authority),
+            ":path" => Some(&mut self.path),
+            ":protocol" => Some(&mut self.protocol),
+            ":status" => Some(&mut self.status),
+            _ => None,
+        }
+    }
+
+    /// Returns which pseudo-header is missing at the end of a section.
+    pub(crate) fn missing(&self, purpose: Purpose) -> Option<&'static str> {
+        match purpose {
+            Purpose::Request => self.missing_of_request(),
+            Purpose::Response if !self.status => {
+                Some(":status is missing (RFC 9114, section 4.3.2)")
+            }
+            _ => None,
+        }
+    }
+
+    /// Returns which pseudo-header is missing in a request.
+    fn missing_of_request(&self) -> Option<&'static str> {
+        if !self.method {
+            return Some(":method is missing (RFC 9114, section 4.3.1)");
+        }
+        if self.connect && !self.protocol {
+            return self.missing_of_connect();
+        }
+        if !self.scheme {
+            return Some(":scheme is missing (RFC 9114, section 4.3.1)");
+        }
+        if !self.path {
+            return Some(":path is missing (RFC 9114, section 4.3.1)");
+        }
+        if self.protocol && !self.connect {
+            return Some(":protocol without the method CONNECT (RFC 8441, section 4)");
+        }
+        None
+    }
+
+    /// Returns what is wrong with a CONNECT without `:protocol`.
+    fn missing_of_connect(&self) -> Option<&'static str> {
+        if !self.authority {
+            Some(":authority is missing in a CONNECT (RFC 9114, section 4.4)")
+        } else if self.scheme || self.path {
+            Some(":scheme or :path in a CONNECT without :protocol (RFC 9114, section 4.4)")
+        } else {
+            None
+        }
+    }
+}
+
+/// Takes the next line of a section. Returns what is wrong with it as a pseudo-header.
+pub(crate) fn warning_of_pseudo(
+    seen: &mut Pseudo,
+    line: &Line,
+    purpose: Purpose,
+) -> Option<&'static str> {
+    if line.name.first() != Some(&b':') {
+        seen.regular = true;
+        return None;
+    }
+    if seen.regular {
+        return Some("a pseudo-header comes after a field (RFC 9114, section 4.3)");
+    }
+    let Ok(name) = str::from_utf8(line.name.as_slice()) else {
+        return Some("a pseudo-header is not defined (RFC 9114, section 4.3)");
+    };
+    if name == ":method" && line.value.as_slice() == "CONNECT".as_bytes() {
+        seen.connect = true;
+    }
+    let Some(mark) = seen.mark(name) else {
+        return Some("a pseudo-header is not defined (RFC 9114, section 4.3)");
+    };
+    if *mark {
+        return Some("a pseudo-header is repeated (RFC 9114, section 4.3.1)");
+    }
+    *mark = true;
+    misplaced(name, purpose)
+}
+
+/// Returns what is wrong with a pseudo-header in a section of this purpose.
+fn misplaced(name: &str, purpose: Purpose) -> Option<&'static str> {
+    match purpose {
+        Purpose::Trailers => Some("a trailer section has a pseudo-header (RFC 9114, section 4.3)"),
+        Purpose::Request if name == ":status" => {
+            Some("a request has :status (RFC 9114, section 4.3)")
+        }
+        Purpose::Response if name != ":status" => {
+            Some("a response has a pseudo-header of requests (RFC 9114, section 4.3)")
+        }
+        _ => None,
+    }
+}

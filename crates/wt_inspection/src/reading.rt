@@ -1,0 +1,222 @@
+//! What reading remembers from item to item.
+ghost use Rattle.std.specs.Prelude.{◌≡◌, false, Some, Ok, Err, IfOk};
+ghost use Rattle.wt_inspection.specs.DataCapsules.{Stage};
+ghost use Rattle.wt_inspection.specs.Walks.{IsStage};
+ghost use Rattle.wt_inspection.specs.Recording.{EndsEmpty, EndsStage, code_of_nothing, fault_code, is_whole, start_of};
+
+use crate::capsules::CapsuleWalk;
+use crate::item::{Content, Cut, End, Fault, Warning};
+use std::alloc::{AllocError, Global};
+use wtransport_proto::error::ErrorCode;
+use wtransport_proto::stream::StreamRole;
+
+/// What was recorded, from its first byte.
+#[derive(Clone, Copy, Debug, PartialEq, Eq)]
+pub enum Recorded {
+    /// One direction of a bidirectional stream, of the end that opened it: a request, or a
+    /// WebTransport stream.
+    Bi,
+    /// The other direction of a request: a response.
+    Answer,
+    /// A unidirectional stream.
+    Uni,
+    /// The payload of a QUIC datagram.
+    Datagram,
+    /// Capsules, as the DATA frames of a session contain them.
+    Capsules,
+    /// An encoded field section.
+    Section,
+    /// The payload of a SETTINGS frame.
+    Settings,
+}
+
+/// What the next bytes are.
+#[derive(Clone, Copy, PartialEq, Eq)]
+pub enum Next {
+    /// The type of a unidirectional stream.
+    Head,
+    /// Frames on a stream of this role. The flag says whether the next one would be the first,
+    /// other than unknown ones.
+    Frames(StreamRole, bool),
+    /// Bytes that are not read.
+    Payload,
+    /// Capsules.
+    Capsules,
+    /// A datagram.
+    Datagram,
+    /// A field section.
+    Section,
+    /// Settings.
+    Settings,
+}
+
+/// Returns what a recording begins with.
+pub(crate) fn start_of(kind: Recorded) -> Next
+    ensures { result ≡ start_of kind }
+{
+    match kind {
+        Recorded::Bi => Next::Frames(StreamRole::BiRemote, true),
+        Recorded::Answer => Next::Frames(StreamRole::BiLocal, true),
+        Recorded::Uni => Next::Head,
+        Recorded::Datagram => Next::Datagram,
+        Recorded::Capsules => Next::Capsules,
+        Recorded::Section => Next::Section,
+        Recorded::Settings => Next::Settings,
+    }
+}
+
+/// How far the message of a stream went (RFC 9114, section 4.1).
+#[derive(Drop)]
+pub(crate) enum Phase {
+    /// The header section was not read.
+    Opening,
+    /// It was read. DATA frames have bytes of an application.
+    Plain,
+    /// It was read, and is that of a session. DATA frames have capsules.
+    Session(CapsuleWalk),
+}
+
+/// What reading remembers from item to item, besides what is next.
+#[derive(Drop)]
+pub(crate) struct Reading {
+    pub(crate) alloc: Global,
+    pub(crate) kind: Recorded,
+    pub(crate) open: bool,
+    /// Whether a frame of a control stream was read.
+    pub(crate) begun: bool,
+    pub(crate) phase: Phase,
+    pub(crate) warnings: Vec<Warning>,
+}
+
+/// An item, and what follows it: the next bytes, or the end of the reading.
+#[derive(Drop)]
+pub(crate) struct Step {
+    pub(crate) length: usize,
+    pub(crate) content: Content,
+    pub(crate) after: Result<Next, End>,
+}
+
+impl Reading {
+    /// Creates a reading of the first byte.
+    pub(crate) fn new(alloc: Global, kind: Recorded, open: bool) -> Self
+        ensures { result.phase ≡ Phase.Opening }
+    {
+        Reading {
+            alloc,
+            kind,
+            open,
+            begun: false,
+            phase: Phase::Opening,
+            warnings: Vec::new(alloc),
+        }
+    }
+
+    /// Adds a warning.
+    pub(crate) fn warn(&mut self, at: usize, why: &'static str) -> Result<(), AllocError>
+        ensures { IfOk result (λ _. self.new.phase ≡ self.old.phase) }
+    {
+        self.warnings.push(Warning {
+            at,
+            line: None,
+            why,
+        })?;
+        Ok(())
+    }
+
+    /// Returns how the reading ends within an item.
+    pub(crate) fn cut(&self, at: usize, item: &'static str, missing: u64) -> End
+        ensures { is_whole result ≡ false }
+    {
+        if self.open || self.kind != Recorded::Bi && self.kind != Recorded::Answer {
+            return End::Cut(Cut { at, item, missing });
+        }
+        End::Fault(Fault {
+            at,
+            code: ErrorCode::Frame,
+            why: "the stream ends within a frame (RFC 9114, section 7.1)",
+            missing,
+        })
+    }
+
+    /// Returns how the reading ends after the last byte of the last item.
+    #[tactic(auto, using(crate::proofs::WalkLemmas::ends_whole, crate::proofs::WalkLemmas::ends_cut))]
+    pub(crate) fn finish(&self) -> End
+        ensures { (stage : Stage) → IsStage self.now.phase stage → EndsStage stage result }
+    {
+        match &self.phase {
+            Phase::Session(walk) => match walk.pending() {
+                Some(cut) => End::Cut(cut),
+                None => End::Whole,
+            },
+            Phase::Opening | Phase::Plain => End::Whole,
+        }
+    }
+}
+
+/// Returns how a recording without bytes ends.
+pub(crate) fn end_of_nothing(kind: Recorded) -> End
+    ensures { EndsEmpty (code_of_nothing kind) result }
+{
+    match kind {
+        Recorded::Datagram => fault(
+            0,
+            ErrorCode::Datagram,
+            "a datagram begins with a quarter stream ID (RFC 9297, section 2.1)",
+        ),
+        Recorded::Section => fault(
+            0,
+            ErrorCode::Decompression,
+            "a field section begins with its prefix (RFC 9204, section 4.5.1)",
+        ),
+        Recorded::Bi | Recorded::Answer | Recorded::Uni | Recorded::Capsules | Recorded::Settings =>
+            End::Whole,
+    }
+}
+
+impl Step {
+    /// Returns the item of these bytes, after which the reading goes on.
+    pub(crate) fn go_on(length: usize, content: Content, next: Next) -> Self
+        ensures length { result.length ≡ length }
+        ensures content { result.content ≡ content }
+        ensures after { result.after ≡ Ok next }
+    {
+        Step {
+            length,
+            content,
+            after: Ok(next),
+        }
+    }
+
+    /// Returns the item of these bytes, with which the reading ends.
+    pub(crate) fn last(length: usize, content: Content, end: End) -> Self
+        ensures length { result.length ≡ length }
+        ensures content { result.content ≡ content }
+        ensures after { result.after ≡ Err end }
+    {
+        Step {
+            length,
+            content,
+            after: Err(end),
+        }
+    }
+}
+
+/// Returns the end at a fault.
+pub(crate) fn fault(at: usize, code: ErrorCode, why: &'static str) -> End
+    ensures code { fault_code result ≡ Some code }
+    ensures stops { is_whole result ≡ false }
+{
+    End::Fault(fault_at(at, code, why))
+}
+
+/// Returns a fault of an item that is complete.
+pub(crate) fn fault_at(at: usize, code: ErrorCode, why: &'static str) -> Fault
+    ensures { result.code ≡ code }
+{
+    Fault {
+        at,
+        code,
+        why,
+        missing: 0,
+    }
+}

@@ -1,0 +1,112 @@
+//! Settings (RFC 9114, section 7.2.4).
+ghost use Rattle.std.specs.Prelude.{◌≡◌, ◌<◌, ◌^◌, length, not, Ok, IfOk};
+ghost use Rattle.wtransport_proto.specs.SettingId.{is_reserved};
+ghost use Rattle.wtransport_proto.specs.Settings.{AnswersSettings, settings_in};
+ghost use Rattle.wt_inspection.specs.Recording.{AfterSettings, HasFault};
+ghost use Rattle.wt_inspection.specs.SettingLines.{AreSettings, flag_of};
+
+use crate::item::{End, SettingFlag, SettingLine};
+use crate::numbers::{Pair, first_pair};
+use crate::reading::{Next, fault};
+use std::alloc::{AllocError, Global};
+use std::borrow::CowSlice;
+use std::collections::BTreeSet;
+use wtransport_proto::error::{ErrorCode, Refused};
+use wtransport_proto::frame::Frame;
+use wtransport_proto::settings::Settings;
+use wtransport_proto::varint::VarInt;
+
+/// Returns the settings of a payload in their order, up to one that is cut.
+pub(crate) fn read_settings(alloc: Global, bytes: &[u8]) -> Result<Vec<SettingLine>, AllocError>
+    ensures { IfOk result (λ lines. AreSettings bytes.now lines.items) }
+{
+    let mut lines = Vec::new(alloc);
+    let mut seen = BTreeSet::new(alloc);
+    let mut rest = bytes;
+    'settings: loop {
+        let Some(pair) = first_pair(rest) else {
+            return Ok(lines);
+        };
+        let (_, others) = rest.split_at(pair.size);
+        let is_new = seen.insert(pair.number.into_inner())?;
+        lines.push(line_of(pair, is_new))?;
+        rest = others;
+    }
+}
+
+/// Returns the line of a setting, whose identifier is new if no earlier one has it.
+fn line_of(pair: Pair, is_new: bool) -> SettingLine
+    ensures id { result.id ≡ pair.number }
+    ensures value { result.value ≡ pair.second }
+    ensures flag { result.flag ≡ flag_of (is_reserved pair.number) (not is_new) }
+{
+    let flag = if is_reserved(pair.number) {
+        Some(SettingFlag::Reserved)
+    } else if is_new {
+        None
+    } else {
+        Some(SettingFlag::Repeated)
+    };
+    SettingLine {
+        id: pair.number.into_inner(),
+        value: pair.second.into_inner(),
+        flag,
+    }
+}
+
+/// Returns whether an identifier is one of HTTP/2 that must not be sent (RFC 9114, section
+/// 7.2.4.1).
+fn is_reserved(id: VarInt) -> bool
+    ensures { result ≡ is_reserved id }
+{
+    matches!(id.into_inner(), 0x00 | 0x02..=0x05)
+}
+
+/// Returns what follows settings: these bytes, or the end of the reading if they have a fault.
+#[tactic(auto, using(crate::proofs::SettingLemmas::settings_go_on, crate::proofs::SettingLemmas::settings_stop))]
+pub(crate) fn settings_then(
+    at: usize,
+    alloc: Global,
+    bytes: &[u8],
+    next: Next,
+) -> Result<Result<Next, End>, AllocError>
+    ensures { IfOk result (λ after. length bytes.now < 2 ^ 62
+        → AfterSettings (settings_in bytes.now) (Ok next) after) }
+{
+    match refusal(alloc, bytes)? {
+        None => Ok(Ok(next)),
+        Some(code) => Ok(Err(fault(at, code, sentence(code)))),
+    }
+}
+
+/// Returns why settings are refused with this code.
+fn sentence(code: ErrorCode) -> &'static str {
+    match code {
+        ErrorCode::Frame => "the payload ends within a setting (RFC 9114, section 7.1)",
+        _ => "a setting must not be sent, or is repeated (RFC 9114, section 7.2.4)",
+    }
+}
+
+/// Returns the first fault of a payload.
+#[tactic(auto, using(crate::proofs::SettingLemmas::settings_good, crate::proofs::SettingLemmas::settings_bad))]
+fn refusal(alloc: Global, bytes: &[u8]) -> Result<Option<ErrorCode>, AllocError>
+    ensures { IfOk result (λ found. length bytes.now < 2 ^ 62
+        → HasFault (settings_in bytes.now) found) }
+{
+    if bytes.len() >= 1 << 62 {
+        return Ok(Some(ErrorCode::ExcessiveLoad));
+    }
+    match settings_of(alloc, bytes) {
+        Ok(_) => Ok(None),
+        Err(Refused::Code(code)) => Ok(Some(code)),
+        Err(Refused::Memory) => Err(AllocError),
+    }
+}
+
+/// Reads a payload.
+fn settings_of(alloc: Global, bytes: &[u8]) -> Result<Settings, Refused>
+    requires { length bytes.now < 2 ^ 62 }
+    ensures { AnswersSettings bytes.now result }
+{
+    Settings::with_frame(alloc, &Frame::new_settings(CowSlice::Borrowed(bytes)))
+}
