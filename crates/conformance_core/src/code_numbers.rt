@@ -3,7 +3,7 @@ use crate::same::same;
 use std::process::Abort;
 use wtp_core::error::{ErrorCode, ErrorScope, Refused, UnknownErrorCode, application_codes};
 use wtp_core::ids::{InvalidQStreamId, InvalidSessionId, InvalidStatusCode};
-use wtp_core::varint::VarInt;
+use wtp_core::varint::{VarInt, VarIntBoundsExceeded};
 
 /// A number, its code (RFC 9114, section 8.1; RFC 9297, section 5.2; RFC 9204, section 6;
 /// WebTransport over HTTP/3), and what it shows.
@@ -74,19 +74,15 @@ static NUMBERS: [NumberRow; 29] = [
     (0x3fff_ffff_ffff_ffff, None, "the largest number"),
 ];
 
-/// Asserts the code of a number.
-fn check_number<R: Abort>(rt: &R, number: u64, wanted: Option<ErrorCode>, shows: &str) {
-    let came = match VarInt::try_from_u64(number) {
-        Ok(number) => ErrorCode::try_from(number).ok(),
-        Err(_) => panic!(rt; "{shows}: not a number of QUIC"),
-    };
-    same(rt, came, wanted, shows);
+/// The code of a number of QUIC.
+fn code_of(number: u64) -> Result<Option<ErrorCode>, VarIntBoundsExceeded> {
+    Ok(ErrorCode::try_from(VarInt::try_from_u64(number)?).ok())
 }
 
 /// Asserts it of each row.
 fn check_numbers<R: Abort>(rt: &R, rows: &[NumberRow]) {
     for (number, code, shows) in rows {
-        check_number(rt, *number, *code, shows);
+        same(rt, code_of(*number), Ok(*code), shows);
     }
 }
 
@@ -240,18 +236,14 @@ static OTHERS: [(u64, &str); 7] = [
     (0x3fff_ffff_ffff_ffff, "the largest number"),
 ];
 
-/// Asserts that a number is not that of an application's error code.
-fn check_other<R: Abort>(rt: &R, number: u64, shows: &str) {
-    let came = match VarInt::try_from_u64(number) {
-        Ok(number) => application_codes::from_http3(number).ok(),
-        Err(_) => panic!(rt; "{shows}: not a number of QUIC"),
-    };
-    same(rt, came, None, shows);
+/// The application's error code of a number of QUIC.
+fn application_of(number: u64) -> Result<Option<u32>, VarIntBoundsExceeded> {
+    Ok(application_codes::from_http3(VarInt::try_from_u64(number)?).ok())
 }
 
 #[test]
 fn other_numbers_are_not_applications(rt: HostRuntime) {
     for (number, shows) in &OTHERS {
-        check_other(&rt, *number, shows);
+        same(&rt, application_of(*number), Ok(None), shows);
     }
 }

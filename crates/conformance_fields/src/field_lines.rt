@@ -282,25 +282,25 @@ fn recorded_lines_past_refused_memory(rt: HostRuntime) {
     assert_rows(&rt, rt.alloc(), &RECORDED);
 }
 
-/// Asserts that lines have these fields and no more, and that no memory is refused for one.
-fn assert_served(
-    rt: &impl Abort,
-    lines: &mut FieldLines<'_>,
-    room: &mut FieldRoom,
-    wanted: &[(&[u8], &[u8])],
-    shows: &str,
-) {
-    for (name, value) in wanted {
-        let came = take_once(lines, room, name, value);
-        same(rt, came, Some(Ok(true)), shows);
+/// Asserts that the next lines are the fields of a row and then what is answered there, and that no
+/// memory is refused for one.
+fn assert_served(rt: &impl Abort, lines: &mut FieldLines<'_>, room: &mut FieldRoom, row: &Row) {
+    let (shows, _, wanted, end) = row;
+    for (name, value) in *wanted {
+        same(
+            rt,
+            take_once(lines, room, name, value),
+            Some(Ok(true)),
+            shows,
+        );
     }
-    same(rt, take_once(lines, room, b"", b""), None, shows);
+    same(rt, take_once(lines, room, b"", b""), *end, shows);
 }
 
 /// Asserts that a section has the lines of a row, and that no memory is refused for one.
 fn assert_served_again(rt: &impl Abort, room: &mut FieldRoom, row: &Row) {
     match FieldLines::new(row.1) {
-        Ok(mut lines) => assert_served(rt, &mut lines, room, row.2, row.0),
+        Ok(mut lines) => assert_served(rt, &mut lines, room, row),
         Err(_) => panic!(rt; "{}: no prefix", row.0),
     }
 }

@@ -33,12 +33,8 @@ fn assert_request(
     path: &'static str,
     shows: &str,
 ) {
-    same(
-        rt,
-        (request.authority(), request.path()),
-        (authority, path),
-        shows,
-    );
+    same(rt, request.authority(), authority, shows);
+    same(rt, request.path(), path, shows);
     let fields = [
         (":authority", authority),
         (":method", "CONNECT"),
@@ -150,8 +146,9 @@ fn assert_given(
     [origin, agent, x]: [Option<&str>; 3],
     shows: &str,
 ) {
-    let came = (request.origin(), request.user_agent(), request.get("x"));
-    same(rt, came, (origin, agent, x), shows);
+    same(rt, request.origin(), origin, shows);
+    same(rt, request.user_agent(), agent, shows);
+    same(rt, request.get("x"), x, shows);
 }
 
 /// A field, its value, and the value that it had before.
@@ -344,12 +341,12 @@ fn request_frame(alloc: Global) -> Result<FrameOwned, Fail> {
 fn assert_parts(
     rt: &impl Abort,
     request: &SessionRequest,
-    wanted: (&str, &str, usize),
+    (authority, path, fields): (&str, &str, usize),
     shows: &str,
 ) {
-    let fields = request.headers().as_ref().len();
-    let came = (request.authority(), request.path(), fields);
-    same(rt, came, wanted, shows);
+    same(rt, request.authority(), authority, shows);
+    same(rt, request.path(), path, shows);
+    same(rt, request.headers().as_ref().len(), fields, shows);
 }
 
 #[test]

@@ -54,8 +54,8 @@ fn assert_response(rt: &impl Abort, alloc: Global, row: &CallRow) -> Result<(), 
     let (call, code, payload) = *row;
     let response = response(alloc, call)?;
     let frame = frame_of(alloc, response.headers())?;
-    let came = (response.code().into_inner(), frame.payload());
-    same(rt, came, (code, payload), code);
+    same(rt, response.code().into_inner(), code, code);
+    same(rt, frame.payload(), payload, code);
     Ok(())
 }
 
@@ -97,8 +97,8 @@ static NO_CODES: [&str; 7] = ["abc", "", "+", "99", "600", "65736", "2 00"];
 /// and after.
 fn assert_no_code(rt: &impl Abort, response: &mut SessionResponse, text: &str) {
     let outcome = add_once(response, ":status", text);
-    let wanted = (Err(AddError::InvalidStatusCode), StatusCode::OK);
-    same(rt, (outcome, response.code()), wanted, text);
+    same(rt, outcome, Err(AddError::InvalidStatusCode), text);
+    same(rt, response.code(), StatusCode::OK, text);
 }
 
 /// Asserts it of each text that is no status code.

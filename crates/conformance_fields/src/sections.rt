@@ -37,30 +37,31 @@ pub(crate) fn encode(alloc: Global, pairs: &[(&str, &str)]) -> Result<Vec<u8>, A
 }
 
 /// The parts, one after another.
-fn join_once(alloc: Global, [first, second, third]: [&[u8]; 3]) -> Result<Vec<u8>, AllocError> {
+fn join_once(alloc: Global, parts: &[&[u8]]) -> Result<Vec<u8>, AllocError> {
     let mut bytes = Vec::new(alloc);
-    bytes.extend_from_slice(first)?;
-    bytes.extend_from_slice(second)?;
-    bytes.extend_from_slice(third)?;
+    for part in parts {
+        bytes.extend_from_slice(part)?;
+    }
     Ok(bytes)
 }
 
 /// The same, made once more where memory was refused.
 pub(crate) fn join(alloc: Global, parts: [&[u8]; 3]) -> Result<Vec<u8>, AllocError> {
-    match join_once(alloc, parts) {
-        Err(AllocError) => join_once(alloc, parts),
+    match join_once(alloc, &parts) {
+        Err(AllocError) => join_once(alloc, &parts),
         outcome => outcome,
     }
 }
 
 /// Asserts what a field of a map is.
-fn assert_field<S: Display + Drop>(
+fn assert_field<S: Copy + Display + Drop>(
     rt: &impl Abort,
     (name, value): (&String, &String),
     known: (&str, &str),
     shows: S,
 ) {
-    same(rt, (name.as_str(), value.as_str()), known, shows);
+    same(rt, name.as_str(), known.0, shows);
+    same(rt, value.as_str(), known.1, shows);
 }
 
 /// Asserts that a map has these fields, in the order of their names, and no others.

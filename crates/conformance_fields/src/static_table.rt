@@ -121,6 +121,11 @@ static APPENDIX_A: [(&str, &str); 99] = [
     ("x-frame-options", "sameorigin"),
 ];
 
+/// Its entries.
+fn entries() -> Entries {
+    &APPENDIX_A
+}
+
 /// The line of an index: one byte below 63, and a byte more from there on.
 fn whole_line(alloc: Global, index: usize) -> Result<Vec<u8>, AllocError> {
     let rest = index.wrapping_sub(63) % 128;
@@ -190,7 +195,7 @@ fn assert_entries(rt: &impl Abort, alloc: Global, entries: Entries) -> Result<()
 
 #[test]
 fn whole_table_past_refused_memory(rt: HostRuntime) -> Result<(), Fail> {
-    assert_entries(&rt, rt.alloc(), &APPENDIX_A)?;
+    assert_entries(&rt, rt.alloc(), entries())?;
     assert_faults(&rt, rt.alloc(), &NO_ENTRIES);
     Ok(())
 }
@@ -226,7 +231,7 @@ fn assert_names(rt: &impl Abort, alloc: Global, entries: Entries) -> Result<u8, 
 
 #[test]
 fn names_past_refused_memory(rt: HostRuntime) -> Result<(), Fail> {
-    let names = assert_names(&rt, rt.alloc(), &APPENDIX_A)?;
+    let names = assert_names(&rt, rt.alloc(), entries())?;
     same(&rt, names, 52, "names");
     Ok(())
 }

@@ -3,8 +3,6 @@
 #![tactic(auto)]
 
 #[cfg(test)]
-mod inspections;
-#[cfg(test)]
 mod listings;
 #[cfg(test)]
 mod programs;
@@ -14,7 +12,5 @@ mod requests;
 mod rows;
 #[cfg(test)]
 mod same;
-#[cfg(test)]
-mod shown;
 #[cfg(test)]
 mod stepped;

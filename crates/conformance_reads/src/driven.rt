@@ -107,15 +107,23 @@ const TWO: &[u8] = b"\x00\x01a\x00\x01b";
 
 static TWO_FRAMES: [(u64, &[u8]); 2] = [(0x00, b"a"), (0x00, b"b")];
 
+/// Drives the stream on; where memory for a frame was refused, it is not put out, and a second drive
+/// goes on.
+fn drive_frames<R: Abort>(rt: &R, driving: &mut Driving, source: &mut &[u8]) -> Driven {
+    match driving.once(source) {
+        Driven::NoMemory => {
+            assert!(rt; driving.out.len() < 2);
+            driving.once(source)
+        }
+        end => end,
+    }
+}
+
 #[test]
 fn refused_memory_loses_no_frame(rt: HostRuntime) {
     let mut driving = Driving::new(rt.alloc());
     let mut source = TWO;
-    let mut end = driving.once(&mut source);
-    if end == Driven::NoMemory {
-        assert!(rt; driving.out.len() < 2);
-        end = driving.once(&mut source);
-    }
+    let end = drive_frames(&rt, &mut driving, &mut source);
     same(&rt, end, FIN, "the end");
     check_frames(&rt, &driving.out, &TWO_FRAMES);
 }
@@ -186,20 +194,34 @@ fn waits_lose_no_frame(rt: HostRuntime) {
     check_frames(&rt, &driving.out, &[(0x21, b"Payload")]);
 }
 
-/// How the drives over a source of one byte and a reset end, and where they do.
-static CUT_SOURCE: [(Driven, &str); 3] = [
+/// How a drive ends, and where it does.
+type EndRow = (Driven, &'static str);
+
+/// The drives over a source of one byte and a reset.
+static CUT_SOURCE: [EndRow; 3] = [
     (Driven::Waiting, "before the byte"),
     (Driven::Waiting, "before the end"),
     (Driven::Ended(IoReadError::IO(Fault::Reset)), "at the end"),
 ];
 
+/// The drive ends by the row.
+fn check_end<R: Abort>(rt: &R, driving: &mut Driving, source: &mut Trickle<'_>, row: &EndRow) {
+    let (end, shows) = row;
+    same(rt, &driving.on(source, 10), end, shows);
+}
+
+/// The drives over the first source end by the rows.
+fn check_first<R: Abort>(rt: &R, driving: &mut Driving, rows: &[EndRow]) {
+    let mut source = Trickle::new(b"\x00", End::Reset);
+    for row in rows {
+        check_end(rt, driving, &mut source, row);
+    }
+}
+
 #[test]
 fn a_drive_goes_on_over_a_second_source(rt: HostRuntime) {
     let mut driving = Driving::new(rt.alloc());
-    let mut source = Trickle::new(b"\x00", End::Reset);
-    for (end, shows) in &CUT_SOURCE {
-        same(&rt, &driving.on(&mut source, 10), end, shows);
-    }
+    check_first(&rt, &mut driving, &CUT_SOURCE);
     let mut bytes = b"\x01a".as_slice();
     driving.check(&rt, &mut bytes, 10, (&FIN, 1, 0), "the second source");
     check_frames(&rt, &driving.out, &[(0x00, b"a")]);

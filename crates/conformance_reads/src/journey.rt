@@ -22,6 +22,9 @@ const FRAME: &[u8] = b"\x01\x0f\x00\x00\x22:z\x012\x21a\x013\x21b\x011";
 /// An unknown frame, the frame of the pairs, and a DATA frame.
 const BYTES: &[u8] = b"\x0a\x01!\x01\x0f\x00\x00\x22:z\x012\x21a\x013\x21b\x011\x00\x01x";
 
+/// The DATA frame.
+const REST: &[u8] = b"\x00\x01x";
+
 /// The map of the pairs.
 fn made_once(alloc: Global) -> Result<Headers, AllocError> {
     Headers::from_iter(alloc, PAIRS.iter().copied())
@@ -43,6 +46,17 @@ fn request(alloc: Global) -> Result<SessionRequest, UrlParseError> {
     }
 }
 
+/// The map that came back, or why none did.
+type Way = Result<Headers, JourneyError>;
+
+/// Whether an allocation failed on the way.
+fn lacks_memory(way: &Way) -> bool {
+    match way {
+        Ok(_) => false,
+        Err(error) => is_out_of_memory(error),
+    }
+}
+
 /// Whether an allocation failed in the way to the sink, or in the way back.
 fn is_out_of_memory(error: &JourneyError) -> bool {
     match error {
@@ -61,8 +75,61 @@ fn is_receive_out_of_memory(error: &ReceiveError) -> bool {
     }
 }
 
-/// Asserts that the map goes whole into a vector and comes back from the bytes; goes the way once
-/// more where memory was refused.
+/// Sends the map into the vector, and reads one back from the bytes.
+fn travel<K: ReadsFrames>(
+    alloc: Global,
+    headers: &Headers,
+    sink: &mut Vec<u8>,
+    stream: &mut K,
+    source: &mut &[u8],
+) -> Way
+    requires { K.can stream.old }
+    ensures { K.can stream.new }
+{
+    journey::send_and_receive(alloc, headers, sink, stream, source, 2)
+}
+
+/// Goes the way; where memory was refused, once more.
+fn travel_again<K: ReadsFrames>(
+    rt: &impl Abort,
+    alloc: Global,
+    headers: &Headers,
+    sink: &mut Vec<u8>,
+    stream: &mut K,
+    source: &mut &[u8],
+) -> Way
+    requires { K.can stream.old }
+{
+    let way = travel(alloc, headers, sink, stream, source);
+    if !lacks_memory(&way) {
+        return way;
+    }
+    let is_front = FRAME.starts_with(sink.as_slice());
+    same(rt, is_front, true, "what was sent before");
+    sink.clear();
+    *source = BYTES;
+    travel(alloc, headers, sink, stream, source)
+}
+
+/// Asserts that the map is that of the pairs.
+fn check_back<R: Abort>(rt: &R, back: &Headers, word: &str) {
+    same(rt, back.as_ref().len(), 3, word);
+    let came = (back.get("b"), back.get(":z"), back.get("a"));
+    same(rt, came, (Some("1"), Some("2"), Some("3")), word);
+}
+
+/// Asserts that the map of the pairs came back.
+fn check_way(rt: &impl Abort, way: Way, word: &str) -> Result<(), Fail> {
+    match way {
+        Ok(back) => {
+            check_back(rt, &back, word);
+            Ok(())
+        }
+        Err(error) => Err(error)?,
+    }
+}
+
+/// Asserts that the map goes whole into a vector and comes back from the bytes.
 fn travels<K: ReadsFrames>(
     rt: &impl Abort,
     alloc: Global,
@@ -74,23 +141,9 @@ fn travels<K: ReadsFrames>(
 {
     let mut sink = Vec::new(alloc);
     let mut source = BYTES;
-    let mut outcome = journey::send_and_receive(alloc, headers, &mut sink, stream, &mut source, 2);
-    let refused = match &outcome {
-        Ok(_) => false,
-        Err(error) => is_out_of_memory(error),
-    };
-    if refused {
-        same(rt, FRAME.starts_with(sink.as_slice()), true, word);
-        sink.clear();
-        source = BYTES;
-        outcome = journey::send_and_receive(alloc, headers, &mut sink, stream, &mut source, 2);
-    }
-    let back = outcome?;
-    let came = (sink.as_slice(), source, back.as_ref().len());
-    same(rt, came, (FRAME, b"\x00\x01x".as_slice(), 3), word);
-    let came = (back.get("b"), back.get(":z"), back.get("a"));
-    same(rt, came, (Some("1"), Some("2"), Some("3")), word);
-    Ok(())
+    let way = travel_again(rt, alloc, headers, &mut sink, stream, &mut source);
+    same(rt, (sink.as_slice(), source), (FRAME, REST), word);
+    check_way(rt, way, word)
 }
 
 #[test]
@@ -110,6 +163,15 @@ fn a_map_comes_back(rt: HostRuntime) -> Result<(), Fail> {
     )
 }
 
+/// Asserts that no turn was left to send in; or that memory for the frame was refused.
+fn check_waiting<R: Abort>(rt: &R, error: Option<JourneyError>) {
+    let waiting = Some(JourneyError::Send(SendError::Waiting));
+    match error {
+        Some(JourneyError::Frame(error)) => same(rt, error, GenerateError::Memory, "the frame"),
+        error => same(rt, error, waiting, "the way"),
+    }
+}
+
 #[test]
 fn no_turn_touches_nothing(rt: HostRuntime) -> Result<(), Fail> {
     let headers = made(rt.alloc())?;
@@ -124,11 +186,7 @@ fn no_turn_touches_nothing(rt: HostRuntime) -> Result<(), Fail> {
         &mut source,
         0,
     );
-    let waiting = Some(JourneyError::Send(SendError::Waiting));
-    match outcome.err() {
-        Some(JourneyError::Frame(error)) => same(&rt, error, GenerateError::Memory, "the frame"),
-        error => same(&rt, error, waiting, "the way"),
-    }
+    check_waiting(&rt, outcome.err());
     same(&rt, (sink.is_empty(), source), (true, BYTES), "both ends");
     Ok(())
 }

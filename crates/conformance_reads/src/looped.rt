@@ -5,6 +5,7 @@ use crate::answers::{Answer, PollAnswer, check_answer};
 use crate::opened::control;
 use crate::same::{fail, same};
 use std::alloc::Global;
+use std::process::Abort;
 use std::test::Fail;
 use test_io::{End, Trickle};
 use wtransport_proto::bytes::{AsyncRead, Polled};
@@ -22,13 +23,17 @@ struct FromOne {
     ghost readable: { CanRead stream },
 }
 
+impl FromOne {
+    /// What one poll of the stream answers.
+    fn poll<S: AsyncRead>(&mut self, source: &mut S) -> PollAnswer {
+        self.stream.read_frame_async(&mut self.reading, source)
+    }
+}
+
 /// Reads the next frame, while the source waits.
 fn read_one<S: AsyncRead>(receiving: &mut FromOne, source: &mut S) -> PollAnswer {
     for _turn in 0..TURNS {
-        match receiving
-            .stream
-            .read_frame_async(&mut receiving.reading, source)
-        {
+        match receiving.poll(source) {
             Polled::Pending | Polled::Again | Polled::NoMemory => {}
             answer => return answer,
         }
@@ -48,13 +53,22 @@ fn receiving(alloc: Global) -> Result<FromOne, Fail> {
     })
 }
 
+/// The frame that is read.
+const SETTINGS: Answer<'static> = Answer::Frame(0x04, b"\x33\x01");
+
+/// The rest of the source.
+const REST: &[u8] = &[0x0d, 0x00];
+
+/// The settings are read in a loop, and no byte after them.
+fn check_loop<R: Abort>(rt: &R, receiving: &mut FromOne) {
+    let mut source = Trickle::new(&[0x04, 0x02, 0x33, 0x01, 0x0d, 0x00], End::Fin);
+    let came = read_one(receiving, &mut source);
+    check_answer(rt, &came, &SETTINGS, "settings", 0);
+    same(rt, source.rest(), REST, "bytes left");
+}
+
 #[test]
 fn settings_are_read_in_a_loop(rt: HostRuntime) -> Result<(), Fail> {
-    let mut receiving = receiving(rt.alloc())?;
-    let mut source = Trickle::new(&[0x04, 0x02, 0x33, 0x01, 0x0d, 0x00], End::Fin);
-    let came = read_one(&mut receiving, &mut source);
-    let settings = Answer::Frame(0x04, b"\x33\x01");
-    check_answer(&rt, &came, &settings, "settings", 0);
-    same(&rt, source.rest(), b"\x0d\x00".as_slice(), "bytes left");
+    check_loop(&rt, &mut receiving(rt.alloc())?);
     Ok(())
 }

@@ -1,7 +1,7 @@
 //! Reading frames from streams, poll by poll.
 use crate::answers::{Answer, CUT, ENDS, FIN, PollAnswer, check_answer, pad};
 use crate::opened::opened_there;
-use crate::reads::{check_poll, check_polls, check_source};
+use crate::reads::{Reads, check_poll, check_polls, check_source};
 use crate::same::same;
 use std::alloc::AllocError;
 use std::process::Abort;
@@ -249,42 +249,43 @@ fn check_next<R: Abort>(
     check_answer(rt, &came, &answer, word, len);
 }
 
-/// Over the first so many of the bytes the stream answers by the table, and then the same again.
+/// If the frame has come, it is the next answer.
+fn check_first<R: Abort>(
+    rt: &R,
+    stream: &mut StreamBiRemoteH3,
+    reading: &mut FrameReading,
+    source: &mut Trickle<'_>,
+    len: usize,
+) {
+    if len >= 9 {
+        let first = Answer::Frame(0x21, b"Payload");
+        check_next(rt, stream, reading, source, first, ("first", len));
+    }
+}
+
+/// The stream answers last by the table; and then the same again, unless a late session came.
+fn check_last<R: Abort>(
+    rt: &R,
+    stream: &mut StreamBiRemoteH3,
+    reading: &mut FrameReading,
+    source: &mut Trickle<'_>,
+    (len, end): (usize, End),
+) {
+    let last = last_answer(len, end);
+    check_next(rt, stream, reading, source, last, ("last", len));
+    if len < 12 {
+        let again = last_answer(len, end);
+        check_next(rt, stream, reading, source, again, ("again", len));
+    }
+}
+
+/// Over the first so many of the bytes the stream answers by the table.
 fn check_stop<R: Abort + AllocGlobal>(rt: &R, len: usize, end: End) {
     let mut stream = opened_there();
     let mut reading = Frame::read_async(rt.alloc());
     let mut source = Trickle::new(EXERCISE_THEN_SESSION.get(..len).unwrap_or(&[]), end);
-    if len >= 9 {
-        let first = Answer::Frame(0x21, b"Payload");
-        check_next(
-            rt,
-            &mut stream,
-            &mut reading,
-            &mut source,
-            first,
-            ("first", len),
-        );
-    }
-    let last = last_answer(len, end);
-    check_next(
-        rt,
-        &mut stream,
-        &mut reading,
-        &mut source,
-        last,
-        ("last", len),
-    );
-    if len < 12 {
-        let again = last_answer(len, end);
-        check_next(
-            rt,
-            &mut stream,
-            &mut reading,
-            &mut source,
-            again,
-            ("again", len),
-        );
-    }
+    check_first(rt, &mut stream, &mut reading, &mut source, len);
+    check_last(rt, &mut stream, &mut reading, &mut source, (len, end));
 }
 
 #[test]
@@ -296,16 +297,29 @@ fn bytes_may_stop_at_each_place(rt: HostRuntime) {
     }
 }
 
+/// What the next poll answers; where memory for the payload was refused, its head is held, and the
+/// poll is made again.
+fn poll_payload<R: Abort>(
+    rt: &R,
+    stream: &mut StreamBiRemoteH3,
+    reading: &mut FrameReading,
+    source: &mut &[u8],
+) -> PollAnswer {
+    match stream.poll(reading, source) {
+        Polled::NoMemory => {
+            same(rt, *source, b"abc".as_slice(), "rest of the source");
+            stream.poll(reading, source)
+        }
+        answered => answered,
+    }
+}
+
 #[test]
 fn refused_memory_for_a_payload_is_asked_for_again(rt: HostRuntime) {
     let mut stream = opened_there();
     let mut reading = Frame::read_async(rt.alloc());
     let mut source = b"\x00\x03abc".as_slice();
-    let mut answered = stream.read_frame_async(&mut reading, &mut source);
-    if let Polled::NoMemory = answered {
-        same(&rt, source, b"abc".as_slice(), "rest of the source");
-        answered = stream.read_frame_async(&mut reading, &mut source);
-    }
+    let answered = poll_payload(&rt, &mut stream, &mut reading, &mut source);
     check_answer(&rt, &answered, &Answer::Frame(0x00, b"abc"), "data", 0);
     assert!(rt; source.is_empty());
 }

@@ -1,18 +1,17 @@
 //! Streams and datagrams as real stacks sent them. What is expected is what these stacks say of
 //! them, and what a reader outside this repository found.
+use crate::opened::{opened_here, opened_there};
+use crate::reads::{Read, Reads};
 use crate::same::same;
 use std::process::Abort;
 use std::test::Fail;
 use wtransport_proto::bytes::BufferReader;
-use wtransport_proto::capsule::CapsuleReading;
 use wtransport_proto::capsule::capsules::CloseWebTransportSession;
+use wtransport_proto::capsule::{Capsule, CapsuleReading};
 use wtransport_proto::datagram::Datagram;
-use wtransport_proto::error::ErrorCode;
 use wtransport_proto::frame::{Frame, FrameKind};
 use wtransport_proto::qpack::{FieldLines, FieldRoom};
 use wtransport_proto::settings::{Settings, SettingsIter};
-use wtransport_proto::stream::bilocal::StreamBiLocalQuic;
-use wtransport_proto::stream::biremote::StreamBiRemoteQuic;
 use wtransport_proto::stream_header::StreamHeader;
 
 /// The fields of a section.
@@ -31,20 +30,52 @@ type Row = (
     Option<Close>,
 );
 
+/// Returns whether the next line of a section is this field.
+fn is_next(lines: &mut FieldLines<'_>, room: &mut FieldRoom, name: &[u8], value: &[u8]) -> bool {
+    match lines.next_line(room) {
+        Some(Ok(line)) => line.name == name && line.value == value,
+        _ => false,
+    }
+}
+
+/// Returns whether a section has no line left.
+fn is_end(lines: &mut FieldLines<'_>, room: &mut FieldRoom) -> bool {
+    lines.next_line(room).is_none()
+}
+
+/// Asserts that these are the lines of a section, in this order.
+fn check_lines<R: Abort + AllocGlobal>(
+    rt: &R,
+    mut lines: FieldLines<'_>,
+    wanted: Fields,
+    shows: &str,
+) {
+    let mut room = FieldRoom::new(rt.alloc());
+    for (name, value) in wanted {
+        same(rt, is_next(&mut lines, &mut room, name, value), true, shows);
+    }
+    same(rt, is_end(&mut lines, &mut room), true, shows);
+}
+
 /// Asserts that a section has these fields, in this order.
 fn check_fields<R: Abort + AllocGlobal>(rt: &R, section: &[u8], wanted: Fields, shows: &str) {
-    let mut room = FieldRoom::new(rt.alloc());
-    let Ok(mut lines) = FieldLines::new(section) else {
-        panic!(rt; "{shows}: no prefix");
-    };
-    for (name, value) in wanted {
-        let is_next = match lines.next_line(&mut room) {
-            Some(Ok(line)) => line.name == *name && line.value == *value,
-            _ => false,
-        };
-        same(rt, is_next, true, shows);
+    match FieldLines::new(section) {
+        Ok(lines) => check_lines(rt, lines, wanted, shows),
+        Err(_) => panic!(rt; "{shows}: no prefix"),
     }
-    same(rt, lines.next_line(&mut room).is_none(), true, shows);
+}
+
+/// Asserts that the capsule is this close.
+fn check_capsule<R: Abort + AllocGlobal>(
+    rt: &R,
+    capsule: &Capsule<'_>,
+    wanted: Close,
+    shows: &str,
+) -> Result<(), Fail> {
+    let close = CloseWebTransportSession::with_capsule(rt.alloc(), capsule)?;
+    let came = (close.error_code().into_inner(), close.reason());
+    same(rt, came, wanted, shows);
+    Ok(())
 }
 
 /// Returns whether the close is the next capsule in the data. Asserts that there is no other.
@@ -56,38 +87,64 @@ fn check_close<R: Abort + AllocGlobal>(
     shows: &str,
 ) -> Result<bool, Fail> {
     let mut rest = data;
-    let Some(capsule) = reading.next(&mut rest)? else {
-        return Ok(false);
-    };
-    let close = CloseWebTransportSession::with_capsule(rt.alloc(), &capsule)?;
-    let came = (close.error_code().into_inner(), close.reason());
-    same(rt, came, wanted, shows);
-    same(rt, rest, [].as_slice(), shows);
+    match reading.next(&mut rest)? {
+        Some(capsule) => check_only(rt, &capsule, rest, wanted, shows),
+        None => Ok(false),
+    }
+}
+
+/// Asserts that the capsule is this close, and that nothing is after it.
+fn check_only<R: Abort + AllocGlobal>(
+    rt: &R,
+    capsule: &Capsule<'_>,
+    rest: &[u8],
+    wanted: Close,
+    shows: &str,
+) -> Result<bool, Fail> {
+    check_capsule(rt, capsule, wanted, shows)?;
+    same(rt, rest.len(), 0, shows);
     Ok(true)
 }
 
-/// Asserts the next frame of a row, and what it contains. Returns whether the close is in it.
-fn check_frame<R: Abort + AllocGlobal>(
+/// Asserts what the frame contains. Returns whether the close is in it.
+fn check_content<R: Abort + AllocGlobal>(
     rt: &R,
     reading: &mut CapsuleReading,
-    outcome: Result<Option<Frame<'_>>, ErrorCode>,
-    wanted: (u64, usize),
+    frame: &Frame<'_>,
     row: &Row,
 ) -> Result<bool, Fail> {
     let (shows, _, _, fields, close) = *row;
-    let Ok(Some(frame)) = outcome else {
-        panic!(rt; "{shows}: no frame");
-    };
-    let came = (frame.kind().id().into_inner(), frame.payload().len());
-    same(rt, came, wanted, shows);
     match (frame.kind(), close) {
-        (FrameKind::Headers, _) => check_fields(rt, frame.payload(), fields, shows),
-        (FrameKind::Data, Some(close)) => {
-            return check_close(rt, reading, frame.payload(), close, shows);
+        (FrameKind::Headers, _) => {
+            check_fields(rt, frame.payload(), fields, shows);
+            Ok(false)
         }
-        _ => {}
+        (FrameKind::Data, Some(close)) => check_close(rt, reading, frame.payload(), close, shows),
+        _ => Ok(false),
     }
-    Ok(false)
+}
+
+/// The frame that was read, by its type and the length of its payload.
+fn type_and_length(read: &Read<'_>) -> Option<(u64, usize)> {
+    match read {
+        Ok(Some(frame)) => Some((frame.kind().id().into_inner(), frame.payload().len())),
+        _ => None,
+    }
+}
+
+/// Asserts a frame of a row, and what it contains. Returns whether the close is in it.
+fn check_frame<R: Abort + AllocGlobal>(
+    rt: &R,
+    reading: &mut CapsuleReading,
+    read: Read<'_>,
+    wanted: (u64, usize),
+    row: &Row,
+) -> Result<bool, Fail> {
+    same(rt, type_and_length(&read), Some(wanted), row.0);
+    match read {
+        Ok(Some(frame)) => check_content(rt, reading, &frame, row),
+        _ => Ok(false),
+    }
 }
 
 /// Streams of the end that opened them.
@@ -178,25 +235,50 @@ static REQUESTS: [Row; 4] = [
     ),
 ];
 
-/// Asserts the frames of a stream that a client opened, and that its data ends as the row says.
-fn check_request<R: Abort + AllocGlobal>(rt: &R, row: &Row) -> Result<(), Fail> {
-    let mut stream = StreamBiRemoteQuic::accept_bi().upgrade();
-    let mut reader = BufferReader::new(row.1);
+/// Asserts the next frame of a row, and what it contains. Returns whether the close is in it.
+fn check_next<R: Abort + AllocGlobal, K: Reads>(
+    rt: &R,
+    stream: &mut K,
+    reader: &mut BufferReader<'_>,
+    reading: &mut CapsuleReading,
+    wanted: (u64, usize),
+    row: &Row,
+) -> Result<bool, Fail> {
+    let read = stream.read_buffer(reader);
+    check_frame(rt, reading, read, wanted, row)
+}
+
+/// Asserts the frames of a stream, and that its data ends as the row says.
+fn check_stream<R: Abort + AllocGlobal, K: Reads>(
+    rt: &R,
+    stream: &mut K,
+    row: &Row,
+) -> Result<(), Fail> {
     let mut reading = CapsuleReading::new(rt.alloc());
+    check_frames(rt, stream, &mut reading, row)
+}
+
+/// Asserts the frames of a stream over this reading of capsules.
+fn check_frames<R: Abort + AllocGlobal, K: Reads>(
+    rt: &R,
+    stream: &mut K,
+    reading: &mut CapsuleReading,
+    row: &Row,
+) -> Result<(), Fail> {
+    let mut reader = BufferReader::new(row.1);
     let mut is_closed = false;
     for wanted in row.2 {
-        let outcome = stream.read_frame_from_buffer(&mut reader);
-        is_closed = check_frame(rt, &mut reading, outcome, *wanted, row)?;
+        is_closed = check_next(rt, stream, &mut reader, reading, *wanted, row)?;
     }
     let came = (reader.capacity(), is_closed, reading.finish().is_ok());
     same(rt, came, (0, row.4.is_some(), true), row.0);
     Ok(())
 }
 
-/// Asserts it of each row.
+/// Asserts it of streams that the peer opened, one for each row.
 fn check_requests<R: Abort + AllocGlobal>(rt: &R, rows: &[Row]) -> Result<(), Fail> {
     for row in rows {
-        check_request(rt, row)?;
+        check_stream(rt, &mut opened_there(), row)?;
     }
     Ok(())
 }
@@ -247,25 +329,17 @@ static RESPONSES: [Row; 2] = [
     ),
 ];
 
-/// Asserts the frames of a stream of the other end.
-fn check_response<R: Abort + AllocGlobal>(rt: &R, row: &Row) -> Result<(), Fail> {
-    let stream = StreamBiLocalQuic::open_bi().upgrade();
-    let mut reader = BufferReader::new(row.1);
-    let mut reading = CapsuleReading::new(rt.alloc());
-    for wanted in row.2 {
-        let outcome = stream.read_frame_from_buffer(&mut reader);
-        check_frame(rt, &mut reading, outcome, *wanted, row)?;
+/// Asserts it of streams that were opened here, one for each row.
+fn check_responses<R: Abort + AllocGlobal>(rt: &R, rows: &[Row]) -> Result<(), Fail> {
+    for row in rows {
+        check_stream(rt, &mut opened_here(), row)?;
     }
-    same(rt, reader.capacity(), 0, row.0);
     Ok(())
 }
 
 #[test]
 fn responses_are_read(rt: HostRuntime) -> Result<(), Fail> {
-    for row in &RESPONSES {
-        check_response(&rt, row)?;
-    }
-    Ok(())
+    check_responses(&rt, &RESPONSES)
 }
 
 /// Who sent a control stream, its bytes, and the settings that the library knows and those that are
@@ -318,32 +392,40 @@ fn check_settings<R: Abort + AllocGlobal>(
         panic!(rt; "{sender}: no settings");
     }
     let settings = Settings::with_frame(rt.alloc(), frame)?;
-    let mut left = settings.iter();
+    check_pairs(rt, settings.iter(), wanted, sender);
+    Ok(())
+}
+
+/// Asserts that these are the settings, and no others.
+fn check_pairs<R: Abort>(rt: &R, mut left: SettingsIter<'_>, wanted: &[(u64, u64)], sender: &str) {
     for pair in wanted {
         same(rt, next_pair(&mut left), Some(*pair), sender);
     }
     same(rt, next_pair(&mut left), None, sender);
-    Ok(())
 }
 
 /// Asserts the header and the settings of a control stream.
 fn check_control<R: Abort + AllocGlobal>(rt: &R, row: &ControlRow) -> Result<(), Fail> {
     let (sender, bytes, wanted) = *row;
     let mut reader = BufferReader::new(bytes);
-    let header = StreamHeader::read_from_buffer(&mut reader)?;
-    same(rt, type_and_session(header), Some((0, None)), sender);
+    check_header(rt, &mut reader, (0, None), sender)?;
     match Frame::read_from_buffer(&mut reader)? {
         Some(frame) => check_settings(rt, &frame, wanted, sender),
         None => panic!(rt; "{sender}: no frame"),
     }
 }
 
-#[test]
-fn settings_are_read(rt: HostRuntime) -> Result<(), Fail> {
-    for row in &SETTINGS {
-        check_control(&rt, row)?;
+/// Asserts it of each row.
+fn check_controls<R: Abort + AllocGlobal>(rt: &R, rows: &[ControlRow]) -> Result<(), Fail> {
+    for row in rows {
+        check_control(rt, row)?;
     }
     Ok(())
+}
+
+#[test]
+fn settings_are_read(rt: HostRuntime) -> Result<(), Fail> {
+    check_controls(&rt, &SETTINGS)
 }
 
 /// Returns the session of a stream.
@@ -357,34 +439,63 @@ fn type_and_session(header: Option<StreamHeader>) -> Option<(u64, Option<u64>)> 
     Some((header.kind().id().into_inner(), session_of(&header)))
 }
 
+/// Asserts the type of a unidirectional stream, and its session.
+fn check_header<R: Abort>(
+    rt: &R,
+    reader: &mut BufferReader<'_>,
+    wanted: (u64, Option<u64>),
+    shows: &str,
+) -> Result<(), Fail> {
+    let header = StreamHeader::read_from_buffer(reader)?;
+    same(rt, type_and_session(header), Some(wanted), shows);
+    Ok(())
+}
+
+/// Asserts the header of a unidirectional stream, and how many bytes are after it.
+fn check_opening<R: Abort>(
+    rt: &R,
+    bytes: &[u8],
+    wanted: (u64, Option<u64>),
+    left: usize,
+    shows: &str,
+) -> Result<(), Fail> {
+    let mut reader = BufferReader::new(bytes);
+    check_header(rt, &mut reader, wanted, shows)?;
+    same(rt, reader.buffer_remaining().len(), left, shows);
+    Ok(())
+}
+
 #[test]
 fn unidirectional_streams_are_read(rt: HostRuntime) -> Result<(), Fail> {
     let shows = "Chromium 156: a stream of a session";
     let bytes = b"\x40\x54\x00\x68\x65\x6c\x6c\x6f\x20\x6f\x6e\x65\x20\x77\x61\x79";
-    let mut reader = BufferReader::new(bytes);
-    let header = StreamHeader::read_from_buffer(&mut reader)?;
-    same(&rt, type_and_session(header), Some((0x54, Some(0))), shows);
-    same(&rt, reader.buffer_remaining().len(), 13, shows);
+    check_opening(&rt, bytes, (0x54, Some(0)), 13, shows)?;
     let shows = "Chromium 156: a QPACK encoder stream";
-    let mut reader = BufferReader::new(b"\x02\x20");
-    let header = StreamHeader::read_from_buffer(&mut reader)?;
-    same(&rt, type_and_session(header), Some((0x02, None)), shows);
-    same(&rt, reader.buffer_remaining().len(), 1, shows);
-    Ok(())
+    check_opening(&rt, b"\x02\x20", (0x02, None), 1, shows)
 }
 
 /// Who sent a datagram, its bytes, its quarter stream ID, and the length of its payload.
-static DATAGRAMS: [(&str, &[u8], u64, usize); 2] = [
+type DatagramRow = (&'static str, &'static [u8], u64, usize);
+
+/// Recorded datagrams.
+static DATAGRAMS: [DatagramRow; 2] = [
     ("aioquic 1.2.0", b"\x00datagram from the server", 0, 24),
     ("Chromium 156", b"\x00a datagram", 0, 10),
 ];
 
+/// Asserts the parts of a datagram.
+fn check_datagram<R: Abort>(rt: &R, row: &DatagramRow) -> Result<(), Fail> {
+    let (sender, bytes, id, size) = *row;
+    let datagram = Datagram::read(bytes)?;
+    let came = (datagram.qstream_id().into_u64(), datagram.payload().len());
+    same(rt, came, (id, size), sender);
+    Ok(())
+}
+
 #[test]
 fn datagrams_are_read(rt: HostRuntime) -> Result<(), Fail> {
-    for (sender, bytes, id, size) in &DATAGRAMS {
-        let datagram = Datagram::read(bytes)?;
-        let came = (datagram.qstream_id().into_u64(), datagram.payload().len());
-        same(&rt, came, (*id, *size), sender);
+    for row in &DATAGRAMS {
+        check_datagram(&rt, row)?;
     }
     Ok(())
 }

@@ -4,9 +4,10 @@ use std::alloc::{AllocError, Global};
 use std::process::Abort;
 use std::test::Fail;
 use wtransport_proto::bytes::BufferReader;
+use wtransport_proto::frame::Frame;
 use wtransport_proto::session::{SessionRequest, SessionResponse, request_of_frame};
 use wtransport_proto::stream::bilocal::StreamBiLocalQuic;
-use wtransport_proto::stream::biremote::StreamBiRemoteQuic;
+use wtransport_proto::stream::biremote::{StreamBiRemoteH3, StreamBiRemoteQuic};
 use wtransport_proto::stream::session::StreamSession;
 
 /// Answers the request in front of the bytes of a stream that the peer opened, and makes the stream
@@ -14,13 +15,36 @@ use wtransport_proto::stream::session::StreamSession;
 fn serve(alloc: Global, bytes: &[u8], answer: &mut Vec<u8>) -> Result<Option<StreamSession>, Fail> {
     let mut stream = StreamBiRemoteQuic::accept_bi().upgrade();
     let mut reader = BufferReader::new(bytes);
-    let Some(frame) = stream.read_frame_from_buffer(&mut reader)? else {
-        return Ok(None);
-    };
-    let request = request_of_frame(alloc, &frame)?;
-    let response = response_for(alloc, request.path())?;
+    match stream.read_frame_from_buffer(&mut reader)? {
+        Some(frame) => respond(alloc, stream, &frame, answer),
+        None => Ok(None),
+    }
+}
+
+/// Answers the request, and makes the stream that of its session.
+fn respond(
+    alloc: Global,
+    stream: StreamBiRemoteH3,
+    frame: &Frame<'_>,
+    answer: &mut Vec<u8>,
+) -> Result<Option<StreamSession>, Fail> {
+    let request = request_of_frame(alloc, frame)?;
+    match write_response(alloc, &stream, request.path(), answer) {
+        Ok(()) => Ok(Some(stream.into_session(request))),
+        Err(error) => Err(error),
+    }
+}
+
+/// Writes the frame of the response for a path.
+fn write_response(
+    alloc: Global,
+    stream: &StreamBiRemoteH3,
+    path: &str,
+    answer: &mut Vec<u8>,
+) -> Result<(), Fail> {
+    let response = response_for(alloc, path)?;
     stream.write_frame(response.headers().generate_frame(alloc)?, answer)?;
-    Ok(Some(stream.into_session(request)))
+    Ok(())
 }
 
 /// The response for a path.
@@ -35,8 +59,10 @@ fn response_for(alloc: Global, path: &str) -> Result<SessionResponse, AllocError
 fn request_bytes(alloc: Global, url: &str) -> Result<Vec<u8>, Fail> {
     let request = SessionRequest::new(alloc, url)?;
     let mut bytes = Vec::new(alloc);
-    send(alloc, &request, &mut bytes)?;
-    Ok(bytes)
+    match send(alloc, &request, &mut bytes) {
+        Ok(()) => Ok(bytes),
+        Err(error) => Err(error),
+    }
 }
 
 /// Writes the frame of the request on a stream of its own.

@@ -1,6 +1,6 @@
 //! Accepting a bidirectional stream: what comes first in it decides whether it is a stream of a
 //! session or of a request.
-use crate::opened::opened_there;
+use crate::opened::{front, opened_there, rest};
 use crate::same::{fail, same};
 use std::alloc::{AllocError, Global};
 use std::fmt::Display;
@@ -9,7 +9,8 @@ use std::test::Fail;
 use test_io::{Answers, End, Trickle};
 use wtransport_proto::bytes::{AsyncRead, IoReadError as Fault, Polled, ReadStep};
 use wtransport_proto::error::ErrorCode;
-use wtransport_proto::frame::Frame;
+use wtransport_proto::frame::{Frame, FrameOwned, FrameReading};
+use wtransport_proto::stream::biremote::StreamBiRemoteH3;
 use wtransport_proto::stream::{BiAccepted, BiAccepting, IoReadError};
 
 /// What a stream is found to be: one of this session, with no section, or that of a request with
@@ -155,16 +156,25 @@ static ROWS: [Row; 21] = [
     (b"\x01\x02a", Err(&LATE), b"", "half a request"),
 ];
 
+/// This was found.
+fn check_outcome<R: Abort, N: Display + Drop>(
+    rt: &R,
+    found: BiAccepted,
+    wanted: Outcome<'static>,
+    shows: N,
+) {
+    same(rt, outcome_of(&found), wanted, shows);
+}
+
 /// The stream is found to be this.
 fn check_found<R: Abort, S: AsyncRead, N: Display + Drop>(
     rt: &R,
     accepting: BiAccepting,
     source: &mut S,
-    wanted: Outcome<'_>,
+    wanted: Outcome<'static>,
     shows: N,
 ) {
-    let found = poll_on(accepting, source);
-    same(rt, outcome_of(&found), wanted, shows);
+    check_outcome(rt, poll_on(accepting, source), wanted, shows);
 }
 
 /// Over the bytes of a row in a slice the stream is found to be what it says.
@@ -190,37 +200,31 @@ fn check_steps<R: Abort + AllocGlobal>(rt: &R, steps: &[ReadStep], row: &Row) {
     same(rt, source.rest(), left, shows);
 }
 
-/// The stream is found to be what each row says, over bytes that are there and that trickle.
+/// Two bytes a call, not ready before each; the rest then comes at once.
+static BY_TWO: [[ReadStep; 2]; 12] = [[ReadStep::NotReady, ReadStep::Bytes(2)]; 12];
+
+/// Three bytes a call, not ready before each; the rest then comes at once.
+static BY_THREE: [[ReadStep; 2]; 12] = [[ReadStep::NotReady, ReadStep::Bytes(3)]; 12];
+
+/// The stream is found to be what the row says, over bytes that are cut in twos and threes.
+fn check_cuts<R: Abort + AllocGlobal>(rt: &R, row: &Row) {
+    check_steps(rt, BY_TWO.as_flattened(), row);
+    check_steps(rt, BY_THREE.as_flattened(), row);
+}
+
+/// The stream is found to be what each row says, over bytes that are there, that trickle and that
+/// are cut.
 fn check_each<R: Abort + AllocGlobal>(rt: &R, rows: &[Row]) {
     for row in rows {
         check_slice(rt, row);
         check_trickle(rt, row);
+        check_cuts(rt, row);
     }
 }
 
 #[test]
-fn the_first_frame_decides(rt: HostRuntime) {
+fn the_first_frame_decides_however_cut(rt: HostRuntime) {
     check_each(&rt, &ROWS);
-}
-
-/// Two and three bytes a call, not ready before each; the rest then comes at once.
-static CUTS: [[[ReadStep; 2]; 12]; 2] = [
-    [[ReadStep::NotReady, ReadStep::Bytes(2)]; 12],
-    [[ReadStep::NotReady, ReadStep::Bytes(3)]; 12],
-];
-
-/// The stream is found to be what each row says, over sources of these steps.
-fn check_rows<R: Abort + AllocGlobal>(rt: &R, steps: &[ReadStep], rows: &[Row]) {
-    for row in rows {
-        check_steps(rt, steps, row);
-    }
-}
-
-#[test]
-fn bytes_may_be_cut_anywhere(rt: HostRuntime) {
-    for cuts in &CUTS {
-        check_rows(&rt, cuts.as_flattened(), &ROWS);
-    }
 }
 
 /// A state that a poll hands back since it skipped a frame, was not ready, found no memory, or
@@ -260,15 +264,19 @@ fn count_turns<S: AsyncRead>(mut accepting: BiAccepting, source: &mut S) -> Turn
 
 /// Bytes that come one by one and are waited for once each, how many they are, and how many frames
 /// are skipped.
-static TURNS: [(&[u8], usize, usize, &str); 4] = [
-    (b"\x40\x41\x04", 3, 0, "a session"),
-    (b"\x0a\x02xy\x0b\x00\x40\x41\x04", 9, 2, "unknown frames"),
-    (b"\x21\x07Payload\x01\x01a", 12, 1, "a reserved frame"),
-    (b"\x21\x00\x00\x00", 4, 1, "data"),
+type TurnRow = (&'static [u8], Turns, &'static str);
+
+/// What a new stream takes.
+static TURNS: [TurnRow; 4] = [
+    (b"\x40\x41\x04", (3, 0), "a session"),
+    (b"\x0a\x02xy\x0b\x00\x40\x41\x04", (9, 2), "unknown frames"),
+    (b"\x21\x07Payload\x01\x01a", (12, 1), "a reserved frame"),
+    (b"\x21\x00\x00\x00", (4, 1), "data"),
 ];
 
 /// Over a source of these bytes, one by one and each of them late, a new stream takes these turns.
-fn check_turns<R: Abort + AllocGlobal>(rt: &R, bytes: &[u8], wanted: Turns, shows: &str) {
+fn check_turns<R: Abort + AllocGlobal>(rt: &R, row: &TurnRow) {
+    let (bytes, wanted, shows) = *row;
     let mut source = Trickle::new(bytes, End::Fin);
     let turns = count_turns(accepting(rt.alloc()), &mut source);
     same(rt, turns, wanted, shows);
@@ -276,8 +284,8 @@ fn check_turns<R: Abort + AllocGlobal>(rt: &R, bytes: &[u8], wanted: Turns, show
 
 #[test]
 fn each_poll_takes_one_frame(rt: HostRuntime) {
-    for (bytes, waits, skipped, shows) in &TURNS {
-        check_turns(&rt, bytes, (*waits, *skipped), shows);
+    for row in &TURNS {
+        check_turns(&rt, row);
     }
 }
 
@@ -322,17 +330,23 @@ fn check_fault<R: Abort, S: AsyncRead>(
     state_of(found)
 }
 
-/// The first so many bytes of the frame of session 4, each of them late, and then this end, twice;
-/// then the others, and what follows them.
-fn check_stop<R: Abort + AllocGlobal>(rt: &R, len: usize, end: End) -> Result<(), Fail> {
-    let wire = b"\x40\x41\x04a".as_slice();
-    let mut source = Trickle::new(wire.get(..len).unwrap_or(&[]), end);
+/// The frame of session 4, and a byte after it.
+const SESSION_4: &[u8] = b"\x40\x41\x04a";
+
+/// The first so many of its bytes, each of them late, and then this end, twice.
+fn check_front<R: Abort + AllocGlobal>(rt: &R, len: usize, end: End) -> Result<BiAccepting, Fail> {
+    let mut source = Trickle::new(front(SESSION_4, len), end);
     let fault = stop_fault(len, end);
     let state = check_fault(rt, accepting(rt.alloc()), &mut source, &fault, len)?;
-    let state = check_fault(rt, state, &mut source, &fault, len)?;
-    let mut rest = wire.get(len..).unwrap_or(&[]);
-    check_found(rt, state, &mut rest, Ok((Some(4), b"")), len);
-    same(rt, rest, b"a".as_slice(), len);
+    check_fault(rt, state, &mut source, &fault, len)
+}
+
+/// The first so many of its bytes, which stop so; then the others, and what follows them.
+fn check_stop<R: Abort + AllocGlobal>(rt: &R, len: usize, end: End) -> Result<(), Fail> {
+    let state = check_front(rt, len, end)?;
+    let mut source = rest(SESSION_4, len);
+    check_found(rt, state, &mut source, Ok((Some(4), b"")), len);
+    same(rt, source, b"a".as_slice(), len);
     Ok(())
 }
 
@@ -375,57 +389,82 @@ fn held_before(alloc: Global) -> BiAccepting {
 #[test]
 fn bytes_held_before_count(rt: HostRuntime) {
     let mut source = b"\x41\x04".as_slice();
-    let wanted: Outcome<'_> = Ok((Some(4), b""));
+    let wanted: Outcome<'static> = Ok((Some(4), b""));
     check_found(&rt, held_before(rt.alloc()), &mut source, wanted, "held");
 }
 
 /// A reserved frame, and a HEADERS frame of 48 bytes and a byte after it.
 const LONG: &[u8] = b"\x21\x00\x01\x30aaaaaaaabbbbbbbbccccccccddddddddeeeeeeeeffffffff\x07";
 
+/// Polls on; where memory for the request was refused, its head is held, and a second poll goes on.
+fn poll_again<R: Abort>(rt: &R, state: BiAccepting, source: &mut &[u8]) -> BiAccepted {
+    match state.poll(source) {
+        BiAccepted::NoMemory(state) => {
+            same(rt, Some(*source), LONG.get(4..), "the head is held");
+            state.poll(source)
+        }
+        found => found,
+    }
+}
+
+/// The section of a request.
+fn section_of(found: &BiAccepted) -> Option<&[u8]> {
+    match found {
+        BiAccepted::Request(_, _, frame) => Some(frame.payload()),
+        _ => None,
+    }
+}
+
 #[test]
 fn refused_memory_leaves_the_request(rt: HostRuntime) -> Result<(), Fail> {
     let mut source = LONG;
     let state = state_of(accepting(rt.alloc()).poll(&mut source))?;
-    same(
-        &rt,
-        Some(source),
-        LONG.get(2..),
-        "the reserved frame is skipped",
-    );
-    let found = match state.poll(&mut source) {
-        BiAccepted::NoMemory(state) => {
-            same(&rt, Some(source), LONG.get(4..), "the head is held");
-            state.poll(&mut source)
-        }
-        found => found,
-    };
+    let rest = LONG.get(2..);
+    same(&rt, Some(source), rest, "the reserved frame is skipped");
+    let found = poll_again(&rt, state, &mut source);
     same(&rt, source, b"\x07".as_slice(), "bytes left");
-    let BiAccepted::Request(_, _, frame) = found else {
-        return Err("a request")?;
-    };
-    same(&rt, Some(frame.payload()), LONG.get(4..52), "the request");
+    same(&rt, section_of(&found), LONG.get(4..52), "the request");
     Ok(())
+}
+
+/// The stream of a request, and what reads on from it.
+fn request_of(found: BiAccepted) -> Result<(StreamBiRemoteH3, FrameReading), Fail> {
+    match found {
+        BiAccepted::Request(stream, reading, _) => Ok((stream, reading)),
+        _ => fail("a request"),
+    }
+}
+
+/// The answer of one poll for a frame.
+type PollAnswer = Polled<Result<FrameOwned, IoReadError>>;
+
+/// Polls for the next frame; where memory for it was refused, once more.
+fn read_again(
+    stream: &mut StreamBiRemoteH3,
+    reading: &mut FrameReading,
+    source: &mut &[u8],
+) -> PollAnswer {
+    match stream.read_frame_async(reading, source) {
+        Polled::NoMemory => stream.read_frame_async(reading, source),
+        read => read,
+    }
+}
+
+/// The payload of a frame that was read.
+fn payload_of(read: &PollAnswer) -> Option<&[u8]> {
+    match read {
+        Polled::Ready(Ok(frame)) => Some(frame.payload()),
+        _ => None,
+    }
 }
 
 #[test]
 fn a_request_is_read_on(rt: HostRuntime) -> Result<(), Fail> {
     let mut source = b"\x01\x01a\x00\x01b".as_slice();
     let found = poll_on(accepting(rt.alloc()), &mut source);
-    let BiAccepted::Request(mut stream, mut reading, _) = found else {
-        return Err("a request")?;
-    };
-    let mut read = stream.read_frame_async(&mut reading, &mut source);
-    if let Polled::NoMemory = read {
-        read = stream.read_frame_async(&mut reading, &mut source);
-    }
-    let Polled::Ready(Ok(frame)) = read else {
-        return Err("a frame")?;
-    };
-    same(
-        &rt,
-        (frame.payload(), source),
-        (b"b".as_slice(), [].as_slice()),
-        "data",
-    );
+    let (mut stream, mut reading) = request_of(found)?;
+    let read = read_again(&mut stream, &mut reading, &mut source);
+    let wanted = (Some(b"b".as_slice()), [].as_slice());
+    same(&rt, (payload_of(&read), source), wanted, "data");
     Ok(())
 }

@@ -1,5 +1,8 @@
 //! Streams in both directions that this end opened.
-use crate::opened::{opened_here, session_of_stream};
+ghost use Rattle.std.specs.Prelude.{IsTrue};
+ghost use Rattle.wtransport_proto.specs.Streams.{can_upgrade};
+
+use crate::opened::{front, opened_here, session_of_stream};
 use crate::same::{fail, same};
 use std::borrow::CowSlice;
 use std::process::Abort;
@@ -9,13 +12,16 @@ use wtransport_proto::frame::Frame;
 use wtransport_proto::ids::SessionId;
 use wtransport_proto::stream::bilocal::{StreamBiLocalH3, StreamBiLocalWT};
 
+/// A data frame of one byte.
+const DATA: &[u8] = b"\x00\x01a";
+
 /// A data frame of one byte is written to this room: the answer, what is written, and whether the
 /// stream can be upgraded.
 fn check_put<R: Abort>(
     rt: &R,
     stream: &mut StreamBiLocalH3,
     room: &mut [u8],
-    wanted: (Result<(), PutError>, &[u8], bool),
+    wanted: (Result<(), PutError>, &'static [u8], bool),
     shows: &str,
 ) {
     let mut writer = BufferWriter::new(room);
@@ -27,9 +33,9 @@ fn check_put<R: Abort>(
 #[test]
 fn a_frame_that_was_written_ends_upgrading(rt: HostRuntime) {
     let mut stream = opened_here();
-    let wanted = (Err(PutError::EndOfBuffer), b"\x00\x01".as_slice(), true);
+    let wanted = (Err(PutError::EndOfBuffer), front(DATA, 2), true);
     check_put(&rt, &mut stream, &mut [0; 2], wanted, "too little room");
-    let wanted = (Ok(()), b"\x00\x01a".as_slice(), false);
+    let wanted = (Ok(()), DATA, false);
     check_put(&rt, &mut stream, &mut [0; 3], wanted, "room for all");
 }
 
@@ -40,6 +46,9 @@ fn put_data(
 ) -> Result<(), EndOfBuffer> {
     stream.write_frame_to_buffer(Frame::new_data(CowSlice::Borrowed(b"a")), writer)
 }
+
+/// A headers frame of no byte.
+const HEADERS: &[u8] = &[0x01, 0x00];
 
 /// What writing an empty headers frame whole answers.
 fn put_headers(
@@ -65,7 +74,7 @@ fn a_frame_that_was_written_whole_ends_upgrading(rt: HostRuntime) {
     same(
         &rt,
         (answer, writer.buffer_written(), stream.can_upgrade()),
-        (Ok(()), [0x01, 0x00].as_slice(), false),
+        (Ok(()), HEADERS, false),
         "room for all",
     );
 }
@@ -89,15 +98,29 @@ fn stream_of(upgraded: UpgradeAnswer) -> Result<StreamBiLocalWT, Fail> {
     }
 }
 
+/// The frame of session 0.
+const FRAME_0: &[u8] = &[0x40, 0x41, 0x00];
+
 /// The stream is handed back, since two bytes are too little room for its session frame.
 fn check_too_little<R: Abort>(rt: &R, session: SessionId) -> Result<StreamBiLocalH3, Fail> {
     let mut buffer = [0; 2];
     let mut writer = BufferWriter::new(&mut buffer);
     let (stream, error) = refusal_of(opened_here().upgrade(session, &mut writer))?;
     same(rt, error, PutError::EndOfBuffer, "too little room");
-    let parts = [0x40, 0x41].as_slice();
-    same(rt, writer.buffer_written(), parts, "the parts");
+    same(rt, writer.buffer_written(), front(FRAME_0, 2), "the parts");
     Ok(stream)
+}
+
+/// The stream is upgraded, since there is room for its session frame.
+fn check_room<R: Abort>(rt: &R, stream: StreamBiLocalH3, session: SessionId) -> Result<(), Fail>
+    requires { IsTrue (can_upgrade stream) }
+{
+    let mut buffer = [0; 4];
+    let mut writer = BufferWriter::new(&mut buffer);
+    let stream = stream_of(stream.upgrade(session, &mut writer))?;
+    same(rt, stream.session_id(), session, "its session");
+    same(rt, writer.buffer_written(), FRAME_0, "the frame");
+    Ok(())
 }
 
 #[test]
@@ -106,19 +129,24 @@ fn it_is_upgraded_where_there_is_room(rt: HostRuntime) -> Result<(), Fail> {
     same(&rt, opened_here().upgrade_size(session), 3, "size");
     let stream = check_too_little(&rt, session)?;
     assert!(rt; stream.can_upgrade());
-    let mut buffer = [0; 4];
-    let mut writer = BufferWriter::new(&mut buffer);
-    let stream = stream_of(stream.upgrade(session, &mut writer))?;
-    same(&rt, stream.session_id(), session, "its session");
-    let wire = [0x40, 0x41, 0x00].as_slice();
-    same(&rt, writer.buffer_written(), wire, "the frame");
-    Ok(())
+    check_room(&rt, stream, session)
+}
+
+/// The frame of session 64.
+const FRAME_64: &[u8] = &[0x40, 0x41, 0x40, 0x40];
+
+/// Whether the bytes are no part of a frame of a session, or its type number.
+fn are_parts(written: &[u8]) -> bool {
+    match written {
+        [] | [0x40, 0x41] => true,
+        _ => false,
+    }
 }
 
 /// What memory was refused to: the error, and whole parts of the frame of session 64.
 fn check_refused<R: Abort>(rt: &R, error: PutError, written: &[u8]) {
     same(rt, error, PutError::Memory, "error");
-    assert!(rt; written == [].as_slice() || written == [0x40, 0x41].as_slice());
+    assert!(rt; are_parts(written));
 }
 
 /// Upgrades the stream into the vector; where allocation failed, once more.
@@ -143,7 +171,6 @@ fn refused_memory_hands_the_stream_back(rt: HostRuntime) -> Result<(), Fail> {
     let mut vector = Vec::new(rt.alloc());
     let stream = upgrade_again(&rt, session, &mut vector)?;
     same(&rt, stream.session_id(), session, "its session");
-    let wire = [0x40, 0x41, 0x40, 0x40].as_slice();
-    same(&rt, vector.as_slice(), wire, "the frame");
+    same(&rt, vector.as_slice(), FRAME_64, "the frame");
     Ok(())
 }

@@ -11,6 +11,16 @@ use wtransport_proto::stream::biremote::{StreamBiRemoteH3, StreamBiRemoteQuic};
 use wtransport_proto::stream::session::StreamSession;
 use wtransport_proto::varint::VarInt;
 
+/// The first so many of these bytes.
+pub(crate) fn front(bytes: &'static [u8], len: usize) -> &'static [u8] {
+    bytes.get(..len).unwrap_or(&[])
+}
+
+/// What follows the first so many of these bytes.
+pub(crate) fn rest(bytes: &'static [u8], len: usize) -> &'static [u8] {
+    bytes.get(len..).unwrap_or(&[])
+}
+
 /// The session of this stream.
 pub(crate) fn session_of_stream(id: u32) -> Result<SessionId, Fail> {
     let stream = StreamId::new(VarInt::from_u32(id));

@@ -1,11 +1,13 @@
 //! What every writing state does into a vector whose allocation fails.
 use crate::opened::{open_session, opened_here, opened_there};
 use crate::same::{fail, same};
+use std::alloc::Global;
 use std::borrow::CowSlice;
 use std::process::Abort;
 use std::test::Fail;
 use wtransport_proto::bytes::{BufferWriter, PutError};
 use wtransport_proto::frame::Frame;
+use wtransport_proto::session::UrlParseError;
 use wtransport_proto::stream::bilocal::StreamBiLocalH3;
 use wtransport_proto::stream::biremote::StreamBiRemoteH3;
 use wtransport_proto::stream::session::StreamSession;
@@ -49,31 +51,47 @@ impl Writes for StreamUniLocalH3 {
 
 /// Whether the bytes are the first parts of the frame: its type number and its length.
 fn are_parts(written: &[u8]) -> bool {
-    written == [].as_slice()
-        || written == [0x00].as_slice()
-        || written == [0x00, 0x40, 0x64].as_slice()
+    match written {
+        [] | [0x00] | [0x00, 0x40, 0x64] => true,
+        _ => false,
+    }
 }
 
-/// The state writes its frame into a vector; where memory was refused, whole parts of the frame are
-/// there, and the frame is written anew.
+/// The state writes its frame into the vector; where memory was refused, whole parts of the frame
+/// are there, and the frame is written anew.
+fn write_again<R: Abort, K: Writes>(
+    rt: &R,
+    stream: &mut K,
+    out: &mut Vec<u8>,
+) -> Result<(), PutError> {
+    match stream.write(out) {
+        Ok(()) => Ok(()),
+        Err(error) => {
+            same(rt, error, PutError::Memory, "fault");
+            assert!(rt; are_parts(out.as_slice()));
+            out.clear();
+            stream.write(out)
+        }
+    }
+}
+
+/// The type number of the frame, and its length.
+const HEAD: &[u8] = &[0x00, 0x40, 0x64];
+
+/// The bytes are the frame.
+fn check_frame<R: Abort>(rt: &R, bytes: &[u8]) {
+    same(rt, bytes.get(..3), Some(HEAD), "head");
+    same(rt, bytes.get(3..), Some(PAYLOAD.as_slice()), "payload");
+}
+
+/// The state writes its frame into a vector, also where memory was refused.
 fn check_refused<R: Abort + AllocGlobal, K: Writes>(
     rt: &R,
     stream: &mut K,
 ) -> Result<(), PutError> {
     let mut out = Vec::new(rt.alloc());
-    if let Err(error) = stream.write(&mut out) {
-        same(rt, error, PutError::Memory, "fault");
-        assert!(rt; are_parts(out.as_slice()));
-        out.clear();
-        stream.write(&mut out)?;
-    }
-    same(
-        rt,
-        out.get(..3),
-        Some([0x00, 0x40, 0x64].as_slice()),
-        "head",
-    );
-    same(rt, out.get(3..), Some(PAYLOAD.as_slice()), "payload");
+    write_again(rt, stream, &mut out)?;
+    check_frame(rt, out.as_slice());
     Ok(())
 }
 
@@ -84,27 +102,44 @@ fn refused_memory_writes_whole_parts_to_a_stream_opened_there(
     check_refused(&rt, &mut opened_there())
 }
 
+/// The stream writes its frame; where memory was refused, it can still be upgraded, and writes its
+/// frame anew.
+fn check_left<R: Abort + AllocGlobal>(
+    rt: &R,
+    stream: &mut StreamBiLocalH3,
+) -> Result<(), PutError> {
+    let mut out = Vec::new(rt.alloc());
+    match stream.write(&mut out) {
+        Ok(()) => Ok(()),
+        Err(_) => {
+            assert!(rt; are_parts(out.as_slice()));
+            assert!(rt; stream.can_upgrade());
+            check_refused(rt, stream)
+        }
+    }
+}
+
 #[test]
 fn refused_memory_leaves_a_stream_opened_here(rt: HostRuntime) -> Result<(), PutError> {
     let mut stream = opened_here();
-    let mut out = Vec::new(rt.alloc());
-    if stream.write(&mut out).is_err() {
-        assert!(rt; are_parts(out.as_slice()));
-        assert!(rt; stream.can_upgrade());
-        check_refused(&rt, &mut stream)?;
-    }
+    check_left(&rt, &mut stream)?;
     assert!(rt; !stream.can_upgrade());
     check_refused(&rt, &mut stream)
+}
+
+/// The stream of a session; where it was refused, another.
+fn session_again(alloc: Global) -> Result<StreamSession, UrlParseError> {
+    match open_session(alloc) {
+        Ok(stream) => Ok(stream),
+        Err(_) => open_session(alloc),
+    }
 }
 
 #[test]
 fn refused_memory_writes_whole_parts_to_the_stream_of_a_session(
     rt: HostRuntime,
 ) -> Result<(), Fail> {
-    let mut stream = match open_session(rt.alloc()) {
-        Ok(stream) => stream,
-        Err(_) => open_session(rt.alloc())?,
-    };
+    let mut stream = session_again(rt.alloc())?;
     check_refused(&rt, &mut stream)?;
     Ok(())
 }

@@ -1,5 +1,5 @@
 //! Streams that carry the request for a session.
-use crate::opened::{open_session, opened_there};
+use crate::opened::{front, open_session, opened_there};
 use crate::same::same;
 use std::borrow::CowSlice;
 use std::process::Abort;
@@ -22,31 +22,44 @@ fn it_keeps_its_request(rt: HostRuntime) -> Result<(), Fail> {
     Ok(())
 }
 
+/// What writing a data frame of one byte whole answers.
+fn put_byte(stream: &StreamSession, writer: &mut BufferWriter<'_>) -> Result<(), EndOfBuffer> {
+    stream.write_frame_to_buffer(Frame::new_data(CowSlice::Borrowed(b"a")), writer)
+}
+
+/// What writing an empty data frame whole answers.
+fn put_empty(stream: &StreamSession, writer: &mut BufferWriter<'_>) -> Result<(), EndOfBuffer> {
+    stream.write_frame_to_buffer(Frame::new_data(CowSlice::Borrowed(b"")), writer)
+}
+
+/// What writing an empty headers frame in parts answers.
+fn put_headers(stream: &StreamSession, writer: &mut BufferWriter<'_>) -> Result<(), PutError> {
+    stream.write_frame(Frame::new_headers(CowSlice::Borrowed(b"")), writer)
+}
+
 /// Two data frames, of which the second has no room.
-fn check_whole<R: Abort>(
-    rt: &R,
-    stream: &StreamSession,
-    writer: &mut BufferWriter<'_>,
-) -> Result<(), Fail> {
-    stream.write_frame_to_buffer(Frame::new_data(CowSlice::Borrowed(b"a")), writer)?;
-    let frame = Frame::new_data(CowSlice::Borrowed(b""));
-    let answer = stream.write_frame_to_buffer(frame, writer);
-    same(rt, answer, Err(EndOfBuffer), "whole");
-    let written = writer.buffer_written();
-    same(rt, written, b"\x00\x01a".as_slice(), "the first frame");
-    Ok(())
+fn check_whole<R: Abort>(rt: &R, stream: &StreamSession, writer: &mut BufferWriter<'_>) {
+    same(rt, put_byte(stream, writer), Ok(()), "the first");
+    let answer = put_empty(stream, writer);
+    let came = (answer, writer.buffer_written());
+    same(rt, came, (Err(EndOfBuffer), front(WRITTEN, 3)), "whole");
+}
+
+/// What is written when the third frame has no room: the first frame, and a type number.
+const WRITTEN: &[u8] = b"\x00\x01a\x01";
+
+/// Two data frames written whole, and a headers frame written in parts, of which one has room.
+fn check_frames<R: Abort>(rt: &R, stream: &StreamSession) {
+    let mut buffer = [0; 4];
+    let mut writer = BufferWriter::new(&mut buffer);
+    check_whole(rt, stream, &mut writer);
+    let answer = put_headers(stream, &mut writer);
+    let came = (answer, writer.buffer_written());
+    same(rt, came, (Err(PutError::EndOfBuffer), WRITTEN), "in parts");
 }
 
 #[test]
 fn frames_are_written(rt: HostRuntime) -> Result<(), Fail> {
-    let stream = open_session(rt.alloc())?;
-    let mut buffer = [0; 4];
-    let mut writer = BufferWriter::new(&mut buffer);
-    check_whole(&rt, &stream, &mut writer)?;
-    let frame = Frame::new_headers(CowSlice::Borrowed(b""));
-    let answer = stream.write_frame(frame, &mut writer);
-    same(&rt, answer, Err(PutError::EndOfBuffer), "in parts");
-    let written = writer.buffer_written();
-    same(&rt, written, b"\x00\x01a\x01".as_slice(), "and a part");
+    check_frames(&rt, &open_session(rt.alloc())?);
     Ok(())
 }

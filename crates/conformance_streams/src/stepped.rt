@@ -1,5 +1,5 @@
 //! Upgrading streams, poll by poll.
-use crate::opened::{opened_here, session_4};
+use crate::opened::{front, opened_here, rest, session_4};
 use crate::same::{fail, same};
 use std::fmt::Display;
 use std::process::Abort;
@@ -10,7 +10,7 @@ use wtransport_proto::error::ErrorCode;
 use wtransport_proto::ids::SessionId;
 use wtransport_proto::stream::bilocal::StreamBiLocalWT;
 use wtransport_proto::stream::unilocal::{StreamUniLocalH3, StreamUniLocalQuic};
-use wtransport_proto::stream::uniremote::StreamUniRemoteQuic;
+use wtransport_proto::stream::uniremote::{StreamUniRemoteH3, StreamUniRemoteQuic};
 use wtransport_proto::stream::{BiUpgrading, IoReadError, UniAccepting, UniUpgrading};
 use wtransport_proto::stream_header::{StreamHeader, StreamKind};
 
@@ -51,7 +51,7 @@ fn check_stopped<R: Abort, P: Drop, T: Drop>(
     rt: &R,
     stepped: Stepped<P, T, IoWriteError>,
     sink: &Paced<'_>,
-    taken: &[u8],
+    taken: &'static [u8],
 ) -> Result<P, Fail> {
     let (state, fault) = take_failed(stepped)?;
     same(rt, fault, IoWriteError::Stopped, taken.len());
@@ -63,7 +63,7 @@ fn check_stopped<R: Abort, P: Drop, T: Drop>(
 fn check_session_made<R: Abort + AllocGlobal>(
     rt: &R,
     upgrading: BiUpgrading,
-    wire: &[u8],
+    wire: &'static [u8],
 ) -> Result<(), Fail> {
     let mut vector = Vec::new(rt.alloc());
     let stream = make_session(upgrading, &mut vector)?;
@@ -72,13 +72,31 @@ fn check_session_made<R: Abort + AllocGlobal>(
     Ok(())
 }
 
+/// The frame of session 4.
+const SESSION_FRAME: &[u8] = &[0x40, 0x41, 0x04];
+
+/// The header of session 4.
+const HEADER: &[u8] = &[0x40, 0x54, 0x04];
+
+/// The frame of session 4 on its way to a new stream.
+fn session_frame_4() -> Result<BiUpgrading, Fail> {
+    Ok(opened_here().upgrade_async(session_4()?))
+}
+
+/// What one poll of an upgrade to a session answers.
+type BiStep = Stepped<BiUpgrading, StreamBiLocalWT, IoWriteError>;
+
+/// One poll of the upgrade.
+fn step_bi(upgrading: BiUpgrading, sink: &mut Paced<'_>) -> BiStep {
+    upgrading.poll(sink)
+}
+
 /// Of the frame of session 4 so many bytes go to a sink that stops, and the others elsewhere.
 fn check_bi_stop<R: Abort + AllocGlobal>(rt: &R, room: usize) -> Result<(), Fail> {
-    let wire = [0x40, 0x41, 0x04].as_slice();
     let mut sink = Paced::new(rt.alloc(), stops_after(room));
-    let stepped = opened_here().upgrade_async(session_4()?).poll(&mut sink);
-    let upgrading = check_stopped(rt, stepped, &sink, wire.get(..room).unwrap_or(&[]))?;
-    check_session_made(rt, upgrading, wire.get(room..).unwrap_or(&[]))
+    let stepped = step_bi(session_frame_4()?, &mut sink);
+    let upgrading = check_stopped(rt, stepped, &sink, front(SESSION_FRAME, room))?;
+    check_session_made(rt, upgrading, rest(SESSION_FRAME, room))
 }
 
 #[test]
@@ -97,29 +115,37 @@ static HALTS: [WriteStep; 4] = [
     WriteStep::NotConnected,
 ];
 
+/// The state after two polls, each of which waits for the sink.
+fn wait_bi(upgrading: BiUpgrading, sink: &mut Paced<'_>) -> Result<BiUpgrading, Fail> {
+    let upgrading = take_pending(step_bi(upgrading, sink))?;
+    take_pending(step_bi(upgrading, sink))
+}
+
+/// The stream after two polls, of which the first finds that the sink is lost.
+fn lose_bi<R: Abort>(
+    rt: &R,
+    upgrading: BiUpgrading,
+    sink: &mut Paced<'_>,
+) -> Result<StreamBiLocalWT, Fail> {
+    let (upgrading, fault) = take_failed(step_bi(upgrading, sink))?;
+    same(rt, fault, IoWriteError::NotConnected, "lost");
+    take_result(step_bi(upgrading, sink))
+}
+
 #[test]
 fn a_session_frame_waits_for_its_sink(rt: HostRuntime) -> Result<(), Fail> {
     let mut sink = Paced::new(rt.alloc(), &HALTS);
-    let upgrading = opened_here().upgrade_async(session_4()?);
-    let upgrading = take_pending(upgrading.poll(&mut sink))?;
-    let upgrading = take_pending(upgrading.poll(&mut sink))?;
-    same(&rt, sink.output(), [0x40, 0x41].as_slice(), "two bytes");
-    let (upgrading, fault) = take_failed(upgrading.poll(&mut sink))?;
-    same(&rt, fault, IoWriteError::NotConnected, "lost");
-    let stream = take_result(upgrading.poll(&mut sink))?;
-    same(
-        &rt,
-        (sink.output(), stream.session_id()),
-        ([0x40, 0x41, 0x04].as_slice(), session_4()?),
-        "done",
-    );
+    let upgrading = wait_bi(session_frame_4()?, &mut sink)?;
+    same(&rt, sink.output(), front(SESSION_FRAME, 2), "two bytes");
+    let stream = lose_bi(&rt, upgrading, &mut sink)?;
+    same(&rt, sink.output(), SESSION_FRAME, "done");
+    same(&rt, stream.session_id(), session_4()?, "its session");
     Ok(())
 }
 
 #[test]
 fn refused_memory_hands_back_the_session_frame(rt: HostRuntime) -> Result<(), Fail> {
-    let upgrading = opened_here().upgrade_async(session_4()?);
-    check_session_made(&rt, upgrading, &[0x40, 0x41, 0x04])
+    check_session_made(&rt, session_frame_4()?, SESSION_FRAME)
 }
 
 /// Polls into the vector until it is done; twice, where allocation failed.
@@ -137,7 +163,7 @@ type Made = (StreamKind, Option<SessionId>);
 fn check_header_made<R: Abort + AllocGlobal>(
     rt: &R,
     upgrading: UniUpgrading,
-    wire: &[u8],
+    wire: &'static [u8],
     wanted: Made,
 ) -> Result<(), Fail> {
     let mut vector = Vec::new(rt.alloc());
@@ -154,14 +180,25 @@ fn header_4() -> Result<UniUpgrading, Fail> {
     Ok(StreamUniLocalQuic::open_uni().upgrade_async(header))
 }
 
+/// A stream of session 4.
+fn made_4() -> Result<Made, Fail> {
+    Ok((StreamKind::WebTransport, Some(session_4()?)))
+}
+
+/// What one poll of the way of a header answers.
+type UniStep = Stepped<UniUpgrading, StreamUniLocalH3, IoWriteError>;
+
+/// One poll of the way of the header.
+fn step_uni(upgrading: UniUpgrading, sink: &mut Paced<'_>) -> UniStep {
+    upgrading.poll(sink)
+}
+
 /// Of the header of session 4 so many bytes go to a sink that stops, and the others elsewhere.
 fn check_uni_stop<R: Abort + AllocGlobal>(rt: &R, room: usize) -> Result<(), Fail> {
-    let wire = [0x40, 0x54, 0x04].as_slice();
     let mut sink = Paced::new(rt.alloc(), stops_after(room));
-    let stepped = header_4()?.poll(&mut sink);
-    let upgrading = check_stopped(rt, stepped, &sink, wire.get(..room).unwrap_or(&[]))?;
-    let wanted = (StreamKind::WebTransport, Some(session_4()?));
-    check_header_made(rt, upgrading, wire.get(room..).unwrap_or(&[]), wanted)
+    let stepped = step_uni(header_4()?, &mut sink);
+    let upgrading = check_stopped(rt, stepped, &sink, front(HEADER, room))?;
+    check_header_made(rt, upgrading, rest(HEADER, room), made_4()?)
 }
 
 #[test]
@@ -172,21 +209,31 @@ fn a_header_goes_on_elsewhere(rt: HostRuntime) -> Result<(), Fail> {
     Ok(())
 }
 
+/// The state after two polls, each of which waits for the sink.
+fn wait_uni(upgrading: UniUpgrading, sink: &mut Paced<'_>) -> Result<UniUpgrading, Fail> {
+    let upgrading = take_pending(step_uni(upgrading, sink))?;
+    take_pending(step_uni(upgrading, sink))
+}
+
+/// The stream after two polls, of which the first finds that the sink is lost.
+fn lose_uni<R: Abort>(
+    rt: &R,
+    upgrading: UniUpgrading,
+    sink: &mut Paced<'_>,
+) -> Result<StreamUniLocalH3, Fail> {
+    let (upgrading, fault) = take_failed(step_uni(upgrading, sink))?;
+    same(rt, fault, IoWriteError::NotConnected, "lost");
+    take_result(step_uni(upgrading, sink))
+}
+
 #[test]
 fn a_header_waits_for_its_sink(rt: HostRuntime) -> Result<(), Fail> {
     let mut sink = Paced::new(rt.alloc(), &HALTS);
-    let upgrading = take_pending(header_4()?.poll(&mut sink))?;
-    let upgrading = take_pending(upgrading.poll(&mut sink))?;
-    same(&rt, sink.output(), [0x40, 0x54].as_slice(), "two bytes");
-    let (upgrading, fault) = take_failed(upgrading.poll(&mut sink))?;
-    same(&rt, fault, IoWriteError::NotConnected, "lost");
-    let stream = take_result(upgrading.poll(&mut sink))?;
-    same(
-        &rt,
-        (sink.output(), stream.kind()),
-        ([0x40, 0x54, 0x04].as_slice(), StreamKind::WebTransport),
-        "done",
-    );
+    let upgrading = wait_uni(header_4()?, &mut sink)?;
+    same(&rt, sink.output(), front(HEADER, 2), "two bytes");
+    let stream = lose_uni(&rt, upgrading, &mut sink)?;
+    same(&rt, sink.output(), HEADER, "done");
+    same(&rt, stream.kind(), StreamKind::WebTransport, "its kind");
     Ok(())
 }
 
@@ -196,6 +243,14 @@ fn refused_memory_hands_back_the_header(rt: HostRuntime) -> Result<(), Fail> {
     check_header_made(&rt, upgrading, &[0x00], (StreamKind::Control, None))
 }
 
+/// What one poll of an accepted stream answers.
+type AcceptStep = Stepped<UniAccepting, StreamUniRemoteH3, IoReadError>;
+
+/// One poll of the stream.
+fn step_in<S: AsyncRead>(accepting: UniAccepting, source: &mut S) -> AcceptStep {
+    accepting.poll(source)
+}
+
 /// The stream fails with this fault, and is handed back.
 fn check_failed<R: Abort, S: AsyncRead>(
     rt: &R,
@@ -203,7 +258,7 @@ fn check_failed<R: Abort, S: AsyncRead>(
     source: &mut S,
     wanted: IoReadError,
 ) -> Result<UniAccepting, Fail> {
-    let (accepting, fault) = take_failed(accepting.poll(source))?;
+    let (accepting, fault) = take_failed(step_in(accepting, source))?;
     same(rt, fault, wanted, "the fault");
     Ok(accepting)
 }
@@ -216,7 +271,7 @@ fn check_accepted<R: Abort, N: Display + Drop>(
     wanted: Made,
     shows: N,
 ) -> Result<(), Fail> {
-    let stream = take_result(accepting.poll(source))?;
+    let stream = take_result(step_in(accepting, source))?;
     same(rt, (stream.kind(), stream.session_id()), wanted, shows);
     Ok(())
 }
@@ -224,12 +279,15 @@ fn check_accepted<R: Abort, N: Display + Drop>(
 /// The fault of a stream that is these bytes, and how many of them are left.
 fn fault_of(mut bytes: &[u8]) -> Result<(IoReadError, usize), Fail> {
     let accepting = StreamUniRemoteQuic::accept_uni().upgrade_async();
-    let (_, fault) = take_failed(accepting.poll(&mut bytes))?;
+    let (_, fault) = take_failed(step_in(accepting, &mut bytes))?;
     Ok((fault, bytes.len()))
 }
 
 /// The bytes of a header and an end, the fault that refuses them, and what the row shows.
-static FAULTS: [(&[u8], IoReadError, &str); 4] = [
+type FaultRow = (&'static [u8], IoReadError, &'static str);
+
+/// Headers that are refused.
+static FAULTS: [FaultRow; 4] = [
     (b"", IoReadError::IO(Fault::ImmediateFin), "nothing"),
     (b"\x40\x54", IoReadError::H3(ErrorCode::Frame), "cut"),
     (
@@ -244,11 +302,18 @@ static FAULTS: [(&[u8], IoReadError, &str); 4] = [
     ),
 ];
 
+/// The header of the row is refused so, and no byte is left.
+fn check_refusal<R: Abort>(rt: &R, row: &FaultRow) -> Result<(), Fail> {
+    let (bytes, fault, shows) = row;
+    let (came, left) = fault_of(bytes)?;
+    same(rt, (&came, left), (fault, 0), shows);
+    Ok(())
+}
+
 #[test]
 fn faults_of_the_header_hand_it_back(rt: HostRuntime) -> Result<(), Fail> {
-    for (bytes, fault, shows) in &FAULTS {
-        let (came, left) = fault_of(bytes)?;
-        same(&rt, (&came, left), (fault, 0), shows);
+    for row in &FAULTS {
+        check_refusal(&rt, row)?;
     }
     Ok(())
 }
@@ -267,9 +332,8 @@ fn headers_are_accepted(rt: HostRuntime) -> Result<(), Fail> {
 fn a_cut_header_is_accepted_from_a_second_source(rt: HostRuntime) -> Result<(), Fail> {
     let accepting = StreamUniRemoteQuic::accept_uni().upgrade_async();
     let cut = IoReadError::H3(ErrorCode::Frame);
-    let accepting = check_failed(&rt, accepting, &mut b"\x40\x54".as_slice(), cut)?;
-    let wanted = (StreamKind::WebTransport, Some(session_4()?));
-    check_accepted(&rt, accepting, &mut b"\x04".as_slice(), wanted, "a session")
+    let accepting = check_failed(&rt, accepting, &mut front(HEADER, 2), cut)?;
+    check_accepted(&rt, accepting, &mut rest(HEADER, 2), made_4()?, "a session")
 }
 
 /// The state, after the waits before so many bytes and before the end.
@@ -279,7 +343,7 @@ fn wait_before(
     len: usize,
 ) -> Result<UniAccepting, Fail> {
     for _turn in 0..=len {
-        accepting = take_pending(accepting.poll(source))?;
+        accepting = take_pending(step_in(accepting, source))?;
     }
     Ok(accepting)
 }
@@ -294,17 +358,25 @@ fn stop_fault(len: usize, end: End) -> IoReadError {
     }
 }
 
+/// The stream fails twice by the table, and is handed back.
+fn check_stops<R: Abort>(
+    rt: &R,
+    accepting: UniAccepting,
+    source: &mut Trickle<'_>,
+    len: usize,
+    end: End,
+) -> Result<UniAccepting, Fail> {
+    let accepting = check_failed(rt, accepting, source, stop_fault(len, end))?;
+    check_failed(rt, accepting, source, stop_fault(len, end))
+}
+
 /// The first so many bytes of the header of session 4, each of them late; then the others.
 fn check_header_stop<R: Abort>(rt: &R, len: usize, end: End) -> Result<(), Fail> {
-    let wire = b"\x40\x54\x04".as_slice();
-    let mut source = Trickle::new(wire.get(..len).unwrap_or(&[]), end);
+    let mut source = Trickle::new(front(HEADER, len), end);
     let accepting = StreamUniRemoteQuic::accept_uni().upgrade_async();
     let accepting = wait_before(accepting, &mut source, len)?;
-    let accepting = check_failed(rt, accepting, &mut source, stop_fault(len, end))?;
-    let accepting = check_failed(rt, accepting, &mut source, stop_fault(len, end))?;
-    let mut rest = wire.get(len..).unwrap_or(&[]);
-    let wanted = (StreamKind::WebTransport, Some(session_4()?));
-    check_accepted(rt, accepting, &mut rest, wanted, len)
+    let accepting = check_stops(rt, accepting, &mut source, len, end)?;
+    check_accepted(rt, accepting, &mut rest(HEADER, len), made_4()?, len)
 }
 
 /// Every ending of a source.

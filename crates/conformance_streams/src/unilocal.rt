@@ -1,7 +1,7 @@
 //! Streams in one direction that this end opened.
 ghost use Rattle.wtransport_proto.specs.Streams.{CanWrite};
 
-use crate::opened::{session_4, session_of_stream};
+use crate::opened::{front, session_4, session_of_stream};
 use crate::same::{fail, same};
 use std::borrow::CowSlice;
 use std::process::Abort;
@@ -30,29 +30,44 @@ fn stream_of(upgraded: UpgradeAnswer) -> Result<StreamUniLocalH3, Fail> {
     }
 }
 
-/// Writes settings in parts and whole, where there is room for two empty ones.
-fn check_settings<R: Abort>(
-    rt: &R,
+/// A control stream: its type, and two empty settings frames.
+const CONTROL: &[u8] = &[0x00, 0x04, 0x00, 0x04, 0x00];
+
+/// What writing an empty settings frame in parts answers.
+fn put_parts(stream: &mut StreamUniLocalH3, writer: &mut BufferWriter<'_>) -> Result<(), PutError>
+    requires { CanWrite stream.old }
+    ensures { CanWrite stream.new }
+{
+    stream.write_frame(Frame::new_settings(CowSlice::Borrowed(&[])), writer)
+}
+
+/// What writing this frame whole answers.
+fn put_whole(
     stream: &mut StreamUniLocalH3,
+    frame: Frame<'_>,
     writer: &mut BufferWriter<'_>,
-) -> Result<(), Fail>
+) -> Result<(), EndOfBuffer>
+    requires { CanWrite stream.old }
+    ensures { CanWrite stream.new }
+{
+    stream.write_frame_to_buffer(frame, writer)
+}
+
+/// Writes settings in parts and whole, where there is room for two empty ones.
+fn check_settings<R: Abort>(rt: &R, stream: &mut StreamUniLocalH3, writer: &mut BufferWriter<'_>)
     requires { CanWrite stream.old }
 {
-    stream.write_frame(Frame::new_settings(CowSlice::Borrowed(&[])), writer)?;
-    let wanted = [0x00, 0x04, 0x00].as_slice();
-    same(rt, writer.buffer_written(), wanted, "in parts");
+    let answer = put_parts(stream, writer);
+    let came = (answer, writer.buffer_written());
+    same(rt, came, (Ok(()), front(CONTROL, 3)), "in parts");
     let frame = Frame::new_settings(CowSlice::Borrowed(&[0x33, 0x01]));
-    let answer = stream.write_frame_to_buffer(frame, writer);
-    same(
-        rt,
-        (answer, writer.offset()),
-        (Err(EndOfBuffer), 3),
-        "too little room",
-    );
-    stream.write_frame_to_buffer(Frame::new_settings(CowSlice::Borrowed(&[])), writer)?;
-    let wanted = [0x00, 0x04, 0x00, 0x04, 0x00].as_slice();
-    same(rt, writer.buffer_written(), wanted, "whole");
-    Ok(())
+    let answer = put_whole(stream, frame, writer);
+    let wanted = (Err(EndOfBuffer), 3);
+    same(rt, (answer, writer.offset()), wanted, "too little room");
+    let frame = Frame::new_settings(CowSlice::Borrowed(&[]));
+    let answer = put_whole(stream, frame, writer);
+    let came = (answer, writer.buffer_written());
+    same(rt, came, (Ok(()), CONTROL), "whole");
 }
 
 #[test]
@@ -65,14 +80,18 @@ fn a_control_stream_writes_settings(rt: HostRuntime) -> Result<(), Fail> {
     same(
         &rt,
         (writer.buffer_written(), stream.kind(), stream.session_id()),
-        ([0x00].as_slice(), StreamKind::Control, None),
+        (front(CONTROL, 1), StreamKind::Control, None),
         "the stream",
     );
     if stream.kind() == StreamKind::WebTransport {
-        return Err("a control stream")?;
+        return fail("a control stream");
     }
-    check_settings(&rt, &mut stream, &mut writer)
+    check_settings(&rt, &mut stream, &mut writer);
+    Ok(())
 }
+
+/// The header of session 4.
+const HEADER: &[u8] = &[0x40, 0x54, 0x04];
 
 /// The stream is handed back, since two bytes are too little room for this header of a session.
 fn check_too_little<R: Abort>(rt: &R, header: StreamHeader) -> Result<StreamUniLocalQuic, Fail> {
@@ -81,8 +100,7 @@ fn check_too_little<R: Abort>(rt: &R, header: StreamHeader) -> Result<StreamUniL
     let upgraded = StreamUniLocalQuic::open_uni().upgrade(header, &mut writer);
     let (stream, error) = refusal_of(upgraded)?;
     same(rt, error, PutError::EndOfBuffer, "too little room");
-    let parts = [0x40, 0x54].as_slice();
-    same(rt, writer.buffer_written(), parts, "the parts");
+    same(rt, writer.buffer_written(), front(HEADER, 2), "the parts");
     Ok(stream)
 }
 
@@ -96,8 +114,7 @@ fn it_is_upgraded_where_there_is_room(rt: HostRuntime) -> Result<(), Fail> {
     let mut writer = BufferWriter::new(&mut buffer);
     let stream = stream_of(stream.upgrade(header, &mut writer))?;
     same(&rt, stream.session_id(), Some(session), "the session named");
-    let wire = [0x40, 0x54, 0x04].as_slice();
-    same(&rt, writer.buffer_written(), wire, "the header");
+    same(&rt, writer.buffer_written(), HEADER, "the header");
     if stream.kind() != StreamKind::WebTransport {
         return fail("a stream of a session");
     }
@@ -105,10 +122,21 @@ fn it_is_upgraded_where_there_is_room(rt: HostRuntime) -> Result<(), Fail> {
     Ok(())
 }
 
+/// The header of session 64.
+const HEADER_64: &[u8] = &[0x40, 0x54, 0x40, 0x40];
+
+/// Whether the bytes are no part of the header of a session, or its type.
+fn are_parts(written: &[u8]) -> bool {
+    match written {
+        [] | [0x40, 0x54] => true,
+        _ => false,
+    }
+}
+
 /// What memory was refused to: the error, and whole parts of the header of session 64.
 fn check_refused<R: Abort>(rt: &R, error: PutError, written: &[u8]) {
     same(rt, error, PutError::Memory, "error");
-    assert!(rt; written == [].as_slice() || written == [0x40, 0x54].as_slice());
+    assert!(rt; are_parts(written));
 }
 
 /// Upgrades a stream into the vector; where allocation failed, once more.
@@ -134,7 +162,6 @@ fn refused_memory_hands_the_stream_back(rt: HostRuntime) -> Result<(), Fail> {
     let header = StreamHeader::new_webtransport(session);
     let stream = upgrade_again(&rt, header, &mut vector)?;
     same(&rt, stream.session_id(), Some(session), "its session");
-    let wire = [0x40, 0x54, 0x40, 0x40].as_slice();
-    same(&rt, vector.as_slice(), wire, "the header");
+    same(&rt, vector.as_slice(), HEADER_64, "the header");
     Ok(())
 }

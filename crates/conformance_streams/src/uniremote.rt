@@ -112,7 +112,10 @@ fn refusal_of(mut bytes: &[u8]) -> (Option<ErrorCode>, usize) {
 }
 
 /// The bytes of a header, what refuses it, and what the row shows.
-static FAULTS: [(&[u8], ErrorCode, &str); 3] = [
+type FaultRow = (&'static [u8], ErrorCode, &'static str);
+
+/// Headers that are refused.
+static FAULTS: [FaultRow; 3] = [
     (b"\x40\x54\x01", ErrorCode::Id, "no session"),
     (b"\x40\x42", ErrorCode::StreamCreation, "an unknown type"),
     (
@@ -122,11 +125,22 @@ static FAULTS: [(&[u8], ErrorCode, &str); 3] = [
     ),
 ];
 
+/// The header of the row is refused so, and no byte is left.
+fn check_refusal<R: Abort>(rt: &R, row: &FaultRow) {
+    let (bytes, code, shows) = *row;
+    same(rt, refusal_of(bytes), (Some(code), 0), shows);
+}
+
+/// Each row is refused so.
+fn check_refusals<R: Abort>(rt: &R, rows: &[FaultRow]) {
+    for row in rows {
+        check_refusal(rt, row);
+    }
+}
+
 #[test]
 fn faults_of_the_header_are_named(rt: HostRuntime) {
-    for (bytes, code, shows) in &FAULTS {
-        same(&rt, refusal_of(bytes), (Some(*code), 0), shows);
-    }
+    check_refusals(&rt, &FAULTS);
 }
 
 #[test]

@@ -3,8 +3,9 @@
 ghost use Rattle.wtransport_proto.specs.StreamWriting.{WritesPlain};
 ghost use Rattle.wtransport_proto.specs.Streams.{CanWrite};
 
-use crate::opened::{open_session, opened_here, opened_there};
+use crate::opened::{front, open_session, opened_here, opened_there, rest};
 use crate::same::{fail, same};
+use std::alloc::Global;
 use std::borrow::CowSlice;
 use std::process::Abort;
 use std::test::Fail;
@@ -90,28 +91,34 @@ fn send_again<K: Sends, W: AsyncWrite>(sending: &mut K, sink: &mut W) -> SendAns
 }
 
 /// What is left of the frame goes to a vector, as these bytes.
-fn check_rest<R: Abort + AllocGlobal, K: Sends>(rt: &R, sending: &mut K, wire: &[u8]) {
+fn check_rest<R: Abort + AllocGlobal, K: Sends>(rt: &R, sending: &mut K, wire: &'static [u8]) {
     let mut vector = Vec::new(rt.alloc());
     let answer = send_again(sending, &mut vector);
     same(rt, (answer, vector.as_slice()), (DONE, wire), "to a vector");
 }
 
+/// A data frame of the bytes `abc`.
+const DATA: &[u8] = b"\x00\x03abc";
+
+/// Of this data frame so many bytes go to a sink that stops. The stream can still be upgraded.
+fn check_stopped<R: Abort + AllocGlobal>(rt: &R, sending: &mut ToBoth<'_>, room: usize) {
+    let mut sink = Paced::new(rt.alloc(), stops_after(room));
+    let answer = sending.send(&mut sink);
+    let came = (answer, sink.output(), sending.stream.can_upgrade());
+    let stopped = Polled::Ready(Err(IoWriteError::Stopped));
+    same(rt, came, (stopped, front(DATA, room), true), room);
+}
+
 /// Of a data frame so many bytes go to a sink that stops, and the others elsewhere. The stream can
 /// be upgraded until all are sent.
 fn check_stop<R: Abort + AllocGlobal>(rt: &R, room: usize) {
-    let wire = b"\x00\x03abc".as_slice();
     let frame = Frame::new_data(CowSlice::Borrowed(b"abc"));
     let mut sending = ToBoth {
         stream: opened_here(),
         writing: frame.write_async(),
     };
-    let mut sink = Paced::new(rt.alloc(), stops_after(room));
-    let answer = sending.send(&mut sink);
-    let stopped = Polled::Ready(Err(IoWriteError::Stopped));
-    same(rt, answer, stopped, room);
-    same(rt, sink.output(), wire.get(..room).unwrap_or(&[]), room);
-    same(rt, sending.stream.can_upgrade(), true, room);
-    check_rest(rt, &mut sending, wire.get(room..).unwrap_or(&[]));
+    check_stopped(rt, &mut sending, room);
+    check_rest(rt, &mut sending, rest(DATA, room));
     same(rt, sending.stream.can_upgrade(), false, room);
 }
 
@@ -175,6 +182,18 @@ fn a_frame_that_was_written_ends_upgrading(rt: HostRuntime) {
     );
 }
 
+/// Sends the frame; where memory was refused, the stream can still be upgraded, and a second poll
+/// sends the frame on.
+fn send_refused<R: Abort>(rt: &R, sending: &mut ToBoth<'_>, vector: &mut Vec<u8>) -> SendAnswer {
+    match sending.send(vector) {
+        Polled::NoMemory => {
+            assert!(rt; sending.stream.can_upgrade());
+            sending.send(vector)
+        }
+        answer => answer,
+    }
+}
+
 #[test]
 fn refused_memory_for_a_frame_is_asked_for_again(rt: HostRuntime) {
     let frame = Frame::new_data(CowSlice::Borrowed(b"abc"));
@@ -183,13 +202,8 @@ fn refused_memory_for_a_frame_is_asked_for_again(rt: HostRuntime) {
         writing: frame.write_async(),
     };
     let mut vector = Vec::new(rt.alloc());
-    let mut answer = sending.send(&mut vector);
-    if let Polled::NoMemory = answer {
-        assert!(rt; sending.stream.can_upgrade());
-        answer = sending.send(&mut vector);
-    }
-    let wire = b"\x00\x03abc".as_slice();
-    same(&rt, (answer, vector.as_slice()), (DONE, wire), "data");
+    let answer = send_refused(&rt, &mut sending, &mut vector);
+    same(&rt, (answer, vector.as_slice()), (DONE, DATA), "data");
     assert!(rt; !sending.stream.can_upgrade());
 }
 
@@ -211,17 +225,22 @@ fn a_stream_that_was_opened_there_is_written(rt: HostRuntime) {
         stream: opened_there(),
         writing: frame.write_async(),
     };
-    check_rest(&rt, &mut sending, b"\x00\x03abc");
+    check_rest(&rt, &mut sending, DATA);
+}
+
+/// A headers frame goes to the stream of a session.
+fn check_session<R: Abort + AllocGlobal>(rt: &R, stream: StreamSession) {
+    let frame = Frame::new_headers(CowSlice::Borrowed(&[0x00, 0x00]));
+    let mut sending = ToSession {
+        stream,
+        writing: frame.write_async(),
+    };
+    check_rest(rt, &mut sending, &[0x01, 0x02, 0x00, 0x00]);
 }
 
 #[test]
 fn the_stream_of_a_session_is_written(rt: HostRuntime) -> Result<(), Fail> {
-    let frame = Frame::new_headers(CowSlice::Borrowed(&[0x00, 0x00]));
-    let mut sending = ToSession {
-        stream: open_session(rt.alloc())?,
-        writing: frame.write_async(),
-    };
-    check_rest(&rt, &mut sending, &[0x01, 0x02, 0x00, 0x00]);
+    check_session(&rt, open_session(rt.alloc())?);
     Ok(())
 }
 
@@ -237,14 +256,27 @@ fn to_control<'a>(frame: &'a Frame<'_>, vector: &mut Vec<u8>) -> Result<ToOne<'a
     })
 }
 
+/// A control stream: its type, and a settings frame of one setting.
+const CONTROL: &[u8] = &[0x00, 0x04, 0x02, 0x33, 0x01];
+
+/// A settings frame of one setting.
+fn settings() -> Frame<'static> {
+    Frame::new_settings(CowSlice::Borrowed(&[0x33, 0x01]))
+}
+
+/// Sends it to a control stream, and both to the vector.
+fn send_control(vector: &mut Vec<u8>) -> Result<SendAnswer, Fail> {
+    let frame = settings();
+    let mut sending = to_control(&frame, vector)?;
+    Ok(send_again(&mut sending, vector))
+}
+
 #[test]
 fn a_control_stream_is_written(rt: HostRuntime) -> Result<(), Fail> {
-    let frame = Frame::new_settings(CowSlice::Borrowed(&[0x33, 0x01]));
     let mut vector = Vec::new(rt.alloc());
-    let mut sending = to_control(&frame, &mut vector)?;
-    same(&rt, send_again(&mut sending, &mut vector), DONE, "settings");
-    let wire = [0x00, 0x04, 0x02, 0x33, 0x01].as_slice();
-    same(&rt, vector.as_slice(), wire, "the vector");
+    let answer = send_control(&mut vector)?;
+    let came = (answer, vector.as_slice());
+    same(&rt, came, (DONE, CONTROL), "settings");
     Ok(())
 }
 
@@ -281,18 +313,23 @@ fn a_frame_is_written_in_a_loop(rt: HostRuntime) {
     same(
         &rt,
         (answer, sink.output(), sending.stream.can_upgrade()),
-        (DONE, b"\x00\x03abc".as_slice(), false),
+        (DONE, DATA, false),
         "data",
     );
 }
 
+/// Writes the settings to a control stream, while the sink waits; its type goes elsewhere.
+fn write_control(alloc: Global, sink: &mut Paced<'_>) -> Result<SendAnswer, Fail> {
+    let frame = settings();
+    let mut sending = to_control(&frame, &mut Vec::new(alloc))?;
+    Ok(write_on(&mut sending, sink))
+}
+
 #[test]
 fn settings_are_written_in_a_loop(rt: HostRuntime) -> Result<(), Fail> {
-    let frame = Frame::new_settings(CowSlice::Borrowed(&[0x33, 0x01]));
-    let mut sending = to_control(&frame, &mut Vec::new(rt.alloc()))?;
     let mut sink = Paced::new(rt.alloc(), &WAITS);
-    same(&rt, write_on(&mut sending, &mut sink), DONE, "settings");
-    let wire = [0x04, 0x02, 0x33, 0x01].as_slice();
-    same(&rt, sink.output(), wire, "the sink");
+    let answer = write_control(rt.alloc(), &mut sink)?;
+    let came = (answer, sink.output());
+    same(&rt, came, (DONE, rest(CONTROL, 1)), "settings");
     Ok(())
 }

@@ -1,5 +1,5 @@
-//! Frames, read and written whole, capsules, settings and stream headers. Tests over the public
-//! crates; there is no product code here.
+//! Frames, capsules, settings and stream headers, read and written whole, and what is read and
+//! written poll by poll. Tests over the public crates; there is no product code here.
 #![tactic(auto)]
 
 #[cfg(test)]
@@ -12,6 +12,8 @@ mod capsules;
 mod fault_codes;
 #[cfg(test)]
 mod frames;
+#[cfg(test)]
+mod polled;
 #[cfg(test)]
 mod printed;
 #[cfg(test)]

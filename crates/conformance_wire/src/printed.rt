@@ -1,7 +1,7 @@
 //! What frames, datagrams and the states of polled reading and writing print for debugging.
 
 use crate::texts::prints;
-use std::alloc::AllocError;
+use std::alloc::{AllocError, Global};
 use std::borrow::CowSlice;
 use std::process::Abort;
 use std::test::Fail;
@@ -12,33 +12,47 @@ use wtp_wire::datagram::Datagram;
 use wtp_wire::frame::{Frame, FrameOwned, FrameReading, IoReadError};
 use wtp_wire::stream_header::StreamHeader;
 
-#[test]
-fn frames_are_printed(rt: HostRuntime) -> Result<(), Fail> {
+/// Asserts what a frame of data prints.
+fn check_data<R: Abort + AllocGlobal>(rt: &R) -> Result<(), AllocError> {
     let data = Frame::new_data(CowSlice::Borrowed(&[1, 255]));
     let text = "Frame { kind: Data, payload: [1, 255], session_id: None }";
-    prints(&rt, &data, text, "data")?;
-    let session = SessionId::try_from_varint(VarInt::from_u32(4))?;
-    let opening = Frame::new_webtransport(session);
-    let text = "Frame { kind: WebTransport, payload: [], session_id: Some(4) }";
-    prints(&rt, &opening, text, "a session")?;
-    Ok(())
+    prints(rt, &data, text, "data")
 }
 
 #[test]
-fn answers_are_printed(rt: HostRuntime) -> Result<(), Fail> {
-    let mut source: &[u8] = &[0x01, 0x01, 0x07];
-    let ready = FrameReading::new(rt.alloc()).poll(&mut source);
-    let text = "Ready(Ok(Frame { kind: Headers, payload: [7], session_id: None }))";
-    prints(&rt, &ready, text, "a frame")?;
-    let waiting: Polled<Result<FrameOwned, IoReadError>> = Polled::Pending;
-    prints(&rt, &waiting, "Pending", "no answer yet")?;
+fn frames_are_printed(rt: HostRuntime) -> Result<(), Fail> {
+    check_data(&rt)?;
+    let session = SessionId::try_from_varint(VarInt::from_u32(4))?;
+    let text = "Frame { kind: WebTransport, payload: [], session_id: Some(4) }";
+    prints(&rt, &Frame::new_webtransport(session), text, "a session")?;
     Ok(())
 }
 
-/// Asserts what the states of reading and of writing a frame print.
-fn check_frames<R: Abort + AllocGlobal>(rt: &R) -> Result<(), AllocError> {
+/// What a poll of a reading of a frame answers.
+type Answer = Polled<Result<FrameOwned, IoReadError>>;
+
+/// The answer of one poll.
+fn answer(alloc: Global) -> Answer {
+    let mut source: &[u8] = &[0x01, 0x01, 0x07];
+    FrameReading::new(alloc).poll(&mut source)
+}
+
+#[test]
+fn answers_are_printed(rt: HostRuntime) -> Result<(), AllocError> {
+    let text = "Ready(Ok(Frame { kind: Headers, payload: [7], session_id: None }))";
+    prints(&rt, &answer(rt.alloc()), text, "a frame")?;
+    let waiting: Answer = Polled::Pending;
+    prints(&rt, &waiting, "Pending", "no answer yet")
+}
+
+/// Asserts what the state of reading a frame prints.
+fn check_reading<R: Abort + AllocGlobal>(rt: &R) -> Result<(), AllocError> {
     let text = "FrameReading { head_bytes: 0, payload_bytes: 0, due_bytes: 0, .. }";
-    prints(rt, &Frame::read_async(rt.alloc()), text, "reading a frame")?;
+    prints(rt, &Frame::read_async(rt.alloc()), text, "reading a frame")
+}
+
+/// Asserts what the state of writing a frame prints.
+fn check_writing<R: Abort + AllocGlobal>(rt: &R) -> Result<(), AllocError> {
     let frame = Frame::new_data(CowSlice::Borrowed(&[7]));
     let text = "FrameWriting { head_sent: 0, payload_sent: 0, .. }";
     prints(rt, &frame.write_async(), text, "writing a frame")
@@ -56,11 +70,11 @@ fn check_headers<R: Abort + AllocGlobal>(rt: &R) -> Result<(), AllocError> {
 }
 
 #[test]
-fn states_are_printed(rt: HostRuntime) -> Result<(), Fail> {
-    check_frames(&rt)?;
+fn states_are_printed(rt: HostRuntime) -> Result<(), AllocError> {
+    check_reading(&rt)?;
+    check_writing(&rt)?;
     check_headers(&rt)?;
     let datagram = Datagram::new(QStreamId::MAX, &[7]);
     let text = "Datagram { qstream_id: 1152921504606846975, payload: [7] }";
-    prints(&rt, &datagram, text, "a datagram")?;
-    Ok(())
+    prints(&rt, &datagram, text, "a datagram")
 }

@@ -195,17 +195,22 @@ fn check_value<R: Abort>(
 fn unknown_settings_are_ignored_past_refused_memory(rt: HostRuntime) -> Result<(), Fail> {
     let read = answer(&rt, &[0x0a, 0x01, 0x0a, 0x02])?;
     check_frame(&rt, &read, &[], "no setting")?;
-    let mixed = answer(&rt, &[0x21, 0x05, 0x0a, 0x01, 0x06, 0x07])?;
+    Ok(())
+}
+
+/// Asserts the values of settings among which an unknown one came.
+fn check_mixed<R: Abort>(rt: &R, mixed: &Settings) {
     let exercise = SettingId::Exercise(VarInt::from_u32(0x21));
-    check_value(&rt, &mixed, exercise, Some(5), "exercise");
-    check_value(
-        &rt,
-        &mixed,
-        SettingId::MaxFieldSectionSize,
-        Some(7),
-        "known",
-    );
-    check_value(&rt, &mixed, SettingId::H3Datagram, None, "not set");
+    check_value(rt, mixed, exercise, Some(5), "exercise");
+    let known = SettingId::MaxFieldSectionSize;
+    check_value(rt, mixed, known, Some(7), "known");
+    check_value(rt, mixed, SettingId::H3Datagram, None, "not set");
+}
+
+#[test]
+fn known_settings_are_kept_past_refused_memory(rt: HostRuntime) -> Result<(), Refused> {
+    let mixed = answer(&rt, &[0x21, 0x05, 0x0a, 0x01, 0x06, 0x07])?;
+    check_mixed(&rt, &mixed);
     Ok(())
 }
 
@@ -215,14 +220,25 @@ fn put_in_buffer(frame: &Frame<'_>, buffer: &mut [u8]) -> Result<(), EndOfBuffer
     frame.write_to_buffer(&mut writer)
 }
 
+/// The frame of `steps`: type, length and payload.
+const WHOLE: [u8; 22] = [
+    0x04, 0x14, 0x01, 0x02, 0x07, 0x01, 0x33, 0x01, 0xab, 0x60, 0x37, 0x42, 0x01, 0xc0, 0x00, 0x00,
+    0x00, 0xc6, 0x71, 0x70, 0x6a, 0x03,
+];
+
+/// Asserts the bytes of the frame of `steps`, put into a buffer.
+fn check_in_buffer<R: Abort>(rt: &R, frame: &Frame<'_>) {
+    let mut room = [0x00; 22];
+    let outcome = put_in_buffer(frame, &mut room);
+    let wanted = (Ok(()), WHOLE.as_slice());
+    same(rt, (outcome, room.as_slice()), wanted, "into a buffer");
+}
+
 /// Asserts the frame of `steps`, put into a buffer and into a vector.
 fn check_whole<R: Abort + AllocGlobal>(rt: &R, settings: &Settings) -> Result<(), Fail> {
     let frame = frame_of(rt.alloc(), settings)?;
-    let mut room = [0x00; 22];
-    put_in_buffer(&frame, &mut room)?;
-    same(rt, &room[..2], &[0x04, 0x14], "type and length");
-    same(rt, &room[2..], &STEPS, "payload");
-    check_written(rt, &frame, &room, "into a vector")?;
+    check_in_buffer(rt, &frame);
+    check_written(rt, &frame, &WHOLE, "into a vector")?;
     Ok(())
 }
 
@@ -281,6 +297,11 @@ fn settings_are_written_by_rising_number_past_refused_memory(rt: HostRuntime) ->
     check_whole(&rt, &settings)?;
     check_lent(&rt, &settings, &mut [0x55; 24], &STEPS, "in a buffer")?;
     check_alone(&rt, &settings, &mut [0x55; 40])?;
+    Ok(())
+}
+
+#[test]
+fn settings_are_read_back_past_refused_memory(rt: HostRuntime) -> Result<(), Refused> {
     let read = answer(&rt, &STEPS)?;
     check_values(&rt, &read, &VALUES);
     Ok(())
@@ -346,6 +367,11 @@ fn a_buffer_may_be_too_short_past_refused_memory(rt: HostRuntime) -> Result<(), 
     check_value(&rt, &settings, exercise, None, "no exercise setting");
     check_lent(&rt, &settings, &mut [0x55; 2], &[0x33, 0x01], "enough")?;
     check_short(&rt, &settings, &mut [0x55; 1], &[0x33], "what fits");
+    Ok(())
+}
+
+#[test]
+fn a_longer_buffer_may_be_too_short_past_refused_memory(rt: HostRuntime) -> Result<(), AllocError> {
     let long = build(rt.alloc())?;
     let cut = &STEPS[..10];
     check_short(&rt, &long, &mut [0x55; 10], cut, "too short for the value");

@@ -54,10 +54,14 @@ fn check_setting<R: Abort + AllocGlobal>(
     Ok(())
 }
 
+/// The setting of a number that has one.
+fn known_setting_of(number: u64) -> Result<SettingId, Fail> {
+    Ok(setting_of(number)?.ok_or("no such setting")?)
+}
+
 /// Asserts the name of the setting of a number, and its number.
 fn check_name<R: Abort + AllocGlobal>(rt: &R, number: u64, name: &str) -> Result<(), Fail> {
-    let id = setting_of(number)?.ok_or("no such setting")?;
-    check_setting(rt, id, number, name)?;
+    check_setting(rt, known_setting_of(number)?, number, name)?;
     Ok(())
 }
 
@@ -178,16 +182,21 @@ fn the_size_of_field_sections_is_limited(rt: HostRuntime) -> Result<(), Fail> {
     Ok(())
 }
 
+/// Asserts what a listing prints after its first setting, and what a copy made before has left.
+fn check_left<R: Abort + AllocGlobal>(rt: &R, settings: &Settings) -> Result<(), Fail> {
+    let mut listed = settings.iter();
+    let left = listed.clone()?;
+    let _ = listed.next();
+    same(rt, left.len(), 3, "a copy");
+    let text = "{Exercise(33): 5, H3Datagram: 1}";
+    prints(rt, &listed, text, "those that are left")?;
+    Ok(())
+}
+
 #[test]
 fn settings_are_printed(rt: HostRuntime) -> Result<(), Fail> {
     let settings = answer(&rt, &[0x33, 0x01, 0x21, 0x05, 0x06, 0x07])?;
     let text = "Settings({MaxFieldSectionSize: 7, Exercise(33): 5, H3Datagram: 1})";
     prints(&rt, &settings, text, "settings")?;
-    let mut listed = settings.iter();
-    let left = listed.clone()?;
-    let _ = listed.next();
-    let text = "{Exercise(33): 5, H3Datagram: 1}";
-    prints(&rt, &listed, text, "those that are left")?;
-    same(&rt, left.len(), 3, "a copy");
-    Ok(())
+    check_left(&rt, &settings)
 }

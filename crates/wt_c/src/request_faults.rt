@@ -1,11 +1,12 @@
 //! The first fault of a request, by number and by name (RFC 9114, section 4.3.1; RFC 9220, section
 //! 3).
-ghost use Rattle.std.specs.Prelude.{◌≡◌, ◌≢◌, ◌⊎◌, ◌≤◌, ◌^◌, List, length, Ok, Err, MatchOption};
+ghost use Rattle.std.specs.Prelude.{◌≡◌, ◌≢◌, ◌⊎◌, ◌≤◌, ◌<◌, ◌^◌, List, length, Ok, Err};
+ghost use Rattle.std.specs.Prelude.{MatchOption};
 ghost use Rattle.wtp_core.specs.declared.error.ErrorCode.{ErrorCode};
 ghost use Rattle.wtp_core.specs.declared.error.Refused.TheVariants.{Code};
 ghost use Rattle.wtp_core.specs.ErrorCodes.{code_number};
 ghost use Rattle.wtp_fields.specs.Field.{Field};
-ghost use Rattle.wtp_fields.specs.Headers.{headers_at, BeginsLine};
+ghost use Rattle.wtp_fields.specs.Headers.{headers_at, BeginsLine, GivesUnlessRefused};
 ghost use Rattle.wtp_fields.specs.SessionRequest.{fault_of};
 ghost use Rattle.wtp_fields.specs.declared.session.HeadersParseError.{HeadersParseError};
 ghost use Rattle.wt_c.specs.Output.{Puts, Lacks};
@@ -77,6 +78,15 @@ fn first_fault(headers: Headers) -> i32
     }
 }
 
+/// Reads the fields of a field section, the payload of a HEADERS frame.
+fn read_headers(alloc: Global, section: &[u8]) -> Result<Headers, Refused>
+    requires { length section.now < 2 ^ 62 }
+    ensures read { GivesUnlessRefused result (headers_at section.now) }
+    ensures memory { result ≡ Err Refused.Memory → BeginsLine section.now }
+{
+    Headers::with_frame(alloc, &Frame::new_headers(CowSlice::Borrowed(section)))
+}
+
 /// Finds the first fault of the request in a field section, the payload of a HEADERS frame, in the
 /// order of the numbers.
 ///
@@ -105,7 +115,7 @@ pub extern "C" fn wt_request_fault(
     if section.len() as u64 > VarInt::MAX.into_inner() {
         return INVALID;
     }
-    match Headers::with_frame(alloc, &Frame::new_headers(CowSlice::Borrowed(section))) {
+    match read_headers(alloc, section) {
         Ok(headers) => {
             *fault = first_fault(headers);
             OK

@@ -10,7 +10,7 @@ ghost use Rattle.wtp_core.specs.Ids.{IsStatus, status_in};
 ghost use Rattle.wtp_wire.specs.Content.{HeadersOf};
 ghost use Rattle.wtp_wire.specs.Wire.{wire};
 ghost use Rattle.wtp_fields.specs.Field.{Field, field_value};
-ghost use Rattle.wtp_fields.specs.Headers.{payload, BeginsLine};
+ghost use Rattle.wtp_fields.specs.Headers.{payload, BeginsLine, GivesUnlessRefused};
 ghost use Rattle.wtp_fields.specs.SessionRequest.{request_at, request_in};
 ghost use Rattle.wtp_fields.specs.SessionResponse.{status_alone, status_value};
 ghost use Rattle.wtp_fields.specs.ResponseFrame.{ResponseIn};
@@ -28,6 +28,7 @@ use std::borrow::CowSlice;
 use wtp_core::error::Refused;
 use wtp_core::ids::StatusCode;
 use wtp_core::varint::VarInt;
+use wtp_fields::headers::Headers;
 use wtp_fields::session::{
     AddError, InsertError, SessionRequest, SessionResponse, UrlParseError, request_of_frame,
     response_of_frame,
@@ -160,6 +161,22 @@ fn request_for(alloc: Global, url: &[u8]) -> Result<SessionRequest, Unmade>
     }
 }
 
+/// Writes the HEADERS frame of a map to the start of `out`, as `write_frame` does. Returns `MEMORY`
+/// if allocation failed; then nothing changes.
+fn write_headers(alloc: Global, headers: &Headers, out: &mut [u8], used: &mut usize) -> i32
+    ensures answers { (result ≡ OK) ⊎ ((result ≡ ROOM) ⊎ (result ≡ MEMORY)) }
+    ensures frame { result ≡ OK
+        → Puts (wire (HeadersOf (payload headers.now))) out.old out.new used.new }
+    ensures room { result ≡ ROOM
+        → Lacks (wire (HeadersOf (payload headers.now))) out.old out.new used.new }
+    ensures memory { result ≡ MEMORY → (out.new ≡ out.old) × (used.new ≡ used.old) }
+{
+    match headers.generate_frame(alloc) {
+        Ok(frame) => write_frame(&frame, out, used),
+        Err(_) => MEMORY,
+    }
+}
+
 /// Writes the HEADERS frame of the request for the session at a URL, which has these fields too, to
 /// the start of `out` (RFC 9114, section 4.3.1).
 ///
@@ -198,10 +215,7 @@ pub extern "C" fn wt_request_write(
         Err(Unmade::Memory) => return refuse_request(fields, texts).answer(),
     };
     match insert_fields(&mut request, fields, texts) {
-        Ok(()) => match request.headers().generate_frame(alloc) {
-            Ok(frame) => write_frame(&frame, out, used),
-            Err(_) => MEMORY,
-        },
+        Ok(()) => write_headers(alloc, request.headers(), out, used),
         Err(Unmade::Invalid) => INVALID,
         Err(Unmade::Memory) => MEMORY,
     }
@@ -244,12 +258,18 @@ pub extern "C" fn wt_response_write(
         return refuse_response(fields, texts).answer();
     };
     match add_fields(&mut response, fields, texts) {
-        Ok(()) => match response.headers().generate_frame(alloc) {
-            Ok(frame) => write_frame(&frame, out, used),
-            Err(_) => MEMORY,
-        },
+        Ok(()) => write_headers(alloc, response.headers(), out, used),
         Err(reason) => reason.answer(),
     }
+}
+
+/// Reads the request of a field section, the payload of a HEADERS frame.
+fn read_request(alloc: Global, section: &[u8]) -> Result<SessionRequest, Refused>
+    requires { length section.now < 2 ^ 62 }
+    ensures read { GivesUnlessRefused result (request_in (HeadersOf section.now)) }
+    ensures memory { result ≡ Err Refused.Memory → BeginsLine section.now }
+{
+    request_of_frame(alloc, &Frame::new_headers(CowSlice::Borrowed(section)))
 }
 
 /// Reads the request in a field section, the payload of a HEADERS frame (RFC 9114, section 4.3.1;
@@ -289,7 +309,7 @@ pub extern "C" fn wt_request_read(
     if section.len() as u64 > VarInt::MAX.into_inner() {
         return INVALID;
     }
-    match request_of_frame(alloc, &Frame::new_headers(CowSlice::Borrowed(section))) {
+    match read_request(alloc, section) {
         Ok(request) => {
             let host = request.authority().as_bytes();
             *authority = host.len();
@@ -301,6 +321,15 @@ pub extern "C" fn wt_request_read(
         }
         Err(Refused::Memory) => MEMORY,
     }
+}
+
+/// Reads the response of a field section, the payload of a HEADERS frame.
+fn read_response(alloc: Global, section: &[u8]) -> Result<SessionResponse, Refused>
+    requires { length section.now < 2 ^ 62 }
+    ensures read { ResponseIn (HeadersOf section.now) result }
+    ensures memory { result ≡ Err Refused.Memory → BeginsLine section.now }
+{
+    response_of_frame(alloc, &Frame::new_headers(CowSlice::Borrowed(section)))
 }
 
 /// Reads the response in a field section, the payload of a HEADERS frame (RFC 9114, section 4.3.2).
@@ -330,7 +359,7 @@ pub extern "C" fn wt_response_read(
     if section.len() as u64 > VarInt::MAX.into_inner() {
         return INVALID;
     }
-    match response_of_frame(alloc, &Frame::new_headers(CowSlice::Borrowed(section))) {
+    match read_response(alloc, section) {
         Ok(response) => {
             *status = response.code().into_inner();
             OK

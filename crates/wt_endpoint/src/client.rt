@@ -1,6 +1,6 @@
 //! A client of WebTransport sessions.
 
-use crate::server::TURNS;
+use crate::server::{TURNS, send_headers};
 use anyhow::{Result, bail};
 use std::alloc::Global;
 use std::borrow::CowSlice;
@@ -9,17 +9,22 @@ use wtransport_proto::capsule::capsules::CloseWebTransportSession;
 use wtransport_proto::datagram::Datagram;
 use wtransport_proto::frame::{Frame, FrameOwned, FrameReading};
 use wtransport_proto::ids::{QStreamId, SessionId};
-use wtransport_proto::journey::send;
 use wtransport_proto::session::{SessionRequest, SessionResponse, response_of_frame};
 use wtransport_proto::stream::IoReadError;
 use wtransport_proto::stream::bilocal::StreamBiLocalQuic;
 use wtransport_proto::stream::session::StreamSession;
 
-/// Sends the request for a session at a URL, with an origin.
-pub fn request<W: AsyncWrite>(alloc: Global, url: &str, sink: &mut W) -> Result<StreamSession> {
+/// Returns the request for a session at a URL, with an origin.
+fn request_for(alloc: Global, url: &str) -> Result<SessionRequest> {
     let mut request = SessionRequest::new(alloc, url)?;
     request.insert("origin", "https://example.com")?;
-    send(&request.headers().generate_frame(alloc)?, sink, TURNS)?;
+    Ok(request)
+}
+
+/// Sends the request for a session at a URL.
+pub fn request<W: AsyncWrite>(alloc: Global, url: &str, sink: &mut W) -> Result<StreamSession> {
+    let request = request_for(alloc, url)?;
+    send_headers(alloc, request.headers(), sink)?;
     let stream = StreamBiLocalQuic::open_bi().upgrade();
     Ok(stream.into_session(request))
 }
@@ -46,12 +51,16 @@ fn response_in(alloc: Global, frame: Result<FrameOwned, IoReadError>) -> Result<
     Ok(response_of_frame(alloc, &frame?)?)
 }
 
-/// Closes a session with a code and a reason of the application: a capsule, in DATA frames of at
-/// most 5 bytes each.
+/// Closes a session with a code and a reason of the application: a capsule, in DATA frames.
 pub fn close<W: BytesWriter>(alloc: Global, code: u32, reason: &str, out: &mut W) -> Result<()> {
     let mut capsule = Vec::new(alloc);
     CloseWebTransportSession::new(alloc, code, reason)?.write(&mut capsule)?;
-    for piece in capsule.as_slice().chunks(5) {
+    write_data(capsule.as_slice(), out)
+}
+
+/// Writes DATA frames of at most 5 bytes each.
+fn write_data<W: BytesWriter>(data: &[u8], out: &mut W) -> Result<()> {
+    for piece in data.chunks(5) {
         Frame::new_data(CowSlice::Borrowed(piece)).write(out)?;
     }
     Ok(())

@@ -5,7 +5,7 @@ use wtransport_proto::stream;
 use wtransport_proto::varint::VarInt;
 
 /// What an endpoint closes.
-#[derive(Clone, Copy, Debug, PartialEq, Eq)]
+#[derive(Clone, Copy, Debug)]
 pub enum Closing {
     /// Nothing: the peer ended or reset the stream, or the connection is lost.
     Nothing,

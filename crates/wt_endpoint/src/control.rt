@@ -7,8 +7,9 @@ use anyhow::{Result, bail};
 use std::alloc::Global;
 use wtransport_proto::bytes::{AsyncRead, Polled, Stepped};
 use wtransport_proto::error::ErrorCode;
-use wtransport_proto::frame::{Frame, FrameKind, FrameReading};
+use wtransport_proto::frame::{FrameKind, FrameOwned, FrameReading};
 use wtransport_proto::settings::Settings;
+use wtransport_proto::stream::IoReadError;
 use wtransport_proto::stream::uniremote::{StreamUniRemoteH3, StreamUniRemoteQuic};
 use wtransport_proto::stream_header::StreamKind;
 
@@ -27,7 +28,7 @@ pub fn accept_unidirectional<S: AsyncRead>(source: &mut S) -> Result<StreamUniRe
 
 /// The peer's control stream. The ghost field keeps the condition of `read_frame_async` while it is
 /// polled.
-#[derive(Debug, Drop)]
+#[derive(Drop)]
 pub struct Control {
     stream: StreamUniRemoteH3,
     ghost readable: { CanRead stream },
@@ -51,7 +52,7 @@ impl Control {
         let mut reading = FrameReading::new(alloc);
         for _turn in 0..TURNS {
             match self.stream.read_frame_async(&mut reading, source) {
-                Polled::Ready(frame) => return settings_of(alloc, &frame?),
+                Polled::Ready(frame) => return settings_of(alloc, frame),
                 Polled::Pending | Polled::Again => {}
                 Polled::NoMemory => bail!("out of memory"),
             }
@@ -61,9 +62,10 @@ impl Control {
 }
 
 /// Returns the settings of the first frame of a control stream (RFC 9114, section 6.2.1).
-fn settings_of(alloc: Global, frame: &Frame<'_>) -> Result<Settings> {
+fn settings_of(alloc: Global, frame: Result<FrameOwned, IoReadError>) -> Result<Settings> {
+    let frame = frame?;
     if frame.kind() != FrameKind::Settings {
         return Err(ErrorCode::MissingSettings.into());
     }
-    Ok(Settings::with_frame(alloc, frame)?)
+    Ok(Settings::with_frame(alloc, &frame)?)
 }

@@ -27,33 +27,34 @@ use wtransport_proto::stream::session::StreamSession;
 
 fn main(rt: HostRuntime) -> Result<()> {
     let alloc = rt.alloc();
-    println!(rt; "settings")?;
+    print_heading(&rt, "settings")?;
     exchange_settings(&rt, alloc)?;
-    println!(rt; "requests")?;
-    let refused = request_session(&rt, alloc, "https://example.com/none")?;
-    let accepted = request_session(&rt, alloc, "https://example.com/chat")?;
-    if let (None, Some(mut session)) = (refused, accepted) {
-        let id = SessionId::try_from_varint(4u32.into())?;
-        println!(rt; "session {id}")?;
-        use_streams(&rt, alloc, id)?;
-        use_datagram(&rt, alloc, id)?;
-        close_session(&rt, alloc, &mut session)?;
-    }
-    println!(rt; "closed after")?;
+    print_heading(&rt, "requests")?;
+    request_sessions(&rt, alloc)?;
+    print_heading(&rt, "closed after")?;
     faults::print_each(&rt, alloc)?;
     Ok(())
+}
+
+/// Prints what the next lines are about.
+fn print_heading<R: Print>(rt: &R, heading: &str) -> io::Result<()> {
+    println!(rt; "{heading}")
 }
 
 /// The server sends its control stream, and the client reads it; the other way is the same.
 fn exchange_settings<R: Print>(rt: &R, alloc: Global) -> Result<()> {
     let mut sent = Vec::new(alloc);
     server::write_control(alloc, &mut sent)?;
-    let mut source = Incoming::new(sent.as_slice(), 2);
+    print_settings(rt, &read_settings(alloc, sent.as_slice())?)?;
+    Ok(())
+}
+
+/// The client reads the control stream of these bytes.
+fn read_settings(alloc: Global, sent: &[u8]) -> Result<Settings> {
+    let mut source = Incoming::new(sent, 2);
     let stream = control::accept_unidirectional(&mut source)?;
     let mut control = Control::new(stream).context("not a control stream")?;
-    let settings = control.read_settings(alloc, &mut source)?;
-    print_settings(rt, &settings)?;
-    Ok(())
+    control.read_settings(alloc, &mut source)
 }
 
 /// Prints each setting and its value.
@@ -62,6 +63,29 @@ fn print_settings<R: Print>(rt: &R, settings: &Settings) -> io::Result<()> {
         println!(rt; "  {id} = {value}")?;
     }
     Ok(())
+}
+
+/// The client requests two sessions. The server refuses the first, and both use the second.
+fn request_sessions<R: Print>(rt: &R, alloc: Global) -> Result<()> {
+    request_session(rt, alloc, "https://example.com/none")?;
+    match request_session(rt, alloc, "https://example.com/chat")? {
+        Some(mut session) => use_session(rt, alloc, &mut session),
+        None => bail!("no session"),
+    }
+}
+
+/// Both ends use a session, and close it.
+fn use_session<R: Print>(rt: &R, alloc: Global, session: &mut StreamSession) -> Result<()> {
+    let id = SessionId::try_from_varint(4u32.into())?;
+    print_session(rt, id)?;
+    use_streams(rt, alloc, id)?;
+    use_datagram(rt, alloc, id)?;
+    close_session(rt, alloc, session)
+}
+
+/// Prints the ID of a session.
+fn print_session<R: Print>(rt: &R, id: SessionId) -> io::Result<()> {
+    println!(rt; "session {id}")
 }
 
 /// The client requests a session, the server responds, and the client reads the response.

@@ -8,7 +8,7 @@ ghost use Rattle.wtransport_proto.specs.Sink.{Sink};
 use wtransport_proto::bytes::{AsyncRead, AsyncWrite, ReadStep, WriteStep};
 
 /// A source that gives at most so many bytes per call.
-#[derive(Debug, Drop)]
+#[derive(Drop)]
 pub struct Incoming<'a> {
     rest: &'a [u8],
     piece: usize,
@@ -74,7 +74,7 @@ impl AsyncRead for Incoming<'_> {
 }
 
 /// A sink that takes at most so many bytes per call.
-#[derive(Debug, Drop)]
+#[derive(Drop)]
 pub struct Outgoing {
     taken: Vec<u8>,
     piece: usize,

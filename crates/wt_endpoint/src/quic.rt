@@ -5,7 +5,7 @@ use std::alloc::Global;
 use wtransport_proto::bytes::{AsyncRead, AsyncWrite, ReadStep, WriteStep};
 
 /// Why a call of a QUIC library moved no bytes.
-#[derive(Clone, Copy, Debug, PartialEq, Eq)]
+#[derive(Clone, Copy, Debug)]
 pub enum QuicError {
     /// Nothing can be moved now. The library wakes this task once something can.
     WouldBlock,
@@ -28,7 +28,7 @@ pub trait SendStream {
 }
 
 /// A receiving stream as a source.
-#[derive(Debug, Drop)]
+#[derive(Drop)]
 pub struct QuicSource<T> {
     pub stream: T,
 }
@@ -48,7 +48,7 @@ impl<T: ReceiveStream> AsyncRead for QuicSource<T> {
 }
 
 /// A sending stream as a sink.
-#[derive(Debug, Drop)]
+#[derive(Drop)]
 pub struct QuicSink<T> {
     pub stream: T,
 }
@@ -68,7 +68,7 @@ impl<T: SendStream> AsyncWrite for QuicSink<T> {
 }
 
 /// A receiving stream whose bytes are in memory. It has at most 3 of them at a time.
-#[derive(Debug, Drop)]
+#[derive(Drop)]
 pub struct MemoryReceiver<'a> {
     bytes: &'a [u8],
     is_woken: bool,
@@ -99,7 +99,7 @@ impl ReceiveStream for MemoryReceiver<'_> {
 }
 
 /// A sending stream whose bytes stay in memory. It has room for at most 3 of them at a time.
-#[derive(Debug, Drop)]
+#[derive(Drop)]
 pub struct MemorySender {
     bytes: Vec<u8>,
     is_woken: bool,

@@ -1,11 +1,12 @@
 //! A server of WebTransport sessions.
 
 use anyhow::{Result, bail};
-use std::alloc::{AllocError, Global};
+use std::alloc::Global;
 use wtransport_proto::bytes::{AsyncRead, AsyncWrite};
 use wtransport_proto::datagram::Datagram;
 use wtransport_proto::frame::{Frame, FrameReading};
-use wtransport_proto::ids::SessionId;
+use wtransport_proto::headers::Headers;
+use wtransport_proto::ids::{SessionId, StatusCode};
 use wtransport_proto::journey::send;
 use wtransport_proto::session::{SessionRequest, SessionResponse, request_of_frame};
 use wtransport_proto::settings::Settings;
@@ -25,19 +26,18 @@ pub fn write_control(alloc: Global, out: &mut Vec<u8>) -> Result<()> {
         .enable_h3_datagrams()?
         .enable_webtransport()?
         .build();
-    let quic = StreamUniLocalQuic::open_uni();
-    let upgraded = quic.upgrade(StreamHeader::new_control(), out);
+    let upgraded = StreamUniLocalQuic::open_uni().upgrade(StreamHeader::new_control(), out);
     let mut stream = upgraded.map_err(|(_, error)| error)?;
     stream.write_frame(settings.generate_frame(alloc)?, out)?;
     Ok(())
 }
 
 /// A bidirectional stream that the peer opened.
-#[derive(Debug, Drop)]
+#[derive(Drop)]
 pub enum PeerStream {
-    /// A session is requested on it.
+    /// A request for a session.
     Request(StreamBiRemoteH3, SessionRequest),
-    /// It is a stream of a session: all bytes that follow are the application's.
+    /// A stream of a session: all bytes that follow are the application's.
     Stream(StreamBiRemoteWT),
 }
 
@@ -62,12 +62,22 @@ fn read_request(alloc: Global, stream: StreamBiRemoteH3, frame: &Frame<'_>) -> R
     Ok(PeerStream::Request(stream, request_of_frame(alloc, frame)?))
 }
 
+/// Sends the fields of a request or a response in a HEADERS frame.
+pub fn send_headers<W: AsyncWrite>(alloc: Global, headers: &Headers, sink: &mut W) -> Result<()> {
+    let frame = headers.generate_frame(alloc)?;
+    send(&frame, sink, TURNS)?;
+    Ok(())
+}
+
 /// Returns the response for a path.
-fn response_for(alloc: Global, path: &str) -> Result<SessionResponse, AllocError> {
-    match path {
-        "/chat" => SessionResponse::ok(alloc),
-        _ => SessionResponse::not_found(alloc),
-    }
+fn response_for(alloc: Global, path: &str) -> Result<SessionResponse> {
+    let code = match path {
+        "/chat" => StatusCode::OK,
+        _ => StatusCode::NOT_FOUND,
+    };
+    let mut response = SessionResponse::with_status_code(alloc, code)?;
+    response.add("server", "an endpoint")?;
+    Ok(response)
 }
 
 /// Responds to a request. Returns the session, unless the path is unknown.
@@ -77,9 +87,8 @@ pub fn respond<W: AsyncWrite>(
     request: SessionRequest,
     sink: &mut W,
 ) -> Result<Option<StreamSession>> {
-    let mut response = response_for(alloc, request.path())?;
-    response.add("server", "an endpoint")?;
-    send(&response.headers().generate_frame(alloc)?, sink, TURNS)?;
+    let response = response_for(alloc, request.path())?;
+    send_headers(alloc, response.headers(), sink)?;
     if !response.code().is_successful() {
         return Ok(None);
     }

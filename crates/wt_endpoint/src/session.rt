@@ -3,7 +3,7 @@
 use crate::server::TURNS;
 use anyhow::{Result, bail};
 use std::alloc::Global;
-use wtransport_proto::bytes::{AsyncRead, IoReadError};
+use wtransport_proto::bytes::{AsyncRead, IoReadError, Polled};
 use wtransport_proto::capsule::CapsuleReading;
 use wtransport_proto::capsule::capsules::CloseWebTransportSession;
 use wtransport_proto::frame::{FrameKind, FrameOwned, FrameReading};
@@ -21,24 +21,57 @@ pub fn read_close<S: AsyncRead>(
     let mut reading = FrameReading::new(alloc);
     let mut capsules = CapsuleReading::new(alloc);
     for _turn in 0..TURNS {
-        let mut frames = Vec::new(alloc);
-        let driven = drive(session, &mut reading, source, &mut frames, 16);
-        for frame in &frames {
-            if let Some(close) = close_in(alloc, &mut capsules, frame)? {
-                return Ok(Some(close));
-            }
-        }
-        match driven {
-            Driven::Waiting | Driven::Spent => {}
-            Driven::NoMemory => bail!("out of memory"),
-            Driven::Ended(stream::IoReadError::IO(IoReadError::ImmediateFin)) => {
-                capsules.finish()?;
-                return Ok(None);
-            }
-            Driven::Ended(fault) => return Err(fault.into()),
+        let polled = poll_close(alloc, session, &mut reading, &mut capsules, source)?;
+        if let Polled::Ready(close) = polled {
+            return Ok(close);
         }
     }
     bail!("the stream is not ready")
+}
+
+/// Polls the stream of a session. `Ready` has the close, or `None` if the stream has ended.
+fn poll_close<S: AsyncRead>(
+    alloc: Global,
+    session: &mut StreamSession,
+    reading: &mut FrameReading,
+    capsules: &mut CapsuleReading,
+    source: &mut S,
+) -> Result<Polled<Option<CloseWebTransportSession>>> {
+    let mut frames = Vec::new(alloc);
+    let driven = drive(session, reading, source, &mut frames, 16);
+    let close = first_close(alloc, capsules, frames.as_slice())?;
+    if close.is_some() || has_ended(driven, capsules)? {
+        return Ok(Polled::Ready(close));
+    }
+    Ok(Polled::Pending)
+}
+
+/// Returns whether the stream has ended. It may not end inside a capsule.
+fn has_ended(driven: Driven, capsules: &CapsuleReading) -> Result<bool> {
+    match driven {
+        Driven::Waiting | Driven::Spent => Ok(false),
+        Driven::NoMemory => bail!("out of memory"),
+        Driven::Ended(stream::IoReadError::IO(IoReadError::ImmediateFin)) => {
+            capsules.finish()?;
+            Ok(true)
+        }
+        Driven::Ended(fault) => Err(fault.into()),
+    }
+}
+
+/// Returns the first close that ends in one of these frames.
+fn first_close(
+    alloc: Global,
+    capsules: &mut CapsuleReading,
+    frames: &[FrameOwned],
+) -> Result<Option<CloseWebTransportSession>> {
+    for frame in frames {
+        let close = close_in(alloc, capsules, frame)?;
+        if close.is_some() {
+            return Ok(close);
+        }
+    }
+    Ok(None)
 }
 
 /// Returns the close that ends in this frame. Frames other than DATA have no capsules.
@@ -54,6 +87,5 @@ fn close_in(
     let Some(capsule) = capsules.next(&mut data)? else {
         return Ok(None);
     };
-    let close = CloseWebTransportSession::with_capsule(alloc, &capsule)?;
-    Ok(Some(close))
+    Ok(Some(CloseWebTransportSession::with_capsule(alloc, &capsule)?))
 }

@@ -120,25 +120,35 @@ pub fn command<'a>(alloc: Global) -> Result<Command<'a>, Error> {
 /// Returns what the arguments say.
 pub fn read_arguments<'a>(matches: &ArgMatches<'a>) -> Arguments<'a> {
     Arguments {
-        recorded: match matches.get_str("kind") {
-            Some("answer") => Recorded::Answer,
-            Some("uni") => Recorded::Uni,
-            Some("datagram") => Recorded::Datagram,
-            Some("capsules") => Recorded::Capsules,
-            Some("section") => Recorded::Section,
-            Some("settings") => Recorded::Settings,
-            _ => Recorded::Bi,
-        },
-        output: if matches.get_flag("json") {
-            Output::Json
-        } else if matches.get_flag("html") {
-            Output::Html
-        } else {
-            Output::Text
-        },
+        recorded: recorded_of(matches.get_str("kind")),
+        output: output_of(matches.get_flag("json"), matches.get_flag("html")),
         is_hex: matches.get_flag("hex"),
         is_open: matches.get_flag("open"),
         has_payload: matches.get_flag("payload"),
         file: matches.get_str("file"),
+    }
+}
+
+/// Returns what was recorded, by its name.
+fn recorded_of(name: Option<&str>) -> Recorded {
+    match name {
+        Some("answer") => Recorded::Answer,
+        Some("uni") => Recorded::Uni,
+        Some("datagram") => Recorded::Datagram,
+        Some("capsules") => Recorded::Capsules,
+        Some("section") => Recorded::Section,
+        Some("settings") => Recorded::Settings,
+        _ => Recorded::Bi,
+    }
+}
+
+/// Returns how an inspection is shown.
+fn output_of(json: bool, html: bool) -> Output {
+    if json {
+        Output::Json
+    } else if html {
+        Output::Html
+    } else {
+        Output::Text
     }
 }

@@ -30,30 +30,46 @@ pub fn read_hex(alloc: Global, text: &[u8]) -> Result<Vec<u8>, Failure> {
     let mut bytes = Vec::new(alloc);
     let mut half = None;
     for byte in text {
-        let digit = match *byte {
-            b'0'..=b'9' => *byte - b'0',
-            b'a'..=b'f' => *byte - b'a' + 10,
-            b'A'..=b'F' => *byte - b'A' + 10,
-            b' ' | b'\t' | b'\r' | b'\n' => continue,
-            // The 0 before an x begins no byte.
-            b'x' | b'X' if half == Some(0) => {
-                half = None;
-                continue;
-            }
-            _ => return Err(Failure::NotHex),
-        };
-        half = match half {
-            None => Some(digit),
-            Some(first) => {
-                bytes
-                    .push((first << 4) | digit)
-                    .map_err(|_| Failure::Memory)?;
-                None
-            }
-        };
+        half = take_byte(&mut bytes, half, *byte)?;
     }
     match half {
         None => Ok(bytes),
         Some(_) => Err(Failure::NotHex),
+    }
+}
+
+/// Takes the next byte of hexadecimal text, after this half of a byte. Returns the half that is left.
+fn take_byte(bytes: &mut Vec<u8>, half: Option<u8>, byte: u8) -> Result<Option<u8>, Failure> {
+    match byte {
+        b' ' | b'\t' | b'\r' | b'\n' => Ok(half),
+        // The 0 before an x begins no byte.
+        b'x' | b'X' if half == Some(0) => Ok(None),
+        _ => match digit_of(byte) {
+            Some(digit) => take_digit(bytes, half, digit),
+            None => Err(Failure::NotHex),
+        },
+    }
+}
+
+/// Takes the next digit, after this half of a byte. Returns the half that is left.
+fn take_digit(bytes: &mut Vec<u8>, half: Option<u8>, digit: u8) -> Result<Option<u8>, Failure> {
+    match half {
+        None => Ok(Some(digit)),
+        Some(first) => {
+            bytes
+                .push((first << 4) | digit)
+                .map_err(|_| Failure::Memory)?;
+            Ok(None)
+        }
+    }
+}
+
+/// Returns the value of a hexadecimal digit.
+fn digit_of(byte: u8) -> Option<u8> {
+    match byte {
+        b'0'..=b'9' => Some(byte - b'0'),
+        b'a'..=b'f' => Some(byte - b'a' + 10),
+        b'A'..=b'F' => Some(byte - b'A' + 10),
+        _ => None,
     }
 }

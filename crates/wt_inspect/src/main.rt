@@ -8,14 +8,14 @@ mod input;
 use crate::arguments::{Arguments, Output, command, read_arguments};
 use crate::failure::Failure;
 use crate::input::{read_all, read_hex};
-use std::alloc::Global;
+use std::alloc::{AllocError, Global};
 use std::io::{self, Write};
 use std::process::ExitCode;
 use std::{env, fs};
-use wt_inspection::html::write_html;
-use wt_inspection::json_lines::write_json;
-use wt_inspection::text::write_text;
-use wt_inspection::{End, inspect};
+use wt_inspection::{End, Inspection, inspect};
+use wt_inspection_views::html::write_html;
+use wt_inspection_views::json_lines::write_json;
+use wt_inspection_views::text::write_text;
 
 fn main(rt: HostRuntime) -> ExitCode {
     ExitCode::from(match run(&rt) {
@@ -72,13 +72,7 @@ fn read_input(
     alloc: Global,
     arguments: &Arguments<'_>,
 ) -> Result<Vec<u8>, Failure> {
-    let bytes = match arguments.file {
-        Some(path) => {
-            let mut file = fs::open(rt, path).map_err(|_| Failure::Open)?;
-            read_all(alloc, &mut file)?
-        }
-        None => read_all(alloc, &mut rt.stdin())?,
-    };
+    let bytes = read_bytes(rt, alloc, arguments.file)?;
     if arguments.is_hex {
         read_hex(alloc, bytes.as_slice())
     } else {
@@ -86,19 +80,45 @@ fn read_input(
     }
 }
 
+/// Returns the bytes of a file, or of standard input if there is none.
+fn read_bytes(rt: &HostRuntime, alloc: Global, file: Option<&str>) -> Result<Vec<u8>, Failure> {
+    match file {
+        Some(path) => {
+            let mut file = fs::open(rt, path).map_err(|_| Failure::Open)?;
+            read_all(alloc, &mut file)
+        }
+        None => read_all(alloc, &mut rt.stdin()),
+    }
+}
+
 /// Returns what is written of the bytes, and the status with which the program ends.
 fn show(alloc: Global, arguments: &Arguments<'_>, bytes: &[u8]) -> Result<(Vec<u8>, u8), Failure> {
     let inspection = inspect(alloc, arguments.recorded, bytes, arguments.is_open)?;
-    let text = match arguments.output {
+    let text = write_inspection(alloc, arguments, &inspection, bytes)?;
+    Ok((text, status_of(inspection.end)))
+}
+
+/// Returns what is written of the inspection of these bytes.
+fn write_inspection(
+    alloc: Global,
+    arguments: &Arguments<'_>,
+    inspection: &Inspection,
+    bytes: &[u8],
+) -> Result<Vec<u8>, AllocError> {
+    match arguments.output {
         Output::Text => {
-            write_text(alloc, &inspection, bytes, arguments.has_payload)?.into_bytes()
+            let text = write_text(alloc, inspection, bytes, arguments.has_payload)?;
+            Ok(text.into_bytes())
         }
-        Output::Json => write_json(alloc, &inspection, bytes, arguments.has_payload)?,
-        Output::Html => write_html(alloc, &inspection, bytes)?,
-    };
-    let status = match inspection.end {
+        Output::Json => write_json(alloc, inspection, bytes, arguments.has_payload),
+        Output::Html => write_html(alloc, inspection, bytes),
+    }
+}
+
+/// Returns the status of an inspection that ends so: 0, or 2 at a fault.
+fn status_of(end: End) -> u8 {
+    match end {
         End::Fault(_) => 2,
         End::Whole | End::Cut(_) => 0,
-    };
-    Ok((text, status))
+    }
 }

@@ -11,15 +11,15 @@ use Rattle.wt_inspection.specs.declared.capsules.Closing.TheVariants as closing-
 use Rattle.wt_inspection.specs.declared.item.capsule.CloseReason.{CloseReason}
 use Rattle.wt_inspection.specs.declared.reading.Next.TheVariants as next-is
 use Rattle.wt_inspection.specs.Recording.{Then, Closes, StopsWith}
-use Rattle.wt_inspection.specs.Recording.{IsClosing as ClosesSo}
-use Rattle.wt_inspection.specs.Walks.{IsClosing, Judges}
+use Rattle.wt_inspection.specs.Recording.{IsClosing}
+use Rattle.wt_inspection.specs.Walks.{JudgesClose, Judges}
 
 -- ---- what a capsule says
 
 pub judges_none : (bytes : List ℕ) → capsule_in bytes ≡ None → Judges (capsule_in bytes) closing-is.Other
 judges_none bytes e = rw e refl
 
-pub judges_some : (bytes : List ℕ) (capsule : CapsuleKind × List ℕ) (closing : Closing) → capsule_in bytes ≡ Some capsule → IsClosing (close_in capsule.1) closing → Judges (capsule_in bytes) closing
+pub judges_some : (bytes : List ℕ) (capsule : CapsuleKind × List ℕ) (closing : Closing) → capsule_in bytes ≡ Some capsule → JudgesClose (close_in capsule.1) closing → Judges (capsule_in bytes) closing
 judges_some bytes capsule closing e is = rw e is
 
 -- ---- what follows it
@@ -31,7 +31,7 @@ none_closes (Some capsule) h = absurd h
 pub closes_other : (bytes : List ℕ) → Judges (capsule_in bytes) closing-is.Other → Closes (capsule_in bytes) None (Ok next-is.Capsules)
 closes_other bytes h = none_closes (capsule_in bytes) h
 
-one_closes : (o : Option (ℕ × List ℕ)) (found : CloseReason) → IsClosing o (closing-is.Close found) → ClosesSo o (Some found) (Ok next-is.Capsules)
+one_closes : (o : Option (ℕ × List ℕ)) (found : CloseReason) → JudgesClose o (closing-is.Close found) → IsClosing o (Some found) (Ok next-is.Capsules)
 one_closes (Some close) found (code, reason) = (code, reason, refl)
 one_closes None found h = absurd h
 
@@ -42,7 +42,7 @@ good_closes (Some capsule) found h = one_closes (close_in capsule.1) found h
 pub closes_close : (bytes : List ℕ) (found : CloseReason) → Judges (capsule_in bytes) (closing-is.Close found) → Closes (capsule_in bytes) (Some found) (Ok next-is.Capsules)
 closes_close bytes found h = good_closes (capsule_in bytes) found h
 
-no_closes : (o : Option (ℕ × List ℕ)) (code : ErrorCode) (after : Then) → IsClosing o (closing-is.Bad code) → StopsWith code after → ClosesSo o None after
+no_closes : (o : Option (ℕ × List ℕ)) (code : ErrorCode) (after : Then) → JudgesClose o (closing-is.Bad code) → StopsWith code after → IsClosing o None after
 no_closes o code after (none, same) stops = rw none (refl, rw same at stops)
 
 bad_closes : (o : Option (CapsuleKind × List ℕ)) (code : ErrorCode) (after : Then) → Judges o (closing-is.Bad code) → StopsWith code after → Closes o None after

@@ -166,7 +166,7 @@ skipped n =
 -- ---- one item
 
 -- what the run finds at an item after which the reading goes on: the item's frame, if a stream does
--- not skip it, and then the run of the bytes behind it
+-- not skip it, and then the run of the bytes after it
 record Goes (role : StreamRole) (first : Bool) (bytes : List ℕ) (len : ℕ) (content : Content) (next : Next) (tail : Tail) : Type 0 where
   pub still : Bool
   pub on : next ≡ next-is.Frames role still

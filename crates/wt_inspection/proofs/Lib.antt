@@ -3,11 +3,8 @@ pub mod SectionLemmas
 pub mod SettingLemmas
 pub mod PairLemmas
 pub mod RecordingLemmas
-pub mod CleanLemmas
 pub mod ItemFrameLemmas
 pub mod ItemStopLemmas
 pub mod CapsuleLemmas
 pub mod WalkLemmas
 pub mod FlagLemmas
-pub mod JsonLemmas
-pub mod PageLemmas

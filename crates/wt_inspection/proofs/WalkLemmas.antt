@@ -45,7 +45,7 @@ use Rattle.wt_inspection.specs.declared.numbers.Pair.{Pair}
 use Rattle.wt_inspection.specs.DataCapsules.{Stage, Opening, Plain, Session, IsFirst, StartsCapsule, StartsCapsules, EndsWith}
 use Rattle.wt_inspection.specs.Pair.{pair_at}
 use Rattle.wt_inspection.specs.Recording.{Then, EndsStage, HasNoFrame, HasParts, Moves, MovesFrames, MovesNext, Takes, TakesData, TakesFrame, TakesWhole, is_data, is_whole, name_fault, still_first}
-use Rattle.wt_inspection.specs.Walks.{Keeps, HoldsPair, Holds, IsBad, IsClosing, IsStage, IsStageAt, IsWhole, Judges, Leads, LeadsAt, TakesPiece, Turned, is_too_long}
+use Rattle.wt_inspection.specs.Walks.{Keeps, HoldsPair, Holds, IsBad, JudgesClose, IsStage, IsStageAt, IsWhole, Judges, Leads, LeadsAt, TakesPiece, Turned, is_too_long}
 use Rattle.wt_inspection.proofs.PairLemmas.{Numbers, pair_numbers, some_is}
 
 -- ---- two numbers, as far as the bytes go
@@ -91,7 +91,7 @@ pair_few bytes e = elim (cases_lt (length bytes) (frame_need bytes)) [
       absurd (cc (e, two_numbers bytes (drop (varint_need bytes) bytes) _ a b first second))
 ]
 
--- one more byte completes both numbers, and nothing is behind them
+-- one more byte completes both numbers, and nothing comes after them
 pub pair_exact : (bytes front rest : List ℕ) (a b : ℕ) → pair_at bytes ≡ None → length front ≡ 1 → pair_at (bytes ++ front) ≡ Some (a, b, rest) → rest ≡ []
 pair_exact bytes front rest a b few one e =
     let (there, is) = pair_rest (bytes ++ front) rest a b e in
@@ -173,7 +173,7 @@ few_bytes came value n len e =
 
 abbrev pub JudgedTo : Option CapsuleKind → List ℕ → Closing → Type 0
 JudgedTo None value closing = closing ≡ closing-is.Other
-JudgedTo (Some kind) value closing = IsClosing (close_in value) closing
+JudgedTo (Some kind) value closing = JudgesClose (close_in value) closing
 
 judged : (came value held : List ℕ) (n len : ℕ) (kind : Option CapsuleKind) (closing : Closing) → capsule_kind_of n ≡ kind → pair_at came ≡ Some (n, len, value) → length value ≡ len → Keeps kind len held came → (kind ≡ None → closing ≡ closing-is.Other) → (IsSome kind → length held < 2 ^ 62 → Judges (capsule_in held) closing) → JudgedTo kind value closing
 judged came value held n len None closing k e size keeps none some = none refl

@@ -15,13 +15,13 @@ Says (Some close) (Some found) = (found.code ≡ close.0) × (string_bytes found
 Says (Some close) None = ⊥
 Says None found = ⊥
 
--- the first capsule has this close, if it has one, and these bytes are behind it
+-- the first capsule has this close, if it has one, and these bytes are after it
 abbrev pub IsFirst : CapsuleFront → Option CloseReason → List ℕ → Type 0
 IsFirst (Found kind value rest) close behind = Says (close_in value) close × (rest ≡ behind)
 IsFirst (Unknown rest) close behind = (close ≡ None) × (rest ≡ behind)
 IsFirst other close behind = ⊥
 
--- the bytes start with this capsule, and these bytes are behind it
+-- the bytes start with this capsule, and these bytes are after it
 pub record StartsCapsule (bytes : List ℕ) (c : CapsuleItem) (behind : List ℕ) : Type 0 where
   pub value : List ℕ
   pub numbers : pair_at bytes ≡ Some (c.number, c.announced, value)

@@ -7,7 +7,4 @@ pub mod Names
 pub mod DataCapsules
 pub mod Recording
 pub mod Walks
-pub mod Escaped
-pub mod Html
-pub mod JsonLines
 pub mod ItemFrames

@@ -65,14 +65,14 @@ Turned (turn-is.Done item) walk bytes = IsWhole bytes item × Holds walk []
 Turned (turn-is.Fault fault) walk bytes = IsBad bytes fault
 
 -- what a complete capsule of a known kind is
-abbrev pub IsClosing : Option (ℕ × List ℕ) → Closing → Type 0
-IsClosing found closing-is.Other = ⊥
-IsClosing found (closing-is.Close reason) = Says found (Some reason)
-IsClosing found (closing-is.Bad code) = (found ≡ None) × (code ≡ Datagram)
+abbrev pub JudgesClose : Option (ℕ × List ℕ) → Closing → Type 0
+JudgesClose found closing-is.Other = ⊥
+JudgesClose found (closing-is.Close reason) = Says found (Some reason)
+JudgesClose found (closing-is.Bad code) = (found ≡ None) × (code ≡ Datagram)
 
 -- the same of a capsule that may be of another type
 abbrev pub Judges : Option (CapsuleKind × List ℕ) → Closing → Type 0
-Judges (Some capsule) closing = IsClosing (close_in capsule.1) closing
+Judges (Some capsule) closing = JudgesClose (close_in capsule.1) closing
 Judges None closing = closing ≡ closing-is.Other
 
 -- ---- a piece of data

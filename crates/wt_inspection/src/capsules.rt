@@ -4,7 +4,7 @@ ghost use Rattle.wtransport_proto.specs.Capsule.{capsule_in, capsule_kind_of};
 ghost use Rattle.wtransport_proto.specs.CloseSession.{close_in};
 ghost use Rattle.wt_inspection.specs.Pair.{pair_at};
 ghost use Rattle.wt_inspection.specs.Recording.{Closes, IsNext};
-ghost use Rattle.wt_inspection.specs.Walks.{Fits, Holds, IsClosing, Judges, Keeps, TakesPiece, Turned, is_too_long};
+ghost use Rattle.wt_inspection.specs.Walks.{Fits, Holds, JudgesClose, Judges, Keeps, TakesPiece, Turned, is_too_long};
 
 use crate::item::{CapsuleItem, CloseReason, Content, Cut, End, Fault};
 use crate::numbers::{Pair, first_pair, missing_of_pair};
@@ -400,7 +400,7 @@ fn closing_of(alloc: Global, bytes: &[u8]) -> Result<Closing, AllocError>
 
 /// Returns what a close capsule says of its session.
 fn closing_in(alloc: Global, capsule: &Capsule<'_>) -> Result<Closing, AllocError>
-    ensures { IfOk result (λ closing. IsClosing (close_in capsule.now.1) closing) }
+    ensures { IfOk result (λ closing. JudgesClose (close_in capsule.now.1) closing) }
 {
     match CloseWebTransportSession::with_capsule(alloc, capsule) {
         Ok(close) => Ok(Closing::Close(reason_of(alloc, &close)?)),

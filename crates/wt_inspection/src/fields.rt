@@ -124,13 +124,14 @@ fn insert_count_of(bytes: &[u8]) -> Option<u64> {
     }
     let mut count = 255u64;
     let mut scale = 1u64;
+    // 255 and four groups of 7 bits are below 2^29, so nothing here saturates.
     for k in 1..5 {
         let group = *bytes.get(k)?;
-        count = count.checked_add(u64::from(group % 128).checked_mul(scale)?)?;
+        count = count.saturating_add(u64::from(group % 128).saturating_mul(scale));
         if group < 128 {
             return Some(count);
         }
-        scale = scale.checked_mul(128)?;
+        scale = scale.saturating_mul(128);
     }
     None
 }

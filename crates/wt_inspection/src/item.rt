@@ -34,18 +34,6 @@ pub struct Item {
     pub content: Content,
 }
 
-impl Item {
-    /// Splits warnings, in order of their places, behind those about this item. The first must not
-    /// be about an earlier one.
-    pub(crate) fn split_warnings<'a>(
-        &self,
-        warnings: &'a [Warning],
-    ) -> (&'a [Warning], &'a [Warning]) {
-        let end = self.at.saturating_add(self.length);
-        warnings.split_at(warnings.partition_point(|warning| warning.at < end))
-    }
-}
-
 /// What the bytes of an item are.
 #[derive(Drop)]
 pub enum Content {

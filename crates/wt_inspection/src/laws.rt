@@ -13,7 +13,7 @@ ghost use Rattle.wt_inspection.specs.declared.item.Item.{Item};
 ghost use Rattle.wt_inspection.specs.declared.reading.Next.TheVariants.{Frames};
 
 /// As long as the reading goes on, the frames of the items are the frames with which the run of
-/// the bytes begins, and the run of the bytes behind them follows. The payloads that a stream reads
+/// the bytes begins, and the run of the bytes after them follows. The payloads that a stream reads
 /// must be within its limit.
 pub fn frames_are_those_of_the_run()
     ensures { (items : List Item) (role : StreamRole) (first still : Bool) (stage final : Stage)

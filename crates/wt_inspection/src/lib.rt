@@ -9,30 +9,17 @@
 #![tactic(auto)]
 
 mod capsules;
-pub mod escaped;
 mod fields;
 mod frames;
-pub mod html;
 pub mod item;
-pub mod json_lines;
 mod kinds;
 pub mod laws;
 mod message;
 mod numbers;
-pub mod plain;
 mod reading;
 mod settings;
-pub mod text;
 mod tiling;
 
 pub use item::{Content, End, Inspection, Item};
 pub use kinds::inspect;
 pub use reading::Recorded;
-
-/// Returns these bytes of the input, or none if they are not all there.
-pub(crate) fn bytes_of(bytes: &[u8], at: usize, length: usize) -> &[u8] {
-    match bytes.get(at..) {
-        Some(rest) if length <= rest.len() => &rest[..length],
-        _ => &[],
-    }
-}

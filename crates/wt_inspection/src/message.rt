@@ -15,7 +15,7 @@ use crate::reading::{Next, Phase, Reading, Recorded};
 use std::alloc::{AllocError, Global};
 
 /// What a field section belongs to.
-#[derive(Clone, Copy, Debug, PartialEq, Eq)]
+#[derive(Clone, Copy, PartialEq, Eq)]
 pub(crate) enum Purpose {
     /// The header section of a request.
     Request,

@@ -31,7 +31,7 @@ pub enum Recorded {
 }
 
 /// What the next bytes are.
-#[derive(Clone, Copy, PartialEq, Eq)]
+#[derive(Clone, Copy)]
 pub enum Next {
     /// The type of a unidirectional stream.
     Head,

@@ -33,6 +33,17 @@ gains_bytes held buf part rest at n a b c g within fits some asks moved waits =
     let shape : take (at + n) new ≡ take at buf ++ take n part = take-add at n new ∙ ap (λ l. l ++ take n (drop at new)) (front_stays at buf (part ++ rest) within) ∙ ap (λ l. take at buf ++ l) behind in
     rw shape (gains_more held (take at buf) (take n part) a b c g asks moved (omega arith) (omega (arith, length-take n part)))
 
+-- a call moved nothing, and what the buffer holds after the first `at` bytes does not matter
+pub gains_none : (held buf part rest : List ℕ) (at : ℕ) (a b c : Source) → Gains held (take at buf) a b 0 → at ≤ length buf → AsksOnce b c → c.ahead ≡ b.ahead → b.waits ≤ c.waits → Gains held (take at (take at buf ++ (part ++ rest))) a c 1
+gains_none held buf part rest at a b c g within asks same waits =
+    rw (front_stays at buf (part ++ rest) within) (record {
+      kept = g.kept ∙ ap (λ l. take at buf ++ l) (sym same);
+      ending = asks.ending ∙ g.ending;
+      asked = let one = asks.asked in let before = g.asked in omega arith;
+      no_less = let one = asks.no_less in let before = g.no_less in omega arith;
+      waits = let before = g.waits in omega arith;
+    })
+
 pub gains_then : (x y y' z z' : List ℕ) (a b c : Source) (extra : ℕ) → Gains x y a b 0 → Gains y' z b c extra → y' ≡ y → z' ≡ z → Gains x z' a c extra
 gains_then x y y' z z' a b c extra p q same shown = record {
   kept = p.kept ∙ ap (λ l. l ++ b.ahead) (sym same) ∙ q.kept ∙ ap (λ l. l ++ c.ahead) (sym shown);

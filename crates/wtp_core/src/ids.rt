@@ -391,8 +391,7 @@ impl fmt::Debug for StreamId {
     ghost debug_output = { λ id. Some (decimal id) };
 
     fn fmt<W: fmt::Write>(&self, f: &mut fmt::Formatter<W>) -> fmt::Result {
-        let number = self.into_u64();
-        write!(f, "{number}")
+        fmt::Display::fmt(self, f)
     }
 }
 
@@ -415,8 +414,7 @@ impl fmt::Debug for SessionId {
     ghost debug_output = { λ id. Some (decimal id) };
 
     fn fmt<W: fmt::Write>(&self, f: &mut fmt::Formatter<W>) -> fmt::Result {
-        let number = self.into_u64();
-        write!(f, "{number}")
+        fmt::Display::fmt(self, f)
     }
 }
 
@@ -439,8 +437,7 @@ impl fmt::Debug for QStreamId {
     ghost debug_output = { λ id. Some (decimal id) };
 
     fn fmt<W: fmt::Write>(&self, f: &mut fmt::Formatter<W>) -> fmt::Result {
-        let number = self.into_u64();
-        write!(f, "{number}")
+        fmt::Display::fmt(self, f)
     }
 }
 
@@ -463,7 +460,6 @@ impl fmt::Debug for StatusCode {
     ghost debug_output = { λ id. Some (decimal id) };
 
     fn fmt<W: fmt::Write>(&self, f: &mut fmt::Formatter<W>) -> fmt::Result {
-        let number = self.into_inner();
-        write!(f, "{number}")
+        fmt::Display::fmt(self, f)
     }
 }

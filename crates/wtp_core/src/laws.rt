@@ -154,7 +154,11 @@ pub fn committed_child_moves_parent<'a, P: ParentReader<'a>>(
     ensures whole { P.whole reader.new ≡ P.whole reader.old }
 {
     let mut child = reader.child();
-    child.skip(len)?;
-    child.commit();
-    Ok(())
+    match child.skip(len) {
+        Ok(()) => {
+            child.commit();
+            Ok(())
+        }
+        Err(fault) => Err(fault),
+    }
 }

@@ -218,7 +218,6 @@ impl fmt::Debug for VarInt {
     ghost debug_output = { λ v. Some (decimal v) };
 
     fn fmt<W: fmt::Write>(&self, f: &mut fmt::Formatter<W>) -> fmt::Result {
-        let value = self.value;
-        write!(f, "{value}")
+        fmt::Display::fmt(self, f)
     }
 }

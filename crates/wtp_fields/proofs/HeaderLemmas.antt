@@ -15,8 +15,8 @@ use Rattle.std.specs.Str.{bytes_eq}
 use Rattle.std.specs.String.{string_cmp}
 use Rattle.std.specs.declared.cmp.Ordering.{Ordering}
 use Rattle.std.specs.declared.cmp.Ordering.TheVariants.{Less, Equal, Greater}
-use Rattle.wtp_fields.specs.Field.{Field, IsText, AreTexts, IsMap, field_of, fields_of_texts, put, field_map, field_value}
-use Rattle.wtp_fields.proofs.SectionReading.{map_push}
+use Rattle.wtp_qpack.specs.Field.{Field, IsText, AreTexts, IsMap, field_of, fields_of_texts, put, field_map, field_value}
+use Rattle.wtp_qpack.proofs.SectionReading.{map_push}
 
 -- ---- the value of a name
 

@@ -2,12 +2,12 @@
 use Rattle.std.proofs.Common.{◌≡◌, ℕ, Bool, true, false, not, cond, List, [], ◌∷◌, ◌++◌, filter, refl, sym, ◌∙◌, ap, Ok}
 use Rattle.std.proofs.lemmas.Grind.{fold-append, flat_map-append}
 use Rattle.std.specs.List.{fold}
-use Rattle.wtp_fields.specs.Field.{Field, AreTexts, IsMap, put, field_map}
-use Rattle.wtp_fields.specs.FieldLine.{encoded_line}
-use Rattle.wtp_fields.specs.FieldSection.{map_at, section_of}
+use Rattle.wtp_qpack.specs.Field.{Field, AreTexts, IsMap, put, field_map}
+use Rattle.wtp_qpack.specs.FieldLine.{encoded_line}
+use Rattle.wtp_qpack.specs.FieldSection.{map_at, section_of}
 use Rattle.wtp_fields.specs.Headers.{is_pseudo, sent_order, payload, group_lines}
-use Rattle.wtp_fields.proofs.FieldMaps.{Below, Ascends, ascends_from, put_first, fold_after, built}
-use Rattle.wtp_fields.proofs.RoundTrip.{section_again}
+use Rattle.wtp_qpack.proofs.FieldMaps.{Below, Ascends, ascends_from, put_first, fold_after, built}
+use Rattle.wtp_qpack.proofs.RoundTrip.{section_again}
 
 -- an empty prefix and the two groups are the payload
 pub payload_written : (m : List Field) (one two three : List ℕ) → one ≡ 0 ∷ 0 ∷ [] → two ≡ one ++ group_lines true m → three ≡ two ++ group_lines false m → three ≡ payload m

@@ -9,9 +9,9 @@ use Rattle.url.specs.Parts.{Parts, text_between}
 use Rattle.url.specs.declared.slicing.Position.TheVariants.{BeforeUsername, AfterPort}
 use Rattle.wtp_fields.specs.declared.session.HeadersParseError.{HeadersParseError}
 use Rattle.wtp_fields.specs.declared.session.HeadersParseError.TheVariants.{MissingMethod, MethodNotConnect, MissingScheme, SchemeNotHttps, MissingProtocol, ProtocolNotWebTransport, MissingAuthority, MissingPath}
-use Rattle.wtp_fields.specs.Field.{Field, put, field_value}
+use Rattle.wtp_qpack.specs.Field.{Field, put, field_value}
 use Rattle.wtp_fields.specs.SessionRequest.{reserved_names, is_reserved_name, fault_unless, fault_without, first_fault, fault_of, authority_of, five_fields}
-use Rattle.wtp_fields.proofs.FieldMaps.{map_last, value_put}
+use Rattle.wtp_qpack.proofs.FieldMaps.{map_last, value_put}
 use Rattle.wtp_fields.proofs.HeaderLemmas.{eq_turned}
 
 -- ---- no fault

@@ -5,9 +5,9 @@ use Rattle.std.specs.Result.{OkIff}
 use Rattle.std.specs.Str.{bytes_eq}
 use Rattle.std.specs.Str.Parse.{without_leading_plus}
 use Rattle.wtp_core.specs.Ids.{IsStatus, IsStatusText, status_in}
-use Rattle.wtp_fields.specs.Field.{Field, put}
+use Rattle.wtp_qpack.specs.Field.{Field, put}
 use Rattle.wtp_fields.specs.SessionResponse.{status_value, HasStatus}
-use Rattle.wtp_fields.proofs.FieldMaps.{value_put}
+use Rattle.wtp_qpack.proofs.FieldMaps.{value_put}
 
 -- ---- the status of a map
 

@@ -5,10 +5,10 @@ use Rattle.std.specs.List.{flat_map}
 use Rattle.wtp_core.specs.declared.error.ErrorCode.TheVariants.{Decompression}
 use Rattle.wtp_core.specs.declared.error.Refused.{Refused}
 use Rattle.wtp_core.specs.declared.error.Refused.TheVariants.{Code, Memory}
-use Rattle.wtp_fields.specs.declared.qpack.DecodingError.{DecodingError}
-use Rattle.wtp_fields.specs.Field.{Field}
-use Rattle.wtp_fields.specs.FieldLine.{encoded_line}
-use Rattle.wtp_fields.specs.FieldSection.{after_prefix, AreLines, map_at, section_of}
+use Rattle.wtp_qpack.specs.declared.qpack.DecodingError.{DecodingError}
+use Rattle.wtp_qpack.specs.Field.{Field}
+use Rattle.wtp_qpack.specs.FieldLine.{encoded_line}
+use Rattle.wtp_qpack.specs.FieldSection.{after_prefix, AreLines, map_at, section_of}
 
 abbrev pub begins_with_colon : List ℕ → Bool
 begins_with_colon [] = false

@@ -5,7 +5,7 @@ use Rattle.wtp_core.specs.declared.error.Refused.{Refused}
 use Rattle.wtp_core.specs.declared.error.Refused.TheVariants.{Code, Memory}
 use Rattle.wtp_wire.specs.declared.frame.kind.FrameKind.TheVariants.{Headers}
 use Rattle.wtp_wire.specs.Content.{Content, PlainOf}
-use Rattle.wtp_fields.specs.Field.{Field}
+use Rattle.wtp_qpack.specs.Field.{Field}
 use Rattle.wtp_fields.specs.Headers.{headers_at}
 use Rattle.wtp_fields.specs.SessionResponse.{HasStatus}
 

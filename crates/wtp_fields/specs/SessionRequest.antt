@@ -26,7 +26,7 @@ use Rattle.wtp_fields.specs.declared.session.HeadersParseError.TheVariants.{Miss
 use Rattle.wtp_fields.specs.declared.session.HeadersParseError.TheVariants.{MissingPath}
 use Rattle.wtp_fields.specs.declared.session.request.UrlParseError.{UrlParseError}
 use Rattle.wtp_fields.specs.declared.session.request.UrlParseError.TheVariants as answered
-use Rattle.wtp_fields.specs.Field.{Field, field_map, field_value}
+use Rattle.wtp_qpack.specs.Field.{Field, field_map, field_value}
 use Rattle.wtp_fields.specs.Headers.{headers_at}
 
 -- ---- the fields that a request must have

@@ -6,7 +6,7 @@ use Rattle.wtp_fields.specs.declared.session.HeadersParseError.{HeadersParseErro
 use Rattle.wtp_fields.specs.declared.session.HeadersParseError.TheVariants.{MissingStatusCode}
 use Rattle.wtp_fields.specs.declared.session.HeadersParseError.TheVariants.{InvalidStatusCode}
 use Rattle.wtp_fields.specs.declared.session.HeadersParseError.TheVariants.{Memory}
-use Rattle.wtp_fields.specs.Field.{Field, field_value}
+use Rattle.wtp_qpack.specs.Field.{Field, field_value}
 
 -- the text of the status, if there is one
 abbrev pub status_value : List Field → Option (List ℕ)

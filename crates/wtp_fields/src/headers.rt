@@ -5,18 +5,19 @@ ghost use Rattle.std.specs.Borrow.{Bor};
 ghost use Rattle.std.specs.Option.{option_copied};
 ghost use Rattle.std.specs.Iterator.{IsFinite, Drains};
 ghost use Rattle.wtp_wire.specs.Content.{payload_in, kind_in, HeadersOf};
-ghost use Rattle.wtp_fields.specs.Field.{IsMap, AreTexts, put, field_map, field_value, fields_of};
-ghost use Rattle.wtp_fields.specs.Field.{fields_of_texts};
+ghost use Rattle.wtp_qpack.specs.Field.{IsMap, AreTexts, put, field_map, field_value, fields_of};
+ghost use Rattle.wtp_qpack.specs.Field.{fields_of_texts};
 ghost use Rattle.wtp_fields.specs.Headers.{payload, headers_at, GivesUnlessRefused, BeginsLine};
 ghost use Rattle.wtp_fields.specs.Headers.{begins_with_colon, group_lines};
 
-use crate::qpack::{Decoder, DecodingError, field_line, field_section};
 use std::alloc::{AllocError, Global};
 use std::borrow::CowSlice;
 use std::collections::BTreeMap;
 use std::marker::Model;
 use wtp_core::error::{ErrorCode, Refused};
 use wtp_core::varint::VarInt;
+use wtp_qpack::qpack::{Decoder, DecodingError};
+use wtp_qpack::section;
 use wtp_wire::frame::{Frame, FrameKind, FrameOwned, GenerateError};
 
 /// A map of header fields: one value for each name, both UTF-8 texts.
@@ -30,7 +31,7 @@ pub struct Headers {
 // Contracts treat a map as its fields, names and values as bytes, in the byte order of the names.
 impl Model for Headers {
     ghost use Rattle.std.specs.Prelude.{List};
-    ghost use Rattle.wtp_fields.specs.Field.{Field, fields_of};
+    ghost use Rattle.wtp_qpack.specs.Field.{Field, fields_of};
 
     ghost Value = { List Field };
 
@@ -173,7 +174,7 @@ fn write_group(
 {
     for (name, value) in fields {
         if is_pseudo(name.as_str()) == pseudo {
-            field_line::write(out, name.as_str(), value.as_str())?;
+            section::write_line(out, name.as_str(), value.as_str())?;
         }
     }
     Ok(())
@@ -184,7 +185,7 @@ fn write_group(
 fn encode_payload(alloc: Global, fields: &BTreeMap<String, String>) -> Result<Vec<u8>, AllocError>
     ensures { IfOk result (λ v. v.items ≡ payload (fields_of fields.now)) }
 {
-    let mut out = field_section::empty_prefix(alloc)?;
+    let mut out = section::empty_prefix(alloc)?;
     write_group(&mut out, fields, true)?;
     write_group(&mut out, fields, false)?;
     Ok(out)

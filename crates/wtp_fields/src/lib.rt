@@ -1,10 +1,11 @@
-//! Header fields of HTTP/3: Huffman text, field sections, header maps, and the messages of
-//! sessions.
+//! Header maps of HTTP/3, and the messages of sessions. The Huffman text and the field sections
+//! that they are encoded in are passed on from the crates below.
 #![tactic(auto)]
 
 mod codes;
 pub mod headers;
 pub mod huffman;
 pub mod laws;
-pub mod qpack;
 pub mod session;
+
+pub use wtp_qpack::qpack;

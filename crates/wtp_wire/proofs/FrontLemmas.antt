@@ -56,16 +56,16 @@ second-plain kind n plain h = rw (le-ltb 4096 n h) refl
 
 -- ---- what follows it
 
-after-payload : (kind : FrameKind) (n : ℕ) (payload rest bytes : List ℕ) → bytes_at n bytes ≡ Some (payload, rest) → front_after (announces.Payload kind n) bytes ≡ Framed (PlainOf kind payload) rest
+pub after-payload : (kind : FrameKind) (n : ℕ) (payload rest bytes : List ℕ) → bytes_at n bytes ≡ Some (payload, rest) → front_after (announces.Payload kind n) bytes ≡ Framed (PlainOf kind payload) rest
 after-payload kind n payload rest bytes e = rw e refl
 
-after-skip : (n : ℕ) (payload rest bytes : List ℕ) → bytes_at n bytes ≡ Some (payload, rest) → front_after (announces.Skip n) bytes ≡ Unknown rest
+pub after-skip : (n : ℕ) (payload rest bytes : List ℕ) → bytes_at n bytes ≡ Some (payload, rest) → front_after (announces.Skip n) bytes ≡ Unknown rest
 after-skip n payload rest bytes e = rw e refl
 
-after_payload-cut : (kind : FrameKind) (n : ℕ) (bytes : List ℕ) → bytes_at n bytes ≡ None → front_after (announces.Payload kind n) bytes ≡ Short
+pub after_payload-cut : (kind : FrameKind) (n : ℕ) (bytes : List ℕ) → bytes_at n bytes ≡ None → front_after (announces.Payload kind n) bytes ≡ Short
 after_payload-cut kind n bytes e = rw e refl
 
-after_skip-cut : (n : ℕ) (bytes : List ℕ) → bytes_at n bytes ≡ None → front_after (announces.Skip n) bytes ≡ Short
+pub after_skip-cut : (n : ℕ) (bytes : List ℕ) → bytes_at n bytes ≡ None → front_after (announces.Skip n) bytes ≡ Short
 after_skip-cut n bytes e = rw e refl
 
 -- ---- what starts with a case is computed as that case

@@ -49,6 +49,10 @@ close_value c = to_be_bytes w32 c.0 ++ c.1
 abbrev pub close_parts : ℕ × List ℕ → List (List ℕ)
 close_parts c = shortest 0x2843 ∷ shortest (4 + length c.1) ∷ to_be_bytes w32 c.0 ∷ c.1 ∷ []
 
+-- the parts of the payload
+abbrev pub payload_parts : ℕ × List ℕ → List (List ℕ)
+payload_parts c = to_be_bytes w32 c.0 ∷ c.1 ∷ []
+
 -- the bytes of the capsule: each number in its shortest encoding
 abbrev pub close_wire : ℕ × List ℕ → List ℕ
 close_wire c = joined (close_parts c)

@@ -6,7 +6,7 @@ ghost use Rattle.wtp_core.specs.Cursor.{left_of, whole_of};
 ghost use Rattle.wtp_core.specs.BufferWriter.{room_in, loan_of, IsUnwritten, Wrote};
 
 mod body;
-mod head;
+pub(crate) mod head;
 mod kind;
 pub mod reading;
 mod short;
@@ -14,7 +14,7 @@ mod whole;
 pub mod writing;
 
 use crate::frame::body::Body;
-use crate::frame::head::{Announcement, classify_head};
+use crate::frame::head::{Announcement, get_head};
 pub use crate::frame::kind::FrameKind;
 use crate::frame::kind::KindNumber;
 pub use reading::{FrameReading, IoReadError};
@@ -90,8 +90,9 @@ impl fmt::Debug for Frame<'_> {
 impl<'a> Frame<'a> {
     ghost use Rattle.std.specs.Cow.{cow_slice_items};
     ghost use Rattle.wtp_wire.specs.Content.{kind_in, payload_in, session_in, DataOf, HeadersOf, SettingsOf, WebTransportOf, ExerciseOf};
-    ghost use Rattle.wtp_wire.specs.Kind.{IsKnown, is_exercise};
-    ghost use Rattle.wtp_wire.specs.Front.{front};
+    ghost use Rattle.wtp_wire.specs.Kind.{IsKnown, is_exercise, kind_of};
+    ghost use Rattle.wtp_wire.specs.FrameHead.{AnnouncesKind};
+    ghost use Rattle.wtp_wire.specs.Front.{front, front_after};
     ghost use Rattle.wtp_wire.specs.FrameReading.{Answers, AnswersWhole};
     ghost use Rattle.wtp_wire.specs.Wire.{parts_of, wire, IsReadable};
 
@@ -156,7 +157,6 @@ impl<'a> Frame<'a> {
     }
 
     /// Returns the kind.
-    #[tactic(auto, using(crate::proofs::ContentLemmas::fields))]
     pub fn kind(&self) -> FrameKind
         ensures kind { result ≡ kind_in self.now }
         ensures known { IsKnown result }
@@ -166,7 +166,6 @@ impl<'a> Frame<'a> {
     }
 
     /// Returns the payload, which is empty for a WebTransport frame.
-    #[tactic(auto, using(crate::proofs::ContentLemmas::fields))]
     pub fn payload(&self) -> &[u8]
         ensures payload { result.now ≡ payload_in self.now }
         ensures fits { length result.now < 2 ^ 62 }
@@ -175,7 +174,6 @@ impl<'a> Frame<'a> {
     }
 
     /// Returns the session, if the kind is WebTransport.
-    #[tactic(auto, using(crate::proofs::ContentLemmas::fields))]
     pub fn session_id(&self) -> Option<SessionId>
         ensures { result ≡ session_in self.now }
     {
@@ -192,28 +190,38 @@ impl<'a> Frame<'a> {
     /// - `PayloadTooBig`: another type and a length above 4096 were read; the payload is not looked
     ///   for.
     #[inline(always)]
-    #[tactic(auto, using(wtp_core::proofs::RestLemmas::rests), unfolding(crate::specs::Front::front, crate::specs::FrameHead::head_at))]
     pub fn read<R: BytesReader<'a>>(reader: &mut R) -> Result<Option<Self>, ParseError>
         ensures answer { Answers (front (R.left reader.old)) result (R.left reader.new) }
         ensures rest { IsRest (R.left reader.new) (R.left reader.old) }
         ensures kept { R.kept reader.new ≡ R.kept reader.old }
     {
-        let Some(id) = reader.get_varint() else {
-            return Ok(None);
-        };
-        let Some(number) = reader.get_varint() else {
-            return Ok(None);
-        };
-        match classify_head(id, number) {
-            Announcement::Payload(kind, size) => {
-                let Some(payload) = reader.get_bytes(size as usize) else {
-                    return Ok(None);
-                };
-                Ok(Some(Frame {
+        match get_head(reader) {
+            Some((id, announcement)) => Self::read_body(reader, id, announcement),
+            None => Ok(None),
+        }
+    }
+
+    /// Reads what follows a head of this type, which announces it.
+    #[inline(always)]
+    fn read_body<R: BytesReader<'a>>(
+        reader: &mut R,
+        id: VarInt,
+        announcement: Announcement,
+    ) -> Result<Option<Self>, ParseError>
+        requires { AnnouncesKind (kind_of id) announcement }
+        ensures answer { Answers (front_after announcement (R.left reader.old)) result
+            (R.left reader.new) }
+        ensures rest { IsRest (R.left reader.new) (R.left reader.old) }
+        ensures kept { R.kept reader.new ≡ R.kept reader.old }
+    {
+        match announcement {
+            Announcement::Payload(kind, size) => match reader.get_bytes(size as usize) {
+                Some(payload) => Ok(Some(Frame {
                     kind: KindNumber::with_number(id, kind),
                     body: Body::Borrowed(payload),
-                }))
-            }
+                })),
+                None => Ok(None),
+            },
             Announcement::Session(session_id) => Ok(Some(Frame::new_webtransport(session_id))),
             Announcement::Skip(size) => match reader.get_bytes(size as usize) {
                 Some(_) => Err(ParseError::UnknownFrame),

@@ -174,7 +174,6 @@ impl Settings {
     }
 
     /// Creates settings in which nothing is set.
-    #[tactic(auto, using(crate::proofs::SettingsLemmas::no_settings))]
     fn new(alloc: Global) -> Self
         ensures { result ≡ [] }
     {
@@ -247,7 +246,6 @@ impl Settings {
     ///
     /// Returns `Memory` if allocation failed, which cannot happen if nothing is set. Returns
     /// `PayloadTooLong` if the payload would have 2^62 bytes or more. The settings do not change.
-    #[tactic(auto, using(crate::proofs::SettingsLemmas::no_settings))]
     pub fn generate_frame(&self, alloc: Global) -> Result<FrameOwned, GenerateError>
         ensures ok { IfOk result (λ f. f ≡ SettingsOf (settings_wire self.now)) }
         ensures too_long { result ≡ Err GenerateError.PayloadTooLong

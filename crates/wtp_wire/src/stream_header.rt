@@ -143,7 +143,6 @@ impl StreamHeader {
     }
 
     /// Returns the kind.
-    #[tactic(auto, using(crate::proofs::HeaderLemmas::header_fields))]
     pub fn kind(&self) -> StreamKind
         ensures kind { result ≡ header_kind self.now }
         ensures known { IsKnownStream result }
@@ -152,7 +151,6 @@ impl StreamHeader {
     }
 
     /// Returns the session, if the kind is WebTransport.
-    #[tactic(auto, using(crate::proofs::HeaderLemmas::header_fields))]
     pub fn session_id(&self) -> Option<SessionId>
         ensures session { result ≡ header_session self.now }
         ensures opens { is_some result ≡ has_session (header_kind self.now) }
@@ -161,7 +159,7 @@ impl StreamHeader {
     }
 
     /// Reads the session ID after the WebTransport type.
-    #[tactic(auto, using(wtp_core::proofs::RestLemmas::rests), unfolding(crate::specs::HeaderFront::session_header_front))]
+    #[tactic(auto, unfolding(crate::specs::HeaderFront::session_header_front))]
     fn read_session<'a, R: BytesReader<'a>>(reader: &mut R) -> Result<Option<Self>, ParseError>
         ensures answer { AnswersHeader (session_header_front (R.left reader.old)) result
             (R.left reader.new) }
@@ -183,7 +181,7 @@ impl StreamHeader {
     ///
     /// - `UnknownStream`: an unknown type was read.
     /// - `InvalidSessionId`: the WebTransport type and an invalid session ID were read.
-    #[tactic(auto, using(wtp_core::proofs::RestLemmas::rests), unfolding(crate::specs::HeaderFront::header_front))]
+    #[tactic(auto, unfolding(crate::specs::HeaderFront::header_front))]
     pub fn read<'a, R: BytesReader<'a>>(reader: &mut R) -> Result<Option<Self>, ParseError>
         ensures answer { AnswersHeader (header_front (R.left reader.old)) result
             (R.left reader.new) }

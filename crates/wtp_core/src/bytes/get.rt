@@ -152,20 +152,22 @@ pub trait BytesReaderAsync: AsyncRead {
     /// Returns a state that reads one number.
     fn get_varint(&mut self) -> GetVarint
         ensures fresh { result ≡ [] }
-        ensures same { self.new ≡ self.old }
-    {
-        GetVarint::new()
-    }
+        ensures same { self.new ≡ self.old };
 
     /// Returns a state that fills the buffer.
     fn get_buffer<'a>(&mut self, buffer: &'a mut [u8]) -> GetBuffer<'a>
         ensures taken { taken_of result ≡ [] }
         ensures buffer { buffer_of result ≡ buffer.old }
         ensures lent { loan_in result ≡ buffer.entry.ghost_name }
-        ensures same { self.new ≡ self.old }
-    {
+        ensures same { self.new ≡ self.old };
+}
+
+impl<S: AsyncRead> BytesReaderAsync for S {
+    fn get_varint(&mut self) -> GetVarint {
+        GetVarint::new()
+    }
+
+    fn get_buffer<'a>(&mut self, buffer: &'a mut [u8]) -> GetBuffer<'a> {
         GetBuffer::new(buffer)
     }
 }
-
-impl<S: AsyncRead> BytesReaderAsync for S {}

@@ -99,18 +99,20 @@ pub trait BytesWriterAsync: AsyncWrite {
     /// Returns a state that writes the number in its shortest encoding.
     fn put_varint(&mut self, varint: VarInt) -> PutVarint
         ensures fresh { result ≡ unsent (shortest varint) }
-        ensures same { self.new ≡ self.old }
-    {
-        PutVarint::new(varint)
-    }
+        ensures same { self.new ≡ self.old };
 
     /// Returns a state that writes the buffer.
     fn put_buffer<'a>(&mut self, buffer: &'a [u8]) -> PutBuffer<'a>
         ensures fresh { result ≡ unsent buffer.now }
-        ensures same { self.new ≡ self.old }
-    {
+        ensures same { self.new ≡ self.old };
+}
+
+impl<W: AsyncWrite> BytesWriterAsync for W {
+    fn put_varint(&mut self, varint: VarInt) -> PutVarint {
+        PutVarint::new(varint)
+    }
+
+    fn put_buffer<'a>(&mut self, buffer: &'a [u8]) -> PutBuffer<'a> {
         PutBuffer::new(buffer)
     }
 }
-
-impl<W: AsyncWrite> BytesWriterAsync for W {}

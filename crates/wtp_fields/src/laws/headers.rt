@@ -2,8 +2,8 @@
 ghost use Rattle.std.specs.Prelude.{◌≡◌, ◌↔◌, ℕ, List, Some, Ok, if◌then◌else◌};
 ghost use Rattle.std.specs.Str.{bytes_eq};
 ghost use Rattle.wtp_wire.specs.Content.{payload_in, HeadersOf};
-ghost use Rattle.wtp_fields.specs.Field.{Field, IsMap, AreTexts, put, field_value};
-ghost use Rattle.wtp_fields.specs.FieldSection.{map_at};
+ghost use Rattle.wtp_qpack.specs.Field.{Field, IsMap, AreTexts, put, field_value};
+ghost use Rattle.wtp_qpack.specs.FieldSection.{map_at};
 ghost use Rattle.wtp_fields.specs.Headers.{payload, headers_at};
 
 /// Putting a field into a map sets the value of its name, and leaves the values of all other names.

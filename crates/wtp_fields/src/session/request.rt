@@ -4,7 +4,7 @@ ghost use Rattle.std.specs.Prelude.{OnErr, IfOk, IfErr, IsTrue, IsErrOf, codes, 
 ghost use Rattle.std.specs.Prelude.{length, ◌≤◌};
 ghost use Rattle.std.specs.Option.{option_copied};
 ghost use Rattle.url.specs.Parser.{parse_url};
-ghost use Rattle.wtp_fields.specs.Field.{put, field_value};
+ghost use Rattle.wtp_qpack.specs.Field.{put, field_value};
 ghost use Rattle.wtp_fields.specs.SessionRequest.{is_reserved_name, fault_of, fault_unless};
 ghost use Rattle.wtp_fields.specs.SessionRequest.{fault_without, authority_of, with_query};
 ghost use Rattle.wtp_fields.specs.SessionRequest.{five_fields, request_for, request_at};
@@ -134,7 +134,7 @@ pub struct SessionRequest {
 // Contracts treat a request as its header map, which has no fault.
 impl Model for SessionRequest {
     ghost use Rattle.std.specs.Prelude.{◌≡◌, List, None};
-    ghost use Rattle.wtp_fields.specs.Field.{Field};
+    ghost use Rattle.wtp_qpack.specs.Field.{Field};
     ghost use Rattle.wtp_fields.specs.SessionRequest.{fault_of};
 
     ghost Value = { List Field };
@@ -363,7 +363,7 @@ fn path_with_query(alloc: Global, path: &str, query: Option<&str>) -> Result<Str
 }
 
 /// Returns the map of the five fields of a request.
-#[tactic(auto, unfolding(crate::specs::SessionRequest::five_fields, crate::specs::Field::field_map))]
+#[tactic(auto, unfolding(crate::specs::SessionRequest::five_fields, wtp_qpack::specs::Field::field_map))]
 fn five_fields(alloc: Global, authority: &str, path: &str) -> Result<Headers, AllocError>
     ensures { IfOk result (λ headers. headers ≡ five_fields authority.now path.now) }
 {

@@ -3,7 +3,7 @@ ghost use Rattle.std.specs.Prelude.{◌≡◌, ◌↔◌, Some, Err, MatchOption
 ghost use Rattle.wtp_wire.specs.Content.{kind_in, payload_in};
 ghost use Rattle.wtp_core.specs.Ids.{IsStatus, IsStatusText, status_in};
 ghost use Rattle.std.specs.Option.{option_copied};
-ghost use Rattle.wtp_fields.specs.Field.{put, field_value};
+ghost use Rattle.wtp_qpack.specs.Field.{put, field_value};
 ghost use Rattle.wtp_fields.specs.Headers.{BeginsLine};
 ghost use Rattle.wtp_fields.specs.ResponseFrame.{ResponseIn};
 ghost use Rattle.wtp_fields.specs.SessionResponse.{status_value, HasStatus, status_alone, ByStatus};
@@ -48,7 +48,7 @@ pub struct SessionResponse {
 // Contracts treat a response as its header map, which has a status.
 impl Model for SessionResponse {
     ghost use Rattle.std.specs.Prelude.{List};
-    ghost use Rattle.wtp_fields.specs.Field.{Field};
+    ghost use Rattle.wtp_qpack.specs.Field.{Field};
     ghost use Rattle.wtp_fields.specs.SessionResponse.{HasStatus};
 
     ghost Value = { List Field };

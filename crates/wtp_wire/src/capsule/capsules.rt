@@ -28,7 +28,7 @@ impl Model for CloseWebTransportSession {
 }
 
 impl CloseWebTransportSession {
-    ghost use Rattle.wtp_wire.specs.CloseSession.{AnswersClose, MakesClose, IsWritableClose, close_parts, close_wire};
+    ghost use Rattle.wtp_wire.specs.CloseSession.{AnswersClose, MakesClose, IsWritableClose, close_parts, close_wire, payload_parts};
 
     // The longest reason, in bytes.
     const MAX_REASON_LEN: usize = 1024;
@@ -109,6 +109,15 @@ impl CloseWebTransportSession {
     {
         writer.put_varint(capsule_types::CAPSULE_TYPE_CLOSE_WEBTRANSPORT_SESSION)?;
         writer.put_varint(self.payload_len())?;
+        self.write_payload(writer)
+    }
+
+    // Writes the payload: the code and the reason.
+    fn write_payload<W: BytesWriter>(&self, writer: &mut W) -> Result<(), PutError>
+        ensures parts { PutsParts W.grows (payload_parts self.now) result (W.written writer.old)
+            (W.room writer.old) (W.written writer.new) (W.room writer.new) }
+        ensures target { W.target writer.new ≡ W.target writer.old }
+    {
         writer.put_bytes(&self.error_code.to_be_bytes())?;
         writer.put_bytes(self.reason.as_bytes())
     }

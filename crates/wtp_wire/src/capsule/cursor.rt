@@ -1,8 +1,9 @@
 //! Reading capsules from bytes that the caller holds, with no memory. Not in the Rust crate.
 ghost use Rattle.std.specs.Prelude.{◌≡◌, ◌≤◌, ◌-◌, ◌↔◌, length, IsOk};
 
-use crate::capsule::reading::{CapsuleHead, head_size, read_head};
+use crate::capsule::reading::{CapsuleHead, read_head};
 use crate::capsule::{CapsuleKind, CutCapsule};
+use crate::frame::head::head_size;
 
 /// All that reading the capsules of a stream's data remembers between two calls. Not in the Rust
 /// crate.

@@ -3,16 +3,16 @@ ghost use Rattle.std.specs.Prelude.{◌≡◌, ◌-◌, ◌<◌, ◌≤◌, ◌+
 ghost use Rattle.wtp_wire.specs.CapsuleFront.{End};
 ghost use Rattle.wtp_wire.specs.CapsuleStream.{NextGiven, capsules_held, next_held, with_result};
 ghost use Rattle.wtp_wire.specs.CapsuleSteps.{Advanced, IsPart, Stepped, head_says, holding};
-ghost use Rattle.wtp_wire.specs.FrameNeed.{frame_need, frame_need_most, frame_need_grows};
+ghost use Rattle.wtp_wire.specs.FrameNeed.{frame_need};
 ghost use Rattle.wtp_wire.specs.Held.{Held, new_held};
 
 use crate::capsule::{Capsule, CapsuleError, CapsuleKind, CapsuleOwned};
+use crate::frame::head::FrameHead;
 use std::alloc::{AllocError, Global};
 use std::borrow::CowSlice;
 use std::marker::Model;
 use std::{fmt, mem};
-use wtp_core::bytes::get::varint_need;
-use wtp_core::polling::head::{Head, fill_head};
+use wtp_core::polling::head::fill_head;
 use wtp_core::varint::first_varint;
 
 /// The data ended within a capsule.
@@ -196,33 +196,8 @@ fn skip(bytes: &mut &[u8], due: &mut u64)
     }
 }
 
-/// The type and the length of a capsule are its head; every capsule starts with both.
-struct CapsuleHeadSize;
-
-impl Head for CapsuleHeadSize {
-    ghost need = { frame_need };
-
-    ghost most = { 16 };
-
-    fn need(held: &[u8]) -> usize {
-        head_size(held)
-    }
-
-    ghost need_most = { frame_need_most };
-
-    ghost need_grows = { frame_need_grows };
-}
-
-/// Returns the least size of a type and a length that start with these bytes.
-#[tactic(auto, unfolding(crate::specs::FrameNeed::frame_need))]
-pub(crate) fn head_size(bytes: &[u8]) -> usize
-    ensures { result ≡ frame_need bytes.now }
-{
-    let first = varint_need(bytes);
-    first + varint_need(bytes.get(first..).unwrap_or(&[]))
-}
-
-/// Takes bytes until the type and the length are complete. Returns whether they are.
+/// Takes bytes until the type and the length are complete, which are two numbers, as the head of a
+/// frame. Returns whether they are.
 fn take_head(bytes: &mut &[u8], head: &mut [u8; 16], len: &mut usize) -> bool
     requires fits { len.old ≤ 16 }
     requires within { len.old ≤ frame_need (take len.old head.old) }
@@ -237,7 +212,7 @@ fn take_head(bytes: &mut &[u8], head: &mut [u8; 16], len: &mut usize) -> bool
     ensures joins { take len.old head.old ++ bytes.old.now
         ≡ take len.new head.new ++ bytes.new.now }
 {
-    match fill_head::<CapsuleHeadSize, _>(bytes, head, len) {
+    match fill_head::<FrameHead, _>(bytes, head, len) {
         Ok(()) => true,
         Err(_) => false,
     }

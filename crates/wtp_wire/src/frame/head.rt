@@ -1,11 +1,13 @@
 //! The head of a frame, and what it announces. The head is the first two numbers: the type, and
 //! the length or session ID.
 ghost use Rattle.std.specs.Prelude.{◌≡◌, ◌+◌, ◌<◌, ◌≤◌, length, Some, None, MatchOption, IfSome};
+ghost use Rattle.wtp_core.specs.Reader.{IsRest};
 ghost use Rattle.wtp_wire.specs.FrameNeed.{frame_need, frame_need_most, frame_need_grows};
 ghost use Rattle.wtp_wire.specs.FrameHead.{head_at, announcement_at, announcement_of, AnnouncesKind};
 ghost use Rattle.wtp_wire.specs.Kind.{kind_of};
 
 use crate::frame::FrameKind;
+use wtp_core::bytes::BytesReader;
 use wtp_core::bytes::get::varint_need;
 use wtp_core::ids::SessionId;
 use wtp_core::polling::head::Head;
@@ -40,15 +42,22 @@ impl Head for FrameHead {
     ghost most = { 16 };
 
     #[inline(always)]
-    #[tactic(auto, unfolding(crate::specs::FrameNeed::frame_need))]
     fn need(held: &[u8]) -> usize {
-        let first = varint_need(held);
-        first + varint_need(held.get(first..).unwrap_or(&[]))
+        head_size(held)
     }
 
     ghost need_most = { frame_need_most };
 
     ghost need_grows = { frame_need_grows };
+}
+
+/// Returns the least size of two numbers that start with these bytes.
+#[inline(always)]
+pub(crate) fn head_size(bytes: &[u8]) -> usize
+    ensures { result ≡ frame_need bytes.now }
+{
+    let first = varint_need(bytes);
+    first + varint_need(bytes.get(first..).unwrap_or(&[]))
 }
 
 /// The head at the start of some bytes.
@@ -80,6 +89,22 @@ pub(crate) fn first_head<'a>(bytes: &'a [u8]) -> Option<FirstHead<'a>>
         announcement: classify_head(id, number),
         after: &behind[size..],
     })
+}
+
+/// Reads the head at the start of the input. Returns its type and what it announces, or `None` if
+/// its two numbers are not both complete; the first of them may have been read then.
+#[inline(always)]
+#[tactic(auto, unfolding(crate::specs::FrameHead::head_at))]
+pub(crate) fn get_head<'a, R: BytesReader<'a>>(reader: &mut R) -> Option<(VarInt, Announcement)>
+    ensures head { MatchOption result (head_at (R.left reader.old) ≡ None)
+        (λ h. head_at (R.left reader.old) ≡ Some (h.1, R.left reader.new)) }
+    ensures kind { IfSome result (λ h. AnnouncesKind (kind_of h.0) h.1) }
+    ensures rest { IsRest (R.left reader.new) (R.left reader.old) }
+    ensures kept { R.kept reader.new ≡ R.kept reader.old }
+{
+    let id = reader.get_varint()?;
+    let number = reader.get_varint()?;
+    Some((id, classify_head(id, number)))
 }
 
 /// Returns what the head at the start of these bytes announces.

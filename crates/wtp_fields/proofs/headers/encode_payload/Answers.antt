@@ -1,4 +1,4 @@
-use Rattle.wtp_fields.specs.Field.{fields_of}
+use Rattle.wtp_qpack.specs.Field.{fields_of}
 use Rattle.wtp_fields.proofs.Payloads.{payload_written}
 use Rattle.wtp_fields.proofs.headers.encode_payload.Goals as goal
 

@@ -1,5 +1,5 @@
 use Rattle.std.proofs.Common.{◌≡◌, ◌++◌, map}
-use Rattle.wtp_fields.specs.Field.{fields_of, field_of}
+use Rattle.wtp_qpack.specs.Field.{fields_of, field_of}
 use Rattle.wtp_fields.specs.Headers.{group_lines}
 use Rattle.wtp_fields.proofs.headers.write_group.Given as goal
 

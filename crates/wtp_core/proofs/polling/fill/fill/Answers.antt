@@ -1,7 +1,9 @@
-use Rattle.std.proofs.Common.{◌-◌, ◌++◌, length, take, arith, length-append, length-take}
+use Rattle.std.proofs.Common.{◌-◌, ◌++◌, length, take, sym, ◌∙◌, arith, length-append, length-take}
+use Rattle.wtp_core.specs.declared.polling.fill.Halt.TheVariants as halt
+use Rattle.wtp_core.specs.Fill.{Gains, HaltIsTrue}
 use borrow.Rule.Slice.PartMut.{post_of}
 use Rattle.wtp_core.proofs.TellingLemmas.{telling_then}
-use Rattle.wtp_core.proofs.FillLemmas.{front_kept, front_stays, gains_bytes}
+use Rattle.wtp_core.proofs.FillLemmas.{front_kept, front_stays, gains_bytes, gains_none}
 use Rattle.wtp_core.proofs.polling.fill.fill.Goals as goal
 
 pub loop-at-preserved : goal.loop-at-preserved
@@ -15,5 +17,35 @@ loop-at-preserved g c =
       front = front_kept _ at _ buf _ inv.forward (front_stays at buf _ inv.within) inv.front;
       forward = omega arith;
       within = omega (arith, c.in-Bytes.ensures.lengths, length-take at buf, length-append (take at buf) (part ++ rest), length-append part rest);
-      tells = telling_then _ _ _ _ _ _ (λ x y z p q. gains_bytes _ buf part rest at c.in-Bytes.n x y z p inv.within c.in-Bytes.ensures.lengths (omega arith) q.0 q.1.0 q.1.1) inv.tells c.in-Bytes.ensures.tells;
+      tells = telling_then _ _ _ _ _ _ (λ x y z p q. gains_bytes (take c.args.at.now c.args.buf.now) buf part rest at c.in-Bytes.n x y z p inv.within c.in-Bytes.ensures.lengths (omega arith) q.0 q.1.0 q.1.1) inv.tells c.in-Bytes.ensures.tells;
     }
+
+pub returns-in-NotReady-clause-tells : goal.returns-in-NotReady-clause-tells
+returns-in-NotReady-clause-tells g c =
+    let inv = c.loop-at.invariant in
+    let held = take c.args.at.now c.args.buf.now in
+    let at = c.loop-at.at in
+    let buf = c.loop-at.buf in
+    let part = c.poll_read.new.buf in
+    let rest = post_of at (length buf - at) buf in
+    telling_then _ _ _ _ _ (λ x z. Gains held (take at (take at buf ++ (part ++ rest))) x z 1 × HaltIsTrue halt.NotReady x z) (λ x y z p q. (gains_none held buf part rest at x y z p inv.within q.0 q.1.0 (omega (arith, q.1.1)), omega (arith, p.waits, q.1.1))) inv.tells c.in-NotReady.ensures.tells
+
+pub returns-in-Reset-clause-tells : goal.returns-in-Reset-clause-tells
+returns-in-Reset-clause-tells g c =
+    let inv = c.loop-at.invariant in
+    let held = take c.args.at.now c.args.buf.now in
+    let at = c.loop-at.at in
+    let buf = c.loop-at.buf in
+    let part = c.poll_read.new.buf in
+    let rest = post_of at (length buf - at) buf in
+    telling_then _ _ _ _ _ (λ x z. Gains held (take at (take at buf ++ (part ++ rest))) x z 1 × HaltIsTrue halt.Reset x z) (λ x y z p q. (gains_none held buf part rest at x y z p inv.within q.0 (q.1.after ∙ sym q.1.before) (omega (arith, q.1.waits)), (q.1.after, sym p.ending ∙ q.1.how))) inv.tells c.in-Reset.ensures.tells
+
+pub returns-in-NotConnected-clause-tells : goal.returns-in-NotConnected-clause-tells
+returns-in-NotConnected-clause-tells g c =
+    let inv = c.loop-at.invariant in
+    let held = take c.args.at.now c.args.buf.now in
+    let at = c.loop-at.at in
+    let buf = c.loop-at.buf in
+    let part = c.poll_read.new.buf in
+    let rest = post_of at (length buf - at) buf in
+    telling_then _ _ _ _ _ (λ x z. Gains held (take at (take at buf ++ (part ++ rest))) x z 1 × HaltIsTrue halt.NotConnected x z) (λ x y z p q. (gains_none held buf part rest at x y z p inv.within q.0 (q.1.after ∙ sym q.1.before) (omega (arith, q.1.waits)), (q.1.after, sym p.ending ∙ q.1.how))) inv.tells c.in-NotConnected.ensures.tells

@@ -64,3 +64,22 @@ returns-in-Err-clause-front g c =
     let size : length c.fill.new.buf ≡ length (take need c.loop-len.buf) = c.fill.auto.buf in
     let w : Grown c.loop-len.len c.fill.new.at need c.loop-len.buf c.fill.new.buf = grown _ _ _ _ _ c.fill.ensures.forward (omega (arith, length-take need c.loop-len.buf)) room size c.fill.ensures.front in
     front_kept _ c.loop-len.len _ c.loop-len.buf _ c.loop-len.invariant.forward w.front c.loop-len.invariant.front
+
+pub returns-in-Err-clause-stays : goal.returns-in-Err-clause-stays
+returns-in-Err-clause-stays g c = λ whole.
+    let was = c.loop-len.invariant.stays whole in
+    let same : c.need-need.result ≡ g.H.Head.need (take c.loop-len.len c.loop-len.buf) = c.need-need.ensures in
+    let held_is : take c.loop-len.len c.loop-len.buf ≡ take c.args.len.now c.args.buf.now = rw (was.0, was.1) refl in
+    absurd (omega (arith, ap g.H.Head.need held_is, was.0, same, whole, c.if-len-need.false))
+
+pub returns-then-len-need-clause-stays : goal.returns-then-len-need-clause-stays
+returns-then-len-need-clause-stays g c = c.loop-len.invariant.stays
+
+pub returns-then-len-need-clause-front : goal.returns-then-len-need-clause-front
+returns-then-len-need-clause-front g c = c.loop-len.invariant.front
+
+pub returns-then-len-need-clause-tells : goal.returns-then-len-need-clause-tells
+returns-then-len-need-clause-tells g c = c.loop-len.invariant.tells
+
+pub returns-then-len-need-clause-whole : goal.returns-then-len-need-clause-whole
+returns-then-len-need-clause-whole g c = omega (arith, c.loop-len.invariant.within, c.need-need.ensures, c.if-len-need.true)

@@ -1,5 +1,5 @@
 use Rattle.std.proofs.Common.{subst}
-use Rattle.wtp_fields.specs.Field.{IsMap, AreTexts}
+use Rattle.wtp_qpack.specs.Field.{IsMap, AreTexts}
 use Rattle.wtp_fields.proofs.HeaderLemmas.{held_ordered, held_texts}
 use Rattle.wtp_fields.proofs.headers.Headers.as_ref.Goals as goal
 

@@ -1,5 +1,5 @@
 use Rattle.std.proofs.Common.{◌∙◌, ap, sym}
-use Rattle.wtp_fields.specs.Field.{field_map, put}
+use Rattle.wtp_qpack.specs.Field.{field_map, put}
 use Rattle.wtp_fields.proofs.HeaderLemmas.{lent_push}
 use Rattle.wtp_fields.proofs.headers.Headers.from_iter.Goals as goal
 

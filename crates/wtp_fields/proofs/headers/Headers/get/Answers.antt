@@ -1,5 +1,5 @@
 use Rattle.std.proofs.Common.{◌∙◌, ap, option_map, string_bytes, Some}
-use Rattle.wtp_fields.specs.Field.{field_value}
+use Rattle.wtp_qpack.specs.Field.{field_value}
 use Rattle.wtp_fields.proofs.HeaderLemmas.{value_found}
 use Rattle.wtp_fields.proofs.headers.Headers.get.Goals as goal
 

@@ -1,6 +1,6 @@
 use Rattle.std.proofs.Common.{◌∙◌, ap, map}
-use Rattle.wtp_fields.specs.Field.{field_of}
-use Rattle.wtp_fields.proofs.SectionReading.{put_entry}
+use Rattle.wtp_qpack.specs.Field.{field_of}
+use Rattle.wtp_qpack.proofs.SectionReading.{put_entry}
 use Rattle.wtp_fields.proofs.headers.Headers.insert.Goals as goal
 
 pub returns-clause-ok : goal.returns-clause-ok

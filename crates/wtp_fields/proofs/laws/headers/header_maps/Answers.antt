@@ -1,5 +1,5 @@
-use Rattle.wtp_fields.proofs.FieldMaps.{ascends_from, ascends_to, ascends_put, value_put}
-use Rattle.wtp_fields.specs.Field.{put}
+use Rattle.wtp_qpack.proofs.FieldMaps.{ascends_from, ascends_to, ascends_put, value_put}
+use Rattle.wtp_qpack.specs.Field.{put}
 use Rattle.wtp_fields.proofs.laws.headers.header_maps.Goals as goal
 
 pub returns-clause-value : goal.returns-clause-value

@@ -1,0 +1,365 @@
+//! What is shown of inspections: texts, JSON and pages of each kind, of values that a terminal, a
+//! reader of JSON or a browser would take for more than text, and past refused memory. What is
+//! expected follows from docs/INSPECTOR.md and the standards.
+use crate::same::same;
+use json::{Reader, Scratch, Token, is_valid};
+use std::alloc::{AllocError, Global};
+use std::process::Abort;
+use std::test::Fail;
+use wt_inspection::{Recorded, inspect};
+use wt_inspection_views::html::write_html;
+use wt_inspection_views::json_lines::write_json;
+use wt_inspection_views::text::write_text;
+
+/// Bytes, what was recorded, whether more may follow, and whether payload is shown.
+type Given = (&'static [u8], Recorded, bool, bool);
+
+/// What is shown of bytes.
+#[derive(Drop)]
+struct Shown {
+    text: String,
+    lines: Vec<u8>,
+    page: Vec<u8>,
+}
+
+/// Shows bytes in each form.
+fn show_once(alloc: Global, given: Given) -> Result<Shown, AllocError> {
+    let (bytes, kind, open, payload) = given;
+    let found = inspect(alloc, kind, bytes, open)?;
+    Ok(Shown {
+        text: write_text(alloc, &found, bytes, payload)?,
+        lines: write_json(alloc, &found, bytes, payload)?,
+        page: write_html(alloc, &found, bytes)?,
+    })
+}
+
+/// Shows bytes in each form, and once more where memory was refused.
+fn show_again(alloc: Global, given: Given) -> Result<Shown, AllocError> {
+    match show_once(alloc, given) {
+        Ok(shown) => Ok(shown),
+        Err(AllocError) => show_once(alloc, given),
+    }
+}
+
+/// Returns bytes as a text.
+fn text_in(bytes: &[u8]) -> &str {
+    str::from_utf8(bytes).unwrap_or("not UTF-8")
+}
+
+/// What is given, the text, the JSON, a part of the page, and what the row shows.
+type Row = (
+    Given,
+    &'static str,
+    &'static str,
+    &'static str,
+    &'static str,
+);
+
+static ROWS: [Row; 9] = [
+    (
+        (b"\x01\x03\x00\x00\xd9", Recorded::Answer, false, false),
+        "0     response           HEADERS, 3 bytes
+        :status = 200
+5     end
+",
+        "{\"at\":0,\"length\":5,\"item\":\"frame\",\"type\":\"HEADERS\",\"number\":1,\"payload\":3,\
+            \"fields\":[[\":status\",\"200\"]]}
+{\"at\":5,\"item\":\"end\",\"state\":\"whole\"}
+",
+        "<span tabindex=\"0\" data-item=\"0\">0        01 03 00 00 d9\n</span>",
+        "a response",
+    ),
+    (
+        (b"\x00\x05ab", Recorded::Bi, true, true),
+        "0     DATA               5 bytes, 2 of them present
+        61 62
+0     cut                frame, at least 3 bytes missing
+",
+        "{\"at\":0,\"length\":4,\"item\":\"frame\",\"type\":\"DATA\",\"number\":0,\"payload\":5,\
+            \"present\":2,\"hex\":\"6162\"}
+{\"at\":0,\"item\":\"end\",\"state\":\"cut\",\"of\":\"frame\",\"missing\":3}
+",
+        "<pre>0     cut                frame, at least 3 bytes missing\n</pre></div>",
+        "an open stream within a frame",
+    ),
+    (
+        (b"\x40\x54\x00hi", Recorded::Uni, false, true),
+        "0     stream             WebTransport, type 0x54, session 0
+3     payload            2 bytes
+        68 69
+5     end
+",
+        "{\"at\":0,\"length\":3,\"item\":\"stream\",\"type\":\"WebTransport\",\"number\":84,\"session\":0}
+{\"at\":3,\"length\":2,\"item\":\"payload\",\"hex\":\"6869\"}
+{\"at\":5,\"item\":\"end\",\"state\":\"whole\"}
+",
+        "data-item=\"1\">3        68 69\n</span>",
+        "a unidirectional stream and its payload",
+    ),
+    (
+        (b"\x00\x65\x63\x68\x6f\x3a", Recorded::Datagram, false, true),
+        "0     datagram           session 0, quarter stream ID 0, 5 bytes
+        65 63 68 6f 3a
+6     end
+",
+        "{\"at\":0,\"length\":6,\"item\":\"datagram\",\"quarter\":0,\"session\":0,\"payload\":5,\
+            \"hex\":\"6563686f3a\"}
+{\"at\":6,\"item\":\"end\",\"state\":\"whole\"}
+",
+        "datagram           session 0, quarter stream ID 0, 5 bytes\n<b></b></pre>",
+        "a datagram of aioquic",
+    ),
+    (
+        (
+            b"\x68\x43\x0f\x00\x00\x12\x34bye, w\xc3\xb6rld",
+            Recorded::Capsules,
+            false,
+            false,
+        ),
+        "0     capsule            CLOSE_WEBTRANSPORT_SESSION, 15 bytes
+            code = 4660
+            reason = bye, w\u{f6}rld
+18    end
+",
+        "{\"at\":0,\"length\":18,\"item\":\"capsule\",\"type\":\"CLOSE_WEBTRANSPORT_SESSION\",\
+            \"number\":10307,\"payload\":15,\"code\":4660,\"reason\":\"bye, w\u{f6}rld\"}
+{\"at\":18,\"item\":\"end\",\"state\":\"whole\"}
+",
+        "            reason = bye, w\u{f6}rld\n",
+        "a session is closed",
+    ),
+    (
+        (b"\x33\x01\x02\x00", Recorded::Settings, false, false),
+        "0     settings           4 bytes
+        SETTINGS_H3_DATAGRAM (0x33) = 1
+        HTTP/2 setting (0x2) = 0, which must not be sent (RFC 9114, section 7.2.4.1)
+0     fault              SettingsError (0x109): a setting must not be sent, or is repeated \
+(RFC 9114, section 7.2.4)
+",
+        "{\"at\":0,\"length\":4,\"item\":\"settings\",\"settings\":[{\"id\":51,\
+            \"name\":\"SETTINGS_H3_DATAGRAM\",\"value\":1},{\"id\":2,\"name\":\"HTTP/2 setting\",\
+            \"value\":0,\"fault\":\"reserved\"}]}
+{\"at\":0,\"item\":\"end\",\"state\":\"fault\",\"code\":265,\"name\":\"SettingsError\",\"why\":\"a \
+    setting must not be sent, or is repeated (RFC 9114, section 7.2.4)\"}
+",
+        "<pre class=\"fault\">0     fault              SettingsError (0x109): ",
+        "a setting of HTTP/2",
+    ),
+    (
+        (b"\x00\x04\x00\x07\x01\x00", Recorded::Uni, false, false),
+        "0     stream             control, type 0x0
+1     SETTINGS           0 bytes
+3     GOAWAY             1 byte
+6     end
+",
+        "{\"at\":0,\"length\":1,\"item\":\"stream\",\"type\":\"control\",\"number\":0}
+{\"at\":1,\"length\":2,\"item\":\"frame\",\"type\":\"SETTINGS\",\"number\":4,\"payload\":0,\
+    \"settings\":[]}
+{\"at\":3,\"length\":3,\"item\":\"frame\",\"type\":\"GOAWAY\",\"number\":7,\"payload\":1}
+{\"at\":6,\"item\":\"end\",\"state\":\"whole\"}
+",
+        "<pre tabindex=\"0\" data-item=\"2\">3     GOAWAY             1 byte\n<b></b></pre>",
+        "a control stream",
+    ),
+    (
+        (b"\x07\x00\xd7\x85", Recorded::Section, false, false),
+        "0     fields             4 bytes
+        :scheme = https
+        needs the dynamic table, encoded Required Insert Count 7
+4     end
+",
+        "{\"at\":0,\"length\":4,\"item\":\"section\",\"fields\":[[\":scheme\",\"https\"]],\
+            \"stopped\":\"needs the dynamic table\",\"insert_count\":7}
+{\"at\":4,\"item\":\"end\",\"state\":\"whole\"}
+",
+        "        needs the dynamic table, encoded Required Insert Count 7\n",
+        "a section that needs the dynamic table",
+    ),
+    (
+        (
+            b"\x00\x00\x21x\x04<\n\"\xff",
+            Recorded::Section,
+            false,
+            false,
+        ),
+        "0     fields             9 bytes
+        x = <\\x0a\"\\xff
+        warning: field 1: a field value has a NUL, CR or LF (RFC 9114, section 10.3)
+9     end
+",
+        "{\"at\":0,\"length\":9,\"item\":\"section\",\"fields\":[[\"x\",{\"hex\":\"3c0a22ff\"}]]}
+{\"at\":0,\"item\":\"warning\",\"line\":0,\"why\":\"a field value has a NUL, CR or LF (RFC 9114, section \
+    10.3)\"}
+{\"at\":9,\"item\":\"end\",\"state\":\"whole\"}
+",
+        "        x = &lt;\\x0a&quot;\\xff\n",
+        "a value with a line feed, and not UTF-8",
+    ),
+];
+
+/// Returns whether each of these lines is JSON.
+fn are_json(alloc: Global, lines: &str) -> Result<bool, AllocError> {
+    let mut scratch = Scratch::new(alloc);
+    for line in lines.lines() {
+        if !is_valid(line, &mut scratch)? {
+            return Ok(false);
+        }
+    }
+    Ok(true)
+}
+
+/// Returns whether a page has these bytes.
+fn has_part(page: &[u8], part: &[u8]) -> bool {
+    page.windows(part.len().max(1)).any(|window| window == part)
+}
+
+/// Asserts what is shown of a row.
+fn check_row<R: Abort>(rt: &R, alloc: Global, row: &Row) -> Result<(), AllocError> {
+    let (given, text, lines, part, shows) = *row;
+    let shown = show_again(alloc, given)?;
+    same(rt, shown.text.as_str(), text, shows);
+    same(rt, text_in(shown.lines.as_slice()), lines, shows);
+    same(
+        rt,
+        has_part(shown.page.as_slice(), part.as_bytes()),
+        true,
+        shows,
+    );
+    Ok(())
+}
+
+/// Asserts what is shown of each row.
+fn check_rows<R: Abort>(rt: &R, alloc: Global, rows: &[Row]) -> Result<(), AllocError> {
+    for row in rows {
+        check_row(rt, alloc, row)?;
+    }
+    Ok(())
+}
+
+#[test]
+fn each_kind_is_shown_past_refused_memory(rt: HostRuntime) -> Result<(), Fail> {
+    check_rows(&rt, rt.alloc(), &ROWS)?;
+    Ok(())
+}
+
+/// A section of a field `x`, the value as the text has it, the key of what JSON has of it, which is
+/// `hex` for digits, and what a reader of JSON finds there.
+type ValueRow = (&'static [u8], &'static str, &'static str, &'static str);
+
+static VALUES: [ValueRow; 10] = [
+    (b"\x00\x00\x21x\x03a\nb", "a\\x0ab", "fields", "a\nb"),
+    (b"\x00\x00\x21x\x03a\r0", "a\\x0d0", "fields", "a\r0"),
+    (
+        b"\x00\x00\x21x\x04\x1b[1m",
+        "\\x1b[1m",
+        "fields",
+        "\u{1b}[1m",
+    ),
+    (b"\x00\x00\x21x\x02\xc3\x28", "\\xc3(", "hex", "c328"),
+    (
+        b"\x00\x00\x21x\x04\xc2\x9b1m",
+        "\\xc2\\x9b1m",
+        "hex",
+        "c29b316d",
+    ),
+    (b"\x00\x00\x21x\x01\x7f", "\\x7f", "hex", "7f"),
+    (b"\x00\x00\x21x\x04\\x41", "\\x5cx41", "fields", "\\x41"),
+    (b"\x00\x00\x21x\x01\x00", "\\x00", "fields", "\0"),
+    (b"\x00\x00\x21x\x03\"}]", "\"}]", "fields", "\"}]"),
+    (
+        b"\x00\x00\x21x\x06w\xc3\xb6rld",
+        "w\u{f6}rld",
+        "fields",
+        "w\u{f6}rld",
+    ),
+];
+
+/// Returns the last key and the last string that a reader of JSON finds among its first tokens.
+fn last_words<'a>(reader: &mut Reader<'a>) -> (&'a str, &'a str) {
+    let mut key = "";
+    let mut text = "";
+    for _ in 0..64 {
+        match reader.next() {
+            Some(Token::Key(found)) => key = found,
+            Some(Token::String(found)) => text = found,
+            _ => {}
+        }
+    }
+    (key, text)
+}
+
+/// Asserts what a reader of JSON finds last in the first of these lines, and that each is JSON.
+fn check_lines<R: Abort>(
+    rt: &R,
+    alloc: Global,
+    lines: &str,
+    wanted: (&str, &str),
+) -> Result<(), AllocError> {
+    same(rt, are_json(alloc, lines)?, true, wanted.1);
+    let mut scratch = Scratch::new(alloc);
+    let line = lines.lines().next().unwrap_or("");
+    let mut reader = Reader::new(line, &mut scratch)?;
+    let (key, text) = last_words(&mut reader);
+    same(rt, key, wanted.0, wanted.1);
+    same(rt, text, wanted.1, wanted.1);
+    Ok(())
+}
+
+/// Asserts what the text and a reader of JSON have of a value.
+fn check_value<R: Abort>(rt: &R, alloc: Global, row: &ValueRow) -> Result<(), AllocError> {
+    let (bytes, text, key, value) = *row;
+    let shown = show_once(alloc, (bytes, Recorded::Section, false, false))?;
+    let line = shown.text.as_str().lines().nth(1).unwrap_or("");
+    same(rt, line.strip_prefix("        x = "), Some(text), text);
+    check_lines(rt, alloc, text_in(shown.lines.as_slice()), (key, value))
+}
+
+#[test]
+fn values_are_shown_as_text(rt: HostRuntime) -> Result<(), Fail> {
+    for row in &VALUES {
+        check_value(&rt, rt.alloc(), row)?;
+    }
+    Ok(())
+}
+
+/// The number of bytes of a long name.
+const LONG: usize = 61_440;
+
+/// Returns a section of a field with a long name and no value (RFC 9204, section 4.5.6).
+fn long_section(alloc: Global) -> Result<Vec<u8>, AllocError> {
+    let mut bytes = Vec::new(alloc);
+    // 61440 is 7 and 61433, which is 121 + 95 * 128 + 3 * 128 * 128.
+    bytes.extend_from_slice(b"\x00\x00\x27\xf9\xdf\x03")?;
+    bytes.resize(6 + LONG, b'n')?;
+    bytes.push(0)?;
+    Ok(bytes)
+}
+
+#[test]
+fn a_long_name_is_shown(rt: HostRuntime) -> Result<(), Fail> {
+    let alloc = rt.alloc();
+    let bytes = long_section(alloc)?;
+    let found = inspect(alloc, Recorded::Section, bytes.as_slice(), false)?;
+    let text = write_text(alloc, &found, bytes.as_slice(), false)?;
+    let line = text.as_str().lines().nth(1).unwrap_or("");
+    same(
+        &rt,
+        line.len(),
+        LONG + 11,
+        "indented by 8, and followed by an equals sign",
+    );
+    same(
+        &rt,
+        line.trim_end_matches(" = ").trim_start().len(),
+        LONG,
+        "the name",
+    );
+    let lines = write_json(alloc, &found, bytes.as_slice(), false)?;
+    same(
+        &rt,
+        are_json(alloc, text_in(lines.as_slice()))?,
+        true,
+        "lines",
+    );
+    Ok(())
+}

@@ -1,9 +1,0 @@
-use Rattle.std.proofs.Common.{◌≡◌, ◌++◌, take}
-use Rattle.std.specs.List.{flat_map}
-use Rattle.std.specs.String.{string_bytes}
-use Rattle.wt_inspection.specs.Escaped.{escaped_byte}
-use Rattle.wt_inspection.proofs.escaped.add_escaped.Given as goal
-
-abbrev pub invariant-loop-byte : goal.invariant-loop-byte
-invariant-loop-byte l =
-    string_bytes l.line ≡ string_bytes l.fn.line ++ flat_map escaped_byte (take l.byte-index l.bytes)

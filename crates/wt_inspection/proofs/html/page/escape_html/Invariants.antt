@@ -1,6 +1,0 @@
-use Rattle.std.proofs.Common.{◌≡◌, take}
-use Rattle.wt_inspection.specs.Html.{html_text}
-use Rattle.wt_inspection.proofs.html.page.escape_html.Given as goal
-
-abbrev pub invariant-loop-byte : goal.invariant-loop-byte
-invariant-loop-byte l = l.escaped.items ≡ html_text (take l.byte-index l.text)

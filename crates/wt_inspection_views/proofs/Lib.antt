@@ -1,0 +1,3 @@
+pub mod CleanLemmas
+pub mod JsonLemmas
+pub mod PageLemmas

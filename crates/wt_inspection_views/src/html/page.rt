@@ -1,0 +1,174 @@
+//! A page of HTML.
+ghost use Rattle.std.specs.Prelude.{◌≡◌, ℕ, List, [], ◌∷◌, ◌++◌, IfOk, MatchOption, OnErr};
+ghost use Rattle.wt_inspection_views.specs.Html.{IsPage, html_byte, html_text, markup_bytes};
+
+use std::alloc::{AllocError, Global};
+use std::marker::Model;
+
+/// The page up to the rows of bytes. The script marks what has the same number as what is pointed at.
+pub(super) const HEAD: &str =
+    "<!doctype html><html lang=\"en\"><head><meta charset=\"utf-8\"><meta http-equiv=\"Content-Se\
+    curity-Policy\" content=\"default-src 'none'; style-src 'unsafe-inline'; script-src 'sha256-\
+    aWoMiY3HOUe1MUTcbX3YP4Rn+c0qmJQrjohPstznJj8='\"><meta name=\"viewport\" content=\"width=devi\
+    ce-width\"><title>wt_inspect</title><style>:root{color-scheme:light dark;font:14px/1.4 ui-mo\
+    nospace,monospace}body{margin:1rem}main{display:grid;grid-template-columns:max-content minma\
+    x(0,1fr);gap:2rem}pre{margin:0;font:inherit}.bytes{max-height:94vh;overflow:auto;position:st\
+    icky;top:1rem}.items pre{white-space:pre-wrap;overflow-wrap:anywhere;border-left:3px solid t\
+    ransparent;padding-left:.5rem}.on{background:light-dark(#ffe08a,#5c4a00)}.bytes>span{display\
+    :block}.items b{color:light-dark(#8a4b00,#ffb454)}.items .fault{color:light-dark(#b00020,#ff\
+    7b88);border-color:currentColor;font-weight:bold}@media print{.bytes{max-height:none;overflo\
+    w:visible;position:static}}@media(max-width:60rem){main{grid-template-columns:minmax(0,1fr)}\
+    .bytes{position:static}}</style></head><body><main>\
+    <pre class=\"bytes\">";
+
+/// The page after the line of its end.
+pub(super) const TAIL: &str =
+    "</pre></div></main><script>const mark=(e,on)=>{const m=e.target.closest('[data-item]');if(m)docume\
+    nt.querySelectorAll('[data-item=\"'+m.dataset.item+'\"]').forEach(x=>x.classList.toggle('on'\
+    ,on))};for(const k of['mouseover','focusin'])addEventListener(k,e=>mark(e,true));for(const \
+    k of['mouseout','focusout'])addEventListener(k,e=>mark(e,false));addEventListener('click',e=\
+    >{const m=e.target.closest('[data-item]');if(m)for(const x of document.querySelectorAll('[da\
+    ta-item=\"'+m.dataset.item+'\"]'))if(x!==m)x.scrollIntoView({block:'nearest'})})</script></b\
+    ody></html>\n";
+
+/// Markup of a page. A page has no other: what a peer sent is text.
+#[derive(Clone, Copy)]
+pub(super) enum Markup {
+    /// The page up to the rows of bytes.
+    Head,
+    /// Begins the rows of an item, whose index follows.
+    RowsOf,
+    /// Begins the lines of an item, whose index follows.
+    ItemOf,
+    /// Follows an index.
+    TagEnd,
+    /// Ends the rows of an item.
+    RowsEnd,
+    /// Ends the rows of bytes, and begins the items.
+    Items,
+    /// Ends the lines of an item, and begins its warnings.
+    Warnings,
+    /// Ends the warnings of an item.
+    ItemEnd,
+    /// Begins the line of an end.
+    Ending,
+    /// Begins the line of an end at a fault.
+    Fault,
+    /// The page after the line of its end.
+    Tail,
+}
+
+impl Markup {
+    /// Returns the text of the markup.
+    fn as_str(self) -> &'static str
+        ensures { result.now ≡ markup_bytes self }
+    {
+        match self {
+            Markup::Head => HEAD,
+            Markup::RowsOf => "<span tabindex=\"0\" data-item=\"",
+            Markup::ItemOf => "<pre tabindex=\"0\" data-item=\"",
+            Markup::TagEnd => "\">",
+            Markup::RowsEnd => "</span>",
+            Markup::Items => "</pre><div class=\"items\">",
+            Markup::Warnings => "<b>",
+            Markup::ItemEnd => "</b></pre>",
+            Markup::Ending => "<pre>",
+            Markup::Fault => "<pre class=\"fault\">",
+            Markup::Tail => TAIL,
+        }
+    }
+}
+
+/// A page: markup, and text that is escaped.
+#[derive(Drop)]
+pub(super) struct Page {
+    alloc: Global,
+    out: Vec<u8>,
+}
+
+// The bytes of the page.
+impl Model for Page {
+    ghost Value = { List ℕ };
+
+    ghost view = { λ page. page.out.items };
+
+    ghost invariant = { λ page. IsPage page.out.items };
+}
+
+impl Page {
+    /// Creates an empty page.
+    pub(super) fn new(alloc: Global) -> Self
+        ensures { result ≡ [] }
+    {
+        Page {
+            alloc,
+            out: Vec::new(alloc),
+        }
+    }
+
+    /// Adds markup as it is.
+    ///
+    /// Returns [`AllocError`] if allocation fails; then the page is as it was.
+    pub(super) fn markup(&mut self, markup: Markup) -> Result<(), AllocError>
+        ensures added { IfOk result (λ _. self.new ≡ self.old ++ markup_bytes markup) }
+        ensures kept { OnErr result (self.new ≡ self.old) }
+    {
+        self.out.extend_from_slice(markup.as_str().as_bytes())
+    }
+
+    /// Adds a text, escaped.
+    ///
+    /// Returns [`AllocError`] if allocation fails; then the page is as it was.
+    pub(super) fn text(&mut self, text: &str) -> Result<(), AllocError>
+        ensures added { IfOk result (λ _. self.new ≡ self.old ++ html_text text.now) }
+        ensures kept { OnErr result (self.new ≡ self.old) }
+    {
+        let escaped = escape_html(self.alloc, text.as_bytes())?;
+        self.out.extend_from_slice(escaped.as_slice())
+    }
+
+    /// Adds an index in an attribute, and ends its tag.
+    pub(super) fn index(&mut self, index: usize) -> Result<(), AllocError> {
+        let alloc = self.alloc;
+        let digits = format!(in alloc; "{index}")?;
+        self.text(digits.as_str())?;
+        self.markup(Markup::TagEnd)
+    }
+
+    /// Returns the page.
+    pub(super) fn into_bytes(self) -> Vec<u8>
+        ensures bytes { result.items ≡ self }
+        ensures page { IsPage result.items }
+    {
+        self.out
+    }
+}
+
+/// Returns the bytes of a text, with `&`, `<`, `>` and both quotation marks as character references.
+fn escape_html(alloc: Global, text: &[u8]) -> Result<Vec<u8>, AllocError>
+    ensures { IfOk result (λ escaped. escaped.items ≡ html_text text.now) }
+{
+    let mut escaped = Vec::new(alloc);
+    for byte in text {
+        match reference_of(*byte) {
+            Some(reference) => escaped.extend_from_slice(reference)?,
+            None => escaped.push(*byte)?,
+        }
+    }
+    Ok(escaped)
+}
+
+/// Returns the character reference of a byte, if it must not stand in a text as it is.
+fn reference_of(byte: u8) -> Option<&'static [u8]>
+    ensures { MatchOption result (html_byte byte ≡ byte ∷ [])
+        (λ reference. reference.now ≡ html_byte byte) }
+{
+    match byte {
+        b'&' => Some(b"&amp;"),
+        b'<' => Some(b"&lt;"),
+        b'>' => Some(b"&gt;"),
+        b'"' => Some(b"&quot;"),
+        b'\'' => Some(b"&#39;"),
+        _ => None,
+    }
+}

@@ -1,0 +1,69 @@
+//! Texts for a terminal.
+ghost use Rattle.std.specs.Prelude.{◌≡◌, ℕ, List, [], IfOk, OnErr, string_bytes};
+ghost use Rattle.wt_inspection_views.specs.Escaped.{AddsLine, IsClean, IsLine};
+
+use crate::escaped::{add_escaped, has_no_control};
+use std::alloc::{AllocError, Global};
+use std::marker::Model;
+
+/// A text whose only control characters are the line feeds that end its lines.
+#[derive(Drop)]
+pub struct PlainText {
+    alloc: Global,
+    text: String,
+}
+
+// The bytes of the text.
+impl Model for PlainText {
+    ghost Value = { List ℕ };
+
+    ghost view = { λ plain. string_bytes plain.text };
+
+    ghost invariant = { λ plain. IsClean (string_bytes plain.text) };
+}
+
+impl PlainText {
+    /// Creates an empty text.
+    pub fn new(alloc: Global) -> Self
+        ensures { result ≡ [] }
+    {
+        PlainText {
+            alloc,
+            text: String::new(alloc),
+        }
+    }
+
+    /// Adds these words and a line feed. Words with control characters are added as
+    /// [`add_escaped`] adds them.
+    ///
+    /// Returns [`AllocError`] if allocation fails; then the text is as it was.
+    pub fn add_line(&mut self, words: &str) -> Result<(), AllocError>
+        ensures added { IfOk result (λ _. AddsLine words.now self.old self.new) }
+        ensures kept { OnErr result (self.new ≡ self.old) }
+    {
+        let line = line_of(self.alloc, words)?;
+        self.text.push_str(line.as_str())
+    }
+
+    /// Returns the text.
+    pub fn into_text(self) -> String
+        ensures text { string_bytes result ≡ self }
+        ensures clean { IsClean (string_bytes result) }
+    {
+        self.text
+    }
+}
+
+/// Returns a line of these words, with its line feed.
+fn line_of(alloc: Global, words: &str) -> Result<String, AllocError>
+    ensures { IfOk result (λ l. IsLine words.now (string_bytes l)) }
+{
+    let mut line = String::new(alloc);
+    if has_no_control(words) {
+        line.push_str(words)?;
+    } else {
+        add_escaped(&mut line, words.as_bytes())?;
+    }
+    line.push('\n')?;
+    Ok(line)
+}

@@ -1,5 +1,0 @@
-use Rattle.wtp_fields.proofs.LineTexts.{line_texts, line_fault}
-use Rattle.wtp_fields.proofs.laws.lines.lines_of_texts.Goals as goal
-
-pub returns : goal.returns
-returns c = record { line = line_texts; fault = line_fault }

@@ -1,8 +1,0 @@
-use Rattle.std.proofs.lemmas.Result.{err_from_is_err_and}
-use Rattle.wtp_fields.proofs.StringReading.{int_not_memory}
-use Rattle.wtp_fields.proofs.qpack.field_lines.indexed.Goals as goal
-
-pub returns-in_err-index-clause-memory : goal.returns-in_err-index-clause-memory
-returns-in_err-index-clause-memory c = λ memory.
-    let p = err_from_is_err_and c.from_residual.result c.from_residual.ensures.1 in
-    int_not_memory 6 c.args.bytes.now (cc (c.in_err-index.ensures, p.1, p.2, memory))

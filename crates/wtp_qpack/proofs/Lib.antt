@@ -1,0 +1,16 @@
+pub mod Chosen
+pub mod IntegerReading
+pub mod IntegerWriting
+pub mod IntegerLaws
+pub mod StaticLemmas
+pub mod StringBits
+pub mod StringReading
+pub mod StringWriting
+pub mod LineReading
+pub mod LineTexts
+pub mod SectionReading
+pub mod SectionWriting
+pub mod FieldMaps
+pub mod RoundTrip
+pub mod StringLaws
+pub mod SectionLaws

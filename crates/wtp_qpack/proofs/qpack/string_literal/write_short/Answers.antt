@@ -1,0 +1,14 @@
+use Rattle.std.proofs.Common.{arith}
+use Rattle.wtp_qpack.proofs.StringWriting.{encoded_raw, taken_back, written_after}
+use Rattle.wtp_qpack.proofs.qpack.string_literal.write_short.Goals as goal
+
+pub returns-then-size-text : goal.returns-then-size-text
+returns-then-size-text g c =
+    written_after g.row.N c.args.flags c.len-start.result _ c.only_byte.result c.args.text.now c.args.out.now.items _ c.append.new.out.items (omega (arith, c.len-start.ensures))
+    (omega (arith, c.len.ensures)) c.if-size-text.true c.in_ok-push.ensures.items c.in_ok-append.ensures.coded c.only_byte.ensures
+
+pub returns : goal.returns
+returns g c =
+    let back = taken_back c.len-start.result _ c.args.text.now c.args.out.now.items _ c.append.new.out.items (omega (arith, c.len-start.ensures)) (omega (arith, c.len.ensures)) c.if-size-text.false
+    c.in_ok-push.ensures.items c.in_ok-append.ensures.coded in
+    rw (encoded_raw g.row.N c.args.flags c.args.text.now back.1) (rw (c.truncate.ensures.items, back.0) at c.write_plain.ensures)

@@ -1,0 +1,125 @@
+-- Field lines (RFC 9204, sections 4.5.2 to 4.5.6).
+use Rattle.std.specs.Prelude.{ℕ, ◌/◌, ◌%◌, ◌^◌, ◌==◌, if◌then◌else◌, Bool, true, false, List, []}
+use Rattle.std.specs.Prelude.{◌∷◌, ◌++◌, Option, Some, None, Result, Ok, Err, string_bytes}
+use Rattle.std.specs.Str.{bytes_eq}
+use Rattle.wtp_qpack.specs.declared.qpack.DecodingError.{DecodingError}
+use Rattle.wtp_qpack.specs.declared.qpack.DecodingError.TheVariants.{UnexpectedFin}
+use Rattle.wtp_qpack.specs.declared.qpack.DecodingError.TheVariants.{DynamicNotSupported}
+use Rattle.wtp_qpack.specs.declared.qpack.DecodingError.TheVariants.{IndexNotfound}
+use Rattle.wtp_qpack.specs.declared.qpack.field_line.Line.{Line}
+use Rattle.wtp_qpack.specs.declared.qpack.field_line.Table.{Table}
+use Rattle.wtp_qpack.specs.declared.qpack.field_line.Table.TheVariants.{Static, Dynamic}
+use Rattle.wtp_qpack.specs.declared.qpack.field_line.Representation.{Representation}
+use Rattle.wtp_qpack.specs.declared.qpack.field_line.Representation.TheVariants.{Indexed}
+use Rattle.wtp_qpack.specs.declared.qpack.field_line.Representation.TheVariants.{IndexedPostBase}
+use Rattle.wtp_qpack.specs.declared.qpack.field_line.Representation.TheVariants.{NameReference}
+use Rattle.wtp_qpack.specs.declared.qpack.field_line.Representation.TheVariants.{PostBaseNameReference}
+use Rattle.wtp_qpack.specs.declared.qpack.field_line.Representation.TheVariants.{LiteralName}
+use Rattle.wtp_qpack.specs.Field.{Field}
+use Rattle.wtp_qpack.specs.Qpack.{◌>>=◌}
+use Rattle.wtp_qpack.specs.Integer.{integer_at, shortest_int}
+use Rattle.wtp_qpack.specs.StaticTable.{entry_at, first_entry}
+use Rattle.wtp_qpack.specs.StringLiteral.{string_at, encoded_string}
+
+-- the bit at a position of a byte, the lowest at 0
+abbrev pub bit : ℕ → ℕ → Bool
+bit place byte = byte / 2 ^ place % 2 == 1
+
+-- the table that the bit T refers to
+abbrev pub table_of : Bool → Table
+table_of true = Static
+table_of false = Dynamic
+
+-- the representation of a line by its first four bits, the highest first
+abbrev pub by_bits : Bool → Bool → Bool → Bool → Representation
+by_bits true t _ _ = Indexed (table_of t)  -- 1T, section 4.5.2
+by_bits false false false true = IndexedPostBase  -- 0001, section 4.5.3
+by_bits false true n t = NameReference (table_of t)  -- 01NT, section 4.5.4
+by_bits false false false false = PostBaseNameReference  -- 0000, section 4.5.5
+by_bits false false true n = LiteralName  -- 001N, section 4.5.6
+
+abbrev pub representation_of : ℕ → Representation
+representation_of first = by_bits (bit 7 first) (bit 6 first) (bit 5 first) (bit 4 first)
+
+-- what was read of a line: the field and the bytes after it
+abbrev pub line_view : Line → Field × List ℕ
+line_view line = ((string_bytes line.name, string_bytes line.value), line.rest.now)
+
+-- ---- reading: the field and the bytes after it, or the first fault
+
+-- the entry of the static table, if there is one
+abbrev pub or_not_found : Option Field → Result Field DecodingError
+or_not_found None = Err IndexNotfound
+or_not_found (Some entry) = Ok entry
+
+-- an index with prefix 6, the whole entry
+unfoldable pub indexed_at : List ℕ → Result (Field × List ℕ) DecodingError
+indexed_at bytes = do
+  index ← integer_at 6 bytes
+  entry ← or_not_found (entry_at index.0)
+  Ok (entry, index.1)
+
+-- the string at the start of bytes, with its length in n bits
+abbrev pub Strings : Type 0
+Strings = ℕ → List ℕ → Result (List ℕ × List ℕ) DecodingError
+
+-- the line at the start of bytes
+abbrev pub Lines : Type 0
+Lines = List ℕ → Result (Field × List ℕ) DecodingError
+
+-- an index with prefix 4, the name of the entry; and a value
+abbrev pub name_reference_by : Strings → Lines
+name_reference_by string bytes = do
+  index ← integer_at 4 bytes
+  entry ← or_not_found (entry_at index.0)
+  value ← string 7 index.1
+  Ok ((entry.0, value.0), value.1)
+
+unfoldable pub name_reference_at : Lines
+name_reference_at bytes = name_reference_by string_at bytes
+
+-- a name and a value
+abbrev pub literal_name_by : Strings → Lines
+literal_name_by string bytes = do
+  name ← string 3 bytes
+  value ← string 7 name.1
+  Ok ((name.0, value.0), value.1)
+
+unfoldable pub literal_name_at : Lines
+literal_name_at bytes = literal_name_by string_at bytes
+
+-- a line that needs the dynamic table is refused before more of it is read
+abbrev pub line_from : Lines → Lines → Representation → Lines
+line_from reference name (Indexed Static) bytes = indexed_at bytes
+line_from reference name (Indexed Dynamic) bytes = Err DynamicNotSupported
+line_from reference name IndexedPostBase bytes = Err DynamicNotSupported
+line_from reference name (NameReference Static) bytes = reference bytes
+line_from reference name (NameReference Dynamic) bytes = Err DynamicNotSupported
+line_from reference name PostBaseNameReference bytes = Err DynamicNotSupported
+line_from reference name LiteralName bytes = name bytes
+
+abbrev pub line_by : Representation → Lines
+line_by representation bytes = line_from name_reference_at literal_name_at representation bytes
+
+-- the line at the start
+unfoldable pub line_at : List ℕ → Result (Field × List ℕ) DecodingError
+line_at [] = Err UnexpectedFin
+line_at (first ∷ bytes) = line_by (representation_of first) (first ∷ bytes)
+
+-- ---- writing
+
+abbrev pub has_value : Option Field → List ℕ → Bool
+has_value None value = false
+has_value (Some entry) value = bytes_eq entry.1 value
+
+-- a line by the index of the name's first static entry, if there is one: 11 and the index, if the
+-- entry has the value too; 0101, the index and the value; or 0010, the name and the value
+abbrev pub line_of : Option ℕ → Field → List ℕ
+line_of (Some index) field =
+    if has_value (entry_at index) field.1
+    then shortest_int 6 3 index
+    else shortest_int 4 5 index ++ encoded_string 7 0 field.1
+line_of None field = encoded_string 3 2 field.0 ++ encoded_string 7 0 field.1
+
+unfoldable pub encoded_line : Field → List ℕ
+encoded_line field = line_of (first_entry field.0) field

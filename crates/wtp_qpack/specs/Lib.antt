@@ -1,0 +1,10 @@
+pub mod Qpack
+pub mod Integer
+pub mod Field
+pub mod StaticTable
+pub mod StaticNames
+pub mod StringLiteral
+pub mod FieldLine
+pub mod FieldSection
+pub mod SectionCodes
+pub mod FieldLines

@@ -1,0 +1,38 @@
+//! Laws of field lines as bytes, and of the lines and maps of texts that they make.
+ghost use Rattle.std.specs.Prelude.{◌≡◌, ◌⊎◌, ℕ, ◌<◌, List, [], length, Ok, Err};
+ghost use Rattle.wtp_qpack.specs.declared.qpack.DecodingError.{DecodingError};
+ghost use Rattle.wtp_qpack.specs.declared.qpack.DecodingError.TheVariants.{InvalidString};
+ghost use Rattle.wtp_qpack.specs.Field.{Field, field_map};
+ghost use Rattle.wtp_qpack.specs.FieldLine.{line_at};
+ghost use Rattle.wtp_qpack.specs.FieldSection.{after_prefix, map_at};
+ghost use Rattle.wtp_qpack.specs.FieldLines.{octet_line_at, as_texts, AreOctetLines, AreUtf8Fields};
+
+/// A line of bytes is the line of texts, if its name and its value are UTF-8, and otherwise no
+/// valid one. A line that is cut or invalid as bytes is so as texts, with the same fault, unless
+/// its name, which is read first, is not UTF-8.
+pub fn lines_of_texts()
+    ensures line { (bytes rest : List ℕ) (line : Field) → octet_line_at bytes ≡ Ok (line, rest)
+        → line_at bytes ≡ as_texts (line, rest) }
+    ensures fault { (bytes : List ℕ) (e : DecodingError) → octet_line_at bytes ≡ Err e
+        → (line_at bytes ≡ Err e) ⊎ (line_at bytes ≡ Err InvalidString) }
+{}
+
+/// The map of a section is the map of its lines, all of which are UTF-8. A section with a line that
+/// has a fault, or is not UTF-8, after lines that are UTF-8, has no map: its fault is that of the
+/// line.
+pub fn maps_of_lines()
+    ensures found { (section : List ℕ) (m : List Field) → map_at section ≡ Ok m
+        → (lines : List ℕ) × (fields : List Field) × (after_prefix section ≡ Ok lines)
+        × AreOctetLines lines fields [] × AreUtf8Fields fields × (m ≡ field_map fields) }
+    ensures map { (section lines : List ℕ) (fields : List Field) → after_prefix section ≡ Ok lines
+        → AreOctetLines lines fields [] → AreUtf8Fields fields
+        → map_at section ≡ Ok (field_map fields) }
+    ensures fault { (section lines rest : List ℕ) (fields : List Field) (e : DecodingError)
+        → after_prefix section ≡ Ok lines → AreOctetLines lines fields rest → AreUtf8Fields fields
+        → 0 < length rest → octet_line_at rest ≡ Err e
+        → (map_at section ≡ Err e) ⊎ (map_at section ≡ Err InvalidString) }
+    ensures not_text { (section lines rest behind : List ℕ) (fields : List Field) (line : Field)
+        → after_prefix section ≡ Ok lines → AreOctetLines lines fields rest → AreUtf8Fields fields
+        → octet_line_at rest ≡ Ok (line, behind) → as_texts (line, behind) ≡ Err InvalidString
+        → map_at section ≡ Err InvalidString }
+{}
