@@ -1,5 +1,4 @@
-//! Streams and datagrams as real stacks sent them. What is expected is what these stacks say of
-//! them, and what a reader outside this repository found.
+//! Streams and datagrams of real stacks, with what these stacks and an outside reader say of them.
 use crate::opened::{opened_here, opened_there};
 use crate::reads::{Read, Reads};
 use crate::same::same;
