@@ -4,6 +4,7 @@ use crate::same::same;
 use crate::sections::{
     FaultRow, assert_come_back, assert_decoded, assert_encoded, assert_faults, assert_map,
 };
+use crate::session_errors::assert_texts;
 use std::alloc::{AllocError, Global};
 use std::collections::BTreeMap;
 use std::process::Abort;
@@ -387,25 +388,6 @@ fn decoders_and_encoders_are_copied(rt: HostRuntime) -> Result<(), Fail> {
     Ok(())
 }
 
-/// An error's text, asked for once more where memory was refused.
-fn text_of(alloc: Global, error: DecodingError) -> Result<String, AllocError> {
-    match error.to_string(alloc) {
-        Ok(text) => Ok(text),
-        Err(AllocError) => error.to_string(alloc),
-    }
-}
-
-/// Asserts that an error has this text.
-fn assert_shown(
-    rt: &impl Abort,
-    alloc: Global,
-    error: DecodingError,
-    text: &str,
-) -> Result<(), AllocError> {
-    same(rt, text_of(alloc, error)?.as_str(), text, text);
-    Ok(())
-}
-
 /// Errors and their texts.
 static ERRORS: [(DecodingError, &str); 6] = [
     (
@@ -427,8 +409,6 @@ static ERRORS: [(DecodingError, &str); 6] = [
 
 #[test]
 fn printed_errors_past_refused_memory(rt: HostRuntime) -> Result<(), Fail> {
-    for (error, text) in &ERRORS {
-        assert_shown(&rt, rt.alloc(), *error, text)?;
-    }
+    assert_texts(&rt, rt.alloc(), &ERRORS)?;
     Ok(())
 }

@@ -163,7 +163,7 @@ fn refused_sections_past_refused_memory(rt: HostRuntime) {
 
 /// Inserts a field. Where memory was refused the map must be as it was, and the field is inserted
 /// once more.
-fn insert(
+pub(crate) fn insert(
     rt: &impl Abort,
     headers: &mut Headers,
     (name, value): (&str, &str),

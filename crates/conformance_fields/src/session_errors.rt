@@ -28,7 +28,7 @@ fn assert_shown(
 }
 
 /// Asserts it of each error.
-fn assert_texts<E: Display>(
+pub(crate) fn assert_texts<E: Display>(
     rt: &impl Abort,
     alloc: Global,
     rows: &[(E, &str)],

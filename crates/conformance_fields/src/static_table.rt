@@ -126,24 +126,29 @@ fn entries() -> Entries {
     &APPENDIX_A
 }
 
-/// The line of an index: one byte below 63, and a byte more from there on.
-fn whole_line(alloc: Global, index: usize) -> Result<Vec<u8>, AllocError> {
-    let rest = index.wrapping_sub(63) % 128;
-    if index < 63 {
-        join(alloc, [b"\x00\x00", &[0xc0 | index as u8], b""])
-    } else {
-        join(alloc, [b"\x00\x00\xff", &[rest as u8], b""])
-    }
-}
+/// The first byte of lines of whole entries, and the greatest integer in its low bits.
+const WHOLE: (u8, u8) = (0xc0, 63);
 
-/// The section of one line that refers to the name of an entry, and has the value `~`, which no
-/// entry has.
-fn name_line(alloc: Global, index: usize) -> Result<Vec<u8>, AllocError> {
-    let rest = index.wrapping_sub(15) % 128;
-    if index < 15 {
-        join(alloc, [b"\x00\x00", &[0x50 | index as u8], b"\x01~"])
+/// The same of lines of the name of an entry.
+const NAMED: (u8, u8) = (0x50, 15);
+
+/// The value `~`, which no entry has.
+const VALUE: &[u8] = b"\x01~";
+
+/// The section of one line that refers to an index, which takes a byte more where the low bits are
+/// too few, and then has this value.
+fn line_of(
+    alloc: Global,
+    (first, ones): (u8, u8),
+    index: usize,
+    value: &[u8],
+) -> Result<Vec<u8>, AllocError> {
+    let most = usize::from(ones);
+    let rest = index.wrapping_sub(most) % 128;
+    if index < most {
+        join(alloc, [b"\x00\x00", &[first | index as u8], value])
     } else {
-        join(alloc, [b"\x00\x00\x5f", &[rest as u8], b"\x01~"])
+        join(alloc, [b"\x00\x00", &[first | ones, rest as u8], value])
     }
 }
 
@@ -154,9 +159,9 @@ fn assert_entry(
     index: usize,
     (name, value): (&str, &str),
 ) -> Result<(), DecodingError> {
-    let whole = whole_line(alloc, index)?;
+    let whole = line_of(alloc, WHOLE, index, b"")?;
     assert_decoded(rt, alloc, whole.as_slice(), &[(name, value)], index)?;
-    let named = name_line(alloc, index)?;
+    let named = line_of(alloc, NAMED, index, VALUE)?;
     assert_decoded(rt, alloc, named.as_slice(), &[(name, "~")], index)
 }
 
@@ -167,7 +172,7 @@ fn assert_first_entry(
     first: usize,
     name: &str,
 ) -> Result<(), AllocError> {
-    let section = name_line(alloc, first)?;
+    let section = line_of(alloc, NAMED, first, VALUE)?;
     assert_encoded(rt, alloc, &[(name, "~")], section.as_slice(), name)
 }
 
