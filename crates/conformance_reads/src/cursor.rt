@@ -251,9 +251,14 @@ static OPENED_THERE: [Row<'static>; 16] = [
     (b"\x0a\x02ab\x0a\x00", &[], Ok(()), "unknown frames alone"),
 ];
 
+/// These rows. A table is proved where it is used, so the tests share this use.
+fn rows_there() -> &'static [Row<'static>] {
+    &OPENED_THERE
+}
+
 #[test]
 fn a_stream_opened_there_is_read_however_cut(rt: HostRuntime) {
-    check_rows(&rt, StreamRole::BiRemote, &OPENED_THERE);
+    check_rows(&rt, StreamRole::BiRemote, rows_there());
 }
 
 /// The polls of a new stream that the peer opened read each row.
@@ -265,7 +270,7 @@ fn check_new<R: Abort + AllocGlobal>(rt: &R, rows: &[Row<'_>]) {
 
 #[test]
 fn a_stream_opened_there_is_polled_so(rt: HostRuntime) {
-    check_new(&rt, &OPENED_THERE);
+    check_new(&rt, rows_there());
 }
 
 /// A stream in both directions that was opened here, or that has its session.
@@ -297,16 +302,21 @@ static OPENED_HERE: [Row<'static>; 5] = [
     ),
 ];
 
+/// These rows, for each test that uses them.
+fn rows_here() -> &'static [Row<'static>] {
+    &OPENED_HERE
+}
+
 #[test]
 fn streams_opened_here_are_read_however_cut(rt: HostRuntime) {
-    check_rows(&rt, StreamRole::BiLocal, &OPENED_HERE);
-    check_rows(&rt, StreamRole::Session, &OPENED_HERE);
+    check_rows(&rt, StreamRole::BiLocal, rows_here());
+    check_rows(&rt, StreamRole::Session, rows_here());
 }
 
 #[test]
 fn streams_opened_here_are_polled_so(rt: HostRuntime) -> Result<(), Fail> {
-    check_polled_rows(&rt, &mut opened_here(), &OPENED_HERE);
-    check_polled_rows(&rt, &mut of_session(rt.alloc())?, &OPENED_HERE);
+    check_polled_rows(&rt, &mut opened_here(), rows_here());
+    check_polled_rows(&rt, &mut of_session(rt.alloc())?, rows_here());
     Ok(())
 }
 
@@ -335,14 +345,19 @@ static CONTROL: [Row<'static>; 6] = [
     ),
 ];
 
+/// These rows, for each test that uses them.
+fn rows_of_control() -> &'static [Row<'static>] {
+    &CONTROL
+}
+
 #[test]
 fn a_control_stream_is_read_however_cut(rt: HostRuntime) {
-    check_rows(&rt, StreamRole::UniRemote, &CONTROL);
+    check_rows(&rt, StreamRole::UniRemote, rows_of_control());
 }
 
 #[test]
 fn a_control_stream_is_polled_so(rt: HostRuntime) -> Result<(), Fail> {
-    check_polled_rows(&rt, &mut control()?, &CONTROL);
+    check_polled_rows(&rt, &mut control()?, rows_of_control());
     Ok(())
 }
 

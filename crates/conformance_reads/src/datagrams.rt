@@ -66,7 +66,7 @@ fn one_byte_too_little_room_leaves_the_buffer(rt: HostRuntime) {
 }
 
 /// Bytes that are no datagram, and what the row shows.
-const FAULTS: [(&[u8], &str); 3] = [
+static FAULTS: [(&[u8], &str); 3] = [
     (&[], "nothing"),
     (&[0xcf], "a cut number"),
     (&[0xd0, 0, 0, 0, 0, 0, 0, 0], "a number of 2^60"),
@@ -82,7 +82,7 @@ fn fault(bytes: &[u8]) -> Option<ErrorCode> {
 
 #[test]
 fn faults_are_answered(rt: HostRuntime) {
-    for (bytes, word) in FAULTS {
+    for (bytes, word) in &FAULTS {
         same(&rt, fault(bytes), Some(ErrorCode::Datagram), word);
     }
 }

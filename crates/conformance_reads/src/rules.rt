@@ -82,10 +82,11 @@ static OPENED_HERE: [PollRow; 8] = [
 
 #[test]
 fn streams_opened_here_keep_their_rule(rt: HostRuntime) -> Result<(), Fail> {
+    let rows = OPENED_HERE.as_slice();
     let mut local = opened_here();
-    check_sources(&rt, &mut local, &OPENED_HERE);
+    check_sources(&rt, &mut local, rows);
     same(&rt, local.can_upgrade(), true, "reading does not count");
-    check_sources(&rt, &mut of_session(rt.alloc())?, &OPENED_HERE);
+    check_sources(&rt, &mut of_session(rt.alloc())?, rows);
     Ok(())
 }
 

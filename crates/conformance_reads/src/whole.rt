@@ -112,10 +112,11 @@ static LARGEST: [ReadRow; 1] = [(
 
 #[test]
 fn frames_are_read_by_the_rule(rt: HostRuntime) -> Result<(), Fail> {
+    let rows = OF_BOTH.as_slice();
     let mut local = opened_here();
-    check_rows(&rt, &mut local, &OF_BOTH);
+    check_rows(&rt, &mut local, rows);
     same(&rt, local.can_upgrade(), true, "reading does not count");
-    check_rows(&rt, &mut of_session(rt.alloc())?, &OF_BOTH);
+    check_rows(&rt, &mut of_session(rt.alloc())?, rows);
     check_rows(&rt, &mut opened_there(), &LARGEST);
     Ok(())
 }
