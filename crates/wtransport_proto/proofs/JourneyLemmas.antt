@@ -1,7 +1,7 @@
 -- The journey of a header map: what polls of a sending and of a reading add up to, and that the map comes back.
 use Rattle.std.proofs.Common.{◌≡◌, ◌≢◌, ℕ, ◌+◌, ◌*◌, ◌<◌, ◌≤◌, Bool, false, List, [], ◌∷◌, ◌++◌, length, refl, sym, ap, ◌∙◌, arith, inl, inr, Option, None, Result, Ok, Err}
 use Rattle.std.proofs.lemmas.Bool.{cases_lt}
-use Rattle.wtp_core.specs.declared.bytes.polled.Polled.TheVariants.{Pending, Again, NoMemory}
+use Rattle.wtp_core.specs.declared.bytes.polled.Polled.TheVariants.{Ready, Pending, Again, NoMemory}
 use Rattle.wtp_core.specs.Source.{Source, Telling}
 use Rattle.wtp_core.specs.Polled.{Asks}
 use Rattle.wtp_core.proofs.TellingLemmas.{telling_map, telling_same, telling_then, telling_both}
@@ -18,13 +18,15 @@ use Rattle.wtp_fields.specs.Headers.{payload, headers_at, or_decompression, Begi
 use Rattle.wtp_wire.proofs.FramePollLemmas.{front_none, front_due}
 use Rattle.wtp_wire.proofs.WireLemmas.{front-wire}
 use Rattle.wtp_fields.proofs.Payloads.{payload_again}
+use Rattle.wtransport_proto.specs.declared.stream.polled.IoReadError.{IoReadError}
 use Rattle.wtransport_proto.specs.declared.journey.ReceiveError.{ReceiveError}
 use Rattle.wtransport_proto.specs.declared.journey.ReceiveError.TheVariants as receive
 use Rattle.wtransport_proto.specs.Rule.{Role, RemoteBi, LocalBi, RemoteUni, InSession, rule}
 use Rattle.wtransport_proto.specs.Run.{Run, Tail, past_unknown, run, follows}
 use Rattle.wtransport_proto.specs.HeldRun.{tail_of, run_of}
-use Rattle.wtransport_proto.specs.StreamPolling.{PassesUnknown, LacksMemory, StreamPolled}
-use Rattle.wtransport_proto.specs.Journey.{past_front, KeptPlace, Turned, Takes, FrameDid, MapDid, CameBack, ReadsBack}
+use Rattle.wtransport_proto.specs.Reading.{FirstAfter}
+use Rattle.wtransport_proto.specs.StreamPolling.{SourceIsAfter, StreamTakesFrame, Faults, PassesUnknown, LacksMemory, StreamPolled}
+use Rattle.wtransport_proto.specs.Journey.{past_front, KeptPlace, Turned, Takes, LeftIsAfter, Breaks, FrameDid, MapDid, CameBack, ReadsBack}
 use Rattle.wtransport_proto.proofs.RunLemmas.{past_unknown-unknown, past_unknown-framed, past_unknown-bad, past_unknown-big, past_unknown-short}
 use Rattle.wtransport_proto.proofs.RunLaws.{run-allowed}
 use Rattle.wtransport_proto.proofs.HeldRunLemmas.{skip_not_read, leaves_run, leaves_size, unknown_run, unknown_size, run_new}
@@ -127,6 +129,41 @@ told_memory s t u role f0 f1 f2 n turns mid new p q k =
     telling_then s t u (Turned role f0 f1 n mid) (λ b c. LacksMemory f1 f2 mid new b c × Asks 4112 b c) (FrameDid role f0 f2 turns (Err receive.Memory))
     (λ a b c g h. (new, kept_still role f0 f1 f2 mid new a b c g.kept h.0.leaves h.0.flag h.1.ending))
     p (telling_both t u (LacksMemory f1 f2 mid new) (Asks 4112) q k)
+
+taken : (role : Role) (f0 f1 f2 : Bool) (mid new : Held) (f : Content) (a b c : Source) → KeptPlace role f0 f1 mid a b → StreamTakesFrame role f1 f2 mid new f b c → Takes role f0 f2 f a c
+taken role f0 f1 f2 mid new f a b c g t = record { known = sym g.known ∙ ap past_front t.decided.front; allowed = rw (← g.flag) t.allowed; flag = t.flag }
+
+pub told_taken : (s t u : Option Source) (role : Role) (f0 f1 f2 : Bool) (n turns : ℕ) (mid new : Held) (f : Content)
+    → Telling s t (Turned role f0 f1 n mid) → Telling t u (StreamPolled role (Ready (Ok f)) f1 f2 mid new) → Telling s u (FrameDid role f0 f2 turns (Ok f))
+told_taken s t u role f0 f1 f2 n turns mid new f p q =
+    telling_then s t u (Turned role f0 f1 n mid) (StreamTakesFrame role f1 f2 mid new f) (Takes role f0 f2 f) (λ a b c g h. taken role f0 f1 f2 mid new f a b c g.kept h) p q
+
+-- by the front that decided
+left_by : (role : Role) (f0 f1 f2 : Bool) (mid new : Held) (b c : Source) (k : Front) → f1 ≡ f0 → FirstAfter role f1 k f2 → SourceIsAfter k mid new b c → FirstAfter role f0 (past_front k) f2 × LeftIsAfter (past_front k) c.ahead
+left_by role f0 f1 f2 mid new b c (Framed f rest) same flag place = (flag, sym place.1)
+left_by role f0 f1 f2 mid new b c (Unknown rest) same flag place = absurd place
+left_by role f0 f1 f2 mid new b c (BadId rest) same flag place = (flag ∙ same, sym place.1)
+left_by role f0 f1 f2 mid new b c (TooBig rest) same flag place = (flag ∙ same, sym place.1)
+left_by role f0 f1 f2 mid new b c Short same flag place = (flag ∙ same, place.1)
+
+broken : (role : Role) (f0 f1 f2 : Bool) (mid new : Held) (x : IoReadError) (a b c : Source) → KeptPlace role f0 f1 mid a b → Faults role f1 f2 mid new x b c → Breaks role f0 f2 x a c
+broken role f0 f1 f2 mid new x a b c g t =
+    let left = left_by role f0 f1 f2 mid new b c (front_held mid b.ahead) g.flag t.flag t.place in
+    record {
+      ends = record { frames = ap (λ (r : Run). r.frames) g.run ∙ t.ends.frames; fault = rw (ap (λ (r : Run). r.ending) g.run) t.ends.fault };
+      flag = rw (← g.known) left.0;
+      place = rw (← g.known) left.1;
+      dry = t.dry;
+    }
+
+pub told_broken : (s t u : Option Source) (role : Role) (f0 f1 f2 : Bool) (n turns : ℕ) (mid new : Held) (x : IoReadError)
+    → Telling s t (Turned role f0 f1 n mid) → Telling t u (StreamPolled role (Ready (Err x)) f1 f2 mid new) → Telling s u (FrameDid role f0 f2 turns (Err (receive.Stream x)))
+told_broken s t u role f0 f1 f2 n turns mid new x p q =
+    telling_then s t u (Turned role f0 f1 n mid) (Faults role f1 f2 mid new x) (Breaks role f0 f2 x) (λ a b c g h. broken role f0 f1 f2 mid new x a b c g.kept h) p q
+
+pub told_waited : (s t : Option Source) (role : Role) (f0 f1 : Bool) (turns : ℕ) (mid : Held)
+    → Telling s t (Turned role f0 f1 turns mid) → Telling s t (FrameDid role f0 f1 turns (Err receive.Waiting))
+told_waited s t role f0 f1 turns mid p = telling_map s t (Turned role f0 f1 turns mid) (FrameDid role f0 f1 turns (Err receive.Waiting)) (λ a b g. (mid, g)) p
 
 -- ---- calls
 

@@ -160,5 +160,3 @@ rule_first RemoteBi f g kind h = absurd (h refl)
 rule_first LocalBi f g kind h = refl
 rule_first RemoteUni f g kind h = refl
 rule_first InSession f g kind h = refl
-
-pub ruleset run_answers = (run_some, run_none, run_err, place_some, place_none, place_err)

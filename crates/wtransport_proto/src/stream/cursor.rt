@@ -164,7 +164,6 @@ impl FrameCursor {
 
 /// Reads the first frame of a known or exercise kind. Unknown frames before it are passed, and the
 /// bytes after them are left if they are too few for a frame.
-#[tactic(auto, using(wtp_core::proofs::RestLemmas::rests))]
 fn read_known<'a>(rest: &mut &'a [u8]) -> Result<Option<Frame<'a>>, ErrorCode>
     ensures answer { AnswersKnown (front (past_unknown rest.old.now)) result rest.new.now }
     ensures short { result ≡ Ok None → rest.new.now ≡ past_unknown rest.old.now }

@@ -23,7 +23,6 @@ pub(crate) trait Rule {
 
 /// Reads the first frame of a known or exercise kind; unknown frames before it are skipped.
 #[inline(always)]
-#[tactic(auto, using(wtp_core::proofs::RestLemmas::rests))]
 fn read_known<'a, R: BytesReader<'a>>(reader: &mut R) -> Result<Option<Frame<'a>>, ErrorCode>
     ensures answer { AnswersKnown (front (past_unknown (R.left reader.old))) result
         (R.left reader.new) }
@@ -65,7 +64,6 @@ pub(crate) fn read_frame<'a, K: Rule, R: BytesReader<'a>>(
 
 /// Reads the next frame as `read_frame` does, and moves past it only.
 #[inline(always)]
-#[tactic(auto, using(crate::proofs::ReadingLemmas::run_answers))]
 pub(crate) fn read_frame_from_buffer<'a, K: Rule>(
     first_frame_done: &mut bool,
     reader: &mut BufferReader<'a>,

@@ -1,5 +1,5 @@
 use Rattle.std.proofs.Common.{◌≡◌, [], ◌∷◌, ◌++◌, length, drop, refl, sym, ap, ◌∙◌, arith, append-nil}
-use Rattle.wtransport_proto.proofs.DriveLemmas.{first_same, first_on, none_yet, pushed, pushed_appends, pushed_most, told_start, told_still, told_waiting, told_ended, told_frame, told_unknown}
+use Rattle.wtransport_proto.proofs.DriveLemmas.{first_same, first_on, none_yet, pushed, pushed_appends, pushed_most, told_start, told_full, told_spent, told_still, told_waiting, told_ended, told_frame, told_unknown}
 use Rattle.wtransport_proto.proofs.stream.driving.drive.Goals as goal
 use Rattle.wtransport_proto.proofs.stream.driving.drive.Goals.{in-Ready-Ok, in-Again}
 
@@ -13,20 +13,6 @@ loop-turn-init g c = record {
   tells = told_start (g.S.AsyncRead.tells c.args.source.now) g.K.ReadsFrames.role (g.K.ReadsFrames.first c.args.stream.now) c.args.reading.now _ (none_yet c.args.out.now.items);
   none = λ _. (refl, refl, refl, refl);
 }
-
-pub returns-in-Pending-clause-did : goal.returns-in-Pending-clause-did
-returns-in-Pending-clause-did g c =
-    rw c.reserve.ensures.items (told_waiting (g.S.AsyncRead.tells c.args.source.now) (g.S.AsyncRead.tells c.loop-turn.source) (g.S.AsyncRead.tells c.read_frame_async.new.source)
-    g.K.ReadsFrames.role (g.K.ReadsFrames.first c.args.stream.now) (g.K.ReadsFrames.first c.loop-turn.stream) (g.K.ReadsFrames.first c.read_frame_async.new.self)
-    c.args.reading.now c.loop-turn.reading c.read_frame_async.new.reading (drop (length c.args.out.now.items) c.loop-turn.out.items)
-    c.loop-turn._turn c.args.polls c.loop-turn-test.true c.read_frame_async.ensures.was_unfinished c.loop-turn.invariant.tells c.in-Pending.ensures.polled c.read_frame_async.ensures.asks)
-
-pub returns-in-NoMemory-clause-did : goal.returns-in-NoMemory-clause-did
-returns-in-NoMemory-clause-did g c =
-    rw c.reserve.ensures.items (told_still (g.S.AsyncRead.tells c.args.source.now) (g.S.AsyncRead.tells c.loop-turn.source) (g.S.AsyncRead.tells c.read_frame_async.new.source)
-    g.K.ReadsFrames.role (g.K.ReadsFrames.first c.args.stream.now) (g.K.ReadsFrames.first c.loop-turn.stream) (g.K.ReadsFrames.first c.read_frame_async.new.self)
-    c.args.reading.now c.loop-turn.reading c.read_frame_async.new.reading (drop (length c.args.out.now.items) c.loop-turn.out.items)
-    c.loop-turn._turn c.args.polls c.loop-turn-test.true c.read_frame_async.ensures.was_unfinished c.loop-turn.invariant.tells c.in-NoMemory.ensures.polled c.read_frame_async.ensures.asks)
 
 pub loop-turn-preserved : goal.loop-turn-preserved
 loop-turn-preserved g c =
@@ -59,9 +45,85 @@ loop-turn-preserved g c =
       }
     ]
 
-pub returns-in-Ready-Err-clause-did : goal.returns-in-Ready-Err-clause-did
-returns-in-Ready-Err-clause-did g c =
-    rw c.reserve.ensures.items (told_ended (g.S.AsyncRead.tells c.args.source.now) (g.S.AsyncRead.tells c.loop-turn.source) (g.S.AsyncRead.tells c.read_frame_async.new.source)
-    g.K.ReadsFrames.role (g.K.ReadsFrames.first c.args.stream.now) (g.K.ReadsFrames.first c.loop-turn.stream) (g.K.ReadsFrames.first c.read_frame_async.new.self)
-    c.args.reading.now c.loop-turn.reading c.read_frame_async.new.reading (drop (length c.args.out.now.items) c.loop-turn.out.items)
-    c.in-Ready-Err.fault c.loop-turn._turn c.args.polls c.loop-turn-test.true c.read_frame_async.ensures.was_unfinished c.loop-turn.invariant.tells (rw c.in-Ready-Err.field-0-is at c.in-Ready-Err.ensures.polled) c.read_frame_async.ensures.asks)
+pub returns-in-Err : goal.returns-in-Err
+returns-in-Err g c = record {
+  can = c.loop-turn.invariant.can;
+  changes = c.loop-turn.invariant.changes;
+  unfinished = c.loop-turn.invariant.unfinished;
+  appends = rw c.reserve.ensures.items c.loop-turn.invariant.appends;
+  most = rw c.reserve.ensures.items (omega arith);
+  did = rw c.reserve.ensures.items (told_full (g.S.AsyncRead.tells c.args.source.now) (g.S.AsyncRead.tells c.loop-turn.source) g.K.ReadsFrames.role (g.K.ReadsFrames.first c.args.stream.now) (g.K.ReadsFrames.first c.loop-turn.stream)
+      c.args.reading.now c.loop-turn.reading (drop (length c.args.out.now.items) c.loop-turn.out.items) c.loop-turn._turn c.args.polls (omega arith) c.loop-turn.invariant.tells);
+  none = λ z. absurd (omega arith);
+}
+
+pub returns-in-Pending : goal.returns-in-Pending
+returns-in-Pending g c =
+    let s = g.S.AsyncRead.tells c.args.source.now in
+    let t = g.S.AsyncRead.tells c.loop-turn.source in
+    let u = g.S.AsyncRead.tells c.read_frame_async.new.source in
+    let f0 = g.K.ReadsFrames.first c.args.stream.now in
+    let f1 = g.K.ReadsFrames.first c.loop-turn.stream in
+    let f2 = g.K.ReadsFrames.first c.read_frame_async.new.self in
+    let xs = drop (length c.args.out.now.items) c.loop-turn.out.items in
+    record {
+      can = c.read_frame_async.ensures.can;
+      changes = first_on g.K.ReadsFrames.first _ _ _ c.loop-turn.invariant.changes c.read_frame_async.ensures.changes;
+      unfinished = λ _. c.read_frame_async.ensures.unfinished;
+      appends = rw c.reserve.ensures.items c.loop-turn.invariant.appends;
+      most = rw c.reserve.ensures.items (omega arith);
+      did = rw c.reserve.ensures.items (told_waiting s t u g.K.ReadsFrames.role f0 f1 f2 c.args.reading.now c.loop-turn.reading c.read_frame_async.new.reading xs c.loop-turn._turn c.args.polls c.loop-turn-test.true c.read_frame_async.ensures.was_unfinished c.loop-turn.invariant.tells c.in-Pending.ensures.polled c.read_frame_async.ensures.asks);
+      none = λ z. absurd (omega arith);
+    }
+
+pub returns-in-NoMemory : goal.returns-in-NoMemory
+returns-in-NoMemory g c =
+    let s = g.S.AsyncRead.tells c.args.source.now in
+    let t = g.S.AsyncRead.tells c.loop-turn.source in
+    let u = g.S.AsyncRead.tells c.read_frame_async.new.source in
+    let f0 = g.K.ReadsFrames.first c.args.stream.now in
+    let f1 = g.K.ReadsFrames.first c.loop-turn.stream in
+    let f2 = g.K.ReadsFrames.first c.read_frame_async.new.self in
+    let xs = drop (length c.args.out.now.items) c.loop-turn.out.items in
+    record {
+      can = c.read_frame_async.ensures.can;
+      changes = first_on g.K.ReadsFrames.first _ _ _ c.loop-turn.invariant.changes c.read_frame_async.ensures.changes;
+      unfinished = λ _. c.read_frame_async.ensures.unfinished;
+      appends = rw c.reserve.ensures.items c.loop-turn.invariant.appends;
+      most = rw c.reserve.ensures.items (omega arith);
+      did = rw c.reserve.ensures.items (told_still s t u g.K.ReadsFrames.role f0 f1 f2 c.args.reading.now c.loop-turn.reading c.read_frame_async.new.reading xs c.loop-turn._turn c.args.polls c.loop-turn-test.true c.read_frame_async.ensures.was_unfinished c.loop-turn.invariant.tells c.in-NoMemory.ensures.polled c.read_frame_async.ensures.asks);
+      none = λ z. absurd (omega arith);
+    }
+
+pub returns-in-Ready-Err : goal.returns-in-Ready-Err
+returns-in-Ready-Err g c =
+    let s = g.S.AsyncRead.tells c.args.source.now in
+    let t = g.S.AsyncRead.tells c.loop-turn.source in
+    let u = g.S.AsyncRead.tells c.read_frame_async.new.source in
+    let f0 = g.K.ReadsFrames.first c.args.stream.now in
+    let f1 = g.K.ReadsFrames.first c.loop-turn.stream in
+    let f2 = g.K.ReadsFrames.first c.read_frame_async.new.self in
+    let xs = drop (length c.args.out.now.items) c.loop-turn.out.items in
+    record {
+      can = c.read_frame_async.ensures.can;
+      changes = first_on g.K.ReadsFrames.first _ _ _ c.loop-turn.invariant.changes c.read_frame_async.ensures.changes;
+      unfinished = λ _. c.read_frame_async.ensures.unfinished;
+      appends = rw c.reserve.ensures.items c.loop-turn.invariant.appends;
+      most = rw c.reserve.ensures.items (omega arith);
+      did = rw c.reserve.ensures.items (told_ended s t u g.K.ReadsFrames.role f0 f1 f2 c.args.reading.now c.loop-turn.reading c.read_frame_async.new.reading xs c.in-Ready-Err.fault c.loop-turn._turn c.args.polls c.loop-turn-test.true c.read_frame_async.ensures.was_unfinished c.loop-turn.invariant.tells (rw c.in-Ready-Err.field-0-is at c.in-Ready-Err.ensures.polled) c.read_frame_async.ensures.asks);
+      none = λ z. absurd (omega arith);
+    }
+
+pub returns : goal.returns
+returns g c =
+    let all : c.loop-turn._turn ≡ c.args.polls = omega arith in
+    record {
+      can = c.loop-turn.invariant.can;
+      changes = c.loop-turn.invariant.changes;
+      unfinished = c.loop-turn.invariant.unfinished;
+      appends = c.loop-turn.invariant.appends;
+      most = omega arith;
+      did = told_spent (g.S.AsyncRead.tells c.args.source.now) (g.S.AsyncRead.tells c.loop-turn.source) g.K.ReadsFrames.role (g.K.ReadsFrames.first c.args.stream.now) (g.K.ReadsFrames.first c.loop-turn.stream)
+          c.args.reading.now c.loop-turn.reading (drop (length c.args.out.now.items) c.loop-turn.out.items) c.args.polls (rw all at c.loop-turn.invariant.tells);
+      none = λ z. let kept = c.loop-turn.invariant.none (omega arith) in (refl, kept.0, kept.1, kept.2, kept.3);
+    }
