@@ -1,9 +1,12 @@
-use Rattle.std.proofs.Common.{[], ◌∷◌, length, Err, sym, ◌∙◌}
+use Rattle.std.proofs.Common.{[], ◌∷◌, length, Result, Err, sym, subst, ◌∙◌}
 use Rattle.std.proofs.lemmas.Result.{err_from_is_err_and}
 use Rattle.wtp_wire.specs.Body.{payload_of, session_of}
 use Rattle.wtp_core.specs.Varint.{shortest}
 use Rattle.wtp_wire.specs.Kind.{frame_type_of}
-use Rattle.wtp_core.proofs.WriterLemmas.{put-none, put-more, put-last}
+use Rattle.wtp_core.specs.Writer.{PutsParts}
+use Rattle.wtp_core.specs.declared.bytes.writer.PutError.{PutError}
+use Rattle.wtp_core.proofs.WriterLemmas.{put-none, put-more, put-last, LacksRoom-parts}
+use Rattle.wtp_wire.specs.Wire.{parts_of}
 use Rattle.wtp_wire.proofs.ContentLemmas.{parts_of-first, parts_of-plain, parts_of-session}
 use Rattle.wtp_wire.proofs.frame.Frame.write.Goals as goal
 
@@ -35,3 +38,31 @@ returns-in_ok-put_varint-in-None-clause-parts g c =
     let second = rw (c.from_u64_unchecked.ensures, c.payload-payload.ensures) at c.in_ok-put_varint-in-None.ensures.puts in
     let third = rw c.payload-payload.ensures at c.put_bytes.ensures.puts in
     rw (← c.self.view_is, parts) (put-more g.W.BytesWriter.grows (shortest (frame_type_of c.self.inside.kind)) ((shortest (length (payload_of c.self.inside.body))) ∷ (payload_of c.self.inside.body) ∷ []) c.put_bytes.result tt (g.W.BytesWriter.written c.args.writer.now) (g.W.BytesWriter.written c.put_varint.new.self) (g.W.BytesWriter.written c.put_bytes.new.self) (g.W.BytesWriter.room c.args.writer.now) (g.W.BytesWriter.room c.put_varint.new.self) (g.W.BytesWriter.room c.put_bytes.new.self) first (put-more g.W.BytesWriter.grows (shortest (length (payload_of c.self.inside.body))) ((payload_of c.self.inside.body) ∷ []) c.put_bytes.result tt (g.W.BytesWriter.written c.put_varint.new.self) (g.W.BytesWriter.written c.put_varint-in-None.new.self) (g.W.BytesWriter.written c.put_bytes.new.self) (g.W.BytesWriter.room c.put_varint.new.self) (g.W.BytesWriter.room c.put_varint-in-None.new.self) (g.W.BytesWriter.room c.put_bytes.new.self) second (put-last g.W.BytesWriter.grows (payload_of c.self.inside.body) c.put_bytes.result (g.W.BytesWriter.written c.put_varint-in-None.new.self) (g.W.BytesWriter.room c.put_varint-in-None.new.self) (g.W.BytesWriter.written c.put_bytes.new.self) (g.W.BytesWriter.room c.put_bytes.new.self) third)))
+
+pub returns-in_err-put_varint-clause-full : goal.returns-in_err-put_varint-clause-full
+returns-in_err-put_varint-clause-full g c = λ e. LacksRoom-parts g.W.BytesWriter.grows (parts_of c.args.self.now) _ _ _ _
+    (subst (λ (r : Result (Unit {0}) PutError). PutsParts g.W.BytesWriter.grows (parts_of c.args.self.now) r (g.W.BytesWriter.written c.args.writer.now) (g.W.BytesWriter.room c.args.writer.now) (g.W.BytesWriter.written c.put_varint.new.self) (g.W.BytesWriter.room c.put_varint.new.self)) e (returns-in_err-put_varint-clause-parts g c))
+
+pub returns-in_err-put_varint-clause-target : goal.returns-in_err-put_varint-clause-target
+returns-in_err-put_varint-clause-target g c = c.put_varint.ensures.target
+
+pub returns-in_err-put_varint-in-None-clause-full : goal.returns-in_err-put_varint-in-None-clause-full
+returns-in_err-put_varint-in-None-clause-full g c = λ e. LacksRoom-parts g.W.BytesWriter.grows (parts_of c.args.self.now) _ _ _ _
+    (subst (λ (r : Result (Unit {0}) PutError). PutsParts g.W.BytesWriter.grows (parts_of c.args.self.now) r (g.W.BytesWriter.written c.args.writer.now) (g.W.BytesWriter.room c.args.writer.now) (g.W.BytesWriter.written c.put_varint-in-None.new.self) (g.W.BytesWriter.room c.put_varint-in-None.new.self)) e (returns-in_err-put_varint-in-None-clause-parts g c))
+
+pub returns-in_err-put_varint-in-None-clause-target : goal.returns-in_err-put_varint-in-None-clause-target
+returns-in_err-put_varint-in-None-clause-target g c = c.put_varint-in-None.ensures.target ∙ c.put_varint.ensures.target
+
+pub returns-in-Some-clause-full : goal.returns-in-Some-clause-full
+returns-in-Some-clause-full g c = λ e. LacksRoom-parts g.W.BytesWriter.grows (parts_of c.args.self.now) _ _ _ _
+    (subst (λ (r : Result (Unit {0}) PutError). PutsParts g.W.BytesWriter.grows (parts_of c.args.self.now) r (g.W.BytesWriter.written c.args.writer.now) (g.W.BytesWriter.room c.args.writer.now) (g.W.BytesWriter.written c.put_varint-in-Some.new.self) (g.W.BytesWriter.room c.put_varint-in-Some.new.self)) e (returns-in-Some-clause-parts g c))
+
+pub returns-in-Some-clause-target : goal.returns-in-Some-clause-target
+returns-in-Some-clause-target g c = c.put_varint-in-Some.ensures.target ∙ c.put_varint.ensures.target
+
+pub returns-in_ok-put_varint-in-None-clause-full : goal.returns-in_ok-put_varint-in-None-clause-full
+returns-in_ok-put_varint-in-None-clause-full g c = λ e. LacksRoom-parts g.W.BytesWriter.grows (parts_of c.args.self.now) _ _ _ _
+    (subst (λ (r : Result (Unit {0}) PutError). PutsParts g.W.BytesWriter.grows (parts_of c.args.self.now) r (g.W.BytesWriter.written c.args.writer.now) (g.W.BytesWriter.room c.args.writer.now) (g.W.BytesWriter.written c.put_bytes.new.self) (g.W.BytesWriter.room c.put_bytes.new.self)) e (returns-in_ok-put_varint-in-None-clause-parts g c))
+
+pub returns-in_ok-put_varint-in-None-clause-target : goal.returns-in_ok-put_varint-in-None-clause-target
+returns-in_ok-put_varint-in-None-clause-target g c = c.put_bytes.ensures.target ∙ c.put_varint-in-None.ensures.target ∙ c.put_varint.ensures.target

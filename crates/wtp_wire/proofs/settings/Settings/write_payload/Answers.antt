@@ -29,3 +29,12 @@ pub returns-clause-parts : goal.returns-clause-parts
 returns-clause-parts g c =
     let here = rw c.in-None.ensures.steps.0 at c.loop-number.invariant.0 in
     puts-end _ _ _ _ _ _ tt here
+
+pub returns-in_err-put_varint-clause-target : goal.returns-in_err-put_varint-clause-target
+returns-in_err-put_varint-clause-target g c = c.in_err-put_varint.ensures.target ∙ c.loop-number.invariant.1
+
+pub returns-in_err-put_varint-2-clause-target : goal.returns-in_err-put_varint-2-clause-target
+returns-in_err-put_varint-2-clause-target g c = c.in_err-put_varint-2.ensures.target ∙ c.in_ok-put_varint.ensures.target ∙ c.loop-number.invariant.1
+
+pub returns-clause-target : goal.returns-clause-target
+returns-clause-target g c = c.loop-number.invariant.1
