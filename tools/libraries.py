@@ -5,7 +5,7 @@
 builds the static library NAME so, and writes it to FILE.
 
 `rt ci` leaves each library in `crates/NAME/out/rlib`, and `rt lib` does not take these up: it would prove all of them once
-more. They are those of the sources only until a source changes, so nothing but `.ci/run` uses them.
+more. They match the sources only until one changes, so nothing but `.ci/run` uses them.
 """
 
 import os
