@@ -1,14 +1,12 @@
 //! Bytes that a source has buffered and shows before it is asked, and frames that are read from
 //! them.
-use crate::polled::frame_answers::{
-    Answer, NO_SESSION, UNEXPECTED_FIN, UNKNOWN, check_each, polled,
-};
+use crate::polled::frame_answers::{Answer, NO_SESSION, UNEXPECTED_FIN, UNKNOWN, check};
+use crate::polled::readings::check_each;
 use crate::same::same;
-use std::alloc::Global;
 use std::process::Abort;
 use test_io::{End, Trickle};
 use wtp_core::bytes::{AsyncRead, Polled, ReadStep};
-use wtp_wire::frame::{FrameKind, FrameOwned, FrameReading};
+use wtp_wire::frame::{FrameOwned, FrameReading};
 
 /// A source that shows at most so many buffered bytes, and gives the others when it is asked.
 #[derive(Drop)]
@@ -72,52 +70,17 @@ fn a_source_need_not_have_buffered_any(rt: HostRuntime) {
     same(&rt, source.rest(), b"abc".as_slice(), "the rest");
 }
 
-/// A new reading, polled once.
-fn first_frame<S: AsyncRead>(alloc: Global, source: &mut S) -> Option<FrameOwned> {
-    match polled(&mut FrameReading::new(alloc), source) {
-        Polled::Ready(Ok(frame)) => Some(frame),
-        _ => None,
-    }
-}
-
-/// The kind of a frame.
-fn kind_of(frame: &Option<FrameOwned>) -> Option<FrameKind> {
-    match frame {
-        Some(frame) => Some(frame.kind()),
-        None => None,
-    }
-}
-
-/// The payload of a frame.
-fn payload_of(frame: &Option<FrameOwned>) -> Option<&[u8]> {
-    match frame {
-        Some(frame) => Some(frame.payload()),
-        None => None,
-    }
-}
-
-/// A DATA frame at the front of a slice with this payload, and these bytes after it.
-fn check_first<R: Abort + AllocGlobal>(
-    rt: &R,
-    front: &[u8],
-    payload: Option<&[u8]>,
-    rest: Option<&[u8]>,
-    sizes: (usize, usize),
-) {
-    let mut source = front;
-    let frame = first_frame(rt.alloc(), &mut source);
-    let came = (kind_of(&frame), payload_of(&frame), Some(source), sizes);
-    let wanted = (Some(FrameKind::Data), payload, rest, sizes);
-    same(rt, came, wanted, "the frame, the rest");
-}
-
 /// A DATA frame with a payload of so many bytes, and so many bytes after it, in a slice.
 fn check_sizes<R: Abort + AllocGlobal>(rt: &R, bytes: &[u8], len: usize, after: usize) {
     let end = len.saturating_add(3);
     let all = end.saturating_add(after);
-    let front = bytes.get(..all).unwrap_or(&[]);
-    let sizes = (len, after);
-    check_first(rt, front, bytes.get(3..end), bytes.get(end..all), sizes);
+    let payload = bytes.get(3..end).expect(rt, "the payload");
+    let rest = bytes.get(end..all).expect(rt, "the rest");
+    let mut source = bytes.get(..all).expect(rt, "the frame, the rest");
+    let wanted = Polled::Ready(Ok((0x00, None, payload)));
+    let mut reading = FrameReading::new(rt.alloc());
+    check(rt, &mut reading, &mut source, &wanted, rest, len);
+    same(rt, (source, len), (rest, len), "the rest");
 }
 
 #[test]
@@ -150,19 +113,14 @@ const NUMBERED: [u8; 256] = [
     0xf0, 0xf1, 0xf2, 0xf3, 0xf4, 0xf5, 0xf6, 0xf7, 0xf8, 0xf9, 0xfa, 0xfb, 0xfc, 0xfd, 0xfe, 0xff,
 ];
 
-/// The same with each number of bytes after it.
-fn check_all_after<R: Abort + AllocGlobal>(rt: &R, bytes: &[u8], len: usize) {
-    for after in &AFTER {
-        check_sizes(rt, bytes, len, *after);
-    }
-}
-
 #[test]
 fn payloads_of_all_sizes_are_read_from_a_slice(rt: HostRuntime) {
     let mut bytes = NUMBERED;
     for len in &SIZES {
         bytes[2] = *len;
-        check_all_after(&rt, &bytes, usize::from(*len));
+        for after in &AFTER {
+            check_sizes(&rt, &bytes, usize::from(*len), *after);
+        }
     }
 }
 

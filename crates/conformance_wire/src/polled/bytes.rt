@@ -1,13 +1,15 @@
 //! Numbers and buffers, read and written poll by poll.
-use crate::polled::readings::{check_end, check_pending, poll_buffer, poll_number};
+use crate::polled::readings::{
+    ENDS, NewReading, Reading, check_each, check_end, check_fronts, check_pending, check_slow,
+    check_whole,
+};
 use crate::polled::writings::{DONE, Writing, check_refused, check_stopped, check_written};
 use crate::same::same;
-use std::alloc::AllocError;
+use std::alloc::Global;
 use std::fmt::Display;
 use std::io;
 use std::io::ErrorKind;
 use std::process::Abort;
-use std::test::Fail;
 use test_io::{Answers, End, Paced, Trickle};
 use wtp_core::bytes::{
     AsyncRead, BytesReaderAsync, BytesWriterAsync, GetBuffer, GetVarint, IoReadError, IoWriteError,
@@ -19,6 +21,14 @@ use wtp_core::varint::VarInt;
 type Number = Polled<Result<u64, IoReadError>>;
 
 /// One poll of a reading of a number.
+fn poll_number<S: AsyncRead>(
+    reading: &mut GetVarint,
+    source: &mut S,
+) -> Polled<Result<VarInt, IoReadError>> {
+    reading.poll(source)
+}
+
+/// The same with the number's value.
 fn polled<S: AsyncRead>(reading: &mut GetVarint, source: &mut S) -> Number {
     match poll_number(reading, source) {
         Polled::Ready(Ok(number)) => Polled::Ready(Ok(number.into_inner())),
@@ -29,15 +39,29 @@ fn polled<S: AsyncRead>(reading: &mut GetVarint, source: &mut S) -> Number {
     }
 }
 
-/// Polls, one for each answer.
-fn check_each<R: Abort, S: AsyncRead>(
-    rt: &R,
-    reading: &mut GetVarint,
-    source: &mut S,
-    each: &[Number],
-) {
-    for (at, wanted) in each.iter().enumerate() {
-        same(rt, &polled(reading, source), wanted, at);
+impl Reading for GetVarint {
+    type Ready = Result<u64, IoReadError>;
+
+    fn stopped(stop: IoReadError) -> Number {
+        Polled::Ready(Err(stop))
+    }
+
+    fn check<R: Abort, S: AsyncRead, N: Display + Drop>(
+        &mut self,
+        rt: &R,
+        source: &mut S,
+        wanted: &Number,
+        row: &[u8],
+        shows: N,
+    ) {
+        let came = polled(self, source);
+        same(rt, (row, &came), (row, wanted), shows);
+    }
+}
+
+impl NewReading for GetVarint {
+    fn new_reading(_alloc: Global) -> Self {
+        GetVarint::new()
     }
 }
 
@@ -52,55 +76,26 @@ static ROWS: [(u64, &[u8]); 4] = [
     ),
 ];
 
-/// The number's bytes at once.
-fn check_whole_number<R: Abort>(rt: &R, number: u64, bytes: &[u8]) {
+/// The number's bytes, at once and one by one, and each time then no more.
+fn check_number_read<R: Abort>(rt: &R, number: u64, bytes: &[u8]) {
+    let wanted = Polled::Ready(Ok(number));
     let mut whole = bytes;
-    let mut reading = whole.get_varint();
-    let came = polled(&mut reading, &mut whole);
-    let wanted = (Polled::Ready(Ok(number)), [].as_slice());
-    same(rt, (came, whole), wanted, "whole");
-}
-
-/// The number's bytes one by one.
-fn check_slow_number<R: Abort>(rt: &R, number: u64, bytes: &[u8]) {
+    check_whole(rt, &mut whole.get_varint(), bytes, &wanted);
     let mut slow = Trickle::new(bytes, End::Fin);
-    let mut reading = slow.get_varint();
-    check_pending(rt, &mut reading, &mut slow, (bytes, End::Fin), bytes.len());
-    let came = polled(&mut reading, &mut slow);
-    let wanted = (Polled::Ready(Ok(number)), [].as_slice());
-    same(rt, (came, slow.rest()), wanted, "byte by byte");
+    check_slow(rt, &mut slow.get_varint(), bytes, &wanted);
 }
 
 #[test]
 fn numbers_are_read(rt: HostRuntime) {
     for (number, bytes) in &ROWS {
-        check_whole_number(&rt, *number, bytes);
-        check_slow_number(&rt, *number, bytes);
-    }
-}
-
-/// The front of a number, byte by byte up to each end, and whole.
-fn check_cut_number<R: Abort>(rt: &R, front: &[u8]) {
-    for end in End::EACH {
-        check_end(rt, &mut GetVarint::new(), front, end);
-    }
-    let mut whole = front;
-    let came = polled(&mut GetVarint::new(), &mut whole);
-    let fault = Polled::Ready(Err(End::Fin.fault(front.len())));
-    same(rt, (front, came), (front, fault), "whole");
-}
-
-/// Each front of a number's bytes.
-fn check_cut_numbers<R: Abort>(rt: &R, bytes: &[u8]) {
-    for len in 0..bytes.len() {
-        check_cut_number(rt, bytes.get(..len).unwrap_or(&[]));
+        check_number_read(&rt, *number, bytes);
     }
 }
 
 #[test]
 fn cut_numbers_end(rt: HostRuntime) {
     for (_, bytes) in &ROWS {
-        check_cut_numbers(&rt, bytes);
+        check_fronts::<_, GetVarint>(&rt, bytes);
     }
 }
 
@@ -115,7 +110,7 @@ const READ_ON: [Number; 3] = [
 fn a_number_is_read_on(rt: HostRuntime) {
     let mut source = Answers::new(&[0x7b, 0xbd], &[ReadStep::Bytes(1), ReadStep::NotReady]);
     let mut reading = source.get_varint();
-    check_each(&rt, &mut reading, &mut source, &READ_ON);
+    check_each(&rt, &mut reading, &mut source, &READ_ON, &[0x7b, 0xbd]);
 }
 
 /// Stops before each byte, of a source that tells nothing.
@@ -138,9 +133,10 @@ const PAST_STOPS: [Number; 4] = [
 
 #[test]
 fn a_number_is_read_past_stops(rt: HostRuntime) {
-    let mut source = Answers::new(&[0x9d, 0x7f, 0x3e, 0x7d, 0x25], &STOPS);
+    let bytes = [0x9d, 0x7f, 0x3e, 0x7d, 0x25];
+    let mut source = Answers::new(&bytes, &STOPS);
     let mut reading = GetVarint::new();
-    check_each(&rt, &mut reading, &mut source, &PAST_STOPS);
+    check_each(&rt, &mut reading, &mut source, &PAST_STOPS, &bytes);
     same(
         &rt,
         source.rest(),
@@ -157,15 +153,28 @@ type Filled = Polled<Result<(), IoReadError>>;
 /// The buffer is full.
 const FULL: Filled = Polled::Ready(Ok(()));
 
-/// Polls of a reading into a buffer, one for each answer.
-fn check_fills<R: Abort, S: AsyncRead>(
-    rt: &R,
-    reading: &mut GetBuffer<'_>,
-    source: &mut S,
-    each: &[Filled],
-) {
-    for (at, wanted) in each.iter().enumerate() {
-        same(rt, &poll_buffer(reading, source), wanted, at);
+/// One poll of a reading into a buffer.
+fn poll_buffer<S: AsyncRead>(reading: &mut GetBuffer<'_>, source: &mut S) -> Filled {
+    reading.poll(source)
+}
+
+impl Reading for GetBuffer<'_> {
+    type Ready = Result<(), IoReadError>;
+
+    fn stopped(stop: IoReadError) -> Filled {
+        Polled::Ready(Err(stop))
+    }
+
+    fn check<R: Abort, S: AsyncRead, N: Display + Drop>(
+        &mut self,
+        rt: &R,
+        source: &mut S,
+        wanted: &Filled,
+        row: &[u8],
+        shows: N,
+    ) {
+        let came = poll_buffer(self, source);
+        same(rt, (row, &came), (row, wanted), shows);
     }
 }
 
@@ -174,14 +183,9 @@ fn a_buffer_is_filled(rt: HostRuntime) {
     let mut whole = b"WebTransport!".as_slice();
     let mut buffer = [0; 12];
     let mut reading = whole.get_buffer(&mut buffer);
-    check_fills(&rt, &mut reading, &mut whole, &[FULL, FULL]);
-    let wanted = (TEXT.as_slice(), b"!".as_slice());
-    same(
-        &rt,
-        (buffer.as_slice(), whole),
-        wanted,
-        "the buffer, the rest",
-    );
+    check_each(&rt, &mut reading, &mut whole, &[FULL, FULL], TEXT);
+    same(&rt, &buffer, TEXT, "the buffer");
+    same(&rt, whole, b"!", "the rest");
 }
 
 #[test]
@@ -189,22 +193,17 @@ fn a_buffer_is_filled_byte_by_byte(rt: HostRuntime) {
     let mut slow = Trickle::new(TEXT, End::Fin);
     let mut buffer = [0; 12];
     let mut reading = slow.get_buffer(&mut buffer);
-    check_pending(&rt, &mut reading, &mut slow, (TEXT, End::Fin), 12);
-    check_fills(&rt, &mut reading, &mut slow, &[FULL, FULL]);
-    same(&rt, buffer.as_slice(), TEXT.as_slice(), "the buffer");
+    check_pending(&rt, &mut reading, &mut slow, TEXT, 12);
+    check_each(&rt, &mut reading, &mut slow, &[FULL, FULL], TEXT);
+    same(&rt, &buffer, TEXT, "the buffer");
 }
 
 /// The front of a buffer, byte by byte up to each end.
 fn check_cut_buffer<R: Abort>(rt: &R, front: &[u8]) {
-    for end in End::EACH {
+    for end in &ENDS {
         let mut buffer = [0; 12];
-        check_end(rt, &mut GetBuffer::new(&mut buffer), front, end);
-        same(
-            rt,
-            (end, buffer.get(..front.len())),
-            (end, Some(front)),
-            "the buffer",
-        );
+        check_end(rt, &mut GetBuffer::new(&mut buffer), front, *end);
+        same(rt, buffer.get(..front.len()), Some(front), "the buffer");
     }
 }
 
@@ -228,14 +227,9 @@ fn a_buffer_is_filled_past_stops(rt: HostRuntime) {
     let mut source = Answers::new(b"Web!", &STOPS);
     let mut buffer = [0; 3];
     let mut reading = GetBuffer::new(&mut buffer);
-    check_fills(&rt, &mut reading, &mut source, &FULL_PAST_STOPS);
-    let wanted = (b"Web".as_slice(), b"!".as_slice());
-    same(
-        &rt,
-        (buffer.as_slice(), source.rest()),
-        wanted,
-        "the buffer, the rest",
-    );
+    check_each(&rt, &mut reading, &mut source, &FULL_PAST_STOPS, b"Web!");
+    same(&rt, &buffer, b"Web", "the buffer");
+    same(&rt, source.rest(), b"!", "the rest");
 }
 
 #[test]
@@ -243,29 +237,23 @@ fn an_empty_buffer_is_full(rt: HostRuntime) {
     let mut source = Answers::new(TEXT, &[ReadStep::Reset]);
     let mut buffer = [];
     let mut reading = source.get_buffer(&mut buffer);
-    check_fills(&rt, &mut reading, &mut source, &[FULL]);
+    check_each(&rt, &mut reading, &mut source, &[FULL], TEXT);
     same(&rt, source.left(), 1, "no call");
 }
 
 /// The number is written into a vector and into a slow sink.
-fn check_number_written<R: Abort + AllocGlobal>(
-    rt: &R,
-    number: u64,
-    bytes: &[u8],
-) -> Result<(), Fail> {
-    let varint = VarInt::try_from_u64(number)?;
+fn check_number_written<R: Abort + AllocGlobal>(rt: &R, number: u64, bytes: &[u8]) {
+    let varint = VarInt::try_from_u64(number).expect(rt, "a number");
     let mut whole = Vec::new(rt.alloc()).put_varint(varint);
     let mut slow = Paced::new(rt.alloc(), &[]).put_varint(varint);
     check_written(rt, &mut whole, &mut slow, bytes);
-    Ok(())
 }
 
 #[test]
-fn numbers_are_written(rt: HostRuntime) -> Result<(), Fail> {
+fn numbers_are_written(rt: HostRuntime) {
     for (number, bytes) in &ROWS {
-        check_number_written(&rt, *number, bytes)?;
+        check_number_written(&rt, *number, bytes);
     }
-    Ok(())
 }
 
 #[test]
@@ -330,30 +318,20 @@ static LOST: [ErrorKind; 5] = [
     ErrorKind::Other,
 ];
 
-/// Such an error is a lost connection for a reading and for a writing.
-fn check_lost<R: Abort>(rt: &R, kind: ErrorKind) {
-    let lost = IoReadError::NotConnected;
-    check_error(rt, kind, lost, IoWriteError::NotConnected);
-}
-
 #[test]
 fn errors_of_the_system_are_stops(rt: HostRuntime) {
     let reset = ErrorKind::ConnectionReset;
     check_error(&rt, reset, IoReadError::Reset, IoWriteError::Stopped);
     for kind in &LOST {
-        check_lost(&rt, *kind);
+        let lost = IoReadError::NotConnected;
+        check_error(&rt, *kind, lost, IoWriteError::NotConnected);
     }
 }
 
-/// The stop is printed as this text.
-fn check_printed<R: Abort + AllocGlobal, T: Display>(
-    rt: &R,
-    stop: &T,
-    text: &str,
-) -> Result<(), AllocError> {
-    let shown = format!(in rt.alloc(); "{stop}")?;
+/// The error is printed as this text.
+pub(crate) fn check_printed<R: Abort + AllocGlobal, T: Display>(rt: &R, error: &T, text: &str) {
+    let shown = format!(in rt.alloc(); "{error}").expect(rt, "memory");
     same(rt, shown.as_str(), text, "printed");
-    Ok(())
 }
 
 /// Stops of a reading, and their texts.
@@ -376,22 +354,13 @@ static PRINTED: [(IoReadError, &str); 4] = [
     ),
 ];
 
-/// Each stop is printed as its text.
-fn check_stops_printed<R: Abort + AllocGlobal>(
-    rt: &R,
-    rows: &[(IoReadError, &str)],
-) -> Result<(), AllocError> {
-    for (stop, text) in rows {
-        check_printed(rt, stop, text)?;
-    }
-    Ok(())
-}
-
 #[test]
-fn stops_are_printed(rt: HostRuntime) -> Result<(), AllocError> {
-    check_stops_printed(&rt, &PRINTED)?;
+fn stops_are_printed(rt: HostRuntime) {
+    for (stop, text) in &PRINTED {
+        check_printed(&rt, stop, text);
+    }
     let stopped = "write operation failed because operation has been stopped";
-    check_printed(&rt, &IoWriteError::Stopped, stopped)?;
+    check_printed(&rt, &IoWriteError::Stopped, stopped);
     let lost = "write operation failed because not connected";
-    check_printed(&rt, &IoWriteError::NotConnected, lost)
+    check_printed(&rt, &IoWriteError::NotConnected, lost);
 }

@@ -1,5 +1,7 @@
 //! What the polls of a reading of frames answer, and the check of such answers.
+use crate::polled::readings::{NewReading, Reading};
 use crate::same::same;
+use std::alloc::Global;
 use std::fmt::Display;
 use std::process::Abort;
 use wtp_core::bytes;
@@ -81,39 +83,45 @@ pub(crate) fn seen(answer: &Polled<Result<FrameOwned, IoReadError>>) -> Answer<'
     }
 }
 
-/// The answer once more.
-fn again(answer: &Answer<'static>) -> Answer<'static> {
-    match answer {
-        Polled::Ready(Ok(parts)) => Polled::Ready(Ok(*parts)),
-        Polled::Ready(Err(error)) => Polled::Ready(Err(*error)),
-        Polled::Pending => Polled::Pending,
-        Polled::Again => Polled::Again,
-        Polled::NoMemory => Polled::NoMemory,
-    }
-}
-
 /// One poll of the reading, over a source of the row's bytes.
-pub(crate) fn check<R: Abort, S: AsyncRead, W: Display + Drop>(
+pub(crate) fn check<'a, R: Abort, S: AsyncRead, W: Display + Drop>(
     rt: &R,
     reading: &mut FrameReading,
     source: &mut S,
-    wanted: &Answer<'static>,
+    wanted: &'a Answer<'a>,
     row: &[u8],
     shows: W,
 ) {
     let answer = polled(reading, source);
-    same(rt, (row, seen(&answer)), (row, again(wanted)), shows);
+    same(rt, (row, &seen(&answer)), (row, wanted), shows);
 }
 
-/// Polls, one for each answer.
-pub(crate) fn check_each<R: Abort, S: AsyncRead>(
-    rt: &R,
-    reading: &mut FrameReading,
-    source: &mut S,
-    each: &[Answer<'static>],
-    row: &[u8],
-) {
-    for (at, wanted) in each.iter().enumerate() {
-        check(rt, reading, source, wanted, row, at);
+impl Reading for FrameReading {
+    type Ready = Result<Parts<'static>, &'static IoReadError>;
+
+    fn stopped(stop: bytes::IoReadError) -> Answer<'static> {
+        match stop {
+            bytes::IoReadError::ImmediateFin => IMMEDIATE_FIN,
+            bytes::IoReadError::UnexpectedFin => UNEXPECTED_FIN,
+            bytes::IoReadError::Reset => RESET,
+            bytes::IoReadError::NotConnected => NOT_CONNECTED,
+        }
+    }
+
+    fn check<R: Abort, S: AsyncRead, N: Display + Drop>(
+        &mut self,
+        rt: &R,
+        source: &mut S,
+        wanted: &Answer<'static>,
+        row: &[u8],
+        shows: N,
+    ) {
+        check(rt, self, source, wanted, row, shows);
+    }
+}
+
+impl NewReading for FrameReading {
+    fn new_reading(alloc: Global) -> Self {
+        FrameReading::new(alloc)
     }
 }

@@ -1,18 +1,17 @@
 //! Frames, written poll by poll.
 use crate::polled::frames::{ABC, FIELDS, HEADERS, SESSION, SETTINGS, TABLE};
-use crate::polled::writings::{Writing, Written, check_refused, check_stopped, check_written};
+use crate::polled::writings::{STOPPED, check_refused, check_stopped, check_taken, check_written};
 use crate::same::same;
 use std::borrow::CowSlice;
 use std::process::Abort;
-use std::test::Fail;
 use test_io::Paced;
-use wtp_core::bytes::{IoWriteError, Polled, WriteStep};
+use wtp_core::bytes::{Polled, WriteStep};
 use wtp_core::ids::{SessionId, StreamId};
 use wtp_core::varint::VarInt;
 use wtp_wire::frame::Frame;
 
 /// The frame is written into a vector and into a slow sink.
-fn check_frame_written<R: Abort + AllocGlobal>(rt: &R, frame: &Frame<'_>, bytes: &[u8]) {
+fn check_frame_written<R: Abort + AllocGlobal>(rt: &R, frame: Frame<'_>, bytes: &[u8]) {
     same(
         rt,
         (bytes, frame.write_size()),
@@ -30,18 +29,18 @@ fn check_frame_written<R: Abort + AllocGlobal>(rt: &R, frame: &Frame<'_>, bytes:
 #[test]
 fn settings_and_headers_are_written(rt: HostRuntime) {
     let settings = Frame::new_settings(CowSlice::Borrowed(TABLE));
-    check_frame_written(&rt, &settings, SETTINGS);
+    check_frame_written(&rt, settings, SETTINGS);
     let headers = Frame::new_headers(CowSlice::Borrowed(FIELDS));
-    check_frame_written(&rt, &headers, HEADERS);
+    check_frame_written(&rt, headers, HEADERS);
 }
 
 #[test]
-fn frames_with_no_payload_are_written(rt: HostRuntime) -> Result<(), Fail> {
+fn frames_with_no_payload_are_written(rt: HostRuntime) {
     let empty = Frame::new_data(CowSlice::Borrowed(&[]));
-    check_frame_written(&rt, &empty, &[0x00, 0x00]);
-    let session = SessionId::try_from_session_stream(StreamId::new(VarInt::MIN))?;
-    check_frame_written(&rt, &Frame::new_webtransport(session), SESSION);
-    Ok(())
+    check_frame_written(&rt, empty, &[0x00, 0x00]);
+    let stream = StreamId::new(VarInt::MIN);
+    let session = SessionId::try_from_session_stream(stream).expect(&rt, "a session");
+    check_frame_written(&rt, Frame::new_webtransport(session), SESSION);
 }
 
 /// Answers of a sink that waits and then stops.
@@ -52,36 +51,13 @@ const STEPS: [WriteStep; 4] = [
     WriteStep::Stopped,
 ];
 
-/// What the polls answer at these steps, and what the sink has then taken.
-static WAITS: [(Written, &[u8]); 2] = [
-    (Polled::Pending, &[0x00, 0x03]),
-    (
-        Polled::Ready(Err(IoWriteError::Stopped)),
-        &[0x00, 0x03, 0x61, 0x62],
-    ),
-];
-
-/// A poll answers so, and the sink has then taken these bytes.
-fn check_wait<R: Abort, K: Writing>(
-    rt: &R,
-    writing: &mut K,
-    sink: &mut Paced<'_>,
-    answer: &Written,
-    taken: &[u8],
-) {
-    let came = writing.write_on(sink);
-    let shows = "the answer, what is taken";
-    same(rt, (&came, sink.output()), (answer, taken), shows);
-}
-
 #[test]
 fn a_waiting_and_stopped_frame_is_written(rt: HostRuntime) {
     let frame = Frame::new_data(CowSlice::Borrowed(b"abc"));
     let mut sink = Paced::new(rt.alloc(), &STEPS);
     let mut writing = frame.write_async();
-    for (answer, taken) in &WAITS {
-        check_wait(&rt, &mut writing, &mut sink, answer, taken);
-    }
+    check_taken(&rt, &mut writing, &mut sink, (ABC, 2), &Polled::Pending);
+    check_taken(&rt, &mut writing, &mut sink, (ABC, 4), &STOPPED);
 }
 
 #[test]
@@ -92,11 +68,21 @@ fn a_stopped_frame_is_written_on(rt: HostRuntime) {
     }
 }
 
+/// A frame with this head and this payload is written past refused memory.
+fn check_frame_refused<R: Abort + AllocGlobal>(
+    rt: &R,
+    frame: Frame<'_>,
+    head: &[u8],
+    payload: &[u8],
+) {
+    check_refused(rt, &mut frame.write_async(), head, payload);
+}
+
 #[test]
 fn refused_memory_sends_each_byte_once(rt: HostRuntime) {
     let short = Frame::new_data(CowSlice::Borrowed(b"abc"));
-    check_refused(&rt, &mut short.write_async(), &[0x00, 0x03], b"abc");
+    check_frame_refused(&rt, short, &[0x00, 0x03], b"abc");
     let payload = [9; 100];
     let long = Frame::new_data(CowSlice::Borrowed(&payload));
-    check_refused(&rt, &mut long.write_async(), &[0x00, 0x40, 0x64], &payload);
+    check_frame_refused(&rt, long, &[0x00, 0x40, 0x64], &payload);
 }

@@ -1,13 +1,15 @@
 //! Frames, read poll by poll.
+use crate::polled::bytes::check_printed;
 use crate::polled::frame_answers::{
     Answer, DATA, EMPTY_DATA, IMMEDIATE_FIN, NO_SESSION, NOT_CONNECTED, RESET, TOO_BIG,
-    UNEXPECTED_FIN, UNKNOWN, check, check_each, polled, seen,
+    UNEXPECTED_FIN, UNKNOWN, polled, seen,
 };
-use crate::polled::readings::{check_end, check_pending, check_stops, check_tail};
+use crate::polled::readings::{
+    ENDS, Reading, check_each, check_fronts, check_pending, check_read, check_tail,
+};
 use crate::same::same;
 use std::alloc::{AllocError, Global};
 use std::process::Abort;
-use std::test::Fail;
 use test_io::{Answers, End, Trickle};
 use wtp_core::bytes;
 use wtp_core::bytes::{Polled, ReadStep};
@@ -38,52 +40,6 @@ pub(crate) const FIELDS: &[u8; 12] = &[
 /// The stream is one of session 0.
 pub(crate) const SESSION: &[u8; 3] = &[0x40, 0x41, 0x00];
 
-/// The frame's bytes at once, and then no more.
-fn check_whole<R: Abort>(
-    rt: &R,
-    reading: &mut FrameReading,
-    bytes: &[u8],
-    answer: &Answer<'static>,
-) {
-    let mut whole = bytes;
-    check(rt, reading, &mut whole, answer, bytes, "whole");
-    same(rt, (bytes, whole), (bytes, &[]), "whole");
-    check(rt, reading, &mut whole, &IMMEDIATE_FIN, bytes, "the end");
-}
-
-/// The frame's bytes one by one.
-fn check_slow<R: Abort>(
-    rt: &R,
-    reading: &mut FrameReading,
-    slow: &mut Trickle<'_>,
-    bytes: &[u8],
-    answer: &Answer<'static>,
-) {
-    check_pending(rt, reading, slow, (bytes, End::Fin), bytes.len());
-    check(rt, reading, slow, answer, bytes, "byte by byte");
-    same(rt, (bytes, slow.rest()), (bytes, &[]), "byte by byte");
-}
-
-/// No more bytes.
-fn check_slow_end<R: Abort>(
-    rt: &R,
-    reading: &mut FrameReading,
-    slow: &mut Trickle<'_>,
-    bytes: &[u8],
-) {
-    check_pending(rt, reading, slow, (bytes, End::Fin), 1);
-    check(rt, reading, slow, &IMMEDIATE_FIN, bytes, "the slow end");
-}
-
-/// The frame's bytes, whole and byte by byte, and then no more.
-fn check_read<R: Abort + AllocGlobal>(rt: &R, bytes: &[u8], answer: &Answer<'static>) {
-    let mut reading = Frame::read_async(rt.alloc());
-    check_whole(rt, &mut reading, bytes, answer);
-    let mut slow = Trickle::new(bytes, End::Fin);
-    check_slow(rt, &mut reading, &mut slow, bytes, answer);
-    check_slow_end(rt, &mut reading, &mut slow, bytes);
-}
-
 /// Frames as bytes, and what is read.
 static FRAMES: [(&[u8], Answer<'static>); 5] = [
     (SETTINGS, Polled::Ready(Ok((0x04, None, TABLE)))),
@@ -99,7 +55,7 @@ static FRAMES: [(&[u8], Answer<'static>); 5] = [
 #[test]
 fn frames_are_read(rt: HostRuntime) {
     for (bytes, answer) in &FRAMES {
-        check_read(&rt, bytes, answer);
+        check_read(&rt, &mut Frame::read_async(rt.alloc()), bytes, answer);
     }
 }
 
@@ -118,19 +74,7 @@ static FAULTS: [(&[u8], Answer<'static>); 4] = [
 #[test]
 fn faults_are_named(rt: HostRuntime) {
     for (bytes, fault) in &FAULTS {
-        check_read(&rt, bytes, fault);
-    }
-}
-
-/// The front of a frame, whole and byte by byte up to each end: it is answered once, and then
-/// again.
-fn check_cut<R: Abort + AllocGlobal>(rt: &R, front: &[u8]) {
-    let mut reading = FrameReading::new(rt.alloc());
-    let mut whole = front;
-    let fin = End::Fin.fault(front.len());
-    check_stops(rt, &mut reading, &mut whole, (front, End::Fin), fin);
-    for end in End::EACH {
-        check_end(rt, &mut FrameReading::new(rt.alloc()), front, end);
+        check_read(&rt, &mut Frame::read_async(rt.alloc()), bytes, fault);
     }
 }
 
@@ -142,17 +86,10 @@ static CUT: [&[u8]; 4] = [
     &[0x0a, 0xff, 0xff, 0xff, 0xff, 0xff, 0xff, 0xff, 0xff, 0x00],
 ];
 
-/// Each front of a frame.
-fn check_fronts<R: Abort + AllocGlobal>(rt: &R, frame: &[u8]) {
-    for len in 0..frame.len() {
-        check_cut(rt, frame.get(..len).unwrap_or(&[]));
-    }
-}
-
 #[test]
 fn cut_frames_end(rt: HostRuntime) {
     for frame in &CUT {
-        check_fronts(&rt, frame);
+        check_fronts::<_, FrameReading>(&rt, frame);
     }
 }
 
@@ -217,10 +154,9 @@ fn long_bytes(alloc: Global, row: &LongRow) -> Result<Vec<u8>, AllocError> {
 }
 
 /// Asserts the answers to the polls over an unknown frame, what comes after it, and an end.
-fn check_long<R: Abort + AllocGlobal>(rt: &R, row: &LongRow) -> Result<(), AllocError> {
-    let bytes = long_bytes(rt.alloc(), row)?;
+fn check_long<R: Abort + AllocGlobal>(rt: &R, row: &LongRow) {
+    let bytes = long_bytes(rt.alloc(), row).expect(rt, "memory");
     check_source(rt, bytes.as_slice(), row.3, row.0);
-    Ok(())
 }
 
 /// Unknown frames of 4096 bytes, of one more, of twice as many, and a cut one.
@@ -247,11 +183,10 @@ static LONG: [LongRow; 4] = [
 ];
 
 #[test]
-fn long_unknown_frames_take_more_polls(rt: HostRuntime) -> Result<(), AllocError> {
+fn long_unknown_frames_take_more_polls(rt: HostRuntime) {
     for row in &LONG {
-        check_long(&rt, row)?;
+        check_long(&rt, row);
     }
-    Ok(())
 }
 
 /// The bytes come by these steps.
@@ -358,11 +293,11 @@ fn check_one<R: Abort>(
     rt: &R,
     reading: &mut FrameReading,
     source: &mut Trickle<'_>,
-    row: (&[u8], End),
+    row: &[u8],
     (size, frame): &(usize, Answer<'static>),
 ) {
     check_pending(rt, reading, source, row, *size);
-    check(rt, reading, source, frame, row.0, *size);
+    reading.check(rt, source, frame, row, *size);
 }
 
 /// Those of the two frames that the bytes hold. Returns how many bytes are left.
@@ -370,9 +305,9 @@ fn check_held<R: Abort>(
     rt: &R,
     reading: &mut FrameReading,
     source: &mut Trickle<'_>,
-    row: (&[u8], End),
+    row: &[u8],
 ) -> usize {
-    let mut held = row.0.len();
+    let mut held = row.len();
     for frame in &TWO {
         if held < frame.0 {
             return held;
@@ -387,15 +322,15 @@ fn check_held<R: Abort>(
 fn check_stop<R: Abort + AllocGlobal>(rt: &R, front: &[u8], end: End) {
     let mut source = Trickle::new(front, end);
     let mut reading = FrameReading::new(rt.alloc());
-    let held = check_held(rt, &mut reading, &mut source, (front, end));
+    let held = check_held(rt, &mut reading, &mut source, front);
     check_tail(rt, &mut reading, &mut source, (front, end), held);
 }
 
 #[test]
 fn a_source_stops_at_every_place(rt: HostRuntime) {
     for len in 0..=12usize {
-        for end in End::EACH {
-            check_stop(&rt, TWO_FRAMES.get(..len).unwrap_or(&[]), end);
+        for end in &ENDS {
+            check_stop(&rt, TWO_FRAMES.get(..len).unwrap_or(&[]), *end);
         }
     }
 }
@@ -419,27 +354,19 @@ fn read_again<R: Abort>(
     }
 }
 
-/// A frame is read, also where memory was refused after the head.
-fn check_read_again<R: Abort>(rt: &R, reading: &mut FrameReading, source: &mut &[u8]) {
-    let answer = read_again(rt, reading, source);
-    let wanted = Polled::Ready(Ok((0x00, None, b"abc".as_slice())));
-    same(rt, seen(&answer), wanted, "the frame");
-}
-
 #[test]
 fn refused_memory_loses_no_byte_read(rt: HostRuntime) {
     let mut source = ABC.as_slice();
-    check_read_again(&rt, &mut FrameReading::new(rt.alloc()), &mut source);
+    let answer = read_again(&rt, &mut FrameReading::new(rt.alloc()), &mut source);
+    let wanted = Polled::Ready(Ok((0x00, None, b"abc".as_slice())));
+    same(&rt, seen(&answer), wanted, "the frame");
     same(&rt, source, [].as_slice(), "all is read");
 }
 
 #[test]
-fn an_error_is_printed_as_its_cause(rt: HostRuntime) -> Result<(), Fail> {
+fn an_error_is_printed_as_its_cause(rt: HostRuntime) {
     let parse = IoReadError::Parse(ParseError::UnknownFrame);
+    check_printed(&rt, &parse, "cannot parse HTTP3 frame as ID is unknown");
     let io = IoReadError::from(bytes::IoReadError::Reset);
-    let shown = format!(in rt.alloc(); "{parse}; {io}")?;
-    let wanted =
-        "cannot parse HTTP3 frame as ID is unknown; read operation failed because interrupted";
-    same(&rt, shown.as_str(), wanted, "printed");
-    Ok(())
+    check_printed(&rt, &io, "read operation failed because interrupted");
 }

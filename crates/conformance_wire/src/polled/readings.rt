@@ -1,147 +1,74 @@
-//! What every reading does, whatever it reads, over a source that gives a byte a poll and then
-//! ends.
-use crate::polled::frame_answers;
+//! What every reading does, whatever it reads, over bytes at once and over a source that gives a
+//! byte a poll and then ends.
 use crate::same::same;
+use std::alloc::Global;
 use std::fmt::Display;
 use std::process::Abort;
 use test_io::{End, Trickle};
-use wtp_core::bytes::{AsyncRead, GetBuffer, GetVarint, IoReadError, Polled};
-use wtp_core::varint::VarInt;
-use wtp_wire::frame::{self, FrameReading};
-use wtp_wire::stream_header::{self, HeaderReading, StreamHeader};
+use wtp_core::bytes::{AsyncRead, IoReadError, Polled};
 
 /// A reading of numbers, buffers, frames or headers.
 pub(crate) trait Reading {
-    /// One poll: why the source gave no more, or `None` where the poll read something or found a
-    /// fault of the bytes.
-    fn stop<S: AsyncRead>(&mut self, source: &mut S) -> Polled<Option<IoReadError>>;
+    /// What a poll answers that is ready.
+    type Ready: Drop;
+
+    /// The answer where the source gave no more bytes, for this reason.
+    fn stopped(stop: IoReadError) -> Polled<Self::Ready>;
+
+    /// One poll, whose answer is wanted, over a source of the row's bytes.
+    fn check<R: Abort, S: AsyncRead, N: Display + Drop>(
+        &mut self,
+        rt: &R,
+        source: &mut S,
+        wanted: &Polled<Self::Ready>,
+        row: &[u8],
+        shows: N,
+    );
 }
 
-/// One poll of a reading of a number.
-pub(crate) fn poll_number<S: AsyncRead>(
-    reading: &mut GetVarint,
-    source: &mut S,
-) -> Polled<Result<VarInt, IoReadError>> {
-    reading.poll(source)
+/// A reading that needs nothing to be read into.
+pub(crate) trait NewReading: Reading + Drop {
+    /// A reading that has read nothing.
+    fn new_reading(alloc: Global) -> Self;
 }
 
-impl Reading for GetVarint {
-    fn stop<S: AsyncRead>(&mut self, source: &mut S) -> Polled<Option<IoReadError>> {
-        match poll_number(self, source) {
-            Polled::Ready(Ok(_)) => Polled::Ready(None),
-            Polled::Ready(Err(stop)) => Polled::Ready(Some(stop)),
-            Polled::Pending => Polled::Pending,
-            Polled::Again => Polled::Again,
-            Polled::NoMemory => Polled::NoMemory,
-        }
-    }
-}
-
-/// One poll of a reading into a buffer.
-pub(crate) fn poll_buffer<S: AsyncRead>(
-    reading: &mut GetBuffer<'_>,
-    source: &mut S,
-) -> Polled<Result<(), IoReadError>> {
-    reading.poll(source)
-}
-
-impl Reading for GetBuffer<'_> {
-    fn stop<S: AsyncRead>(&mut self, source: &mut S) -> Polled<Option<IoReadError>> {
-        match poll_buffer(self, source) {
-            Polled::Ready(Ok(())) => Polled::Ready(None),
-            Polled::Ready(Err(stop)) => Polled::Ready(Some(stop)),
-            Polled::Pending => Polled::Pending,
-            Polled::Again => Polled::Again,
-            Polled::NoMemory => Polled::NoMemory,
-        }
-    }
-}
-
-/// Why the source gave no more, or `None` where the fault is one of the bytes.
-fn stop_of(fault: frame::IoReadError) -> Option<IoReadError> {
-    match fault {
-        frame::IoReadError::IO(stop) => Some(stop),
-        frame::IoReadError::Parse(_) => None,
-    }
-}
-
-impl Reading for FrameReading {
-    fn stop<S: AsyncRead>(&mut self, source: &mut S) -> Polled<Option<IoReadError>> {
-        match frame_answers::polled(self, source) {
-            Polled::Ready(Err(fault)) => Polled::Ready(stop_of(fault)),
-            Polled::Ready(Ok(_)) => Polled::Ready(None),
-            Polled::Pending => Polled::Pending,
-            Polled::Again => Polled::Again,
-            Polled::NoMemory => Polled::NoMemory,
-        }
-    }
-}
-
-/// The same of a header.
-fn header_stop_of(fault: stream_header::IoReadError) -> Option<IoReadError> {
-    match fault {
-        stream_header::IoReadError::IO(stop) => Some(stop),
-        stream_header::IoReadError::Parse(_) => None,
-    }
-}
-
-/// One poll of a reading of a header.
-pub(crate) fn poll_header<S: AsyncRead>(
-    reading: &mut HeaderReading,
-    source: &mut S,
-) -> Polled<Result<StreamHeader, stream_header::IoReadError>> {
-    reading.poll(source)
-}
-
-impl Reading for HeaderReading {
-    fn stop<S: AsyncRead>(&mut self, source: &mut S) -> Polled<Option<IoReadError>> {
-        match poll_header(self, source) {
-            Polled::Ready(Err(fault)) => Polled::Ready(header_stop_of(fault)),
-            Polled::Ready(Ok(_)) => Polled::Ready(None),
-            Polled::Pending => Polled::Pending,
-            Polled::Again => Polled::Again,
-            Polled::NoMemory => Polled::NoMemory,
-        }
-    }
-}
-
-/// One poll, whose answer is wanted.
-fn check_poll<R: Abort, K: Reading, S: AsyncRead, N: Display + Drop>(
+/// Polls, one for each answer.
+pub(crate) fn check_each<R: Abort, K: Reading, S: AsyncRead>(
     rt: &R,
     reading: &mut K,
     source: &mut S,
-    row: (&[u8], End),
-    wanted: &Polled<Option<IoReadError>>,
-    shows: N,
+    each: &[Polled<K::Ready>],
+    row: &[u8],
 ) {
-    let came = reading.stop(source);
-    same(rt, (row, &came), (row, wanted), shows);
+    for (at, wanted) in each.iter().enumerate() {
+        reading.check(rt, source, wanted, row, at);
+    }
 }
 
-/// So many polls that are all answered `Pending`, over a source of these bytes.
+/// So many polls that are all answered `Pending`, over a source of the row's bytes.
 pub(crate) fn check_pending<R: Abort, K: Reading>(
     rt: &R,
     reading: &mut K,
     source: &mut Trickle<'_>,
-    row: (&[u8], End),
+    row: &[u8],
     polls: usize,
 ) {
     for at in 0..polls {
-        check_poll(rt, reading, source, row, &Polled::Pending, at);
+        reading.check(rt, source, &Polled::Pending, row, at);
     }
 }
 
 /// Two polls that are each answered that the source gave no more, for this reason.
-pub(crate) fn check_stops<R: Abort, K: Reading, S: AsyncRead>(
+fn check_stops<R: Abort, K: Reading, S: AsyncRead>(
     rt: &R,
     reading: &mut K,
     source: &mut S,
-    row: (&[u8], End),
+    row: &[u8],
     stop: IoReadError,
 ) {
-    let wanted = Polled::Ready(Some(stop));
-    check_poll(rt, reading, source, row, &wanted, "stops");
-    check_poll(rt, reading, source, row, &wanted, "stops again");
+    let wanted = K::stopped(stop);
+    reading.check(rt, source, &wanted, row, "stops");
+    reading.check(rt, source, &wanted, row, "stops again");
 }
 
 /// The last bytes of a source, one by one up to its end: after so many, which are too few, the end
@@ -150,12 +77,12 @@ pub(crate) fn check_tail<R: Abort, K: Reading>(
     rt: &R,
     reading: &mut K,
     source: &mut Trickle<'_>,
-    row: (&[u8], End),
+    (row, end): (&[u8], End),
     held: usize,
 ) {
     check_pending(rt, reading, source, row, held);
     check_pending(rt, reading, source, row, 1);
-    check_stops(rt, reading, source, row, row.1.fault(held));
+    check_stops(rt, reading, source, row, end.fault(held));
 }
 
 /// The front of what is read, byte by byte up to this end: the end is answered once, and then
@@ -163,4 +90,62 @@ pub(crate) fn check_tail<R: Abort, K: Reading>(
 pub(crate) fn check_end<R: Abort, K: Reading>(rt: &R, reading: &mut K, front: &[u8], end: End) {
     let mut source = Trickle::new(front, end);
     check_tail(rt, reading, &mut source, (front, end), front.len());
+}
+
+/// Every ending.
+pub(crate) static ENDS: [End; 3] = End::EACH;
+
+/// The front of what is read, whole and byte by byte up to each end.
+fn check_cut<R: Abort + AllocGlobal, K: NewReading>(rt: &R, front: &[u8]) {
+    let mut whole = front;
+    let fin = End::Fin.fault(front.len());
+    check_stops(rt, &mut K::new_reading(rt.alloc()), &mut whole, front, fin);
+    for end in &ENDS {
+        check_end(rt, &mut K::new_reading(rt.alloc()), front, *end);
+    }
+}
+
+/// Each front of what is read.
+pub(crate) fn check_fronts<R: Abort + AllocGlobal, K: NewReading>(rt: &R, bytes: &[u8]) {
+    for len in 0..bytes.len() {
+        check_cut::<R, K>(rt, bytes.get(..len).unwrap_or(&[]));
+    }
+}
+
+/// The bytes at once, and then no more.
+pub(crate) fn check_whole<R: Abort, K: Reading>(
+    rt: &R,
+    reading: &mut K,
+    bytes: &[u8],
+    answer: &Polled<K::Ready>,
+) {
+    let mut whole = bytes;
+    reading.check(rt, &mut whole, answer, bytes, "whole");
+    same(rt, (bytes, whole), (bytes, &[]), "whole");
+    check_stops(rt, reading, &mut whole, bytes, IoReadError::ImmediateFin);
+}
+
+/// The bytes one by one, and then no more.
+pub(crate) fn check_slow<R: Abort, K: Reading>(
+    rt: &R,
+    reading: &mut K,
+    bytes: &[u8],
+    answer: &Polled<K::Ready>,
+) {
+    let mut slow = Trickle::new(bytes, End::Fin);
+    check_pending(rt, reading, &mut slow, bytes, bytes.len());
+    reading.check(rt, &mut slow, answer, bytes, "byte by byte");
+    same(rt, (bytes, slow.rest()), (bytes, &[]), "byte by byte");
+    check_tail(rt, reading, &mut slow, (bytes, End::Fin), 0);
+}
+
+/// The bytes, whole and byte by byte, and each time then no more.
+pub(crate) fn check_read<R: Abort, K: Reading>(
+    rt: &R,
+    reading: &mut K,
+    bytes: &[u8],
+    answer: &Polled<K::Ready>,
+) {
+    check_whole(rt, reading, bytes, answer);
+    check_slow(rt, reading, bytes, answer);
 }

@@ -1,10 +1,12 @@
 //! Headers of streams, read and written poll by poll.
-use crate::polled::readings::{check_end, check_pending, poll_header};
+use crate::polled::bytes::check_printed;
+use crate::polled::readings::{NewReading, Reading, check_each, check_fronts, check_read};
 use crate::polled::writings::{check_refused, check_stopped, check_written};
 use crate::same::same;
+use std::alloc::Global;
+use std::fmt::Display;
 use std::process::Abort;
-use std::test::Fail;
-use test_io::{Answers, End, Trickle};
+use test_io::Answers;
 use wtp_core::bytes;
 use wtp_core::bytes::{AsyncRead, Polled, ReadStep};
 use wtp_core::ids::SessionId;
@@ -27,7 +29,15 @@ fn session_of(header: &StreamHeader) -> Option<u64> {
     }
 }
 
-/// One poll.
+/// One poll of a reading of a header.
+fn poll_header<S: AsyncRead>(
+    reading: &mut HeaderReading,
+    source: &mut S,
+) -> Polled<Result<StreamHeader, IoReadError>> {
+    reading.poll(source)
+}
+
+/// The same with the header's parts.
 fn polled<S: AsyncRead>(reading: &mut HeaderReading, source: &mut S) -> Answer {
     match poll_header(reading, source) {
         Polled::Ready(Ok(header)) => Polled::Ready(Ok((number(&header), session_of(&header)))),
@@ -38,47 +48,30 @@ fn polled<S: AsyncRead>(reading: &mut HeaderReading, source: &mut S) -> Answer {
     }
 }
 
-/// Polls, one for each answer.
-fn check_each<R: Abort, S: AsyncRead>(
-    rt: &R,
-    reading: &mut HeaderReading,
-    source: &mut S,
-    each: &[Answer],
-) {
-    for (at, wanted) in each.iter().enumerate() {
-        same(rt, &polled(reading, source), wanted, at);
+impl Reading for HeaderReading {
+    type Ready = Result<(u64, Option<u64>), IoReadError>;
+
+    fn stopped(stop: bytes::IoReadError) -> Answer {
+        Polled::Ready(Err(IoReadError::IO(stop)))
+    }
+
+    fn check<R: Abort, S: AsyncRead, N: Display + Drop>(
+        &mut self,
+        rt: &R,
+        source: &mut S,
+        wanted: &Answer,
+        row: &[u8],
+        shows: N,
+    ) {
+        let came = polled(self, source);
+        same(rt, (row, &came), (row, wanted), shows);
     }
 }
 
-/// No more bytes, for this reason.
-fn stopped(stop: bytes::IoReadError) -> Answer {
-    Polled::Ready(Err(IoReadError::IO(stop)))
-}
-
-/// The header's bytes at once, and then no more.
-fn check_whole<R: Abort>(rt: &R, reading: &mut HeaderReading, bytes: &[u8], answer: &Answer) {
-    let mut whole = bytes;
-    let came = polled(reading, &mut whole);
-    same(rt, (bytes, &came, whole), (bytes, answer, &[]), "whole");
-    let came = polled(reading, &mut whole);
-    let fin = stopped(End::Fin.fault(0));
-    same(rt, (bytes, came), (bytes, fin), "the end");
-}
-
-/// The header's bytes one by one.
-fn check_slow<R: Abort>(rt: &R, reading: &mut HeaderReading, bytes: &[u8], answer: &Answer) {
-    let mut slow = Trickle::new(bytes, End::Fin);
-    check_pending(rt, reading, &mut slow, (bytes, End::Fin), bytes.len());
-    let came = polled(reading, &mut slow);
-    let wanted = (bytes, answer, [].as_slice());
-    same(rt, (bytes, &came, slow.rest()), wanted, "byte by byte");
-}
-
-/// The header's bytes, whole and then no more, and byte by byte.
-fn check_read<R: Abort>(rt: &R, bytes: &[u8], answer: &Answer) {
-    let mut reading = StreamHeader::read_async();
-    check_whole(rt, &mut reading, bytes, answer);
-    check_slow(rt, &mut reading, bytes, answer);
+impl NewReading for HeaderReading {
+    fn new_reading(_alloc: Global) -> Self {
+        HeaderReading::new()
+    }
 }
 
 /// The header of session 0.
@@ -103,7 +96,7 @@ static HEADERS: [(&[u8], Answer); 6] = [
 #[test]
 fn headers_are_read(rt: HostRuntime) {
     for (bytes, answer) in &HEADERS {
-        check_read(&rt, bytes, answer);
+        check_read(&rt, &mut StreamHeader::read_async(), bytes, answer);
     }
 }
 
@@ -121,33 +114,15 @@ static FAULTS: [(&[u8], Answer); 3] = [
 #[test]
 fn faults_are_named(rt: HostRuntime) {
     for (bytes, fault) in &FAULTS {
-        check_read(&rt, bytes, fault);
-    }
-}
-
-/// The front of a header, whole and byte by byte up to each end.
-fn check_cut<R: Abort>(rt: &R, front: &[u8]) {
-    let mut whole = front;
-    let came = polled(&mut HeaderReading::new(), &mut whole);
-    let fin = stopped(End::Fin.fault(front.len()));
-    same(rt, (front, came), (front, fin), "whole");
-    for end in End::EACH {
-        check_end(rt, &mut HeaderReading::new(), front, end);
-    }
-}
-
-/// Each front of a header.
-fn check_fronts<R: Abort>(rt: &R, header: &[u8]) {
-    for len in 0..header.len() {
-        check_cut(rt, header.get(..len).unwrap_or(&[]));
+        check_read(&rt, &mut StreamHeader::read_async(), bytes, fault);
     }
 }
 
 #[test]
 fn cut_headers_end(rt: HostRuntime) {
-    check_fronts(&rt, &[0x80, 0x42, 0x42, 0x42]);
-    check_fronts(&rt, SESSION);
-    check_fronts(&rt, LAST_SESSION);
+    check_fronts::<_, HeaderReading>(&rt, &[0x80, 0x42, 0x42, 0x42]);
+    check_fronts::<_, HeaderReading>(&rt, SESSION);
+    check_fronts::<_, HeaderReading>(&rt, LAST_SESSION);
 }
 
 /// Stops before each byte.
@@ -175,7 +150,13 @@ const PAST_STOPS: [Answer; 4] = [
 fn a_header_is_read_past_stops(rt: HostRuntime) {
     let mut source = Answers::new(&[0x40, 0x54, 0x04, 0x00], &STOPS);
     let mut reading = HeaderReading::new();
-    check_each(&rt, &mut reading, &mut source, &PAST_STOPS);
+    check_each(
+        &rt,
+        &mut reading,
+        &mut source,
+        &PAST_STOPS,
+        &[0x40, 0x54, 0x04, 0x00],
+    );
     same(&rt, source.rest(), [0x00].as_slice(), "and no more");
 }
 
@@ -184,15 +165,16 @@ fn a_header_is_read_on_over_a_second_source(rt: HostRuntime) {
     let steps = [ReadStep::Bytes(1), ReadStep::NotReady];
     let mut first = Answers::new(&[0x40], &steps);
     let mut reading = HeaderReading::new();
-    check_each(&rt, &mut reading, &mut first, &[Polled::Pending]);
+    check_each(&rt, &mut reading, &mut first, &[Polled::Pending], &[0x40]);
     let mut second = [0x54, 0x04].as_slice();
-    check_each(&rt, &mut reading, &mut second, &[FOURTH]);
+    check_each(&rt, &mut reading, &mut second, &[FOURTH], &[0x54, 0x04]);
 }
 
 /// The header of the stream of this session.
-fn session(number: u64) -> Result<StreamHeader, Fail> {
-    let session = SessionId::try_from_varint(VarInt::try_from_u64(number)?)?;
-    Ok(StreamHeader::new_webtransport(session))
+fn session<R: Abort>(rt: &R, number: u64) -> StreamHeader {
+    let varint = VarInt::try_from_u64(number).expect(rt, "a number");
+    let session = SessionId::try_from_varint(varint).expect(rt, "a session");
+    StreamHeader::new_webtransport(session)
 }
 
 /// The header is written into a vector and into a slow sink.
@@ -212,35 +194,31 @@ fn check_header_written<R: Abort + AllocGlobal>(rt: &R, header: StreamHeader, by
 }
 
 #[test]
-fn headers_are_written(rt: HostRuntime) -> Result<(), Fail> {
+fn headers_are_written(rt: HostRuntime) {
     check_header_written(&rt, StreamHeader::new_control(), &[0x00]);
-    check_header_written(&rt, session(0)?, SESSION);
-    check_header_written(&rt, session(4611686018427387900)?, LAST_SESSION);
-    Ok(())
+    check_header_written(&rt, session(&rt, 0), SESSION);
+    check_header_written(&rt, session(&rt, 4611686018427387900), LAST_SESSION);
 }
 
 #[test]
-fn a_stopped_header_is_written_on(rt: HostRuntime) -> Result<(), Fail> {
+fn a_stopped_header_is_written_on(rt: HostRuntime) {
     for sent in 0..=2usize {
-        check_stopped(&rt, &mut session(0)?.write_async(), SESSION, sent);
+        let mut writing = session(&rt, 0).write_async();
+        check_stopped(&rt, &mut writing, SESSION, sent);
     }
-    Ok(())
 }
 
 #[test]
-fn refused_memory_sends_a_header_once(rt: HostRuntime) -> Result<(), Fail> {
-    let mut writing = session(4)?.write_async();
+fn refused_memory_sends_a_header_once(rt: HostRuntime) {
+    let mut writing = session(&rt, 4).write_async();
     check_refused(&rt, &mut writing, &[], &[0x40, 0x54, 0x04]);
-    Ok(())
 }
 
 #[test]
-fn an_error_is_printed_as_its_cause(rt: HostRuntime) -> Result<(), Fail> {
+fn an_error_is_printed_as_its_cause(rt: HostRuntime) {
     let parse = IoReadError::Parse(ParseError::UnknownStream);
+    let unknown = "cannot parse HTTP3 stream header as ID is unknown";
+    check_printed(&rt, &parse, unknown);
     let io = IoReadError::from(bytes::IoReadError::Reset);
-    let shown = format!(in rt.alloc(); "{parse}; {io}")?;
-    let wanted =
-        "cannot parse HTTP3 stream header as ID is unknown; read operation failed because interrupted";
-    same(&rt, shown.as_str(), wanted, "printed");
-    Ok(())
+    check_printed(&rt, &io, "read operation failed because interrupted");
 }

@@ -56,7 +56,7 @@ fn check_poll<R: Abort, K: Writing, W: AsyncWrite, S: Display + Drop>(
     same(rt, (row, &came), (row, wanted), shows);
 }
 
-/// A writing into a vector, polled twice.
+/// A writing, or the rest of one, into a vector, polled twice.
 fn check_whole<R: Abort + AllocGlobal, K: Writing>(rt: &R, writing: &mut K, bytes: &[u8]) {
     let mut vector = Vec::new(rt.alloc());
     check_poll(rt, writing, &mut vector, bytes, &DONE, "whole");
@@ -85,32 +85,20 @@ pub(crate) fn check_written<R: Abort + AllocGlobal, K: Writing>(
     check_slow(rt, slow, bytes);
 }
 
-/// Into a sink that took so many bytes and gives no more room, for this reason.
-fn check_fault<R: Abort, K: Writing>(
+/// One poll, whose answer is wanted, and the sink has then taken so many bytes.
+pub(crate) fn check_taken<R: Abort, K: Writing>(
     rt: &R,
     writing: &mut K,
     sink: &mut Paced<'_>,
     (bytes, sent): (&[u8], usize),
-    fault: &Written,
+    wanted: &Written,
 ) {
-    check_poll(rt, writing, sink, bytes, fault, sent);
+    check_poll(rt, writing, sink, bytes, wanted, sent);
     same(rt, Some(sink.output()), bytes.get(..sent), sent);
 }
 
-/// The rest of a writing into a vector, after so many bytes.
-fn check_rest<R: Abort + AllocGlobal, K: Writing>(
-    rt: &R,
-    writing: &mut K,
-    bytes: &[u8],
-    sent: usize,
-) {
-    let mut vector = Vec::new(rt.alloc());
-    check_poll(rt, writing, &mut vector, bytes, &DONE, sent);
-    same(rt, Some(vector.as_slice()), bytes.get(sent..), sent);
-}
-
 /// The sink stopped.
-const STOPPED: Written = Polled::Ready(Err(IoWriteError::Stopped));
+pub(crate) const STOPPED: Written = Polled::Ready(Err(IoWriteError::Stopped));
 
 /// The sink is lost.
 const LOST: Written = Polled::Ready(Err(IoWriteError::NotConnected));
@@ -124,9 +112,9 @@ pub(crate) fn check_stopped<R: Abort + AllocGlobal, K: Writing>(
     sent: usize,
 ) {
     let mut sink = Paced::new(rt.alloc(), stops_after(sent));
-    check_fault(rt, writing, &mut sink, (bytes, sent), &STOPPED);
-    check_fault(rt, writing, &mut sink, (bytes, sent), &LOST);
-    check_rest(rt, writing, bytes, sent);
+    check_taken(rt, writing, &mut sink, (bytes, sent), &STOPPED);
+    check_taken(rt, writing, &mut sink, (bytes, sent), &LOST);
+    check_whole(rt, writing, bytes.get(sent..).expect(rt, "the rest"));
 }
 
 /// Where memory was refused, nothing was sent, or the head.
