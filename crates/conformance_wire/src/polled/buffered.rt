@@ -1,7 +1,7 @@
 //! Bytes that a source has buffered and shows before it is asked, and frames that are read from
 //! them.
-use crate::polled::frame_answers::{Answer, NO_SESSION, UNEXPECTED_FIN, UNKNOWN, check};
-use crate::polled::readings::check_each;
+use crate::polled::frame_answers::{Answer, NO_SESSION, UNEXPECTED_FIN, UNKNOWN};
+use crate::polled::readings::{Reading, check_polls};
 use crate::same::same;
 use std::process::Abort;
 use test_io::{End, Trickle};
@@ -74,12 +74,12 @@ fn a_source_need_not_have_buffered_any(rt: HostRuntime) {
 fn check_sizes<R: Abort + AllocGlobal>(rt: &R, bytes: &[u8], len: usize, after: usize) {
     let end = len.saturating_add(3);
     let all = end.saturating_add(after);
-    let payload = bytes.get(3..end).expect(rt, "the payload");
-    let rest = bytes.get(end..all).expect(rt, "the rest");
+    let payload = NUMBERED.get(3..end).expect(rt, "the payload");
+    let rest = NUMBERED.get(end..all).expect(rt, "the rest");
     let mut source = bytes.get(..all).expect(rt, "the frame, the rest");
     let wanted = Polled::Ready(Ok((0x00, None, payload)));
     let mut reading = FrameReading::new(rt.alloc());
-    check(rt, &mut reading, &mut source, &wanted, rest, len);
+    reading.check(rt, &mut source, &wanted, rest, len);
     same(rt, (source, len), (rest, len), "the rest");
 }
 
@@ -94,7 +94,7 @@ static SIZES: [u8; 15] = [0, 1, 2, 24, 25, 31, 32, 33, 34, 39, 40, 41, 48, 64, 1
 static AFTER: [usize; 13] = [0, 1, 2, 29, 30, 31, 32, 33, 38, 39, 40, 41, 100];
 
 /// The head of a DATA frame, whose length is set in the third byte, and bytes after it.
-const NUMBERED: [u8; 256] = [
+static NUMBERED: [u8; 256] = [
     0x00, 0x40, 0x02, 0x03, 0x04, 0x05, 0x06, 0x07, 0x08, 0x09, 0x0a, 0x0b, 0x0c, 0x0d, 0x0e, 0x0f,
     0x10, 0x11, 0x12, 0x13, 0x14, 0x15, 0x16, 0x17, 0x18, 0x19, 0x1a, 0x1b, 0x1c, 0x1d, 0x1e, 0x1f,
     0x20, 0x21, 0x22, 0x23, 0x24, 0x25, 0x26, 0x27, 0x28, 0x29, 0x2a, 0x2b, 0x2c, 0x2d, 0x2e, 0x2f,
@@ -145,9 +145,8 @@ static EACH: [Answer<'static>; 7] = [
 /// The frames are read of a source that shows at most so many buffered bytes.
 fn check_window<R: Abort + AllocGlobal>(rt: &R, most: usize) {
     let mut source = Window { rest: FRAMES, most };
-    let mut reading = FrameReading::new(rt.alloc());
     let shown = FRAMES.get(..most).unwrap_or(&[]);
-    check_each(rt, &mut reading, &mut source, &EACH, shown);
+    check_polls::<_, FrameReading, _>(rt, &mut source, &EACH, shown);
     same(rt, source.rest, [].as_slice(), most);
 }
 

@@ -1,7 +1,7 @@
 //! Numbers and buffers, read and written poll by poll.
 use crate::polled::readings::{
-    ENDS, NewReading, Reading, check_each, check_end, check_fronts, check_pending, check_slow,
-    check_whole,
+    ENDS, NewReading, Reading, check_answers, check_each, check_end, check_fronts, check_pending,
+    check_slow, check_whole, same_of,
 };
 use crate::polled::writings::{DONE, Writing, check_refused, check_stopped, check_written};
 use crate::same::same;
@@ -21,16 +21,8 @@ use wtp_core::varint::VarInt;
 type Number = Polled<Result<u64, IoReadError>>;
 
 /// One poll of a reading of a number.
-fn poll_number<S: AsyncRead>(
-    reading: &mut GetVarint,
-    source: &mut S,
-) -> Polled<Result<VarInt, IoReadError>> {
-    reading.poll(source)
-}
-
-/// The same with the number's value.
 fn polled<S: AsyncRead>(reading: &mut GetVarint, source: &mut S) -> Number {
-    match poll_number(reading, source) {
+    match reading.poll(source) {
         Polled::Ready(Ok(number)) => Polled::Ready(Ok(number.into_inner())),
         Polled::Ready(Err(stop)) => Polled::Ready(Err(stop)),
         Polled::Pending => Polled::Pending,
@@ -55,7 +47,7 @@ impl Reading for GetVarint {
         shows: N,
     ) {
         let came = polled(self, source);
-        same(rt, (row, &came), (row, wanted), shows);
+        same_of(rt, row, &came, wanted, shows);
     }
 }
 
@@ -131,18 +123,14 @@ const PAST_STOPS: [Number; 4] = [
     Polled::Ready(Ok(494878333)),
 ];
 
+/// The bytes of this number, and one after it.
+const NUMBER_AND_MORE: &[u8; 5] = &[0x9d, 0x7f, 0x3e, 0x7d, 0x25];
+
 #[test]
 fn a_number_is_read_past_stops(rt: HostRuntime) {
-    let bytes = [0x9d, 0x7f, 0x3e, 0x7d, 0x25];
-    let mut source = Answers::new(&bytes, &STOPS);
     let mut reading = GetVarint::new();
-    check_each(&rt, &mut reading, &mut source, &PAST_STOPS, &bytes);
-    same(
-        &rt,
-        source.rest(),
-        [0x25].as_slice(),
-        "the byte after the number",
-    );
+    let rest = check_answers(&rt, &mut reading, (NUMBER_AND_MORE, &STOPS), &PAST_STOPS);
+    same(&rt, rest, &[0x25], "the byte after the number");
 }
 
 const TEXT: &[u8; 12] = b"WebTransport";
@@ -152,11 +140,6 @@ type Filled = Polled<Result<(), IoReadError>>;
 
 /// The buffer is full.
 const FULL: Filled = Polled::Ready(Ok(()));
-
-/// One poll of a reading into a buffer.
-fn poll_buffer<S: AsyncRead>(reading: &mut GetBuffer<'_>, source: &mut S) -> Filled {
-    reading.poll(source)
-}
 
 impl Reading for GetBuffer<'_> {
     type Ready = Result<(), IoReadError>;
@@ -173,29 +156,53 @@ impl Reading for GetBuffer<'_> {
         row: &[u8],
         shows: N,
     ) {
-        let came = poll_buffer(self, source);
-        same(rt, (row, &came), (row, wanted), shows);
+        let came = self.poll(source);
+        same_of(rt, row, &came, wanted, shows);
     }
+}
+
+/// Polls of a reading into a buffer, one for each answer, and these bytes are then in it.
+fn check_filled<R: Abort, S: AsyncRead>(
+    rt: &R,
+    source: &mut S,
+    buffer: &mut [u8],
+    each: &[Filled],
+    bytes: &[u8],
+) {
+    let mut reading = source.get_buffer(buffer);
+    check_each(rt, &mut reading, source, each, bytes);
+    same(rt, &*buffer, bytes, "the buffer");
 }
 
 #[test]
 fn a_buffer_is_filled(rt: HostRuntime) {
     let mut whole = b"WebTransport!".as_slice();
-    let mut buffer = [0; 12];
-    let mut reading = whole.get_buffer(&mut buffer);
-    check_each(&rt, &mut reading, &mut whole, &[FULL, FULL], TEXT);
-    same(&rt, &buffer, TEXT, "the buffer");
+    check_filled(&rt, &mut whole, &mut [0; 12], &[FULL, FULL], TEXT);
     same(&rt, whole, b"!", "the rest");
 }
+
+/// What the polls of twelve bytes answer that come one by one.
+static SLOWLY_FULL: [Filled; 14] = [
+    Polled::Pending,
+    Polled::Pending,
+    Polled::Pending,
+    Polled::Pending,
+    Polled::Pending,
+    Polled::Pending,
+    Polled::Pending,
+    Polled::Pending,
+    Polled::Pending,
+    Polled::Pending,
+    Polled::Pending,
+    Polled::Pending,
+    FULL,
+    FULL,
+];
 
 #[test]
 fn a_buffer_is_filled_byte_by_byte(rt: HostRuntime) {
     let mut slow = Trickle::new(TEXT, End::Fin);
-    let mut buffer = [0; 12];
-    let mut reading = slow.get_buffer(&mut buffer);
-    check_pending(&rt, &mut reading, &mut slow, TEXT, 12);
-    check_each(&rt, &mut reading, &mut slow, &[FULL, FULL], TEXT);
-    same(&rt, &buffer, TEXT, "the buffer");
+    check_filled(&rt, &mut slow, &mut [0; 12], &SLOWLY_FULL, TEXT);
 }
 
 /// The front of a buffer, byte by byte up to each end.
@@ -225,19 +232,14 @@ const FULL_PAST_STOPS: [Filled; 4] = [
 #[test]
 fn a_buffer_is_filled_past_stops(rt: HostRuntime) {
     let mut source = Answers::new(b"Web!", &STOPS);
-    let mut buffer = [0; 3];
-    let mut reading = GetBuffer::new(&mut buffer);
-    check_each(&rt, &mut reading, &mut source, &FULL_PAST_STOPS, b"Web!");
-    same(&rt, &buffer, b"Web", "the buffer");
+    check_filled(&rt, &mut source, &mut [0; 3], &FULL_PAST_STOPS, b"Web");
     same(&rt, source.rest(), b"!", "the rest");
 }
 
 #[test]
 fn an_empty_buffer_is_full(rt: HostRuntime) {
     let mut source = Answers::new(TEXT, &[ReadStep::Reset]);
-    let mut buffer = [];
-    let mut reading = source.get_buffer(&mut buffer);
-    check_each(&rt, &mut reading, &mut source, &[FULL], TEXT);
+    check_filled(&rt, &mut source, &mut [], &[FULL], &[]);
     same(&rt, source.left(), 1, "no call");
 }
 
@@ -330,7 +332,7 @@ fn errors_of_the_system_are_stops(rt: HostRuntime) {
 
 /// The error is printed as this text.
 pub(crate) fn check_printed<R: Abort + AllocGlobal, T: Display>(rt: &R, error: &T, text: &str) {
-    let shown = format!(in rt.alloc(); "{error}").expect(rt, "memory");
+    let shown = error.to_string(rt.alloc()).expect(rt, "memory");
     same(rt, shown.as_str(), text, "printed");
 }
 

@@ -6,7 +6,7 @@ use std::fmt::Display;
 use std::process::Abort;
 use wtp_core::bytes;
 use wtp_core::bytes::{AsyncRead, Polled};
-use wtp_wire::frame::{FrameOwned, FrameReading, IoReadError, ParseError};
+use wtp_wire::frame::{Frame, FrameOwned, FrameReading, IoReadError, ParseError};
 
 /// A frame as its type number, its session and its payload.
 pub(crate) type Parts<'a> = (u64, Option<u64>, &'a [u8]);
@@ -20,19 +20,6 @@ pub(crate) fn polled<S: AsyncRead>(
     source: &mut S,
 ) -> Polled<Result<FrameOwned, IoReadError>> {
     reading.poll(source)
-}
-
-/// The frame's type number.
-fn number(frame: &FrameOwned) -> u64 {
-    frame.kind().id().into_inner()
-}
-
-/// The frame's session.
-fn session(frame: &FrameOwned) -> Option<u64> {
-    match frame.session_id() {
-        Some(session) => Some(session.into_u64()),
-        None => None,
-    }
 }
 
 pub(crate) const UNKNOWN: Answer<'static> = Polled::Ready(Err(&IoReadError::Parse(
@@ -65,11 +52,17 @@ pub(crate) const NOT_CONNECTED: Answer<'static> = Polled::Ready(Err(&IoReadError
 
 pub(crate) const EMPTY_DATA: Answer<'static> = Polled::Ready(Ok((0x00, None, b"")));
 
+pub(crate) const ABC_DATA: Answer<'static> = Polled::Ready(Ok((0x00, None, b"abc")));
+
 pub(crate) const DATA: Answer<'static> = Polled::Ready(Ok((0x00, None, b"a")));
 
 /// The frame's parts.
 fn parts(frame: &FrameOwned) -> Parts<'_> {
-    (number(frame), session(frame), frame.payload())
+    let session = match frame.session_id() {
+        Some(session) => Some(session.into_u64()),
+        None => None,
+    };
+    (frame.kind().id().into_inner(), session, frame.payload())
 }
 
 /// The answer, with the frame as its parts.
@@ -84,13 +77,13 @@ pub(crate) fn seen(answer: &Polled<Result<FrameOwned, IoReadError>>) -> Answer<'
 }
 
 /// One poll of the reading, over a source of the row's bytes.
-pub(crate) fn check<'a, R: Abort, S: AsyncRead, W: Display + Drop>(
+fn check<'a, R: Abort, S: AsyncRead, N: Display + Drop>(
     rt: &R,
     reading: &mut FrameReading,
     source: &mut S,
     wanted: &'a Answer<'a>,
     row: &[u8],
-    shows: W,
+    shows: N,
 ) {
     let answer = polled(reading, source);
     same(rt, (row, &seen(&answer)), (row, wanted), shows);
@@ -122,6 +115,6 @@ impl Reading for FrameReading {
 
 impl NewReading for FrameReading {
     fn new_reading(alloc: Global) -> Self {
-        FrameReading::new(alloc)
+        Frame::read_async(alloc)
     }
 }

@@ -1,7 +1,7 @@
 //! Frames, written poll by poll.
 use crate::polled::frames::{ABC, FIELDS, HEADERS, SESSION, SETTINGS, TABLE};
+use crate::polled::readings::same_of;
 use crate::polled::writings::{STOPPED, check_refused, check_stopped, check_taken, check_written};
-use crate::same::same;
 use std::borrow::CowSlice;
 use std::process::Abort;
 use test_io::Paced;
@@ -12,12 +12,7 @@ use wtp_wire::frame::Frame;
 
 /// The frame is written into a vector and into a slow sink.
 fn check_frame_written<R: Abort + AllocGlobal>(rt: &R, frame: Frame<'_>, bytes: &[u8]) {
-    same(
-        rt,
-        (bytes, frame.write_size()),
-        (bytes, bytes.len()),
-        "size",
-    );
+    same_of(rt, bytes, &frame.write_size(), &bytes.len(), "size");
     check_written(
         rt,
         &mut frame.write_async(),
@@ -68,21 +63,11 @@ fn a_stopped_frame_is_written_on(rt: HostRuntime) {
     }
 }
 
-/// A frame with this head and this payload is written past refused memory.
-fn check_frame_refused<R: Abort + AllocGlobal>(
-    rt: &R,
-    frame: Frame<'_>,
-    head: &[u8],
-    payload: &[u8],
-) {
-    check_refused(rt, &mut frame.write_async(), head, payload);
-}
-
 #[test]
 fn refused_memory_sends_each_byte_once(rt: HostRuntime) {
     let short = Frame::new_data(CowSlice::Borrowed(b"abc"));
-    check_frame_refused(&rt, short, &[0x00, 0x03], b"abc");
+    check_refused(&rt, &mut short.write_async(), &[0x00, 0x03], b"abc");
     let payload = [9; 100];
     let long = Frame::new_data(CowSlice::Borrowed(&payload));
-    check_frame_refused(&rt, long, &[0x00, 0x40, 0x64], &payload);
+    check_refused(&rt, &mut long.write_async(), &[0x00, 0x40, 0x64], &payload);
 }

@@ -1,19 +1,19 @@
 //! Frames, read poll by poll.
 use crate::polled::bytes::check_printed;
 use crate::polled::frame_answers::{
-    Answer, DATA, EMPTY_DATA, IMMEDIATE_FIN, NO_SESSION, NOT_CONNECTED, RESET, TOO_BIG,
+    ABC_DATA, Answer, DATA, EMPTY_DATA, IMMEDIATE_FIN, NO_SESSION, NOT_CONNECTED, RESET, TOO_BIG,
     UNEXPECTED_FIN, UNKNOWN, polled, seen,
 };
 use crate::polled::readings::{
-    ENDS, Reading, check_each, check_fronts, check_pending, check_read, check_tail,
+    ENDS, Reading, check_answers, check_each, check_fronts, check_pending, check_polls, check_read,
+    check_tail,
 };
 use crate::same::same;
-use std::alloc::{AllocError, Global};
 use std::process::Abort;
-use test_io::{Answers, End, Trickle};
+use test_io::{End, Trickle};
 use wtp_core::bytes;
 use wtp_core::bytes::{Polled, ReadStep};
-use wtp_wire::frame::{Frame, FrameOwned, FrameReading, IoReadError, ParseError};
+use wtp_wire::frame::{FrameOwned, FrameReading, IoReadError, ParseError};
 
 /// A table of 2 bytes, one blocked stream, datagrams, WebTransport and three sessions.
 pub(crate) const SETTINGS: &[u8; 22] = &[
@@ -55,7 +55,7 @@ static FRAMES: [(&[u8], Answer<'static>); 5] = [
 #[test]
 fn frames_are_read(rt: HostRuntime) {
     for (bytes, answer) in &FRAMES {
-        check_read(&rt, &mut Frame::read_async(rt.alloc()), bytes, answer);
+        check_read::<_, FrameReading>(&rt, bytes, answer);
     }
 }
 
@@ -74,7 +74,7 @@ static FAULTS: [(&[u8], Answer<'static>); 4] = [
 #[test]
 fn faults_are_named(rt: HostRuntime) {
     for (bytes, fault) in &FAULTS {
-        check_read(&rt, &mut Frame::read_async(rt.alloc()), bytes, fault);
+        check_read::<_, FrameReading>(&rt, bytes, fault);
     }
 }
 
@@ -91,18 +91,6 @@ fn cut_frames_end(rt: HostRuntime) {
     for frame in &CUT {
         check_fronts::<_, FrameReading>(&rt, frame);
     }
-}
-
-/// A new reading over the source's bytes, and then an end.
-fn check_source<R: Abort + AllocGlobal>(
-    rt: &R,
-    bytes: &[u8],
-    each: &[Answer<'static>],
-    row: &[u8],
-) {
-    let mut reading = FrameReading::new(rt.alloc());
-    let mut source = bytes;
-    check_each(rt, &mut reading, &mut source, each, row);
 }
 
 /// Bytes with unknown frames, and what the polls answer.
@@ -122,20 +110,12 @@ static PASSED: [(&[u8], &[Answer<'static>]); 4] = [
 #[test]
 fn unknown_frames_are_passed_over_whole(rt: HostRuntime) {
     for (bytes, each) in &PASSED {
-        check_source(&rt, bytes, each, bytes);
+        let mut source = *bytes;
+        check_polls::<_, FrameReading, _>(&rt, &mut source, each, bytes);
     }
 }
 
 static ZEROS: [u8; 8192] = [0; 8192];
-
-/// The parts, one after another.
-fn join(alloc: Global, parts: [&[u8]; 4]) -> Result<Vec<u8>, AllocError> {
-    let mut bytes = Vec::new(alloc);
-    for part in &parts {
-        bytes.extend_from_slice(part)?;
-    }
-    Ok(bytes)
-}
 
 /// The bytes of the length of an unknown frame, how many zeros come after it, the bytes after
 /// those, and what the polls answer.
@@ -146,17 +126,14 @@ type LongRow = (
     &'static [Answer<'static>],
 );
 
-/// The bytes of an unknown frame, and of what comes after it.
-fn long_bytes(alloc: Global, row: &LongRow) -> Result<Vec<u8>, AllocError> {
-    let (length, zeros, after, _) = *row;
-    let zeros = ZEROS.get(..zeros).unwrap_or(&[]);
-    join(alloc, [&[0x0a], length, zeros, after])
-}
-
 /// Asserts the answers to the polls over an unknown frame, what comes after it, and an end.
 fn check_long<R: Abort + AllocGlobal>(rt: &R, row: &LongRow) {
-    let bytes = long_bytes(rt.alloc(), row).expect(rt, "memory");
-    check_source(rt, bytes.as_slice(), row.3, row.0);
+    let (length, zeros, after, each) = *row;
+    let zeros = ZEROS.get(..zeros).unwrap_or(&[]);
+    let parts = [[0x0a].as_slice(), length, zeros, after];
+    let bytes = parts.concat(rt.alloc()).expect(rt, "memory");
+    let mut source = bytes.as_slice();
+    check_polls::<_, FrameReading, _>(rt, &mut source, each, length);
 }
 
 /// Unknown frames of 4096 bytes, of one more, of twice as many, and a cut one.
@@ -187,17 +164,6 @@ fn long_unknown_frames_take_more_polls(rt: HostRuntime) {
     for row in &LONG {
         check_long(&rt, row);
     }
-}
-
-/// The bytes come by these steps.
-fn check_answers<R: Abort>(
-    rt: &R,
-    reading: &mut FrameReading,
-    (bytes, steps): (&[u8], &[ReadStep]),
-    each: &[Answer<'static>],
-) {
-    let mut source = Answers::new(bytes, steps);
-    check_each(rt, reading, &mut source, each, bytes);
 }
 
 /// Bytes, the steps by which they come, the answers to the polls, bytes of a second source, a
@@ -288,18 +254,6 @@ static TWO: [(usize, Answer<'static>); 2] = [
     (3, Polled::Ready(Ok((0x41, Some(0), b"")))),
 ];
 
-/// One of the two frames, byte by byte.
-fn check_one<R: Abort>(
-    rt: &R,
-    reading: &mut FrameReading,
-    source: &mut Trickle<'_>,
-    row: &[u8],
-    (size, frame): &(usize, Answer<'static>),
-) {
-    check_pending(rt, reading, source, row, *size);
-    reading.check(rt, source, frame, row, *size);
-}
-
 /// Those of the two frames that the bytes hold. Returns how many bytes are left.
 fn check_held<R: Abort>(
     rt: &R,
@@ -308,12 +262,13 @@ fn check_held<R: Abort>(
     row: &[u8],
 ) -> usize {
     let mut held = row.len();
-    for frame in &TWO {
-        if held < frame.0 {
+    for (size, frame) in &TWO {
+        if held < *size {
             return held;
         }
-        check_one(rt, reading, source, row, frame);
-        held = held.saturating_sub(frame.0);
+        check_pending(rt, reading, source, row, *size);
+        reading.check(rt, source, frame, row, *size);
+        held = held.saturating_sub(*size);
     }
     held
 }
@@ -358,8 +313,7 @@ fn read_again<R: Abort>(
 fn refused_memory_loses_no_byte_read(rt: HostRuntime) {
     let mut source = ABC.as_slice();
     let answer = read_again(&rt, &mut FrameReading::new(rt.alloc()), &mut source);
-    let wanted = Polled::Ready(Ok((0x00, None, b"abc".as_slice())));
-    same(&rt, seen(&answer), wanted, "the frame");
+    same(&rt, seen(&answer), ABC_DATA, "the frame");
     same(&rt, source, [].as_slice(), "all is read");
 }
 

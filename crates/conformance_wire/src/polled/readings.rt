@@ -2,10 +2,10 @@
 //! byte a poll and then ends.
 use crate::same::same;
 use std::alloc::Global;
-use std::fmt::Display;
+use std::fmt::{Debug, Display};
 use std::process::Abort;
-use test_io::{End, Trickle};
-use wtp_core::bytes::{AsyncRead, IoReadError, Polled};
+use test_io::{Answers, End, Trickle};
+use wtp_core::bytes::{AsyncRead, IoReadError, Polled, ReadStep};
 
 /// A reading of numbers, buffers, frames or headers.
 pub(crate) trait Reading {
@@ -32,6 +32,27 @@ pub(crate) trait NewReading: Reading + Drop {
     fn new_reading(alloc: Global) -> Self;
 }
 
+/// Asserts what came of a row of these bytes.
+pub(crate) fn same_of<R: Abort, T: PartialEq + Debug, N: Display + Drop>(
+    rt: &R,
+    row: &[u8],
+    came: &T,
+    wanted: &T,
+    shows: N,
+) {
+    same(rt, (row, came), (row, wanted), shows);
+}
+
+/// Polls of a new reading, one for each answer.
+pub(crate) fn check_polls<R: Abort + AllocGlobal, K: NewReading, S: AsyncRead>(
+    rt: &R,
+    source: &mut S,
+    each: &[Polled<K::Ready>],
+    row: &[u8],
+) {
+    check_each(rt, &mut K::new_reading(rt.alloc()), source, each, row);
+}
+
 /// Polls, one for each answer.
 pub(crate) fn check_each<R: Abort, K: Reading, S: AsyncRead>(
     rt: &R,
@@ -43,6 +64,19 @@ pub(crate) fn check_each<R: Abort, K: Reading, S: AsyncRead>(
     for (at, wanted) in each.iter().enumerate() {
         reading.check(rt, source, wanted, row, at);
     }
+}
+
+/// Polls, one for each answer, over a source that gives the bytes by these steps. Returns the bytes
+/// that it has not given.
+pub(crate) fn check_answers<'a, R: Abort, K: Reading>(
+    rt: &R,
+    reading: &mut K,
+    (bytes, steps): (&'a [u8], &'a [ReadStep]),
+    each: &[Polled<K::Ready>],
+) -> &'a [u8] {
+    let mut source = Answers::new(bytes, steps);
+    check_each(rt, reading, &mut source, each, bytes);
+    source.rest()
 }
 
 /// So many polls that are all answered `Pending`, over a source of the row's bytes.
@@ -121,7 +155,7 @@ pub(crate) fn check_whole<R: Abort, K: Reading>(
 ) {
     let mut whole = bytes;
     reading.check(rt, &mut whole, answer, bytes, "whole");
-    same(rt, (bytes, whole), (bytes, &[]), "whole");
+    same_of(rt, bytes, &whole, &[].as_slice(), "whole");
     check_stops(rt, reading, &mut whole, bytes, IoReadError::ImmediateFin);
 }
 
@@ -135,17 +169,17 @@ pub(crate) fn check_slow<R: Abort, K: Reading>(
     let mut slow = Trickle::new(bytes, End::Fin);
     check_pending(rt, reading, &mut slow, bytes, bytes.len());
     reading.check(rt, &mut slow, answer, bytes, "byte by byte");
-    same(rt, (bytes, slow.rest()), (bytes, &[]), "byte by byte");
+    same_of(rt, bytes, &slow.rest(), &[].as_slice(), "byte by byte");
     check_tail(rt, reading, &mut slow, (bytes, End::Fin), 0);
 }
 
-/// The bytes, whole and byte by byte, and each time then no more.
-pub(crate) fn check_read<R: Abort, K: Reading>(
+/// The bytes, whole and byte by byte, and each time then no more, to one new reading.
+pub(crate) fn check_read<R: Abort + AllocGlobal, K: NewReading>(
     rt: &R,
-    reading: &mut K,
     bytes: &[u8],
     answer: &Polled<K::Ready>,
 ) {
-    check_whole(rt, reading, bytes, answer);
-    check_slow(rt, reading, bytes, answer);
+    let mut reading = K::new_reading(rt.alloc());
+    check_whole(rt, &mut reading, bytes, answer);
+    check_slow(rt, &mut reading, bytes, answer);
 }

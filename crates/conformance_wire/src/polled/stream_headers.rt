@@ -1,12 +1,13 @@
 //! Headers of streams, read and written poll by poll.
 use crate::polled::bytes::check_printed;
-use crate::polled::readings::{NewReading, Reading, check_each, check_fronts, check_read};
+use crate::polled::readings::{
+    NewReading, Reading, check_answers, check_each, check_fronts, check_read, same_of,
+};
 use crate::polled::writings::{check_refused, check_stopped, check_written};
 use crate::same::same;
 use std::alloc::Global;
 use std::fmt::Display;
 use std::process::Abort;
-use test_io::Answers;
 use wtp_core::bytes;
 use wtp_core::bytes::{AsyncRead, Polled, ReadStep};
 use wtp_core::ids::SessionId;
@@ -16,31 +17,19 @@ use wtp_wire::stream_header::{HeaderReading, IoReadError, ParseError, StreamHead
 /// What a poll answers: a header as its type number and its session.
 type Answer = Polled<Result<(u64, Option<u64>), IoReadError>>;
 
-/// The header's type number.
-fn number(header: &StreamHeader) -> u64 {
-    header.kind().id().into_inner()
-}
-
-/// The header's session.
-fn session_of(header: &StreamHeader) -> Option<u64> {
-    match header.session_id() {
+/// The header's type number and its session.
+fn parts(header: StreamHeader) -> (u64, Option<u64>) {
+    let session = match header.session_id() {
         Some(session) => Some(session.into_u64()),
         None => None,
-    }
+    };
+    (header.kind().id().into_inner(), session)
 }
 
 /// One poll of a reading of a header.
-fn poll_header<S: AsyncRead>(
-    reading: &mut HeaderReading,
-    source: &mut S,
-) -> Polled<Result<StreamHeader, IoReadError>> {
-    reading.poll(source)
-}
-
-/// The same with the header's parts.
 fn polled<S: AsyncRead>(reading: &mut HeaderReading, source: &mut S) -> Answer {
-    match poll_header(reading, source) {
-        Polled::Ready(Ok(header)) => Polled::Ready(Ok((number(&header), session_of(&header)))),
+    match reading.poll(source) {
+        Polled::Ready(Ok(header)) => Polled::Ready(Ok(parts(header))),
         Polled::Ready(Err(error)) => Polled::Ready(Err(error)),
         Polled::Pending => Polled::Pending,
         Polled::Again => Polled::Again,
@@ -64,13 +53,13 @@ impl Reading for HeaderReading {
         shows: N,
     ) {
         let came = polled(self, source);
-        same(rt, (row, &came), (row, wanted), shows);
+        same_of(rt, row, &came, wanted, shows);
     }
 }
 
 impl NewReading for HeaderReading {
     fn new_reading(_alloc: Global) -> Self {
-        HeaderReading::new()
+        StreamHeader::read_async()
     }
 }
 
@@ -96,7 +85,7 @@ static HEADERS: [(&[u8], Answer); 6] = [
 #[test]
 fn headers_are_read(rt: HostRuntime) {
     for (bytes, answer) in &HEADERS {
-        check_read(&rt, &mut StreamHeader::read_async(), bytes, answer);
+        check_read::<_, HeaderReading>(&rt, bytes, answer);
     }
 }
 
@@ -114,7 +103,7 @@ static FAULTS: [(&[u8], Answer); 3] = [
 #[test]
 fn faults_are_named(rt: HostRuntime) {
     for (bytes, fault) in &FAULTS {
-        check_read(&rt, &mut StreamHeader::read_async(), bytes, fault);
+        check_read::<_, HeaderReading>(&rt, bytes, fault);
     }
 }
 
@@ -146,26 +135,23 @@ const PAST_STOPS: [Answer; 4] = [
     FOURTH,
 ];
 
+/// The header of session 4, and a byte after it.
+const FOURTH_BYTES: &[u8; 4] = &[0x40, 0x54, 0x04, 0x00];
+
 #[test]
 fn a_header_is_read_past_stops(rt: HostRuntime) {
-    let mut source = Answers::new(&[0x40, 0x54, 0x04, 0x00], &STOPS);
     let mut reading = HeaderReading::new();
-    check_each(
-        &rt,
-        &mut reading,
-        &mut source,
-        &PAST_STOPS,
-        &[0x40, 0x54, 0x04, 0x00],
-    );
-    same(&rt, source.rest(), [0x00].as_slice(), "and no more");
+    let rest = check_answers(&rt, &mut reading, (FOURTH_BYTES, &STOPS), &PAST_STOPS);
+    same(&rt, rest, &[0x00], "and no more");
 }
+
+/// One byte, and then none for now.
+const ONE_BYTE: [ReadStep; 2] = [ReadStep::Bytes(1), ReadStep::NotReady];
 
 #[test]
 fn a_header_is_read_on_over_a_second_source(rt: HostRuntime) {
-    let steps = [ReadStep::Bytes(1), ReadStep::NotReady];
-    let mut first = Answers::new(&[0x40], &steps);
     let mut reading = HeaderReading::new();
-    check_each(&rt, &mut reading, &mut first, &[Polled::Pending], &[0x40]);
+    check_answers(&rt, &mut reading, (&[0x40], &ONE_BYTE), &[Polled::Pending]);
     let mut second = [0x54, 0x04].as_slice();
     check_each(&rt, &mut reading, &mut second, &[FOURTH], &[0x54, 0x04]);
 }
@@ -179,12 +165,7 @@ fn session<R: Abort>(rt: &R, number: u64) -> StreamHeader {
 
 /// The header is written into a vector and into a slow sink.
 fn check_header_written<R: Abort + AllocGlobal>(rt: &R, header: StreamHeader, bytes: &[u8]) {
-    same(
-        rt,
-        (bytes, header.write_size()),
-        (bytes, bytes.len()),
-        "size",
-    );
+    same_of(rt, bytes, &header.write_size(), &bytes.len(), "size");
     check_written(
         rt,
         &mut header.write_async(),

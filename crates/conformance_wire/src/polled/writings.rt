@@ -1,4 +1,5 @@
 //! What every writing does, whatever it writes, into vectors and into sinks that wait or stop.
+use crate::polled::readings::same_of;
 use crate::same::same;
 use std::fmt::Display;
 use std::process::Abort;
@@ -53,7 +54,7 @@ fn check_poll<R: Abort, K: Writing, W: AsyncWrite, S: Display + Drop>(
     shows: S,
 ) {
     let came = writing.write_on(sink);
-    same(rt, (row, &came), (row, wanted), shows);
+    same_of(rt, row, &came, wanted, shows);
 }
 
 /// A writing, or the rest of one, into a vector, polled twice.
