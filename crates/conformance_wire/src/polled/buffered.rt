@@ -75,12 +75,11 @@ fn check_sizes<R: Abort + AllocGlobal>(rt: &R, bytes: &[u8], len: usize, after: 
     let end = len.saturating_add(3);
     let all = end.saturating_add(after);
     let payload = NUMBERED.get(3..end).expect(rt, "the payload");
-    let rest = NUMBERED.get(end..all).expect(rt, "the rest");
     let mut source = bytes.get(..all).expect(rt, "the frame, the rest");
     let wanted = Polled::Ready(Ok((0x00, None, payload)));
     let mut reading = FrameReading::new(rt.alloc());
-    reading.check(rt, &mut source, &wanted, rest, len);
-    same(rt, (source, len), (rest, len), "the rest");
+    reading.check(rt, &mut source, &wanted, payload, after);
+    same(rt, (Some(source), len), (bytes.get(end..all), len), after);
 }
 
 #[test]

@@ -76,19 +76,6 @@ pub(crate) fn seen(answer: &Polled<Result<FrameOwned, IoReadError>>) -> Answer<'
     }
 }
 
-/// One poll of the reading, over a source of the row's bytes.
-fn check<'a, R: Abort, S: AsyncRead, N: Display + Drop>(
-    rt: &R,
-    reading: &mut FrameReading,
-    source: &mut S,
-    wanted: &'a Answer<'a>,
-    row: &[u8],
-    shows: N,
-) {
-    let answer = polled(reading, source);
-    same(rt, (row, &seen(&answer)), (row, wanted), shows);
-}
-
 impl Reading for FrameReading {
     type Ready = Result<Parts<'static>, &'static IoReadError>;
 
@@ -109,7 +96,8 @@ impl Reading for FrameReading {
         row: &[u8],
         shows: N,
     ) {
-        check(rt, self, source, wanted, row, shows);
+        let answer = polled(self, source);
+        same(rt, (row, &seen(&answer)), (row, wanted), shows);
     }
 }
 

@@ -314,7 +314,7 @@ fn refused_memory_loses_no_byte_read(rt: HostRuntime) {
     let mut source = ABC.as_slice();
     let answer = read_again(&rt, &mut FrameReading::new(rt.alloc()), &mut source);
     same(&rt, seen(&answer), ABC_DATA, "the frame");
-    same(&rt, source, [].as_slice(), "all is read");
+    same(&rt, source, &[], "all is read");
 }
 
 #[test]

@@ -114,8 +114,7 @@ pub(crate) fn check_tail<R: Abort, K: Reading>(
     (row, end): (&[u8], End),
     held: usize,
 ) {
-    check_pending(rt, reading, source, row, held);
-    check_pending(rt, reading, source, row, 1);
+    check_pending(rt, reading, source, row, held.saturating_add(1));
     check_stops(rt, reading, source, row, end.fault(held));
 }
 
@@ -155,7 +154,7 @@ pub(crate) fn check_whole<R: Abort, K: Reading>(
 ) {
     let mut whole = bytes;
     reading.check(rt, &mut whole, answer, bytes, "whole");
-    same_of(rt, bytes, &whole, &[].as_slice(), "whole");
+    same(rt, (bytes, whole), (bytes, &[]), "whole");
     check_stops(rt, reading, &mut whole, bytes, IoReadError::ImmediateFin);
 }
 
@@ -169,7 +168,7 @@ pub(crate) fn check_slow<R: Abort, K: Reading>(
     let mut slow = Trickle::new(bytes, End::Fin);
     check_pending(rt, reading, &mut slow, bytes, bytes.len());
     reading.check(rt, &mut slow, answer, bytes, "byte by byte");
-    same_of(rt, bytes, &slow.rest(), &[].as_slice(), "byte by byte");
+    same(rt, (bytes, slow.rest()), (bytes, &[]), "byte by byte");
     check_tail(rt, reading, &mut slow, (bytes, End::Fin), 0);
 }
 
