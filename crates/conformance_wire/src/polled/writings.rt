@@ -57,6 +57,18 @@ fn check_poll<R: Abort, K: Writing, W: AsyncWrite, S: Display + Drop>(
     same_of(rt, row, &came, wanted, shows);
 }
 
+/// One poll, whose answer is wanted, and the sink has then taken so many bytes.
+pub(crate) fn check_taken<R: Abort, K: Writing>(
+    rt: &R,
+    writing: &mut K,
+    sink: &mut Paced<'_>,
+    (bytes, sent): (&[u8], usize),
+    wanted: &Written,
+) {
+    check_poll(rt, writing, sink, bytes, wanted, sent);
+    same(rt, Some(sink.output()), bytes.get(..sent), sent);
+}
+
 /// A writing, or the rest of one, into a vector, polled twice.
 fn check_whole<R: Abort + AllocGlobal, K: Writing>(rt: &R, writing: &mut K, bytes: &[u8]) {
     let mut vector = Vec::new(rt.alloc());
@@ -65,14 +77,13 @@ fn check_whole<R: Abort + AllocGlobal, K: Writing>(rt: &R, writing: &mut K, byte
     same(rt, vector.as_slice(), bytes, "whole");
 }
 
-/// A writing into a sink that takes a byte a poll.
+/// A writing into a sink that takes a byte a poll, which is polled until all is taken.
 fn check_slow<R: Abort + AllocGlobal, K: Writing>(rt: &R, writing: &mut K, bytes: &[u8]) {
     let mut sink = Paced::new(rt.alloc(), BYTE_BY_BYTE.as_flattened());
     for at in 0..bytes.len() {
-        check_poll(rt, writing, &mut sink, bytes, &Polled::Pending, at);
+        check_taken(rt, writing, &mut sink, (bytes, at), &Polled::Pending);
     }
-    check_poll(rt, writing, &mut sink, bytes, &DONE, "byte by byte");
-    same(rt, sink.output(), bytes, "byte by byte");
+    check_taken(rt, writing, &mut sink, (bytes, bytes.len()), &DONE);
 }
 
 /// A writing into a vector, polled twice, and another into a sink that takes a byte a poll.
@@ -84,18 +95,6 @@ pub(crate) fn check_written<R: Abort + AllocGlobal, K: Writing>(
 ) {
     check_whole(rt, whole, bytes);
     check_slow(rt, slow, bytes);
-}
-
-/// One poll, whose answer is wanted, and the sink has then taken so many bytes.
-pub(crate) fn check_taken<R: Abort, K: Writing>(
-    rt: &R,
-    writing: &mut K,
-    sink: &mut Paced<'_>,
-    (bytes, sent): (&[u8], usize),
-    wanted: &Written,
-) {
-    check_poll(rt, writing, sink, bytes, wanted, sent);
-    same(rt, Some(sink.output()), bytes.get(..sent), sent);
 }
 
 /// The sink stopped.
