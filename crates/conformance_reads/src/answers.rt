@@ -1,6 +1,6 @@
 //! What polls of streams are to answer.
 use crate::same::same;
-use std::alloc::{AllocError, Global};
+use std::alloc::Global;
 use std::process::Abort;
 use test_io::End;
 use wtransport_proto::bytes::{IoReadError as Fault, Polled};
@@ -30,10 +30,10 @@ pub(crate) const CUT: Answer<'static> = Answer::Fault(IoReadError::H3(ErrorCode:
 pub(crate) static ENDS: [End; 3] = End::EACH;
 
 /// These bytes, and zeros after them, so many in all.
-pub(crate) fn pad(alloc: Global, front: &[u8], len: usize) -> Result<Vec<u8>, AllocError> {
-    let mut bytes = Vec::from_slice(alloc, front)?;
-    bytes.resize(len, 0)?;
-    Ok(bytes)
+pub(crate) fn pad<R: Abort>(rt: &R, alloc: Global, front: &[u8], len: usize) -> Vec<u8> {
+    let mut bytes = Vec::from_slice(alloc, front).expect(rt, "memory");
+    bytes.resize(len, 0).expect(rt, "memory");
+    bytes
 }
 
 /// The answer of a poll, or what it is to answer, as a value that is compared.

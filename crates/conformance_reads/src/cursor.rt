@@ -3,8 +3,8 @@ use crate::answers::{PollAnswer, number_and_payload, pad};
 use crate::opened::{control, of_session, opened_here, opened_there};
 use crate::reads::Reads;
 use crate::same::same;
+use std::alloc::Global;
 use std::process::Abort;
-use std::test::Fail;
 use wtransport_proto::bytes::{IoReadError as Fault, Polled};
 use wtransport_proto::error::ErrorCode;
 use wtransport_proto::frame::{Frame, FrameReading};
@@ -78,7 +78,7 @@ impl<'a> Coming<'a> {
             if let Some(found) = self.step() {
                 return found;
             }
-            assert!(rt; self.held().len() <= 4111);
+            same(rt, self.held().len() <= 4111, true, "few bytes are held");
             if let Some(ending) = self.receive(size) {
                 return Err(ending);
             }
@@ -102,17 +102,12 @@ fn check_cut<R: Abort>(rt: &R, role: StreamRole, row: &Row<'_>, size: usize) {
     coming.check(rt, size, Err(ending), shows);
 }
 
-/// The same, cut in pieces of each size.
-fn check_cuts<R: Abort>(rt: &R, role: StreamRole, row: &Row<'_>) {
-    for size in 1..=row.0.len() {
-        check_cut(rt, role, row, size);
-    }
-}
-
-/// Each row, cut in pieces of each size.
+/// The stream has each row's frames and ending, cut in pieces of each size.
 fn check_rows<R: Abort>(rt: &R, role: StreamRole, rows: &[Row<'_>]) {
     for row in rows {
-        check_cuts(rt, role, row);
+        for size in 1..=row.0.len() {
+            check_cut(rt, role, row, size);
+        }
     }
 }
 
@@ -261,16 +256,11 @@ fn a_stream_opened_there_is_read_however_cut(rt: HostRuntime) {
     check_rows(&rt, StreamRole::BiRemote, rows_there());
 }
 
-/// The polls of a new stream that the peer opened read each row.
-fn check_new<R: Abort + AllocGlobal>(rt: &R, rows: &[Row<'_>]) {
-    for row in rows {
-        check_polled(rt, &mut opened_there(), row);
-    }
-}
-
 #[test]
 fn a_stream_opened_there_is_polled_so(rt: HostRuntime) {
-    check_new(&rt, rows_there());
+    for row in rows_there() {
+        check_polled(&rt, &mut opened_there(), row);
+    }
 }
 
 /// A stream in both directions that was opened here, or that has its session.
@@ -314,10 +304,9 @@ fn streams_opened_here_are_read_however_cut(rt: HostRuntime) {
 }
 
 #[test]
-fn streams_opened_here_are_polled_so(rt: HostRuntime) -> Result<(), Fail> {
+fn streams_opened_here_are_polled_so(rt: HostRuntime) {
     check_polled_rows(&rt, &mut opened_here(), rows_here());
-    check_polled_rows(&rt, &mut of_session(rt.alloc())?, rows_here());
-    Ok(())
+    check_polled_rows(&rt, &mut of_session(&rt, rt.alloc()), rows_here());
 }
 
 /// A control stream that the peer opened, after its type.
@@ -356,25 +345,31 @@ fn a_control_stream_is_read_however_cut(rt: HostRuntime) {
 }
 
 #[test]
-fn a_control_stream_is_polled_so(rt: HostRuntime) -> Result<(), Fail> {
-    check_polled_rows(&rt, &mut control()?, rows_of_control());
-    Ok(())
+fn a_control_stream_is_polled_so(rt: HostRuntime) {
+    check_polled_rows(&rt, &mut control(&rt), rows_of_control());
 }
 
 /// How many bytes come at a time.
 static SIZES: [usize; 9] = [1, 2, 7, 100, 4096, 4111, 4999, 5003, 9105];
 
+/// An unknown frame of 5000 bytes, a data frame of 4096, and a headers frame of one.
+fn long_bytes<R: Abort>(rt: &R, alloc: Global) -> Vec<u8> {
+    let mut bytes = pad(rt, alloc, b"\x0a\x53\x88", 5003);
+    bytes
+        .extend_from_slice(b"\x00\x50\x00")
+        .expect(rt, "memory");
+    bytes.resize(9102, 7).expect(rt, "memory");
+    bytes.extend_from_slice(b"\x01\x01a").expect(rt, "memory");
+    bytes
+}
+
 #[test]
-fn long_frames_are_read_however_cut(rt: HostRuntime) -> Result<(), Fail> {
-    let mut bytes = pad(rt.alloc(), b"\x0a\x53\x88", 5003)?;
-    bytes.extend_from_slice(b"\x00\x50\x00")?;
-    bytes.resize(9102, 7)?;
-    bytes.extend_from_slice(b"\x01\x01a")?;
-    let payload = bytes.get(5006..9102).ok_or("a payload")?;
+fn long_frames_are_read_however_cut(rt: HostRuntime) {
+    let bytes = long_bytes(&rt, rt.alloc());
+    let payload = bytes.get(5006..9102).expect(&rt, "a payload");
     let frames = [(0x00, payload), (0x01, b"a".as_slice())];
     let row: Row<'_> = (&bytes, &frames, Ok(()), "unknown, data, headers");
     for size in &SIZES {
         check_cut(&rt, StreamRole::BiRemote, &row, *size);
     }
-    Ok(())
 }

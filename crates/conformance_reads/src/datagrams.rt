@@ -1,7 +1,6 @@
 //! Datagrams.
 use crate::same::same;
 use std::process::Abort;
-use std::test::Fail;
 use wtransport_proto::bytes::EndOfBuffer;
 use wtransport_proto::datagram::Datagram;
 use wtransport_proto::error::ErrorCode;
@@ -33,26 +32,24 @@ fn check_write<R: Abort>(
 const SHORT: [u8; 9] = [0xcf, 0xff, 0xff, 0xff, 0xff, 0xff, 0xff, 0xff, 0x78];
 
 #[test]
-fn datagrams_are_read_and_written(rt: HostRuntime) -> Result<(), Fail> {
-    let datagram = Datagram::read(&SHORT)?;
+fn datagrams_are_read_and_written(rt: HostRuntime) {
+    let datagram = Datagram::read(&SHORT).expect(&rt, "a datagram");
     check_parts(&rt, &datagram, b"x", 9);
     let written = [0xcf, 0xff, 0xff, 0xff, 0xff, 0xff, 0xff, 0xff, 0x78, 7, 7];
     let wanted = (Ok(9), written.as_slice());
     check_write(&rt, &datagram, &mut [7; 11], wanted, "two bytes are left");
-    Ok(())
 }
 
 const LONG: &[u8; 25] = b"This is a testing payload";
 
 #[test]
-fn a_long_payload_is_read_back(rt: HostRuntime) -> Result<(), Fail> {
+fn a_long_payload_is_read_back(rt: HostRuntime) {
     let datagram = Datagram::new(QStreamId::MAX, LONG);
     check_parts(&rt, &datagram, LONG, 33);
     let mut buffer = [0; 75];
     same(&rt, datagram.write(&mut buffer), Ok(33), "what is written");
-    let read = Datagram::read(buffer.get(..33).unwrap_or(&[]))?;
+    let read = Datagram::read(buffer.get(..33).unwrap_or(&[])).expect(&rt, "a datagram");
     check_parts(&rt, &read, LONG, 33);
-    Ok(())
 }
 
 #[test]

@@ -2,9 +2,8 @@
 use crate::answers::{number_and_payload, pad};
 use crate::opened::{control, of_session, opened_here, opened_there};
 use crate::same::same;
-use std::alloc::{AllocError, Global};
+use std::alloc::Global;
 use std::process::Abort;
-use std::test::Fail;
 use test_io::{End, Trickle};
 use wtransport_proto::bytes::{AsyncRead, IoReadError as Fault};
 use wtransport_proto::error::ErrorCode;
@@ -88,20 +87,18 @@ impl Driving {
         )
     }
 
-    /// Drives it on, with so many polls: this is how it ends, how many frames it has put out since
-    /// it was new, and how many bytes are left.
-    fn check<R: Abort>(
-        &mut self,
-        rt: &R,
-        bytes: &mut &[u8],
-        polls: u32,
-        wanted: (&Driven, usize, usize),
-        shows: &str,
-    ) {
-        let end = self.on(bytes, polls);
-        same(rt, (&end, self.out.len(), bytes.len()), wanted, shows);
+    /// Drives it on by the part. Frames are counted since the stream was new.
+    fn check<R: Abort>(&mut self, rt: &R, bytes: &mut &[u8], part: &Part, shows: &str) {
+        let (polls, end, count, left) = part;
+        let came = self.on(bytes, *polls);
+        let came = (&came, self.out.len(), bytes.len());
+        same(rt, came, (end, *count, *left), shows);
     }
 }
+
+/// How many polls are made, how the drive ends, how many frames were put out then, and how many
+/// bytes are left.
+type Part = (u32, Driven, usize, usize);
 
 const TWO: &[u8] = b"\x00\x01a\x00\x01b";
 
@@ -112,7 +109,7 @@ static TWO_FRAMES: [(u64, &[u8]); 2] = [(0x00, b"a"), (0x00, b"b")];
 fn drive_frames<R: Abort>(rt: &R, driving: &mut Driving, source: &mut &[u8]) -> Driven {
     match driving.once(source) {
         Driven::NoMemory => {
-            assert!(rt; driving.out.len() < 2);
+            same(rt, driving.out.len() < 2, true, "one is not put out");
             driving.once(source)
         }
         end => end,
@@ -128,10 +125,6 @@ fn refused_memory_loses_no_frame(rt: HostRuntime) {
     check_frames(&rt, &driving.out, &TWO_FRAMES);
 }
 
-/// How many polls are made, how the drive ends, how many frames were put out then, and how many
-/// bytes are left.
-type Part = (u32, Driven, usize, usize);
-
 /// The drives of a new stream over the bytes, one for each part, and the frames put out of them.
 fn check_parts<R: Abort + AllocGlobal>(
     rt: &R,
@@ -141,8 +134,8 @@ fn check_parts<R: Abort + AllocGlobal>(
 ) {
     let mut driving = Driving::new(rt.alloc());
     let mut rest = bytes;
-    for (polls, end, count, left) in parts {
-        driving.check(rt, &mut rest, *polls, (end, *count, *left), "part");
+    for part in parts {
+        driving.check(rt, &mut rest, part, "part");
     }
     check_frames(rt, &driving.out, frames);
 }
@@ -164,10 +157,9 @@ fn a_cut_unknown_frame_ends_it(rt: HostRuntime) {
 }
 
 /// The drives over an unknown frame of 8192 bytes and a data frame of none, one for each part.
-fn check_unknown<R: Abort + AllocGlobal>(rt: &R, parts: &[Part]) -> Result<(), AllocError> {
-    let unknown = pad(rt.alloc(), &[0x0a, 0x60, 0x00], 3 + 8192 + 2)?;
+fn check_unknown<R: Abort + AllocGlobal>(rt: &R, parts: &[Part]) {
+    let unknown = pad(rt, rt.alloc(), &[0x0a, 0x60, 0x00], 3 + 8192 + 2);
     check_parts(rt, unknown.as_slice(), parts, &[(0x00, b"")]);
-    Ok(())
 }
 
 static IN_PARTS: [Part; 4] = [
@@ -178,24 +170,34 @@ static IN_PARTS: [Part; 4] = [
 ];
 
 #[test]
-fn each_part_of_an_unknown_frame_is_a_poll(rt: HostRuntime) -> Result<(), AllocError> {
-    check_unknown(&rt, &IN_PARTS)?;
-    check_unknown(&rt, &[(3, Driven::Spent, 1, 0)])
+fn each_part_of_an_unknown_frame_is_a_poll(rt: HostRuntime) {
+    check_unknown(&rt, &IN_PARTS);
+    check_unknown(&rt, &[(3, Driven::Spent, 1, 0)]);
 }
+
+/// How a drive ends, and where it does.
+type EndRow = (Driven, &'static str);
+
+/// The drive ends by the row.
+fn check_end<R: Abort>(rt: &R, driving: &mut Driving, source: &mut Trickle<'_>, row: &EndRow) {
+    let (end, shows) = row;
+    same(rt, &driving.on(source, 10), end, shows);
+}
+
+static WAITING: EndRow = (Driven::Waiting, "a wait");
+
+static AFTER_WAITS: EndRow = (CUT, "after all waits");
 
 #[test]
 fn waits_lose_no_frame(rt: HostRuntime) {
     let mut driving = Driving::new(rt.alloc());
     let mut source = Trickle::new(b"\x21\x07Payload\x40\x41\x00", End::Fin);
-    for turn in 0..12usize {
-        same(&rt, driving.on(&mut source, 10), Driven::Waiting, turn);
+    for _turn in 0..12 {
+        check_end(&rt, &mut driving, &mut source, &WAITING);
     }
-    same(&rt, driving.on(&mut source, 10), CUT, "after all waits");
+    check_end(&rt, &mut driving, &mut source, &AFTER_WAITS);
     check_frames(&rt, &driving.out, &[(0x21, b"Payload")]);
 }
-
-/// How a drive ends, and where it does.
-type EndRow = (Driven, &'static str);
 
 /// The drives over a source of one byte and a reset.
 static CUT_SOURCE: [EndRow; 3] = [
@@ -204,26 +206,18 @@ static CUT_SOURCE: [EndRow; 3] = [
     (Driven::Ended(IoReadError::IO(Fault::Reset)), "at the end"),
 ];
 
-/// The drive ends by the row.
-fn check_end<R: Abort>(rt: &R, driving: &mut Driving, source: &mut Trickle<'_>, row: &EndRow) {
-    let (end, shows) = row;
-    same(rt, &driving.on(source, 10), end, shows);
-}
-
-/// The drives over the first source end by the rows.
-fn check_first<R: Abort>(rt: &R, driving: &mut Driving, rows: &[EndRow]) {
-    let mut source = Trickle::new(b"\x00", End::Reset);
-    for row in rows {
-        check_end(rt, driving, &mut source, row);
-    }
-}
+/// The drive over a second source, of one byte more.
+static SECOND: Part = (10, FIN, 1, 0);
 
 #[test]
 fn a_drive_goes_on_over_a_second_source(rt: HostRuntime) {
     let mut driving = Driving::new(rt.alloc());
-    check_first(&rt, &mut driving, &CUT_SOURCE);
+    let mut source = Trickle::new(b"\x00", End::Reset);
+    for row in &CUT_SOURCE {
+        check_end(&rt, &mut driving, &mut source, row);
+    }
     let mut bytes = b"\x01a".as_slice();
-    driving.check(&rt, &mut bytes, 10, (&FIN, 1, 0), "the second source");
+    driving.check(&rt, &mut bytes, &SECOND, "the second source");
     check_frames(&rt, &driving.out, &[(0x00, b"a")]);
 }
 
@@ -272,10 +266,9 @@ static CONTROL: Row = (
 );
 
 #[test]
-fn each_reading_state_is_driven(rt: HostRuntime) -> Result<(), Fail> {
+fn each_reading_state_is_driven(rt: HostRuntime) {
     check_driven(&rt, &mut opened_there(), &THERE);
     check_driven(&rt, &mut opened_here(), &HERE);
-    check_driven(&rt, &mut of_session(rt.alloc())?, &SESSION);
-    check_driven(&rt, &mut control()?, &CONTROL);
-    Ok(())
+    check_driven(&rt, &mut of_session(&rt, rt.alloc()), &SESSION);
+    check_driven(&rt, &mut control(&rt), &CONTROL);
 }

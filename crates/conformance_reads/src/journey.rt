@@ -2,7 +2,6 @@
 use crate::same::same;
 use std::alloc::{AllocError, Global};
 use std::process::Abort;
-use std::test::Fail;
 use wtransport_proto::bytes::IoReadError;
 use wtransport_proto::error::{ErrorCode, Refused};
 use wtransport_proto::frame::{FrameKind, GenerateError};
@@ -75,18 +74,19 @@ fn is_receive_out_of_memory(error: &ReceiveError) -> bool {
     }
 }
 
-/// Sends the map into the vector, and reads one back from the bytes.
+/// Sends the map into the vector, and reads one back from the bytes, in so many turns.
 fn travel<K: ReadsFrames>(
     alloc: Global,
     headers: &Headers,
     sink: &mut Vec<u8>,
     stream: &mut K,
     source: &mut &[u8],
+    turns: u32,
 ) -> Way
     requires { K.can stream.old }
     ensures { K.can stream.new }
 {
-    journey::send_and_receive(alloc, headers, sink, stream, source, 2)
+    journey::send_and_receive(alloc, headers, sink, stream, source, turns)
 }
 
 /// Goes the way; where memory was refused, once more.
@@ -100,7 +100,7 @@ fn travel_again<K: ReadsFrames>(
 ) -> Way
     requires { K.can stream.old }
 {
-    let way = travel(alloc, headers, sink, stream, source);
+    let way = travel(alloc, headers, sink, stream, source, 2);
     if !lacks_memory(&way) {
         return way;
     }
@@ -108,7 +108,7 @@ fn travel_again<K: ReadsFrames>(
     same(rt, is_front, true, "what was sent before");
     sink.clear();
     *source = BYTES;
-    travel(alloc, headers, sink, stream, source)
+    travel(alloc, headers, sink, stream, source, 2)
 }
 
 /// Asserts that the map is that of the pairs.
@@ -118,17 +118,6 @@ fn check_back<R: Abort>(rt: &R, back: &Headers, word: &str) {
     same(rt, came, (Some("1"), Some("2"), Some("3")), word);
 }
 
-/// Asserts that the map of the pairs came back.
-fn check_way(rt: &impl Abort, way: Way, word: &str) -> Result<(), Fail> {
-    match way {
-        Ok(back) => {
-            check_back(rt, &back, word);
-            Ok(())
-        }
-        Err(error) => Err(error)?,
-    }
-}
-
 /// Asserts that the map goes whole into a vector and comes back from the bytes.
 fn travels<K: ReadsFrames>(
     rt: &impl Abort,
@@ -136,31 +125,31 @@ fn travels<K: ReadsFrames>(
     headers: &Headers,
     stream: &mut K,
     word: &str,
-) -> Result<(), Fail>
+)
     requires { K.can stream.old }
 {
     let mut sink = Vec::new(alloc);
     let mut source = BYTES;
     let way = travel_again(rt, alloc, headers, &mut sink, stream, &mut source);
     same(rt, (sink.as_slice(), source), (FRAME, REST), word);
-    check_way(rt, way, word)
+    check_back(rt, &way.expect(rt, "a map"), word);
 }
 
 #[test]
-fn a_map_comes_back(rt: HostRuntime) -> Result<(), Fail> {
-    let headers = made(rt.alloc())?;
+fn a_map_comes_back(rt: HostRuntime) {
+    let headers = made(rt.alloc()).expect(&rt, "memory");
     let mut remote = StreamBiRemoteQuic::accept_bi().upgrade();
-    travels(&rt, rt.alloc(), &headers, &mut remote, "the peer's stream")?;
+    travels(&rt, rt.alloc(), &headers, &mut remote, "the peer's stream");
     let mut local = StreamBiLocalQuic::open_bi().upgrade();
-    travels(&rt, rt.alloc(), &headers, &mut local, "an own stream")?;
-    let mut session = local.into_session(request(rt.alloc())?);
+    travels(&rt, rt.alloc(), &headers, &mut local, "an own stream");
+    let mut session = local.into_session(request(rt.alloc()).expect(&rt, "a request"));
     travels(
         &rt,
         rt.alloc(),
         &headers,
         &mut session,
         "a session's stream",
-    )
+    );
 }
 
 /// Asserts that no turn was left to send in; or that memory for the frame was refused.
@@ -173,22 +162,14 @@ fn check_waiting<R: Abort>(rt: &R, error: Option<JourneyError>) {
 }
 
 #[test]
-fn no_turn_touches_nothing(rt: HostRuntime) -> Result<(), Fail> {
-    let headers = made(rt.alloc())?;
+fn no_turn_touches_nothing(rt: HostRuntime) {
+    let headers = made(rt.alloc()).expect(&rt, "memory");
     let mut stream = StreamBiRemoteQuic::accept_bi().upgrade();
     let mut sink = Vec::new(rt.alloc());
     let mut source = BYTES;
-    let outcome = journey::send_and_receive(
-        rt.alloc(),
-        &headers,
-        &mut sink,
-        &mut stream,
-        &mut source,
-        0,
-    );
-    check_waiting(&rt, outcome.err());
+    let way = travel(rt.alloc(), &headers, &mut sink, &mut stream, &mut source, 0);
+    check_waiting(&rt, way.err());
     same(&rt, (sink.is_empty(), source), (true, BYTES), "both ends");
-    Ok(())
 }
 
 /// Asserts why no map is read from bytes that take no memory, on a stream that the peer opened.

@@ -3,10 +3,9 @@ ghost use Rattle.wtransport_proto.specs.Streams.{CanRead};
 
 use crate::answers::{Answer, PollAnswer, check_answer};
 use crate::opened::control;
-use crate::same::{fail, same};
+use crate::same::same;
 use std::alloc::Global;
 use std::process::Abort;
-use std::test::Fail;
 use test_io::{End, Trickle};
 use wtransport_proto::bytes::{AsyncRead, Polled};
 use wtransport_proto::frame::{Frame, FrameReading};
@@ -42,33 +41,27 @@ fn read_one<S: AsyncRead>(receiving: &mut FromOne, source: &mut S) -> PollAnswer
 }
 
 /// A control stream, of which no frame was read.
-fn receiving(alloc: Global) -> Result<FromOne, Fail> {
-    let stream = control()?;
-    if !stream.can_read() {
-        return fail("frames may be read");
-    }
-    Ok(FromOne {
+fn receiving<R: Abort>(rt: &R, alloc: Global) -> FromOne {
+    let stream = control(rt);
+    assert!(rt; stream.can_read());
+    FromOne {
         stream,
         reading: Frame::read_async(alloc),
-    })
+    }
 }
 
 /// The frame that is read.
-const SETTINGS: Answer<'static> = Answer::Frame(0x04, b"\x33\x01");
+static SETTINGS: Answer<'static> = Answer::Frame(0x04, b"\x33\x01");
 
 /// The rest of the source.
 const REST: &[u8] = &[0x0d, 0x00];
 
-/// The settings are read in a loop, and no byte after them.
-fn check_loop<R: Abort>(rt: &R, receiving: &mut FromOne) {
-    let mut source = Trickle::new(&[0x04, 0x02, 0x33, 0x01, 0x0d, 0x00], End::Fin);
-    let came = read_one(receiving, &mut source);
-    check_answer(rt, &came, &SETTINGS, "settings", 0);
-    same(rt, source.rest(), REST, "bytes left");
-}
-
+/// No byte after the settings is read.
 #[test]
-fn settings_are_read_in_a_loop(rt: HostRuntime) -> Result<(), Fail> {
-    check_loop(&rt, &mut receiving(rt.alloc())?);
-    Ok(())
+fn settings_are_read_in_a_loop(rt: HostRuntime) {
+    let mut receiving = receiving(&rt, rt.alloc());
+    let mut source = Trickle::new(&[0x04, 0x02, 0x33, 0x01, 0x0d, 0x00], End::Fin);
+    let came = read_one(&mut receiving, &mut source);
+    check_answer(&rt, &came, &SETTINGS, "settings", 0);
+    same(&rt, source.rest(), REST, "bytes left");
 }

@@ -1,8 +1,7 @@
 //! Streams of which nothing was read yet.
-use crate::same::fail;
 use std::alloc::Global;
-use std::test::Fail;
-use wtransport_proto::session::{SessionRequest, UrlParseError};
+use std::process::Abort;
+use wtransport_proto::session::SessionRequest;
 use wtransport_proto::stream::bilocal::{StreamBiLocalH3, StreamBiLocalQuic};
 use wtransport_proto::stream::biremote::{StreamBiRemoteH3, StreamBiRemoteQuic};
 use wtransport_proto::stream::session::StreamSession;
@@ -19,15 +18,16 @@ pub(crate) fn opened_here() -> StreamBiLocalH3 {
 }
 
 /// The stream of a session, opened at this end.
-pub(crate) fn of_session(alloc: Global) -> Result<StreamSession, UrlParseError> {
-    let request = SessionRequest::new(alloc, "https://example.com/a?b")?;
-    Ok(opened_here().into_session(request))
+pub(crate) fn of_session<R: Abort>(rt: &R, alloc: Global) -> StreamSession {
+    let request = SessionRequest::new(alloc, "https://example.com/a?b").expect(rt, "a request");
+    opened_here().into_session(request)
 }
 
 /// A control stream that the peer opened, after its type.
-pub(crate) fn control() -> Result<StreamUniRemoteH3, Fail> {
-    match StreamUniRemoteQuic::accept_uni().upgrade(&mut [0x00].as_slice())? {
-        MaybeUpgradeH3::H3(stream) => Ok(stream),
-        MaybeUpgradeH3::Quic(_) => fail("a whole header"),
+pub(crate) fn control<R: Abort>(rt: &R) -> StreamUniRemoteH3 {
+    let upgraded = StreamUniRemoteQuic::accept_uni().upgrade(&mut [0x00].as_slice());
+    match upgraded.expect(rt, "a header") {
+        MaybeUpgradeH3::H3(stream) => stream,
+        MaybeUpgradeH3::Quic(_) => panic!(rt; "no whole header"),
     }
 }

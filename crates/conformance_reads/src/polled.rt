@@ -3,7 +3,7 @@ use crate::answers::{Answer, CUT, ENDS, FIN, PollAnswer, check_answer, pad};
 use crate::opened::opened_there;
 use crate::reads::{Reads, check_poll, check_polls, check_source};
 use crate::same::same;
-use std::alloc::AllocError;
+use std::alloc::Global;
 use std::process::Abort;
 use test_io::{Answers, End, Trickle};
 use wtransport_proto::bytes::{IoReadError as Fault, Polled, ReadStep};
@@ -84,24 +84,19 @@ static ROWS: [Row; 9] = [
 ];
 
 /// The polls of a stream that the peer opened answer by the row.
-fn check_row<R: Abort + AllocGlobal>(rt: &R, row: &Row) {
+fn check_row<R: Abort>(rt: &R, alloc: Global, row: &Row) {
     let (bytes, steps, answers, word) = *row;
     let mut stream = opened_there();
-    let mut reading = Frame::read_async(rt.alloc());
+    let mut reading = Frame::read_async(alloc);
     let mut source = Answers::new(bytes, steps);
     check_polls(rt, &mut stream, &mut reading, &mut source, answers, word);
 }
 
-/// The polls answer by each row.
-fn check_rows<R: Abort + AllocGlobal>(rt: &R, rows: &[Row]) {
-    for row in rows {
-        check_row(rt, row);
-    }
-}
-
 #[test]
 fn polls_answer_by_the_bytes(rt: HostRuntime) {
-    check_rows(&rt, &ROWS);
+    for row in &ROWS {
+        check_row(&rt, rt.alloc(), row);
+    }
 }
 
 /// The front of the bytes, after which come zeros, how many bytes there are in all, the answers of
@@ -137,25 +132,21 @@ static LONG: [LongRow; 4] = [
 ];
 
 /// The polls of a stream that the peer opened answer by the row.
-fn check_long<R: Abort + AllocGlobal>(rt: &R, row: &LongRow) -> Result<(), AllocError> {
+fn check_long<R: Abort + AllocGlobal>(rt: &R, row: &LongRow) {
     let (front, len, answers, word) = row;
-    let bytes = pad(rt.alloc(), front, *len)?;
+    let bytes = pad(rt, rt.alloc(), front, *len);
     check_source(rt, &mut opened_there(), &(bytes.as_slice(), answers, word));
-    Ok(())
-}
-
-/// The polls answer by each row of long bytes.
-fn check_longs<R: Abort + AllocGlobal>(rt: &R, rows: &[LongRow]) -> Result<(), AllocError> {
-    for row in rows {
-        check_long(rt, row)?;
-    }
-    Ok(())
 }
 
 #[test]
-fn long_unknown_frames_are_passed_in_parts(rt: HostRuntime) -> Result<(), AllocError> {
-    check_longs(&rt, &LONG)
+fn long_unknown_frames_are_passed_in_parts(rt: HostRuntime) {
+    for row in &LONG {
+        check_long(&rt, row);
+    }
 }
+
+/// A byte has not come yet.
+static WAIT: Answer<'static> = Answer::Pending;
 
 /// After so many waits, the next poll answers this.
 fn check_late<R: Abort>(
@@ -167,7 +158,7 @@ fn check_late<R: Abort>(
     answer: &Answer<'_>,
 ) {
     for _turn in 0..waits {
-        check_poll(rt, stream, reading, source, &Answer::Pending, ("late", 0));
+        check_poll(rt, stream, reading, source, &WAIT, ("late", 0));
     }
     check_poll(rt, stream, reading, source, answer, ("there", 0));
 }
@@ -177,33 +168,33 @@ type LateRow = (usize, Answer<'static>);
 
 static LATE: [LateRow; 3] = [(9, Answer::Frame(0x21, b"Payload")), (3, CUT), (1, FIN)];
 
-/// The polls of a stream that the peer opened answer by each row, one after the other, over bytes
-/// that each come late.
-fn check_lates<R: Abort + AllocGlobal>(rt: &R, rows: &[LateRow]) {
+#[test]
+fn each_byte_may_come_late(rt: HostRuntime) {
     let mut stream = opened_there();
     let mut reading = Frame::read_async(rt.alloc());
     let mut source = Trickle::new(EXERCISE_THEN_SESSION, End::Fin);
-    for (waits, answer) in rows {
-        check_late(rt, &mut stream, &mut reading, &mut source, *waits, answer);
+    for (waits, answer) in &LATE {
+        check_late(&rt, &mut stream, &mut reading, &mut source, *waits, answer);
     }
 }
 
-#[test]
-fn each_byte_may_come_late(rt: HostRuntime) {
-    check_lates(&rt, &LATE);
-}
+/// A source that is reset inside an unknown frame.
+static RESET_INSIDE: [ReadStep; 2] = [ReadStep::Bytes(3), ReadStep::Reset];
+
+/// What is answered over it.
+static RESET: [Answer<'static>; 1] = [Answer::Fault(IoReadError::IO(Fault::Reset))];
+
+/// What is answered over the rest of the frame, and an empty data frame.
+static REST: [Answer<'static>; 3] = [Answer::Again, Answer::Frame(0x00, b""), FIN];
 
 #[test]
 fn a_second_source_goes_on(rt: HostRuntime) {
     let mut stream = opened_there();
     let mut reading = Frame::read_async(rt.alloc());
-    let steps = [ReadStep::Bytes(3), ReadStep::Reset];
-    let mut source = Answers::new(b"\x0a\x05a", &steps);
-    let reset = [Answer::Fault(IoReadError::IO(Fault::Reset))];
-    check_polls(&rt, &mut stream, &mut reading, &mut source, &reset, "first");
+    let mut source = Answers::new(b"\x0a\x05a", &RESET_INSIDE);
+    check_polls(&rt, &mut stream, &mut reading, &mut source, &RESET, "first");
     let mut source = b"bcde\x00\x00".as_slice();
-    let rest = [Answer::Again, Answer::Frame(0x00, b""), FIN];
-    check_polls(&rt, &mut stream, &mut reading, &mut source, &rest, "second");
+    check_polls(&rt, &mut stream, &mut reading, &mut source, &REST, "second");
 }
 
 /// An exercise frame of nine bytes, and a frame of session 0 that comes too late.
@@ -241,13 +232,16 @@ fn check_next<R: Abort>(
     stream: &mut StreamBiRemoteH3,
     reading: &mut FrameReading,
     source: &mut Trickle<'_>,
-    answer: Answer<'_>,
+    answer: &Answer<'_>,
     place: (&str, usize),
 ) {
     let (word, len) = place;
     let came = next_answer(stream, reading, source);
-    check_answer(rt, &came, &answer, word, len);
+    check_answer(rt, &came, answer, word, len);
 }
+
+/// The frame that comes first.
+static FIRST: Answer<'static> = Answer::Frame(0x21, b"Payload");
 
 /// If the frame has come, it is the next answer.
 fn check_first<R: Abort>(
@@ -258,8 +252,7 @@ fn check_first<R: Abort>(
     len: usize,
 ) {
     if len >= 9 {
-        let first = Answer::Frame(0x21, b"Payload");
-        check_next(rt, stream, reading, source, first, ("first", len));
+        check_next(rt, stream, reading, source, &FIRST, ("first", len));
     }
 }
 
@@ -272,10 +265,9 @@ fn check_last<R: Abort>(
     (len, end): (usize, End),
 ) {
     let last = last_answer(len, end);
-    check_next(rt, stream, reading, source, last, ("last", len));
+    check_next(rt, stream, reading, source, &last, ("last", len));
     if len < 12 {
-        let again = last_answer(len, end);
-        check_next(rt, stream, reading, source, again, ("again", len));
+        check_next(rt, stream, reading, source, &last, ("again", len));
     }
 }
 
@@ -314,12 +306,15 @@ fn poll_payload<R: Abort>(
     }
 }
 
+/// The data frame that is read then.
+static DATA: Answer<'static> = Answer::Frame(0x00, b"abc");
+
 #[test]
 fn refused_memory_for_a_payload_is_asked_for_again(rt: HostRuntime) {
     let mut stream = opened_there();
     let mut reading = Frame::read_async(rt.alloc());
     let mut source = b"\x00\x03abc".as_slice();
     let answered = poll_payload(&rt, &mut stream, &mut reading, &mut source);
-    check_answer(&rt, &answered, &Answer::Frame(0x00, b"abc"), "data", 0);
-    assert!(rt; source.is_empty());
+    check_answer(&rt, &answered, &DATA, "data", 0);
+    same(&rt, source.len(), 0, "bytes left");
 }

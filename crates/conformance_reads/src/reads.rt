@@ -98,10 +98,10 @@ pub(crate) fn check_poll<R: Abort, K: Reads, S: AsyncRead>(
     place: (&str, usize),
 ) {
     let (word, turn) = place;
-    let mut answered = stream.poll(reading, source);
-    if let Polled::NoMemory = answered {
-        answered = stream.poll(reading, source);
-    }
+    let answered = match stream.poll(reading, source) {
+        Polled::NoMemory => stream.poll(reading, source),
+        answered => answered,
+    };
     check_answer(rt, &answered, answer, word, turn);
 }
 

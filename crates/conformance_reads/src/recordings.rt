@@ -3,7 +3,6 @@ use crate::opened::{opened_here, opened_there};
 use crate::reads::{Read, Reads};
 use crate::same::same;
 use std::process::Abort;
-use std::test::Fail;
 use wtransport_proto::bytes::BufferReader;
 use wtransport_proto::capsule::capsules::CloseWebTransportSession;
 use wtransport_proto::capsule::{Capsule, CapsuleReading};
@@ -37,44 +36,14 @@ fn is_next(lines: &mut FieldLines<'_>, room: &mut FieldRoom, name: &[u8], value:
     }
 }
 
-/// Returns whether a section has no line left.
-fn is_end(lines: &mut FieldLines<'_>, room: &mut FieldRoom) -> bool {
-    lines.next_line(room).is_none()
-}
-
-/// Asserts that these are the lines of a section, in this order.
-fn check_lines<R: Abort + AllocGlobal>(
-    rt: &R,
-    mut lines: FieldLines<'_>,
-    wanted: Fields,
-    shows: &str,
-) {
+/// Asserts that a section has these fields, in this order.
+fn check_fields<R: Abort + AllocGlobal>(rt: &R, section: &[u8], wanted: Fields, shows: &str) {
+    let mut lines = FieldLines::new(section).expect(rt, shows);
     let mut room = FieldRoom::new(rt.alloc());
     for (name, value) in wanted {
         same(rt, is_next(&mut lines, &mut room, name, value), true, shows);
     }
-    same(rt, is_end(&mut lines, &mut room), true, shows);
-}
-
-/// Asserts that a section has these fields, in this order.
-fn check_fields<R: Abort + AllocGlobal>(rt: &R, section: &[u8], wanted: Fields, shows: &str) {
-    match FieldLines::new(section) {
-        Ok(lines) => check_lines(rt, lines, wanted, shows),
-        Err(_) => panic!(rt; "{shows}: no prefix"),
-    }
-}
-
-/// Asserts that the capsule is this close.
-fn check_capsule<R: Abort + AllocGlobal>(
-    rt: &R,
-    capsule: &Capsule<'_>,
-    wanted: Close,
-    shows: &str,
-) -> Result<(), Fail> {
-    let close = CloseWebTransportSession::with_capsule(rt.alloc(), capsule)?;
-    let came = (close.error_code().into_inner(), close.reason());
-    same(rt, came, wanted, shows);
-    Ok(())
+    same(rt, lines.next_line(&mut room).is_none(), true, shows);
 }
 
 /// Returns whether the close is the next capsule in the data. Asserts that there is no other.
@@ -84,11 +53,14 @@ fn check_close<R: Abort + AllocGlobal>(
     data: &[u8],
     wanted: Close,
     shows: &str,
-) -> Result<bool, Fail> {
+) -> bool {
     let mut rest = data;
-    match reading.next(&mut rest)? {
-        Some(capsule) => check_only(rt, &capsule, rest, wanted, shows),
-        None => Ok(false),
+    match reading.next(&mut rest).expect(rt, "a capsule") {
+        Some(capsule) => {
+            check_only(rt, &capsule, rest, wanted, shows);
+            true
+        }
+        None => false,
     }
 }
 
@@ -99,10 +71,11 @@ fn check_only<R: Abort + AllocGlobal>(
     rest: &[u8],
     wanted: Close,
     shows: &str,
-) -> Result<bool, Fail> {
-    check_capsule(rt, capsule, wanted, shows)?;
+) {
+    let close = CloseWebTransportSession::with_capsule(rt.alloc(), capsule).expect(rt, "a close");
+    let came = (close.error_code().into_inner(), close.reason());
+    same(rt, came, wanted, shows);
     same(rt, rest.len(), 0, shows);
-    Ok(true)
 }
 
 /// Asserts what the frame contains. Returns whether the close is in it.
@@ -111,15 +84,15 @@ fn check_content<R: Abort + AllocGlobal>(
     reading: &mut CapsuleReading,
     frame: &Frame<'_>,
     row: &Row,
-) -> Result<bool, Fail> {
+) -> bool {
     let (shows, _, _, fields, close) = *row;
     match (frame.kind(), close) {
         (FrameKind::Headers, _) => {
             check_fields(rt, frame.payload(), fields, shows);
-            Ok(false)
+            false
         }
         (FrameKind::Data, Some(close)) => check_close(rt, reading, frame.payload(), close, shows),
-        _ => Ok(false),
+        _ => false,
     }
 }
 
@@ -128,21 +101,6 @@ fn type_and_length(read: &Read<'_>) -> Option<(u64, usize)> {
     match read {
         Ok(Some(frame)) => Some((frame.kind().id().into_inner(), frame.payload().len())),
         _ => None,
-    }
-}
-
-/// Asserts a frame of a row, and what it contains. Returns whether the close is in it.
-fn check_frame<R: Abort + AllocGlobal>(
-    rt: &R,
-    reading: &mut CapsuleReading,
-    read: Read<'_>,
-    wanted: (u64, usize),
-    row: &Row,
-) -> Result<bool, Fail> {
-    same(rt, type_and_length(&read), Some(wanted), row.0);
-    match read {
-        Ok(Some(frame)) => check_content(rt, reading, &frame, row),
-        _ => Ok(false),
     }
 }
 
@@ -242,49 +200,32 @@ fn check_next<R: Abort + AllocGlobal, K: Reads>(
     reading: &mut CapsuleReading,
     wanted: (u64, usize),
     row: &Row,
-) -> Result<bool, Fail> {
+) -> bool {
     let read = stream.read_buffer(reader);
-    check_frame(rt, reading, read, wanted, row)
+    same(rt, type_and_length(&read), Some(wanted), row.0);
+    match read {
+        Ok(Some(frame)) => check_content(rt, reading, &frame, row),
+        _ => false,
+    }
 }
 
 /// Asserts the frames of a stream, and that its data ends as the row says.
-fn check_stream<R: Abort + AllocGlobal, K: Reads>(
-    rt: &R,
-    stream: &mut K,
-    row: &Row,
-) -> Result<(), Fail> {
+fn check_stream<R: Abort + AllocGlobal, K: Reads>(rt: &R, stream: &mut K, row: &Row) {
     let mut reading = CapsuleReading::new(rt.alloc());
-    check_frames(rt, stream, &mut reading, row)
-}
-
-/// Asserts the frames of a stream over this reading of capsules.
-fn check_frames<R: Abort + AllocGlobal, K: Reads>(
-    rt: &R,
-    stream: &mut K,
-    reading: &mut CapsuleReading,
-    row: &Row,
-) -> Result<(), Fail> {
     let mut reader = BufferReader::new(row.1);
     let mut is_closed = false;
     for wanted in row.2 {
-        is_closed = check_next(rt, stream, &mut reader, reading, *wanted, row)?;
+        is_closed = check_next(rt, stream, &mut reader, &mut reading, *wanted, row);
     }
     let came = (reader.capacity(), is_closed, reading.finish().is_ok());
     same(rt, came, (0, row.4.is_some(), true), row.0);
-    Ok(())
-}
-
-/// Asserts it of streams that the peer opened, one for each row.
-fn check_requests<R: Abort + AllocGlobal>(rt: &R, rows: &[Row]) -> Result<(), Fail> {
-    for row in rows {
-        check_stream(rt, &mut opened_there(), row)?;
-    }
-    Ok(())
 }
 
 #[test]
-fn requests_are_read(rt: HostRuntime) -> Result<(), Fail> {
-    check_requests(&rt, &REQUESTS)
+fn requests_are_read(rt: HostRuntime) {
+    for row in &REQUESTS {
+        check_stream(&rt, &mut opened_there(), row);
+    }
 }
 
 /// Streams of the other end.
@@ -328,17 +269,11 @@ static RESPONSES: [Row; 2] = [
     ),
 ];
 
-/// Asserts it of streams that were opened here, one for each row.
-fn check_responses<R: Abort + AllocGlobal>(rt: &R, rows: &[Row]) -> Result<(), Fail> {
-    for row in rows {
-        check_stream(rt, &mut opened_here(), row)?;
-    }
-    Ok(())
-}
-
 #[test]
-fn responses_are_read(rt: HostRuntime) -> Result<(), Fail> {
-    check_responses(&rt, &RESPONSES)
+fn responses_are_read(rt: HostRuntime) {
+    for row in &RESPONSES {
+        check_stream(&rt, &mut opened_here(), row);
+    }
 }
 
 /// Who sent a control stream, its bytes, and the settings that the library knows and those that are
@@ -386,13 +321,13 @@ fn check_settings<R: Abort + AllocGlobal>(
     frame: &Frame<'_>,
     wanted: &[(u64, u64)],
     sender: &str,
-) -> Result<(), Fail> {
-    if frame.kind() != FrameKind::Settings {
-        panic!(rt; "{sender}: no settings");
-    }
-    let settings = Settings::with_frame(rt.alloc(), frame)?;
+) {
+    assert!(rt;
+        frame.kind() == FrameKind::Settings,
+        "{sender}: no settings"
+    );
+    let settings = Settings::with_frame(rt.alloc(), frame).expect(rt, sender);
     check_pairs(rt, settings.iter(), wanted, sender);
-    Ok(())
 }
 
 /// Asserts that these are the settings, and no others.
@@ -404,27 +339,19 @@ fn check_pairs<R: Abort>(rt: &R, mut left: SettingsIter<'_>, wanted: &[(u64, u64
 }
 
 /// Asserts the header and the settings of a control stream.
-fn check_control<R: Abort + AllocGlobal>(rt: &R, row: &ControlRow) -> Result<(), Fail> {
+fn check_control<R: Abort + AllocGlobal>(rt: &R, row: &ControlRow) {
     let (sender, bytes, wanted) = *row;
     let mut reader = BufferReader::new(bytes);
-    check_header(rt, &mut reader, (0, None), sender)?;
-    match Frame::read_from_buffer(&mut reader)? {
-        Some(frame) => check_settings(rt, &frame, wanted, sender),
-        None => panic!(rt; "{sender}: no frame"),
-    }
-}
-
-/// Asserts it of each row.
-fn check_controls<R: Abort + AllocGlobal>(rt: &R, rows: &[ControlRow]) -> Result<(), Fail> {
-    for row in rows {
-        check_control(rt, row)?;
-    }
-    Ok(())
+    check_header(rt, &mut reader, (0, None), sender);
+    let frame = Frame::read_from_buffer(&mut reader).expect(rt, sender);
+    check_settings(rt, &frame.expect(rt, sender), wanted, sender);
 }
 
 #[test]
-fn settings_are_read(rt: HostRuntime) -> Result<(), Fail> {
-    check_controls(&rt, &SETTINGS)
+fn settings_are_read(rt: HostRuntime) {
+    for row in &SETTINGS {
+        check_control(&rt, row);
+    }
 }
 
 /// Returns the session of a stream.
@@ -444,10 +371,9 @@ fn check_header<R: Abort>(
     reader: &mut BufferReader<'_>,
     wanted: (u64, Option<u64>),
     shows: &str,
-) -> Result<(), Fail> {
-    let header = StreamHeader::read_from_buffer(reader)?;
+) {
+    let header = StreamHeader::read_from_buffer(reader).expect(rt, "a header");
     same(rt, type_and_session(header), Some(wanted), shows);
-    Ok(())
 }
 
 /// Asserts the header of a unidirectional stream, and how many bytes are after it.
@@ -457,20 +383,19 @@ fn check_opening<R: Abort>(
     wanted: (u64, Option<u64>),
     left: usize,
     shows: &str,
-) -> Result<(), Fail> {
+) {
     let mut reader = BufferReader::new(bytes);
-    check_header(rt, &mut reader, wanted, shows)?;
+    check_header(rt, &mut reader, wanted, shows);
     same(rt, reader.buffer_remaining().len(), left, shows);
-    Ok(())
 }
 
 #[test]
-fn unidirectional_streams_are_read(rt: HostRuntime) -> Result<(), Fail> {
+fn unidirectional_streams_are_read(rt: HostRuntime) {
     let shows = "Chromium 156: a stream of a session";
     let bytes = b"\x40\x54\x00\x68\x65\x6c\x6c\x6f\x20\x6f\x6e\x65\x20\x77\x61\x79";
-    check_opening(&rt, bytes, (0x54, Some(0)), 13, shows)?;
+    check_opening(&rt, bytes, (0x54, Some(0)), 13, shows);
     let shows = "Chromium 156: a QPACK encoder stream";
-    check_opening(&rt, b"\x02\x20", (0x02, None), 1, shows)
+    check_opening(&rt, b"\x02\x20", (0x02, None), 1, shows);
 }
 
 /// Who sent a datagram, its bytes, its quarter stream ID, and the length of its payload.
@@ -483,18 +408,16 @@ static DATAGRAMS: [DatagramRow; 2] = [
 ];
 
 /// Asserts the parts of a datagram.
-fn check_datagram<R: Abort>(rt: &R, row: &DatagramRow) -> Result<(), Fail> {
+fn check_datagram<R: Abort>(rt: &R, row: &DatagramRow) {
     let (sender, bytes, id, size) = *row;
-    let datagram = Datagram::read(bytes)?;
+    let datagram = Datagram::read(bytes).expect(rt, sender);
     let came = (datagram.qstream_id().into_u64(), datagram.payload().len());
     same(rt, came, (id, size), sender);
-    Ok(())
 }
 
 #[test]
-fn datagrams_are_read(rt: HostRuntime) -> Result<(), Fail> {
+fn datagrams_are_read(rt: HostRuntime) {
     for row in &DATAGRAMS {
-        check_datagram(&rt, row)?;
+        check_datagram(&rt, row);
     }
-    Ok(())
 }

@@ -4,7 +4,6 @@ use crate::opened::{control, of_session, opened_here, opened_there};
 use crate::reads::{PollRow, check_source, check_sources};
 use crate::same::same;
 use std::process::Abort;
-use std::test::Fail;
 use wtransport_proto::error::ErrorCode;
 use wtransport_proto::stream::IoReadError;
 
@@ -52,16 +51,11 @@ static OPENED_THERE: [PollRow; 10] = [
     ),
 ];
 
-/// The polls of a new stream that the peer opened answer by each row.
-fn check_new<R: Abort + AllocGlobal>(rt: &R, rows: &[PollRow]) {
-    for row in rows {
-        check_source(rt, &mut opened_there(), row);
-    }
-}
-
 #[test]
 fn a_stream_opened_there_keeps_its_rule(rt: HostRuntime) {
-    check_new(&rt, &OPENED_THERE);
+    for row in &OPENED_THERE {
+        check_source(&rt, &mut opened_there(), row);
+    }
 }
 
 /// A stream in both directions that was opened here, or that has its session.
@@ -81,13 +75,12 @@ static OPENED_HERE: [PollRow; 8] = [
 ];
 
 #[test]
-fn streams_opened_here_keep_their_rule(rt: HostRuntime) -> Result<(), Fail> {
+fn streams_opened_here_keep_their_rule(rt: HostRuntime) {
     let rows = OPENED_HERE.as_slice();
     let mut local = opened_here();
     check_sources(&rt, &mut local, rows);
     same(&rt, local.can_upgrade(), true, "reading does not count");
-    check_sources(&rt, &mut of_session(rt.alloc())?, rows);
-    Ok(())
+    check_sources(&rt, &mut of_session(&rt, rt.alloc()), rows);
 }
 
 /// A control stream that the peer opened.
@@ -116,7 +109,6 @@ static CONTROL: [PollRow; 8] = [
 ];
 
 #[test]
-fn a_control_stream_keeps_its_rule(rt: HostRuntime) -> Result<(), Fail> {
-    check_sources(&rt, &mut control()?, &CONTROL);
-    Ok(())
+fn a_control_stream_keeps_its_rule(rt: HostRuntime) {
+    check_sources(&rt, &mut control(&rt), &CONTROL);
 }

@@ -2,7 +2,6 @@
 use crate::same::same;
 use std::alloc::{AllocError, Global};
 use std::process::Abort;
-use std::test::Fail;
 use wtransport_proto::bytes::BufferReader;
 use wtransport_proto::frame::Frame;
 use wtransport_proto::session::{SessionRequest, SessionResponse, request_of_frame};
@@ -12,39 +11,48 @@ use wtransport_proto::stream::session::StreamSession;
 
 /// Answers the request in front of the bytes of a stream that the peer opened, and makes the stream
 /// that of its session; `None` where more bytes are needed.
-fn serve(alloc: Global, bytes: &[u8], answer: &mut Vec<u8>) -> Result<Option<StreamSession>, Fail> {
+fn serve<R: Abort>(
+    rt: &R,
+    alloc: Global,
+    bytes: &[u8],
+    answer: &mut Vec<u8>,
+) -> Option<StreamSession> {
     let mut stream = StreamBiRemoteQuic::accept_bi().upgrade();
     let mut reader = BufferReader::new(bytes);
-    match stream.read_frame_from_buffer(&mut reader)? {
-        Some(frame) => respond(alloc, stream, &frame, answer),
-        None => Ok(None),
+    let read = stream.read_frame_from_buffer(&mut reader);
+    match read.expect(rt, "a frame") {
+        Some(frame) => Some(respond(rt, alloc, stream, &frame, answer)),
+        None => None,
     }
 }
 
 /// Answers the request, and makes the stream that of its session.
-fn respond(
+fn respond<R: Abort>(
+    rt: &R,
     alloc: Global,
     stream: StreamBiRemoteH3,
     frame: &Frame<'_>,
     answer: &mut Vec<u8>,
-) -> Result<Option<StreamSession>, Fail> {
-    let request = request_of_frame(alloc, frame)?;
-    match write_response(alloc, &stream, request.path(), answer) {
-        Ok(()) => Ok(Some(stream.into_session(request))),
-        Err(error) => Err(error),
-    }
+) -> StreamSession {
+    let request = request_of_frame(alloc, frame).expect(rt, "a request");
+    write_response(rt, alloc, &stream, request.path(), answer);
+    stream.into_session(request)
 }
 
 /// Writes the frame of the response for a path.
-fn write_response(
+fn write_response<R: Abort>(
+    rt: &R,
     alloc: Global,
     stream: &StreamBiRemoteH3,
     path: &str,
     answer: &mut Vec<u8>,
-) -> Result<(), Fail> {
-    let response = response_for(alloc, path)?;
-    stream.write_frame(response.headers().generate_frame(alloc)?, answer)?;
-    Ok(())
+) {
+    let response = response_for(alloc, path).expect(rt, "memory");
+    let frame = response
+        .headers()
+        .generate_frame(alloc)
+        .expect(rt, "memory");
+    stream.write_frame(frame, answer).expect(rt, "memory");
 }
 
 /// The response for a path.
@@ -55,22 +63,14 @@ fn response_for(alloc: Global, path: &str) -> Result<SessionResponse, AllocError
     SessionResponse::not_found(alloc)
 }
 
-/// The bytes that a client sends for this URL.
-fn request_bytes(alloc: Global, url: &str) -> Result<Vec<u8>, Fail> {
-    let request = SessionRequest::new(alloc, url)?;
-    let mut bytes = Vec::new(alloc);
-    match send(alloc, &request, &mut bytes) {
-        Ok(()) => Ok(bytes),
-        Err(error) => Err(error),
-    }
-}
-
-/// Writes the frame of the request on a stream of its own.
-fn send(alloc: Global, request: &SessionRequest, bytes: &mut Vec<u8>) -> Result<(), Fail> {
+/// The bytes that a client sends for this URL: the frame of the request, on a stream of its own.
+fn request_bytes<R: Abort>(rt: &R, alloc: Global, url: &str) -> Vec<u8> {
+    let request = SessionRequest::new(alloc, url).expect(rt, "a request");
+    let frame = request.headers().generate_frame(alloc).expect(rt, "memory");
     let mut stream = StreamBiLocalQuic::open_bi().upgrade();
-    let frame = request.headers().generate_frame(alloc)?;
-    stream.write_frame(frame, bytes)?;
-    Ok(())
+    let mut bytes = Vec::new(alloc);
+    stream.write_frame(frame, &mut bytes).expect(rt, "memory");
+    bytes
 }
 
 /// A client's URL, the path that the server sees, and the bytes that answer it: the name `:status`
@@ -93,32 +93,29 @@ static ANSWERS: [AnswerRow; 2] = [
 ];
 
 /// Asserts how the request of a row is answered.
-fn check_answer<R: Abort + AllocGlobal>(rt: &R, row: &AnswerRow) -> Result<(), Fail> {
+fn check_answer<R: Abort>(rt: &R, alloc: Global, row: &AnswerRow) {
     let (url, path, expected) = *row;
-    let bytes = request_bytes(rt.alloc(), url)?;
-    let mut answer = Vec::new(rt.alloc());
-    let stream = serve(rt.alloc(), bytes.as_slice(), &mut answer)?.ok_or("a session")?;
+    let bytes = request_bytes(rt, alloc, url);
+    let mut answer = Vec::new(alloc);
+    let stream = serve(rt, alloc, bytes.as_slice(), &mut answer).expect(rt, "a session");
     let request = stream.request();
     let came = (request.authority(), request.path(), answer.as_slice());
     same(rt, came, ("example.com", path, expected), url);
-    Ok(())
 }
 
 #[test]
-fn a_request_is_answered(rt: HostRuntime) -> Result<(), Fail> {
+fn a_request_is_answered(rt: HostRuntime) {
     for row in &ANSWERS {
-        check_answer(&rt, row)?;
+        check_answer(&rt, rt.alloc(), row);
     }
-    Ok(())
 }
 
 #[test]
-fn a_request_that_is_not_whole_is_waited_for(rt: HostRuntime) -> Result<(), Fail> {
-    let mut bytes = request_bytes(rt.alloc(), "https://example.com/chat")?;
+fn a_request_that_is_not_whole_is_waited_for(rt: HostRuntime) {
+    let mut bytes = request_bytes(&rt, rt.alloc(), "https://example.com/chat");
     let last = bytes.pop();
     let mut answer = Vec::new(rt.alloc());
-    let stream = serve(rt.alloc(), bytes.as_slice(), &mut answer)?;
+    let stream = serve(&rt, rt.alloc(), bytes.as_slice(), &mut answer);
     let came = (last.is_some(), stream.is_none(), answer.is_empty());
     same(&rt, came, (true, true, true), "no answer");
-    Ok(())
 }

@@ -4,7 +4,6 @@ use crate::opened::{control, of_session, opened_here, opened_there};
 use crate::reads::{Read, Reads};
 use crate::same::same;
 use std::process::Abort;
-use std::test::Fail;
 use wtransport_proto::bytes::BufferReader;
 use wtransport_proto::error::ErrorCode;
 
@@ -20,17 +19,6 @@ fn answer_of<'a>(read: &'a Read<'_>) -> Wanted<'a> {
     }
 }
 
-/// The read answers this, and its source is here after it.
-fn check_read<R: Abort>(
-    rt: &R,
-    read: &Read<'_>,
-    place: usize,
-    wanted: (Wanted<'_>, usize),
-    shows: &str,
-) {
-    same(rt, (answer_of(read), place), wanted, shows);
-}
-
 /// The next read from the buffer answers this, and the reader is here after it.
 fn check_buffer<R: Abort, K: Reads>(
     rt: &R,
@@ -40,7 +28,7 @@ fn check_buffer<R: Abort, K: Reads>(
     shows: &str,
 ) {
     let read = stream.read_buffer(reader);
-    check_read(rt, &read, reader.offset(), wanted, shows);
+    same(rt, (answer_of(&read), reader.offset()), wanted, shows);
 }
 
 /// The next read from the slice answers this, and leaves so many bytes.
@@ -52,7 +40,7 @@ fn check_slice<R: Abort, K: Reads>(
     shows: &str,
 ) {
     let read = stream.read_slice(bytes);
-    check_read(rt, &read, bytes.len(), wanted, shows);
+    same(rt, (answer_of(&read), bytes.len()), wanted, shows);
 }
 
 /// Bytes of a frame, what a read of them answers, where the reader of a buffer is after it, and
@@ -111,23 +99,21 @@ static LARGEST: [ReadRow; 1] = [(
 )];
 
 #[test]
-fn frames_are_read_by_the_rule(rt: HostRuntime) -> Result<(), Fail> {
+fn frames_are_read_by_the_rule(rt: HostRuntime) {
     let rows = OF_BOTH.as_slice();
     let mut local = opened_here();
     check_rows(&rt, &mut local, rows);
     same(&rt, local.can_upgrade(), true, "reading does not count");
-    check_rows(&rt, &mut of_session(rt.alloc())?, rows);
+    check_rows(&rt, &mut of_session(&rt, rt.alloc()), rows);
     check_rows(&rt, &mut opened_there(), &LARGEST);
-    Ok(())
 }
 
 #[test]
-fn frames_of_a_control_stream_are_read_by_the_rule(rt: HostRuntime) -> Result<(), Fail> {
-    let mut stream = control()?;
+fn frames_of_a_control_stream_are_read_by_the_rule(rt: HostRuntime) {
+    let mut stream = control(&rt);
     same(&rt, stream.can_read(), true, "frames may be read");
     check_rows(&rt, &mut stream, &OF_CONTROL);
     same(&rt, stream.can_read(), true, "frames may still be read");
-    Ok(())
 }
 
 /// How many bytes are passed over before a read, what it answers, where the reader is after it, and
@@ -143,22 +129,20 @@ fn check_step<R: Abort, K: Reads>(
     stream: &mut K,
     reader: &mut BufferReader<'_>,
     step: &Step,
-) -> Result<(), Fail> {
+) {
     let (passed, wanted, offset, shows) = *step;
-    reader.skip(passed)?;
+    reader.skip(passed).expect(rt, "bytes to pass over");
     check_buffer(rt, stream, reader, (wanted, offset), shows);
-    Ok(())
 }
 
 /// The reads of one buffer, one after the other.
-fn check_steps<R: Abort, K: Reads>(rt: &R, stream: &mut K, row: &BufferRow) -> Result<(), Fail> {
+fn check_steps<R: Abort, K: Reads>(rt: &R, stream: &mut K, row: &BufferRow) {
     let (bytes, steps, left) = *row;
     let mut reader = BufferReader::new(bytes);
     for step in steps {
-        check_step(rt, stream, &mut reader, step)?;
+        check_step(rt, stream, &mut reader, step);
     }
     same(rt, reader.capacity(), left, "bytes left");
-    Ok(())
 }
 
 /// A stream that the peer opened, new for each row.
@@ -182,11 +166,10 @@ static THERE: [BufferRow; 2] = [
 ];
 
 #[test]
-fn each_frame_of_a_stream_opened_there_counts(rt: HostRuntime) -> Result<(), Fail> {
+fn each_frame_of_a_stream_opened_there_counts(rt: HostRuntime) {
     for row in &THERE {
-        check_steps(&rt, &mut opened_there(), row)?;
+        check_steps(&rt, &mut opened_there(), row);
     }
-    Ok(())
 }
 
 /// Too few bytes and faults, on a stream that was opened here: the reader stays before them.
@@ -209,12 +192,11 @@ static HERE: [BufferRow; 3] = [
 ];
 
 #[test]
-fn too_few_bytes_and_faults_stay(rt: HostRuntime) -> Result<(), Fail> {
+fn too_few_bytes_and_faults_stay(rt: HostRuntime) {
     let mut stream = opened_here();
     for row in &HERE {
-        check_steps(&rt, &mut stream, row)?;
+        check_steps(&rt, &mut stream, row);
     }
-    Ok(())
 }
 
 /// A control stream: an unknown frame between settings.
@@ -229,31 +211,34 @@ static BETWEEN: BufferRow = (
 );
 
 #[test]
-fn an_unknown_frame_between_settings_is_passed_over_whole(rt: HostRuntime) -> Result<(), Fail> {
-    check_steps(&rt, &mut control()?, &BETWEEN)
+fn an_unknown_frame_between_settings_is_passed_over_whole(rt: HostRuntime) {
+    check_steps(&rt, &mut control(&rt), &BETWEEN);
 }
 
-/// The next read from the slice answers this, and leaves these bytes.
-fn check_left<R: Abort, K: Reads>(
-    rt: &R,
-    stream: &mut K,
-    bytes: &mut &[u8],
-    wanted: Wanted<'_>,
-    left: &[u8],
-    shows: &str,
-) {
+/// What a read answers, the bytes that it leaves, and what the row shows.
+type LeftRow = (Wanted<'static>, &'static [u8], &'static str);
+
+/// The next read from the slice answers by the row.
+fn check_left<R: Abort, K: Reads>(rt: &R, stream: &mut K, bytes: &mut &[u8], row: &LeftRow) {
+    let (wanted, left, shows) = *row;
     check_slice(rt, stream, bytes, (wanted, left.len()), shows);
     same(rt, *bytes, left, shows);
 }
+
+static TOO_LONG: LeftRow = (
+    Err(ErrorCode::ExcessiveLoad),
+    b"\x40\x41\x00\x00",
+    "length 4097",
+);
+
+static FIRST: LeftRow = (Ok(Some((0x41, b""))), b"\x00", "a session");
 
 #[test]
 fn an_unknown_frame_and_a_fault_do_not_count(rt: HostRuntime) {
     let mut bytes = b"\x0a\x00\x00\x50\x01\x40\x41\x00\x00".as_slice();
     let mut stream = opened_there();
-    let (fault, left) = (Err(ErrorCode::ExcessiveLoad), b"\x40\x41\x00\x00");
-    check_left(&rt, &mut stream, &mut bytes, fault, left, "length 4097");
-    let (session, left) = (Ok(Some((0x41, b"".as_slice()))), b"\x00");
-    check_left(&rt, &mut stream, &mut bytes, session, left, "a session");
+    check_left(&rt, &mut stream, &mut bytes, &TOO_LONG);
+    check_left(&rt, &mut stream, &mut bytes, &FIRST);
     let read = stream.read_slice(&mut bytes);
     same(&rt, answer_of(&read), Ok(None), "too few bytes");
 }
