@@ -2,7 +2,6 @@
 use crate::rows::{Row, check_listing, join};
 use std::alloc::{AllocError, Global};
 use std::process::Abort;
-use std::test::Fail;
 use wt_listings::{ListKind, Listing, list_frames};
 
 static BI_REMOTE: [Row; 17] = [
@@ -150,40 +149,30 @@ fn check<R: Abort + AllocGlobal>(
     text: &str,
     status: u8,
     shows: &str,
-) -> Result<(), AllocError> {
-    let listing = list_frames(rt.alloc(), kind, input)?;
+) {
+    let listing = list_frames(rt.alloc(), kind, input).expect(rt, "memory");
     check_listing(rt, listing, text, status, shows);
-    Ok(())
 }
 
-/// Asserts the listing of each row.
-fn check_rows<R: Abort + AllocGlobal>(
-    rt: &R,
-    kind: ListKind,
-    rows: &[Row],
-) -> Result<(), AllocError> {
-    for (input, text, status, word) in rows {
-        check(rt, kind, input, text, *status, word)?;
+#[test]
+fn remote_bidirectional_streams_are_listed(rt: HostRuntime) {
+    for (input, text, status, word) in &BI_REMOTE {
+        check(&rt, ListKind::BiRemote, input, text, *status, word);
     }
-    Ok(())
 }
 
 #[test]
-fn remote_bidirectional_streams_are_listed(rt: HostRuntime) -> Result<(), Fail> {
-    check_rows(&rt, ListKind::BiRemote, &BI_REMOTE)?;
-    Ok(())
+fn local_bidirectional_streams_are_listed(rt: HostRuntime) {
+    for (input, text, status, word) in &BI_LOCAL {
+        check(&rt, ListKind::BiLocal, input, text, *status, word);
+    }
 }
 
 #[test]
-fn local_bidirectional_streams_are_listed(rt: HostRuntime) -> Result<(), Fail> {
-    check_rows(&rt, ListKind::BiLocal, &BI_LOCAL)?;
-    Ok(())
-}
-
-#[test]
-fn control_streams_are_listed(rt: HostRuntime) -> Result<(), Fail> {
-    check_rows(&rt, ListKind::Control, &CONTROL)?;
-    Ok(())
+fn control_streams_are_listed(rt: HostRuntime) {
+    for (input, text, status, word) in &CONTROL {
+        check(&rt, ListKind::Control, input, text, *status, word);
+    }
 }
 
 /// Inputs of a peer's stream in parts, their listings, and what the row shows.
@@ -200,18 +189,17 @@ static LONG: [Long; 2] = [
 ];
 
 /// Asserts the listing of a row.
-fn check_long<R: Abort + AllocGlobal>(rt: &R, row: &Long) -> Result<(), AllocError> {
+fn check_long<R: Abort + AllocGlobal>(rt: &R, row: &Long) {
     let (parts, text, word) = *row;
-    let input = join(rt.alloc(), parts)?;
-    check(rt, ListKind::BiRemote, input.as_slice(), text, 0, word)
+    let input = join(rt, parts);
+    check(rt, ListKind::BiRemote, input.as_slice(), text, 0, word);
 }
 
 #[test]
-fn the_longest_payloads_are_listed(rt: HostRuntime) -> Result<(), Fail> {
+fn the_longest_payloads_are_listed(rt: HostRuntime) {
     for row in &LONG {
-        check_long(&rt, row)?;
+        check_long(&rt, row);
     }
-    Ok(())
 }
 
 /// The listing of the input; a second time where memory was refused. Nothing is left after a
@@ -224,9 +212,9 @@ fn listed(alloc: Global, input: &[u8]) -> Result<Listing, AllocError> {
 }
 
 #[test]
-fn refused_memory_gives_no_listing(rt: HostRuntime) -> Result<(), Fail> {
-    let listing = listed(rt.alloc(), b"\x40\x41\x04\x21\x01a\x00\x01a\x04\x00")?;
+fn refused_memory_gives_no_listing(rt: HostRuntime) {
+    let input = b"\x40\x41\x04\x21\x01a\x00\x01a\x04\x00";
+    let listing = listed(rt.alloc(), input).expect(&rt, "memory");
     let text = "WEBTRANSPORT 4\nEXERCISE 33 1\nDATA 1\nFAULT FrameUnexpectedError 261\n";
     check_listing(&rt, listing, text, 2, "each kind of line");
-    Ok(())
 }

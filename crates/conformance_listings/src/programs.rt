@@ -4,7 +4,6 @@ use crate::same::same;
 use std::alloc::{AllocError, Global};
 use std::io::{self, Read, Write};
 use std::process::Abort;
-use std::test::Fail;
 use wt_listings::run_program;
 
 /// Gives these bytes, so many a call, and then fails or ends.
@@ -97,8 +96,8 @@ fn check<R: Abort + AllocGlobal>(
     input: &mut Input<'_>,
     rooms: (usize, usize),
     wanted: (u8, &str, &str),
-) -> Result<(), AllocError> {
-    let texts = texts(rt.alloc(), words)?;
+) {
+    let texts = texts(rt.alloc(), words).expect(rt, "memory");
     let ran = run(rt.alloc(), texts.as_slice(), input, rooms);
     let came = (
         words,
@@ -110,7 +109,6 @@ fn check<R: Abort + AllocGlobal>(
     let (status, output, errors) = wanted;
     let wanted = (words, rooms, status, output.as_bytes(), errors.as_bytes());
     same(rt, came, wanted, "words, rooms, status, output, errors");
-    Ok(())
 }
 
 const INPUT: [u8; 6] = [0x40, 0x41, 0x04, 0x00, 0x01, 0x61];
@@ -157,27 +155,20 @@ fn check_listing<R: Abort + AllocGlobal>(
     bytes: &[u8],
     status: u8,
     text: &str,
-) -> Result<(), AllocError> {
+) {
     let mut input = Input {
         bytes,
         step: 1,
         fails: false,
     };
-    check(rt, words, &mut input, (200, 100), (status, text, ""))
-}
-
-/// Asserts it of each row.
-fn check_listings<R: Abort + AllocGlobal>(rt: &R, rows: &[Named]) -> Result<(), AllocError> {
-    for (words, bytes, status, text) in rows {
-        check_listing(rt, words, bytes, *status, text)?;
-    }
-    Ok(())
+    check(rt, words, &mut input, (200, 100), (status, text, ""));
 }
 
 #[test]
-fn the_words_choose_the_listing(rt: HostRuntime) -> Result<(), Fail> {
-    check_listings(&rt, &NAMED)?;
-    Ok(())
+fn the_words_choose_the_listing(rt: HostRuntime) {
+    for (words, bytes, status, text) in &NAMED {
+        check_listing(&rt, words, bytes, *status, text);
+    }
 }
 
 /// Words that name none.
@@ -206,110 +197,93 @@ static OTHERS: [&[&str]; 21] = [
 ];
 
 /// Asserts that a run by these words lists nothing and reads nothing.
-fn check_usage<R: Abort + AllocGlobal>(rt: &R, words: &[&str]) -> Result<(), AllocError> {
+fn check_usage<R: Abort + AllocGlobal>(rt: &R, words: &[&str]) {
     let mut input = Input {
         bytes: &INPUT,
         step: 1,
         fails: false,
     };
     let wanted = (1, "", "wt_frames: usage\n");
-    check(rt, words, &mut input, (100, 100), wanted)?;
+    check(rt, words, &mut input, (100, 100), wanted);
     same(rt, input.bytes.len(), 6, "nothing was read");
-    Ok(())
 }
 
-/// Asserts it of each of these words.
-fn check_usages<R: Abort + AllocGlobal>(rt: &R, rows: &[&[&str]]) -> Result<(), AllocError> {
-    for words in rows {
-        check_usage(rt, words)?;
+#[test]
+fn other_words_are_refused(rt: HostRuntime) {
+    for words in &OTHERS {
+        check_usage(&rt, words);
     }
-    Ok(())
 }
 
 #[test]
-fn other_words_are_refused(rt: HostRuntime) -> Result<(), Fail> {
-    check_usages(&rt, &OTHERS)?;
-    Ok(())
-}
-
-#[test]
-fn a_fault_of_the_stream_is_listed(rt: HostRuntime) -> Result<(), Fail> {
+fn a_fault_of_the_stream_is_listed(rt: HostRuntime) {
     let mut input = Input {
         bytes: &[0x40, 0x41, 0x01],
         step: 2,
         fails: false,
     };
     let wanted = (2, "FAULT IdError 264\n", "");
-    check(&rt, &[], &mut input, (100, 100), wanted)?;
-    Ok(())
+    check(&rt, &[], &mut input, (100, 100), wanted);
 }
 
 #[test]
-fn a_failing_read_ends_the_run(rt: HostRuntime) -> Result<(), Fail> {
+fn a_failing_read_ends_the_run(rt: HostRuntime) {
     let mut input = Input {
         bytes: &INPUT,
         step: 4,
         fails: true,
     };
     let wanted = (3, "", "wt_frames: read fault\n");
-    check(&rt, &[], &mut input, (100, 100), wanted)?;
-    Ok(())
+    check(&rt, &[], &mut input, (100, 100), wanted);
 }
 
 /// Room of an output that is too short, and what it takes.
 static ROOMS: [(usize, &str); 3] = [(0, ""), (5, "WEBTR"), (27, "WEBTRANSPORT 4\nDATA 1\nEND 0")];
 
 /// Asserts that a run fails where its output takes so many bytes, which are these.
-fn check_cut<R: Abort + AllocGlobal>(rt: &R, room: usize, text: &str) -> Result<(), AllocError> {
+fn check_cut<R: Abort + AllocGlobal>(rt: &R, room: usize, text: &str) {
     let mut input = Input {
         bytes: &INPUT,
         step: 100,
         fails: false,
     };
     let wanted = (3, text, "wt_frames: write fault\n");
-    check(rt, &["buffer"], &mut input, (room, 100), wanted)
+    check(rt, &["buffer"], &mut input, (room, 100), wanted);
 }
 
 #[test]
-fn a_failing_write_ends_the_run(rt: HostRuntime) -> Result<(), Fail> {
+fn a_failing_write_ends_the_run(rt: HostRuntime) {
     for (room, text) in &ROOMS {
-        check_cut(&rt, *room, text)?;
+        check_cut(&rt, *room, text);
     }
-    Ok(())
 }
 
 #[test]
-fn a_fault_of_the_error_output_is_ignored(rt: HostRuntime) -> Result<(), Fail> {
+fn a_fault_of_the_error_output_is_ignored(rt: HostRuntime) {
     let mut input = Input {
         bytes: &INPUT,
         step: 100,
         fails: false,
     };
-    check(&rt, &["x"], &mut input, (100, 3), (1, "", "wt_"))?;
-    Ok(())
+    check(&rt, &["x"], &mut input, (100, 3), (1, "", "wt_"));
 }
 
 /// Asserts what a run over so many bytes of unknown frames answers. Each frame has four bytes.
-fn check_long<R: Abort + AllocGlobal>(
-    rt: &R,
-    size: usize,
-    wanted: (u8, &str, &str),
-) -> Result<(), AllocError> {
-    let bytes = vec![in rt.alloc(); 2; size]?;
+fn check_long<R: Abort + AllocGlobal>(rt: &R, size: usize, wanted: (u8, &str, &str)) {
+    let bytes = vec![in rt.alloc(); 2; size].expect(rt, "memory");
     let mut input = Input {
         bytes: bytes.as_slice(),
         step: 4096,
         fails: false,
     };
-    check(rt, &[], &mut input, (100, 100), wanted)
+    check(rt, &[], &mut input, (100, 100), wanted);
 }
 
 #[test]
-fn long_input_is_refused(rt: HostRuntime) -> Result<(), Fail> {
+fn long_input_is_refused(rt: HostRuntime) {
     // No frame of a known type is in it, so all bytes are left.
-    check_long(&rt, 1048576, (0, "END 1048576\n", ""))?;
-    check_long(&rt, 1048577, (3, "", "wt_frames: input too long\n"))?;
-    Ok(())
+    check_long(&rt, 1048576, (0, "END 1048576\n", ""));
+    check_long(&rt, 1048577, (3, "", "wt_frames: input too long\n"));
 }
 
 /// One run of the program, with room for all that it writes.
@@ -341,13 +315,8 @@ fn texts_again(alloc: Global, words: &[&str]) -> Result<Vec<String>, AllocError>
 
 /// Where memory is refused, the program answers status 4 and lists nothing, or the test's own
 /// output took none, which is a fault of writing; another run lists all.
-fn check_refused<R: Abort + AllocGlobal>(
-    rt: &R,
-    words: &[&str],
-    bytes: &[u8],
-    text: &str,
-) -> Result<(), AllocError> {
-    let words = texts_again(rt.alloc(), words)?;
+fn check_refused<R: Abort + AllocGlobal>(rt: &R, words: &[&str], bytes: &[u8], text: &str) {
+    let words = texts_again(rt.alloc(), words).expect(rt, "memory");
     let mut ran = run_once(rt.alloc(), words.as_slice(), bytes);
     check_status(rt, &ran, text);
     if ran.status >= 3 {
@@ -359,45 +328,39 @@ fn check_refused<R: Abort + AllocGlobal>(
         (0, text.as_bytes()),
         text,
     );
-    Ok(())
 }
 
 #[test]
-fn refused_memory_has_its_status(rt: HostRuntime) -> Result<(), Fail> {
-    check_refused(&rt, &[], &INPUT, LISTING)?;
-    Ok(())
+fn refused_memory_has_its_status(rt: HostRuntime) {
+    check_refused(&rt, &[], &INPUT, LISTING);
 }
 
 #[test]
-fn refused_memory_has_its_status_on_a_stream_opened_here(rt: HostRuntime) -> Result<(), Fail> {
+fn refused_memory_has_its_status_on_a_stream_opened_here(rt: HostRuntime) {
     check_refused(
         &rt,
         &["buffer", "bi-local"],
         b"\x00\x01a",
         "DATA 1\nEND 0\n",
-    )?;
-    Ok(())
+    );
 }
 
 #[test]
-fn refused_memory_has_its_status_on_a_control_stream(rt: HostRuntime) -> Result<(), Fail> {
+fn refused_memory_has_its_status_on_a_control_stream(rt: HostRuntime) {
     check_refused(
         &rt,
         &["buffer", "control"],
         b"\x04\x00",
         "SETTINGS 0\nEND 0\n",
-    )?;
-    Ok(())
+    );
 }
 
 #[test]
-fn refused_memory_has_its_status_poll_by_poll(rt: HostRuntime) -> Result<(), Fail> {
-    check_refused(&rt, &["stepped", "1"], &INPUT, LISTING)?;
-    Ok(())
+fn refused_memory_has_its_status_poll_by_poll(rt: HostRuntime) {
+    check_refused(&rt, &["stepped", "1"], &INPUT, LISTING);
 }
 
 #[test]
-fn refused_memory_has_its_status_on_a_request(rt: HostRuntime) -> Result<(), Fail> {
-    check_refused(&rt, &["request"], &REQUEST, REQUEST_LISTING)?;
-    Ok(())
+fn refused_memory_has_its_status_on_a_request(rt: HostRuntime) {
+    check_refused(&rt, &["request"], &REQUEST, REQUEST_LISTING);
 }

@@ -3,7 +3,6 @@ use crate::rows::{REQUEST, REQUEST_LISTING, Row, check_listing, join};
 use crate::same::same;
 use std::alloc::{AllocError, Global};
 use std::process::Abort;
-use std::test::Fail;
 use wt_listings::{Listing, list_request};
 use wtransport_proto::frame::FrameOwned;
 use wtransport_proto::session::SessionRequest;
@@ -72,24 +71,17 @@ static ROWS: [Row; 15] = [
 ];
 
 /// Asserts the listing of the input of a row.
-fn check_row<R: Abort + AllocGlobal>(rt: &R, row: &Row) -> Result<(), AllocError> {
+fn check_row<R: Abort + AllocGlobal>(rt: &R, row: &Row) {
     let (input, text, status, word) = *row;
-    check_listing(rt, list_request(rt.alloc(), input)?, text, status, word);
-    Ok(())
-}
-
-/// Asserts it of each row.
-fn check_rows<R: Abort + AllocGlobal>(rt: &R, rows: &[Row]) -> Result<(), AllocError> {
-    for row in rows {
-        check_row(rt, row)?;
-    }
-    Ok(())
+    let listing = list_request(rt.alloc(), input).expect(rt, "memory");
+    check_listing(rt, listing, text, status, word);
 }
 
 #[test]
-fn frames_that_are_no_request(rt: HostRuntime) -> Result<(), Fail> {
-    check_rows(&rt, &ROWS)?;
-    Ok(())
+fn frames_that_are_no_request(rt: HostRuntime) {
+    for row in &ROWS {
+        check_row(&rt, row);
+    }
 }
 
 /// Asserts that the parts of an input list these fields, and then this end.
@@ -99,13 +91,12 @@ fn check_fields<R: Abort + AllocGlobal>(
     fields: &str,
     end: &str,
     shows: &str,
-) -> Result<(), AllocError> {
-    let input = join(rt.alloc(), parts)?;
-    let text = join(rt.alloc(), &[fields.as_bytes(), end.as_bytes()])?;
-    let listing = list_request(rt.alloc(), input.as_slice())?;
+) {
+    let input = join(rt, parts);
+    let text = join(rt, &[fields.as_bytes(), end.as_bytes()]);
+    let listing = list_request(rt.alloc(), input.as_slice()).expect(rt, "memory");
     let came = (listing.text.as_slice(), listing.status);
     same(rt, came, (text.as_slice(), 0), shows);
-    Ok(())
 }
 
 /// The five fields of the request.
@@ -140,71 +131,46 @@ static AROUND: [Around; 5] = [
     ),
 ];
 
-/// Asserts the listing of each row.
-fn check_around<R: Abort + AllocGlobal>(rt: &R, rows: &[Around]) -> Result<(), AllocError> {
-    for (parts, end, word) in rows {
-        check_fields(rt, parts, FIELDS, end, word)?;
-    }
-    Ok(())
-}
-
 #[test]
-fn fields_and_what_stands_after(rt: HostRuntime) -> Result<(), Fail> {
-    check_around(&rt, &AROUND)?;
-    Ok(())
+fn fields_and_what_stands_after(rt: HostRuntime) {
+    for (parts, end, word) in &AROUND {
+        check_fields(&rt, parts, FIELDS, end, word);
+    }
 }
 
 /// Asserts that the request with this head and these lines more lists these fields.
-fn check_more<R: Abort + AllocGlobal>(
-    rt: &R,
-    head: &[u8],
-    more: &[u8],
-    fields: &str,
-    shows: &str,
-) -> Result<(), AllocError> {
+fn check_more<R: Abort + AllocGlobal>(rt: &R, head: &[u8], more: &[u8], fields: &str, shows: &str) {
     let parts = [head, &REQUEST[2..], more];
-    check_fields(rt, &parts, fields, "END 0\n", shows)
+    check_fields(rt, &parts, fields, "END 0\n", shows);
 }
 
 #[test]
-fn other_fields_in_their_order(rt: HostRuntime) -> Result<(), Fail> {
+fn other_fields_in_their_order(rt: HostRuntime) {
     let more = b"\x2b\xea\x5f\x41\x85\xee\x3a\x2d\x28\x7f\x51\x01x";
     let fields =
         "FIELD :authority=example.com\nFIELD :method=CONNECT\nFIELD :path=x\nFIELD :protocol=webtransport\nFIELD :scheme=https\nFIELD key1=value1\n";
     let word = "`key1`, as its five lines, and another value of `:path`";
-    check_more(&rt, b"\x01\x35", more, fields, word)?;
+    check_more(&rt, b"\x01\x35", more, fields, word);
     let fields =
         "FIELD !=\nFIELD :authority=example.com\nFIELD :method=CONNECT\nFIELD :path=/\nFIELD :protocol=webtransport\nFIELD :scheme=https\nFIELD a=\n";
     let word = "a name before all others, and one with a value of no bytes";
-    check_more(&rt, b"\x01\x2e", b"\x21!\x00\x21a\x00", fields, word)?;
-    Ok(())
-}
-
-/// A request that is made anew.
-fn request(alloc: Global) -> Result<SessionRequest, Fail> {
-    Ok(SessionRequest::new(alloc, "https://example.com/")?)
+    check_more(&rt, b"\x01\x2e", b"\x21!\x00\x21a\x00", fields, word);
 }
 
 /// The HEADERS frame of a request that is made anew.
-fn request_frame(alloc: Global) -> Result<FrameOwned, Fail> {
-    Ok(request(alloc)?.headers().generate_frame(alloc)?)
-}
-
-/// The bytes of that frame.
-fn made(alloc: Global) -> Result<Vec<u8>, Fail> {
-    let frame = request_frame(alloc)?;
-    let mut written = Vec::new(alloc);
-    frame.write(&mut written)?;
-    Ok(written)
+fn request_frame<R: Abort + AllocGlobal>(rt: &R) -> FrameOwned {
+    let request = SessionRequest::new(rt.alloc(), "https://example.com/").expect(rt, "a request");
+    let headers = request.headers();
+    headers.generate_frame(rt.alloc()).expect(rt, "a frame")
 }
 
 #[test]
-fn a_request_that_was_made_is_listed(rt: HostRuntime) -> Result<(), Fail> {
-    let written = made(rt.alloc())?;
+fn a_request_that_was_made_is_listed(rt: HostRuntime) {
+    let mut written = Vec::new(rt.alloc());
+    request_frame(&rt).write(&mut written).expect(&rt, "memory");
     same(&rt, written.as_slice(), &REQUEST, "its frame");
-    let listing = list_request(rt.alloc(), written.as_slice())?;
+    let listing = list_request(rt.alloc(), written.as_slice()).expect(&rt, "memory");
     check_listing(&rt, listing, REQUEST_LISTING, 0, "its listing");
-    Ok(())
 }
 
 /// The listing of the request; a second time where memory was refused. Nothing is left after a
@@ -217,8 +183,7 @@ fn listed(alloc: Global) -> Result<Listing, AllocError> {
 }
 
 #[test]
-fn refused_memory_gives_no_listing(rt: HostRuntime) -> Result<(), Fail> {
-    let listing = listed(rt.alloc())?;
+fn refused_memory_gives_no_listing(rt: HostRuntime) {
+    let listing = listed(rt.alloc()).expect(&rt, "memory");
     check_listing(&rt, listing, REQUEST_LISTING, 0, "the request");
-    Ok(())
 }

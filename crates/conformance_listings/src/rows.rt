@@ -1,6 +1,5 @@
 //! What the tests share: rows of listings, a request, and inputs that are made of parts.
 use crate::same::same;
-use std::alloc::{AllocError, Global};
 use std::process::Abort;
 use wt_listings::Listing;
 
@@ -22,10 +21,10 @@ pub fn check_listing<R: Abort>(rt: &R, listing: Listing, text: &str, status: u8,
 }
 
 /// The parts, one after the other.
-pub fn join(alloc: Global, parts: &[&[u8]]) -> Result<Vec<u8>, AllocError> {
-    let mut whole = Vec::new(alloc);
+pub fn join<R: Abort + AllocGlobal>(rt: &R, parts: &[&[u8]]) -> Vec<u8> {
+    let mut whole = Vec::new(rt.alloc());
     for part in parts {
-        whole.extend_from_slice(part)?;
+        whole.extend_from_slice(part).expect(rt, "memory");
     }
-    Ok(whole)
+    whole
 }

@@ -5,7 +5,6 @@ use crate::rows::{Row, check_listing, join};
 use crate::same::same;
 use std::alloc::{AllocError, Global};
 use std::process::Abort;
-use std::test::Fail;
 use wt_listings::{Listing, list_stepped};
 
 const CUT: &str = "FAULT FrameError 262\n";
@@ -101,41 +100,26 @@ fn check_step<R: Abort + AllocGlobal>(
     text: &str,
     status: u8,
     shows: &str,
-) -> Result<(), AllocError>
+)
     requires { 0 < k }
 {
-    let listing = list_stepped(rt.alloc(), k, input)?;
+    let listing = list_stepped(rt.alloc(), k, input).expect(rt, "memory");
     let came = (k, listing.text.as_slice(), listing.status);
     same(rt, came, (k, text.as_bytes(), status), shows);
-    Ok(())
 }
 
 /// Asserts that the listing of the input is the same for each number of bytes a call.
-fn check<R: Abort + AllocGlobal>(
-    rt: &R,
-    input: &[u8],
-    text: &str,
-    status: u8,
-    shows: &str,
-) -> Result<(), AllocError> {
+fn check<R: Abort + AllocGlobal>(rt: &R, input: &[u8], text: &str, status: u8, shows: &str) {
     for k in 1..14 {
-        check_step(rt, k, input, text, status, shows)?;
+        check_step(rt, k, input, text, status, shows);
     }
-    Ok(())
-}
-
-/// Asserts the listing of each row.
-fn check_rows<R: Abort + AllocGlobal>(rt: &R, rows: &[Row]) -> Result<(), AllocError> {
-    for (input, text, status, word) in rows {
-        check(rt, input, text, *status, word)?;
-    }
-    Ok(())
 }
 
 #[test]
-fn streams_are_listed_step_by_step(rt: HostRuntime) -> Result<(), Fail> {
-    check_rows(&rt, &ROWS)?;
-    Ok(())
+fn streams_are_listed_step_by_step(rt: HostRuntime) {
+    for (input, text, status, word) in &ROWS {
+        check(&rt, input, text, *status, word);
+    }
 }
 
 /// So many bytes of an exercise frame and a late session, the listing and the status.
@@ -159,29 +143,17 @@ static STOPS: [Stop; 13] = [
 ];
 
 /// Asserts the listing of so many bytes of an exercise frame and a late session.
-fn check_stop<R: Abort + AllocGlobal>(
-    rt: &R,
-    size: usize,
-    text: &str,
-    status: u8,
-) -> Result<(), Fail> {
+fn check_stop<R: Abort + AllocGlobal>(rt: &R, size: usize, text: &str, status: u8) {
     let bytes = b"\x21\x07Payload\x40\x41\x00";
-    let (input, _) = bytes.split_at_checked(size).ok_or("so many bytes")?;
-    check(rt, input, text, status, "an end")?;
-    Ok(())
-}
-
-/// Asserts the listing of each row.
-fn check_stops<R: Abort + AllocGlobal>(rt: &R, rows: &[Stop]) -> Result<(), Fail> {
-    for (size, text, status) in rows {
-        check_stop(rt, *size, text, *status)?;
-    }
-    Ok(())
+    let input = bytes.get(..size).expect(rt, "so many bytes");
+    check(rt, input, text, status, "an end");
 }
 
 #[test]
-fn streams_that_end_at_each_place_are_listed(rt: HostRuntime) -> Result<(), Fail> {
-    check_stops(&rt, &STOPS)
+fn streams_that_end_at_each_place_are_listed(rt: HostRuntime) {
+    for (size, text, status) in &STOPS {
+        check_stop(&rt, *size, text, *status);
+    }
 }
 
 /// Inputs in parts, their listings, and their status.
@@ -209,18 +181,17 @@ static LONG: [Long; 5] = [
 ];
 
 /// Asserts the listing of a row.
-fn check_long<R: Abort + AllocGlobal>(rt: &R, row: &Long) -> Result<(), AllocError> {
+fn check_long<R: Abort + AllocGlobal>(rt: &R, row: &Long) {
     let (parts, text, status) = *row;
-    let input = join(rt.alloc(), parts)?;
-    check(rt, input.as_slice(), text, status, "zeros")
+    let input = join(rt, parts);
+    check(rt, input.as_slice(), text, status, "zeros");
 }
 
 #[test]
-fn the_longest_payloads_are_listed_step_by_step(rt: HostRuntime) -> Result<(), Fail> {
+fn the_longest_payloads_are_listed_step_by_step(rt: HostRuntime) {
     for row in &LONG {
-        check_long(&rt, row)?;
+        check_long(&rt, row);
     }
-    Ok(())
 }
 
 /// The listing of the input, two bytes a call; a second time where memory was refused. Nothing is
@@ -233,9 +204,9 @@ fn listed(alloc: Global, input: &[u8]) -> Result<Listing, AllocError> {
 }
 
 #[test]
-fn refused_memory_gives_no_stepped_listing(rt: HostRuntime) -> Result<(), Fail> {
-    let listing = listed(rt.alloc(), b"\x40\x41\x04\x21\x01a\x00\x01a\x04\x00")?;
+fn refused_memory_gives_no_stepped_listing(rt: HostRuntime) {
+    let input = b"\x40\x41\x04\x21\x01a\x00\x01a\x04\x00";
+    let listing = listed(rt.alloc(), input).expect(&rt, "memory");
     let text = "WEBTRANSPORT 4\nEXERCISE 33 1\nDATA 1\nFAULT FrameUnexpectedError 261\n";
     check_listing(&rt, listing, text, 2, "each kind of line");
-    Ok(())
 }
