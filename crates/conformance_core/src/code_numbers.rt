@@ -79,16 +79,11 @@ fn code_of(number: u64) -> Result<Option<ErrorCode>, VarIntBoundsExceeded> {
     Ok(ErrorCode::try_from(VarInt::try_from_u64(number)?).ok())
 }
 
-/// Asserts it of each row.
-fn check_numbers<R: Abort>(rt: &R, rows: &[NumberRow]) {
-    for (number, code, shows) in rows {
-        same(rt, code_of(*number), Ok(*code), shows);
-    }
-}
-
 #[test]
 fn numbers_are_those_of_codes(rt: HostRuntime) {
-    check_numbers(&rt, &NUMBERS);
+    for (number, code, shows) in &NUMBERS {
+        same(&rt, code_of(*number), Ok(*code), shows);
+    }
 }
 
 /// A code, and what it ends (RFC 9114, section 8).
@@ -145,16 +140,11 @@ static SCOPES: [ScopeRow; 15] = [
     (ErrorCode::SessionGone, ErrorScope::Stream, "SessionGone"),
 ];
 
-/// Asserts what the code of each row ends.
-fn check_scopes<R: Abort>(rt: &R, rows: &[ScopeRow]) {
-    for (code, scope, shows) in rows {
-        same(rt, code.scope(), *scope, shows);
-    }
-}
-
 #[test]
 fn codes_end_a_stream_or_the_connection(rt: HostRuntime) {
-    check_scopes(&rt, &SCOPES);
+    for (code, scope, shows) in &SCOPES {
+        same(&rt, code.scope(), *scope, shows);
+    }
 }
 
 #[test]

@@ -1,8 +1,8 @@
 //! The standard's examples and table, worked rows, and refused memory.
 use crate::same::same;
 use std::alloc::{AllocError, Global};
+use std::fmt::Display;
 use std::process::Abort;
-use std::test::Fail;
 use wtp_huffman::huffman::{HuffmanError, decode, encode, encoded_len};
 
 /// Encodes a text.
@@ -85,42 +85,42 @@ static TEXTS: [TextRow; 18] = [
     ("the longest word of a byte", b"\x16", b"\xff\xff\xff\xfb"),
 ];
 
-/// Asserts that a text is encoded to this string, and decoded from it.
-fn assert_coded(
+/// Asserts that a text is encoded to this string.
+fn assert_encoded<S: Display + Drop>(
     rt: &impl Abort,
     alloc: Global,
     text: &[u8],
     coded: &[u8],
-    shows: &str,
-) -> Result<(), Fail> {
-    same(rt, encode_again(alloc, text)?.as_slice(), coded, shows);
-    same(rt, decode_again(alloc, coded)?.as_slice(), text, shows);
-    Ok(())
+    shows: S,
+) {
+    let came = encode_again(alloc, text).expect(rt, "memory");
+    same(rt, came.as_slice(), coded, shows);
 }
 
-/// Asserts the same, and that the length of the string is known before.
-fn assert_measured(
+/// Asserts that a text is decoded from this string.
+fn assert_decoded<S: Display + Drop>(
     rt: &impl Abort,
     alloc: Global,
     text: &[u8],
     coded: &[u8],
-    shows: &str,
-) -> Result<(), Fail> {
+    shows: S,
+) {
+    let came = decode_again(alloc, coded).expect(rt, "a text");
+    same(rt, came.as_slice(), text, shows);
+}
+
+/// Asserts both, and that the length of the string is known before.
+fn assert_measured(rt: &impl Abort, alloc: Global, text: &[u8], coded: &[u8], shows: &str) {
     same(rt, encoded_len(text), Some(coded.len()), shows);
-    assert_coded(rt, alloc, text, coded, shows)
-}
-
-/// Asserts it of each row.
-fn assert_texts(rt: &impl Abort, alloc: Global, rows: &[TextRow]) -> Result<(), Fail> {
-    for (shows, text, coded) in rows {
-        assert_measured(rt, alloc, text, coded, shows)?;
-    }
-    Ok(())
+    assert_encoded(rt, alloc, text, coded, shows);
+    assert_decoded(rt, alloc, text, coded, shows);
 }
 
 #[test]
-fn texts_and_their_strings_past_refused_memory(rt: HostRuntime) -> Result<(), Fail> {
-    assert_texts(&rt, rt.alloc(), &TEXTS)
+fn texts_and_their_strings_past_refused_memory(rt: HostRuntime) {
+    for (shows, text, coded) in &TEXTS {
+        assert_measured(&rt, rt.alloc(), text, coded, shows);
+    }
 }
 
 /// What a row shows, and a string that no text is coded to.
@@ -153,15 +153,11 @@ fn refused_strings_past_refused_memory(rt: HostRuntime) {
 /// The first allocations of this test are the room that each call takes first, and growth where the
 /// code is longer than the text: each is refused in turn.
 #[test]
-fn refused_memory(rt: HostRuntime) -> Result<(), Fail> {
+fn refused_memory(rt: HostRuntime) {
     let coded = b"\xff\xff\xff\xf3\xff\xff\xff\xcf\xff\xff\xff\x3f\xff\xff\xfc";
-    assert_coded(
-        &rt,
-        rt.alloc(),
-        b"\n\n\n\n",
-        coded,
-        "four words of thirty bits",
-    )
+    let shows = "four words of thirty bits";
+    assert_encoded(&rt, rt.alloc(), b"\n\n\n\n", coded, shows);
+    assert_decoded(&rt, rt.alloc(), b"\n\n\n\n", coded, shows);
 }
 
 /// Whether a text of one byte is coded to this string of one byte, which must be no text's string
@@ -193,26 +189,21 @@ fn strings_of_one_byte_past_refused_memory(rt: HostRuntime) {
 }
 
 /// Asserts that a string of two bytes is refused, or is the string of what it is decoded to.
-fn assert_only(rt: &impl Abort, alloc: Global, coded: [u8; 2]) -> Result<(), AllocError> {
+fn assert_only(rt: &impl Abort, alloc: Global, coded: [u8; 2]) {
     let number = u16::from_be_bytes(coded);
     match decode_again(alloc, &coded) {
-        Ok(text) => {
-            let again = encode_again(alloc, text.as_slice())?;
-            same(rt, again.as_slice(), coded.as_slice(), number);
-        }
+        Ok(text) => assert_encoded(rt, alloc, text.as_slice(), &coded, number),
         Err(e) => same(rt, e, HuffmanError::Invalid, number),
     }
-    Ok(())
 }
 
 #[test]
-fn strings_of_two_bytes_past_refused_memory(rt: HostRuntime) -> Result<(), Fail> {
+fn strings_of_two_bytes_past_refused_memory(rt: HostRuntime) {
     for first in 0..=255u8 {
         for second in 0..=255u8 {
-            assert_only(&rt, rt.alloc(), [first, second])?;
+            assert_only(&rt, rt.alloc(), [first, second]);
         }
     }
-    Ok(())
 }
 
 /// A word at the front of 32 bits, with ones after it, and how many bytes it begins in.
@@ -296,65 +287,32 @@ static LENGTHS: [Length; 21] = [
 ];
 
 /// Asserts that a symbol has this word of so many bits.
-fn assert_word(
-    rt: &impl Abort,
-    alloc: Global,
-    symbol: u8,
-    bits: u32,
-    number: u32,
-) -> Result<(), Fail> {
+fn assert_word(rt: &impl Abort, alloc: Global, symbol: u8, bits: u32, number: u32) {
     let (window, len) = pad(bits, number);
-    let (coded, _) = window
-        .as_slice()
-        .split_at_checked(len)
-        .ok_or("at most 30 bits")?;
-    same(
-        rt,
-        encode_again(alloc, &[symbol])?.as_slice(),
-        coded,
-        symbol,
-    );
-    same(
-        rt,
-        decode_again(alloc, coded)?.as_slice(),
-        [symbol].as_slice(),
-        symbol,
-    );
-    Ok(())
+    let coded = window.get(..len).expect(rt, "at most 30 bits");
+    assert_encoded(rt, alloc, &[symbol], coded, symbol);
+    assert_decoded(rt, alloc, &[symbol], coded, symbol);
 }
 
 /// Asserts that symbols have words of so many bits, one after another from the first, and answers
 /// how many they are.
-fn assert_words(
-    rt: &impl Abort,
-    alloc: Global,
-    row: &[u8],
-    bits: u32,
-    first: u32,
-) -> Result<u32, Fail> {
+fn assert_words(rt: &impl Abort, alloc: Global, row: &[u8], bits: u32, first: u32) -> u32 {
     let mut symbols = 0u32;
     for symbol in row {
-        assert_word(rt, alloc, *symbol, bits, first.wrapping_add(symbols))?;
+        assert_word(rt, alloc, *symbol, bits, first.wrapping_add(symbols));
         symbols = symbols.wrapping_add(1);
     }
-    Ok(symbols)
-}
-
-/// Asserts it of each length, and answers how many symbols there are.
-fn assert_lengths(rt: &impl Abort, alloc: Global, rows: &[Length]) -> Result<u32, Fail> {
-    let mut symbols = 0u32;
-    for (bits, first, row) in rows {
-        let few = assert_words(rt, alloc, row, *bits, *first)?;
-        symbols = symbols.wrapping_add(few);
-    }
-    Ok(symbols)
+    symbols
 }
 
 #[test]
-fn words_past_refused_memory(rt: HostRuntime) -> Result<(), Fail> {
-    let symbols = assert_lengths(&rt, rt.alloc(), &LENGTHS)?;
+fn words_past_refused_memory(rt: HostRuntime) {
+    let mut symbols = 0u32;
+    for (bits, first, row) in &LENGTHS {
+        let few = assert_words(&rt, rt.alloc(), row, *bits, *first);
+        symbols = symbols.wrapping_add(few);
+    }
     same(&rt, symbols, 256, "each symbol");
-    Ok(())
 }
 
 #[test]
@@ -378,14 +336,9 @@ fn text_of(alloc: Global, error: HuffmanError) -> Result<String, AllocError> {
 }
 
 /// Asserts that an error has this text.
-fn assert_shown(
-    rt: &impl Abort,
-    alloc: Global,
-    error: HuffmanError,
-    text: &str,
-) -> Result<(), AllocError> {
-    same(rt, text_of(alloc, error)?.as_str(), text, "a message");
-    Ok(())
+fn assert_shown(rt: &impl Abort, alloc: Global, error: HuffmanError, text: &str) {
+    let came = text_of(alloc, error).expect(rt, "memory");
+    same(rt, came.as_str(), text, "a message");
 }
 
 /// Errors and their texts.
@@ -395,9 +348,8 @@ static ERRORS: [(HuffmanError, &str); 2] = [
 ];
 
 #[test]
-fn messages_past_refused_memory(rt: HostRuntime) -> Result<(), Fail> {
+fn messages_past_refused_memory(rt: HostRuntime) {
     for (error, text) in &ERRORS {
-        assert_shown(&rt, rt.alloc(), *error, text)?;
+        assert_shown(&rt, rt.alloc(), *error, text);
     }
-    Ok(())
 }

@@ -3,7 +3,6 @@ use crate::same::same;
 use crate::texts::{debugs, displays};
 use std::process::Abort;
 use std::str::FromStr;
-use std::test::Fail;
 use wtp_core::ids::{
     InvalidQStreamId, InvalidSessionId, InvalidStatusCode, QStreamId, SessionId, StatusCode,
     StreamId,
@@ -160,9 +159,9 @@ fn status_texts_are_read(rt: HostRuntime) {
 }
 
 #[test]
-fn ids_are_printed(rt: HostRuntime) -> Result<(), Fail> {
+fn ids_are_printed(rt: HostRuntime) {
     let stream = StreamId::new(VarInt::from_u32(8));
-    let session = SessionId::try_from_session_stream(stream)?;
+    let session = SessionId::try_from_session_stream(stream).expect(&rt, "a session");
     let quarter = QStreamId::from_session_id(session);
     displays(&rt, &stream, "8");
     debugs(&rt, &stream, "8");
@@ -175,5 +174,4 @@ fn ids_are_printed(rt: HostRuntime) -> Result<(), Fail> {
     displays(&rt, &InvalidSessionId, "invalid session ID");
     displays(&rt, &InvalidQStreamId, "invalid QStream ID");
     displays(&rt, &InvalidStatusCode, "invalid HTTP status code");
-    Ok(())
 }

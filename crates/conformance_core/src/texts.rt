@@ -5,16 +5,12 @@ use std::process::Abort;
 
 /// Asserts what a value displays.
 pub fn displays<R: Abort + AllocGlobal, T: Display>(rt: &R, value: &T, wanted: &str) {
-    match value.to_string(rt.alloc()) {
-        Ok(text) => same(rt, text.as_str(), wanted, "for display"),
-        Err(_) => panic!(rt; "{wanted}: out of memory"),
-    }
+    let text = value.to_string(rt.alloc()).expect(rt, wanted);
+    same(rt, text.as_str(), wanted, "for display");
 }
 
 /// Asserts what a value prints for debugging.
 pub fn debugs<R: Abort + AllocGlobal, T: Debug>(rt: &R, value: &T, wanted: &str) {
-    match format!(in rt.alloc(); "{value:?}") {
-        Ok(text) => same(rt, text.as_str(), wanted, "for debugging"),
-        Err(_) => panic!(rt; "{wanted}: out of memory"),
-    }
+    let text = format!(in rt.alloc(); "{value:?}").expect(rt, wanted);
+    same(rt, text.as_str(), wanted, "for debugging");
 }

@@ -2,7 +2,6 @@
 use crate::same::same;
 use crate::texts::displays;
 use std::process::Abort;
-use std::test::Fail;
 use wtp_core::bytes::{BufferWriter, BytesWriter, PutError};
 use wtp_core::varint::{VarInt, VarIntBoundsExceeded};
 
@@ -84,23 +83,22 @@ fn check_refusal<R: Abort>(rt: &R, error: PutError, came: &[u8], wanted: &[u8], 
 }
 
 #[test]
-fn refused_memory_changes_nothing(rt: HostRuntime) -> Result<(), Fail> {
+fn refused_memory_changes_nothing(rt: HostRuntime) {
     let mut vector = Vec::new(rt.alloc());
     let number = VarInt::from_u32(16384);
-    let encoding = [0x80, 0x00, 0x40, 0x00];
+    let encoding = b"\x80\x00\x40\x00".as_slice();
     if let Err(error) = vector.put_varint(number) {
         check_refusal(&rt, error, vector.as_slice(), &[], "the number");
-        vector.put_varint(number)?;
+        vector.put_varint(number).expect(&rt, "the number");
     }
-    let text = [1; 64];
-    if let Err(error) = vector.put_bytes(&text) {
-        check_refusal(&rt, error, vector.as_slice(), &encoding, "the text");
-        vector.put_bytes(&text)?;
+    let text = [1; 64].as_slice();
+    if let Err(error) = vector.put_bytes(text) {
+        check_refusal(&rt, error, vector.as_slice(), encoding, "the text");
+        vector.put_bytes(text).expect(&rt, "the text");
     }
     let came = (vector.len(), vector.get(..4), vector.get(4..));
-    let wanted = (68, Some(encoding.as_slice()), Some(text.as_slice()));
+    let wanted = (68, Some(encoding), Some(text));
     same(&rt, came, wanted, "both");
-    Ok(())
 }
 
 #[test]
