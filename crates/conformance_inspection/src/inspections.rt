@@ -1,9 +1,8 @@
 //! Inspections of recorded streams and datagrams. The recordings are those of
 //! `tools/recordings.d`, and the expected items are what their index says.
 use crate::same::same;
-use std::alloc::{AllocError, Global};
+use std::alloc::Global;
 use std::process::Abort;
-use std::test::Fail;
 use wt_inspection::item::Parts;
 use wt_inspection::{Content, End, Inspection, Item, Recorded, inspect};
 
@@ -211,8 +210,9 @@ fn state_of(end: End) -> (&'static str, u64) {
 }
 
 /// Asserts the items of a row and its end.
-fn check_row<R: Abort>(rt: &R, found: &Inspection, row: &Row) {
-    let (_, _, _, items, end, shows) = *row;
+fn check_row<R: Abort>(rt: &R, alloc: Global, row: &Row) {
+    let (kind, bytes, open, items, end, shows) = *row;
+    let found = inspect(alloc, kind, bytes, open).expect(rt, "memory");
     same(rt, found.items.len(), items.len(), shows);
     for (item, wanted) in found.items.iter().zip(items.iter()) {
         let came = (item.at, item.length, name_of(item));
@@ -221,19 +221,11 @@ fn check_row<R: Abort>(rt: &R, found: &Inspection, row: &Row) {
     same(rt, state_of(found.end), end, shows);
 }
 
-/// Asserts the items of each row and its end.
-fn check_rows<R: Abort>(rt: &R, alloc: Global, rows: &[Row]) -> Result<(), AllocError> {
-    for row in rows {
-        let (kind, bytes, open, ..) = *row;
-        check_row(rt, &inspect(alloc, kind, bytes, open)?, row);
-    }
-    Ok(())
-}
-
 #[test]
-fn streams_are_inspected(rt: HostRuntime) -> Result<(), Fail> {
-    check_rows(&rt, rt.alloc(), &STREAMS)?;
-    Ok(())
+fn streams_are_inspected(rt: HostRuntime) {
+    for row in &STREAMS {
+        check_row(&rt, rt.alloc(), row);
+    }
 }
 
 /// Returns the close code of the capsules in the last item, and their number.
@@ -255,12 +247,16 @@ fn capsules_in(found: &Inspection) -> (usize, Option<u64>) {
 /// of a close.
 static CAPSULES: [(usize, Option<u64>); 2] = [(1, None), (1, Some(4660))];
 
+/// Asserts the capsules in the last item of a row.
+fn check_capsules<R: Abort>(rt: &R, alloc: Global, row: &Row, wanted: (usize, Option<u64>)) {
+    let (kind, bytes, open, _, _, shows) = *row;
+    let found = inspect(alloc, kind, bytes, open).expect(rt, "memory");
+    same(rt, capsules_in(&found), wanted, shows);
+}
+
 #[test]
-fn capsules_are_found(rt: HostRuntime) -> Result<(), Fail> {
+fn capsules_are_found(rt: HostRuntime) {
     for (row, wanted) in STREAMS.iter().zip(CAPSULES.iter()) {
-        let (kind, bytes, open, _, _, shows) = *row;
-        let found = inspect(rt.alloc(), kind, bytes, open)?;
-        same(&rt, capsules_in(&found), *wanted, shows);
+        check_capsules(&rt, rt.alloc(), row, *wanted);
     }
-    Ok(())
 }

@@ -5,14 +5,13 @@ use crate::same::same;
 use json::{Reader, Scratch, Token, is_valid};
 use std::alloc::{AllocError, Global};
 use std::process::Abort;
-use std::test::Fail;
 use wt_inspection::{Recorded, inspect};
 use wt_inspection_views::html::write_html;
 use wt_inspection_views::json_lines::write_json;
 use wt_inspection_views::text::write_text;
 
 /// Bytes, what was recorded, whether more may follow, and whether payload is shown.
-type Given = (&'static [u8], Recorded, bool, bool);
+type Given<'a> = (&'a [u8], Recorded, bool, bool);
 
 /// What is shown of bytes.
 #[derive(Drop)]
@@ -23,7 +22,7 @@ struct Shown {
 }
 
 /// Shows bytes in each form.
-fn show_once(alloc: Global, given: Given) -> Result<Shown, AllocError> {
+fn show_once(alloc: Global, given: Given<'_>) -> Result<Shown, AllocError> {
     let (bytes, kind, open, payload) = given;
     let found = inspect(alloc, kind, bytes, open)?;
     Ok(Shown {
@@ -34,7 +33,7 @@ fn show_once(alloc: Global, given: Given) -> Result<Shown, AllocError> {
 }
 
 /// Shows bytes in each form, and once more where memory was refused.
-fn show_again(alloc: Global, given: Given) -> Result<Shown, AllocError> {
+fn show_again(alloc: Global, given: Given<'_>) -> Result<Shown, AllocError> {
     match show_once(alloc, given) {
         Ok(shown) => Ok(shown),
         Err(AllocError) => show_once(alloc, given),
@@ -48,7 +47,7 @@ fn text_in(bytes: &[u8]) -> &str {
 
 /// What is given, the text, the JSON, a part of the page, and what the row shows.
 type Row = (
-    Given,
+    Given<'static>,
     &'static str,
     &'static str,
     &'static str,
@@ -198,14 +197,14 @@ static ROWS: [Row; 9] = [
 ];
 
 /// Returns whether each of these lines is JSON.
-fn are_json(alloc: Global, lines: &str) -> Result<bool, AllocError> {
+fn are_json<R: Abort>(rt: &R, alloc: Global, lines: &str) -> bool {
     let mut scratch = Scratch::new(alloc);
     for line in lines.lines() {
-        if !is_valid(line, &mut scratch)? {
-            return Ok(false);
+        if !is_valid(line, &mut scratch).expect(rt, "memory") {
+            return false;
         }
     }
-    Ok(true)
+    true
 }
 
 /// Returns whether a page has these bytes.
@@ -214,9 +213,9 @@ fn has_part(page: &[u8], part: &[u8]) -> bool {
 }
 
 /// Asserts what is shown of a row.
-fn check_row<R: Abort>(rt: &R, alloc: Global, row: &Row) -> Result<(), AllocError> {
+fn check_row<R: Abort>(rt: &R, alloc: Global, row: &Row) {
     let (given, text, lines, part, shows) = *row;
-    let shown = show_again(alloc, given)?;
+    let shown = show_again(alloc, given).expect(rt, "memory");
     same(rt, shown.text.as_str(), text, shows);
     same(rt, text_in(shown.lines.as_slice()), lines, shows);
     same(
@@ -225,21 +224,13 @@ fn check_row<R: Abort>(rt: &R, alloc: Global, row: &Row) -> Result<(), AllocErro
         true,
         shows,
     );
-    Ok(())
-}
-
-/// Asserts what is shown of each row.
-fn check_rows<R: Abort>(rt: &R, alloc: Global, rows: &[Row]) -> Result<(), AllocError> {
-    for row in rows {
-        check_row(rt, alloc, row)?;
-    }
-    Ok(())
 }
 
 #[test]
-fn each_kind_is_shown_past_refused_memory(rt: HostRuntime) -> Result<(), Fail> {
-    check_rows(&rt, rt.alloc(), &ROWS)?;
-    Ok(())
+fn each_kind_is_shown_past_refused_memory(rt: HostRuntime) {
+    for row in &ROWS {
+        check_row(&rt, rt.alloc(), row);
+    }
 }
 
 /// A section of a field `x`, the value as the text has it, the key of what JSON has of it, which is
@@ -289,59 +280,50 @@ fn last_words<'a>(reader: &mut Reader<'a>) -> (&'a str, &'a str) {
 }
 
 /// Asserts what a reader of JSON finds last in the first of these lines, and that each is JSON.
-fn check_lines<R: Abort>(
-    rt: &R,
-    alloc: Global,
-    lines: &str,
-    wanted: (&str, &str),
-) -> Result<(), AllocError> {
-    same(rt, are_json(alloc, lines)?, true, wanted.1);
+fn check_lines<R: Abort>(rt: &R, alloc: Global, lines: &str, wanted: (&str, &str)) {
+    same(rt, are_json(rt, alloc, lines), true, wanted.1);
     let mut scratch = Scratch::new(alloc);
     let line = lines.lines().next().unwrap_or("");
-    let mut reader = Reader::new(line, &mut scratch)?;
-    let (key, text) = last_words(&mut reader);
-    same(rt, key, wanted.0, wanted.1);
-    same(rt, text, wanted.1, wanted.1);
-    Ok(())
+    let mut reader = Reader::new(line, &mut scratch).expect(rt, "memory");
+    same(rt, last_words(&mut reader), wanted, wanted.1);
 }
 
 /// Asserts what the text and a reader of JSON have of a value.
-fn check_value<R: Abort>(rt: &R, alloc: Global, row: &ValueRow) -> Result<(), AllocError> {
+fn check_value<R: Abort>(rt: &R, alloc: Global, row: &ValueRow) {
     let (bytes, text, key, value) = *row;
-    let shown = show_once(alloc, (bytes, Recorded::Section, false, false))?;
+    let given = (bytes, Recorded::Section, false, false);
+    let shown = show_once(alloc, given).expect(rt, "memory");
     let line = shown.text.as_str().lines().nth(1).unwrap_or("");
     same(rt, line.strip_prefix("        x = "), Some(text), text);
-    check_lines(rt, alloc, text_in(shown.lines.as_slice()), (key, value))
+    check_lines(rt, alloc, text_in(shown.lines.as_slice()), (key, value));
 }
 
 #[test]
-fn values_are_shown_as_text(rt: HostRuntime) -> Result<(), Fail> {
+fn values_are_shown_as_text(rt: HostRuntime) {
     for row in &VALUES {
-        check_value(&rt, rt.alloc(), row)?;
+        check_value(&rt, rt.alloc(), row);
     }
-    Ok(())
 }
 
 /// The number of bytes of a long name.
 const LONG: usize = 61_440;
 
 /// Returns a section of a field with a long name and no value (RFC 9204, section 4.5.6).
-fn long_section(alloc: Global) -> Result<Vec<u8>, AllocError> {
-    let mut bytes = Vec::new(alloc);
+fn long_section<R: Abort>(rt: &R, alloc: Global) -> Vec<u8> {
     // 61440 is 7 and 61433, which is 121 + 95 * 128 + 3 * 128 * 128.
-    bytes.extend_from_slice(b"\x00\x00\x27\xf9\xdf\x03")?;
-    bytes.resize(6 + LONG, b'n')?;
-    bytes.push(0)?;
-    Ok(bytes)
+    let head = b"\x00\x00\x27\xf9\xdf\x03";
+    let mut bytes = Vec::from_slice(alloc, head).expect(rt, "memory");
+    bytes.resize(6 + LONG, b'n').expect(rt, "memory");
+    bytes.push(0).expect(rt, "memory");
+    bytes
 }
 
 #[test]
-fn a_long_name_is_shown(rt: HostRuntime) -> Result<(), Fail> {
-    let alloc = rt.alloc();
-    let bytes = long_section(alloc)?;
-    let found = inspect(alloc, Recorded::Section, bytes.as_slice(), false)?;
-    let text = write_text(alloc, &found, bytes.as_slice(), false)?;
-    let line = text.as_str().lines().nth(1).unwrap_or("");
+fn a_long_name_is_shown(rt: HostRuntime) {
+    let bytes = long_section(&rt, rt.alloc());
+    let given = (bytes.as_slice(), Recorded::Section, false, false);
+    let shown = show_once(rt.alloc(), given).expect(&rt, "memory");
+    let line = shown.text.as_str().lines().nth(1).unwrap_or("");
     same(
         &rt,
         line.len(),
@@ -354,12 +336,6 @@ fn a_long_name_is_shown(rt: HostRuntime) -> Result<(), Fail> {
         LONG,
         "the name",
     );
-    let lines = write_json(alloc, &found, bytes.as_slice(), false)?;
-    same(
-        &rt,
-        are_json(alloc, text_in(lines.as_slice()))?,
-        true,
-        "lines",
-    );
-    Ok(())
+    let lines = text_in(shown.lines.as_slice());
+    same(&rt, are_json(&rt, rt.alloc(), lines), true, "lines");
 }
