@@ -1,7 +1,6 @@
 //! Capsules found in bytes that the caller holds, however they are cut.
-use crate::capsule_readings::{Ending, RECORDED, ROWS, Row};
+use crate::capsule_readings::{Ending, RECORDED, ROWS};
 use crate::same::same;
-use std::alloc::{AllocError, Global};
 use std::process::Abort;
 use wtp_wire::capsule::{CapsuleCursor, CapsuleStep};
 
@@ -19,19 +18,19 @@ impl<'a> Coming<'a> {
         self.data.get(self.consumed..come).unwrap_or(&[])
     }
 
-    /// The value of the next capsule, or whether the next value is too long.
-    fn next(&mut self, come: usize) -> Result<Option<&'a [u8]>, Ending> {
+    /// The value of the next capsule, or that the next value is too long; `None` for neither.
+    fn next(&mut self, come: usize) -> Option<Result<&'a [u8], Ending>> {
         let held = self.held(come);
         match self.cursor.next(held) {
             CapsuleStep::Capsule(place) => {
                 self.consumed = self.consumed.saturating_add(place.end);
-                Ok(Some(place.value(held)))
+                Some(Ok(place.value(held)))
             }
             CapsuleStep::More(n) => {
                 self.consumed = self.consumed.saturating_add(n);
-                Ok(None)
+                None
             }
-            CapsuleStep::TooLong => Err(Ending::TooLong),
+            CapsuleStep::TooLong => Some(Err(Ending::TooLong)),
         }
     }
 
@@ -45,12 +44,12 @@ impl<'a> Coming<'a> {
 
     /// The next value and, if there is none, the ending. The data comes in two pieces.
     fn step(&mut self, cut: usize) -> Result<&'a [u8], Ending> {
-        if let Some(value) = self.next(cut)? {
-            return Ok(value);
-        }
-        match self.next(self.data.len())? {
-            Some(value) => Ok(value),
-            None => Err(self.finish()),
+        match self.next(cut) {
+            Some(found) => found,
+            None => match self.next(self.data.len()) {
+                Some(found) => found,
+                None => Err(self.finish()),
+            },
         }
     }
 }
@@ -88,25 +87,11 @@ fn check_cuts<R: Abort>(
     }
 }
 
-/// Asserts it of each row.
-fn check_rows<R: Abort>(rt: &R, rows: &[Row]) {
-    for (data, values, ending, shows) in rows {
-        check_cuts(rt, data, values, *ending, shows);
-    }
-}
-
 #[test]
 fn held_data_may_be_cut_anywhere(rt: HostRuntime) {
-    check_rows(&rt, &ROWS);
-}
-
-/// The payloads, one after the other.
-fn join(alloc: Global, pieces: &[&[u8]]) -> Result<Vec<u8>, AllocError> {
-    let mut data = Vec::new(alloc);
-    for piece in pieces {
-        data.extend_from_slice(piece)?;
+    for (data, values, ending, shows) in &ROWS {
+        check_cuts(&rt, data, values, *ending, shows);
     }
-    Ok(data)
 }
 
 /// Asserts the close in the payloads, cut at each place.
@@ -115,16 +100,17 @@ fn check_close<R: Abort + AllocGlobal>(
     pieces: &[&[u8]],
     value: &'static [u8],
     shows: &str,
-) -> Result<(), AllocError> {
-    let data = join(rt.alloc(), pieces)?;
+) {
+    let mut data = Vec::new(rt.alloc());
+    for piece in pieces {
+        data.extend_from_slice(piece).expect(rt, "memory");
+    }
     check_cuts(rt, data.as_slice(), &[value], Ending::Clean, shows);
-    Ok(())
 }
 
 #[test]
-fn recorded_closes_may_be_cut_anywhere(rt: HostRuntime) -> Result<(), AllocError> {
+fn recorded_closes_may_be_cut_anywhere(rt: HostRuntime) {
     for (pieces, value, shows) in &RECORDED {
-        check_close(&rt, pieces, value, shows)?;
+        check_close(&rt, pieces, value, shows);
     }
-    Ok(())
 }

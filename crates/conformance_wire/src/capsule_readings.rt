@@ -388,6 +388,6 @@ fn made_reasons_have_a_limit_past_refused_memory(rt: HostRuntime) {
     let over = close(&rt, 0, text).err();
     same(&rt, over, Some(CapsuleError::TooLong), "1025 bytes");
     let text = str::from_utf8(&letters[..1024]).unwrap_or("");
-    let size = close(&rt, 0, text).ok().map(|close| close.write_size());
-    same(&rt, size, Some(1032), "1024 bytes");
+    let close = close(&rt, 0, text).expect(&rt, "1024 bytes");
+    same(&rt, close.write_size(), 1032, "1024 bytes");
 }

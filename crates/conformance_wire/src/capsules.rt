@@ -1,11 +1,20 @@
 //! Worked rows of capsules, and what stands where memory is refused.
 use crate::same::same;
+use std::alloc::Global;
 use std::borrow::CowSlice;
 use std::process::Abort;
 use wtp_core::error::{ErrorCode, Refused};
 use wtp_wire::capsule::capsules::CloseWebTransportSession;
 use wtp_wire::capsule::{Capsule, CapsuleKind, capsule_types};
 use wtp_wire::frame::Frame;
+
+/// What closing by this capsule answers, or `None` for no capsule.
+fn close_of(
+    alloc: Global,
+    capsule: Option<Capsule<'_>>,
+) -> Option<Result<CloseWebTransportSession, Refused>> {
+    Some(CloseWebTransportSession::with_capsule(alloc, &capsule?))
+}
 
 /// What closing by this payload of a DATA frame answers, or `None` for no capsule.
 fn read<R: Abort + AllocGlobal>(
@@ -14,8 +23,7 @@ fn read<R: Abort + AllocGlobal>(
 ) -> Option<Result<CloseWebTransportSession, Refused>> {
     assert!(rt; payload.len() < 2048);
     let frame = Frame::new_data(CowSlice::Borrowed(payload));
-    let capsule = Capsule::with_frame(&frame)?;
-    Some(CloseWebTransportSession::with_capsule(rt.alloc(), &capsule))
+    close_of(rt.alloc(), Capsule::with_frame(&frame))
 }
 
 /// As `read`; a second time where memory was refused.
@@ -47,12 +55,19 @@ fn check<R: Abort + AllocGlobal>(
     }
 }
 
-/// The kind and the length of the payload of a capsule in this payload of a DATA frame.
-fn parts<R: Abort>(rt: &R, payload: &[u8]) -> Option<(CapsuleKind, usize)> {
+/// Asserts the kind and the length of the payload of the close capsule in this payload of a DATA
+/// frame.
+fn check_close<R: Abort>(rt: &R, payload: &[u8], len: usize, shows: &str) {
     assert!(rt; payload.len() < 2048);
     let frame = Frame::new_data(CowSlice::Borrowed(payload));
-    let capsule = Capsule::with_frame(&frame)?;
-    Some((capsule.kind(), capsule.payload().len()))
+    let capsule = Capsule::with_frame(&frame).expect(rt, "a capsule");
+    let came = (capsule.kind(), capsule.payload().len());
+    same(
+        rt,
+        came,
+        (CapsuleKind::CloseWebTransportSession, len),
+        shows,
+    );
 }
 
 /// Payloads that close a session, the code, the reason, and what the row shows.
@@ -130,8 +145,7 @@ fn long_payload(head: &[u8; 8]) -> [u8; 1033] {
 #[test]
 fn reasons_have_a_limit_past_refused_memory(rt: HostRuntime) {
     let fits = long_payload(&[0x68, 0x43, 0x44, 0x04, 0x00, 0x00, 0x00, 0x00]);
-    let kind = CapsuleKind::CloseWebTransportSession;
-    same(&rt, parts(&rt, &fits), Some((kind, 1028)), "a byte follows");
+    check_close(&rt, &fits, 1028, "a byte follows");
     let reason = &fits[8..1032];
     check(&rt, &fits[..1032], Some(Ok((0, reason))), "1024 bytes");
     let over = long_payload(&[0x68, 0x43, 0x44, 0x05, 0x00, 0x00, 0x00, 0x00]);

@@ -2,10 +2,10 @@
 use crate::same::same;
 use crate::texts::has_text;
 use std::borrow::CowSlice;
+use std::fmt::Display;
 use std::process::Abort;
-use std::test::Fail;
 use wtp_core::bytes::{BufferReader, BufferWriter, BytesWriter, EndOfBuffer, PutError};
-use wtp_core::ids::{InvalidSessionId, SessionId, StreamId};
+use wtp_core::ids::{SessionId, StreamId};
 use wtp_core::varint::VarInt;
 use wtp_wire::frame::{Frame, FrameKind, ParseError, frame_kind_ids};
 
@@ -48,13 +48,6 @@ fn other_numbers_are_no_kind(rt: HostRuntime) {
 
 /// What is read from bytes.
 type Outcome<'a> = Result<Option<Frame<'a>>, ParseError>;
-
-/// What is read from these bytes by a reader, and where that reader is then.
-fn from_reader<'a>(bytes: &'a [u8]) -> (Outcome<'a>, usize) {
-    let mut reader = BufferReader::new(bytes);
-    let outcome = Frame::read_from_buffer(&mut reader);
-    (outcome, reader.offset())
-}
 
 /// What is read from these bytes, and the bytes that are left.
 fn from_slice<'a>(bytes: &'a [u8]) -> (Outcome<'a>, &'a [u8]) {
@@ -99,8 +92,11 @@ fn parts<'f>(frame: &'f Frame<'_>) -> (u64, &'f [u8]) {
     (frame.kind().id().into_inner(), frame.payload())
 }
 
+/// What is read, with the number and the payload of the frame.
+type Parts<'f> = Result<Option<(u64, &'f [u8])>, &'f ParseError>;
+
 /// What is read, with the frame as its parts.
-fn by_parts<'f>(outcome: &'f Outcome<'_>) -> Result<Option<(u64, &'f [u8])>, &'f ParseError> {
+fn by_parts<'f>(outcome: &'f Outcome<'_>) -> Parts<'f> {
     match outcome {
         Ok(Some(frame)) => Ok(Some(parts(frame))),
         Ok(None) => Ok(None),
@@ -108,48 +104,41 @@ fn by_parts<'f>(outcome: &'f Outcome<'_>) -> Result<Option<(u64, &'f [u8])>, &'f
     }
 }
 
-/// Asserts that this is a frame of this number and payload.
-fn check_frame<R: Abort>(rt: &R, outcome: &Outcome<'_>, wanted: (u64, &[u8]), word: &str) {
-    same(rt, by_parts(outcome), Ok(Some(wanted)), word);
+/// Asserts what is read from these bytes by a reader, and where that reader is then.
+fn check_reader<R: Abort, S: Display + Drop>(
+    rt: &R,
+    bytes: &[u8],
+    wanted: Parts<'_>,
+    offset: usize,
+    word: S,
+) {
+    let mut reader = BufferReader::new(bytes);
+    let outcome = Frame::read_from_buffer(&mut reader);
+    let came = (by_parts(&outcome), reader.offset());
+    same(rt, came, (wanted, offset), word);
 }
 
-/// Asserts that the frame of a row is read, by a reader and from a slice, and how far.
-fn check_read<R: Abort>(rt: &R, row: &ReadRow) {
-    let (bytes, number, payload, size, word) = *row;
-    let (outcome, offset) = from_reader(bytes);
-    check_frame(rt, &outcome, (number, payload), word);
+/// Asserts what is read from these bytes as a slice, and how many of them.
+fn check_from_slice<R: Abort>(rt: &R, bytes: &[u8], wanted: Parts<'_>, size: usize, word: &str) {
     let (outcome, rest) = from_slice(bytes);
-    check_frame(rt, &outcome, (number, payload), word);
-    same(rt, (offset, Some(rest)), (size, bytes.get(size..)), word);
-}
-
-/// Asserts it of each row.
-fn check_all_read<R: Abort>(rt: &R, rows: &[ReadRow]) {
-    for row in rows {
-        check_read(rt, row);
-    }
+    let came = (by_parts(&outcome), Some(rest));
+    same(rt, came, (wanted, bytes.get(size..)), word);
 }
 
 #[test]
 fn frames_are_read(rt: HostRuntime) {
-    check_all_read(&rt, &READ);
-}
-
-/// Asserts that these bytes are too few for a frame and that the reader stays.
-fn check_front<R: Abort>(rt: &R, front: &[u8]) {
-    let len = front.len();
-    let (outcome, offset) = from_reader(front);
-    same(rt, offset, 0, len);
-    match outcome {
-        Ok(frame) => same(rt, frame.is_none(), true, len),
-        Err(fault) => same(rt, Some(fault), None, len),
+    for (bytes, number, payload, size, word) in &READ {
+        let wanted = Ok(Some((*number, *payload)));
+        check_reader(&rt, bytes, wanted, *size, *word);
+        check_from_slice(&rt, bytes, wanted, *size, word);
     }
 }
 
-/// Asserts it of each front of the bytes of a frame.
+/// Asserts of each front of the bytes of a frame that it is too short for a frame and that the
+/// reader stays.
 fn check_fronts<R: Abort>(rt: &R, frame: &[u8]) {
     for len in 0..frame.len() {
-        check_front(rt, frame.get(..len).unwrap_or(&[]));
+        check_reader(rt, frame.get(..len).unwrap_or(&[]), Ok(None), 0, len);
     }
 }
 
@@ -196,30 +185,13 @@ static FAULTS: [FaultRow; 5] = [
     ),
 ];
 
-/// Asserts that the fault of a row is answered by a reader, which stays.
-fn check_fault_by_reader<R: Abort>(rt: &R, row: &FaultRow) {
-    let (outcome, offset) = from_reader(row.0);
-    same(rt, (by_parts(&outcome), offset), (Err(&row.1), 0), row.3);
-}
-
-/// Asserts that the fault of a row is answered from a slice, and how far.
-fn check_fault_from_slice<R: Abort>(rt: &R, row: &FaultRow) {
-    let (outcome, rest) = from_slice(row.0);
-    let wanted = (true, row.0.get(row.2..));
-    same(rt, (outcome.is_err(), Some(rest)), wanted, row.3);
-}
-
-/// Asserts it of each row.
-fn check_faults<R: Abort>(rt: &R, rows: &[FaultRow]) {
-    for row in rows {
-        check_fault_by_reader(rt, row);
-        check_fault_from_slice(rt, row);
-    }
-}
-
+/// A reader stays before a fault, and a slice goes past it.
 #[test]
 fn faults_are_named(rt: HostRuntime) {
-    check_faults(&rt, &FAULTS);
+    for (bytes, fault, size, word) in &FAULTS {
+        check_reader(&rt, bytes, Err(fault), 0, *word);
+        check_from_slice(&rt, bytes, Err(fault), *size, word);
+    }
 }
 
 /// Asserts that the frame is written as these bytes into a vector, and that its size is theirs.
@@ -251,72 +223,61 @@ fn check_alike<R: Abort>(rt: &R, read: &Frame<'_>, frame: &Frame<'_>, word: &str
 fn check_read_back<R: Abort>(rt: &R, frame: &Frame<'_>, bytes: &[u8], word: &str) {
     let (outcome, rest) = from_slice(bytes);
     same(rt, rest.len(), 0, word);
-    match &outcome {
-        Ok(Some(read)) => check_alike(rt, read, frame, word),
-        _ => panic!(rt; "{word}: what was written is no frame"),
-    }
+    let read = outcome.expect(rt, word).expect(rt, word);
+    check_alike(rt, &read, frame, word);
 }
 
 /// Asserts that the frame is written as these bytes, and read back from them.
-fn check_written<R: Abort + AllocGlobal>(rt: &R, frame: &Frame<'_>, bytes: &[u8], word: &str) {
-    check_vector(rt, frame, bytes, word);
-    check_slice(rt, frame, bytes, word);
-    check_read_back(rt, frame, bytes, word);
+fn check_written<R: Abort + AllocGlobal>(rt: &R, frame: Frame<'_>, bytes: &[u8], word: &str) {
+    check_vector(rt, &frame, bytes, word);
+    check_slice(rt, &frame, bytes, word);
+    check_read_back(rt, &frame, bytes, word);
 }
 
 /// Asserts how the frame is written that opens a stream of the session of this number.
-fn check_opening<R: Abort + AllocGlobal>(
-    rt: &R,
-    number: u32,
-    bytes: &[u8],
-) -> Result<(), InvalidSessionId> {
+fn check_opening<R: Abort + AllocGlobal>(rt: &R, number: u32, bytes: &[u8]) {
     let stream = StreamId::new(VarInt::from_u32(number));
-    let frame = Frame::new_webtransport(SessionId::try_from_session_stream(stream)?);
-    check_written(rt, &frame, bytes, "opening");
-    Ok(())
+    let session = SessionId::try_from_session_stream(stream).expect(rt, "a session");
+    check_written(rt, Frame::new_webtransport(session), bytes, "opening");
 }
 
 #[test]
 fn headers_are_written(rt: HostRuntime) {
     let headers = Frame::new_headers(CowSlice::Borrowed(&[0, 0]));
-    check_written(&rt, &headers, &[0x01, 0x02, 0, 0], "headers");
+    check_written(&rt, headers, &[0x01, 0x02, 0, 0], "headers");
 }
 
 #[test]
 fn settings_are_written(rt: HostRuntime) {
     let settings = Frame::new_settings(CowSlice::Borrowed(&[0x33, 1]));
-    check_written(&rt, &settings, &[0x04, 0x02, 0x33, 1], "settings");
+    check_written(&rt, settings, &[0x04, 0x02, 0x33, 1], "settings");
 }
 
 #[test]
 fn an_exercise_frame_is_written(rt: HostRuntime) {
     let id = VarInt::from_u32(0x21);
     let exercise = Frame::new_exercise(id, CowSlice::Borrowed(b"Payload"));
-    check_written(&rt, &exercise, b"\x21\x07Payload", "exercise");
+    check_written(&rt, exercise, b"\x21\x07Payload", "exercise");
 }
 
 #[test]
 fn empty_data_is_written(rt: HostRuntime) {
     let data = Frame::new_data(CowSlice::Borrowed(&[]));
-    check_written(&rt, &data, &[0x00, 0x00], "data");
+    check_written(&rt, data, &[0x00, 0x00], "data");
 }
 
 #[test]
-fn openings_are_written(rt: HostRuntime) -> Result<(), InvalidSessionId> {
-    check_opening(&rt, 4, &[0x40, 0x41, 0x04])?;
-    check_opening(&rt, 0, &[0x40, 0x41, 0x00])
+fn openings_are_written(rt: HostRuntime) {
+    check_opening(&rt, 4, &[0x40, 0x41, 0x04]);
+    check_opening(&rt, 0, &[0x40, 0x41, 0x00]);
 }
 
 #[test]
 fn a_longer_encoding_is_written_in_the_shortest(rt: HostRuntime) {
     let bytes = b"\xc0\0\0\0\0\0\0\0\xc0\0\0\0\0\0\0\x01a";
     let (outcome, _rest) = from_slice(bytes);
-    match &outcome {
-        Ok(Some(frame)) => {
-            check_written(&rt, frame, &[0x00, 0x01, 0x61], "two of eight bytes each");
-        }
-        _ => panic!(rt; "no frame"),
-    }
+    let frame = outcome.expect(&rt, "no fault").expect(&rt, "a frame");
+    check_written(&rt, frame, &[0x00, 0x01, 0x61], "two of eight bytes each");
 }
 
 /// A DATA frame with a payload of 64 bytes.
@@ -327,20 +288,17 @@ const LONG: &[u8; 67] =
 fn a_length_of_64_takes_two_bytes(rt: HostRuntime) {
     let payload = [b'7'; 64];
     let frame = Frame::new_data(CowSlice::Borrowed(&payload));
-    check_written(&rt, &frame, LONG, "64 bytes");
+    check_written(&rt, frame, LONG, "64 bytes");
 }
 
-/// Asserts that a frame does not fit, and that nothing of it is written.
-fn check_nothing<R: Abort>(rt: &R, frame: &Frame<'_>, writer: &mut BufferWriter<'_>, room: usize) {
-    let outcome = frame.write_to_buffer(writer);
+/// Asserts that so little room is answered, that nothing is written by the first call, and whole
+/// parts by the second.
+fn check_room<R: Abort>(rt: &R, frame: &Frame<'_>, room: usize, written: &[u8]) {
+    assert!(rt; room <= 8);
+    let mut buffer = [0; 8];
+    let mut writer = BufferWriter::new(&mut buffer[..room]);
+    let outcome = frame.write_to_buffer(&mut writer);
     same(rt, (outcome, writer.offset()), (Err(EndOfBuffer), 0), room);
-}
-
-/// Asserts that so little room is answered, and that whole parts are written by the second call.
-fn check_room<R: Abort>(rt: &R, frame: &Frame<'_>, buffer: &mut [u8], written: &[u8]) {
-    let room = buffer.len();
-    let mut writer = BufferWriter::new(buffer);
-    check_nothing(rt, frame, &mut writer, room);
     let outcome = frame.write(&mut writer);
     let wanted = (Err(PutError::EndOfBuffer), written);
     same(rt, (outcome, writer.buffer_written()), wanted, room);
@@ -351,10 +309,10 @@ fn check_room<R: Abort>(rt: &R, frame: &Frame<'_>, buffer: &mut [u8], written: &
 fn too_little_room_keeps_whole_parts(rt: HostRuntime) {
     let id = VarInt::from_u32(0x21);
     let frame = Frame::new_exercise(id, CowSlice::Borrowed(b"Payload"));
-    check_room(&rt, &frame, &mut [], b"");
-    check_room(&rt, &frame, &mut [0; 1], b"\x21");
-    check_room(&rt, &frame, &mut [0; 2], b"\x21\x07");
-    check_room(&rt, &frame, &mut [0; 8], b"\x21\x07");
+    check_room(&rt, &frame, 0, b"");
+    check_room(&rt, &frame, 1, b"\x21");
+    check_room(&rt, &frame, 2, b"\x21\x07");
+    check_room(&rt, &frame, 8, b"\x21\x07");
 }
 
 /// Asserts that a refusal of memory left whole parts of a DATA frame of 100 bytes.
@@ -403,12 +361,11 @@ fn refused_memory_keeps_whole_parts(rt: HostRuntime) {
 }
 
 #[test]
-fn parse_errors_are_printed(rt: HostRuntime) -> Result<(), Fail> {
+fn parse_errors_are_printed(rt: HostRuntime) {
     let unknown = "cannot parse HTTP3 frame as ID is unknown";
-    has_text(&rt, &ParseError::UnknownFrame, unknown)?;
+    has_text(&rt, &ParseError::UnknownFrame, unknown);
     let invalid = "cannot parse HTTP3 frame as session ID is invalid";
-    has_text(&rt, &ParseError::InvalidSessionId, invalid)?;
+    has_text(&rt, &ParseError::InvalidSessionId, invalid);
     let too_big = "cannot parse HTTP3 frame as payload limit is reached";
-    has_text(&rt, &ParseError::PayloadTooBig, too_big)?;
-    Ok(())
+    has_text(&rt, &ParseError::PayloadTooBig, too_big);
 }

@@ -1,10 +1,9 @@
 //! What frames, datagrams and the states of polled reading and writing print for debugging.
 
 use crate::texts::prints;
-use std::alloc::{AllocError, Global};
+use std::alloc::Global;
 use std::borrow::CowSlice;
 use std::process::Abort;
-use std::test::Fail;
 use wtp_core::bytes::Polled;
 use wtp_core::ids::{QStreamId, SessionId};
 use wtp_core::varint::VarInt;
@@ -13,19 +12,18 @@ use wtp_wire::frame::{Frame, FrameOwned, FrameReading, IoReadError};
 use wtp_wire::stream_header::StreamHeader;
 
 /// Asserts what a frame of data prints.
-fn check_data<R: Abort + AllocGlobal>(rt: &R) -> Result<(), AllocError> {
+fn check_data<R: Abort + AllocGlobal>(rt: &R) {
     let data = Frame::new_data(CowSlice::Borrowed(&[1, 255]));
     let text = "Frame { kind: Data, payload: [1, 255], session_id: None }";
-    prints(rt, &data, text, "data")
+    prints(rt, &data, text, "data");
 }
 
 #[test]
-fn frames_are_printed(rt: HostRuntime) -> Result<(), Fail> {
-    check_data(&rt)?;
-    let session = SessionId::try_from_varint(VarInt::from_u32(4))?;
+fn frames_are_printed(rt: HostRuntime) {
+    check_data(&rt);
+    let session = SessionId::try_from_varint(VarInt::from_u32(4)).expect(&rt, "a session");
     let text = "Frame { kind: WebTransport, payload: [], session_id: Some(4) }";
-    prints(&rt, &Frame::new_webtransport(session), text, "a session")?;
-    Ok(())
+    prints(&rt, &Frame::new_webtransport(session), text, "a session");
 }
 
 /// What a poll of a reading of a frame answers.
@@ -38,43 +36,43 @@ fn answer(alloc: Global) -> Answer {
 }
 
 #[test]
-fn answers_are_printed(rt: HostRuntime) -> Result<(), AllocError> {
+fn answers_are_printed(rt: HostRuntime) {
     let text = "Ready(Ok(Frame { kind: Headers, payload: [7], session_id: None }))";
-    prints(&rt, &answer(rt.alloc()), text, "a frame")?;
+    prints(&rt, &answer(rt.alloc()), text, "a frame");
     let waiting: Answer = Polled::Pending;
-    prints(&rt, &waiting, "Pending", "no answer yet")
+    prints(&rt, &waiting, "Pending", "no answer yet");
 }
 
 /// Asserts what the state of reading a frame prints.
-fn check_reading<R: Abort + AllocGlobal>(rt: &R) -> Result<(), AllocError> {
+fn check_reading<R: Abort + AllocGlobal>(rt: &R) {
     let text = "FrameReading { head_bytes: 0, payload_bytes: 0, due_bytes: 0, .. }";
-    prints(rt, &Frame::read_async(rt.alloc()), text, "reading a frame")
+    prints(rt, &Frame::read_async(rt.alloc()), text, "reading a frame");
 }
 
 /// Asserts what the state of writing a frame prints.
-fn check_writing<R: Abort + AllocGlobal>(rt: &R) -> Result<(), AllocError> {
+fn check_writing<R: Abort + AllocGlobal>(rt: &R) {
     let frame = Frame::new_data(CowSlice::Borrowed(&[7]));
     let text = "FrameWriting { head_sent: 0, payload_sent: 0, .. }";
-    prints(rt, &frame.write_async(), text, "writing a frame")
+    prints(rt, &frame.write_async(), text, "writing a frame");
 }
 
 /// Asserts what a stream header and the states of reading and of writing it print.
-fn check_headers<R: Abort + AllocGlobal>(rt: &R) -> Result<(), AllocError> {
+fn check_headers<R: Abort + AllocGlobal>(rt: &R) {
     let text = "HeaderReading { bytes: 0, .. }";
-    prints(rt, &StreamHeader::read_async(), text, "reading a header")?;
+    prints(rt, &StreamHeader::read_async(), text, "reading a header");
     let header = StreamHeader::new_control();
     let text = "HeaderWriting { sent: 0, .. }";
-    prints(rt, &header.write_async(), text, "writing a header")?;
+    prints(rt, &header.write_async(), text, "writing a header");
     let text = "StreamHeader { kind: Control, session_id: None }";
-    prints(rt, &header, text, "a header")
+    prints(rt, &header, text, "a header");
 }
 
 #[test]
-fn states_are_printed(rt: HostRuntime) -> Result<(), AllocError> {
-    check_reading(&rt)?;
-    check_writing(&rt)?;
-    check_headers(&rt)?;
+fn states_are_printed(rt: HostRuntime) {
+    check_reading(&rt);
+    check_writing(&rt);
+    check_headers(&rt);
     let datagram = Datagram::new(QStreamId::MAX, &[7]);
     let text = "Datagram { qstream_id: 1152921504606846975, payload: [7] }";
-    prints(&rt, &datagram, text, "a datagram")
+    prints(&rt, &datagram, text, "a datagram");
 }

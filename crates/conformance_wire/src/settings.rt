@@ -5,7 +5,6 @@ use crate::texts::has_text;
 use std::alloc::{AllocError, Global};
 use std::borrow::CowSlice;
 use std::process::Abort;
-use std::test::Fail;
 use wtp_core::bytes::{BufferWriter, EndOfBuffer, PutError};
 use wtp_core::error::{ErrorCode, Refused};
 use wtp_core::varint::VarInt;
@@ -91,10 +90,9 @@ pub fn check_frame<R: Abort + AllocGlobal>(
     settings: &Settings,
     payload: &[u8],
     shows: &str,
-) -> Result<(), GenerateError> {
-    let frame = frame_of(rt.alloc(), settings)?;
+) {
+    let frame = frame_of(rt.alloc(), settings).expect(rt, "a frame");
     same(rt, frame.payload(), payload, shows);
-    Ok(())
 }
 
 /// Puts the whole frame into the empty vector; from the start again where memory was refused.
@@ -109,16 +107,10 @@ fn write(frame: &Frame<'_>, out: &mut Vec<u8>) -> Result<(), PutError> {
 }
 
 /// Asserts the bytes of the frame, put into a vector.
-fn check_written<R: Abort + AllocGlobal>(
-    rt: &R,
-    frame: &Frame<'_>,
-    bytes: &[u8],
-    shows: &str,
-) -> Result<(), PutError> {
+fn check_written<R: Abort + AllocGlobal>(rt: &R, frame: &Frame<'_>, bytes: &[u8], shows: &str) {
     let mut whole = Vec::new(rt.alloc());
-    write(frame, &mut whole)?;
+    write(frame, &mut whole).expect(rt, "room");
     same(rt, whole.as_slice(), bytes, shows);
-    Ok(())
 }
 
 /// The payload of `steps`, by rising number.
@@ -154,17 +146,9 @@ static FAULTS: [(&[u8], ErrorCode, &str); 11] = [
     ),
 ];
 
-/// The fault of an answer.
-fn fault_of(read: Result<Settings, Refused>) -> Option<Refused> {
-    match read {
-        Ok(_) => None,
-        Err(fault) => Some(fault),
-    }
-}
-
 /// Asserts the fault of a payload.
 fn check_fault<R: Abort + AllocGlobal>(rt: &R, payload: &[u8], code: ErrorCode, shows: &str) {
-    let fault = fault_of(answer(rt, payload));
+    let fault = answer(rt, payload).err();
     same(rt, fault, Some(Refused::Code(code)), shows);
 }
 
@@ -192,10 +176,9 @@ fn check_value<R: Abort>(
 }
 
 #[test]
-fn unknown_settings_are_ignored_past_refused_memory(rt: HostRuntime) -> Result<(), Fail> {
-    let read = answer(&rt, &[0x0a, 0x01, 0x0a, 0x02])?;
-    check_frame(&rt, &read, &[], "no setting")?;
-    Ok(())
+fn unknown_settings_are_ignored_past_refused_memory(rt: HostRuntime) {
+    let read = answer(&rt, &[0x0a, 0x01, 0x0a, 0x02]).expect(&rt, "settings");
+    check_frame(&rt, &read, &[], "no setting");
 }
 
 /// Asserts the values of settings among which an unknown one came.
@@ -208,10 +191,9 @@ fn check_mixed<R: Abort>(rt: &R, mixed: &Settings) {
 }
 
 #[test]
-fn known_settings_are_kept_past_refused_memory(rt: HostRuntime) -> Result<(), Refused> {
-    let mixed = answer(&rt, &[0x21, 0x05, 0x0a, 0x01, 0x06, 0x07])?;
+fn known_settings_are_kept_past_refused_memory(rt: HostRuntime) {
+    let mixed = answer(&rt, &[0x21, 0x05, 0x0a, 0x01, 0x06, 0x07]).expect(&rt, "settings");
     check_mixed(&rt, &mixed);
-    Ok(())
 }
 
 /// Puts the whole frame into the buffer.
@@ -235,11 +217,10 @@ fn check_in_buffer<R: Abort>(rt: &R, frame: &Frame<'_>) {
 }
 
 /// Asserts the frame of `steps`, put into a buffer and into a vector.
-fn check_whole<R: Abort + AllocGlobal>(rt: &R, settings: &Settings) -> Result<(), Fail> {
-    let frame = frame_of(rt.alloc(), settings)?;
+fn check_whole<R: Abort + AllocGlobal>(rt: &R, settings: &Settings) {
+    let frame = frame_of(rt.alloc(), settings).expect(rt, "a frame");
     check_in_buffer(rt, &frame);
-    check_written(rt, &frame, &WHOLE, "into a vector")?;
-    Ok(())
+    check_written(rt, &frame, &WHOLE, "into a vector");
 }
 
 /// Asserts the payload of the frame of the settings, made in this buffer.
@@ -249,20 +230,15 @@ fn check_lent<R: Abort>(
     buffer: &mut [u8],
     payload: &[u8],
     shows: &str,
-) -> Result<(), EndOfBuffer> {
+) {
     assert!(rt; buffer.len() < 64);
-    let frame = settings.generate_frame_ref(buffer)?;
+    let frame = settings.generate_frame_ref(buffer).expect(rt, "room");
     same(rt, frame.payload(), payload, shows);
-    Ok(())
 }
 
 /// Asserts the payload of `steps`, written alone into a longer buffer.
-fn check_alone<R: Abort>(
-    rt: &R,
-    settings: &Settings,
-    buffer: &mut [u8],
-) -> Result<(), EndOfBuffer> {
-    let size = settings.write_to(buffer)?;
+fn check_alone<R: Abort>(rt: &R, settings: &Settings, buffer: &mut [u8]) {
+    let size = settings.write_to(buffer).expect(rt, "room");
     let came = (size, buffer.get(..20), buffer.get(20..));
     let rest = [0x55; 20];
     let wanted = (20, Some(STEPS.as_slice()), Some(rest.as_slice()));
@@ -272,62 +248,50 @@ fn check_alone<R: Abort>(
         wanted,
         "the payload alone, and what follows stays",
     );
-    Ok(())
 }
 
-/// The settings of `steps` and their values.
-const VALUES: [(SettingId, u64); 5] = [
-    (SettingId::QPackMaxTableCapacity, 2),
-    (SettingId::QPackBlockedStreams, 1),
-    (SettingId::H3Datagram, 1),
-    (SettingId::EnableWebTransport, 1),
-    (SettingId::WebTransportMaxSessions, 3),
-];
-
-/// Asserts the values of settings.
-fn check_values<R: Abort>(rt: &R, settings: &Settings, values: &[(SettingId, u64)]) {
-    for (id, value) in values {
-        check_value(rt, settings, *id, Some(*value), "read back");
-    }
+/// Asserts the values of `steps`.
+fn check_values<R: Abort>(rt: &R, read: &Settings) {
+    let blocked = SettingId::QPackBlockedStreams;
+    let sessions = SettingId::WebTransportMaxSessions;
+    check_value(rt, read, SettingId::QPackMaxTableCapacity, Some(2), "table");
+    check_value(rt, read, blocked, Some(1), "blocked streams");
+    check_value(rt, read, SettingId::H3Datagram, Some(1), "datagrams");
+    check_value(rt, read, SettingId::EnableWebTransport, Some(1), "enabled");
+    check_value(rt, read, sessions, Some(3), "sessions");
 }
 
 #[test]
-fn settings_are_written_by_rising_number_past_refused_memory(rt: HostRuntime) -> Result<(), Fail> {
-    let settings = build(rt.alloc())?;
-    check_whole(&rt, &settings)?;
-    check_lent(&rt, &settings, &mut [0x55; 24], &STEPS, "in a buffer")?;
-    check_alone(&rt, &settings, &mut [0x55; 40])?;
-    Ok(())
+fn settings_are_written_by_rising_number_past_refused_memory(rt: HostRuntime) {
+    let settings = build(rt.alloc()).expect(&rt, "memory");
+    check_whole(&rt, &settings);
+    check_lent(&rt, &settings, &mut [0x55; 24], &STEPS, "in a buffer");
+    check_alone(&rt, &settings, &mut [0x55; 40]);
 }
 
 #[test]
-fn settings_are_read_back_past_refused_memory(rt: HostRuntime) -> Result<(), Refused> {
-    let read = answer(&rt, &STEPS)?;
-    check_values(&rt, &read, &VALUES);
-    Ok(())
+fn settings_are_read_back_past_refused_memory(rt: HostRuntime) {
+    let read = answer(&rt, &STEPS).expect(&rt, "settings");
+    check_values(&rt, &read);
 }
 
 /// A copy of the settings of the connect protocol; a second time where memory was refused, which
 /// leaves them as they were.
-fn copy<R: Abort + AllocGlobal>(rt: &R, connect: &Settings) -> Result<Settings, Fail> {
+fn copy<R: Abort + AllocGlobal>(rt: &R, connect: &Settings) -> Settings {
     match connect.clone(rt.alloc()) {
-        Ok(copy) => Ok(copy),
+        Ok(copy) => copy,
         Err(_) => {
-            check_frame(rt, connect, &[0x08, 0x01], "as before the refusal")?;
-            Ok(connect.clone(rt.alloc())?)
+            check_frame(rt, connect, &[0x08, 0x01], "as before the refusal");
+            connect.clone(rt.alloc()).expect(rt, "memory")
         }
     }
 }
 
 /// Asserts the frame and the value of the settings of the connect protocol.
-fn check_connect<R: Abort + AllocGlobal>(
-    rt: &R,
-    settings: &Settings,
-    shows: &str,
-) -> Result<(), Fail> {
-    let frame = frame_of(rt.alloc(), settings)?;
+fn check_connect<R: Abort + AllocGlobal>(rt: &R, settings: &Settings, shows: &str) {
+    let frame = frame_of(rt.alloc(), settings).expect(rt, "a frame");
     same(rt, frame.payload(), &[0x08, 0x01], shows);
-    check_written(rt, &frame, &[0x04, 0x02, 0x08, 0x01], shows)?;
+    check_written(rt, &frame, &[0x04, 0x02, 0x08, 0x01], shows);
     check_value(
         rt,
         settings,
@@ -335,16 +299,13 @@ fn check_connect<R: Abort + AllocGlobal>(
         Some(1),
         shows,
     );
-    Ok(())
 }
 
 #[test]
-fn a_step_sets_one_setting_past_refused_memory(rt: HostRuntime) -> Result<(), Fail> {
-    let connect = connect(rt.alloc())?;
-    let second = copy(&rt, &connect)?;
-    check_connect(&rt, &connect, "the settings")?;
-    check_connect(&rt, &second, "their copy")?;
-    Ok(())
+fn a_step_sets_one_setting_past_refused_memory(rt: HostRuntime) {
+    let connect = connect(rt.alloc()).expect(&rt, "memory");
+    check_connect(&rt, &copy(&rt, &connect), "their copy");
+    check_connect(&rt, &connect, "the settings");
 }
 
 /// Asserts that the settings do not fit into the buffer, and what it holds after that.
@@ -361,28 +322,25 @@ fn check_short<R: Abort>(
 }
 
 #[test]
-fn a_buffer_may_be_too_short_past_refused_memory(rt: HostRuntime) -> Result<(), Fail> {
-    let settings = datagrams(rt.alloc())?;
+fn a_buffer_may_be_too_short_past_refused_memory(rt: HostRuntime) {
+    let settings = datagrams(rt.alloc()).expect(&rt, "memory");
     let exercise = SettingId::Exercise(SettingId::H3Datagram.id());
     check_value(&rt, &settings, exercise, None, "no exercise setting");
-    check_lent(&rt, &settings, &mut [0x55; 2], &[0x33, 0x01], "enough")?;
+    check_lent(&rt, &settings, &mut [0x55; 2], &[0x33, 0x01], "enough");
     check_short(&rt, &settings, &mut [0x55; 1], &[0x33], "what fits");
-    Ok(())
 }
 
 #[test]
-fn a_longer_buffer_may_be_too_short_past_refused_memory(rt: HostRuntime) -> Result<(), AllocError> {
-    let long = build(rt.alloc())?;
+fn a_longer_buffer_may_be_too_short_past_refused_memory(rt: HostRuntime) {
+    let long = build(rt.alloc()).expect(&rt, "memory");
     let cut = &STEPS[..10];
     check_short(&rt, &long, &mut [0x55; 10], cut, "too short for the value");
     let cut = &[0x01, 0x02, 0x07, 0x01, 0x33, 0x01, 0x55, 0x55, 0x55];
     check_short(&rt, &long, &mut [0x55; 9], cut, "too short for the number");
-    Ok(())
 }
 
 #[test]
-fn faults_have_their_texts_past_refused_memory(rt: HostRuntime) -> Result<(), Fail> {
-    has_text(&rt, &GenerateError::PayloadTooLong, "payload too long")?;
-    has_text(&rt, &GenerateError::Memory, "no memory")?;
-    Ok(())
+fn faults_have_their_texts_past_refused_memory(rt: HostRuntime) {
+    has_text(&rt, &GenerateError::PayloadTooLong, "payload too long");
+    has_text(&rt, &GenerateError::Memory, "no memory");
 }

@@ -4,9 +4,7 @@ use crate::settings::{answer, check_frame};
 use crate::texts::prints;
 use std::alloc::{AllocError, Global};
 use std::process::Abort;
-use std::test::Fail;
-use wtp_core::error::Refused;
-use wtp_core::varint::{VarInt, VarIntBoundsExceeded};
+use wtp_core::varint::VarInt;
 use wtp_wire::settings::{SettingId, Settings, SettingsIter};
 
 /// Numbers, and the names that the standards give them: RFC 9204, section 5; RFC 9114, sections
@@ -38,53 +36,30 @@ static UNKNOWN: [(u64, &str); 8] = [
 ];
 
 /// The setting of a number.
-fn setting_of(number: u64) -> Result<Option<SettingId>, VarIntBoundsExceeded> {
-    Ok(SettingId::parse(VarInt::try_from_u64(number)?))
-}
-
-/// Asserts the name of a setting, and its number.
-fn check_setting<R: Abort + AllocGlobal>(
-    rt: &R,
-    id: SettingId,
-    number: u64,
-    name: &str,
-) -> Result<(), AllocError> {
-    same(rt, id.id().into_inner(), number, name);
-    same(rt, id.to_string(rt.alloc())?.as_str(), name, "its name");
-    Ok(())
-}
-
-/// The setting of a number that has one.
-fn known_setting_of(number: u64) -> Result<SettingId, Fail> {
-    Ok(setting_of(number)?.ok_or("no such setting")?)
+fn setting_of<R: Abort>(rt: &R, number: u64) -> Option<SettingId> {
+    SettingId::parse(VarInt::try_from_u64(number).expect(rt, "a number"))
 }
 
 /// Asserts the name of the setting of a number, and its number.
-fn check_name<R: Abort + AllocGlobal>(rt: &R, number: u64, name: &str) -> Result<(), Fail> {
-    check_setting(rt, known_setting_of(number)?, number, name)?;
-    Ok(())
+fn check_name<R: Abort + AllocGlobal>(rt: &R, number: u64, name: &str) {
+    let id = setting_of(rt, number).expect(rt, "no such setting");
+    same(rt, id.id().into_inner(), number, name);
+    let text = id.to_string(rt.alloc()).expect(rt, "memory");
+    same(rt, text.as_str(), name, "its name");
 }
 
 #[test]
-fn settings_have_their_names(rt: HostRuntime) -> Result<(), Fail> {
+fn settings_have_their_names(rt: HostRuntime) {
     for (number, name) in &NAMES {
-        check_name(&rt, *number, name)?;
+        check_name(&rt, *number, name);
     }
-    Ok(())
-}
-
-/// Asserts that a number has no setting.
-fn check_unknown<R: Abort>(rt: &R, number: u64, shows: &str) -> Result<(), VarIntBoundsExceeded> {
-    same(rt, setting_of(number)?, None, shows);
-    Ok(())
 }
 
 #[test]
-fn other_numbers_have_no_setting(rt: HostRuntime) -> Result<(), Fail> {
+fn other_numbers_have_no_setting(rt: HostRuntime) {
     for (number, shows) in &UNKNOWN {
-        check_unknown(&rt, *number, shows)?;
+        same(&rt, setting_of(&rt, *number), None, shows);
     }
-    Ok(())
 }
 
 /// Payloads of SETTINGS frames, the settings that they set, in ascending order of the numbers, and
@@ -144,24 +119,17 @@ fn check_listed<R: Abort>(rt: &R, settings: &Settings, pairs: &[(u64, u64)], sho
 }
 
 /// Asserts the settings that the payload of a row sets.
-fn check_row<R: Abort + AllocGlobal>(rt: &R, row: &Row) -> Result<(), Refused> {
+fn check_row<R: Abort + AllocGlobal>(rt: &R, row: &Row) {
     let (payload, pairs, shows) = *row;
-    check_listed(rt, &answer(rt, payload)?, pairs, shows);
-    Ok(())
-}
-
-/// Asserts it of each row.
-fn check_rows<R: Abort + AllocGlobal>(rt: &R, rows: &[Row]) -> Result<(), Refused> {
-    for row in rows {
-        check_row(rt, row)?;
-    }
-    Ok(())
+    let settings = answer(rt, payload).expect(rt, shows);
+    check_listed(rt, &settings, pairs, shows);
 }
 
 #[test]
-fn settings_are_listed_past_refused_memory(rt: HostRuntime) -> Result<(), Fail> {
-    check_rows(&rt, &PAYLOADS)?;
-    Ok(())
+fn settings_are_listed_past_refused_memory(rt: HostRuntime) {
+    for row in &PAYLOADS {
+        check_row(&rt, row);
+    }
 }
 
 /// Returns settings with a maximum size of a field section.
@@ -175,28 +143,26 @@ fn limited(alloc: Global) -> Result<Settings, AllocError> {
 }
 
 #[test]
-fn the_size_of_field_sections_is_limited(rt: HostRuntime) -> Result<(), Fail> {
-    let settings = limited(rt.alloc())?;
+fn the_size_of_field_sections_is_limited(rt: HostRuntime) {
+    let settings = limited(rt.alloc()).expect(&rt, "memory");
     check_listed(&rt, &settings, &[(0x06, 16384)], "one setting");
-    check_frame(&rt, &settings, b"\x06\x80\x00\x40\x00", "its payload")?;
-    Ok(())
+    check_frame(&rt, &settings, b"\x06\x80\x00\x40\x00", "its payload");
 }
 
 /// Asserts what a listing prints after its first setting, and what a copy made before has left.
-fn check_left<R: Abort + AllocGlobal>(rt: &R, settings: &Settings) -> Result<(), Fail> {
+fn check_left<R: Abort + AllocGlobal>(rt: &R, settings: &Settings) {
     let mut listed = settings.iter();
-    let left = listed.clone()?;
+    let left = listed.clone().expect(rt, "memory");
     let _ = listed.next();
     same(rt, left.len(), 3, "a copy");
     let text = "{Exercise(33): 5, H3Datagram: 1}";
-    prints(rt, &listed, text, "those that are left")?;
-    Ok(())
+    prints(rt, &listed, text, "those that are left");
 }
 
 #[test]
-fn settings_are_printed(rt: HostRuntime) -> Result<(), Fail> {
-    let settings = answer(&rt, &[0x33, 0x01, 0x21, 0x05, 0x06, 0x07])?;
+fn settings_are_printed(rt: HostRuntime) {
+    let settings = answer(&rt, &[0x33, 0x01, 0x21, 0x05, 0x06, 0x07]).expect(&rt, "settings");
     let text = "Settings({MaxFieldSectionSize: 7, Exercise(33): 5, H3Datagram: 1})";
-    prints(&rt, &settings, text, "settings")?;
-    check_left(&rt, &settings)
+    prints(&rt, &settings, text, "settings");
+    check_left(&rt, &settings);
 }

@@ -2,7 +2,6 @@
 use crate::same::same;
 use crate::texts::has_text;
 use std::process::Abort;
-use std::test::Fail;
 use wtp_core::bytes::{BufferReader, BufferWriter, EndOfBuffer, PutError};
 use wtp_core::ids::SessionId;
 use wtp_core::varint::VarInt;
@@ -46,48 +45,35 @@ fn check<R: Abort>(rt: &R, bytes: &[u8], wanted: Answer, place: usize, shows: &s
 }
 
 /// The session of this number.
-fn session(number: u64) -> Result<SessionId, Fail> {
-    Ok(SessionId::try_from_varint(VarInt::try_from_u64(number)?)?)
+fn session<R: Abort>(rt: &R, number: u64) -> SessionId {
+    let number = VarInt::try_from_u64(number).expect(rt, "a number");
+    SessionId::try_from_varint(number).expect(rt, "a session")
 }
 
-/// Bytes of a header, its kind, its session, and what the row shows.
-type HeaderRow = (&'static [u8], StreamKind, Option<u64>, &'static str);
-
-/// Headers of each kind but one.
-const HEADERS: [HeaderRow; 5] = [
-    (&[0x00], StreamKind::Control, None, "control"),
-    (
-        &[0x40, 0x00],
-        StreamKind::Control,
-        None,
-        "a longer encoding",
-    ),
-    (&[0x02], StreamKind::QPackEncoder, None, "encoder"),
-    (&[0x03], StreamKind::QPackDecoder, None, "decoder"),
-    (
-        &[0x40, 0x54, 0x04],
-        StreamKind::WebTransport,
-        Some(4),
-        "session 4",
-    ),
-];
-
-/// Asserts that the header of each row is read.
-fn check_rows<R: Abort>(rt: &R, rows: &[HeaderRow]) {
-    for (bytes, kind, session, word) in rows {
-        check(rt, bytes, Ok(Some((*kind, *session))), bytes.len(), word);
-    }
+/// Asserts that these bytes are a header of this kind and session.
+fn check_header<R: Abort>(
+    rt: &R,
+    bytes: &[u8],
+    kind: StreamKind,
+    session: Option<u64>,
+    shows: &str,
+) {
+    check(rt, bytes, Ok(Some((kind, session))), bytes.len(), shows);
 }
 
 #[test]
 fn headers_are_read(rt: HostRuntime) {
-    check_rows(&rt, &HEADERS);
+    check_header(&rt, &[0x00], StreamKind::Control, None, "control");
+    let longer = &[0x40, 0x00];
+    check_header(&rt, longer, StreamKind::Control, None, "a longer encoding");
+    check_header(&rt, &[0x02], StreamKind::QPackEncoder, None, "encoder");
+    check_header(&rt, &[0x03], StreamKind::QPackDecoder, None, "decoder");
+    let opening = &[0x40, 0x54, 0x04];
+    check_header(&rt, opening, StreamKind::WebTransport, Some(4), "session 4");
     let exercise = StreamKind::Exercise(VarInt::from_u32(0x21));
-    let wanted = Ok(Some((exercise, None)));
-    check(&rt, &[0x21], wanted, 1, "exercise");
+    check_header(&rt, &[0x21], exercise, None, "exercise");
     let far = StreamKind::Exercise(VarInt::from_u32(0x21 + 0x1f * 5));
-    let wanted = Ok(Some((far, None)));
-    check(&rt, &[0x40, 0xbc], wanted, 2, "a further exercise type");
+    check_header(&rt, &[0x40, 0xbc], far, None, "a further exercise type");
 }
 
 /// Bytes of no header, and what the row shows.
@@ -124,19 +110,13 @@ fn fronts_of_headers_are_none(rt: HostRuntime) {
 }
 
 /// Asserts the size and the bytes of the header, and that it is read back from them.
-fn check_written<R: Abort>(
-    rt: &R,
-    header: StreamHeader,
-    bytes: &[u8],
-    shows: &str,
-) -> Result<(), EndOfBuffer> {
+fn check_written<R: Abort>(rt: &R, header: StreamHeader, bytes: &[u8], shows: &str) {
     let mut room = [0x55; StreamHeader::MAX_SIZE];
     let mut writer = BufferWriter::new(&mut room);
-    header.write_to_buffer(&mut writer)?;
+    header.write_to_buffer(&mut writer).expect(rt, "room");
     let came = (header.write_size(), writer.buffer_written());
     same(rt, came, (bytes.len(), bytes), shows);
     same(rt, answer(bytes), Ok(Some(parts(header))), shows);
-    Ok(())
 }
 
 /// The number of a session, the bytes of its header, and what the row shows.
@@ -151,19 +131,17 @@ static WRITTEN: [(u64, &[u8], &str); 3] = [
 ];
 
 /// Asserts it of the header of the session of this number.
-fn check_session<R: Abort>(rt: &R, number: u64, bytes: &[u8], shows: &str) -> Result<(), Fail> {
-    let header = StreamHeader::new_webtransport(session(number)?);
-    check_written(rt, header, bytes, shows)?;
-    Ok(())
+fn check_session<R: Abort>(rt: &R, number: u64, bytes: &[u8], shows: &str) {
+    let header = StreamHeader::new_webtransport(session(rt, number));
+    check_written(rt, header, bytes, shows);
 }
 
 #[test]
-fn headers_are_written(rt: HostRuntime) -> Result<(), Fail> {
-    check_written(&rt, StreamHeader::new_control(), &[0x00], "control")?;
+fn headers_are_written(rt: HostRuntime) {
+    check_written(&rt, StreamHeader::new_control(), &[0x00], "control");
     for (number, bytes, word) in &WRITTEN {
-        check_session(&rt, *number, bytes, word)?;
+        check_session(&rt, *number, bytes, word);
     }
-    Ok(())
 }
 
 /// Asserts that a header is written into a buffer of two bytes whole or not at all.
@@ -183,10 +161,9 @@ fn check_room<R: Abort>(rt: &R, header: &StreamHeader, two: &mut [u8; 2]) {
 }
 
 #[test]
-fn headers_need_their_room(rt: HostRuntime) -> Result<(), Fail> {
-    let header = StreamHeader::new_webtransport(session(4)?);
+fn headers_need_their_room(rt: HostRuntime) {
+    let header = StreamHeader::new_webtransport(session(&rt, 4));
     check_room(&rt, &header, &mut [0x55; 2]);
-    Ok(())
 }
 
 /// Asserts that a refusal of memory left none of the header's parts, or the first one.
@@ -215,13 +192,12 @@ fn write<R: Abort>(rt: &R, header: &StreamHeader, out: &mut Vec<u8>) -> Result<(
 }
 
 #[test]
-fn refused_memory_leaves_whole_parts(rt: HostRuntime) -> Result<(), Fail> {
-    let header = StreamHeader::new_webtransport(session(4)?);
+fn refused_memory_leaves_whole_parts(rt: HostRuntime) {
+    let header = StreamHeader::new_webtransport(session(&rt, 4));
     let mut out = Vec::new(rt.alloc());
     let outcome = write(&rt, &header, &mut out);
     let wanted = (Ok(()), [0x40, 0x54, 0x04].as_slice());
     same(&rt, (outcome, out.as_slice()), wanted, "session 4");
-    Ok(())
 }
 
 /// The number of the kind of this number, or `None` for no kind.
@@ -268,10 +244,9 @@ fn exercise_kinds_have_their_numbers(rt: HostRuntime) {
 }
 
 #[test]
-fn faults_have_their_texts_past_refused_memory(rt: HostRuntime) -> Result<(), Fail> {
+fn faults_have_their_texts_past_refused_memory(rt: HostRuntime) {
     let text = "cannot parse HTTP3 stream header as ID is unknown";
-    has_text(&rt, &ParseError::UnknownStream, text)?;
+    has_text(&rt, &ParseError::UnknownStream, text);
     let text = "cannot parse HTTP3 stream header as session ID is invalid";
-    has_text(&rt, &ParseError::InvalidSessionId, text)?;
-    Ok(())
+    has_text(&rt, &ParseError::InvalidSessionId, text);
 }

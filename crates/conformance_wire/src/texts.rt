@@ -5,15 +5,9 @@ use std::fmt::{Debug, Display};
 use std::process::Abort;
 
 /// Asserts what the value prints for debugging.
-pub fn prints<R: Abort + AllocGlobal, T: Debug>(
-    rt: &R,
-    value: &T,
-    wanted: &str,
-    shows: &str,
-) -> Result<(), AllocError> {
-    let text = format!(in rt.alloc(); "{value:?}")?;
+pub fn prints<R: Abort + AllocGlobal, T: Debug>(rt: &R, value: &T, wanted: &str, shows: &str) {
+    let text = format!(in rt.alloc(); "{value:?}").expect(rt, "memory");
     same(rt, text.as_str(), wanted, shows);
-    Ok(())
 }
 
 /// The text of an error; a second time where memory was refused.
@@ -25,11 +19,7 @@ fn text_of<E: Display>(alloc: Global, fault: &E) -> Result<String, AllocError> {
 }
 
 /// Asserts the text of an error, past refused memory.
-pub fn has_text<R: Abort + AllocGlobal, E: Display>(
-    rt: &R,
-    fault: &E,
-    wanted: &str,
-) -> Result<(), AllocError> {
-    same(rt, text_of(rt.alloc(), fault)?.as_str(), wanted, "its text");
-    Ok(())
+pub fn has_text<R: Abort + AllocGlobal, E: Display>(rt: &R, fault: &E, wanted: &str) {
+    let text = text_of(rt.alloc(), fault).expect(rt, "memory");
+    same(rt, text.as_str(), wanted, "its text");
 }
