@@ -30,35 +30,6 @@ fn next(reading: &mut CapsuleReading, bytes: &mut &[u8]) -> Answer {
     }
 }
 
-/// What was found of a piece of data.
-#[derive(Clone, Copy)]
-enum Found {
-    Value,
-    Nothing,
-    Fault,
-}
-
-/// Asserts that a capsule that is read has this value, and that a fault is a value that is too
-/// long.
-fn check_answer<R: Abort>(
-    rt: &R,
-    answer: Answer,
-    value: Option<&'static [u8]>,
-    shows: &str,
-) -> Found {
-    match answer {
-        Ok(Some(capsule)) => {
-            same(rt, Some(capsule.payload()), value, shows);
-            Found::Value
-        }
-        Ok(None) => Found::Nothing,
-        Err(fault) => {
-            same(rt, fault, CapsuleError::TooLong, shows);
-            Found::Fault
-        }
-    }
-}
-
 /// Asserts the values of the capsules in a piece of data, which come after `count` others. Returns
 /// how many there are then, and whether a value is too long.
 fn check_piece<R: Abort>(
@@ -72,11 +43,21 @@ fn check_piece<R: Abort>(
     let mut rest = piece;
     let mut count = count;
     for _ in 0..=values.len() {
-        let answer = next(reading, &mut rest);
-        match check_answer(rt, answer, values.get(count).copied(), shows) {
-            Found::Value => count = count.saturating_add(1),
-            Found::Nothing => break,
-            Found::Fault => return (count, true),
+        match next(reading, &mut rest) {
+            Ok(Some(capsule)) => {
+                same(
+                    rt,
+                    Some(capsule.payload()),
+                    values.get(count).copied(),
+                    shows,
+                );
+                count = count.saturating_add(1);
+            }
+            Ok(None) => break,
+            Err(fault) => {
+                same(rt, fault, CapsuleError::TooLong, shows);
+                return (count, true);
+            }
         }
     }
     same(rt, rest, [].as_slice(), shows);
@@ -342,25 +323,13 @@ fn write(close: &CloseWebTransportSession, bytes: &mut Vec<u8>) -> Result<(), Pu
     }
 }
 
-/// Asserts the bytes of a close that is written.
-fn check_bytes<R: Abort + AllocGlobal>(
-    rt: &R,
-    close: &CloseWebTransportSession,
-    wanted: &[u8],
-    shows: &str,
-) {
-    let mut bytes = Vec::new(rt.alloc());
-    let outcome = write(close, &mut bytes);
-    let came = (outcome, bytes.as_slice(), close.write_size());
-    same(rt, came, (Ok(()), wanted, wanted.len()), shows);
-}
-
 /// Asserts the bytes of the close with this code and this reason.
 fn check_written<R: Abort + AllocGlobal>(rt: &R, code: u32, reason: &str, wanted: &[u8]) {
-    match close(rt, code, reason) {
-        Ok(close) => check_bytes(rt, &close, wanted, reason),
-        Err(fault) => same(rt, Some(fault), None, reason),
-    }
+    let close = close(rt, code, reason).expect(rt, reason);
+    let mut bytes = Vec::new(rt.alloc());
+    let outcome = write(&close, &mut bytes);
+    let came = (outcome, bytes.as_slice(), close.write_size());
+    same(rt, came, (Ok(()), wanted, wanted.len()), reason);
 }
 
 /// Codes and reasons, and the bytes of their capsules.
@@ -381,13 +350,21 @@ fn closes_are_written_past_refused_memory(rt: HostRuntime) {
     }
 }
 
+/// The size of a close that is made.
+fn size_of(made: Made) -> Result<usize, CapsuleError> {
+    match made {
+        Ok(close) => Ok(close.write_size()),
+        Err(fault) => Err(fault),
+    }
+}
+
 #[test]
 fn made_reasons_have_a_limit_past_refused_memory(rt: HostRuntime) {
     let letters = [0x61; 1025];
     let text = str::from_utf8(&letters).unwrap_or("");
-    let over = close(&rt, 0, text).err();
-    same(&rt, over, Some(CapsuleError::TooLong), "1025 bytes");
+    let over = size_of(close(&rt, 0, text));
+    same(&rt, over, Err(CapsuleError::TooLong), "1025 bytes");
     let text = str::from_utf8(&letters[..1024]).unwrap_or("");
-    let close = close(&rt, 0, text).expect(&rt, "1024 bytes");
-    same(&rt, close.write_size(), 1032, "1024 bytes");
+    let size = size_of(close(&rt, 0, text));
+    same(&rt, size, Ok(1032), "1024 bytes");
 }

@@ -1,20 +1,11 @@
 //! Worked rows of capsules, and what stands where memory is refused.
 use crate::same::same;
-use std::alloc::Global;
 use std::borrow::CowSlice;
 use std::process::Abort;
 use wtp_core::error::{ErrorCode, Refused};
 use wtp_wire::capsule::capsules::CloseWebTransportSession;
 use wtp_wire::capsule::{Capsule, CapsuleKind, capsule_types};
 use wtp_wire::frame::Frame;
-
-/// What closing by this capsule answers, or `None` for no capsule.
-fn close_of(
-    alloc: Global,
-    capsule: Option<Capsule<'_>>,
-) -> Option<Result<CloseWebTransportSession, Refused>> {
-    Some(CloseWebTransportSession::with_capsule(alloc, &capsule?))
-}
 
 /// What closing by this payload of a DATA frame answers, or `None` for no capsule.
 fn read<R: Abort + AllocGlobal>(
@@ -23,7 +14,10 @@ fn read<R: Abort + AllocGlobal>(
 ) -> Option<Result<CloseWebTransportSession, Refused>> {
     assert!(rt; payload.len() < 2048);
     let frame = Frame::new_data(CowSlice::Borrowed(payload));
-    close_of(rt.alloc(), Capsule::with_frame(&frame))
+    match Capsule::with_frame(&frame) {
+        Some(capsule) => Some(CloseWebTransportSession::with_capsule(rt.alloc(), &capsule)),
+        None => None,
+    }
 }
 
 /// As `read`; a second time where memory was refused.
@@ -62,12 +56,8 @@ fn check_close<R: Abort>(rt: &R, payload: &[u8], len: usize, shows: &str) {
     let frame = Frame::new_data(CowSlice::Borrowed(payload));
     let capsule = Capsule::with_frame(&frame).expect(rt, "a capsule");
     let came = (capsule.kind(), capsule.payload().len());
-    same(
-        rt,
-        came,
-        (CapsuleKind::CloseWebTransportSession, len),
-        shows,
-    );
+    let kind = CapsuleKind::CloseWebTransportSession;
+    same(rt, came, (kind, len), shows);
 }
 
 /// Payloads that close a session, the code, the reason, and what the row shows.

@@ -11,19 +11,23 @@ use wtp_wire::datagram::Datagram;
 use wtp_wire::frame::{Frame, FrameOwned, FrameReading, IoReadError};
 use wtp_wire::stream_header::StreamHeader;
 
-/// Asserts what a frame of data prints.
-fn check_data<R: Abort + AllocGlobal>(rt: &R) {
-    let data = Frame::new_data(CowSlice::Borrowed(&[1, 255]));
-    let text = "Frame { kind: Data, payload: [1, 255], session_id: None }";
-    prints(rt, &data, text, "data");
+/// Asserts what a frame prints.
+fn check_frame<R: Abort + AllocGlobal>(rt: &R, frame: Frame<'_>, text: &str, shows: &str) {
+    prints(rt, &frame, text, shows);
 }
 
 #[test]
 fn frames_are_printed(rt: HostRuntime) {
-    check_data(&rt);
+    let text = "Frame { kind: Data, payload: [1, 255], session_id: None }";
+    check_frame(
+        &rt,
+        Frame::new_data(CowSlice::Borrowed(&[1, 255])),
+        text,
+        "data",
+    );
     let session = SessionId::try_from_varint(VarInt::from_u32(4)).expect(&rt, "a session");
     let text = "Frame { kind: WebTransport, payload: [], session_id: Some(4) }";
-    prints(&rt, &Frame::new_webtransport(session), text, "a session");
+    check_frame(&rt, Frame::new_webtransport(session), text, "a session");
 }
 
 /// What a poll of a reading of a frame answers.
@@ -41,12 +45,6 @@ fn answers_are_printed(rt: HostRuntime) {
     prints(&rt, &answer(rt.alloc()), text, "a frame");
     let waiting: Answer = Polled::Pending;
     prints(&rt, &waiting, "Pending", "no answer yet");
-}
-
-/// Asserts what the state of reading a frame prints.
-fn check_reading<R: Abort + AllocGlobal>(rt: &R) {
-    let text = "FrameReading { head_bytes: 0, payload_bytes: 0, due_bytes: 0, .. }";
-    prints(rt, &Frame::read_async(rt.alloc()), text, "reading a frame");
 }
 
 /// Asserts what the state of writing a frame prints.
@@ -69,7 +67,8 @@ fn check_headers<R: Abort + AllocGlobal>(rt: &R) {
 
 #[test]
 fn states_are_printed(rt: HostRuntime) {
-    check_reading(&rt);
+    let text = "FrameReading { head_bytes: 0, payload_bytes: 0, due_bytes: 0, .. }";
+    prints(&rt, &Frame::read_async(rt.alloc()), text, "reading a frame");
     check_writing(&rt);
     check_headers(&rt);
     let datagram = Datagram::new(QStreamId::MAX, &[7]);

@@ -5,7 +5,7 @@ use crate::texts::has_text;
 use std::alloc::{AllocError, Global};
 use std::borrow::CowSlice;
 use std::process::Abort;
-use wtp_core::bytes::{BufferWriter, EndOfBuffer, PutError};
+use wtp_core::bytes::{BufferWriter, PutError};
 use wtp_core::error::{ErrorCode, Refused};
 use wtp_core::varint::VarInt;
 use wtp_wire::frame::{Frame, FrameOwned, GenerateError};
@@ -196,12 +196,6 @@ fn known_settings_are_kept_past_refused_memory(rt: HostRuntime) {
     check_mixed(&rt, &mixed);
 }
 
-/// Puts the whole frame into the buffer.
-fn put_in_buffer(frame: &Frame<'_>, buffer: &mut [u8]) -> Result<(), EndOfBuffer> {
-    let mut writer = BufferWriter::new(buffer);
-    frame.write_to_buffer(&mut writer)
-}
-
 /// The frame of `steps`: type, length and payload.
 const WHOLE: [u8; 22] = [
     0x04, 0x14, 0x01, 0x02, 0x07, 0x01, 0x33, 0x01, 0xab, 0x60, 0x37, 0x42, 0x01, 0xc0, 0x00, 0x00,
@@ -211,7 +205,8 @@ const WHOLE: [u8; 22] = [
 /// Asserts the bytes of the frame of `steps`, put into a buffer.
 fn check_in_buffer<R: Abort>(rt: &R, frame: &Frame<'_>) {
     let mut room = [0x00; 22];
-    let outcome = put_in_buffer(frame, &mut room);
+    let mut writer = BufferWriter::new(&mut room);
+    let outcome = frame.write_to_buffer(&mut writer);
     let wanted = (Ok(()), WHOLE.as_slice());
     same(rt, (outcome, room.as_slice()), wanted, "into a buffer");
 }
@@ -308,17 +303,12 @@ fn a_step_sets_one_setting_past_refused_memory(rt: HostRuntime) {
     check_connect(&rt, &connect, "the settings");
 }
 
-/// Asserts that the settings do not fit into the buffer, and what it holds after that.
-fn check_short<R: Abort>(
-    rt: &R,
-    settings: &Settings,
-    buffer: &mut [u8],
-    holds: &[u8],
-    shows: &str,
-) {
-    assert!(rt; buffer.len() < 64);
-    let is_refused = settings.generate_frame_ref(buffer).is_err();
-    same(rt, (is_refused, &*buffer), (true, holds), shows);
+/// Asserts that the settings do not fit into a buffer of this size, and what it holds after that.
+fn check_short<R: Abort>(rt: &R, settings: &Settings, room: usize, holds: &[u8], shows: &str) {
+    assert!(rt; room <= 10);
+    let mut buffer = [0x55; 10];
+    let is_refused = settings.generate_frame_ref(&mut buffer[..room]).is_err();
+    same(rt, (is_refused, &buffer[..room]), (true, holds), shows);
 }
 
 #[test]
@@ -327,16 +317,16 @@ fn a_buffer_may_be_too_short_past_refused_memory(rt: HostRuntime) {
     let exercise = SettingId::Exercise(SettingId::H3Datagram.id());
     check_value(&rt, &settings, exercise, None, "no exercise setting");
     check_lent(&rt, &settings, &mut [0x55; 2], &[0x33, 0x01], "enough");
-    check_short(&rt, &settings, &mut [0x55; 1], &[0x33], "what fits");
+    check_short(&rt, &settings, 1, &[0x33], "what fits");
 }
 
 #[test]
 fn a_longer_buffer_may_be_too_short_past_refused_memory(rt: HostRuntime) {
     let long = build(rt.alloc()).expect(&rt, "memory");
     let cut = &STEPS[..10];
-    check_short(&rt, &long, &mut [0x55; 10], cut, "too short for the value");
+    check_short(&rt, &long, 10, cut, "too short for the value");
     let cut = &[0x01, 0x02, 0x07, 0x01, 0x33, 0x01, 0x55, 0x55, 0x55];
-    check_short(&rt, &long, &mut [0x55; 9], cut, "too short for the number");
+    check_short(&rt, &long, 9, cut, "too short for the number");
 }
 
 #[test]

@@ -2,7 +2,6 @@
 use crate::same::same;
 use crate::settings::{answer, check_frame};
 use crate::texts::prints;
-use std::alloc::{AllocError, Global};
 use std::process::Abort;
 use wtp_core::varint::VarInt;
 use wtp_wire::settings::{SettingId, Settings, SettingsIter};
@@ -132,19 +131,11 @@ fn settings_are_listed_past_refused_memory(rt: HostRuntime) {
     }
 }
 
-/// Returns settings with a maximum size of a field section.
-fn limited(alloc: Global) -> Result<Settings, AllocError> {
-    let size = VarInt::from_u32(16384);
-    Ok(
-        Settings::builder(alloc)
-            .max_field_section_size(size)?
-            .build(),
-    )
-}
-
 #[test]
 fn the_size_of_field_sections_is_limited(rt: HostRuntime) {
-    let settings = limited(rt.alloc()).expect(&rt, "memory");
+    let size = VarInt::from_u32(16384);
+    let builder = Settings::builder(rt.alloc()).max_field_section_size(size);
+    let settings = builder.expect(&rt, "memory").build();
     check_listed(&rt, &settings, &[(0x06, 16384)], "one setting");
     check_frame(&rt, &settings, b"\x06\x80\x00\x40\x00", "its payload");
 }

@@ -144,26 +144,18 @@ fn headers_are_written(rt: HostRuntime) {
     }
 }
 
-/// Asserts that a header is written into a buffer of two bytes whole or not at all.
-fn check_no_room<R: Abort>(rt: &R, header: &StreamHeader, writer: &mut BufferWriter<'_>) {
-    let whole = header.write_to_buffer(writer);
-    let wanted = (Err(EndOfBuffer), 0);
-    same(rt, (whole, writer.offset()), wanted, "whole or not at all");
-}
-
-/// Asserts the same, and that it is written by parts.
-fn check_room<R: Abort>(rt: &R, header: &StreamHeader, two: &mut [u8; 2]) {
-    let mut writer = BufferWriter::new(two);
-    check_no_room(rt, header, &mut writer);
-    let by_parts = header.write(&mut writer);
-    let wanted = (Err(PutError::EndOfBuffer), [0x40, 0x54].as_slice());
-    same(rt, (by_parts, writer.buffer_written()), wanted, "by parts");
-}
-
+/// A header is written into a buffer of two bytes whole or not at all, or by parts.
 #[test]
 fn headers_need_their_room(rt: HostRuntime) {
     let header = StreamHeader::new_webtransport(session(&rt, 4));
-    check_room(&rt, &header, &mut [0x55; 2]);
+    let mut two = [0x55; 2];
+    let mut writer = BufferWriter::new(&mut two);
+    let whole = header.write_to_buffer(&mut writer);
+    let wanted = (Err(EndOfBuffer), 0);
+    same(&rt, (whole, writer.offset()), wanted, "whole or not at all");
+    let by_parts = header.write(&mut writer);
+    let wanted = (Err(PutError::EndOfBuffer), [0x40, 0x54].as_slice());
+    same(&rt, (by_parts, writer.buffer_written()), wanted, "by parts");
 }
 
 /// Asserts that a refusal of memory left none of the header's parts, or the first one.
