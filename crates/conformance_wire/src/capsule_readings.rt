@@ -350,9 +350,9 @@ fn closes_are_written_past_refused_memory(rt: HostRuntime) {
     }
 }
 
-/// The size of a close that is made.
-fn size_of(made: Made) -> Result<usize, CapsuleError> {
-    match made {
+/// The size of a close with these bytes as its reason.
+fn size_of<R: AllocGlobal>(rt: &R, reason: &[u8]) -> Result<usize, CapsuleError> {
+    match close(rt, 0, str::from_utf8(reason).unwrap_or("")) {
         Ok(close) => Ok(close.write_size()),
         Err(fault) => Err(fault),
     }
@@ -361,10 +361,8 @@ fn size_of(made: Made) -> Result<usize, CapsuleError> {
 #[test]
 fn made_reasons_have_a_limit_past_refused_memory(rt: HostRuntime) {
     let letters = [0x61; 1025];
-    let text = str::from_utf8(&letters).unwrap_or("");
-    let over = size_of(close(&rt, 0, text));
+    let over = size_of(&rt, &letters);
     same(&rt, over, Err(CapsuleError::TooLong), "1025 bytes");
-    let text = str::from_utf8(&letters[..1024]).unwrap_or("");
-    let size = size_of(close(&rt, 0, text));
+    let size = size_of(&rt, &letters[..1024]);
     same(&rt, size, Ok(1032), "1024 bytes");
 }

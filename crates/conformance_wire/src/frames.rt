@@ -212,19 +212,15 @@ fn check_slice<R: Abort>(rt: &R, frame: &Frame<'_>, bytes: &[u8], word: &str) {
     same(rt, came, (Ok(()), bytes), word);
 }
 
-/// Asserts that two frames have the same kind, payload and session.
-fn check_alike<R: Abort>(rt: &R, read: &Frame<'_>, frame: &Frame<'_>, word: &str) {
-    let came = (read.kind(), read.payload(), read.session_id());
-    let wanted = (frame.kind(), frame.payload(), frame.session_id());
-    same(rt, came, wanted, word);
-}
-
-/// Asserts that the frame is read from these bytes, and that no byte is left.
+/// Asserts that the frame is read from these bytes, with its kind, payload and session, and that no
+/// byte is left.
 fn check_read_back<R: Abort>(rt: &R, frame: &Frame<'_>, bytes: &[u8], word: &str) {
     let (outcome, rest) = from_slice(bytes);
     same(rt, rest.len(), 0, word);
     let read = outcome.expect(rt, word).expect(rt, word);
-    check_alike(rt, &read, frame, word);
+    let came = (read.kind(), read.payload(), read.session_id());
+    let wanted = (frame.kind(), frame.payload(), frame.session_id());
+    same(rt, came, wanted, word);
 }
 
 /// Asserts that the frame is written as these bytes, and read back from them.

@@ -159,11 +159,6 @@ fn faults_are_found_in_order_past_refused_memory(rt: HostRuntime) {
     }
 }
 
-/// The value of a setting.
-fn value(settings: &Settings, id: SettingId) -> Option<u64> {
-    Some(settings.get(id)?.into_inner())
-}
-
 /// Asserts the value of a setting.
 fn check_value<R: Abort>(
     rt: &R,
@@ -172,7 +167,11 @@ fn check_value<R: Abort>(
     wanted: Option<u64>,
     shows: &str,
 ) {
-    same(rt, value(settings, id), wanted, shows);
+    let value = match settings.get(id) {
+        Some(value) => Some(value.into_inner()),
+        None => None,
+    };
+    same(rt, value, wanted, shows);
 }
 
 #[test]

@@ -192,15 +192,14 @@ fn refused_memory_leaves_whole_parts(rt: HostRuntime) {
     same(&rt, (outcome, out.as_slice()), wanted, "session 4");
 }
 
-/// The number of the kind of this number, or `None` for no kind.
-fn kind_number(id: VarInt) -> Option<VarInt> {
-    Some(StreamKind::parse(id)?.id())
-}
-
 /// Asserts that a number is that of a kind.
 fn check_kind<R: Abort>(rt: &R, number: u32) {
     let id = VarInt::from_u32(number);
-    same(rt, kind_number(id), Some(id), number);
+    let came = match StreamKind::parse(id) {
+        Some(kind) => Some(kind.id()),
+        None => None,
+    };
+    same(rt, came, Some(id), number);
 }
 
 /// Numbers of kinds.
