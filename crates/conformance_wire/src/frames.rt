@@ -204,9 +204,9 @@ fn check_vector<R: Abort + AllocGlobal>(rt: &R, frame: &Frame<'_>, bytes: &[u8],
 
 /// Asserts that the frame is written as these bytes into a slice with just the room for it.
 fn check_slice<R: Abort>(rt: &R, frame: &Frame<'_>, bytes: &[u8], word: &str) {
-    assert!(rt; bytes.len() <= 70);
     let mut buffer = [0; 70];
-    let mut writer = BufferWriter::new(&mut buffer[..bytes.len()]);
+    let room = buffer.get_mut(..bytes.len()).expect(rt, "room");
+    let mut writer = BufferWriter::new(room);
     let outcome = frame.write_to_buffer(&mut writer);
     let came = (outcome, writer.buffer_written());
     same(rt, came, (Ok(()), bytes), word);

@@ -180,19 +180,14 @@ fn unknown_settings_are_ignored_past_refused_memory(rt: HostRuntime) {
     check_frame(&rt, &read, &[], "no setting");
 }
 
-/// Asserts the values of settings among which an unknown one came.
-fn check_mixed<R: Abort>(rt: &R, mixed: &Settings) {
-    let exercise = SettingId::Exercise(VarInt::from_u32(0x21));
-    check_value(rt, mixed, exercise, Some(5), "exercise");
-    let known = SettingId::MaxFieldSectionSize;
-    check_value(rt, mixed, known, Some(7), "known");
-    check_value(rt, mixed, SettingId::H3Datagram, None, "not set");
-}
-
 #[test]
 fn known_settings_are_kept_past_refused_memory(rt: HostRuntime) {
     let mixed = answer(&rt, &[0x21, 0x05, 0x0a, 0x01, 0x06, 0x07]).expect(&rt, "settings");
-    check_mixed(&rt, &mixed);
+    let exercise = SettingId::Exercise(VarInt::from_u32(0x21));
+    check_value(&rt, &mixed, exercise, Some(5), "exercise");
+    let known = SettingId::MaxFieldSectionSize;
+    check_value(&rt, &mixed, known, Some(7), "known");
+    check_value(&rt, &mixed, SettingId::H3Datagram, None, "not set");
 }
 
 /// The frame of `steps`: type, length and payload.

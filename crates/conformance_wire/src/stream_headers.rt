@@ -10,14 +10,13 @@ use wtp_wire::stream_header::{ParseError, StreamHeader, StreamKind};
 /// What a reading answers: the kind and the session of a header.
 type Answer = Result<Option<(StreamKind, Option<u64>)>, ParseError>;
 
-/// The session of a header.
-fn session_of(header: &StreamHeader) -> Option<u64> {
-    Some(header.session_id()?.into_u64())
-}
-
 /// The kind and the session of a header.
 fn parts(header: StreamHeader) -> (StreamKind, Option<u64>) {
-    (header.kind(), session_of(&header))
+    let session = match header.session_id() {
+        Some(session) => Some(session.into_u64()),
+        None => None,
+    };
+    (header.kind(), session)
 }
 
 /// The answer, by the parts of the header.
