@@ -1,11 +1,10 @@
 //! Accepting a bidirectional stream: what comes first in it decides whether it is a stream of a
 //! session or of a request.
 use crate::opened::{front, opened_there, rest};
-use crate::same::{fail, same};
-use std::alloc::{AllocError, Global};
+use crate::same::same;
+use std::alloc::Global;
 use std::fmt::Display;
 use std::process::Abort;
-use std::test::Fail;
 use test_io::{Answers, End, Trickle};
 use wtransport_proto::bytes::{AsyncRead, IoReadError as Fault, Polled, ReadStep};
 use wtransport_proto::error::ErrorCode;
@@ -229,13 +228,13 @@ fn the_first_frame_decides_however_cut(rt: HostRuntime) {
 
 /// A state that a poll hands back since it skipped a frame, was not ready, found no memory, or
 /// failed.
-fn state_of(accepted: BiAccepted) -> Result<BiAccepting, Fail> {
+fn state_of<R: Abort>(rt: &R, accepted: BiAccepted) -> BiAccepting {
     match accepted {
         BiAccepted::Again(state)
         | BiAccepted::Pending(state)
         | BiAccepted::NoMemory(state)
-        | BiAccepted::Failed(state, _) => Ok(state),
-        BiAccepted::WebTransport(_) | BiAccepted::Request(_, _, _) => fail("a state"),
+        | BiAccepted::Failed(state, _) => state,
+        BiAccepted::WebTransport(_) | BiAccepted::Request(_, _, _) => rt.panic("a state"),
     }
 }
 
@@ -290,21 +289,20 @@ fn each_poll_takes_one_frame(rt: HostRuntime) {
 }
 
 /// An unknown frame of 8192 bytes, and these bytes.
-fn after_unknown(alloc: Global, bytes: &[u8]) -> Result<Vec<u8>, AllocError> {
-    let mut all = Vec::from_slice(alloc, &[0x0a, 0x60, 0x00])?;
-    all.resize(3 + 8192, 0)?;
-    all.extend_from_slice(bytes)?;
-    Ok(all)
+fn after_unknown<R: Abort + AllocGlobal>(rt: &R, bytes: &[u8]) -> Vec<u8> {
+    let mut all = Vec::from_slice(rt.alloc(), &[0x0a, 0x60, 0x00]).expect(rt, "memory");
+    all.resize(3 + 8192, 0).expect(rt, "memory");
+    all.extend_from_slice(bytes).expect(rt, "memory");
+    all
 }
 
 #[test]
-fn a_long_unknown_frame_is_skipped_in_parts(rt: HostRuntime) -> Result<(), AllocError> {
-    let bytes = after_unknown(rt.alloc(), b"\x40\x41\x04rest")?;
+fn a_long_unknown_frame_is_skipped_in_parts(rt: HostRuntime) {
+    let bytes = after_unknown(&rt, b"\x40\x41\x04rest");
     let mut source = bytes.as_slice();
     let turns = count_turns(accepting(rt.alloc()), &mut source);
     same(&rt, turns, (0, 2), "parts");
     same(&rt, source, b"rest".as_slice(), "bytes left");
-    Ok(())
 }
 
 /// The fault of a stream after the first so many bytes of a frame, which are too few and end so.
@@ -324,43 +322,41 @@ fn check_fault<R: Abort, S: AsyncRead>(
     source: &mut S,
     fault: &IoReadError,
     len: usize,
-) -> Result<BiAccepting, Fail> {
+) -> BiAccepting {
     let found = poll_on(accepting, source);
     same(rt, outcome_of(&found), Err(fault), len);
-    state_of(found)
+    state_of(rt, found)
 }
 
 /// The frame of session 4, and a byte after it.
 const SESSION_4: &[u8] = b"\x40\x41\x04a";
 
 /// The first so many of its bytes, each of them late, and then this end, twice.
-fn check_front<R: Abort + AllocGlobal>(rt: &R, len: usize, end: End) -> Result<BiAccepting, Fail> {
+fn check_front<R: Abort + AllocGlobal>(rt: &R, len: usize, end: End) -> BiAccepting {
     let mut source = Trickle::new(front(SESSION_4, len), end);
     let fault = stop_fault(len, end);
-    let state = check_fault(rt, accepting(rt.alloc()), &mut source, &fault, len)?;
+    let state = check_fault(rt, accepting(rt.alloc()), &mut source, &fault, len);
     check_fault(rt, state, &mut source, &fault, len)
 }
 
 /// The first so many of its bytes, which stop so; then the others, and what follows them.
-fn check_stop<R: Abort + AllocGlobal>(rt: &R, len: usize, end: End) -> Result<(), Fail> {
-    let state = check_front(rt, len, end)?;
+fn check_stop<R: Abort + AllocGlobal>(rt: &R, len: usize, end: End) {
+    let state = check_front(rt, len, end);
     let mut source = rest(SESSION_4, len);
     check_found(rt, state, &mut source, Ok((Some(4), b"")), len);
     same(rt, source, b"a".as_slice(), len);
-    Ok(())
 }
 
 /// Every ending of a source.
 static ENDS: [End; 3] = End::EACH;
 
 #[test]
-fn a_second_source_goes_on(rt: HostRuntime) -> Result<(), Fail> {
+fn a_second_source_goes_on(rt: HostRuntime) {
     for len in 0..3usize {
         for end in &ENDS {
-            check_stop(&rt, len, *end)?;
+            check_stop(&rt, len, *end);
         }
     }
-    Ok(())
 }
 
 /// A stream of which a reserved frame was read by its own call, before it is accepted.
@@ -416,22 +412,21 @@ fn section_of(found: &BiAccepted) -> Option<&[u8]> {
 }
 
 #[test]
-fn refused_memory_leaves_the_request(rt: HostRuntime) -> Result<(), Fail> {
+fn refused_memory_leaves_the_request(rt: HostRuntime) {
     let mut source = LONG;
-    let state = state_of(accepting(rt.alloc()).poll(&mut source))?;
+    let state = state_of(&rt, accepting(rt.alloc()).poll(&mut source));
     let rest = LONG.get(2..);
     same(&rt, Some(source), rest, "the reserved frame is skipped");
     let found = poll_again(&rt, state, &mut source);
     same(&rt, source, b"\x07".as_slice(), "bytes left");
     same(&rt, section_of(&found), LONG.get(4..52), "the request");
-    Ok(())
 }
 
 /// The stream of a request, and what reads on from it.
-fn request_of(found: BiAccepted) -> Result<(StreamBiRemoteH3, FrameReading), Fail> {
+fn request_of<R: Abort>(rt: &R, found: BiAccepted) -> (StreamBiRemoteH3, FrameReading) {
     match found {
-        BiAccepted::Request(stream, reading, _) => Ok((stream, reading)),
-        _ => fail("a request"),
+        BiAccepted::Request(stream, reading, _) => (stream, reading),
+        _ => rt.panic("a request"),
     }
 }
 
@@ -459,12 +454,11 @@ fn payload_of(read: &PollAnswer) -> Option<&[u8]> {
 }
 
 #[test]
-fn a_request_is_read_on(rt: HostRuntime) -> Result<(), Fail> {
+fn a_request_is_read_on(rt: HostRuntime) {
     let mut source = b"\x01\x01a\x00\x01b".as_slice();
     let found = poll_on(accepting(rt.alloc()), &mut source);
-    let (mut stream, mut reading) = request_of(found)?;
+    let (mut stream, mut reading) = request_of(&rt, found);
     let read = read_again(&mut stream, &mut reading, &mut source);
     let wanted = (Some(b"b".as_slice()), [].as_slice());
     same(&rt, (payload_of(&read), source), wanted, "data");
-    Ok(())
 }

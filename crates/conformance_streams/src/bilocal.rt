@@ -3,10 +3,9 @@ ghost use Rattle.std.specs.Prelude.{IsTrue};
 ghost use Rattle.wtransport_proto.specs.Streams.{can_upgrade};
 
 use crate::opened::{front, opened_here, session_of_stream};
-use crate::same::{fail, same};
+use crate::same::same;
 use std::borrow::CowSlice;
 use std::process::Abort;
-use std::test::Fail;
 use wtransport_proto::bytes::{BufferWriter, EndOfBuffer, PutError};
 use wtransport_proto::frame::Frame;
 use wtransport_proto::ids::SessionId;
@@ -83,18 +82,18 @@ fn a_frame_that_was_written_whole_ends_upgrading(rt: HostRuntime) {
 type UpgradeAnswer = Result<StreamBiLocalWT, (StreamBiLocalH3, PutError)>;
 
 /// The stream that was handed back, and why.
-fn refusal_of(upgraded: UpgradeAnswer) -> Result<(StreamBiLocalH3, PutError), Fail> {
+fn refusal_of<R: Abort>(rt: &R, upgraded: UpgradeAnswer) -> (StreamBiLocalH3, PutError) {
     match upgraded {
-        Ok(_) => fail("too little room"),
-        Err(back) => Ok(back),
+        Ok(_) => rt.panic("too little room"),
+        Err(back) => back,
     }
 }
 
 /// The stream that was upgraded.
-fn stream_of(upgraded: UpgradeAnswer) -> Result<StreamBiLocalWT, Fail> {
+fn stream_of<R: Abort>(rt: &R, upgraded: UpgradeAnswer) -> StreamBiLocalWT {
     match upgraded {
-        Ok(stream) => Ok(stream),
-        Err(_) => fail("there is room"),
+        Ok(stream) => stream,
+        Err(_) => rt.panic("there is room"),
     }
 }
 
@@ -102,34 +101,33 @@ fn stream_of(upgraded: UpgradeAnswer) -> Result<StreamBiLocalWT, Fail> {
 const FRAME_0: &[u8] = &[0x40, 0x41, 0x00];
 
 /// The stream is handed back, since two bytes are too little room for its session frame.
-fn check_too_little<R: Abort>(rt: &R, session: SessionId) -> Result<StreamBiLocalH3, Fail> {
+fn check_too_little<R: Abort>(rt: &R, session: SessionId) -> StreamBiLocalH3 {
     let mut buffer = [0; 2];
     let mut writer = BufferWriter::new(&mut buffer);
-    let (stream, error) = refusal_of(opened_here().upgrade(session, &mut writer))?;
+    let (stream, error) = refusal_of(rt, opened_here().upgrade(session, &mut writer));
     same(rt, error, PutError::EndOfBuffer, "too little room");
     same(rt, writer.buffer_written(), front(FRAME_0, 2), "the parts");
-    Ok(stream)
+    stream
 }
 
 /// The stream is upgraded, since there is room for its session frame.
-fn check_room<R: Abort>(rt: &R, stream: StreamBiLocalH3, session: SessionId) -> Result<(), Fail>
+fn check_room<R: Abort>(rt: &R, stream: StreamBiLocalH3, session: SessionId)
     requires { IsTrue (can_upgrade stream) }
 {
     let mut buffer = [0; 4];
     let mut writer = BufferWriter::new(&mut buffer);
-    let stream = stream_of(stream.upgrade(session, &mut writer))?;
+    let stream = stream_of(rt, stream.upgrade(session, &mut writer));
     same(rt, stream.session_id(), session, "its session");
     same(rt, writer.buffer_written(), FRAME_0, "the frame");
-    Ok(())
 }
 
 #[test]
-fn it_is_upgraded_where_there_is_room(rt: HostRuntime) -> Result<(), Fail> {
-    let session = session_of_stream(0)?;
+fn it_is_upgraded_where_there_is_room(rt: HostRuntime) {
+    let session = session_of_stream(&rt, 0);
     same(&rt, opened_here().upgrade_size(session), 3, "size");
-    let stream = check_too_little(&rt, session)?;
+    let stream = check_too_little(&rt, session);
     assert!(rt; stream.can_upgrade());
-    check_room(&rt, stream, session)
+    check_room(&rt, stream, session);
 }
 
 /// The frame of session 64.
@@ -150,27 +148,22 @@ fn check_refused<R: Abort>(rt: &R, error: PutError, written: &[u8]) {
 }
 
 /// Upgrades the stream into the vector; where allocation failed, once more.
-fn upgrade_again<R: Abort>(
-    rt: &R,
-    session: SessionId,
-    vector: &mut Vec<u8>,
-) -> Result<StreamBiLocalWT, Fail> {
+fn upgrade_again<R: Abort>(rt: &R, session: SessionId, vector: &mut Vec<u8>) -> StreamBiLocalWT {
     match opened_here().upgrade(session, vector) {
-        Ok(stream) => Ok(stream),
+        Ok(stream) => stream,
         Err((stream, error)) => {
             check_refused(rt, error, vector.as_slice());
             vector.clear();
-            stream_of(stream.upgrade(session, vector))
+            stream_of(rt, stream.upgrade(session, vector))
         }
     }
 }
 
 #[test]
-fn refused_memory_hands_the_stream_back(rt: HostRuntime) -> Result<(), Fail> {
-    let session = session_of_stream(64)?;
+fn refused_memory_hands_the_stream_back(rt: HostRuntime) {
+    let session = session_of_stream(&rt, 64);
     let mut vector = Vec::new(rt.alloc());
-    let stream = upgrade_again(&rt, session, &mut vector)?;
+    let stream = upgrade_again(&rt, session, &mut vector);
     same(&rt, stream.session_id(), session, "its session");
     same(&rt, vector.as_slice(), FRAME_64, "the frame");
-    Ok(())
 }

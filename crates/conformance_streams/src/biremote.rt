@@ -3,7 +3,6 @@ use crate::opened::{opened_there, session_of_stream};
 use crate::same::same;
 use std::borrow::CowSlice;
 use std::process::Abort;
-use std::test::Fail;
 use wtransport_proto::bytes::{BufferReader, BufferWriter, EndOfBuffer};
 use wtransport_proto::error::ErrorCode;
 use wtransport_proto::frame::{Frame, FrameKind};
@@ -19,12 +18,12 @@ fn put(frame: Frame<'_>, writer: &mut BufferWriter<'_>) -> Result<(), EndOfBuffe
 }
 
 #[test]
-fn frames_are_written(rt: HostRuntime) -> Result<(), Fail> {
+fn frames_are_written(rt: HostRuntime) {
     let mut vector = Vec::new(rt.alloc());
     let frame = Frame::new_data(CowSlice::Borrowed(b"abc"));
-    opened_there().write_frame(frame, &mut vector)?;
+    let written = opened_there().write_frame(frame, &mut vector);
+    written.expect(&rt, "memory");
     same(&rt, vector.as_slice(), WIRE, "a vector");
-    Ok(())
 }
 
 #[test]
@@ -62,12 +61,11 @@ fn check_session_frame<R: Abort>(
 }
 
 #[test]
-fn a_session_frame_makes_it_a_stream_of_the_session(rt: HostRuntime) -> Result<(), Fail> {
-    let session = session_of_stream(0)?;
+fn a_session_frame_makes_it_a_stream_of_the_session(rt: HostRuntime) {
+    let session = session_of_stream(&rt, 0);
     let mut stream = opened_there();
     check_session_frame(&rt, &mut stream, &[0x40, 0x41, 0x00], session);
     same(&rt, stream.upgrade(session).session_id(), session, "made");
-    Ok(())
 }
 
 #[test]

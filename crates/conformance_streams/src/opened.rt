@@ -3,7 +3,7 @@ ghost use Rattle.std.specs.Prelude.{IsTrue};
 ghost use Rattle.wtransport_proto.specs.Streams.{can_upgrade};
 
 use std::alloc::Global;
-use std::test::Fail;
+use std::process::Abort;
 use wtransport_proto::ids::{SessionId, StreamId};
 use wtransport_proto::session::{SessionRequest, UrlParseError};
 use wtransport_proto::stream::bilocal::{StreamBiLocalH3, StreamBiLocalQuic};
@@ -22,14 +22,14 @@ pub(crate) fn rest(bytes: &'static [u8], len: usize) -> &'static [u8] {
 }
 
 /// The session of this stream.
-pub(crate) fn session_of_stream(id: u32) -> Result<SessionId, Fail> {
+pub(crate) fn session_of_stream<R: Abort>(rt: &R, id: u32) -> SessionId {
     let stream = StreamId::new(VarInt::from_u32(id));
-    Ok(SessionId::try_from_session_stream(stream)?)
+    SessionId::try_from_session_stream(stream).expect(rt, "a session")
 }
 
 /// The session of stream 4.
-pub(crate) fn session_4() -> Result<SessionId, Fail> {
-    session_of_stream(4)
+pub(crate) fn session_4<R: Abort>(rt: &R) -> SessionId {
+    session_of_stream(rt, 4)
 }
 
 /// A stream in both directions that the peer opened.

@@ -1,10 +1,8 @@
 //! What streams, upgrades and their answers print for debugging.
 use crate::opened::{opened_here, opened_there, session_4};
 use crate::same::same;
-use std::alloc::AllocError;
 use std::fmt::Debug;
 use std::process::Abort;
-use std::test::Fail;
 use wtransport_proto::bytes::{IoReadError as Fault, Polled};
 use wtransport_proto::error::ErrorCode;
 use wtransport_proto::frame::{FrameOwned, FrameReading};
@@ -14,60 +12,55 @@ use wtransport_proto::stream::unilocal::StreamUniLocalQuic;
 use wtransport_proto::stream::uniremote::StreamUniRemoteQuic;
 
 /// It prints this for debugging.
-fn check_printed<R: Abort + AllocGlobal, T: Debug>(
-    rt: &R,
-    value: &T,
-    wanted: &str,
-) -> Result<(), AllocError> {
-    let text = format!(in rt.alloc(); "{value:?}")?;
+fn check_printed<R: Abort + AllocGlobal, T: Debug>(rt: &R, value: &T, wanted: &str) {
+    let text = format!(in rt.alloc(); "{value:?}").expect(rt, "memory");
     same(rt, text.as_str(), wanted, "printed");
-    Ok(())
 }
 
 #[test]
-fn streams_are_printed(rt: HostRuntime) -> Result<(), Fail> {
+fn streams_are_printed(rt: HostRuntime) {
     check_printed(
         &rt,
         &StreamBiLocalQuic::open_bi(),
         "Stream { kind: BiLocal(Bi, Local), stage: Quic }",
-    )?;
+    );
     check_printed(
         &rt,
         &opened_here(),
         "Stream { kind: BiLocal(Bi, Local), stage: H3 { header: (), first_frame_done: false } }",
-    )?;
+    );
     check_printed(
         &rt,
-        &opened_there().upgrade(session_4()?),
+        &opened_there().upgrade(session_4(&rt)),
         "Stream { kind: BiRemote(Bi, Remote), stage: WT { session_id: 4 } }",
-    )?;
+    );
     check_printed(
         &rt,
         &StreamUniLocalQuic::open_uni(),
         "Stream { kind: UniLocal(Uni, Local), stage: Quic }",
-    )?;
-    Ok(())
+    );
 }
 
 #[test]
-fn upgrades_are_printed(rt: HostRuntime) -> Result<(), Fail> {
+fn upgrades_are_printed(rt: HostRuntime) {
     let mut none = [].as_slice();
     check_printed(
         &rt,
-        &StreamUniRemoteQuic::accept_uni().upgrade(&mut none)?,
+        &StreamUniRemoteQuic::accept_uni()
+            .upgrade(&mut none)
+            .expect(&rt, "no fault"),
         "Quic(Stream { kind: UniRemote(Uni, Remote), stage: Quic })",
-    )?;
+    );
     check_printed(
         &rt,
         &StreamUniRemoteQuic::accept_uni().upgrade_async(),
         "UniAccepting { stream: Stream { kind: UniRemote(Uni, Remote), stage: Quic }, \
          reading: HeaderReading { bytes: 0, .. } }",
-    )?;
-    Ok(())
+    );
 }
 
 #[test]
-fn an_answer_is_printed(rt: HostRuntime) -> Result<(), AllocError> {
+fn an_answer_is_printed(rt: HostRuntime) {
     let mut stream = opened_there();
     let mut reading = FrameReading::new(rt.alloc());
     let mut source = b"\x04\x00".as_slice();
@@ -79,19 +72,18 @@ fn an_answer_is_printed(rt: HostRuntime) -> Result<(), AllocError> {
         &rt,
         &answer,
         "Ready(Err(H3(FrameUnexpectedError (code: 261))))",
-    )
+    );
 }
 
 #[test]
-fn faults_of_a_stream_are_printed(rt: HostRuntime) -> Result<(), AllocError> {
+fn faults_of_a_stream_are_printed(rt: HostRuntime) {
     let code = IoReadError::H3(ErrorCode::FrameUnexpected);
     let fault = IoReadError::IO(Fault::UnexpectedFin);
-    let text = format!(in rt.alloc(); "{code}; {fault}")?;
+    let text = format!(in rt.alloc(); "{code}; {fault}").expect(&rt, "memory");
     same(
         &rt,
         text.as_str(),
         "FrameUnexpectedError; read operation failed because EOF reached after first byte",
         "printed",
     );
-    Ok(())
 }

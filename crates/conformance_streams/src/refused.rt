@@ -1,10 +1,9 @@
 //! What every writing state does into a vector whose allocation fails.
 use crate::opened::{open_session, opened_here, opened_there};
-use crate::same::{fail, same};
+use crate::same::same;
 use std::alloc::Global;
 use std::borrow::CowSlice;
 use std::process::Abort;
-use std::test::Fail;
 use wtransport_proto::bytes::{BufferWriter, PutError};
 use wtransport_proto::frame::Frame;
 use wtransport_proto::session::UrlParseError;
@@ -85,46 +84,34 @@ fn check_frame<R: Abort>(rt: &R, bytes: &[u8]) {
 }
 
 /// The state writes its frame into a vector, also where memory was refused.
-fn check_refused<R: Abort + AllocGlobal, K: Writes>(
-    rt: &R,
-    stream: &mut K,
-) -> Result<(), PutError> {
+fn check_refused<R: Abort + AllocGlobal, K: Writes>(rt: &R, stream: &mut K) {
     let mut out = Vec::new(rt.alloc());
-    write_again(rt, stream, &mut out)?;
+    write_again(rt, stream, &mut out).expect(rt, "memory");
     check_frame(rt, out.as_slice());
-    Ok(())
 }
 
 #[test]
-fn refused_memory_writes_whole_parts_to_a_stream_opened_there(
-    rt: HostRuntime,
-) -> Result<(), PutError> {
-    check_refused(&rt, &mut opened_there())
+fn refused_memory_writes_whole_parts_to_a_stream_opened_there(rt: HostRuntime) {
+    check_refused(&rt, &mut opened_there());
 }
 
 /// The stream writes its frame; where memory was refused, it can still be upgraded, and writes its
 /// frame anew.
-fn check_left<R: Abort + AllocGlobal>(
-    rt: &R,
-    stream: &mut StreamBiLocalH3,
-) -> Result<(), PutError> {
+fn check_left<R: Abort + AllocGlobal>(rt: &R, stream: &mut StreamBiLocalH3) {
     let mut out = Vec::new(rt.alloc());
-    match stream.write(&mut out) {
-        Ok(()) => Ok(()),
-        Err(_) => {
-            assert!(rt; are_parts(out.as_slice()));
-            assert!(rt; stream.can_upgrade());
-            check_refused(rt, stream)
-        }
+    if stream.write(&mut out).is_err() {
+        assert!(rt; are_parts(out.as_slice()));
+        assert!(rt; stream.can_upgrade());
+        check_refused(rt, stream);
     }
 }
 
 #[test]
-fn refused_memory_leaves_a_stream_opened_here(rt: HostRuntime) -> Result<(), PutError> {
+fn refused_memory_leaves_a_stream_opened_here(rt: HostRuntime) {
     let mut stream = opened_here();
-    check_left(&rt, &mut stream)?;
+    check_left(&rt, &mut stream);
     assert!(rt; !stream.can_upgrade());
-    check_refused(&rt, &mut stream)
+    check_refused(&rt, &mut stream);
 }
 
 /// The stream of a session; where it was refused, another.
@@ -136,22 +123,18 @@ fn session_again(alloc: Global) -> Result<StreamSession, UrlParseError> {
 }
 
 #[test]
-fn refused_memory_writes_whole_parts_to_the_stream_of_a_session(
-    rt: HostRuntime,
-) -> Result<(), Fail> {
-    let mut stream = session_again(rt.alloc())?;
-    check_refused(&rt, &mut stream)?;
-    Ok(())
+fn refused_memory_writes_whole_parts_to_the_stream_of_a_session(rt: HostRuntime) {
+    let mut stream = session_again(rt.alloc()).expect(&rt, "memory");
+    check_refused(&rt, &mut stream);
 }
 
 #[test]
-fn refused_memory_writes_whole_parts_to_a_control_stream(rt: HostRuntime) -> Result<(), Fail> {
+fn refused_memory_writes_whole_parts_to_a_control_stream(rt: HostRuntime) {
     let mut head = [0; 1];
     let mut writer = BufferWriter::new(&mut head);
     let header = StreamHeader::new_control();
     let Ok(mut stream) = StreamUniLocalQuic::open_uni().upgrade(header, &mut writer) else {
-        return fail("there is room");
+        panic!(rt; "there is room");
     };
-    check_refused(&rt, &mut stream)?;
-    Ok(())
+    check_refused(&rt, &mut stream);
 }

@@ -1,7 +1,6 @@
 //! The check of one row.
 use std::fmt::{Debug, Display};
 use std::process::Abort;
-use std::test::Fail;
 
 /// Asserts that what came is what was wanted. If it is not, the message says what the row shows,
 /// what came and what was wanted.
@@ -12,9 +11,4 @@ pub(crate) fn same<R: Abort, T: PartialEq + Debug + Drop, S: Display + Drop>(
     shows: S,
 ) {
     assert!(rt; came == wanted, "{shows}: {came:?}, and not {wanted:?}");
-}
-
-/// Fails a test, and says what it lacks.
-pub(crate) fn fail<T>(what: &'static str) -> Result<T, Fail> {
-    Err(what)?
 }

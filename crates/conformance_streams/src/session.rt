@@ -3,23 +3,22 @@ use crate::opened::{front, open_session, opened_there};
 use crate::same::same;
 use std::borrow::CowSlice;
 use std::process::Abort;
-use std::test::Fail;
 use wtransport_proto::bytes::{BufferWriter, EndOfBuffer, PutError};
 use wtransport_proto::frame::Frame;
 use wtransport_proto::session::SessionRequest;
 use wtransport_proto::stream::session::StreamSession;
 
 #[test]
-fn it_keeps_its_request(rt: HostRuntime) -> Result<(), Fail> {
-    let stream = open_session(rt.alloc())?;
+fn it_keeps_its_request(rt: HostRuntime) {
+    let stream = open_session(rt.alloc()).expect(&rt, "memory");
     let request = stream.request();
     same(&rt, request.authority(), "example.com", "opened here");
     same(&rt, request.path(), "/a?b", "opened here");
-    let request = SessionRequest::new(rt.alloc(), "https://localhost:4433")?;
+    let request = SessionRequest::new(rt.alloc(), "https://localhost:4433");
+    let request = request.expect(&rt, "memory");
     let stream = opened_there().into_session(request);
     let authority = stream.request().authority();
     same(&rt, authority, "localhost:4433", "opened there");
-    Ok(())
 }
 
 /// What writing a data frame of one byte whole answers.
@@ -59,7 +58,6 @@ fn check_frames<R: Abort>(rt: &R, stream: &StreamSession) {
 }
 
 #[test]
-fn frames_are_written(rt: HostRuntime) -> Result<(), Fail> {
-    check_frames(&rt, &open_session(rt.alloc())?);
-    Ok(())
+fn frames_are_written(rt: HostRuntime) {
+    check_frames(&rt, &open_session(rt.alloc()).expect(&rt, "memory"));
 }

@@ -1,9 +1,8 @@
 //! Upgrading streams, poll by poll.
 use crate::opened::{front, opened_here, rest, session_4};
-use crate::same::{fail, same};
+use crate::same::same;
 use std::fmt::Display;
 use std::process::Abort;
-use std::test::Fail;
 use test_io::{End, Paced, Trickle, stops_after};
 use wtransport_proto::bytes::{AsyncRead, IoReadError as Fault, IoWriteError, Stepped, WriteStep};
 use wtransport_proto::error::ErrorCode;
@@ -15,34 +14,34 @@ use wtransport_proto::stream::{BiUpgrading, IoReadError, UniAccepting, UniUpgrad
 use wtransport_proto::stream_header::{StreamHeader, StreamKind};
 
 /// The state, handed back since its source or sink was not ready.
-fn take_pending<P: Drop, T: Drop, E: Drop>(stepped: Stepped<P, T, E>) -> Result<P, Fail> {
+fn take_pending<R: Abort, P: Drop, T: Drop, E: Drop>(rt: &R, stepped: Stepped<P, T, E>) -> P {
     match stepped {
-        Stepped::Pending(state) => Ok(state),
-        _ => fail("not ready"),
+        Stepped::Pending(state) => state,
+        _ => rt.panic("not ready"),
     }
 }
 
 /// The state, handed back since it failed, and the fault.
-fn take_failed<P: Drop, T: Drop, E: Drop>(stepped: Stepped<P, T, E>) -> Result<(P, E), Fail> {
+fn take_failed<R: Abort, P: Drop, T: Drop, E: Drop>(rt: &R, stepped: Stepped<P, T, E>) -> (P, E) {
     match stepped {
-        Stepped::Failed(state, fault) => Ok((state, fault)),
-        _ => fail("a fault"),
+        Stepped::Failed(state, fault) => (state, fault),
+        _ => rt.panic("a fault"),
     }
 }
 
 /// What the state was to make.
-fn take_result<P: Drop, T: Drop, E: Drop>(stepped: Stepped<P, T, E>) -> Result<T, Fail> {
+fn take_result<R: Abort, P: Drop, T: Drop, E: Drop>(rt: &R, stepped: Stepped<P, T, E>) -> T {
     match stepped {
-        Stepped::Done(made) => Ok(made),
-        _ => fail("done"),
+        Stepped::Done(made) => made,
+        _ => rt.panic("done"),
     }
 }
 
 /// Polls into the vector until it is done; twice, where allocation failed.
-fn make_session(upgrading: BiUpgrading, vector: &mut Vec<u8>) -> Result<StreamBiLocalWT, Fail> {
+fn make_session<R: Abort>(rt: &R, upgrading: BiUpgrading, vector: &mut Vec<u8>) -> StreamBiLocalWT {
     match upgrading.poll(vector) {
-        Stepped::NoMemory(upgrading) => take_result(upgrading.poll(vector)),
-        stepped => take_result(stepped),
+        Stepped::NoMemory(upgrading) => take_result(rt, upgrading.poll(vector)),
+        stepped => take_result(rt, stepped),
     }
 }
 
@@ -52,24 +51,19 @@ fn check_stopped<R: Abort, P: Drop, T: Drop>(
     stepped: Stepped<P, T, IoWriteError>,
     sink: &Paced<'_>,
     taken: &'static [u8],
-) -> Result<P, Fail> {
-    let (state, fault) = take_failed(stepped)?;
+) -> P {
+    let (state, fault) = take_failed(rt, stepped);
     same(rt, fault, IoWriteError::Stopped, taken.len());
     same(rt, sink.output(), taken, "the sink took");
-    Ok(state)
+    state
 }
 
 /// These bytes go to a vector, and the stream of session 4 is made.
-fn check_session_made<R: Abort + AllocGlobal>(
-    rt: &R,
-    upgrading: BiUpgrading,
-    wire: &'static [u8],
-) -> Result<(), Fail> {
+fn check_session_made<R: Abort + AllocGlobal>(rt: &R, upgrading: BiUpgrading, wire: &'static [u8]) {
     let mut vector = Vec::new(rt.alloc());
-    let stream = make_session(upgrading, &mut vector)?;
+    let stream = make_session(rt, upgrading, &mut vector);
     same(rt, vector.as_slice(), wire, "to a vector");
-    same(rt, stream.session_id(), session_4()?, wire.len());
-    Ok(())
+    same(rt, stream.session_id(), session_4(rt), wire.len());
 }
 
 /// The frame of session 4.
@@ -79,8 +73,8 @@ const SESSION_FRAME: &[u8] = &[0x40, 0x41, 0x04];
 const HEADER: &[u8] = &[0x40, 0x54, 0x04];
 
 /// The frame of session 4 on its way to a new stream.
-fn session_frame_4() -> Result<BiUpgrading, Fail> {
-    Ok(opened_here().upgrade_async(session_4()?))
+fn session_frame_4<R: Abort>(rt: &R) -> BiUpgrading {
+    opened_here().upgrade_async(session_4(rt))
 }
 
 /// What one poll of an upgrade to a session answers.
@@ -92,19 +86,18 @@ fn step_bi(upgrading: BiUpgrading, sink: &mut Paced<'_>) -> BiStep {
 }
 
 /// Of the frame of session 4 so many bytes go to a sink that stops, and the others elsewhere.
-fn check_bi_stop<R: Abort + AllocGlobal>(rt: &R, room: usize) -> Result<(), Fail> {
+fn check_bi_stop<R: Abort + AllocGlobal>(rt: &R, room: usize) {
     let mut sink = Paced::new(rt.alloc(), stops_after(room));
-    let stepped = step_bi(session_frame_4()?, &mut sink);
-    let upgrading = check_stopped(rt, stepped, &sink, front(SESSION_FRAME, room))?;
-    check_session_made(rt, upgrading, rest(SESSION_FRAME, room))
+    let stepped = step_bi(session_frame_4(rt), &mut sink);
+    let upgrading = check_stopped(rt, stepped, &sink, front(SESSION_FRAME, room));
+    check_session_made(rt, upgrading, rest(SESSION_FRAME, room));
 }
 
 #[test]
-fn a_session_frame_goes_on_elsewhere(rt: HostRuntime) -> Result<(), Fail> {
+fn a_session_frame_goes_on_elsewhere(rt: HostRuntime) {
     for room in 0..3usize {
-        check_bi_stop(&rt, room)?;
+        check_bi_stop(&rt, room);
     }
-    Ok(())
 }
 
 /// Not ready, two bytes, not ready, a loss; then it takes all.
@@ -116,43 +109,42 @@ static HALTS: [WriteStep; 4] = [
 ];
 
 /// The state after two polls, each of which waits for the sink.
-fn wait_bi(upgrading: BiUpgrading, sink: &mut Paced<'_>) -> Result<BiUpgrading, Fail> {
-    let upgrading = take_pending(step_bi(upgrading, sink))?;
-    take_pending(step_bi(upgrading, sink))
+fn wait_bi<R: Abort>(rt: &R, upgrading: BiUpgrading, sink: &mut Paced<'_>) -> BiUpgrading {
+    let upgrading = take_pending(rt, step_bi(upgrading, sink));
+    take_pending(rt, step_bi(upgrading, sink))
 }
 
 /// The stream after two polls, of which the first finds that the sink is lost.
-fn lose_bi<R: Abort>(
-    rt: &R,
-    upgrading: BiUpgrading,
-    sink: &mut Paced<'_>,
-) -> Result<StreamBiLocalWT, Fail> {
-    let (upgrading, fault) = take_failed(step_bi(upgrading, sink))?;
+fn lose_bi<R: Abort>(rt: &R, upgrading: BiUpgrading, sink: &mut Paced<'_>) -> StreamBiLocalWT {
+    let (upgrading, fault) = take_failed(rt, step_bi(upgrading, sink));
     same(rt, fault, IoWriteError::NotConnected, "lost");
-    take_result(step_bi(upgrading, sink))
+    take_result(rt, step_bi(upgrading, sink))
 }
 
 #[test]
-fn a_session_frame_waits_for_its_sink(rt: HostRuntime) -> Result<(), Fail> {
+fn a_session_frame_waits_for_its_sink(rt: HostRuntime) {
     let mut sink = Paced::new(rt.alloc(), &HALTS);
-    let upgrading = wait_bi(session_frame_4()?, &mut sink)?;
+    let upgrading = wait_bi(&rt, session_frame_4(&rt), &mut sink);
     same(&rt, sink.output(), front(SESSION_FRAME, 2), "two bytes");
-    let stream = lose_bi(&rt, upgrading, &mut sink)?;
+    let stream = lose_bi(&rt, upgrading, &mut sink);
     same(&rt, sink.output(), SESSION_FRAME, "done");
-    same(&rt, stream.session_id(), session_4()?, "its session");
-    Ok(())
+    same(&rt, stream.session_id(), session_4(&rt), "its session");
 }
 
 #[test]
-fn refused_memory_hands_back_the_session_frame(rt: HostRuntime) -> Result<(), Fail> {
-    check_session_made(&rt, session_frame_4()?, SESSION_FRAME)
+fn refused_memory_hands_back_the_session_frame(rt: HostRuntime) {
+    check_session_made(&rt, session_frame_4(&rt), SESSION_FRAME);
 }
 
 /// Polls into the vector until it is done; twice, where allocation failed.
-fn write_header(upgrading: UniUpgrading, vector: &mut Vec<u8>) -> Result<StreamUniLocalH3, Fail> {
+fn write_header<R: Abort>(
+    rt: &R,
+    upgrading: UniUpgrading,
+    vector: &mut Vec<u8>,
+) -> StreamUniLocalH3 {
     match upgrading.poll(vector) {
-        Stepped::NoMemory(upgrading) => take_result(upgrading.poll(vector)),
-        stepped => take_result(stepped),
+        Stepped::NoMemory(upgrading) => take_result(rt, upgrading.poll(vector)),
+        stepped => take_result(rt, stepped),
     }
 }
 
@@ -165,24 +157,23 @@ fn check_header_made<R: Abort + AllocGlobal>(
     upgrading: UniUpgrading,
     wire: &'static [u8],
     wanted: Made,
-) -> Result<(), Fail> {
+) {
     let mut vector = Vec::new(rt.alloc());
-    let stream = write_header(upgrading, &mut vector)?;
+    let stream = write_header(rt, upgrading, &mut vector);
     same(rt, vector.as_slice(), wire, "to a vector");
     let came = (stream.kind(), stream.session_id());
     same(rt, came, wanted, wire.len());
-    Ok(())
 }
 
 /// The header of session 4 on its way to a new stream.
-fn header_4() -> Result<UniUpgrading, Fail> {
-    let header = StreamHeader::new_webtransport(session_4()?);
-    Ok(StreamUniLocalQuic::open_uni().upgrade_async(header))
+fn header_4<R: Abort>(rt: &R) -> UniUpgrading {
+    let header = StreamHeader::new_webtransport(session_4(rt));
+    StreamUniLocalQuic::open_uni().upgrade_async(header)
 }
 
 /// A stream of session 4.
-fn made_4() -> Result<Made, Fail> {
-    Ok((StreamKind::WebTransport, Some(session_4()?)))
+fn made_4<R: Abort>(rt: &R) -> Made {
+    (StreamKind::WebTransport, Some(session_4(rt)))
 }
 
 /// What one poll of the way of a header answers.
@@ -194,53 +185,47 @@ fn step_uni(upgrading: UniUpgrading, sink: &mut Paced<'_>) -> UniStep {
 }
 
 /// Of the header of session 4 so many bytes go to a sink that stops, and the others elsewhere.
-fn check_uni_stop<R: Abort + AllocGlobal>(rt: &R, room: usize) -> Result<(), Fail> {
+fn check_uni_stop<R: Abort + AllocGlobal>(rt: &R, room: usize) {
     let mut sink = Paced::new(rt.alloc(), stops_after(room));
-    let stepped = step_uni(header_4()?, &mut sink);
-    let upgrading = check_stopped(rt, stepped, &sink, front(HEADER, room))?;
-    check_header_made(rt, upgrading, rest(HEADER, room), made_4()?)
+    let stepped = step_uni(header_4(rt), &mut sink);
+    let upgrading = check_stopped(rt, stepped, &sink, front(HEADER, room));
+    check_header_made(rt, upgrading, rest(HEADER, room), made_4(rt));
 }
 
 #[test]
-fn a_header_goes_on_elsewhere(rt: HostRuntime) -> Result<(), Fail> {
+fn a_header_goes_on_elsewhere(rt: HostRuntime) {
     for room in 0..3usize {
-        check_uni_stop(&rt, room)?;
+        check_uni_stop(&rt, room);
     }
-    Ok(())
 }
 
 /// The state after two polls, each of which waits for the sink.
-fn wait_uni(upgrading: UniUpgrading, sink: &mut Paced<'_>) -> Result<UniUpgrading, Fail> {
-    let upgrading = take_pending(step_uni(upgrading, sink))?;
-    take_pending(step_uni(upgrading, sink))
+fn wait_uni<R: Abort>(rt: &R, upgrading: UniUpgrading, sink: &mut Paced<'_>) -> UniUpgrading {
+    let upgrading = take_pending(rt, step_uni(upgrading, sink));
+    take_pending(rt, step_uni(upgrading, sink))
 }
 
 /// The stream after two polls, of which the first finds that the sink is lost.
-fn lose_uni<R: Abort>(
-    rt: &R,
-    upgrading: UniUpgrading,
-    sink: &mut Paced<'_>,
-) -> Result<StreamUniLocalH3, Fail> {
-    let (upgrading, fault) = take_failed(step_uni(upgrading, sink))?;
+fn lose_uni<R: Abort>(rt: &R, upgrading: UniUpgrading, sink: &mut Paced<'_>) -> StreamUniLocalH3 {
+    let (upgrading, fault) = take_failed(rt, step_uni(upgrading, sink));
     same(rt, fault, IoWriteError::NotConnected, "lost");
-    take_result(step_uni(upgrading, sink))
+    take_result(rt, step_uni(upgrading, sink))
 }
 
 #[test]
-fn a_header_waits_for_its_sink(rt: HostRuntime) -> Result<(), Fail> {
+fn a_header_waits_for_its_sink(rt: HostRuntime) {
     let mut sink = Paced::new(rt.alloc(), &HALTS);
-    let upgrading = wait_uni(header_4()?, &mut sink)?;
+    let upgrading = wait_uni(&rt, header_4(&rt), &mut sink);
     same(&rt, sink.output(), front(HEADER, 2), "two bytes");
-    let stream = lose_uni(&rt, upgrading, &mut sink)?;
+    let stream = lose_uni(&rt, upgrading, &mut sink);
     same(&rt, sink.output(), HEADER, "done");
     same(&rt, stream.kind(), StreamKind::WebTransport, "its kind");
-    Ok(())
 }
 
 #[test]
-fn refused_memory_hands_back_the_header(rt: HostRuntime) -> Result<(), Fail> {
+fn refused_memory_hands_back_the_header(rt: HostRuntime) {
     let upgrading = StreamUniLocalQuic::open_uni().upgrade_async(StreamHeader::new_control());
-    check_header_made(&rt, upgrading, &[0x00], (StreamKind::Control, None))
+    check_header_made(&rt, upgrading, &[0x00], (StreamKind::Control, None));
 }
 
 /// What one poll of an accepted stream answers.
@@ -257,10 +242,10 @@ fn check_failed<R: Abort, S: AsyncRead>(
     accepting: UniAccepting,
     source: &mut S,
     wanted: IoReadError,
-) -> Result<UniAccepting, Fail> {
-    let (accepting, fault) = take_failed(step_in(accepting, source))?;
+) -> UniAccepting {
+    let (accepting, fault) = take_failed(rt, step_in(accepting, source));
     same(rt, fault, wanted, "the fault");
-    Ok(accepting)
+    accepting
 }
 
 /// The next poll makes such a stream.
@@ -270,17 +255,16 @@ fn check_accepted<R: Abort, N: Display + Drop>(
     source: &mut &[u8],
     wanted: Made,
     shows: N,
-) -> Result<(), Fail> {
-    let stream = take_result(step_in(accepting, source))?;
+) {
+    let stream = take_result(rt, step_in(accepting, source));
     same(rt, (stream.kind(), stream.session_id()), wanted, shows);
-    Ok(())
 }
 
 /// The fault of a stream that is these bytes, and how many of them are left.
-fn fault_of(mut bytes: &[u8]) -> Result<(IoReadError, usize), Fail> {
+fn fault_of<R: Abort>(rt: &R, mut bytes: &[u8]) -> (IoReadError, usize) {
     let accepting = StreamUniRemoteQuic::accept_uni().upgrade_async();
-    let (_, fault) = take_failed(step_in(accepting, &mut bytes))?;
-    Ok((fault, bytes.len()))
+    let (_, fault) = take_failed(rt, step_in(accepting, &mut bytes));
+    (fault, bytes.len())
 }
 
 /// The bytes of a header and an end, the fault that refuses them, and what the row shows.
@@ -303,49 +287,48 @@ static FAULTS: [FaultRow; 4] = [
 ];
 
 /// The header of the row is refused so, and no byte is left.
-fn check_refusal<R: Abort>(rt: &R, row: &FaultRow) -> Result<(), Fail> {
+fn check_refusal<R: Abort>(rt: &R, row: &FaultRow) {
     let (bytes, fault, shows) = row;
-    let (came, left) = fault_of(bytes)?;
+    let (came, left) = fault_of(rt, bytes);
     same(rt, (&came, left), (fault, 0), shows);
-    Ok(())
 }
 
 #[test]
-fn faults_of_the_header_hand_it_back(rt: HostRuntime) -> Result<(), Fail> {
+fn faults_of_the_header_hand_it_back(rt: HostRuntime) {
     for row in &FAULTS {
-        check_refusal(&rt, row)?;
+        check_refusal(&rt, row);
     }
-    Ok(())
 }
 
 #[test]
-fn headers_are_accepted(rt: HostRuntime) -> Result<(), Fail> {
+fn headers_are_accepted(rt: HostRuntime) {
     let mut source = b"\x00\x04\x00".as_slice();
     let accepting = StreamUniRemoteQuic::accept_uni().upgrade_async();
     let wanted = (StreamKind::Control, None);
-    check_accepted(&rt, accepting, &mut source, wanted, "control")?;
+    check_accepted(&rt, accepting, &mut source, wanted, "control");
     same(&rt, source, b"\x04\x00".as_slice(), "bytes left");
-    Ok(())
 }
 
 #[test]
-fn a_cut_header_is_accepted_from_a_second_source(rt: HostRuntime) -> Result<(), Fail> {
+fn a_cut_header_is_accepted_from_a_second_source(rt: HostRuntime) {
     let accepting = StreamUniRemoteQuic::accept_uni().upgrade_async();
     let cut = IoReadError::H3(ErrorCode::Frame);
-    let accepting = check_failed(&rt, accepting, &mut front(HEADER, 2), cut)?;
-    check_accepted(&rt, accepting, &mut rest(HEADER, 2), made_4()?, "a session")
+    let accepting = check_failed(&rt, accepting, &mut front(HEADER, 2), cut);
+    let wanted = made_4(&rt);
+    check_accepted(&rt, accepting, &mut rest(HEADER, 2), wanted, "a session");
 }
 
 /// The state, after the waits before so many bytes and before the end.
-fn wait_before(
+fn wait_before<R: Abort>(
+    rt: &R,
     mut accepting: UniAccepting,
     source: &mut Trickle<'_>,
     len: usize,
-) -> Result<UniAccepting, Fail> {
+) -> UniAccepting {
     for _turn in 0..=len {
-        accepting = take_pending(step_in(accepting, source))?;
+        accepting = take_pending(rt, step_in(accepting, source));
     }
-    Ok(accepting)
+    accepting
 }
 
 /// The fault of a stream after the first so many bytes of a header, which are too few and end so.
@@ -365,29 +348,28 @@ fn check_stops<R: Abort>(
     source: &mut Trickle<'_>,
     len: usize,
     end: End,
-) -> Result<UniAccepting, Fail> {
-    let accepting = check_failed(rt, accepting, source, stop_fault(len, end))?;
+) -> UniAccepting {
+    let accepting = check_failed(rt, accepting, source, stop_fault(len, end));
     check_failed(rt, accepting, source, stop_fault(len, end))
 }
 
 /// The first so many bytes of the header of session 4, each of them late; then the others.
-fn check_header_stop<R: Abort>(rt: &R, len: usize, end: End) -> Result<(), Fail> {
+fn check_header_stop<R: Abort>(rt: &R, len: usize, end: End) {
     let mut source = Trickle::new(front(HEADER, len), end);
     let accepting = StreamUniRemoteQuic::accept_uni().upgrade_async();
-    let accepting = wait_before(accepting, &mut source, len)?;
-    let accepting = check_stops(rt, accepting, &mut source, len, end)?;
-    check_accepted(rt, accepting, &mut rest(HEADER, len), made_4()?, len)
+    let accepting = wait_before(rt, accepting, &mut source, len);
+    let accepting = check_stops(rt, accepting, &mut source, len, end);
+    check_accepted(rt, accepting, &mut rest(HEADER, len), made_4(rt), len);
 }
 
 /// Every ending of a source.
 static ENDS: [End; 3] = End::EACH;
 
 #[test]
-fn a_header_may_stop_at_each_place(rt: HostRuntime) -> Result<(), Fail> {
+fn a_header_may_stop_at_each_place(rt: HostRuntime) {
     for len in 0..3usize {
         for end in &ENDS {
-            check_header_stop(&rt, len, *end)?;
+            check_header_stop(&rt, len, *end);
         }
     }
-    Ok(())
 }

@@ -2,10 +2,9 @@
 ghost use Rattle.wtransport_proto.specs.Streams.{CanWrite};
 
 use crate::opened::{front, session_4, session_of_stream};
-use crate::same::{fail, same};
+use crate::same::same;
 use std::borrow::CowSlice;
 use std::process::Abort;
-use std::test::Fail;
 use wtransport_proto::bytes::{BufferWriter, EndOfBuffer, PutError};
 use wtransport_proto::frame::Frame;
 use wtransport_proto::stream::unilocal::{StreamUniLocalH3, StreamUniLocalQuic};
@@ -15,18 +14,18 @@ use wtransport_proto::stream_header::{StreamHeader, StreamKind};
 type UpgradeAnswer = Result<StreamUniLocalH3, (StreamUniLocalQuic, PutError)>;
 
 /// The stream that was handed back, and why.
-fn refusal_of(upgraded: UpgradeAnswer) -> Result<(StreamUniLocalQuic, PutError), Fail> {
+fn refusal_of<R: Abort>(rt: &R, upgraded: UpgradeAnswer) -> (StreamUniLocalQuic, PutError) {
     match upgraded {
-        Ok(_) => fail("too little room"),
-        Err(back) => Ok(back),
+        Ok(_) => rt.panic("too little room"),
+        Err(back) => back,
     }
 }
 
 /// The stream that was made.
-fn stream_of(upgraded: UpgradeAnswer) -> Result<StreamUniLocalH3, Fail> {
+fn stream_of<R: Abort>(rt: &R, upgraded: UpgradeAnswer) -> StreamUniLocalH3 {
     match upgraded {
-        Ok(stream) => Ok(stream),
-        Err(_) => fail("there is room"),
+        Ok(stream) => stream,
+        Err(_) => rt.panic("there is room"),
     }
 }
 
@@ -71,12 +70,13 @@ fn check_settings<R: Abort>(rt: &R, stream: &mut StreamUniLocalH3, writer: &mut 
 }
 
 #[test]
-fn a_control_stream_writes_settings(rt: HostRuntime) -> Result<(), Fail> {
+fn a_control_stream_writes_settings(rt: HostRuntime) {
     let header = StreamHeader::new_control();
     same(&rt, StreamUniLocalQuic::upgrade_size(header), 1, "size");
     let mut buffer = [0; 5];
     let mut writer = BufferWriter::new(&mut buffer);
-    let mut stream = stream_of(StreamUniLocalQuic::open_uni().upgrade(header, &mut writer))?;
+    let upgraded = StreamUniLocalQuic::open_uni().upgrade(header, &mut writer);
+    let mut stream = stream_of(&rt, upgraded);
     same(
         &rt,
         (writer.buffer_written(), stream.kind(), stream.session_id()),
@@ -84,42 +84,40 @@ fn a_control_stream_writes_settings(rt: HostRuntime) -> Result<(), Fail> {
         "the stream",
     );
     if stream.kind() == StreamKind::WebTransport {
-        return fail("a control stream");
+        panic!(rt; "a control stream");
     }
     check_settings(&rt, &mut stream, &mut writer);
-    Ok(())
 }
 
 /// The header of session 4.
 const HEADER: &[u8] = &[0x40, 0x54, 0x04];
 
 /// The stream is handed back, since two bytes are too little room for this header of a session.
-fn check_too_little<R: Abort>(rt: &R, header: StreamHeader) -> Result<StreamUniLocalQuic, Fail> {
+fn check_too_little<R: Abort>(rt: &R, header: StreamHeader) -> StreamUniLocalQuic {
     let mut buffer = [0; 2];
     let mut writer = BufferWriter::new(&mut buffer);
     let upgraded = StreamUniLocalQuic::open_uni().upgrade(header, &mut writer);
-    let (stream, error) = refusal_of(upgraded)?;
+    let (stream, error) = refusal_of(rt, upgraded);
     same(rt, error, PutError::EndOfBuffer, "too little room");
     same(rt, writer.buffer_written(), front(HEADER, 2), "the parts");
-    Ok(stream)
+    stream
 }
 
 #[test]
-fn it_is_upgraded_where_there_is_room(rt: HostRuntime) -> Result<(), Fail> {
-    let session = session_4()?;
+fn it_is_upgraded_where_there_is_room(rt: HostRuntime) {
+    let session = session_4(&rt);
     let header = StreamHeader::new_webtransport(session);
     same(&rt, StreamUniLocalQuic::upgrade_size(header), 3, "size");
-    let stream = check_too_little(&rt, header)?;
+    let stream = check_too_little(&rt, header);
     let mut buffer = [0; 3];
     let mut writer = BufferWriter::new(&mut buffer);
-    let stream = stream_of(stream.upgrade(header, &mut writer))?;
+    let stream = stream_of(&rt, stream.upgrade(header, &mut writer));
     same(&rt, stream.session_id(), Some(session), "the session named");
     same(&rt, writer.buffer_written(), HEADER, "the header");
     if stream.kind() != StreamKind::WebTransport {
-        return fail("a stream of a session");
+        panic!(rt; "a stream of a session");
     }
     same(&rt, stream.upgrade().session_id(), session, "its session");
-    Ok(())
 }
 
 /// The header of session 64.
@@ -140,28 +138,23 @@ fn check_refused<R: Abort>(rt: &R, error: PutError, written: &[u8]) {
 }
 
 /// Upgrades a stream into the vector; where allocation failed, once more.
-fn upgrade_again<R: Abort>(
-    rt: &R,
-    header: StreamHeader,
-    vector: &mut Vec<u8>,
-) -> Result<StreamUniLocalH3, Fail> {
+fn upgrade_again<R: Abort>(rt: &R, header: StreamHeader, vector: &mut Vec<u8>) -> StreamUniLocalH3 {
     match StreamUniLocalQuic::open_uni().upgrade(header, vector) {
-        Ok(stream) => Ok(stream),
+        Ok(stream) => stream,
         Err((stream, error)) => {
             check_refused(rt, error, vector.as_slice());
             vector.clear();
-            stream_of(stream.upgrade(header, vector))
+            stream_of(rt, stream.upgrade(header, vector))
         }
     }
 }
 
 #[test]
-fn refused_memory_hands_the_stream_back(rt: HostRuntime) -> Result<(), Fail> {
-    let session = session_of_stream(64)?;
+fn refused_memory_hands_the_stream_back(rt: HostRuntime) {
+    let session = session_of_stream(&rt, 64);
     let mut vector = Vec::new(rt.alloc());
     let header = StreamHeader::new_webtransport(session);
-    let stream = upgrade_again(&rt, header, &mut vector)?;
+    let stream = upgrade_again(&rt, header, &mut vector);
     same(&rt, stream.session_id(), Some(session), "its session");
     same(&rt, vector.as_slice(), HEADER_64, "the header");
-    Ok(())
 }

@@ -4,11 +4,9 @@ ghost use Rattle.wtransport_proto.specs.StreamWriting.{WritesPlain};
 ghost use Rattle.wtransport_proto.specs.Streams.{CanWrite};
 
 use crate::opened::{front, open_session, opened_here, opened_there, rest};
-use crate::same::{fail, same};
-use std::alloc::Global;
+use crate::same::same;
 use std::borrow::CowSlice;
 use std::process::Abort;
-use std::test::Fail;
 use test_io::{Paced, stops_after};
 use wtransport_proto::bytes::{AsyncWrite, IoWriteError, Polled, Stepped, WriteStep};
 use wtransport_proto::frame::{Frame, FrameWriting};
@@ -239,21 +237,20 @@ fn check_session<R: Abort + AllocGlobal>(rt: &R, stream: StreamSession) {
 }
 
 #[test]
-fn the_stream_of_a_session_is_written(rt: HostRuntime) -> Result<(), Fail> {
-    check_session(&rt, open_session(rt.alloc())?);
-    Ok(())
+fn the_stream_of_a_session_is_written(rt: HostRuntime) {
+    check_session(&rt, open_session(rt.alloc()).expect(&rt, "memory"));
 }
 
 /// A frame on its way to a control stream, whose type goes to the vector.
-fn to_control<'a>(frame: &'a Frame<'_>, vector: &mut Vec<u8>) -> Result<ToOne<'a>, Fail> {
+fn to_control<'a, R: Abort>(rt: &R, frame: &'a Frame<'_>, vector: &mut Vec<u8>) -> ToOne<'a> {
     let upgrading = StreamUniLocalQuic::open_uni().upgrade_async(StreamHeader::new_control());
     let Stepped::Done(stream) = upgrading.poll(vector) else {
-        return fail("a control stream");
+        rt.panic("a control stream")
     };
-    Ok(ToOne {
+    ToOne {
         stream,
         writing: frame.write_async(),
-    })
+    }
 }
 
 /// A control stream: its type, and a settings frame of one setting.
@@ -265,19 +262,18 @@ fn settings() -> Frame<'static> {
 }
 
 /// Sends it to a control stream, and both to the vector.
-fn send_control(vector: &mut Vec<u8>) -> Result<SendAnswer, Fail> {
+fn send_control<R: Abort>(rt: &R, vector: &mut Vec<u8>) -> SendAnswer {
     let frame = settings();
-    let mut sending = to_control(&frame, vector)?;
-    Ok(send_again(&mut sending, vector))
+    let mut sending = to_control(rt, &frame, vector);
+    send_again(&mut sending, vector)
 }
 
 #[test]
-fn a_control_stream_is_written(rt: HostRuntime) -> Result<(), Fail> {
+fn a_control_stream_is_written(rt: HostRuntime) {
     let mut vector = Vec::new(rt.alloc());
-    let answer = send_control(&mut vector)?;
+    let answer = send_control(&rt, &mut vector);
     let came = (answer, vector.as_slice());
     same(&rt, came, (DONE, CONTROL), "settings");
-    Ok(())
 }
 
 /// How often a sink may wait.
@@ -319,17 +315,16 @@ fn a_frame_is_written_in_a_loop(rt: HostRuntime) {
 }
 
 /// Writes the settings to a control stream, while the sink waits; its type goes elsewhere.
-fn write_control(alloc: Global, sink: &mut Paced<'_>) -> Result<SendAnswer, Fail> {
+fn write_control<R: Abort + AllocGlobal>(rt: &R, sink: &mut Paced<'_>) -> SendAnswer {
     let frame = settings();
-    let mut sending = to_control(&frame, &mut Vec::new(alloc))?;
-    Ok(write_on(&mut sending, sink))
+    let mut sending = to_control(rt, &frame, &mut Vec::new(rt.alloc()));
+    write_on(&mut sending, sink)
 }
 
 #[test]
-fn settings_are_written_in_a_loop(rt: HostRuntime) -> Result<(), Fail> {
+fn settings_are_written_in_a_loop(rt: HostRuntime) {
     let mut sink = Paced::new(rt.alloc(), &WAITS);
-    let answer = write_control(rt.alloc(), &mut sink)?;
+    let answer = write_control(&rt, &mut sink);
     let came = (answer, sink.output());
     same(&rt, came, (DONE, rest(CONTROL, 1)), "settings");
-    Ok(())
 }
