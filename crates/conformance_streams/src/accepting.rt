@@ -1,9 +1,11 @@
 //! Accepting a bidirectional stream: what comes first in it decides whether it is a stream of a
-//! session or of a request.
+//! session or of a request. What a poll found is dropped by a call of `drop`, since at the end of a
+//! block it is proved for each variant and field.
 use crate::opened::{front, opened_there, rest};
 use crate::same::same;
 use std::alloc::Global;
 use std::fmt::Display;
+use std::mem::drop;
 use std::process::Abort;
 use test_io::{Answers, End, Trickle};
 use wtransport_proto::bytes::{AsyncRead, IoReadError as Fault, Polled, ReadStep};
@@ -163,6 +165,7 @@ fn check_outcome<R: Abort, N: Display + Drop>(
     shows: N,
 ) {
     same(rt, outcome_of(&found), wanted, shows);
+    drop(found);
 }
 
 /// The stream is found to be this.
@@ -255,7 +258,10 @@ fn count_turns<S: AsyncRead>(mut accepting: BiAccepting, source: &mut S) -> Turn
                 accepting = state;
             }
             BiAccepted::NoMemory(state) => accepting = state,
-            _ => return (waits, skipped),
+            found => {
+                drop(found);
+                return (waits, skipped);
+            }
         }
     }
     (waits, skipped)
@@ -396,7 +402,7 @@ const LONG: &[u8] = b"\x21\x00\x01\x30aaaaaaaabbbbbbbbccccccccddddddddeeeeeeeeff
 fn poll_again<R: Abort>(rt: &R, state: BiAccepting, source: &mut &[u8]) -> BiAccepted {
     match state.poll(source) {
         BiAccepted::NoMemory(state) => {
-            same(rt, Some(*source), LONG.get(4..), "the head is held");
+            same(rt, *source, rest(LONG, 4), "the head is held");
             state.poll(source)
         }
         found => found,
@@ -415,17 +421,21 @@ fn section_of(found: &BiAccepted) -> Option<&[u8]> {
 fn refused_memory_leaves_the_request(rt: HostRuntime) {
     let mut source = LONG;
     let state = state_of(&rt, accepting(rt.alloc()).poll(&mut source));
-    let rest = LONG.get(2..);
-    same(&rt, Some(source), rest, "the reserved frame is skipped");
+    let left = rest(LONG, 2);
+    same(&rt, source, left, "the reserved frame is skipped");
     let found = poll_again(&rt, state, &mut source);
     same(&rt, source, b"\x07".as_slice(), "bytes left");
     same(&rt, section_of(&found), LONG.get(4..52), "the request");
+    drop(found);
 }
 
 /// The stream of a request, and what reads on from it.
 fn request_of<R: Abort>(rt: &R, found: BiAccepted) -> (StreamBiRemoteH3, FrameReading) {
     match found {
-        BiAccepted::Request(stream, reading, _) => (stream, reading),
+        BiAccepted::Request(stream, reading, frame) => {
+            drop(frame);
+            (stream, reading)
+        }
         _ => rt.panic("a request"),
     }
 }
@@ -461,4 +471,5 @@ fn a_request_is_read_on(rt: HostRuntime) {
     let read = read_again(&mut stream, &mut reading, &mut source);
     let wanted = (Some(b"b".as_slice()), [].as_slice());
     same(&rt, (payload_of(&read), source), wanted, "data");
+    drop(read);
 }

@@ -78,25 +78,6 @@ fn a_frame_that_was_written_whole_ends_upgrading(rt: HostRuntime) {
     );
 }
 
-/// The answer of an upgrade.
-type UpgradeAnswer = Result<StreamBiLocalWT, (StreamBiLocalH3, PutError)>;
-
-/// The stream that was handed back, and why.
-fn refusal_of<R: Abort>(rt: &R, upgraded: UpgradeAnswer) -> (StreamBiLocalH3, PutError) {
-    match upgraded {
-        Ok(_) => rt.panic("too little room"),
-        Err(back) => back,
-    }
-}
-
-/// The stream that was upgraded.
-fn stream_of<R: Abort>(rt: &R, upgraded: UpgradeAnswer) -> StreamBiLocalWT {
-    match upgraded {
-        Ok(stream) => stream,
-        Err(_) => rt.panic("there is room"),
-    }
-}
-
 /// The frame of session 0.
 const FRAME_0: &[u8] = &[0x40, 0x41, 0x00];
 
@@ -104,7 +85,8 @@ const FRAME_0: &[u8] = &[0x40, 0x41, 0x00];
 fn check_too_little<R: Abort>(rt: &R, session: SessionId) -> StreamBiLocalH3 {
     let mut buffer = [0; 2];
     let mut writer = BufferWriter::new(&mut buffer);
-    let (stream, error) = refusal_of(rt, opened_here().upgrade(session, &mut writer));
+    let upgraded = opened_here().upgrade(session, &mut writer);
+    let (stream, error) = upgraded.expect_err(rt, "too little room");
     same(rt, error, PutError::EndOfBuffer, "too little room");
     same(rt, writer.buffer_written(), front(FRAME_0, 2), "the parts");
     stream
@@ -116,7 +98,8 @@ fn check_room<R: Abort>(rt: &R, stream: StreamBiLocalH3, session: SessionId)
 {
     let mut buffer = [0; 4];
     let mut writer = BufferWriter::new(&mut buffer);
-    let stream = stream_of(rt, stream.upgrade(session, &mut writer));
+    let upgraded = stream.upgrade(session, &mut writer);
+    let stream = upgraded.expect(rt, "there is room");
     same(rt, stream.session_id(), session, "its session");
     same(rt, writer.buffer_written(), FRAME_0, "the frame");
 }
@@ -144,7 +127,7 @@ fn are_parts(written: &[u8]) -> bool {
 /// What memory was refused to: the error, and whole parts of the frame of session 64.
 fn check_refused<R: Abort>(rt: &R, error: PutError, written: &[u8]) {
     same(rt, error, PutError::Memory, "error");
-    assert!(rt; are_parts(written));
+    same(rt, are_parts(written), true, "whole parts");
 }
 
 /// Upgrades the stream into the vector; where allocation failed, once more.
@@ -154,7 +137,7 @@ fn upgrade_again<R: Abort>(rt: &R, session: SessionId, vector: &mut Vec<u8>) -> 
         Err((stream, error)) => {
             check_refused(rt, error, vector.as_slice());
             vector.clear();
-            stream_of(rt, stream.upgrade(session, vector))
+            stream.upgrade(session, vector).expect(rt, "memory")
         }
     }
 }

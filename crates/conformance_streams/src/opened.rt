@@ -12,12 +12,12 @@ use wtransport_proto::stream::session::StreamSession;
 use wtransport_proto::varint::VarInt;
 
 /// The first so many of these bytes.
-pub(crate) fn front(bytes: &'static [u8], len: usize) -> &'static [u8] {
+pub(crate) fn front(bytes: &[u8], len: usize) -> &[u8] {
     bytes.get(..len).unwrap_or(&[])
 }
 
 /// What follows the first so many of these bytes.
-pub(crate) fn rest(bytes: &'static [u8], len: usize) -> &'static [u8] {
+pub(crate) fn rest(bytes: &[u8], len: usize) -> &[u8] {
     bytes.get(len..).unwrap_or(&[])
 }
 

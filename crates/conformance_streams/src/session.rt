@@ -2,6 +2,7 @@
 use crate::opened::{front, open_session, opened_there};
 use crate::same::same;
 use std::borrow::CowSlice;
+use std::mem::drop;
 use std::process::Abort;
 use wtransport_proto::bytes::{BufferWriter, EndOfBuffer, PutError};
 use wtransport_proto::frame::Frame;
@@ -14,11 +15,13 @@ fn it_keeps_its_request(rt: HostRuntime) {
     let request = stream.request();
     same(&rt, request.authority(), "example.com", "opened here");
     same(&rt, request.path(), "/a?b", "opened here");
+    drop(stream);
     let request = SessionRequest::new(rt.alloc(), "https://localhost:4433");
     let request = request.expect(&rt, "memory");
     let stream = opened_there().into_session(request);
     let authority = stream.request().authority();
     same(&rt, authority, "localhost:4433", "opened there");
+    drop(stream);
 }
 
 /// What writing a data frame of one byte whole answers.
@@ -59,5 +62,7 @@ fn check_frames<R: Abort>(rt: &R, stream: &StreamSession) {
 
 #[test]
 fn frames_are_written(rt: HostRuntime) {
-    check_frames(&rt, &open_session(rt.alloc()).expect(&rt, "memory"));
+    let stream = open_session(rt.alloc()).expect(&rt, "memory");
+    check_frames(&rt, &stream);
+    drop(stream);
 }

@@ -9,7 +9,7 @@ use wtransport_proto::error::ErrorCode;
 use wtransport_proto::ids::SessionId;
 use wtransport_proto::stream::bilocal::StreamBiLocalWT;
 use wtransport_proto::stream::unilocal::{StreamUniLocalH3, StreamUniLocalQuic};
-use wtransport_proto::stream::uniremote::{StreamUniRemoteH3, StreamUniRemoteQuic};
+use wtransport_proto::stream::uniremote::StreamUniRemoteQuic;
 use wtransport_proto::stream::{BiUpgrading, IoReadError, UniAccepting, UniUpgrading};
 use wtransport_proto::stream_header::{StreamHeader, StreamKind};
 
@@ -77,18 +77,10 @@ fn session_frame_4<R: Abort>(rt: &R) -> BiUpgrading {
     opened_here().upgrade_async(session_4(rt))
 }
 
-/// What one poll of an upgrade to a session answers.
-type BiStep = Stepped<BiUpgrading, StreamBiLocalWT, IoWriteError>;
-
-/// One poll of the upgrade.
-fn step_bi(upgrading: BiUpgrading, sink: &mut Paced<'_>) -> BiStep {
-    upgrading.poll(sink)
-}
-
 /// Of the frame of session 4 so many bytes go to a sink that stops, and the others elsewhere.
 fn check_bi_stop<R: Abort + AllocGlobal>(rt: &R, room: usize) {
     let mut sink = Paced::new(rt.alloc(), stops_after(room));
-    let stepped = step_bi(session_frame_4(rt), &mut sink);
+    let stepped = session_frame_4(rt).poll(&mut sink);
     let upgrading = check_stopped(rt, stepped, &sink, front(SESSION_FRAME, room));
     check_session_made(rt, upgrading, rest(SESSION_FRAME, room));
 }
@@ -110,15 +102,15 @@ static HALTS: [WriteStep; 4] = [
 
 /// The state after two polls, each of which waits for the sink.
 fn wait_bi<R: Abort>(rt: &R, upgrading: BiUpgrading, sink: &mut Paced<'_>) -> BiUpgrading {
-    let upgrading = take_pending(rt, step_bi(upgrading, sink));
-    take_pending(rt, step_bi(upgrading, sink))
+    let upgrading = take_pending(rt, upgrading.poll(sink));
+    take_pending(rt, upgrading.poll(sink))
 }
 
 /// The stream after two polls, of which the first finds that the sink is lost.
 fn lose_bi<R: Abort>(rt: &R, upgrading: BiUpgrading, sink: &mut Paced<'_>) -> StreamBiLocalWT {
-    let (upgrading, fault) = take_failed(rt, step_bi(upgrading, sink));
+    let (upgrading, fault) = take_failed(rt, upgrading.poll(sink));
     same(rt, fault, IoWriteError::NotConnected, "lost");
-    take_result(rt, step_bi(upgrading, sink))
+    take_result(rt, upgrading.poll(sink))
 }
 
 #[test]
@@ -176,18 +168,10 @@ fn made_4<R: Abort>(rt: &R) -> Made {
     (StreamKind::WebTransport, Some(session_4(rt)))
 }
 
-/// What one poll of the way of a header answers.
-type UniStep = Stepped<UniUpgrading, StreamUniLocalH3, IoWriteError>;
-
-/// One poll of the way of the header.
-fn step_uni(upgrading: UniUpgrading, sink: &mut Paced<'_>) -> UniStep {
-    upgrading.poll(sink)
-}
-
 /// Of the header of session 4 so many bytes go to a sink that stops, and the others elsewhere.
 fn check_uni_stop<R: Abort + AllocGlobal>(rt: &R, room: usize) {
     let mut sink = Paced::new(rt.alloc(), stops_after(room));
-    let stepped = step_uni(header_4(rt), &mut sink);
+    let stepped = header_4(rt).poll(&mut sink);
     let upgrading = check_stopped(rt, stepped, &sink, front(HEADER, room));
     check_header_made(rt, upgrading, rest(HEADER, room), made_4(rt));
 }
@@ -201,15 +185,15 @@ fn a_header_goes_on_elsewhere(rt: HostRuntime) {
 
 /// The state after two polls, each of which waits for the sink.
 fn wait_uni<R: Abort>(rt: &R, upgrading: UniUpgrading, sink: &mut Paced<'_>) -> UniUpgrading {
-    let upgrading = take_pending(rt, step_uni(upgrading, sink));
-    take_pending(rt, step_uni(upgrading, sink))
+    let upgrading = take_pending(rt, upgrading.poll(sink));
+    take_pending(rt, upgrading.poll(sink))
 }
 
 /// The stream after two polls, of which the first finds that the sink is lost.
 fn lose_uni<R: Abort>(rt: &R, upgrading: UniUpgrading, sink: &mut Paced<'_>) -> StreamUniLocalH3 {
-    let (upgrading, fault) = take_failed(rt, step_uni(upgrading, sink));
+    let (upgrading, fault) = take_failed(rt, upgrading.poll(sink));
     same(rt, fault, IoWriteError::NotConnected, "lost");
-    take_result(rt, step_uni(upgrading, sink))
+    take_result(rt, upgrading.poll(sink))
 }
 
 #[test]
@@ -228,14 +212,6 @@ fn refused_memory_hands_back_the_header(rt: HostRuntime) {
     check_header_made(&rt, upgrading, &[0x00], (StreamKind::Control, None));
 }
 
-/// What one poll of an accepted stream answers.
-type AcceptStep = Stepped<UniAccepting, StreamUniRemoteH3, IoReadError>;
-
-/// One poll of the stream.
-fn step_in<S: AsyncRead>(accepting: UniAccepting, source: &mut S) -> AcceptStep {
-    accepting.poll(source)
-}
-
 /// The stream fails with this fault, and is handed back.
 fn check_failed<R: Abort, S: AsyncRead>(
     rt: &R,
@@ -243,7 +219,7 @@ fn check_failed<R: Abort, S: AsyncRead>(
     source: &mut S,
     wanted: IoReadError,
 ) -> UniAccepting {
-    let (accepting, fault) = take_failed(rt, step_in(accepting, source));
+    let (accepting, fault) = take_failed(rt, accepting.poll(source));
     same(rt, fault, wanted, "the fault");
     accepting
 }
@@ -256,14 +232,14 @@ fn check_accepted<R: Abort, N: Display + Drop>(
     wanted: Made,
     shows: N,
 ) {
-    let stream = take_result(rt, step_in(accepting, source));
+    let stream = take_result(rt, accepting.poll(source));
     same(rt, (stream.kind(), stream.session_id()), wanted, shows);
 }
 
 /// The fault of a stream that is these bytes, and how many of them are left.
 fn fault_of<R: Abort>(rt: &R, mut bytes: &[u8]) -> (IoReadError, usize) {
     let accepting = StreamUniRemoteQuic::accept_uni().upgrade_async();
-    let (_, fault) = take_failed(rt, step_in(accepting, &mut bytes));
+    let (_, fault) = take_failed(rt, accepting.poll(&mut bytes));
     (fault, bytes.len())
 }
 
@@ -326,7 +302,7 @@ fn wait_before<R: Abort>(
     len: usize,
 ) -> UniAccepting {
     for _turn in 0..=len {
-        accepting = take_pending(rt, step_in(accepting, source));
+        accepting = take_pending(rt, accepting.poll(source));
     }
     accepting
 }

@@ -10,25 +10,6 @@ use wtransport_proto::frame::Frame;
 use wtransport_proto::stream::unilocal::{StreamUniLocalH3, StreamUniLocalQuic};
 use wtransport_proto::stream_header::{StreamHeader, StreamKind};
 
-/// The answer of an upgrade.
-type UpgradeAnswer = Result<StreamUniLocalH3, (StreamUniLocalQuic, PutError)>;
-
-/// The stream that was handed back, and why.
-fn refusal_of<R: Abort>(rt: &R, upgraded: UpgradeAnswer) -> (StreamUniLocalQuic, PutError) {
-    match upgraded {
-        Ok(_) => rt.panic("too little room"),
-        Err(back) => back,
-    }
-}
-
-/// The stream that was made.
-fn stream_of<R: Abort>(rt: &R, upgraded: UpgradeAnswer) -> StreamUniLocalH3 {
-    match upgraded {
-        Ok(stream) => stream,
-        Err(_) => rt.panic("there is room"),
-    }
-}
-
 /// A control stream: its type, and two empty settings frames.
 const CONTROL: &[u8] = &[0x00, 0x04, 0x00, 0x04, 0x00];
 
@@ -76,17 +57,17 @@ fn a_control_stream_writes_settings(rt: HostRuntime) {
     let mut buffer = [0; 5];
     let mut writer = BufferWriter::new(&mut buffer);
     let upgraded = StreamUniLocalQuic::open_uni().upgrade(header, &mut writer);
-    let mut stream = stream_of(&rt, upgraded);
+    let mut stream = upgraded.expect(&rt, "there is room");
     same(
         &rt,
         (writer.buffer_written(), stream.kind(), stream.session_id()),
         (front(CONTROL, 1), StreamKind::Control, None),
         "the stream",
     );
-    if stream.kind() == StreamKind::WebTransport {
-        panic!(rt; "a control stream");
+    match stream.kind() {
+        StreamKind::WebTransport => rt.panic("a control stream"),
+        _ => check_settings(&rt, &mut stream, &mut writer),
     }
-    check_settings(&rt, &mut stream, &mut writer);
 }
 
 /// The header of session 4.
@@ -97,7 +78,7 @@ fn check_too_little<R: Abort>(rt: &R, header: StreamHeader) -> StreamUniLocalQui
     let mut buffer = [0; 2];
     let mut writer = BufferWriter::new(&mut buffer);
     let upgraded = StreamUniLocalQuic::open_uni().upgrade(header, &mut writer);
-    let (stream, error) = refusal_of(rt, upgraded);
+    let (stream, error) = upgraded.expect_err(rt, "too little room");
     same(rt, error, PutError::EndOfBuffer, "too little room");
     same(rt, writer.buffer_written(), front(HEADER, 2), "the parts");
     stream
@@ -111,13 +92,16 @@ fn it_is_upgraded_where_there_is_room(rt: HostRuntime) {
     let stream = check_too_little(&rt, header);
     let mut buffer = [0; 3];
     let mut writer = BufferWriter::new(&mut buffer);
-    let stream = stream_of(&rt, stream.upgrade(header, &mut writer));
+    let upgraded = stream.upgrade(header, &mut writer);
+    let stream = upgraded.expect(&rt, "there is room");
     same(&rt, stream.session_id(), Some(session), "the session named");
     same(&rt, writer.buffer_written(), HEADER, "the header");
-    if stream.kind() != StreamKind::WebTransport {
-        panic!(rt; "a stream of a session");
+    match stream.kind() {
+        StreamKind::WebTransport => {
+            same(&rt, stream.upgrade().session_id(), session, "its session");
+        }
+        _ => rt.panic("a stream of a session"),
     }
-    same(&rt, stream.upgrade().session_id(), session, "its session");
 }
 
 /// The header of session 64.
@@ -134,7 +118,7 @@ fn are_parts(written: &[u8]) -> bool {
 /// What memory was refused to: the error, and whole parts of the header of session 64.
 fn check_refused<R: Abort>(rt: &R, error: PutError, written: &[u8]) {
     same(rt, error, PutError::Memory, "error");
-    assert!(rt; are_parts(written));
+    same(rt, are_parts(written), true, "whole parts");
 }
 
 /// Upgrades a stream into the vector; where allocation failed, once more.
@@ -144,7 +128,7 @@ fn upgrade_again<R: Abort>(rt: &R, header: StreamHeader, vector: &mut Vec<u8>) -
         Err((stream, error)) => {
             check_refused(rt, error, vector.as_slice());
             vector.clear();
-            stream_of(rt, stream.upgrade(header, vector))
+            stream.upgrade(header, vector).expect(rt, "memory")
         }
     }
 }

@@ -105,9 +105,11 @@ fn faults_of_the_header_are_named(rt: HostRuntime) {
 fn it_becomes_a_stream_of_its_session(rt: HostRuntime) {
     let quic = StreamUniRemoteQuic::accept_uni();
     let stream = read_header(&rt, quic, &mut b"\x40\x54\x04".as_slice());
-    if stream.kind() != StreamKind::WebTransport {
-        panic!(rt; "a stream of a session");
+    match stream.kind() {
+        StreamKind::WebTransport => {
+            let session = stream.upgrade().session_id();
+            same(&rt, session, session_4(&rt), "its session");
+        }
+        _ => rt.panic("a stream of a session"),
     }
-    let session = stream.upgrade().session_id();
-    same(&rt, session, session_4(&rt), "its session");
 }

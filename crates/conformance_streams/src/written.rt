@@ -88,11 +88,16 @@ fn send_again<K: Sends, W: AsyncWrite>(sending: &mut K, sink: &mut W) -> SendAns
     }
 }
 
+/// All is sent, and these bytes came.
+fn check_sent<R: Abort>(rt: &R, answer: SendAnswer, came: &[u8], wire: &'static [u8]) {
+    same(rt, (answer, came), (DONE, wire), "all is sent");
+}
+
 /// What is left of the frame goes to a vector, as these bytes.
 fn check_rest<R: Abort + AllocGlobal, K: Sends>(rt: &R, sending: &mut K, wire: &'static [u8]) {
     let mut vector = Vec::new(rt.alloc());
     let answer = send_again(sending, &mut vector);
-    same(rt, (answer, vector.as_slice()), (DONE, wire), "to a vector");
+    check_sent(rt, answer, vector.as_slice(), wire);
 }
 
 /// A data frame of the bytes `abc`.
@@ -152,32 +157,30 @@ static HALTING: [HaltRow; 5] = [
     (DONE, false, "all is sent"),
 ];
 
+/// A sink that halts, and would stop after the last byte.
+static HALTS: [WriteStep; 6] = [
+    WriteStep::NotReady,
+    WriteStep::Bytes(2),
+    WriteStep::NotReady,
+    WriteStep::NotConnected,
+    WriteStep::Bytes(1),
+    WriteStep::Stopped,
+];
+
 /// Once all is sent, the sink is not called any more.
 #[test]
 fn a_frame_that_was_written_ends_upgrading(rt: HostRuntime) {
-    let steps = [
-        WriteStep::NotReady,
-        WriteStep::Bytes(2),
-        WriteStep::NotReady,
-        WriteStep::NotConnected,
-        WriteStep::Bytes(1),
-        WriteStep::Stopped,
-    ];
     let frame = Frame::new_data(CowSlice::Borrowed(b"a"));
     let mut sending = ToBoth {
         stream: opened_here(),
         writing: frame.write_async(),
     };
-    let mut sink = Paced::new(rt.alloc(), &steps);
+    let mut sink = Paced::new(rt.alloc(), &HALTS);
     for row in &HALTING {
         check_halt(&rt, &mut sending, &mut sink, row);
     }
-    same(
-        &rt,
-        (sink.left(), sink.output()),
-        (1, b"\x00\x01a".as_slice()),
-        "the sink",
-    );
+    same(&rt, sink.left(), 1, "the sink is not called");
+    same(&rt, sink.output(), b"\x00\x01a".as_slice(), "the sink");
 }
 
 /// Sends the frame; where memory was refused, the stream can still be upgraded, and a second poll
@@ -185,7 +188,7 @@ fn a_frame_that_was_written_ends_upgrading(rt: HostRuntime) {
 fn send_refused<R: Abort>(rt: &R, sending: &mut ToBoth<'_>, vector: &mut Vec<u8>) -> SendAnswer {
     match sending.send(vector) {
         Polled::NoMemory => {
-            assert!(rt; sending.stream.can_upgrade());
+            same(rt, sending.stream.can_upgrade(), true, "refused");
             sending.send(vector)
         }
         answer => answer,
@@ -201,8 +204,8 @@ fn refused_memory_for_a_frame_is_asked_for_again(rt: HostRuntime) {
     };
     let mut vector = Vec::new(rt.alloc());
     let answer = send_refused(&rt, &mut sending, &mut vector);
-    same(&rt, (answer, vector.as_slice()), (DONE, DATA), "data");
-    assert!(rt; !sending.stream.can_upgrade());
+    check_sent(&rt, answer, vector.as_slice(), DATA);
+    same(&rt, sending.stream.can_upgrade(), false, "written");
 }
 
 #[test]
@@ -272,8 +275,7 @@ fn send_control<R: Abort>(rt: &R, vector: &mut Vec<u8>) -> SendAnswer {
 fn a_control_stream_is_written(rt: HostRuntime) {
     let mut vector = Vec::new(rt.alloc());
     let answer = send_control(&rt, &mut vector);
-    let came = (answer, vector.as_slice());
-    same(&rt, came, (DONE, CONTROL), "settings");
+    check_sent(&rt, answer, vector.as_slice(), CONTROL);
 }
 
 /// How often a sink may wait.
@@ -306,12 +308,8 @@ fn a_frame_is_written_in_a_loop(rt: HostRuntime) {
         writing: frame.write_async(),
     };
     let answer = write_on(&mut sending, &mut sink);
-    same(
-        &rt,
-        (answer, sink.output(), sending.stream.can_upgrade()),
-        (DONE, DATA, false),
-        "data",
-    );
+    check_sent(&rt, answer, sink.output(), DATA);
+    same(&rt, sending.stream.can_upgrade(), false, "written");
 }
 
 /// Writes the settings to a control stream, while the sink waits; its type goes elsewhere.
@@ -325,6 +323,5 @@ fn write_control<R: Abort + AllocGlobal>(rt: &R, sink: &mut Paced<'_>) -> SendAn
 fn settings_are_written_in_a_loop(rt: HostRuntime) {
     let mut sink = Paced::new(rt.alloc(), &WAITS);
     let answer = write_control(&rt, &mut sink);
-    let came = (answer, sink.output());
-    same(&rt, came, (DONE, rest(CONTROL, 1)), "settings");
+    check_sent(&rt, answer, sink.output(), rest(CONTROL, 1));
 }
