@@ -1,7 +1,7 @@
 //! Accepting a bidirectional stream: what comes first in it decides whether it is a stream of a
 //! session or of a request. What a poll found is dropped by a call of `drop`, since at the end of a
 //! block it is proved for each variant and field.
-use crate::opened::{front, opened_there, rest};
+use crate::opened::{front, opened_there, rest, stop_fault};
 use crate::same::same;
 use std::alloc::Global;
 use std::fmt::Display;
@@ -157,17 +157,6 @@ static ROWS: [Row; 21] = [
     (b"\x01\x02a", Err(&LATE), b"", "half a request"),
 ];
 
-/// This was found.
-fn check_outcome<R: Abort, N: Display + Drop>(
-    rt: &R,
-    found: BiAccepted,
-    wanted: Outcome<'static>,
-    shows: N,
-) {
-    same(rt, outcome_of(&found), wanted, shows);
-    drop(found);
-}
-
 /// The stream is found to be this.
 fn check_found<R: Abort, S: AsyncRead, N: Display + Drop>(
     rt: &R,
@@ -176,7 +165,9 @@ fn check_found<R: Abort, S: AsyncRead, N: Display + Drop>(
     wanted: Outcome<'static>,
     shows: N,
 ) {
-    check_outcome(rt, poll_on(accepting, source), wanted, shows);
+    let found = poll_on(accepting, source);
+    same(rt, outcome_of(&found), wanted, shows);
+    drop(found);
 }
 
 /// Over the bytes of a row in a slice the stream is found to be what it says.
@@ -294,31 +285,17 @@ fn each_poll_takes_one_frame(rt: HostRuntime) {
     }
 }
 
-/// An unknown frame of 8192 bytes, and these bytes.
-fn after_unknown<R: Abort + AllocGlobal>(rt: &R, bytes: &[u8]) -> Vec<u8> {
-    let mut all = Vec::from_slice(rt.alloc(), &[0x0a, 0x60, 0x00]).expect(rt, "memory");
-    all.resize(3 + 8192, 0).expect(rt, "memory");
-    all.extend_from_slice(bytes).expect(rt, "memory");
-    all
-}
-
+/// An unknown frame of 8192 bytes, and the frame of a session.
 #[test]
 fn a_long_unknown_frame_is_skipped_in_parts(rt: HostRuntime) {
-    let bytes = after_unknown(&rt, b"\x40\x41\x04rest");
+    let mut bytes = Vec::from_slice(rt.alloc(), &[0x0a, 0x60, 0x00]).expect(&rt, "memory");
+    bytes.resize(3 + 8192, 0).expect(&rt, "memory");
+    let session = bytes.extend_from_slice(b"\x40\x41\x04rest");
+    session.expect(&rt, "memory");
     let mut source = bytes.as_slice();
     let turns = count_turns(accepting(rt.alloc()), &mut source);
     same(&rt, turns, (0, 2), "parts");
     same(&rt, source, b"rest".as_slice(), "bytes left");
-}
-
-/// The fault of a stream after the first so many bytes of a frame, which are too few and end so.
-fn stop_fault(len: usize, end: End) -> IoReadError {
-    match (len, end) {
-        (0, End::Fin) => FIN,
-        (_, End::Fin) => LATE,
-        (_, End::Reset) => IoReadError::IO(Fault::Reset),
-        (_, End::NotConnected) => IoReadError::IO(Fault::NotConnected),
-    }
 }
 
 /// The stream fails with this fault, and is handed back.
@@ -337,17 +314,13 @@ fn check_fault<R: Abort, S: AsyncRead>(
 /// The frame of session 4, and a byte after it.
 const SESSION_4: &[u8] = b"\x40\x41\x04a";
 
-/// The first so many of its bytes, each of them late, and then this end, twice.
-fn check_front<R: Abort + AllocGlobal>(rt: &R, len: usize, end: End) -> BiAccepting {
+/// The first so many of its bytes, each of them late, and then this end, twice; then the others,
+/// and what follows them.
+fn check_stop<R: Abort + AllocGlobal>(rt: &R, len: usize, end: End) {
     let mut source = Trickle::new(front(SESSION_4, len), end);
     let fault = stop_fault(len, end);
     let state = check_fault(rt, accepting(rt.alloc()), &mut source, &fault, len);
-    check_fault(rt, state, &mut source, &fault, len)
-}
-
-/// The first so many of its bytes, which stop so; then the others, and what follows them.
-fn check_stop<R: Abort + AllocGlobal>(rt: &R, len: usize, end: End) {
-    let state = check_front(rt, len, end);
+    let state = check_fault(rt, state, &mut source, &fault, len);
     let mut source = rest(SESSION_4, len);
     check_found(rt, state, &mut source, Ok((Some(4), b"")), len);
     same(rt, source, b"a".as_slice(), len);
@@ -365,34 +338,26 @@ fn a_second_source_goes_on(rt: HostRuntime) {
     }
 }
 
-/// A stream of which a reserved frame was read by its own call, before it is accepted.
-fn read_before(alloc: Global) -> BiAccepting {
-    let mut stream = opened_there();
-    let mut reading = Frame::read_async(alloc);
-    let _read = stream.read_frame_async(&mut reading, &mut b"\x21\x00".as_slice());
-    stream.accept_async(Frame::read_async(alloc))
-}
-
+/// A reserved frame was read by the stream's own call, before it is accepted.
 #[test]
 fn frames_read_before_count(rt: HostRuntime) {
-    let mut source = b"\x40\x41\x04".as_slice();
-    let wanted = Err(&LATE);
-    check_found(&rt, read_before(rt.alloc()), &mut source, wanted, "late");
-}
-
-/// A stream of which half a type was read by its own call, before it is accepted.
-fn held_before(alloc: Global) -> BiAccepting {
     let mut stream = opened_there();
-    let mut reading = Frame::read_async(alloc);
-    let _cut = stream.read_frame_async(&mut reading, &mut b"\x40".as_slice());
-    stream.accept_async(reading)
+    let mut reading = Frame::read_async(rt.alloc());
+    let _read = stream.read_frame_async(&mut reading, &mut b"\x21\x00".as_slice());
+    let accepting = stream.accept_async(Frame::read_async(rt.alloc()));
+    let mut source = b"\x40\x41\x04".as_slice();
+    check_found(&rt, accepting, &mut source, Err(&LATE), "late");
 }
 
+/// Half a type was read by the stream's own call, before it is accepted.
 #[test]
 fn bytes_held_before_count(rt: HostRuntime) {
+    let mut stream = opened_there();
+    let mut reading = Frame::read_async(rt.alloc());
+    let _cut = stream.read_frame_async(&mut reading, &mut b"\x40".as_slice());
+    let accepting = stream.accept_async(reading);
     let mut source = b"\x41\x04".as_slice();
-    let wanted: Outcome<'static> = Ok((Some(4), b""));
-    check_found(&rt, held_before(rt.alloc()), &mut source, wanted, "held");
+    check_found(&rt, accepting, &mut source, Ok((Some(4), b"")), "held");
 }
 
 /// A reserved frame, and a HEADERS frame of 48 bytes and a byte after it.
@@ -409,14 +374,6 @@ fn poll_again<R: Abort>(rt: &R, state: BiAccepting, source: &mut &[u8]) -> BiAcc
     }
 }
 
-/// The section of a request.
-fn section_of(found: &BiAccepted) -> Option<&[u8]> {
-    match found {
-        BiAccepted::Request(_, _, frame) => Some(frame.payload()),
-        _ => None,
-    }
-}
-
 #[test]
 fn refused_memory_leaves_the_request(rt: HostRuntime) {
     let mut source = LONG;
@@ -425,7 +382,11 @@ fn refused_memory_leaves_the_request(rt: HostRuntime) {
     same(&rt, source, left, "the reserved frame is skipped");
     let found = poll_again(&rt, state, &mut source);
     same(&rt, source, b"\x07".as_slice(), "bytes left");
-    same(&rt, section_of(&found), LONG.get(4..52), "the request");
+    let section = match &found {
+        BiAccepted::Request(_, _, frame) => frame.payload(),
+        _ => &[],
+    };
+    same(&rt, section, front(rest(LONG, 4), 48), "the request");
     drop(found);
 }
 
@@ -455,21 +416,16 @@ fn read_again(
     }
 }
 
-/// The payload of a frame that was read.
-fn payload_of(read: &PollAnswer) -> Option<&[u8]> {
-    match read {
-        Polled::Ready(Ok(frame)) => Some(frame.payload()),
-        _ => None,
-    }
-}
-
 #[test]
 fn a_request_is_read_on(rt: HostRuntime) {
     let mut source = b"\x01\x01a\x00\x01b".as_slice();
     let found = poll_on(accepting(rt.alloc()), &mut source);
     let (mut stream, mut reading) = request_of(&rt, found);
     let read = read_again(&mut stream, &mut reading, &mut source);
-    let wanted = (Some(b"b".as_slice()), [].as_slice());
-    same(&rt, (payload_of(&read), source), wanted, "data");
-    drop(read);
+    let payload = match &read {
+        Polled::Ready(Ok(frame)) => frame.payload(),
+        _ => &[],
+    };
+    same(&rt, payload, b"b".as_slice(), "data");
+    same(&rt, source, [].as_slice(), "bytes left");
 }

@@ -1,7 +1,4 @@
 //! Streams in both directions that this end opened.
-ghost use Rattle.std.specs.Prelude.{IsTrue};
-ghost use Rattle.wtransport_proto.specs.Streams.{can_upgrade};
-
 use crate::opened::{front, opened_here, session_of_stream};
 use crate::same::same;
 use std::borrow::CowSlice;
@@ -38,38 +35,24 @@ fn a_frame_that_was_written_ends_upgrading(rt: HostRuntime) {
     check_put(&rt, &mut stream, &mut [0; 3], wanted, "room for all");
 }
 
-/// What writing a data frame of one byte whole answers.
-fn put_data(
-    stream: &mut StreamBiLocalH3,
-    writer: &mut BufferWriter<'_>,
-) -> Result<(), EndOfBuffer> {
-    stream.write_frame_to_buffer(Frame::new_data(CowSlice::Borrowed(b"a")), writer)
-}
-
 /// A headers frame of no byte.
 const HEADERS: &[u8] = &[0x01, 0x00];
-
-/// What writing an empty headers frame whole answers.
-fn put_headers(
-    stream: &mut StreamBiLocalH3,
-    writer: &mut BufferWriter<'_>,
-) -> Result<(), EndOfBuffer> {
-    stream.write_frame_to_buffer(Frame::new_headers(CowSlice::Borrowed(b"")), writer)
-}
 
 #[test]
 fn a_frame_that_was_written_whole_ends_upgrading(rt: HostRuntime) {
     let mut stream = opened_here();
     let mut buffer = [0; 2];
     let mut writer = BufferWriter::new(&mut buffer);
-    let answer = put_data(&mut stream, &mut writer);
+    let frame = Frame::new_data(CowSlice::Borrowed(b"a"));
+    let answer = stream.write_frame_to_buffer(frame, &mut writer);
     same(
         &rt,
         (answer, writer.offset(), stream.can_upgrade()),
         (Err(EndOfBuffer), 0, true),
         "too little room",
     );
-    let answer = put_headers(&mut stream, &mut writer);
+    let frame = Frame::new_headers(CowSlice::Borrowed(b""));
+    let answer = stream.write_frame_to_buffer(frame, &mut writer);
     same(
         &rt,
         (answer, writer.buffer_written(), stream.can_upgrade()),
@@ -81,42 +64,30 @@ fn a_frame_that_was_written_whole_ends_upgrading(rt: HostRuntime) {
 /// The frame of session 0.
 const FRAME_0: &[u8] = &[0x40, 0x41, 0x00];
 
-/// The stream is handed back, since two bytes are too little room for its session frame.
-fn check_too_little<R: Abort>(rt: &R, session: SessionId) -> StreamBiLocalH3 {
-    let mut buffer = [0; 2];
-    let mut writer = BufferWriter::new(&mut buffer);
-    let upgraded = opened_here().upgrade(session, &mut writer);
-    let (stream, error) = upgraded.expect_err(rt, "too little room");
-    same(rt, error, PutError::EndOfBuffer, "too little room");
-    same(rt, writer.buffer_written(), front(FRAME_0, 2), "the parts");
-    stream
-}
-
-/// The stream is upgraded, since there is room for its session frame.
-fn check_room<R: Abort>(rt: &R, stream: StreamBiLocalH3, session: SessionId)
-    requires { IsTrue (can_upgrade stream) }
-{
-    let mut buffer = [0; 4];
-    let mut writer = BufferWriter::new(&mut buffer);
-    let upgraded = stream.upgrade(session, &mut writer);
-    let stream = upgraded.expect(rt, "there is room");
-    same(rt, stream.session_id(), session, "its session");
-    same(rt, writer.buffer_written(), FRAME_0, "the frame");
-}
-
+/// The stream is handed back where there is too little room for its session frame.
 #[test]
 fn it_is_upgraded_where_there_is_room(rt: HostRuntime) {
     let session = session_of_stream(&rt, 0);
     same(&rt, opened_here().upgrade_size(session), 3, "size");
-    let stream = check_too_little(&rt, session);
+    let mut buffer = [0; 2];
+    let mut writer = BufferWriter::new(&mut buffer);
+    let upgraded = opened_here().upgrade(session, &mut writer);
+    let (stream, error) = upgraded.expect_err(&rt, "too little room");
+    same(&rt, error, PutError::EndOfBuffer, "too little room");
+    same(&rt, writer.buffer_written(), front(FRAME_0, 2), "the parts");
     assert!(rt; stream.can_upgrade());
-    check_room(&rt, stream, session);
+    let mut buffer = [0; 4];
+    let mut writer = BufferWriter::new(&mut buffer);
+    let upgraded = stream.upgrade(session, &mut writer);
+    let stream = upgraded.expect(&rt, "there is room");
+    same(&rt, stream.session_id(), session, "its session");
+    same(&rt, writer.buffer_written(), FRAME_0, "the frame");
 }
 
 /// The frame of session 64.
 const FRAME_64: &[u8] = &[0x40, 0x41, 0x40, 0x40];
 
-/// Whether the bytes are no part of a frame of a session, or its type number.
+/// Whether the bytes are whole parts of the frame of a session: none, or its type number.
 fn are_parts(written: &[u8]) -> bool {
     match written {
         [] | [0x40, 0x41] => true,
@@ -124,18 +95,13 @@ fn are_parts(written: &[u8]) -> bool {
     }
 }
 
-/// What memory was refused to: the error, and whole parts of the frame of session 64.
-fn check_refused<R: Abort>(rt: &R, error: PutError, written: &[u8]) {
-    same(rt, error, PutError::Memory, "error");
-    same(rt, are_parts(written), true, "whole parts");
-}
-
 /// Upgrades the stream into the vector; where allocation failed, once more.
 fn upgrade_again<R: Abort>(rt: &R, session: SessionId, vector: &mut Vec<u8>) -> StreamBiLocalWT {
     match opened_here().upgrade(session, vector) {
         Ok(stream) => stream,
         Err((stream, error)) => {
-            check_refused(rt, error, vector.as_slice());
+            same(rt, error, PutError::Memory, "error");
+            same(rt, are_parts(vector.as_slice()), true, "whole parts");
             vector.clear();
             stream.upgrade(session, vector).expect(rt, "memory")
         }

@@ -2,20 +2,11 @@
 use crate::opened::{opened_there, session_of_stream};
 use crate::same::same;
 use std::borrow::CowSlice;
-use std::process::Abort;
 use wtransport_proto::bytes::{BufferReader, BufferWriter, EndOfBuffer};
-use wtransport_proto::error::ErrorCode;
 use wtransport_proto::frame::{Frame, FrameKind};
-use wtransport_proto::ids::SessionId;
-use wtransport_proto::stream::biremote::StreamBiRemoteH3;
 
 /// A data frame of the bytes `abc`.
 const WIRE: &[u8] = b"\x00\x03abc";
-
-/// What writing this frame whole answers.
-fn put(frame: Frame<'_>, writer: &mut BufferWriter<'_>) -> Result<(), EndOfBuffer> {
-    opened_there().write_frame_to_buffer(frame, writer)
-}
 
 #[test]
 fn frames_are_written(rt: HostRuntime) {
@@ -30,41 +21,25 @@ fn frames_are_written(rt: HostRuntime) {
 fn frames_are_written_to_a_buffer(rt: HostRuntime) {
     let mut buffer = [0; 6];
     let mut writer = BufferWriter::new(&mut buffer);
-    let answer = put(Frame::new_data(CowSlice::Borrowed(b"abc")), &mut writer);
-    same(&rt, (answer, writer.offset()), (Ok(()), 5), "a buffer");
-    let answer = put(Frame::new_data(CowSlice::Borrowed(b"")), &mut writer);
+    let frame = Frame::new_data(CowSlice::Borrowed(b"abc"));
+    let answer = opened_there().write_frame_to_buffer(frame, &mut writer);
+    same(&rt, answer, Ok(()), "a buffer");
+    same(&rt, writer.offset(), 5, "a buffer");
+    let frame = Frame::new_data(CowSlice::Borrowed(b""));
+    let answer = opened_there().write_frame_to_buffer(frame, &mut writer);
     same(&rt, answer, Err(EndOfBuffer), "a full buffer");
     same(&rt, writer.buffer_written(), WIRE, "what it has");
-}
-
-/// What a frame that was read is: its kind, and its session.
-fn kind_and_session(
-    read: &Result<Option<Frame<'_>>, ErrorCode>,
-) -> Option<(FrameKind, Option<SessionId>)> {
-    match read {
-        Ok(Some(frame)) => Some((frame.kind(), frame.session_id())),
-        _ => None,
-    }
-}
-
-/// Reads the frame of this session, whole.
-fn check_session_frame<R: Abort>(
-    rt: &R,
-    stream: &mut StreamBiRemoteH3,
-    bytes: &[u8],
-    session: SessionId,
-) {
-    let mut reader = BufferReader::new(bytes);
-    let read = stream.read_frame_from_buffer(&mut reader);
-    let wanted = Some((FrameKind::WebTransport, Some(session)));
-    same(rt, kind_and_session(&read), wanted, "the frame");
 }
 
 #[test]
 fn a_session_frame_makes_it_a_stream_of_the_session(rt: HostRuntime) {
     let session = session_of_stream(&rt, 0);
     let mut stream = opened_there();
-    check_session_frame(&rt, &mut stream, &[0x40, 0x41, 0x00], session);
+    let mut reader = BufferReader::new(&[0x40, 0x41, 0x00]);
+    let read = stream.read_frame_from_buffer(&mut reader);
+    let frame = read.expect(&rt, "no fault").expect(&rt, "a frame");
+    same(&rt, frame.kind(), FrameKind::WebTransport, "its kind");
+    same(&rt, frame.session_id(), Some(session), "its session");
     same(&rt, stream.upgrade(session).session_id(), session, "made");
 }
 

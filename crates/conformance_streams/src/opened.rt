@@ -1,11 +1,16 @@
-//! Streams of which nothing was read or written yet, and a session.
+//! Streams of which nothing was read or written yet, a session, and the fault of a stream that
+//! stops.
 ghost use Rattle.std.specs.Prelude.{IsTrue};
 ghost use Rattle.wtransport_proto.specs.Streams.{can_upgrade};
 
 use std::alloc::Global;
 use std::process::Abort;
+use test_io::End;
+use wtransport_proto::bytes::IoReadError as Fault;
+use wtransport_proto::error::ErrorCode;
 use wtransport_proto::ids::{SessionId, StreamId};
 use wtransport_proto::session::{SessionRequest, UrlParseError};
+use wtransport_proto::stream::IoReadError;
 use wtransport_proto::stream::bilocal::{StreamBiLocalH3, StreamBiLocalQuic};
 use wtransport_proto::stream::biremote::{StreamBiRemoteH3, StreamBiRemoteQuic};
 use wtransport_proto::stream::session::StreamSession;
@@ -19,6 +24,17 @@ pub(crate) fn front(bytes: &[u8], len: usize) -> &[u8] {
 /// What follows the first so many of these bytes.
 pub(crate) fn rest(bytes: &[u8], len: usize) -> &[u8] {
     bytes.get(len..).unwrap_or(&[])
+}
+
+/// The fault of a stream after the first so many bytes of a header or a frame, which are too few
+/// and end so.
+pub(crate) fn stop_fault(len: usize, end: End) -> IoReadError {
+    match (len, end) {
+        (0, End::Fin) => IoReadError::IO(Fault::ImmediateFin),
+        (_, End::Fin) => IoReadError::H3(ErrorCode::Frame),
+        (_, End::Reset) => IoReadError::IO(Fault::Reset),
+        (_, End::NotConnected) => IoReadError::IO(Fault::NotConnected),
+    }
 }
 
 /// The session of this stream.

@@ -57,38 +57,21 @@ fn are_parts(written: &[u8]) -> bool {
     }
 }
 
-/// The state writes its frame into the vector; where memory was refused, whole parts of the frame
-/// are there, and the frame is written anew.
-fn write_again<R: Abort, K: Writes>(
-    rt: &R,
-    stream: &mut K,
-    out: &mut Vec<u8>,
-) -> Result<(), PutError> {
-    match stream.write(out) {
-        Ok(()) => Ok(()),
-        Err(error) => {
-            same(rt, error, PutError::Memory, "fault");
-            same(rt, are_parts(out.as_slice()), true, "whole parts");
-            out.clear();
-            stream.write(out)
-        }
-    }
-}
-
 /// The type number of the frame, and its length.
 const HEAD: &[u8] = &[0x00, 0x40, 0x64];
 
-/// The bytes are the frame.
-fn check_frame<R: Abort>(rt: &R, bytes: &[u8]) {
-    same(rt, front(bytes, 3), HEAD, "head");
-    same(rt, rest(bytes, 3), PAYLOAD.as_slice(), "payload");
-}
-
-/// The state writes its frame into a vector, also where memory was refused.
+/// The state writes its frame into a vector; where memory was refused, whole parts of the frame are
+/// there, and the frame is written anew.
 fn check_refused<R: Abort + AllocGlobal, K: Writes>(rt: &R, stream: &mut K) {
     let mut out = Vec::new(rt.alloc());
-    write_again(rt, stream, &mut out).expect(rt, "memory");
-    check_frame(rt, out.as_slice());
+    if let Err(error) = stream.write(&mut out) {
+        same(rt, error, PutError::Memory, "fault");
+        same(rt, are_parts(out.as_slice()), true, "whole parts");
+        out.clear();
+        stream.write(&mut out).expect(rt, "memory");
+    }
+    same(rt, front(out.as_slice(), 3), HEAD, "head");
+    same(rt, rest(out.as_slice(), 3), PAYLOAD.as_slice(), "payload");
 }
 
 #[test]
@@ -138,8 +121,7 @@ fn refused_memory_writes_whole_parts_to_a_control_stream(rt: HostRuntime) {
     let mut head = [0; 1];
     let mut writer = BufferWriter::new(&mut head);
     let header = StreamHeader::new_control();
-    let Ok(mut stream) = StreamUniLocalQuic::open_uni().upgrade(header, &mut writer) else {
-        rt.panic("there is room")
-    };
+    let upgraded = StreamUniLocalQuic::open_uni().upgrade(header, &mut writer);
+    let mut stream = upgraded.expect(&rt, "there is room");
     check_refused(&rt, &mut stream);
 }

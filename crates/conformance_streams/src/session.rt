@@ -3,11 +3,9 @@ use crate::opened::{front, open_session, opened_there};
 use crate::same::same;
 use std::borrow::CowSlice;
 use std::mem::drop;
-use std::process::Abort;
 use wtransport_proto::bytes::{BufferWriter, EndOfBuffer, PutError};
 use wtransport_proto::frame::Frame;
 use wtransport_proto::session::SessionRequest;
-use wtransport_proto::stream::session::StreamSession;
 
 #[test]
 fn it_keeps_its_request(rt: HostRuntime) {
@@ -24,45 +22,26 @@ fn it_keeps_its_request(rt: HostRuntime) {
     drop(stream);
 }
 
-/// What writing a data frame of one byte whole answers.
-fn put_byte(stream: &StreamSession, writer: &mut BufferWriter<'_>) -> Result<(), EndOfBuffer> {
-    stream.write_frame_to_buffer(Frame::new_data(CowSlice::Borrowed(b"a")), writer)
-}
-
-/// What writing an empty data frame whole answers.
-fn put_empty(stream: &StreamSession, writer: &mut BufferWriter<'_>) -> Result<(), EndOfBuffer> {
-    stream.write_frame_to_buffer(Frame::new_data(CowSlice::Borrowed(b"")), writer)
-}
-
-/// What writing an empty headers frame in parts answers.
-fn put_headers(stream: &StreamSession, writer: &mut BufferWriter<'_>) -> Result<(), PutError> {
-    stream.write_frame(Frame::new_headers(CowSlice::Borrowed(b"")), writer)
-}
-
-/// Two data frames, of which the second has no room.
-fn check_whole<R: Abort>(rt: &R, stream: &StreamSession, writer: &mut BufferWriter<'_>) {
-    same(rt, put_byte(stream, writer), Ok(()), "the first");
-    let answer = put_empty(stream, writer);
-    let came = (answer, writer.buffer_written());
-    same(rt, came, (Err(EndOfBuffer), front(WRITTEN, 3)), "whole");
-}
-
 /// What is written when the third frame has no room: the first frame, and a type number.
 const WRITTEN: &[u8] = b"\x00\x01a\x01";
 
-/// Two data frames written whole, and a headers frame written in parts, of which one has room.
-fn check_frames<R: Abort>(rt: &R, stream: &StreamSession) {
-    let mut buffer = [0; 4];
-    let mut writer = BufferWriter::new(&mut buffer);
-    check_whole(rt, stream, &mut writer);
-    let answer = put_headers(stream, &mut writer);
-    let came = (answer, writer.buffer_written());
-    same(rt, came, (Err(PutError::EndOfBuffer), WRITTEN), "in parts");
-}
-
+/// Two data frames are written whole, of which the second has no room, and a headers frame is
+/// written in parts, of which one has room.
 #[test]
 fn frames_are_written(rt: HostRuntime) {
     let stream = open_session(rt.alloc()).expect(&rt, "memory");
-    check_frames(&rt, &stream);
+    let mut buffer = [0; 4];
+    let mut writer = BufferWriter::new(&mut buffer);
+    let frame = Frame::new_data(CowSlice::Borrowed(b"a"));
+    let answer = stream.write_frame_to_buffer(frame, &mut writer);
+    same(&rt, answer, Ok(()), "the first");
+    let frame = Frame::new_data(CowSlice::Borrowed(b""));
+    let answer = stream.write_frame_to_buffer(frame, &mut writer);
+    same(&rt, answer, Err(EndOfBuffer), "whole");
+    same(&rt, writer.buffer_written(), front(WRITTEN, 3), "whole");
+    let frame = Frame::new_headers(CowSlice::Borrowed(b""));
+    let answer = stream.write_frame(frame, &mut writer);
+    same(&rt, answer, Err(PutError::EndOfBuffer), "in parts");
+    same(&rt, writer.buffer_written(), WRITTEN, "in parts");
     drop(stream);
 }

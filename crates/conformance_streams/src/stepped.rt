@@ -1,5 +1,5 @@
 //! Upgrading streams, poll by poll.
-use crate::opened::{front, opened_here, rest, session_4};
+use crate::opened::{front, opened_here, rest, session_4, stop_fault};
 use crate::same::same;
 use std::fmt::Display;
 use std::process::Abort;
@@ -100,25 +100,15 @@ static HALTS: [WriteStep; 4] = [
     WriteStep::NotConnected,
 ];
 
-/// The state after two polls, each of which waits for the sink.
-fn wait_bi<R: Abort>(rt: &R, upgrading: BiUpgrading, sink: &mut Paced<'_>) -> BiUpgrading {
-    let upgrading = take_pending(rt, upgrading.poll(sink));
-    take_pending(rt, upgrading.poll(sink))
-}
-
-/// The stream after two polls, of which the first finds that the sink is lost.
-fn lose_bi<R: Abort>(rt: &R, upgrading: BiUpgrading, sink: &mut Paced<'_>) -> StreamBiLocalWT {
-    let (upgrading, fault) = take_failed(rt, upgrading.poll(sink));
-    same(rt, fault, IoWriteError::NotConnected, "lost");
-    take_result(rt, upgrading.poll(sink))
-}
-
 #[test]
 fn a_session_frame_waits_for_its_sink(rt: HostRuntime) {
     let mut sink = Paced::new(rt.alloc(), &HALTS);
-    let upgrading = wait_bi(&rt, session_frame_4(&rt), &mut sink);
+    let upgrading = take_pending(&rt, session_frame_4(&rt).poll(&mut sink));
+    let upgrading = take_pending(&rt, upgrading.poll(&mut sink));
     same(&rt, sink.output(), front(SESSION_FRAME, 2), "two bytes");
-    let stream = lose_bi(&rt, upgrading, &mut sink);
+    let (upgrading, fault) = take_failed(&rt, upgrading.poll(&mut sink));
+    same(&rt, fault, IoWriteError::NotConnected, "lost");
+    let stream = take_result(&rt, upgrading.poll(&mut sink));
     same(&rt, sink.output(), SESSION_FRAME, "done");
     same(&rt, stream.session_id(), session_4(&rt), "its session");
 }
@@ -183,25 +173,15 @@ fn a_header_goes_on_elsewhere(rt: HostRuntime) {
     }
 }
 
-/// The state after two polls, each of which waits for the sink.
-fn wait_uni<R: Abort>(rt: &R, upgrading: UniUpgrading, sink: &mut Paced<'_>) -> UniUpgrading {
-    let upgrading = take_pending(rt, upgrading.poll(sink));
-    take_pending(rt, upgrading.poll(sink))
-}
-
-/// The stream after two polls, of which the first finds that the sink is lost.
-fn lose_uni<R: Abort>(rt: &R, upgrading: UniUpgrading, sink: &mut Paced<'_>) -> StreamUniLocalH3 {
-    let (upgrading, fault) = take_failed(rt, upgrading.poll(sink));
-    same(rt, fault, IoWriteError::NotConnected, "lost");
-    take_result(rt, upgrading.poll(sink))
-}
-
 #[test]
 fn a_header_waits_for_its_sink(rt: HostRuntime) {
     let mut sink = Paced::new(rt.alloc(), &HALTS);
-    let upgrading = wait_uni(&rt, header_4(&rt), &mut sink);
+    let upgrading = take_pending(&rt, header_4(&rt).poll(&mut sink));
+    let upgrading = take_pending(&rt, upgrading.poll(&mut sink));
     same(&rt, sink.output(), front(HEADER, 2), "two bytes");
-    let stream = lose_uni(&rt, upgrading, &mut sink);
+    let (upgrading, fault) = take_failed(&rt, upgrading.poll(&mut sink));
+    same(&rt, fault, IoWriteError::NotConnected, "lost");
+    let stream = take_result(&rt, upgrading.poll(&mut sink));
     same(&rt, sink.output(), HEADER, "done");
     same(&rt, stream.kind(), StreamKind::WebTransport, "its kind");
 }
@@ -236,13 +216,6 @@ fn check_accepted<R: Abort, N: Display + Drop>(
     same(rt, (stream.kind(), stream.session_id()), wanted, shows);
 }
 
-/// The fault of a stream that is these bytes, and how many of them are left.
-fn fault_of<R: Abort>(rt: &R, mut bytes: &[u8]) -> (IoReadError, usize) {
-    let accepting = StreamUniRemoteQuic::accept_uni().upgrade_async();
-    let (_, fault) = take_failed(rt, accepting.poll(&mut bytes));
-    (fault, bytes.len())
-}
-
 /// The bytes of a header and an end, the fault that refuses them, and what the row shows.
 type FaultRow = (&'static [u8], IoReadError, &'static str);
 
@@ -265,8 +238,11 @@ static FAULTS: [FaultRow; 4] = [
 /// The header of the row is refused so, and no byte is left.
 fn check_refusal<R: Abort>(rt: &R, row: &FaultRow) {
     let (bytes, fault, shows) = row;
-    let (came, left) = fault_of(rt, bytes);
-    same(rt, (&came, left), (fault, 0), shows);
+    let mut source = *bytes;
+    let accepting = StreamUniRemoteQuic::accept_uni().upgrade_async();
+    let (_, came) = take_failed(rt, accepting.poll(&mut source));
+    same(rt, &came, fault, shows);
+    same(rt, source.len(), 0, shows);
 }
 
 #[test]
@@ -294,47 +270,16 @@ fn a_cut_header_is_accepted_from_a_second_source(rt: HostRuntime) {
     check_accepted(&rt, accepting, &mut rest(HEADER, 2), wanted, "a session");
 }
 
-/// The state, after the waits before so many bytes and before the end.
-fn wait_before<R: Abort>(
-    rt: &R,
-    mut accepting: UniAccepting,
-    source: &mut Trickle<'_>,
-    len: usize,
-) -> UniAccepting {
-    for _turn in 0..=len {
-        accepting = take_pending(rt, accepting.poll(source));
-    }
-    accepting
-}
-
-/// The fault of a stream after the first so many bytes of a header, which are too few and end so.
-fn stop_fault(len: usize, end: End) -> IoReadError {
-    match (len, end) {
-        (0, End::Fin) => IoReadError::IO(Fault::ImmediateFin),
-        (_, End::Fin) => IoReadError::H3(ErrorCode::Frame),
-        (_, End::Reset) => IoReadError::IO(Fault::Reset),
-        (_, End::NotConnected) => IoReadError::IO(Fault::NotConnected),
-    }
-}
-
-/// The stream fails twice by the table, and is handed back.
-fn check_stops<R: Abort>(
-    rt: &R,
-    accepting: UniAccepting,
-    source: &mut Trickle<'_>,
-    len: usize,
-    end: End,
-) -> UniAccepting {
-    let accepting = check_failed(rt, accepting, source, stop_fault(len, end));
-    check_failed(rt, accepting, source, stop_fault(len, end))
-}
-
-/// The first so many bytes of the header of session 4, each of them late; then the others.
+/// The first so many bytes of the header of session 4, each of them late, as their end is, where
+/// the stream fails twice; then the others.
 fn check_header_stop<R: Abort>(rt: &R, len: usize, end: End) {
     let mut source = Trickle::new(front(HEADER, len), end);
-    let accepting = StreamUniRemoteQuic::accept_uni().upgrade_async();
-    let accepting = wait_before(rt, accepting, &mut source, len);
-    let accepting = check_stops(rt, accepting, &mut source, len, end);
+    let mut accepting = StreamUniRemoteQuic::accept_uni().upgrade_async();
+    for _turn in 0..=len {
+        accepting = take_pending(rt, accepting.poll(&mut source));
+    }
+    let accepting = check_failed(rt, accepting, &mut source, stop_fault(len, end));
+    let accepting = check_failed(rt, accepting, &mut source, stop_fault(len, end));
     check_accepted(rt, accepting, &mut rest(HEADER, len), made_4(rt), len);
 }
 

@@ -14,9 +14,9 @@ fn read_header<R: Abort>(
     stream: StreamUniRemoteQuic,
     bytes: &mut &[u8],
 ) -> StreamUniRemoteH3 {
-    match stream.upgrade(bytes) {
-        Ok(MaybeUpgradeH3::H3(stream)) => stream,
-        _ => rt.panic("a whole header"),
+    match stream.upgrade(bytes).expect(rt, "a header") {
+        MaybeUpgradeH3::H3(stream) => stream,
+        MaybeUpgradeH3::Quic(_) => rt.panic("a whole header"),
     }
 }
 
@@ -45,17 +45,13 @@ fn headers_are_read(rt: HostRuntime) {
     check_header(&rt, b"\x21", exercise, b"", "exercise");
 }
 
-/// The stream, handed back since the bytes are too few for a header.
-fn cut_header<R: Abort>(rt: &R, bytes: &mut &[u8]) -> StreamUniRemoteQuic {
-    match StreamUniRemoteQuic::accept_uni().upgrade(bytes) {
-        Ok(MaybeUpgradeH3::Quic(stream)) => stream,
-        _ => rt.panic("too few bytes"),
-    }
-}
-
-/// Of the cut header so many bytes are left; then a whole header is read.
+/// The stream is handed back, since the bytes are too few for a header, and so many of them are
+/// left; then a whole header is read.
 fn check_cut<R: Abort>(rt: &R, mut bytes: &[u8], left: usize) {
-    let stream = cut_header(rt, &mut bytes);
+    let Ok(MaybeUpgradeH3::Quic(stream)) = StreamUniRemoteQuic::accept_uni().upgrade(&mut bytes)
+    else {
+        rt.panic("too few bytes")
+    };
     let stream = read_header(rt, stream, &mut b"\x40\x54\x04".as_slice());
     same(rt, bytes.len(), left, "bytes left");
     same(rt, stream.kind(), StreamKind::WebTransport, "the kind");
@@ -66,12 +62,6 @@ fn a_cut_header_is_read_on(rt: HostRuntime) {
     check_cut(&rt, b"", 0);
     check_cut(&rt, b"\x40", 1);
     check_cut(&rt, b"\x40\x54", 0);
-}
-
-/// What refuses the header at the front of the bytes, and how many bytes are left.
-fn refusal_of(mut bytes: &[u8]) -> (Option<ErrorCode>, usize) {
-    let code = StreamUniRemoteQuic::accept_uni().upgrade(&mut bytes).err();
-    (code, bytes.len())
 }
 
 /// The bytes of a header, what refuses it, and what the row shows.
@@ -90,8 +80,10 @@ static FAULTS: [FaultRow; 3] = [
 
 /// The header of the row is refused so, and no byte is left.
 fn check_refusal<R: Abort>(rt: &R, row: &FaultRow) {
-    let (bytes, code, shows) = *row;
-    same(rt, refusal_of(bytes), (Some(code), 0), shows);
+    let (mut bytes, code, shows) = *row;
+    let answer = StreamUniRemoteQuic::accept_uni().upgrade(&mut bytes);
+    same(rt, answer.err(), Some(code), shows);
+    same(rt, bytes.len(), 0, shows);
 }
 
 #[test]

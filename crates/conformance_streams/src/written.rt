@@ -6,6 +6,7 @@ ghost use Rattle.wtransport_proto.specs.Streams.{CanWrite};
 use crate::opened::{front, open_session, opened_here, opened_there, rest};
 use crate::same::same;
 use std::borrow::CowSlice;
+use std::mem::drop;
 use std::process::Abort;
 use test_io::{Paced, stops_after};
 use wtransport_proto::bytes::{AsyncWrite, IoWriteError, Polled, Stepped, WriteStep};
@@ -103,15 +104,6 @@ fn check_rest<R: Abort + AllocGlobal, K: Sends>(rt: &R, sending: &mut K, wire: &
 /// A data frame of the bytes `abc`.
 const DATA: &[u8] = b"\x00\x03abc";
 
-/// Of this data frame so many bytes go to a sink that stops. The stream can still be upgraded.
-fn check_stopped<R: Abort + AllocGlobal>(rt: &R, sending: &mut ToBoth<'_>, room: usize) {
-    let mut sink = Paced::new(rt.alloc(), stops_after(room));
-    let answer = sending.send(&mut sink);
-    let came = (answer, sink.output(), sending.stream.can_upgrade());
-    let stopped = Polled::Ready(Err(IoWriteError::Stopped));
-    same(rt, came, (stopped, front(DATA, room), true), room);
-}
-
 /// Of a data frame so many bytes go to a sink that stops, and the others elsewhere. The stream can
 /// be upgraded until all are sent.
 fn check_stop<R: Abort + AllocGlobal>(rt: &R, room: usize) {
@@ -120,7 +112,11 @@ fn check_stop<R: Abort + AllocGlobal>(rt: &R, room: usize) {
         stream: opened_here(),
         writing: frame.write_async(),
     };
-    check_stopped(rt, &mut sending, room);
+    let mut sink = Paced::new(rt.alloc(), stops_after(room));
+    let answer = sending.send(&mut sink);
+    let came = (answer, sink.output(), sending.stream.can_upgrade());
+    let stopped = Polled::Ready(Err(IoWriteError::Stopped));
+    same(rt, came, (stopped, front(DATA, room), true), room);
     check_rest(rt, &mut sending, rest(DATA, room));
     same(rt, sending.stream.can_upgrade(), false, room);
 }
@@ -230,18 +226,15 @@ fn a_stream_that_was_opened_there_is_written(rt: HostRuntime) {
 }
 
 /// A headers frame goes to the stream of a session.
-fn check_session<R: Abort + AllocGlobal>(rt: &R, stream: StreamSession) {
-    let frame = Frame::new_headers(CowSlice::Borrowed(&[0x00, 0x00]));
-    let mut sending = ToSession {
-        stream,
-        writing: frame.write_async(),
-    };
-    check_rest(rt, &mut sending, &[0x01, 0x02, 0x00, 0x00]);
-}
-
 #[test]
 fn the_stream_of_a_session_is_written(rt: HostRuntime) {
-    check_session(&rt, open_session(rt.alloc()).expect(&rt, "memory"));
+    let frame = Frame::new_headers(CowSlice::Borrowed(&[0x00, 0x00]));
+    let mut sending = ToSession {
+        stream: open_session(rt.alloc()).expect(&rt, "memory"),
+        writing: frame.write_async(),
+    };
+    check_rest(&rt, &mut sending, &[0x01, 0x02, 0x00, 0x00]);
+    drop(sending);
 }
 
 /// A frame on its way to a control stream, whose type goes to the vector.
@@ -264,17 +257,13 @@ fn settings() -> Frame<'static> {
     Frame::new_settings(CowSlice::Borrowed(&[0x33, 0x01]))
 }
 
-/// Sends it to a control stream, and both to the vector.
-fn send_control<R: Abort>(rt: &R, vector: &mut Vec<u8>) -> SendAnswer {
-    let frame = settings();
-    let mut sending = to_control(rt, &frame, vector);
-    send_again(&mut sending, vector)
-}
-
+/// The type of the stream and the settings go to one vector.
 #[test]
 fn a_control_stream_is_written(rt: HostRuntime) {
     let mut vector = Vec::new(rt.alloc());
-    let answer = send_control(&rt, &mut vector);
+    let frame = settings();
+    let mut sending = to_control(&rt, &frame, &mut vector);
+    let answer = send_again(&mut sending, &mut vector);
     check_sent(&rt, answer, vector.as_slice(), CONTROL);
 }
 
@@ -312,16 +301,12 @@ fn a_frame_is_written_in_a_loop(rt: HostRuntime) {
     same(&rt, sending.stream.can_upgrade(), false, "written");
 }
 
-/// Writes the settings to a control stream, while the sink waits; its type goes elsewhere.
-fn write_control<R: Abort + AllocGlobal>(rt: &R, sink: &mut Paced<'_>) -> SendAnswer {
-    let frame = settings();
-    let mut sending = to_control(rt, &frame, &mut Vec::new(rt.alloc()));
-    write_on(&mut sending, sink)
-}
-
+/// The type of the stream goes elsewhere.
 #[test]
 fn settings_are_written_in_a_loop(rt: HostRuntime) {
     let mut sink = Paced::new(rt.alloc(), &WAITS);
-    let answer = write_control(&rt, &mut sink);
+    let frame = settings();
+    let mut sending = to_control(&rt, &frame, &mut Vec::new(rt.alloc()));
+    let answer = write_on(&mut sending, &mut sink);
     check_sent(&rt, answer, sink.output(), rest(CONTROL, 1));
 }
