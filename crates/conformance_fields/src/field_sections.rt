@@ -5,10 +5,8 @@ use crate::sections::{
     FaultRow, assert_come_back, assert_decoded, assert_encoded, assert_faults, assert_map,
 };
 use crate::session_errors::assert_texts;
-use std::alloc::{AllocError, Global};
+use std::alloc::Global;
 use std::collections::BTreeMap;
-use std::process::Abort;
-use std::test::Fail;
 use wtp_fields::laws::encode_and_decode;
 use wtp_fields::qpack::{Decoder, DecodingError, Encoder};
 
@@ -73,18 +71,11 @@ static ENCODED: [EncodedRow; 13] = [
     ),
 ];
 
-/// Asserts that the pairs of each row are encoded to its section.
-fn assert_sections(rt: &impl Abort, alloc: Global, rows: &[EncodedRow]) -> Result<(), AllocError> {
-    for (shows, pairs, section) in rows {
-        assert_encoded(rt, alloc, pairs, section, shows)?;
-    }
-    Ok(())
-}
-
 #[test]
-fn encoded_fields_past_refused_memory(rt: HostRuntime) -> Result<(), Fail> {
-    assert_sections(&rt, rt.alloc(), &ENCODED)?;
-    Ok(())
+fn encoded_fields_past_refused_memory(rt: HostRuntime) {
+    for (shows, pairs, section) in &ENCODED {
+        assert_encoded(&rt, rt.alloc(), pairs, section, shows);
+    }
 }
 
 /// What a row shows, a section, and its fields in the order of their names.
@@ -161,18 +152,11 @@ static DECODED: [DecodedRow; 13] = [
     ),
 ];
 
-/// Asserts that the section of each row is decoded to its fields.
-fn assert_maps(rt: &impl Abort, alloc: Global, rows: &[DecodedRow]) -> Result<(), DecodingError> {
-    for (shows, section, fields) in rows {
-        assert_decoded(rt, alloc, section, fields, *shows)?;
-    }
-    Ok(())
-}
-
 #[test]
-fn decoded_sections_past_refused_memory(rt: HostRuntime) -> Result<(), Fail> {
-    assert_maps(&rt, rt.alloc(), &DECODED)?;
-    Ok(())
+fn decoded_sections_past_refused_memory(rt: HostRuntime) {
+    for (shows, section, fields) in &DECODED {
+        assert_decoded(&rt, rt.alloc(), section, fields, *shows);
+    }
 }
 
 /// Sections that are refused.
@@ -326,22 +310,11 @@ static SENT: [SentRow; 3] = [
     ("one field", &[("key1", "value1")], &[("key1", "value1")]),
 ];
 
-/// Asserts that the fields of each row come back from its pairs.
-fn assert_all_come_back(
-    rt: &impl Abort,
-    alloc: Global,
-    rows: &[SentRow],
-) -> Result<(), DecodingError> {
-    for (shows, pairs, fields) in rows {
-        assert_come_back(rt, alloc, pairs, fields, *shows)?;
-    }
-    Ok(())
-}
-
 #[test]
-fn encoded_fields_come_back_past_refused_memory(rt: HostRuntime) -> Result<(), Fail> {
-    assert_all_come_back(&rt, rt.alloc(), &SENT)?;
-    Ok(())
+fn encoded_fields_come_back_past_refused_memory(rt: HostRuntime) {
+    for (shows, pairs, fields) in &SENT {
+        assert_come_back(&rt, rt.alloc(), pairs, fields, *shows);
+    }
 }
 
 /// What the law of sections answers, asked for once more where memory was refused.
@@ -368,24 +341,22 @@ static REPEATED: [(&str, &str); 5] = [
 static LAST: [(&str, &str); 3] = [(":status", "404"), ("key1", "b"), ("key2", "")];
 
 #[test]
-fn last_value_comes_back_past_refused_memory(rt: HostRuntime) -> Result<(), Fail> {
-    let fields = law_answer(rt.alloc(), &REPEATED)?;
+fn last_value_comes_back_past_refused_memory(rt: HostRuntime) {
+    let fields = law_answer(rt.alloc(), &REPEATED).expect(&rt, "a fault");
     assert_map(&rt, &fields, &LAST, "the last value of each name");
-    Ok(())
 }
 
 #[test]
-fn decoders_and_encoders_are_copied(rt: HostRuntime) -> Result<(), Fail> {
+fn decoders_and_encoders_are_copied(rt: HostRuntime) {
     let (decoder, encoder) = (Decoder, Encoder);
     let copies = (decoder, encoder);
-    let text = format!(in rt.alloc(); "{decoder:?} {encoder:?} {copies:?}")?;
+    let text = format!(in rt.alloc(); "{decoder:?} {encoder:?} {copies:?}").expect(&rt, "memory");
     same(
         &rt,
         text.as_str(),
         "Decoder Encoder (Decoder, Encoder)",
         "copies",
     );
-    Ok(())
 }
 
 /// Errors and their texts.
@@ -408,7 +379,6 @@ static ERRORS: [(DecodingError, &str); 6] = [
 ];
 
 #[test]
-fn printed_errors_past_refused_memory(rt: HostRuntime) -> Result<(), Fail> {
-    assert_texts(&rt, rt.alloc(), &ERRORS)?;
-    Ok(())
+fn printed_errors_past_refused_memory(rt: HostRuntime) {
+    assert_texts(&rt, rt.alloc(), &ERRORS);
 }

@@ -4,7 +4,6 @@ use crate::sections::assert_map;
 use std::alloc::{AllocError, Global};
 use std::borrow::CowSlice;
 use std::process::Abort;
-use std::test::Fail;
 use wtp_core::error::{ErrorCode, Refused};
 use wtp_fields::headers::Headers;
 use wtp_wire::frame::{Frame, FrameKind, FrameOwned, GenerateError};
@@ -15,10 +14,10 @@ fn map_once(alloc: Global, pairs: &[(&str, &str)]) -> Result<Headers, AllocError
 }
 
 /// The same, made once more where memory was refused.
-pub(crate) fn map_of(alloc: Global, pairs: &[(&str, &str)]) -> Result<Headers, AllocError> {
+pub(crate) fn map_of(rt: &impl Abort, alloc: Global, pairs: &[(&str, &str)]) -> Headers {
     match map_once(alloc, pairs) {
-        Err(AllocError) => map_once(alloc, pairs),
-        outcome => outcome,
+        Ok(headers) => headers,
+        Err(AllocError) => map_once(alloc, pairs).expect(rt, "memory"),
     }
 }
 
@@ -28,11 +27,12 @@ fn frame_once(alloc: Global, headers: &Headers) -> Result<FrameOwned, GenerateEr
 }
 
 /// The same, made once more where memory was refused.
-pub(crate) fn frame_of(alloc: Global, headers: &Headers) -> Result<FrameOwned, GenerateError> {
+pub(crate) fn frame_of(rt: &impl Abort, alloc: Global, headers: &Headers) -> FrameOwned {
     match frame_once(alloc, headers) {
         Err(GenerateError::Memory) => frame_once(alloc, headers),
         outcome => outcome,
     }
+    .expect(rt, "a frame")
 }
 
 /// The map of a payload.
@@ -49,11 +49,6 @@ fn read(rt: &impl Abort, alloc: Global, payload: &[u8]) -> Result<Headers, Refus
     }
 }
 
-/// Asserts the value of a name in a map.
-fn assert_value(rt: &impl Abort, headers: &Headers, (name, value): (&str, &str), shows: &str) {
-    same(rt, headers.get(name), Some(value), shows);
-}
-
 /// Asserts that a map has these fields and no other.
 pub(crate) fn assert_fields(
     rt: &impl Abort,
@@ -62,8 +57,8 @@ pub(crate) fn assert_fields(
     shows: &str,
 ) {
     same(rt, headers.as_ref().len(), expected.len(), shows);
-    for field in expected {
-        assert_value(rt, headers, *field, shows);
+    for (name, value) in expected {
+        same(rt, headers.get(name), Some(*value), shows);
     }
 }
 
@@ -102,29 +97,26 @@ fn assert_sent(
     pairs: &[(&str, &str)],
     payload: &[u8],
     shows: &str,
-) -> Result<(), Fail> {
-    let headers = map_of(alloc, pairs)?;
-    let frame = frame_of(alloc, &headers)?;
+) {
+    let headers = map_of(rt, alloc, pairs);
+    let frame = frame_of(rt, alloc, &headers);
     same(rt, frame.kind(), FrameKind::Headers, shows);
     same(rt, frame.payload(), payload, shows);
-    Ok(())
 }
 
 /// Asserts the same of a row, and that the map of this payload has these fields and no other.
-fn assert_sent_and_read(rt: &impl Abort, alloc: Global, row: &PayloadRow) -> Result<(), Fail> {
+fn assert_sent_and_read(rt: &impl Abort, alloc: Global, row: &PayloadRow) {
     let (shows, pairs, payload) = *row;
-    assert_sent(rt, alloc, pairs, payload, shows)?;
-    let back = read(rt, alloc, payload)?;
+    assert_sent(rt, alloc, pairs, payload, shows);
+    let back = read(rt, alloc, payload).expect(rt, "refused");
     assert_fields(rt, &back, pairs, shows);
-    Ok(())
 }
 
 #[test]
-fn payloads_past_refused_memory(rt: HostRuntime) -> Result<(), Fail> {
+fn payloads_past_refused_memory(rt: HostRuntime) {
     for row in &PAYLOADS {
-        assert_sent_and_read(&rt, rt.alloc(), row)?;
+        assert_sent_and_read(&rt, rt.alloc(), row);
     }
-    Ok(())
 }
 
 /// What a row shows, and a payload that is no field section.
@@ -168,28 +160,19 @@ pub(crate) fn insert(
     headers: &mut Headers,
     (name, value): (&str, &str),
     before: &[(&str, &str)],
-) -> Result<(), AllocError> {
-    match headers.insert(name, value) {
-        Ok(()) => Ok(()),
-        Err(AllocError) => {
-            assert_fields(rt, headers, before, "nothing is changed");
-            headers.insert(name, value)
-        }
+) {
+    if headers.insert(name, value) == Err(AllocError) {
+        assert_fields(rt, headers, before, "nothing is changed");
+        headers.insert(name, value).expect(rt, "memory");
     }
 }
 
 /// Asserts that a map comes back from its frame with these fields, in the order of their names.
-fn assert_comes_back(
-    rt: &impl Abort,
-    alloc: Global,
-    headers: &Headers,
-    pairs: &[(&str, &str)],
-) -> Result<(), Fail> {
-    let frame = frame_of(alloc, headers)?;
-    let back = read(rt, alloc, frame.payload())?;
+fn assert_comes_back(rt: &impl Abort, alloc: Global, headers: &Headers, pairs: &[(&str, &str)]) {
+    let frame = frame_of(rt, alloc, headers);
+    let back = read(rt, alloc, frame.payload()).expect(rt, "refused");
     assert_fields(rt, &back, pairs, "what was sent");
     assert_map(rt, back.as_ref(), pairs, "in order");
-    Ok(())
 }
 
 /// Pairs, one name of which comes again.
@@ -205,25 +188,24 @@ static CHANGED: [(&str, &str); 2] = [("key1", "other"), ("key2", "value2")];
 static LAST: [(&str, &str); 3] = [("key1", "other"), ("key2", "value2"), ("key3", "")];
 
 /// The map of the pairs that are given.
-fn first_map(rt: &impl Abort, alloc: Global) -> Result<Headers, AllocError> {
-    let headers = map_of(alloc, &GIVEN)?;
+fn first_map(rt: &impl Abort, alloc: Global) -> Headers {
+    let headers = map_of(rt, alloc, &GIVEN);
     assert_fields(rt, &headers, &FIRST, "the last value of a name");
     same(rt, headers.get("key3"), None, "no such name");
-    Ok(headers)
+    headers
 }
 
 /// Asserts what a new value and a new name change in that map.
-fn assert_inserts(rt: &impl Abort, headers: &mut Headers) -> Result<(), AllocError> {
-    insert(rt, headers, ("key1", "other"), &FIRST)?;
+fn assert_inserts(rt: &impl Abort, headers: &mut Headers) {
+    insert(rt, headers, ("key1", "other"), &FIRST);
     assert_fields(rt, headers, &CHANGED, "a new value of an old name");
-    insert(rt, headers, ("key3", ""), &CHANGED)?;
+    insert(rt, headers, ("key3", ""), &CHANGED);
     assert_fields(rt, headers, &LAST, "a new name");
-    Ok(())
 }
 
 #[test]
-fn inserts_past_refused_memory(rt: HostRuntime) -> Result<(), Fail> {
-    let mut headers = first_map(&rt, rt.alloc())?;
-    assert_inserts(&rt, &mut headers)?;
-    assert_comes_back(&rt, rt.alloc(), &headers, &LAST)
+fn inserts_past_refused_memory(rt: HostRuntime) {
+    let mut headers = first_map(&rt, rt.alloc());
+    assert_inserts(&rt, &mut headers);
+    assert_comes_back(&rt, rt.alloc(), &headers, &LAST);
 }

@@ -2,9 +2,8 @@
 //! string literals whose lengths they are.
 use crate::same::same;
 use crate::sections::{FaultRow, assert_come_back, assert_decoded, assert_faults, encode, join};
-use std::alloc::{AllocError, Global};
+use std::alloc::Global;
 use std::process::Abort;
-use std::test::Fail;
 use wtp_fields::qpack::DecodingError;
 
 /// Letters whose text is as long in the Huffman code, where each is 0xfd.
@@ -113,32 +112,26 @@ fn assert_written(
     field: (&str, &str),
     (front, len): (&[u8], usize),
     shows: &str,
-) -> Result<(), AllocError> {
-    let section = encode(alloc, &[field])?;
+) {
+    let section = encode(rt, alloc, &[field]);
     let came = section.as_slice().get(..front.len()).unwrap_or(b"");
     same(rt, came, front, shows);
     same(rt, section.len(), len, shows);
-    Ok(())
 }
 
 /// Asserts the same of a row, and that its field comes back.
-fn assert_written_and_read(
-    rt: &impl Abort,
-    alloc: Global,
-    row: &WrittenRow,
-) -> Result<(), DecodingError> {
+fn assert_written_and_read(rt: &impl Abort, alloc: Global, row: &WrittenRow) {
     let (shows, name, value, front, len) = *row;
     let field = (text_of(rt, name.0, name.1), text_of(rt, value.0, value.1));
-    assert_written(rt, alloc, field, (front, len), shows)?;
-    assert_come_back(rt, alloc, &[field], &[field], shows)
+    assert_written(rt, alloc, field, (front, len), shows);
+    assert_come_back(rt, alloc, &[field], &[field], shows);
 }
 
 #[test]
-fn written_integers_past_refused_memory(rt: HostRuntime) -> Result<(), Fail> {
+fn written_integers_past_refused_memory(rt: HostRuntime) {
     for row in &WRITTEN {
-        assert_written_and_read(&rt, rt.alloc(), row)?;
+        assert_written_and_read(&rt, rt.alloc(), row);
     }
-    Ok(())
 }
 
 /// What a row shows, and a section up to an integer of 1337, and a byte that follows so many times.
@@ -167,46 +160,26 @@ static VALUES_OF_1337: [FlagRow; 6] = [
 ];
 
 /// A section with a byte 1337 times in it.
-fn section_of(
-    alloc: Global,
-    (front, byte, end): (&[u8], u8, &[u8]),
-) -> Result<Vec<u8>, AllocError> {
-    join(alloc, [front, &[byte; 1337], end])
+fn section_of(rt: &impl Abort, alloc: Global, (front, byte, end): (&[u8], u8, &[u8])) -> Vec<u8> {
+    join(rt, alloc, [front, &[byte; 1337], end])
 }
 
 /// Asserts that a section with a byte 1337 times in it is decoded to this field.
-fn assert_read(
-    rt: &impl Abort,
-    alloc: Global,
-    row: &FlagRow,
-    end: &[u8],
-    field: (&str, &str),
-) -> Result<(), DecodingError> {
+fn assert_read(rt: &impl Abort, alloc: Global, row: &FlagRow, end: &[u8], field: (&str, &str)) {
     let (shows, front, byte) = *row;
-    let section = section_of(alloc, (front, byte, end))?;
-    assert_decoded(rt, alloc, section.as_slice(), &[field], shows)
-}
-
-/// Asserts it of each row.
-fn assert_all_read(
-    rt: &impl Abort,
-    alloc: Global,
-    rows: &[FlagRow],
-    end: &[u8],
-    field: (&str, &str),
-) -> Result<(), DecodingError> {
-    for row in rows {
-        assert_read(rt, alloc, row, end, field)?;
-    }
-    Ok(())
+    let section = section_of(rt, alloc, (front, byte, end));
+    assert_decoded(rt, alloc, section.as_slice(), &[field], shows);
 }
 
 #[test]
-fn integers_under_each_flag_past_refused_memory(rt: HostRuntime) -> Result<(), Fail> {
+fn integers_under_each_flag_past_refused_memory(rt: HostRuntime) {
     let text = text_of(&rt, b'Z', 1337);
-    assert_all_read(&rt, rt.alloc(), &NAMES_OF_1337, b"\x00", (text, ""))?;
-    assert_all_read(&rt, rt.alloc(), &VALUES_OF_1337, b"", ("", text))?;
-    Ok(())
+    for row in &NAMES_OF_1337 {
+        assert_read(&rt, rt.alloc(), row, b"\x00", (text, ""));
+    }
+    for row in &VALUES_OF_1337 {
+        assert_read(&rt, rt.alloc(), row, b"", ("", text));
+    }
 }
 
 /// What a row shows, a section, and the fault of its last integer; none of 2^64 - 1 in the prefix
@@ -353,26 +326,15 @@ static LENGTHS: [usize; 18] = [
 ];
 
 /// Asserts that a name and a value of a letter so many times come back.
-fn assert_string(
-    rt: &impl Abort,
-    alloc: Global,
-    letter: u8,
-    len: usize,
-) -> Result<(), DecodingError> {
+fn assert_string(rt: &impl Abort, alloc: Global, letter: u8, len: usize) {
     let text = text_of(rt, letter, len);
-    assert_come_back(rt, alloc, &[(text, text)], &[(text, text)], len)
-}
-
-/// Asserts it of either letter.
-fn assert_strings(rt: &impl Abort, alloc: Global, len: usize) -> Result<(), DecodingError> {
-    assert_string(rt, alloc, b'a', len)?;
-    assert_string(rt, alloc, b'Z', len)
+    assert_come_back(rt, alloc, &[(text, text)], &[(text, text)], len);
 }
 
 #[test]
-fn strings_past_refused_memory(rt: HostRuntime) -> Result<(), Fail> {
+fn strings_past_refused_memory(rt: HostRuntime) {
     for len in &LENGTHS {
-        assert_strings(&rt, rt.alloc(), *len)?;
+        assert_string(&rt, rt.alloc(), b'a', *len);
+        assert_string(&rt, rt.alloc(), b'Z', *len);
     }
-    Ok(())
 }

@@ -1,10 +1,9 @@
 //! Requests for URLs and of header maps, their frames, their fields, and refused memory.
 use crate::header_maps::{assert_fields, frame_of, map_of};
 use crate::same::same;
-use std::alloc::{AllocError, Global};
+use std::alloc::Global;
 use std::borrow::CowSlice;
 use std::process::Abort;
-use std::test::Fail;
 use wtp_core::error::{ErrorCode, Refused};
 use wtp_fields::headers::Headers;
 use wtp_fields::session::{
@@ -77,19 +76,17 @@ static URLS: [UrlRow; 4] = [
 ];
 
 /// Asserts that the request for the URL of a row has its authority and path.
-fn assert_requested(rt: &impl Abort, alloc: Global, row: &UrlRow) -> Result<(), UrlParseError> {
+fn assert_requested(rt: &impl Abort, alloc: Global, row: &UrlRow) {
     let (shows, url, authority, path) = *row;
-    let request = request_for(alloc, url)?;
+    let request = request_for(alloc, url).expect(rt, url);
     assert_request(rt, &request, authority, path, shows);
-    Ok(())
 }
 
 #[test]
-fn urls_past_refused_memory(rt: HostRuntime) -> Result<(), Fail> {
+fn urls_past_refused_memory(rt: HostRuntime) {
     for row in &URLS {
-        assert_requested(&rt, rt.alloc(), row)?;
+        assert_requested(&rt, rt.alloc(), row);
     }
-    Ok(())
 }
 
 /// URLs of which there is no request, and why.
@@ -124,11 +121,7 @@ fn insert_once(request: &mut SessionRequest, name: &str, value: &str) -> Result<
 
 /// Inserts a field into a request. Where memory was refused the field must be as it was, and is
 /// inserted once more.
-fn insert(
-    rt: &impl Abort,
-    request: &mut SessionRequest,
-    row: &InsertedRow,
-) -> Result<(), InsertError> {
+fn insert(rt: &impl Abort, request: &mut SessionRequest, row: &InsertedRow) {
     let (name, value, before) = *row;
     match insert_once(request, name, value) {
         Err(InsertError::Memory) => {
@@ -137,6 +130,7 @@ fn insert(
         }
         outcome => outcome,
     }
+    .expect(rt, name);
 }
 
 /// Asserts what a request has in the fields that a client may give it.
@@ -163,13 +157,13 @@ static INSERTED: [InsertedRow; 4] = [
 ];
 
 /// The request for a URL, with the inserted fields.
-fn request_with_fields(rt: &impl Abort, alloc: Global) -> Result<SessionRequest, Fail> {
-    let mut request = request_for(alloc, "https://example.com/")?;
+fn request_with_fields(rt: &impl Abort, alloc: Global) -> SessionRequest {
+    let mut request = request_for(alloc, "https://example.com/").expect(rt, "no request");
     assert_given(rt, &request, [None, None, None], "no field is inserted");
     for row in &INSERTED {
-        insert(rt, &mut request, row)?;
+        insert(rt, &mut request, row);
     }
-    Ok(request)
+    request
 }
 
 /// The names of the fields that a request sets itself.
@@ -193,8 +187,8 @@ fn assert_reserved(rt: &impl Abort, request: &mut SessionRequest, name: &'static
 }
 
 #[test]
-fn fields_of_a_request_past_refused_memory(rt: HostRuntime) -> Result<(), Fail> {
-    let mut request = request_with_fields(&rt, rt.alloc())?;
+fn fields_of_a_request_past_refused_memory(rt: HostRuntime) {
+    let mut request = request_with_fields(&rt, rt.alloc());
     let given = [Some("https://a.example"), Some("agent"), Some("z")];
     assert_given(&rt, &request, given, "the last value of a name");
     same(
@@ -208,7 +202,6 @@ fn fields_of_a_request_past_refused_memory(rt: HostRuntime) -> Result<(), Fail> 
     }
     let wanted = ("example.com", "/", 8);
     assert_parts(&rt, &request, wanted, "no reserved field is changed");
-    Ok(())
 }
 
 /// Why there is no request with these fields.
@@ -304,18 +297,16 @@ static FAULTS: [FaultRow; 10] = [
 ];
 
 /// Asserts what fault the request with the fields of a row has.
-fn assert_fault(rt: &impl Abort, alloc: Global, row: &FaultRow) -> Result<(), AllocError> {
+fn assert_fault(rt: &impl Abort, alloc: Global, row: &FaultRow) {
     let (shows, pairs, first) = row;
-    same(rt, &fault_of(map_of(alloc, pairs)?), first, shows);
-    Ok(())
+    same(rt, &fault_of(map_of(rt, alloc, pairs)), first, shows);
 }
 
 #[test]
-fn faults_of_requests_past_refused_memory(rt: HostRuntime) -> Result<(), Fail> {
+fn faults_of_requests_past_refused_memory(rt: HostRuntime) {
     for row in &FAULTS {
-        assert_fault(&rt, rt.alloc(), row)?;
+        assert_fault(&rt, rt.alloc(), row);
     }
-    Ok(())
 }
 
 /// The request of a frame.
@@ -332,9 +323,9 @@ fn receive(alloc: Global, frame: &Frame<'_>) -> Result<SessionRequest, Refused> 
 }
 
 /// The frame of the request for `https://example.com/`.
-fn request_frame(alloc: Global) -> Result<FrameOwned, Fail> {
-    let request = request_for(alloc, "https://example.com/")?;
-    Ok(frame_of(alloc, request.headers())?)
+fn request_frame(rt: &impl Abort, alloc: Global) -> FrameOwned {
+    let request = request_for(alloc, "https://example.com/").expect(rt, "no request");
+    frame_of(rt, alloc, request.headers())
 }
 
 /// Asserts the authority and the path of a request, and how many fields it has.
@@ -350,13 +341,12 @@ fn assert_parts(
 }
 
 #[test]
-fn sent_request_past_refused_memory(rt: HostRuntime) -> Result<(), Fail> {
-    let frame = request_frame(rt.alloc())?;
+fn sent_request_past_refused_memory(rt: HostRuntime) {
+    let frame = request_frame(&rt, rt.alloc());
     let came = (frame.kind(), frame.write_size(), frame.payload());
     same(&rt, came, (FrameKind::Headers, 42, PAYLOAD), "the frame");
-    let back = receive(rt.alloc(), &frame)?;
+    let back = receive(rt.alloc(), &frame).expect(&rt, "refused");
     assert_parts(&rt, &back, ("example.com", "/", 5), "what comes back");
-    Ok(())
 }
 
 /// The payload of the request for `https://example.com/`.

@@ -4,7 +4,6 @@ use crate::same::same;
 use std::alloc::{AllocError, Global};
 use std::borrow::CowSlice;
 use std::process::Abort;
-use std::test::Fail;
 use wtp_core::error::{ErrorCode, Refused};
 use wtp_core::varint::VarInt;
 use wtp_fields::headers::Headers;
@@ -86,21 +85,19 @@ fn assert_values(
 }
 
 /// Asserts that the payload of a row is a response with its status code and its fields.
-fn assert_response(rt: &impl Abort, alloc: Global, row: &ResponseRow) -> Result<(), Refused> {
+fn assert_response(rt: &impl Abort, alloc: Global, row: &ResponseRow) {
     let (shows, payload, code, fields) = *row;
-    let response = response_of(rt, alloc, payload)?;
+    let response = response_of(rt, alloc, payload).expect(rt, shows);
     same(rt, response.code().into_inner(), code, shows);
     assert_fields(rt, response.headers(), fields, shows);
     assert_values(rt, &response, fields, shows);
-    Ok(())
 }
 
 #[test]
-fn received_responses_past_refused_memory(rt: HostRuntime) -> Result<(), Fail> {
+fn received_responses_past_refused_memory(rt: HostRuntime) {
     for row in &RESPONSES {
-        assert_response(&rt, rt.alloc(), row)?;
+        assert_response(&rt, rt.alloc(), row);
     }
-    Ok(())
 }
 
 /// What a row shows, a payload that is not a response, and why.
@@ -153,10 +150,10 @@ fn copy_once(headers: &Headers) -> Result<Headers, AllocError> {
 }
 
 /// The same, made once more where memory was refused.
-fn copy(headers: &Headers) -> Result<Headers, AllocError> {
+fn copy(rt: &impl Abort, headers: &Headers) -> Headers {
     match copy_once(headers) {
-        Err(AllocError) => copy_once(headers),
-        outcome => outcome,
+        Ok(second) => second,
+        Err(AllocError) => copy_once(headers).expect(rt, "memory"),
     }
 }
 
@@ -164,19 +161,17 @@ fn copy(headers: &Headers) -> Result<Headers, AllocError> {
 static FIELDS: [(&str, &str); 3] = [(":status", "200"), ("a", "1"), ("b", "2")];
 
 /// Asserts that a field of a copy is changed. Where memory was refused it is inserted once more.
-fn assert_changed(rt: &impl Abort, second: &mut Headers) -> Result<(), AllocError> {
-    insert(rt, second, ("a", "3"), &FIELDS)?;
+fn assert_changed(rt: &impl Abort, second: &mut Headers) {
+    insert(rt, second, ("a", "3"), &FIELDS);
     same(rt, second.get("a"), Some("3"), "the copy changed");
-    Ok(())
 }
 
 #[test]
-fn copies_past_refused_memory(rt: HostRuntime) -> Result<(), Fail> {
-    let first = map_of(rt.alloc(), &FIELDS)?;
-    let mut second = copy(&first)?;
+fn copies_past_refused_memory(rt: HostRuntime) {
+    let first = map_of(&rt, rt.alloc(), &FIELDS);
+    let mut second = copy(&rt, &first);
     assert_fields(&rt, &second, &FIELDS, "the copy");
-    assert_changed(&rt, &mut second)?;
+    assert_changed(&rt, &mut second);
     assert_fields(&rt, &first, &FIELDS, "the first map");
     assert_fields(&rt, &Headers::new(rt.alloc()), &[], "an empty map");
-    Ok(())
 }

@@ -4,7 +4,6 @@ use crate::header_maps::{assert_fields, frame_of, map_of};
 use crate::same::same;
 use std::alloc::{AllocError, Global};
 use std::process::Abort;
-use std::test::Fail;
 use wtp_core::ids::StatusCode;
 use wtp_fields::session::{AddError, HeadersParseError, SessionResponse};
 
@@ -30,10 +29,10 @@ fn call_once(alloc: Global, call: Call) -> Result<SessionResponse, AllocError> {
 }
 
 /// The response of a call.
-fn response(alloc: Global, call: Call) -> Result<SessionResponse, AllocError> {
+fn response(rt: &impl Abort, alloc: Global, call: Call) -> SessionResponse {
     match call_once(alloc, call) {
-        Err(AllocError) => call_once(alloc, call),
-        outcome => outcome,
+        Ok(response) => response,
+        Err(AllocError) => call_once(alloc, call).expect(rt, "memory"),
     }
 }
 
@@ -50,21 +49,19 @@ static CALLS: [CallRow; 5] = [
 ];
 
 /// Asserts that the response of the call of a row has its status code and its payload.
-fn assert_response(rt: &impl Abort, alloc: Global, row: &CallRow) -> Result<(), Fail> {
+fn assert_response(rt: &impl Abort, alloc: Global, row: &CallRow) {
     let (call, code, payload) = *row;
-    let response = response(alloc, call)?;
-    let frame = frame_of(alloc, response.headers())?;
+    let response = response(rt, alloc, call);
+    let frame = frame_of(rt, alloc, response.headers());
     same(rt, response.code().into_inner(), code, code);
     same(rt, frame.payload(), payload, code);
-    Ok(())
 }
 
 #[test]
-fn responses_past_refused_memory(rt: HostRuntime) -> Result<(), Fail> {
+fn responses_past_refused_memory(rt: HostRuntime) {
     for row in &CALLS {
-        assert_response(&rt, rt.alloc(), row)?;
+        assert_response(&rt, rt.alloc(), row);
     }
-    Ok(())
 }
 
 /// Adds a field to a response.
@@ -79,7 +76,7 @@ fn add(
     response: &mut SessionResponse,
     (name, value): (&str, &str),
     before: Option<&str>,
-) -> Result<(), AddError> {
+) {
     match add_once(response, name, value) {
         Err(AddError::Memory) => {
             let came = response.headers().get(name);
@@ -88,6 +85,7 @@ fn add(
         }
         outcome => outcome,
     }
+    .expect(rt, name);
 }
 
 /// Texts that are no status codes.
@@ -101,49 +99,44 @@ fn assert_no_code(rt: &impl Abort, response: &mut SessionResponse, text: &str) {
     same(rt, response.code(), StatusCode::OK, text);
 }
 
-/// Asserts it of each text that is no status code.
-fn assert_no_codes(rt: &impl Abort, response: &mut SessionResponse) {
-    for text in &NO_CODES {
-        assert_no_code(rt, response, text);
-    }
-}
-
 /// The fields after a status and another field were added.
 static ADDED: [(&str, &str); 2] = [(":status", "0404"), ("x", "y")];
 
 /// Asserts that a status and another field are added to a response.
-fn assert_added(rt: &impl Abort, response: &mut SessionResponse) -> Result<(), AddError> {
-    add(rt, response, ("x", "y"), None)?;
-    add(rt, response, (":status", "0404"), Some("200"))?;
+fn assert_added(rt: &impl Abort, response: &mut SessionResponse) {
+    add(rt, response, ("x", "y"), None);
+    add(rt, response, (":status", "0404"), Some("200"));
     same(rt, response.code(), StatusCode::NOT_FOUND, "0404");
     let shows = "a good text is kept as it is written";
     assert_fields(rt, response.headers(), &ADDED, shows);
-    Ok(())
 }
 
 #[test]
-fn fields_of_a_response_past_refused_memory(rt: HostRuntime) -> Result<(), Fail> {
-    let mut response = response(rt.alloc(), Call::Ok)?;
-    assert_no_codes(&rt, &mut response);
-    assert_added(&rt, &mut response)?;
-    Ok(())
+fn fields_of_a_response_past_refused_memory(rt: HostRuntime) {
+    let mut response = response(&rt, rt.alloc(), Call::Ok);
+    for text in &NO_CODES {
+        assert_no_code(&rt, &mut response, text);
+    }
+    assert_added(&rt, &mut response);
 }
 
 /// The response of a map of the pairs.
 fn response_once(
+    rt: &impl Abort,
     alloc: Global,
     pairs: &[(&str, &str)],
 ) -> Result<SessionResponse, HeadersParseError> {
-    SessionResponse::try_from(map_of(alloc, pairs)?)
+    SessionResponse::try_from(map_of(rt, alloc, pairs))
 }
 
 /// The same, made once more where memory was refused.
 fn response_of(
+    rt: &impl Abort,
     alloc: Global,
     pairs: &[(&str, &str)],
 ) -> Result<SessionResponse, HeadersParseError> {
-    match response_once(alloc, pairs) {
-        Err(HeadersParseError::Memory) => response_once(alloc, pairs),
+    match response_once(rt, alloc, pairs) {
+        Err(HeadersParseError::Memory) => response_once(rt, alloc, pairs),
         outcome => outcome,
     }
 }
@@ -182,7 +175,7 @@ static NO_RESPONSES: [NoResponseRow; 4] = [
 /// Asserts that there is no response with the fields of a row, and why.
 fn assert_no_response(rt: &impl Abort, alloc: Global, row: &NoResponseRow) {
     let (shows, pairs, fault) = row;
-    let came = response_of(alloc, pairs).err();
+    let came = response_of(rt, alloc, pairs).err();
     same(rt, came.as_ref(), Some(fault), shows);
 }
 
@@ -190,23 +183,17 @@ fn assert_no_response(rt: &impl Abort, alloc: Global, row: &NoResponseRow) {
 static STATUSES: [(&str, &str); 3] = [("0200", "200"), ("+403", "403"), ("599", "599")];
 
 /// Asserts that the response of a map with this text as its status has these digits alone.
-fn assert_status(
-    rt: &impl Abort,
-    alloc: Global,
-    (text, digits): (&str, &str),
-) -> Result<(), HeadersParseError> {
-    let response = response_of(alloc, &[(":status", text), ("x", "y")])?;
+fn assert_status(rt: &impl Abort, alloc: Global, (text, digits): (&str, &str)) {
+    let response = response_of(rt, alloc, &[(":status", text), ("x", "y")]).expect(rt, text);
     assert_fields(rt, response.headers(), &[(":status", digits)], text);
-    Ok(())
 }
 
 #[test]
-fn responses_of_maps_past_refused_memory(rt: HostRuntime) -> Result<(), Fail> {
+fn responses_of_maps_past_refused_memory(rt: HostRuntime) {
     for row in &STATUSES {
-        assert_status(&rt, rt.alloc(), *row)?;
+        assert_status(&rt, rt.alloc(), *row);
     }
     for row in &NO_RESPONSES {
         assert_no_response(&rt, rt.alloc(), row);
     }
-    Ok(())
 }

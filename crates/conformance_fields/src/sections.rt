@@ -29,10 +29,10 @@ fn encode_once(alloc: Global, pairs: &[(&str, &str)]) -> Result<Vec<u8>, AllocEr
 }
 
 /// The same, encoded once more where memory was refused.
-pub(crate) fn encode(alloc: Global, pairs: &[(&str, &str)]) -> Result<Vec<u8>, AllocError> {
+pub(crate) fn encode(rt: &impl Abort, alloc: Global, pairs: &[(&str, &str)]) -> Vec<u8> {
     match encode_once(alloc, pairs) {
-        Err(AllocError) => encode_once(alloc, pairs),
-        outcome => outcome,
+        Ok(section) => section,
+        Err(AllocError) => encode_once(alloc, pairs).expect(rt, "memory"),
     }
 }
 
@@ -46,22 +46,11 @@ fn join_once(alloc: Global, parts: &[&[u8]]) -> Result<Vec<u8>, AllocError> {
 }
 
 /// The same, made once more where memory was refused.
-pub(crate) fn join(alloc: Global, parts: [&[u8]; 3]) -> Result<Vec<u8>, AllocError> {
+pub(crate) fn join(rt: &impl Abort, alloc: Global, parts: [&[u8]; 3]) -> Vec<u8> {
     match join_once(alloc, &parts) {
-        Err(AllocError) => join_once(alloc, &parts),
-        outcome => outcome,
+        Ok(bytes) => bytes,
+        Err(AllocError) => join_once(alloc, &parts).expect(rt, "memory"),
     }
-}
-
-/// Asserts what a field of a map is.
-fn assert_field<S: Copy + Display + Drop>(
-    rt: &impl Abort,
-    (name, value): (&String, &String),
-    known: (&str, &str),
-    shows: S,
-) {
-    same(rt, name.as_str(), known.0, shows);
-    same(rt, value.as_str(), known.1, shows);
 }
 
 /// Asserts that a map has these fields, in the order of their names, and no others.
@@ -72,8 +61,8 @@ pub(crate) fn assert_map<S: Copy + Display + Drop>(
     shows: S,
 ) {
     same(rt, fields.len(), wanted.len(), shows);
-    for (field, known) in fields.iter().zip(wanted) {
-        assert_field(rt, field, *known, shows);
+    for ((name, value), known) in fields.iter().zip(wanted) {
+        same(rt, (name.as_str(), value.as_str()), *known, shows);
     }
 }
 
@@ -85,9 +74,9 @@ pub(crate) fn assert_decoded<S: Copy + Display + Drop>(
     section: &[u8],
     wanted: &[(&str, &str)],
     shows: S,
-) -> Result<(), DecodingError> {
-    assert_map(rt, &decode(alloc, section)?, wanted, shows);
-    Ok(())
+) {
+    let fields = decode(alloc, section).expect(rt, "a fault");
+    assert_map(rt, &fields, wanted, shows);
 }
 
 /// Asserts that pairs are encoded to this section.
@@ -97,9 +86,8 @@ pub(crate) fn assert_encoded(
     pairs: &[(&str, &str)],
     section: &[u8],
     shows: &str,
-) -> Result<(), AllocError> {
-    same(rt, encode(alloc, pairs)?.as_slice(), section, shows);
-    Ok(())
+) {
+    same(rt, encode(rt, alloc, pairs).as_slice(), section, shows);
 }
 
 /// Asserts that the section of the pairs is decoded to these fields, in the order of their names,
@@ -110,9 +98,9 @@ pub(crate) fn assert_come_back<S: Copy + Display + Drop>(
     pairs: &[(&str, &str)],
     wanted: &[(&str, &str)],
     shows: S,
-) -> Result<(), DecodingError> {
-    let section = encode(alloc, pairs)?;
-    assert_decoded(rt, alloc, section.as_slice(), wanted, shows)
+) {
+    let section = encode(rt, alloc, pairs);
+    assert_decoded(rt, alloc, section.as_slice(), wanted, shows);
 }
 
 /// Asserts what fault is found in a section.

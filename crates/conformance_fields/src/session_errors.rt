@@ -3,7 +3,6 @@ use crate::same::same;
 use std::alloc::{AllocError, Global};
 use std::fmt::Display;
 use std::process::Abort;
-use std::test::Fail;
 use wtp_fields::session::{
     AddError, HeadersParseError, InsertError, ReservedHeader, UrlParseError,
 };
@@ -17,26 +16,16 @@ fn text_of(alloc: Global, error: &impl Display) -> Result<String, AllocError> {
 }
 
 /// Asserts that an error has this text.
-fn assert_shown(
-    rt: &impl Abort,
-    alloc: Global,
-    error: &impl Display,
-    text: &str,
-) -> Result<(), AllocError> {
-    same(rt, text_of(alloc, error)?.as_str(), text, text);
-    Ok(())
+fn assert_shown(rt: &impl Abort, alloc: Global, error: &impl Display, text: &str) {
+    let came = text_of(alloc, error).expect(rt, "memory");
+    same(rt, came.as_str(), text, text);
 }
 
 /// Asserts it of each error.
-pub(crate) fn assert_texts<E: Display>(
-    rt: &impl Abort,
-    alloc: Global,
-    rows: &[(E, &str)],
-) -> Result<(), AllocError> {
+pub(crate) fn assert_texts<E: Display>(rt: &impl Abort, alloc: Global, rows: &[(E, &str)]) {
     for (error, text) in rows {
-        assert_shown(rt, alloc, error, text)?;
+        assert_shown(rt, alloc, error, text);
     }
-    Ok(())
 }
 
 /// Errors of header maps, and their texts.
@@ -82,9 +71,8 @@ static ERRORS_OF_MAPS: [(HeadersParseError, &str); 11] = [
 ];
 
 #[test]
-fn printed_errors_of_maps_past_refused_memory(rt: HostRuntime) -> Result<(), Fail> {
-    assert_texts(&rt, rt.alloc(), &ERRORS_OF_MAPS)?;
-    Ok(())
+fn printed_errors_of_maps_past_refused_memory(rt: HostRuntime) {
+    assert_texts(&rt, rt.alloc(), &ERRORS_OF_MAPS);
 }
 
 /// Errors of URLs, and their texts.
@@ -123,9 +111,8 @@ static ERRORS_OF_URLS: [(UrlParseError, &str); 13] = [
 ];
 
 #[test]
-fn printed_errors_of_urls_past_refused_memory(rt: HostRuntime) -> Result<(), Fail> {
-    assert_texts(&rt, rt.alloc(), &ERRORS_OF_URLS)?;
-    Ok(())
+fn printed_errors_of_urls_past_refused_memory(rt: HostRuntime) {
+    assert_texts(&rt, rt.alloc(), &ERRORS_OF_URLS);
 }
 
 /// Errors of inserted fields, and their texts.
@@ -144,8 +131,7 @@ static ERRORS_OF_ADDS: [(AddError, &str); 2] = [
 ];
 
 #[test]
-fn printed_errors_of_fields_past_refused_memory(rt: HostRuntime) -> Result<(), Fail> {
-    assert_texts(&rt, rt.alloc(), &ERRORS_OF_INSERTS)?;
-    assert_texts(&rt, rt.alloc(), &ERRORS_OF_ADDS)?;
-    Ok(())
+fn printed_errors_of_fields_past_refused_memory(rt: HostRuntime) {
+    assert_texts(&rt, rt.alloc(), &ERRORS_OF_INSERTS);
+    assert_texts(&rt, rt.alloc(), &ERRORS_OF_ADDS);
 }

@@ -1,9 +1,8 @@
 //! All 99 entries of the static table and all 52 names, by lines that refer to them.
 use crate::same::same;
 use crate::sections::{FaultRow, assert_decoded, assert_encoded, assert_faults, join};
-use std::alloc::{AllocError, Global};
+use std::alloc::Global;
 use std::process::Abort;
-use std::test::Fail;
 use wtp_fields::qpack::DecodingError;
 
 /// The names and values of a table.
@@ -138,42 +137,33 @@ const VALUE: &[u8] = b"\x01~";
 /// The section of one line that refers to an index, which takes a byte more where the low bits are
 /// too few, and then has this value.
 fn line_of(
+    rt: &impl Abort,
     alloc: Global,
     (first, ones): (u8, u8),
     index: usize,
     value: &[u8],
-) -> Result<Vec<u8>, AllocError> {
+) -> Vec<u8> {
     let most = usize::from(ones);
     let rest = index.wrapping_sub(most) % 128;
     if index < most {
-        join(alloc, [b"\x00\x00", &[first | index as u8], value])
+        join(rt, alloc, [b"\x00\x00", &[first | index as u8], value])
     } else {
-        join(alloc, [b"\x00\x00", &[first | ones, rest as u8], value])
+        join(rt, alloc, [b"\x00\x00", &[first | ones, rest as u8], value])
     }
 }
 
 /// Asserts that an index refers to this entry, as a whole and by its name.
-fn assert_entry(
-    rt: &impl Abort,
-    alloc: Global,
-    index: usize,
-    (name, value): (&str, &str),
-) -> Result<(), DecodingError> {
-    let whole = line_of(alloc, WHOLE, index, b"")?;
-    assert_decoded(rt, alloc, whole.as_slice(), &[(name, value)], index)?;
-    let named = line_of(alloc, NAMED, index, VALUE)?;
-    assert_decoded(rt, alloc, named.as_slice(), &[(name, "~")], index)
+fn assert_entry(rt: &impl Abort, alloc: Global, index: usize, (name, value): (&str, &str)) {
+    let whole = line_of(rt, alloc, WHOLE, index, b"");
+    assert_decoded(rt, alloc, whole.as_slice(), &[(name, value)], index);
+    let named = line_of(rt, alloc, NAMED, index, VALUE);
+    assert_decoded(rt, alloc, named.as_slice(), &[(name, "~")], index);
 }
 
 /// Asserts that a name is encoded by the index of its first entry.
-fn assert_first_entry(
-    rt: &impl Abort,
-    alloc: Global,
-    first: usize,
-    name: &str,
-) -> Result<(), AllocError> {
-    let section = line_of(alloc, NAMED, first, VALUE)?;
-    assert_encoded(rt, alloc, &[(name, "~")], section.as_slice(), name)
+fn assert_first_entry(rt: &impl Abort, alloc: Global, first: usize, name: &str) {
+    let section = line_of(rt, alloc, NAMED, first, VALUE);
+    assert_encoded(rt, alloc, &[(name, "~")], section.as_slice(), name);
 }
 
 /// Lines of an index after the last.
@@ -191,18 +181,16 @@ static NO_ENTRIES: [FaultRow; 2] = [
 ];
 
 /// Asserts it of each entry, by its place.
-fn assert_entries(rt: &impl Abort, alloc: Global, entries: Entries) -> Result<(), DecodingError> {
+fn assert_entries(rt: &impl Abort, alloc: Global, entries: Entries) {
     for (index, entry) in entries.iter().enumerate() {
-        assert_entry(rt, alloc, index, *entry)?;
+        assert_entry(rt, alloc, index, *entry);
     }
-    Ok(())
 }
 
 #[test]
-fn whole_table_past_refused_memory(rt: HostRuntime) -> Result<(), Fail> {
-    assert_entries(&rt, rt.alloc(), entries())?;
+fn whole_table_past_refused_memory(rt: HostRuntime) {
+    assert_entries(&rt, rt.alloc(), entries());
     assert_faults(&rt, rt.alloc(), &NO_ENTRIES);
-    Ok(())
 }
 
 /// The first entry of a name.
@@ -217,28 +205,27 @@ fn assert_name(
     alloc: Global,
     entries: Entries,
     (index, name): (usize, &str),
-) -> Result<bool, AllocError> {
+) -> bool {
     let first = first_entry(entries, name).unwrap_or(index);
-    assert_first_entry(rt, alloc, first, name)?;
-    Ok(first == index)
+    assert_first_entry(rt, alloc, first, name);
+    first == index
 }
 
 /// Asserts it of the name of each entry, and answers how many names there are.
-fn assert_names(rt: &impl Abort, alloc: Global, entries: Entries) -> Result<u8, AllocError> {
+fn assert_names(rt: &impl Abort, alloc: Global, entries: Entries) -> u8 {
     let mut names = 0u8;
     for (index, entry) in entries.iter().enumerate() {
-        if assert_name(rt, alloc, entries, (index, entry.0))? {
+        if assert_name(rt, alloc, entries, (index, entry.0)) {
             names = names.wrapping_add(1);
         }
     }
-    Ok(names)
+    names
 }
 
 #[test]
-fn names_past_refused_memory(rt: HostRuntime) -> Result<(), Fail> {
-    let names = assert_names(&rt, rt.alloc(), entries())?;
+fn names_past_refused_memory(rt: HostRuntime) {
+    let names = assert_names(&rt, rt.alloc(), entries());
     same(&rt, names, 52, "names");
-    Ok(())
 }
 
 /// What a row shows, a name of no entry, and the section of this name with the value `~`.
@@ -249,9 +236,8 @@ static UNKNOWN: [(&str, &str, &[u8]); 3] = [
 ];
 
 #[test]
-fn names_of_no_entry_past_refused_memory(rt: HostRuntime) -> Result<(), Fail> {
+fn names_of_no_entry_past_refused_memory(rt: HostRuntime) {
     for (shows, name, section) in &UNKNOWN {
-        assert_encoded(&rt, rt.alloc(), &[(name, "~")], section, shows)?;
+        assert_encoded(&rt, rt.alloc(), &[(name, "~")], section, shows);
     }
-    Ok(())
 }
