@@ -67,19 +67,8 @@ static FORMS: [(&str, u8, u8, Option<DecodingError>); 10] = [
     ),
 ];
 
-/// Asserts what is answered to a section whose last byte is the first of a line of this form.
-fn assert_form(
-    rt: &impl Abort,
-    alloc: Global,
-    first: u8,
-    form: &str,
-    fault: Option<DecodingError>,
-) {
-    let came = decode(alloc, &[0, 0, first]).err();
-    same(rt, (first, came), (first, fault), form);
-}
-
-/// Asserts it of each first byte from the least to the greatest, and answers how many they are.
+/// Asserts what is answered to each section whose last byte is the first of a line of this form,
+/// from the least to the greatest, and answers how many they are.
 fn assert_forms(
     rt: &impl Abort,
     alloc: Global,
@@ -89,7 +78,8 @@ fn assert_forms(
 ) -> u32 {
     let mut bytes = 0u32;
     for first in least..=greatest {
-        assert_form(rt, alloc, first, form, fault);
+        let came = decode(alloc, &[0, 0, first]).err();
+        same(rt, (first, came), (first, fault), form);
         bytes = bytes.wrapping_add(1);
     }
     bytes

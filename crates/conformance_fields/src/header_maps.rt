@@ -135,21 +135,16 @@ static REFUSED: [(&str, &[u8]); 6] = [
     ),
 ];
 
-/// Asserts that a payload is refused as no field section.
-fn assert_refused(rt: &impl Abort, alloc: Global, payload: &[u8], shows: &str) {
-    let fault = read(rt, alloc, payload).err();
-    same(
-        rt,
-        fault,
-        Some(Refused::Code(ErrorCode::Decompression)),
-        shows,
-    );
-}
-
 #[test]
 fn refused_sections_past_refused_memory(rt: HostRuntime) {
     for (shows, payload) in &REFUSED {
-        assert_refused(&rt, rt.alloc(), payload, shows);
+        let fault = read(&rt, rt.alloc(), payload).err();
+        same(
+            &rt,
+            fault,
+            Some(Refused::Code(ErrorCode::Decompression)),
+            shows,
+        );
     }
 }
 

@@ -11,15 +11,10 @@ use wtp_fields::session::{
 };
 use wtp_wire::frame::{Frame, FrameKind, FrameOwned};
 
-/// The request for a URL.
-fn request_once(alloc: Global, url: &str) -> Result<SessionRequest, UrlParseError> {
-    SessionRequest::new(alloc, url)
-}
-
-/// The same, made once more where memory was refused.
+/// The request for a URL, made once more where memory was refused.
 fn request_for(alloc: Global, url: &str) -> Result<SessionRequest, UrlParseError> {
-    match request_once(alloc, url) {
-        Err(UrlParseError::Memory) => request_once(alloc, url),
+    match SessionRequest::new(alloc, url) {
+        Err(UrlParseError::Memory) => SessionRequest::new(alloc, url),
         outcome => outcome,
     }
 }
@@ -102,15 +97,11 @@ static REFUSED_URLS: [(&str, UrlParseError); 9] = [
     ("/foo/bar", UrlParseError::RelativeUrlWithoutBase),
 ];
 
-/// Asserts that there is no request for a URL, and why.
-fn assert_refused_url(rt: &impl Abort, alloc: Global, url: &str, fault: &UrlParseError) {
-    same(rt, request_for(alloc, url).err().as_ref(), Some(fault), url);
-}
-
 #[test]
 fn refused_urls_past_refused_memory(rt: HostRuntime) {
     for (url, fault) in &REFUSED_URLS {
-        assert_refused_url(&rt, rt.alloc(), url, fault);
+        let came = request_for(rt.alloc(), url).err();
+        same(&rt, came.as_ref(), Some(fault), url);
     }
 }
 
@@ -137,7 +128,7 @@ fn insert(rt: &impl Abort, request: &mut SessionRequest, row: &InsertedRow) {
 fn assert_given(
     rt: &impl Abort,
     request: &SessionRequest,
-    [origin, agent, x]: [Option<&str>; 3],
+    (origin, agent, x): (Option<&str>, Option<&str>, Option<&str>),
     shows: &str,
 ) {
     same(rt, request.origin(), origin, shows);
@@ -159,7 +150,7 @@ static INSERTED: [InsertedRow; 4] = [
 /// The request for a URL, with the inserted fields.
 fn request_with_fields(rt: &impl Abort, alloc: Global) -> SessionRequest {
     let mut request = request_for(alloc, "https://example.com/").expect(rt, "no request");
-    assert_given(rt, &request, [None, None, None], "no field is inserted");
+    assert_given(rt, &request, (None, None, None), "no field is inserted");
     for row in &INSERTED {
         insert(rt, &mut request, row);
     }
@@ -189,7 +180,7 @@ fn assert_reserved(rt: &impl Abort, request: &mut SessionRequest, name: &'static
 #[test]
 fn fields_of_a_request_past_refused_memory(rt: HostRuntime) {
     let mut request = request_with_fields(&rt, rt.alloc());
-    let given = [Some("https://a.example"), Some("agent"), Some("z")];
+    let given = (Some("https://a.example"), Some("agent"), Some("z"));
     assert_given(&rt, &request, given, "the last value of a name");
     same(
         &rt,
@@ -296,28 +287,17 @@ static FAULTS: [FaultRow; 10] = [
     ("no field", &[], Some(HeadersParseError::MissingMethod)),
 ];
 
-/// Asserts what fault the request with the fields of a row has.
-fn assert_fault(rt: &impl Abort, alloc: Global, row: &FaultRow) {
-    let (shows, pairs, first) = row;
-    same(rt, &fault_of(map_of(rt, alloc, pairs)), first, shows);
-}
-
 #[test]
 fn faults_of_requests_past_refused_memory(rt: HostRuntime) {
-    for row in &FAULTS {
-        assert_fault(&rt, rt.alloc(), row);
+    for (shows, pairs, first) in &FAULTS {
+        same(&rt, &fault_of(map_of(&rt, rt.alloc(), pairs)), first, shows);
     }
 }
 
-/// The request of a frame.
-fn receive_once(alloc: Global, frame: &Frame<'_>) -> Result<SessionRequest, Refused> {
-    request_of_frame(alloc, frame)
-}
-
-/// The same, read once more where memory was refused.
+/// The request of a frame, read once more where memory was refused.
 fn receive(alloc: Global, frame: &Frame<'_>) -> Result<SessionRequest, Refused> {
-    match receive_once(alloc, frame) {
-        Err(Refused::Memory) => receive_once(alloc, frame),
+    match request_of_frame(alloc, frame) {
+        Err(Refused::Memory) => request_of_frame(alloc, frame),
         outcome => outcome,
     }
 }
@@ -343,8 +323,9 @@ fn assert_parts(
 #[test]
 fn sent_request_past_refused_memory(rt: HostRuntime) {
     let frame = request_frame(&rt, rt.alloc());
-    let came = (frame.kind(), frame.write_size(), frame.payload());
-    same(&rt, came, (FrameKind::Headers, 42, PAYLOAD), "the frame");
+    same(&rt, frame.kind(), FrameKind::Headers, "the frame");
+    same(&rt, frame.write_size(), 42, "the size of the frame");
+    same(&rt, frame.payload(), PAYLOAD, "the payload of the frame");
     let back = receive(rt.alloc(), &frame).expect(&rt, "refused");
     assert_parts(&rt, &back, ("example.com", "/", 5), "what comes back");
 }
@@ -369,10 +350,10 @@ static REFUSED_PAYLOADS: [(&str, &[u8], ErrorCode); 3] = [
 ];
 
 /// Asserts that a frame is refused as a request, with this code.
-fn assert_refused(rt: &impl Abort, alloc: Global, frame: &Frame<'_>, code: ErrorCode, shows: &str) {
+fn assert_refused(rt: &impl Abort, alloc: Global, frame: Frame<'_>, code: ErrorCode, shows: &str) {
     same(
         rt,
-        receive(alloc, frame).err(),
+        receive(alloc, &frame).err(),
         Some(Refused::Code(code)),
         shows,
     );
@@ -388,7 +369,7 @@ fn assert_refused_payload(
 ) {
     assert!(rt; payload.len() < 2048);
     let frame = Frame::new_headers(CowSlice::Borrowed(payload));
-    assert_refused(rt, alloc, &frame, code, shows);
+    assert_refused(rt, alloc, frame, code, shows);
 }
 
 #[test]
@@ -397,7 +378,7 @@ fn refused_frames_past_refused_memory(rt: HostRuntime) {
     assert_refused(
         &rt,
         rt.alloc(),
-        &data,
+        data,
         ErrorCode::FrameUnexpected,
         "another kind",
     );

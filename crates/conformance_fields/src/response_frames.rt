@@ -10,15 +10,10 @@ use wtp_fields::headers::Headers;
 use wtp_fields::session::{SessionResponse, response_of_frame};
 use wtp_wire::frame::Frame;
 
-/// The response of a frame.
-fn receive_once(alloc: Global, frame: &Frame<'_>) -> Result<SessionResponse, Refused> {
-    response_of_frame(alloc, frame)
-}
-
-/// The same, read once more where memory was refused.
+/// The response of a frame, read once more where memory was refused.
 fn receive(alloc: Global, frame: &Frame<'_>) -> Result<SessionResponse, Refused> {
-    match receive_once(alloc, frame) {
-        Err(Refused::Memory) => receive_once(alloc, frame),
+    match response_of_frame(alloc, frame) {
+        Err(Refused::Memory) => response_of_frame(alloc, frame),
         outcome => outcome,
     }
 }
@@ -115,63 +110,54 @@ static REFUSED_PAYLOADS: [(&str, &[u8], ErrorCode); 7] = [
     ("no number", b"\x00\x00\x5f\x09\x02ok", ErrorCode::Message),
 ];
 
-/// Asserts that a payload is refused as a response, with this code.
-fn assert_refused(rt: &impl Abort, alloc: Global, payload: &[u8], code: ErrorCode, shows: &str) {
-    let refused = response_of(rt, alloc, payload).err();
-    same(rt, refused, Some(Refused::Code(code)), shows);
-}
-
 #[test]
 fn refused_responses_past_refused_memory(rt: HostRuntime) {
     for (shows, payload, code) in &REFUSED_PAYLOADS {
-        assert_refused(&rt, rt.alloc(), payload, *code, shows);
+        let refused = response_of(&rt, rt.alloc(), payload).err();
+        same(&rt, refused, Some(Refused::Code(*code)), shows);
     }
 }
 
 /// Asserts that a frame of another kind is not a response.
-fn assert_unexpected(rt: &impl Abort, alloc: Global, frame: &Frame<'_>, shows: &str) {
+fn assert_unexpected(rt: &impl Abort, alloc: Global, frame: Frame<'_>, shows: &str) {
     let unexpected = Some(Refused::Code(ErrorCode::FrameUnexpected));
-    same(rt, receive(alloc, frame).err(), unexpected, shows);
+    same(rt, receive(alloc, &frame).err(), unexpected, shows);
 }
 
 #[test]
 fn other_frames_are_not_responses(rt: HostRuntime) {
     let data = Frame::new_data(CowSlice::Borrowed(b"\x00\x00\xd9"));
-    assert_unexpected(&rt, rt.alloc(), &data, "DATA");
+    assert_unexpected(&rt, rt.alloc(), data, "DATA");
     let settings = Frame::new_settings(CowSlice::Borrowed(b"\x00\x00\xd9"));
-    assert_unexpected(&rt, rt.alloc(), &settings, "SETTINGS");
+    assert_unexpected(&rt, rt.alloc(), settings, "SETTINGS");
     let exercise = Frame::new_exercise(VarInt::from_u32(0x21), CowSlice::Borrowed(b"\x00\x00\xd9"));
-    assert_unexpected(&rt, rt.alloc(), &exercise, "a reserved frame");
+    assert_unexpected(&rt, rt.alloc(), exercise, "a reserved frame");
 }
 
-/// The copy of a map.
-fn copy_once(headers: &Headers) -> Result<Headers, AllocError> {
-    headers.clone()
-}
-
-/// The same, made once more where memory was refused.
+/// The copy of a map, made once more where memory was refused.
 fn copy(rt: &impl Abort, headers: &Headers) -> Headers {
-    match copy_once(headers) {
+    match headers.clone() {
         Ok(second) => second,
-        Err(AllocError) => copy_once(headers).expect(rt, "memory"),
+        Err(AllocError) => headers.clone().expect(rt, "memory"),
     }
 }
 
 /// The fields of the map that is copied.
 static FIELDS: [(&str, &str); 3] = [(":status", "200"), ("a", "1"), ("b", "2")];
 
-/// Asserts that a field of a copy is changed. Where memory was refused it is inserted once more.
-fn assert_changed(rt: &impl Abort, second: &mut Headers) {
-    insert(rt, second, ("a", "3"), &FIELDS);
+/// Asserts that the copy of a map has its fields, and that a field of the copy is changed. Where
+/// memory was refused it is inserted once more.
+fn assert_copied(rt: &impl Abort, first: &Headers) {
+    let mut second = copy(rt, first);
+    assert_fields(rt, &second, &FIELDS, "the copy");
+    insert(rt, &mut second, ("a", "3"), &FIELDS);
     same(rt, second.get("a"), Some("3"), "the copy changed");
 }
 
 #[test]
 fn copies_past_refused_memory(rt: HostRuntime) {
     let first = map_of(&rt, rt.alloc(), &FIELDS);
-    let mut second = copy(&rt, &first);
-    assert_fields(&rt, &second, &FIELDS, "the copy");
-    assert_changed(&rt, &mut second);
+    assert_copied(&rt, &first);
     assert_fields(&rt, &first, &FIELDS, "the first map");
     assert_fields(&rt, &Headers::new(rt.alloc()), &[], "an empty map");
 }

@@ -172,13 +172,6 @@ static NO_RESPONSES: [NoResponseRow; 4] = [
     ),
 ];
 
-/// Asserts that there is no response with the fields of a row, and why.
-fn assert_no_response(rt: &impl Abort, alloc: Global, row: &NoResponseRow) {
-    let (shows, pairs, fault) = row;
-    let came = response_of(rt, alloc, pairs).err();
-    same(rt, came.as_ref(), Some(fault), shows);
-}
-
 /// A text of a status, and its digits in the response.
 static STATUSES: [(&str, &str); 3] = [("0200", "200"), ("+403", "403"), ("599", "599")];
 
@@ -193,7 +186,8 @@ fn responses_of_maps_past_refused_memory(rt: HostRuntime) {
     for row in &STATUSES {
         assert_status(&rt, rt.alloc(), *row);
     }
-    for row in &NO_RESPONSES {
-        assert_no_response(&rt, rt.alloc(), row);
+    for (shows, pairs, fault) in &NO_RESPONSES {
+        let came = response_of(&rt, rt.alloc(), pairs).err();
+        same(&rt, came.as_ref(), Some(fault), shows);
     }
 }

@@ -10,15 +10,10 @@ use wtp_fields::qpack::{Decoder, DecodingError, Encoder};
 /// The fields of a section.
 type Fields = BTreeMap<String, String>;
 
-/// Decodes a section.
-fn decode_once(alloc: Global, section: &[u8]) -> Result<Fields, DecodingError> {
-    Decoder::decode(alloc, section)
-}
-
-/// The same, decoded once more where memory was refused.
+/// Decodes a section; once more where memory was refused.
 pub(crate) fn decode(alloc: Global, section: &[u8]) -> Result<Fields, DecodingError> {
-    match decode_once(alloc, section) {
-        Err(DecodingError::Memory) => decode_once(alloc, section),
+    match Decoder::decode(alloc, section) {
+        Err(DecodingError::Memory) => Decoder::decode(alloc, section),
         outcome => outcome,
     }
 }
@@ -103,23 +98,12 @@ pub(crate) fn assert_come_back<S: Copy + Display + Drop>(
     assert_decoded(rt, alloc, section.as_slice(), wanted, shows);
 }
 
-/// Asserts what fault is found in a section.
-fn assert_fault(
-    rt: &impl Abort,
-    alloc: Global,
-    section: &[u8],
-    fault: Option<DecodingError>,
-    shows: &str,
-) {
-    same(rt, decode(alloc, section).err(), fault, shows);
-}
-
 /// What a row shows, a section, and its fault, if it has one.
 pub(crate) type FaultRow = (&'static str, &'static [u8], Option<DecodingError>);
 
 /// Asserts what fault is found in the section of each row.
 pub(crate) fn assert_faults(rt: &impl Abort, alloc: Global, rows: &[FaultRow]) {
     for (shows, section, fault) in rows {
-        assert_fault(rt, alloc, section, *fault, shows);
+        same(rt, decode(alloc, section).err(), *fault, shows);
     }
 }

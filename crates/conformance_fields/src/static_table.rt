@@ -152,12 +152,21 @@ fn line_of(
     }
 }
 
+/// Asserts that the line of an index and a value is decoded to this field.
+fn assert_line(
+    rt: &impl Abort,
+    alloc: Global,
+    (form, index, value): ((u8, u8), usize, &[u8]),
+    field: (&str, &str),
+) {
+    let section = line_of(rt, alloc, form, index, value);
+    assert_decoded(rt, alloc, section.as_slice(), &[field], index);
+}
+
 /// Asserts that an index refers to this entry, as a whole and by its name.
 fn assert_entry(rt: &impl Abort, alloc: Global, index: usize, (name, value): (&str, &str)) {
-    let whole = line_of(rt, alloc, WHOLE, index, b"");
-    assert_decoded(rt, alloc, whole.as_slice(), &[(name, value)], index);
-    let named = line_of(rt, alloc, NAMED, index, VALUE);
-    assert_decoded(rt, alloc, named.as_slice(), &[(name, "~")], index);
+    assert_line(rt, alloc, (WHOLE, index, b""), (name, value));
+    assert_line(rt, alloc, (NAMED, index, VALUE), (name, "~"));
 }
 
 /// Asserts that a name is encoded by the index of its first entry.
@@ -195,7 +204,12 @@ fn whole_table_past_refused_memory(rt: HostRuntime) {
 
 /// The first entry of a name.
 fn first_entry(entries: Entries, name: &str) -> Option<usize> {
-    entries.iter().position(|entry| entry.0 == name)
+    for (index, entry) in entries.iter().enumerate() {
+        if entry.0 == name {
+            return Some(index);
+        }
+    }
+    None
 }
 
 /// Asserts that a name is encoded by the index of its first entry, and answers whether this is that
