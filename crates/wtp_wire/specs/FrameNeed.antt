@@ -46,5 +46,12 @@ frame_need_grows h t = elim (cases_lt (length h) (varint_need h)) [
   | inr full ↦
       let rest : drop (varint_need (h ++ t)) (h ++ t) ≡ drop (varint_need h) h ++ t =
       rw (varint_need_more h t full) (drop-append-le (varint_need h) h t full) in
-      omega (arith, frame_need_is h, frame_need_is (h ++ t), varint_need_more h t full, ap varint_need rest, varint_need_grows (drop (varint_need h) h) t)
+      omega (
+        arith,
+        frame_need_is h,
+        frame_need_is (h ++ t),
+        varint_need_more h t full,
+        ap varint_need rest,
+        varint_need_grows (drop (varint_need h) h) t,
+      )
 ]

@@ -104,9 +104,8 @@ impl BiAccepting {
     /// Reads at most one frame, in at most 4112 calls to the source.
     ///
     /// - `WebTransport(stream)`: a WebTransport frame was read, before any other frame of a known
-    /// or
-    /// reserved type. The stream is upgraded to one of its session. The source is positioned right
-    ///   after the frame.
+    ///   or reserved type. The stream is upgraded to one of its session. The source is positioned
+    ///   right after the frame.
     /// - `Request(stream, reading, frame)`: the first HEADERS frame was read. The source is
     ///   positioned right after it.
     /// - `Again`: a frame of a reserved or unknown type was skipped (RFC 9114, sections 7.2.8 and
