@@ -2,9 +2,9 @@
 use Rattle.std.specs.Prelude.{◌≡◌, ℕ, ◌-◌, ◌≤◌, ◌==◌, if◌then◌else◌, not, Bool, List, unwrap_or}
 use Rattle.wtp_wire.specs.Kind.{frame_type_of}
 use Rattle.wtransport_proto.specs.FrameCursor.{StepIs, RunGoesOn}
-use Rattle.wtransport_proto.specs.declared.stream.rules.StreamRole.{StreamRole}
-use Rattle.wtransport_proto.specs.declared.stream.rules.StreamRole.TheVariants.{BiRemote, BiLocal}
-use Rattle.wtransport_proto.specs.declared.stream.rules.StreamRole.TheVariants.{UniRemote, Session}
+use Rattle.wtp_wire.specs.declared.rules.StreamRole.{StreamRole}
+use Rattle.wtp_wire.specs.declared.rules.StreamRole.TheVariants.{BiRemote, BiLocal}
+use Rattle.wtp_wire.specs.declared.rules.StreamRole.TheVariants.{UniRemote, Session}
 use Rattle.wtransport_proto.specs.declared.stream.cursor.FrameCursor.{FrameCursor}
 use Rattle.wtransport_proto.specs.declared.stream.cursor.FramePlace.{FramePlace}
 use Rattle.wtransport_proto.specs.declared.stream.cursor.CursorStep.{CursorStep}

@@ -1,14 +1,14 @@
 -- What a capsule that closes its session has.
 use Rattle.std.proofs.Common.{◌≡◌, ℕ, List, Option, Some, None, Ok, refl}
 use Rattle.std.specs.Prelude.{string_bytes}
-use Rattle.wtransport_proto.specs.Capsule.{capsule_in}
-use Rattle.wtransport_proto.specs.CloseSession.{close_in}
+use Rattle.wtp_wire.specs.Capsule.{capsule_in}
+use Rattle.wtp_wire.specs.CloseSession.{close_in}
 use Rattle.wtp_core.specs.declared.error.ErrorCode.{ErrorCode}
 use Rattle.wtp_core.specs.declared.error.ErrorCode.TheVariants as code-is
 use Rattle.wtp_wire.specs.declared.capsule.CapsuleKind.{CapsuleKind}
 use Rattle.wt_inspection.specs.declared.capsules.Closing.{Closing}
 use Rattle.wt_inspection.specs.declared.capsules.Closing.TheVariants as closing-is
-use Rattle.wt_inspection.specs.declared.item.capsule.CloseReason.{CloseReason}
+use Rattle.wt_items.specs.declared.item.capsule.CloseReason.{CloseReason}
 use Rattle.wt_inspection.specs.declared.reading.Next.TheVariants as next-is
 use Rattle.wt_inspection.specs.Recording.{Then, Closes, StopsWith}
 use Rattle.wt_inspection.specs.Recording.{IsClosing}

@@ -6,11 +6,11 @@ use Rattle.std.specs.BTreeSet.{BTreeSet, Updates, contains}
 use Rattle.std.specs.List.{list_any}
 use Rattle.std.specs.Ordering.{nat_cmp}
 use Rattle.wtp_wire.proofs.SettingsLemmas.{equal-nat_cmp, less-nat_cmp, greater-nat_cmp}
-use Rattle.wtransport_proto.specs.SettingId.{is_reserved}
+use Rattle.wtp_wire.specs.SettingId.{is_reserved}
 use Rattle.wt_inspection.proofs.SettingLemmas.{settings_with}
 use Rattle.wt_inspection.specs.Pair.{pair_at}
 use Rattle.wt_inspection.specs.SettingLines.{StartsSettings, AreFlagged, flag_of}
-use Rattle.wt_inspection.specs.declared.item.settings.SettingLine.{SettingLine}
+use Rattle.wt_items.specs.declared.item.settings.SettingLine.{SettingLine}
 
 -- the identifiers of these lines, the last one first, and those before them
 abbrev pub ids_of : List ℕ → List SettingLine → List ℕ

@@ -10,31 +10,31 @@ use Rattle.wtp_wire.specs.FrameHead.{announcement_of}
 use Rattle.wtp_wire.specs.declared.frame.kind.FrameKind.{FrameKind}
 use Rattle.wtp_wire.specs.declared.frame.kind.FrameKind.TheVariants as kind-is
 use Rattle.wtp_wire.proofs.FrontLemmas.{head_at-numbers, front-head}
-use Rattle.wtransport_proto.specs.Content.{Content as Frame, PlainOf}
-use Rattle.wtransport_proto.specs.Kind.{kind_of}
-use Rattle.wtransport_proto.specs.Role.{role_of}
-use Rattle.wtransport_proto.specs.Rule.{Role, rule}
-use Rattle.wtransport_proto.specs.Run.{Run, Tail, past_unknown, run, next_run}
-use Rattle.wtransport_proto.specs.Settings.{settings_in}
-use Rattle.wtransport_proto.specs.declared.stream.rules.StreamRole.{StreamRole}
-use Rattle.wtransport_proto.proofs.RunLaws.{run-allowed}
-use Rattle.wtransport_proto.proofs.RunLemmas.{past_unknown-unknown, run-step}
-use Rattle.wt_inspection.specs.declared.item.Content.{Content}
-use Rattle.wt_inspection.specs.declared.item.Content.TheVariants as content-is
-use Rattle.wt_inspection.specs.declared.item.Item.{Item}
-use Rattle.wt_inspection.specs.declared.item.FrameItem.{FrameItem}
-use Rattle.wt_inspection.specs.declared.item.Parts.{Parts}
-use Rattle.wt_inspection.specs.declared.item.Parts.TheVariants as parts-is
-use Rattle.wt_inspection.specs.declared.item.ending.End.{End}
-use Rattle.wt_inspection.specs.declared.item.fields.SectionFault.{SectionFault}
-use Rattle.wt_inspection.specs.declared.item.fields.SectionFault.TheVariants as fault-is
-use Rattle.wt_inspection.specs.declared.item.names.FrameName.{FrameName}
-use Rattle.wt_inspection.specs.declared.item.names.FrameName.TheVariants as name-is
+use Rattle.wtp_wire.specs.Content.{Content as Frame, PlainOf}
+use Rattle.wtp_wire.specs.Kind.{kind_of}
+use Rattle.wtp_wire.specs.Role.{role_of}
+use Rattle.wtp_wire.specs.Rule.{Role, rule}
+use Rattle.wtp_wire.specs.Run.{Run, Tail, past_unknown, run, next_run}
+use Rattle.wtp_wire.specs.Settings.{settings_in}
+use Rattle.wtp_wire.specs.declared.rules.StreamRole.{StreamRole}
+use Rattle.wtp_wire.proofs.RunLaws.{run-allowed}
+use Rattle.wtp_wire.proofs.RunLemmas.{past_unknown-unknown, run-step}
+use Rattle.wt_items.specs.declared.item.Content.{Content}
+use Rattle.wt_items.specs.declared.item.Content.TheVariants as content-is
+use Rattle.wt_items.specs.declared.item.Item.{Item}
+use Rattle.wt_items.specs.declared.item.FrameItem.{FrameItem}
+use Rattle.wt_items.specs.declared.item.Parts.{Parts}
+use Rattle.wt_items.specs.declared.item.Parts.TheVariants as parts-is
+use Rattle.wt_items.specs.declared.item.ending.End.{End}
+use Rattle.wt_items.specs.declared.item.fields.SectionFault.{SectionFault}
+use Rattle.wt_items.specs.declared.item.fields.SectionFault.TheVariants as fault-is
+use Rattle.wt_items.specs.declared.item.names.FrameName.{FrameName}
+use Rattle.wt_items.specs.declared.item.names.FrameName.TheVariants as name-is
 use Rattle.wt_inspection.specs.declared.reading.Next.{Next}
 use Rattle.wt_inspection.specs.declared.reading.Next.TheVariants as next-is
 use Rattle.wt_inspection.specs.DataCapsules.{Stage}
 use Rattle.wt_inspection.specs.ItemFrames.{frame_of, frames_at, frames_in, IsWithin, IsReadable, AreReadable}
-use Rattle.wt_inspection.specs.Names.{frame_name_of, named, other_name, is_http2}
+use Rattle.wt_items.specs.Names.{frame_name_of, named, other_name, is_http2}
 use Rattle.wt_inspection.specs.Pair.{pair_at}
 use Rattle.wt_inspection.specs.Recording.{Then, AfterSection, AfterSettings, HasParts, Judged, IsFrameAt, IsNext, IsNoFrame, IsRefused, Reads, is_session, name_fault, still_first}
 use Rattle.wt_inspection.proofs.PairLemmas.{pair_numbers}

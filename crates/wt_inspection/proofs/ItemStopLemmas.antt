@@ -9,13 +9,13 @@ use Rattle.wtp_wire.specs.FrameHead.{announcement_of, and_then}
 use Rattle.wtp_wire.specs.declared.frame.kind.FrameKind.{FrameKind}
 use Rattle.wtp_wire.specs.declared.frame.kind.FrameKind.TheVariants as kind-is
 use Rattle.wtp_wire.proofs.FrontLemmas.{front-none, front-cut}
-use Rattle.wtransport_proto.specs.Content.{WebTransportOf}
-use Rattle.wtransport_proto.specs.Role.{role_of}
-use Rattle.wtransport_proto.specs.Rule.{rule}
-use Rattle.wtransport_proto.specs.Run.{Tail, H3, run, ends, run_stop}
-use Rattle.wtransport_proto.specs.declared.stream.rules.StreamRole.{StreamRole}
-use Rattle.wtransport_proto.proofs.RunLaws.{run-refused, run-bad_id, run-short}
-use Rattle.wt_inspection.specs.declared.item.Content.TheVariants.{Unread}
+use Rattle.wtp_wire.specs.Content.{WebTransportOf}
+use Rattle.wtp_wire.specs.Role.{role_of}
+use Rattle.wtp_wire.specs.Rule.{rule}
+use Rattle.wtp_wire.specs.Run.{Tail, H3, run, ends, run_stop}
+use Rattle.wtp_wire.specs.declared.rules.StreamRole.{StreamRole}
+use Rattle.wtp_wire.proofs.RunLaws.{run-refused, run-bad_id, run-short}
+use Rattle.wt_items.specs.declared.item.Content.TheVariants.{Unread}
 use Rattle.wt_inspection.specs.declared.reading.Next.TheVariants.{Frames}
 use Rattle.wt_inspection.specs.Pair.{pair_at}
 use Rattle.wt_inspection.specs.Recording.{Then, IsNext, IsNoFrame, IsRefused, StopsWith}

@@ -1,7 +1,7 @@
 -- Two numbers at the start of bytes.
 use Rattle.std.proofs.Common.{◌≡◌, ℕ, ◌<◌, List, length, drop, Option, Some, None, refl, ap, ◌∙◌, arith, length-drop}
-use Rattle.wtransport_proto.specs.Varint.{number_at}
-use Rattle.wtransport_proto.specs.FrameHead.{and_then}
+use Rattle.wtp_core.specs.Varint.{number_at}
+use Rattle.wtp_wire.specs.FrameHead.{and_then}
 use Rattle.wtp_wire.proofs.CapsuleFrontLemmas.{number_shorter}
 use Rattle.wt_inspection.specs.Pair.{pair_at}
 

@@ -2,19 +2,19 @@
 use Rattle.std.proofs.Common.{◌≡◌, ℕ, ◌+◌, ◌≤◌, ◌%◌, Bool, true, List, [], ◌∷◌, ◌++◌, Option, Some, None, Ok, drop, length, refl, sym, ap, ◌∙◌}
 use Rattle.std.specs.Prelude.{◌==◌}
 use Rattle.std.proofs.lemmas.List.{drop-drop}
-use Rattle.wtransport_proto.specs.Varint.{number_at}
-use Rattle.wtransport_proto.specs.Kind.{kind_of}
-use Rattle.wtransport_proto.specs.StreamKind.{stream_kind_of}
-use Rattle.wtransport_proto.specs.Role.{role_of}
-use Rattle.wtransport_proto.specs.Rule.{rule}
+use Rattle.wtp_core.specs.Varint.{number_at}
+use Rattle.wtp_wire.specs.Kind.{kind_of}
+use Rattle.wtp_wire.specs.StreamKind.{stream_kind_of}
+use Rattle.wtp_wire.specs.Role.{role_of}
+use Rattle.wtp_wire.specs.Rule.{rule}
 use Rattle.wtp_wire.specs.declared.frame.kind.FrameKind.{FrameKind}
 use Rattle.wtp_wire.specs.declared.frame.kind.FrameKind.TheVariants as kind-is
 use Rattle.wtp_wire.specs.declared.stream_header.StreamKind.{StreamKind}
 use Rattle.wtp_wire.specs.declared.stream_header.StreamKind.TheVariants as stream-is
-use Rattle.wtransport_proto.specs.declared.stream.rules.StreamRole.{StreamRole}
-use Rattle.wt_inspection.specs.declared.item.Content.{Content}
-use Rattle.wt_inspection.specs.declared.item.Content.TheVariants as content-is
-use Rattle.wt_inspection.specs.declared.item.Item.{Item}
+use Rattle.wtp_wire.specs.declared.rules.StreamRole.{StreamRole}
+use Rattle.wt_items.specs.declared.item.Content.{Content}
+use Rattle.wt_items.specs.declared.item.Content.TheVariants as content-is
+use Rattle.wt_items.specs.declared.item.Item.{Item}
 use Rattle.wt_inspection.specs.declared.reading.Next.{Next}
 use Rattle.wt_inspection.specs.declared.reading.Next.TheVariants as next-is
 use Rattle.wt_inspection.proofs.PairLemmas.{pair_numbers, some_is}

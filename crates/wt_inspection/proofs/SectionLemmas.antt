@@ -1,12 +1,12 @@
 -- Lines of field sections, one more at a time.
 use Rattle.std.proofs.Common.{◌≡◌, ℕ, List, [], ◌∷◌, ◌++◌, map, Some, Ok, Err, refl}
 use Rattle.std.proofs.lemmas.List.{map-append}
-use Rattle.wtp_fields.specs.declared.qpack.DecodingError.{DecodingError}
-use Rattle.wtransport_proto.specs.Field.{Field}
-use Rattle.wtransport_proto.specs.FieldLines.{AreOctetLines, octet_line_at}
-use Rattle.wtransport_proto.specs.FieldSection.{after_prefix}
-use Rattle.wt_inspection.specs.declared.item.fields.FieldSection.{FieldSection}
-use Rattle.wt_inspection.specs.declared.item.fields.Line.{Line}
+use Rattle.wtp_qpack.specs.declared.qpack.DecodingError.{DecodingError}
+use Rattle.wtp_qpack.specs.Field.{Field}
+use Rattle.wtp_qpack.specs.FieldLines.{AreOctetLines, octet_line_at}
+use Rattle.wtp_qpack.specs.FieldSection.{after_prefix}
+use Rattle.wt_items.specs.declared.item.fields.FieldSection.{FieldSection}
+use Rattle.wt_items.specs.declared.item.fields.Line.{Line}
 use Rattle.wt_inspection.specs.Sections.{HasLines, IsSection, fault_of, field_of}
 
 -- one more line

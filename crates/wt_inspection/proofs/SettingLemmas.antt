@@ -1,9 +1,9 @@
 -- Settings one by one, and the first fault of a payload.
 use Rattle.std.proofs.Common.{◌≡◌, ℕ, List, [], ◌∷◌, ◌++◌, Some, None, Result, Ok, Err, refl}
 use Rattle.wtp_core.specs.declared.error.ErrorCode.{ErrorCode}
-use Rattle.wtransport_proto.specs.Settings.{settings_in}
+use Rattle.wtp_wire.specs.Settings.{settings_in}
 use Rattle.wt_inspection.specs.Recording.{Then, StopsWith, AfterSettings, HasFault}
-use Rattle.wt_inspection.specs.declared.item.settings.SettingLine.{SettingLine}
+use Rattle.wt_items.specs.declared.item.settings.SettingLine.{SettingLine}
 use Rattle.wt_inspection.specs.Pair.{pair_at}
 use Rattle.wt_inspection.specs.SettingLines.{StartsSettings}
 

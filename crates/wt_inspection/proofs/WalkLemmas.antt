@@ -16,22 +16,22 @@ use Rattle.wtp_wire.specs.CapsuleFront.{CapsuleFront, Found, Unknown, TooLong, C
 use Rattle.wtp_wire.specs.FrameNeed.{frame_need, frame_need_is, frame_need_grows, frame_need_most, frame_need_least}
 use Rattle.wtp_wire.proofs.CapsuleFrontLemmas.{front_end, front_none, front_one, front_two}
 use Rattle.wtp_wire.proofs.CapsuleReadingLemmas.{no_more}
-use Rattle.wtransport_proto.specs.CloseSession.{close_in}
-use Rattle.wt_inspection.specs.declared.item.capsule.CapsuleItem.{CapsuleItem}
-use Rattle.wt_inspection.specs.declared.item.capsule.CloseReason.{CloseReason}
-use Rattle.wt_inspection.specs.declared.item.ending.Fault.{Fault}
-use Rattle.wt_inspection.specs.declared.item.ending.Cut.{Cut}
-use Rattle.wt_inspection.specs.declared.item.ending.End.TheVariants as end-is
+use Rattle.wtp_wire.specs.CloseSession.{close_in}
+use Rattle.wt_items.specs.declared.item.capsule.CapsuleItem.{CapsuleItem}
+use Rattle.wt_items.specs.declared.item.capsule.CloseReason.{CloseReason}
+use Rattle.wt_items.specs.declared.item.ending.Fault.{Fault}
+use Rattle.wt_items.specs.declared.item.ending.Cut.{Cut}
+use Rattle.wt_items.specs.declared.item.ending.End.TheVariants as end-is
 use Rattle.wtp_wire.specs.declared.frame.kind.FrameKind.TheVariants as kind-is
-use Rattle.wtransport_proto.specs.declared.stream.rules.StreamRole.{StreamRole}
-use Rattle.wt_inspection.specs.declared.item.Content.{Content}
-use Rattle.wt_inspection.specs.declared.item.Content.TheVariants as content-is
-use Rattle.wt_inspection.specs.declared.item.FrameItem.{FrameItem}
-use Rattle.wt_inspection.specs.declared.item.Parts.{Parts}
-use Rattle.wt_inspection.specs.declared.item.Parts.TheVariants as parts-is
-use Rattle.wt_inspection.specs.declared.item.ending.End.{End}
-use Rattle.wt_inspection.specs.declared.item.names.FrameName.{FrameName}
-use Rattle.wt_inspection.specs.declared.item.names.FrameName.TheVariants as name-is
+use Rattle.wtp_wire.specs.declared.rules.StreamRole.{StreamRole}
+use Rattle.wt_items.specs.declared.item.Content.{Content}
+use Rattle.wt_items.specs.declared.item.Content.TheVariants as content-is
+use Rattle.wt_items.specs.declared.item.FrameItem.{FrameItem}
+use Rattle.wt_items.specs.declared.item.Parts.{Parts}
+use Rattle.wt_items.specs.declared.item.Parts.TheVariants as parts-is
+use Rattle.wt_items.specs.declared.item.ending.End.{End}
+use Rattle.wt_items.specs.declared.item.names.FrameName.{FrameName}
+use Rattle.wt_items.specs.declared.item.names.FrameName.TheVariants as name-is
 use Rattle.wt_inspection.specs.declared.reading.Next.{Next}
 use Rattle.wt_inspection.specs.declared.reading.Next.TheVariants as next-is
 use Rattle.wt_inspection.specs.declared.reading.Phase.{Phase}

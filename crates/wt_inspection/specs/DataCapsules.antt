@@ -3,10 +3,10 @@
 use Rattle.std.specs.Prelude.{◌≡◌, ℕ, List, [], ◌∷◌, ◌++◌, string_bytes, Option, Some, None}
 use Rattle.wtp_core.specs.declared.error.ErrorCode.{ErrorCode}
 use Rattle.wtp_core.specs.declared.error.ErrorCode.TheVariants as code-is
-use Rattle.wtransport_proto.specs.CapsuleFront.{CapsuleFront, Found, Unknown, TooLong, Cut, End, capsule_front}
-use Rattle.wtransport_proto.specs.CloseSession.{close_in}
-use Rattle.wt_inspection.specs.declared.item.capsule.CapsuleItem.{CapsuleItem}
-use Rattle.wt_inspection.specs.declared.item.capsule.CloseReason.{CloseReason}
+use Rattle.wtp_wire.specs.CapsuleFront.{CapsuleFront, Found, Unknown, TooLong, Cut, End, capsule_front}
+use Rattle.wtp_wire.specs.CloseSession.{close_in}
+use Rattle.wt_items.specs.declared.item.capsule.CapsuleItem.{CapsuleItem}
+use Rattle.wt_items.specs.declared.item.capsule.CloseReason.{CloseReason}
 use Rattle.wt_inspection.specs.Pair.{pair_at}
 
 -- the code and the reason of a close

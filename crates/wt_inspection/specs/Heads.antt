@@ -1,10 +1,10 @@
 -- What the bytes of an item say at their start (RFC 9114, sections 6.2 and 7.1; RFC 9297, section
 -- 2.1).
 use Rattle.std.specs.Prelude.{◌≡◌, ℕ, ◌%◌, ◌*◌, List, length, drop, Some, MatchOption}
-use Rattle.wtransport_proto.specs.Kind.{kind_of}
-use Rattle.wtransport_proto.specs.Datagram.{datagram_in}
-use Rattle.wtransport_proto.specs.declared.frame.FrameKind.TheVariants.{WebTransport}
-use Rattle.wt_inspection.specs.declared.item.DatagramHead.{DatagramHead}
+use Rattle.wtp_wire.specs.Kind.{kind_of}
+use Rattle.wtp_wire.specs.Datagram.{datagram_in}
+use Rattle.wtp_wire.specs.declared.frame.kind.FrameKind.TheVariants.{WebTransport}
+use Rattle.wt_items.specs.declared.item.DatagramHead.{DatagramHead}
 use Rattle.wt_inspection.specs.Pair.{pair_at}
 
 -- the bytes begin with the type of a WebTransport stream and this session ID

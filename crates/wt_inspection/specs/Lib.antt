@@ -3,8 +3,8 @@ pub mod Sections
 pub mod Heads
 pub mod Pair
 pub mod Tiles
-pub mod Names
 pub mod DataCapsules
 pub mod Recording
 pub mod Walks
 pub mod ItemFrames
+pub use Rattle.wt_items.specs.Names

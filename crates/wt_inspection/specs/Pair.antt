@@ -1,8 +1,8 @@
 -- The two numbers with which a frame, a capsule or a setting begins (RFC 9114, sections 7.1 and
 -- 7.2.4; RFC 9297, section 3.2).
 use Rattle.std.specs.Prelude.{ℕ, List, Option, Some}
-use Rattle.wtransport_proto.specs.Varint.{number_at}
-use Rattle.wtransport_proto.specs.FrameHead.{and_then}
+use Rattle.wtp_core.specs.Varint.{number_at}
+use Rattle.wtp_wire.specs.FrameHead.{and_then}
 
 -- the two numbers at the start of the bytes, and the bytes after them
 unfoldable pub pair_at : List ℕ → Option (ℕ × ℕ × List ℕ)

@@ -1,16 +1,16 @@
 -- What the items of a recording are: each is what the bytes at its place are, after the items
 -- before it (RFC 9114, sections 4.1, 6.2 and 7; RFC 9297, sections 2.1 and 3.2).
 use Rattle.std.specs.Prelude.{◌≡◌, ℕ, ◌++◌, ◌+◌, ◌<◌, ◌≤◌, ◌%◌, ◌^◌, ◌⊎◌, ◌==◌, Bool, true, false, List, [], ◌∷◌, length, take, drop, string_bytes, Option, Some, None, Result, Ok, Err}
-use Rattle.wtransport_proto.specs.Varint.{number_at}
-use Rattle.wtransport_proto.specs.Kind.{kind_of}
-use Rattle.wtransport_proto.specs.StreamKind.{stream_kind_of}
-use Rattle.wtransport_proto.specs.Settings.{settings_in}
-use Rattle.wtransport_proto.specs.Datagram.{datagram_in}
-use Rattle.wtransport_proto.specs.Capsule.{capsule_in}
-use Rattle.wtransport_proto.specs.CapsuleFront.{capsule_front}
-use Rattle.wtransport_proto.specs.CloseSession.{close_in}
-use Rattle.wtransport_proto.specs.Role.{role_of}
-use Rattle.wtransport_proto.specs.Rule.{rule}
+use Rattle.wtp_core.specs.Varint.{number_at}
+use Rattle.wtp_wire.specs.Kind.{kind_of}
+use Rattle.wtp_wire.specs.StreamKind.{stream_kind_of}
+use Rattle.wtp_wire.specs.Settings.{settings_in}
+use Rattle.wtp_wire.specs.Datagram.{datagram_in}
+use Rattle.wtp_wire.specs.Capsule.{capsule_in}
+use Rattle.wtp_wire.specs.CapsuleFront.{capsule_front}
+use Rattle.wtp_wire.specs.CloseSession.{close_in}
+use Rattle.wtp_wire.specs.Role.{role_of}
+use Rattle.wtp_wire.specs.Rule.{rule}
 use Rattle.wtp_core.specs.declared.error.ErrorCode.{ErrorCode}
 use Rattle.wtp_core.specs.declared.error.ErrorCode.TheVariants as code-is
 use Rattle.wtp_wire.specs.declared.frame.kind.FrameKind.{FrameKind}
@@ -18,30 +18,30 @@ use Rattle.wtp_wire.specs.declared.frame.kind.FrameKind.TheVariants as kind-is
 use Rattle.wtp_wire.specs.declared.capsule.CapsuleKind.{CapsuleKind}
 use Rattle.wtp_wire.specs.declared.stream_header.StreamKind.{StreamKind}
 use Rattle.wtp_wire.specs.declared.stream_header.StreamKind.TheVariants as stream-is
-use Rattle.wtransport_proto.specs.declared.stream.rules.StreamRole.{StreamRole}
-use Rattle.wtransport_proto.specs.declared.stream.rules.StreamRole.TheVariants as role-is
-use Rattle.wt_inspection.specs.declared.item.Content.{Content}
-use Rattle.wt_inspection.specs.declared.item.Content.TheVariants as content-is
-use Rattle.wt_inspection.specs.declared.item.Item.{Item}
-use Rattle.wt_inspection.specs.declared.item.FrameItem.{FrameItem}
-use Rattle.wt_inspection.specs.declared.item.StreamHead.{StreamHead}
-use Rattle.wt_inspection.specs.declared.item.Parts.{Parts}
-use Rattle.wt_inspection.specs.declared.item.Parts.TheVariants as parts-is
-use Rattle.wt_inspection.specs.declared.item.capsule.CapsuleItem.{CapsuleItem}
-use Rattle.wt_inspection.specs.declared.item.capsule.CloseReason.{CloseReason}
-use Rattle.wt_inspection.specs.declared.item.ending.End.{End}
-use Rattle.wt_inspection.specs.declared.item.ending.End.TheVariants as end-is
-use Rattle.wt_inspection.specs.declared.item.fields.SectionFault.{SectionFault}
-use Rattle.wt_inspection.specs.declared.item.fields.SectionFault.TheVariants.{Malformed}
-use Rattle.wt_inspection.specs.declared.item.names.FrameName.{FrameName}
-use Rattle.wt_inspection.specs.declared.item.names.FrameName.TheVariants as name-is
+use Rattle.wtp_wire.specs.declared.rules.StreamRole.{StreamRole}
+use Rattle.wtp_wire.specs.declared.rules.StreamRole.TheVariants as role-is
+use Rattle.wt_items.specs.declared.item.Content.{Content}
+use Rattle.wt_items.specs.declared.item.Content.TheVariants as content-is
+use Rattle.wt_items.specs.declared.item.Item.{Item}
+use Rattle.wt_items.specs.declared.item.FrameItem.{FrameItem}
+use Rattle.wt_items.specs.declared.item.StreamHead.{StreamHead}
+use Rattle.wt_items.specs.declared.item.Parts.{Parts}
+use Rattle.wt_items.specs.declared.item.Parts.TheVariants as parts-is
+use Rattle.wt_items.specs.declared.item.capsule.CapsuleItem.{CapsuleItem}
+use Rattle.wt_items.specs.declared.item.capsule.CloseReason.{CloseReason}
+use Rattle.wt_items.specs.declared.item.ending.End.{End}
+use Rattle.wt_items.specs.declared.item.ending.End.TheVariants as end-is
+use Rattle.wt_items.specs.declared.item.fields.SectionFault.{SectionFault}
+use Rattle.wt_items.specs.declared.item.fields.SectionFault.TheVariants.{Malformed}
+use Rattle.wt_items.specs.declared.item.names.FrameName.{FrameName}
+use Rattle.wt_items.specs.declared.item.names.FrameName.TheVariants as name-is
 use Rattle.wt_inspection.specs.declared.reading.Next.{Next}
 use Rattle.wt_inspection.specs.declared.reading.Next.TheVariants as next-is
 use Rattle.wt_inspection.specs.declared.reading.Recorded.{Recorded}
 use Rattle.wt_inspection.specs.declared.reading.Recorded.TheVariants as recorded-is
 use Rattle.wt_inspection.specs.DataCapsules.{Stage, Opening, Plain, Session, StartsCapsules, EndsWith}
 use Rattle.wt_inspection.specs.Heads.{IsSessionItem, IsDatagramItem}
-use Rattle.wt_inspection.specs.Names.{frame_name_of, stream_name_of}
+use Rattle.wt_items.specs.Names.{frame_name_of, stream_name_of}
 use Rattle.wt_inspection.specs.Pair.{pair_at}
 use Rattle.wt_inspection.specs.Sections.{IsSection}
 use Rattle.wt_inspection.specs.SettingLines.{AreSettings}

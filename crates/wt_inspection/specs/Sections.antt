@@ -1,14 +1,14 @@
 -- Field sections, line by line (RFC 9204, section 4.5).
 use Rattle.std.specs.Prelude.{◌≡◌, ℕ, List, [], map, Option, Some, None, Result, Ok, Err}
-use Rattle.wtp_fields.specs.declared.qpack.DecodingError.{DecodingError}
-use Rattle.wtp_fields.specs.declared.qpack.DecodingError.TheVariants.{DynamicNotSupported}
-use Rattle.wtransport_proto.specs.Field.{Field}
-use Rattle.wtransport_proto.specs.FieldLines.{AreOctetLines, octet_line_at}
-use Rattle.wtransport_proto.specs.FieldSection.{after_prefix}
-use Rattle.wt_inspection.specs.declared.item.fields.FieldSection.{FieldSection}
-use Rattle.wt_inspection.specs.declared.item.fields.Line.{Line}
-use Rattle.wt_inspection.specs.declared.item.fields.SectionFault.{SectionFault}
-use Rattle.wt_inspection.specs.declared.item.fields.SectionFault.TheVariants.{NeedsDynamicTable, Malformed}
+use Rattle.wtp_qpack.specs.declared.qpack.DecodingError.{DecodingError}
+use Rattle.wtp_qpack.specs.declared.qpack.DecodingError.TheVariants.{DynamicNotSupported}
+use Rattle.wtp_qpack.specs.Field.{Field}
+use Rattle.wtp_qpack.specs.FieldLines.{AreOctetLines, octet_line_at}
+use Rattle.wtp_qpack.specs.FieldSection.{after_prefix}
+use Rattle.wt_items.specs.declared.item.fields.FieldSection.{FieldSection}
+use Rattle.wt_items.specs.declared.item.fields.Line.{Line}
+use Rattle.wt_items.specs.declared.item.fields.SectionFault.{SectionFault}
+use Rattle.wt_items.specs.declared.item.fields.SectionFault.TheVariants.{NeedsDynamicTable, Malformed}
 
 -- the name and the value
 abbrev pub field_of : Line → Field

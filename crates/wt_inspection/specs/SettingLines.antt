@@ -1,10 +1,10 @@
 -- Settings, one by one, as a payload has them (RFC 9114, section 7.2.4).
 use Rattle.std.specs.Prelude.{◌≡◌, ℕ, Bool, true, false, List, [], ◌∷◌, Option, Some, None, nat_eq}
 use Rattle.std.specs.List.{list_any}
-use Rattle.wtransport_proto.specs.SettingId.{is_reserved}
-use Rattle.wt_inspection.specs.declared.item.settings.SettingFlag.{SettingFlag}
-use Rattle.wt_inspection.specs.declared.item.settings.SettingFlag.TheVariants.{Reserved, Repeated}
-use Rattle.wt_inspection.specs.declared.item.settings.SettingLine.{SettingLine}
+use Rattle.wtp_wire.specs.SettingId.{is_reserved}
+use Rattle.wt_items.specs.declared.item.settings.SettingFlag.{SettingFlag}
+use Rattle.wt_items.specs.declared.item.settings.SettingFlag.TheVariants.{Reserved, Repeated}
+use Rattle.wt_items.specs.declared.item.settings.SettingLine.{SettingLine}
 use Rattle.wt_inspection.specs.Pair.{pair_at}
 
 -- the bytes start with these settings, one after the other, followed by the rest

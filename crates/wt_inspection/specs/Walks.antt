@@ -2,9 +2,9 @@
 use Rattle.std.specs.Prelude.{◌≡◌, ℕ, ◌+◌, ◌<◌, ◌≤◌, List, [], ◌++◌, length, nat_lt, Bool, false, Option, Some, None, Ok, Err}
 use Rattle.wtp_core.specs.declared.error.ErrorCode.TheVariants.{Datagram}
 use Rattle.wtp_wire.specs.declared.capsule.CapsuleKind.{CapsuleKind}
-use Rattle.wtransport_proto.specs.CapsuleFront.{capsule_front, longest_value}
-use Rattle.wtransport_proto.specs.Capsule.{capsule_kind_of}
-use Rattle.wtransport_proto.specs.CloseSession.{close_in}
+use Rattle.wtp_wire.specs.CapsuleFront.{capsule_front, longest_value}
+use Rattle.wtp_wire.specs.Capsule.{capsule_kind_of}
+use Rattle.wtp_wire.specs.CloseSession.{close_in}
 use Rattle.wt_inspection.specs.DataCapsules.{Stage, Opening, Plain, Session, Says, StartsCapsule, StartsCapsules, EndsWith}
 use Rattle.wt_inspection.specs.Pair.{pair_at}
 use Rattle.wt_inspection.specs.Recording.{Then}
@@ -14,8 +14,8 @@ use Rattle.wt_inspection.specs.declared.capsules.Closing.TheVariants as closing-
 use Rattle.wt_inspection.specs.declared.capsules.Taken.{Taken}
 use Rattle.wt_inspection.specs.declared.capsules.Turn.{Turn}
 use Rattle.wt_inspection.specs.declared.capsules.Turn.TheVariants as turn-is
-use Rattle.wt_inspection.specs.declared.item.capsule.CapsuleItem.{CapsuleItem}
-use Rattle.wt_inspection.specs.declared.item.ending.Fault.{Fault}
+use Rattle.wt_items.specs.declared.item.capsule.CapsuleItem.{CapsuleItem}
+use Rattle.wt_items.specs.declared.item.ending.Fault.{Fault}
 use Rattle.wt_inspection.specs.declared.numbers.Pair.{Pair}
 use Rattle.wt_inspection.specs.declared.reading.Phase.{Phase}
 use Rattle.wt_inspection.specs.declared.reading.Phase.TheVariants as phase-is

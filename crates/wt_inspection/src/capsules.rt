@@ -1,21 +1,21 @@
 //! Capsules (RFC 9297, section 3.2).
 ghost use Rattle.std.specs.Prelude.{◌≡◌, ◌≢◌, ◌+◌, ◌≤◌, ◌<◌, ◌^◌, ◌++◌, ℕ, List, [], IsSome, true, false, Some, None, IfOk, MatchOption, length, string_bytes};
-ghost use Rattle.wtransport_proto.specs.Capsule.{capsule_in, capsule_kind_of};
-ghost use Rattle.wtransport_proto.specs.CloseSession.{close_in};
+ghost use Rattle.wtp_wire.specs.Capsule.{capsule_in, capsule_kind_of};
+ghost use Rattle.wtp_wire.specs.CloseSession.{close_in};
 ghost use Rattle.wt_inspection.specs.Pair.{pair_at};
 ghost use Rattle.wt_inspection.specs.Recording.{Closes, IsNext};
 ghost use Rattle.wt_inspection.specs.Walks.{Fits, Holds, JudgesClose, Judges, Keeps, TakesPiece, Turned, is_too_long};
 
-use crate::item::{CapsuleItem, CloseReason, Content, Cut, End, Fault};
 use crate::numbers::{Pair, first_pair, missing_of_pair};
 use crate::reading::{Next, Reading, Step, fault, fault_at};
 use std::alloc::{AllocError, Global};
 use std::borrow::CowSlice;
-use wtransport_proto::capsule::capsules::CloseWebTransportSession;
-use wtransport_proto::capsule::{Capsule, CapsuleKind, capsule_types};
-use wtransport_proto::error::{ErrorCode, Refused};
-use wtransport_proto::frame::Frame;
-use wtransport_proto::varint::VarInt;
+use wt_items::item::{CapsuleItem, CloseReason, Content, Cut, End, Fault};
+use wtp_core::error::{ErrorCode, Refused};
+use wtp_core::varint::VarInt;
+use wtp_wire::capsule::capsules::CloseWebTransportSession;
+use wtp_wire::capsule::{Capsule, CapsuleKind, capsule_types};
+use wtp_wire::frame::Frame;
 
 /// Reads the capsules of pieces of data, cut anywhere.
 #[derive(Drop)]

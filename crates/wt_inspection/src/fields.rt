@@ -1,15 +1,15 @@
 //! Field sections (RFC 9204, section 4.5).
 ghost use Rattle.std.specs.Prelude.{◌≡◌, ◌≢◌, Ok, IfOk};
-ghost use Rattle.wtransport_proto.specs.FieldLines.{seen_line};
-ghost use Rattle.wtp_fields.specs.declared.qpack.DecodingError.TheVariants.{Memory};
+ghost use Rattle.wtp_qpack.specs.FieldLines.{seen_line};
+ghost use Rattle.wtp_qpack.specs.declared.qpack.DecodingError.TheVariants.{Memory};
 ghost use Rattle.wt_inspection.specs.Recording.{AfterSection};
 ghost use Rattle.wt_inspection.specs.Sections.{HasLines, IsSection, fault_of, field_of};
 
-use crate::item::{End, FieldSection, Line, SectionFault};
 use crate::reading::{Next, fault};
 use std::alloc::{AllocError, Global};
-use wtransport_proto::error::ErrorCode;
-use wtransport_proto::qpack::{DecodingError, FieldLine, FieldLines, FieldRoom};
+use wt_items::item::{End, FieldSection, Line, SectionFault};
+use wtp_core::error::ErrorCode;
+use wtp_qpack::qpack::{DecodingError, FieldLine, FieldLines, FieldRoom};
 
 /// Returns the lines of a section, up to the first that cannot be read.
 #[tactic(auto, using(crate::proofs::SectionLemmas::section_without_lines, crate::proofs::SectionLemmas::section_with_lines))]

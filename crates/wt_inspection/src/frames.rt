@@ -1,7 +1,7 @@
 //! Frames (RFC 9114, section 7).
 ghost use Rattle.std.specs.Prelude.{◌≡◌, ◌≤◌, ◌<◌, ◌+◌, ◌^◌, true, false, Some, Ok, Err, IfOk, length, drop};
-ghost use Rattle.wtransport_proto.specs.Kind.{kind_of};
-ghost use Rattle.wt_inspection.specs.Names.{frame_name_of};
+ghost use Rattle.wtp_wire.specs.Kind.{kind_of};
+ghost use Rattle.wt_items.specs.Names.{frame_name_of};
 ghost use Rattle.wt_inspection.specs.Walks.{Leads};
 ghost use Rattle.wt_inspection.specs.Pair.{pair_at};
 ghost use Rattle.wt_inspection.specs.Recording.{HasNoFrame, HasParts, IsNext, Judged, Moves, Stops, Takes, TakesWhole, is_data, is_session, is_whole, name_fault, still_first};
@@ -11,17 +11,17 @@ mod warnings;
 use crate::capsules::Taken;
 use crate::fields::{read_section, section_then};
 use crate::frames::warnings::warn_of_frame;
-use crate::item::{Content, End, FrameItem, FrameName, Parts};
 use crate::message::take_section;
 use crate::numbers::{Pair, first_pair, missing_of_pair};
 use crate::reading::{Next, Phase, Reading, Step, fault};
 use crate::settings::{read_settings, settings_then};
 use std::alloc::AllocError;
-use wtransport_proto::error::ErrorCode;
-use wtransport_proto::frame::FrameKind;
-use wtransport_proto::ids::SessionId;
-use wtransport_proto::stream::{StreamRole, fault_of};
-use wtransport_proto::varint::VarInt;
+use wt_items::item::{Content, End, FrameItem, FrameName, Parts};
+use wtp_core::error::ErrorCode;
+use wtp_core::ids::SessionId;
+use wtp_core::varint::VarInt;
+use wtp_wire::frame::FrameKind;
+use wtp_wire::rules::{StreamRole, fault_of};
 
 /// What the payload of a frame contains, and what follows the frame.
 #[derive(Drop)]

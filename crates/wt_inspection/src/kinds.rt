@@ -4,24 +4,24 @@ ghost use Rattle.wt_inspection.specs.Recording.{EndsSo, IsNext, IsRecording, IsS
 ghost use Rattle.wt_inspection.specs.DataCapsules.{Stage};
 ghost use Rattle.wt_inspection.specs.Tiles.{Tiles};
 ghost use Rattle.wt_inspection.specs.Walks.{IsStageAt, LeadsAt};
-ghost use Rattle.wtransport_proto.specs.StreamKind.{stream_kind_of};
+ghost use Rattle.wtp_wire.specs.StreamKind.{stream_kind_of};
 
 use crate::capsules::next_capsule;
 use crate::fields::{read_section, section_then};
 use crate::frames::next_frame;
-use crate::item::{Content, Cut, DatagramHead, End, Inspection, StreamHead, StreamName};
 use crate::message::warn_of_section;
 use crate::numbers::{first_pair, missing_of_pair};
 use crate::reading::{Next, Reading, Recorded, Step, end_of_nothing, fault, start_of};
 use crate::settings::{read_settings, settings_then};
 use crate::tiling::Tiling;
 use std::alloc::{AllocError, Global};
-use wtransport_proto::datagram::Datagram;
-use wtransport_proto::error::ErrorCode;
-use wtransport_proto::ids::SessionId;
-use wtransport_proto::stream::StreamRole;
-use wtransport_proto::stream_header::StreamKind;
-use wtransport_proto::varint::{VarInt, first_varint};
+use wt_items::item::{Content, Cut, DatagramHead, End, Inspection, StreamHead, StreamName};
+use wtp_core::error::ErrorCode;
+use wtp_core::ids::SessionId;
+use wtp_core::varint::{VarInt, first_varint};
+use wtp_wire::datagram::Datagram;
+use wtp_wire::rules::StreamRole;
+use wtp_wire::stream_header::StreamKind;
 
 /// Returns what the bytes contain. If `open`, more bytes may follow them.
 ///

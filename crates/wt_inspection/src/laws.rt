@@ -2,14 +2,14 @@
 //! does nothing: its contract is the law.
 ghost use Rattle.std.specs.Prelude.{◌≡◌, ◌⊎◌, ◌++◌, ℕ, List, Bool, Option, Some, Ok};
 ghost use Rattle.wtp_core.specs.declared.error.ErrorCode.{ErrorCode};
-ghost use Rattle.wtransport_proto.specs.Role.{role_of};
-ghost use Rattle.wtransport_proto.specs.Run.{Tail, H3, run, ends, run_stop};
-ghost use Rattle.wtransport_proto.specs.declared.stream.rules.StreamRole.{StreamRole};
+ghost use Rattle.wtp_wire.specs.Role.{role_of};
+ghost use Rattle.wtp_wire.specs.Run.{Tail, H3, run, ends, run_stop};
+ghost use Rattle.wtp_wire.specs.declared.rules.StreamRole.{StreamRole};
 ghost use Rattle.wt_inspection.specs.DataCapsules.{Stage};
 ghost use Rattle.wt_inspection.specs.ItemFrames.{AreReadable, frames_in};
 ghost use Rattle.wt_inspection.specs.Recording.{IsNext, Reads, StopsWith, Then};
-ghost use Rattle.wt_inspection.specs.declared.item.Content.TheVariants.{Unread};
-ghost use Rattle.wt_inspection.specs.declared.item.Item.{Item};
+ghost use Rattle.wt_items.specs.declared.item.Content.TheVariants.{Unread};
+ghost use Rattle.wt_items.specs.declared.item.Item.{Item};
 ghost use Rattle.wt_inspection.specs.declared.reading.Next.TheVariants.{Frames};
 
 /// As long as the reading goes on, the frames of the items are the frames with which the run of

@@ -11,7 +11,6 @@
 mod capsules;
 mod fields;
 mod frames;
-pub mod item;
 mod kinds;
 pub mod laws;
 mod message;
@@ -20,6 +19,7 @@ mod reading;
 mod settings;
 mod tiling;
 
-pub use item::{Content, End, Inspection, Item};
 pub use kinds::inspect;
 pub use reading::Recorded;
+pub use wt_items::item;
+pub use wt_items::item::{Content, End, Inspection, Item};

@@ -8,11 +8,11 @@ mod lines;
 mod pseudo;
 
 use crate::capsules::CapsuleWalk;
-use crate::item::{FieldSection, Line, Warning};
 use crate::message::lines::warning_of_line;
 use crate::message::pseudo::{Pseudo, warning_of_pseudo};
 use crate::reading::{Next, Phase, Reading, Recorded};
 use std::alloc::{AllocError, Global};
+use wt_items::item::{FieldSection, Line, Warning};
 
 /// What a field section belongs to.
 #[derive(Clone, Copy, PartialEq, Eq)]

@@ -2,8 +2,8 @@
 ghost use Rattle.std.specs.Prelude.{◌≡◌, ◌≤◌, ◌<◌, IfSome, Some, None, MatchOption, length, drop};
 ghost use Rattle.wt_inspection.specs.Pair.{pair_at};
 
-use wtransport_proto::bytes::get::varint_need;
-use wtransport_proto::varint::{VarInt, first_varint};
+use wtp_core::bytes::get::varint_need;
+use wtp_core::varint::{VarInt, first_varint};
 
 /// Two numbers, one after the other.
 #[derive(Clone, Copy)]

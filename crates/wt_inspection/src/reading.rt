@@ -5,10 +5,10 @@ ghost use Rattle.wt_inspection.specs.Walks.{IsStage};
 ghost use Rattle.wt_inspection.specs.Recording.{EndsEmpty, EndsStage, code_of_nothing, fault_code, is_whole, start_of};
 
 use crate::capsules::CapsuleWalk;
-use crate::item::{Content, Cut, End, Fault, Warning};
 use std::alloc::{AllocError, Global};
-use wtransport_proto::error::ErrorCode;
-use wtransport_proto::stream::StreamRole;
+use wt_items::item::{Content, Cut, End, Fault, Warning};
+use wtp_core::error::ErrorCode;
+use wtp_wire::rules::StreamRole;
 
 /// What was recorded, from its first byte.
 #[derive(Clone, Copy, Debug, PartialEq, Eq)]

@@ -1,20 +1,20 @@
 //! Settings (RFC 9114, section 7.2.4).
 ghost use Rattle.std.specs.Prelude.{◌≡◌, ◌<◌, ◌^◌, length, not, Ok, IfOk};
-ghost use Rattle.wtransport_proto.specs.SettingId.{is_reserved};
-ghost use Rattle.wtransport_proto.specs.Settings.{AnswersSettings, settings_in};
+ghost use Rattle.wtp_wire.specs.SettingId.{is_reserved};
+ghost use Rattle.wtp_wire.specs.Settings.{AnswersSettings, settings_in};
 ghost use Rattle.wt_inspection.specs.Recording.{AfterSettings, HasFault};
 ghost use Rattle.wt_inspection.specs.SettingLines.{AreSettings, flag_of};
 
-use crate::item::{End, SettingFlag, SettingLine};
 use crate::numbers::{Pair, first_pair};
 use crate::reading::{Next, fault};
 use std::alloc::{AllocError, Global};
 use std::borrow::CowSlice;
 use std::collections::BTreeSet;
-use wtransport_proto::error::{ErrorCode, Refused};
-use wtransport_proto::frame::Frame;
-use wtransport_proto::settings::Settings;
-use wtransport_proto::varint::VarInt;
+use wt_items::item::{End, SettingFlag, SettingLine};
+use wtp_core::error::{ErrorCode, Refused};
+use wtp_core::varint::VarInt;
+use wtp_wire::frame::Frame;
+use wtp_wire::settings::Settings;
 
 /// Returns the settings of a payload in their order, up to one that is cut.
 pub(crate) fn read_settings(alloc: Global, bytes: &[u8]) -> Result<Vec<SettingLine>, AllocError>

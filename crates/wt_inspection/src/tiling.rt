@@ -2,8 +2,8 @@
 ghost use Rattle.std.specs.Prelude.{◌≡◌, ◌+◌, ◌≤◌, ◌++◌, ◌∷◌, [], IfOk, length, drop};
 ghost use Rattle.wt_inspection.specs.Tiles.{IsTiling, Tiles};
 
-use crate::item::{Content, Item};
 use std::alloc::{AllocError, Global};
+use wt_items::item::{Content, Item};
 
 /// The items so far, and the place at which they end.
 #[derive(Drop)]

@@ -9,8 +9,8 @@ use crate::text::{end_line, item_lines, warning_lines};
 use crate::{bytes_of, split_warnings};
 use page::{Markup, Page};
 use std::alloc::{AllocError, Global};
-use wt_inspection::item::{Content, End, FrameName, Inspection, Item, Warning};
-use wtransport_proto::frame::FrameKind;
+use wt_items::item::{Content, End, FrameName, Inspection, Item, Warning};
+use wtp_wire::frame::FrameKind;
 
 /// Above this number of bytes of input, those of payloads are not shown.
 const MOST_SHOWN: usize = 65_536;

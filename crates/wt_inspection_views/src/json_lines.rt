@@ -10,7 +10,7 @@ use crate::text::shown_of;
 use object::{Lines, Object};
 use parts::{add_capsule, add_capsules, add_section, add_settings};
 use std::alloc::{AllocError, Global};
-use wt_inspection::item::{
+use wt_items::item::{
     CapsuleItem, Content, Cut, DatagramHead, End, Fault, FieldSection, FrameItem, Inspection, Item,
     Parts, SettingLine, StreamHead, Warning,
 };

@@ -8,11 +8,11 @@ use crate::plain::PlainText;
 use crate::{bytes_of, split_warnings};
 use parts::{add_capsule, add_fields, add_hex, add_settings, add_warnings, count_bytes};
 use std::alloc::{AllocError, Global};
-use wt_inspection::item::{
+use wt_items::item::{
     CapsuleItem, Content, Cut, DatagramHead, End, Fault, FieldSection, FrameItem, FrameName,
     Inspection, Item, Parts, SettingLine, StreamHead, Warning,
 };
-use wtransport_proto::frame::FrameKind;
+use wtp_wire::frame::FrameKind;
 
 /// Returns the inspection of these bytes as text for people.
 ///

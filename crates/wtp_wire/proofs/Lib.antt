@@ -30,3 +30,6 @@ pub mod CapsuleCursorLemmas
 pub mod WritingLemmas
 pub mod HeaderPollLemmas
 pub mod DatagramLemmas
+pub mod RuleLemmas
+pub mod RunLemmas
+pub mod RunLaws

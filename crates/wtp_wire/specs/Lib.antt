@@ -31,3 +31,6 @@ pub mod CapsuleSteps
 pub mod CapsuleCursor
 pub mod HeaderNeed
 pub mod HeaderPolling
+pub mod Rule
+pub mod Role
+pub mod Run

@@ -7,5 +7,6 @@ mod codes;
 pub mod datagram;
 pub mod frame;
 pub mod laws;
+pub mod rules;
 pub mod settings;
 pub mod stream_header;

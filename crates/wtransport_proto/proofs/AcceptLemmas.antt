@@ -19,13 +19,13 @@ use Rattle.wtransport_proto.specs.declared.stream.accepting.BiAccepted.TheVarian
 use Rattle.wtransport_proto.specs.declared.stream.accepting.BiAccepting.{BiAccepting}
 use Rattle.wtransport_proto.specs.declared.stream.polled.IoReadError.{IoReadError}
 use Rattle.wtransport_proto.specs.declared.stream.polled.IoReadError.TheVariants as stream
-use Rattle.wtransport_proto.specs.Rule.{RemoteBi, rule}
-use Rattle.wtransport_proto.specs.Run.{Run, Tail, MayGoOn, H3, follows, past_unknown, run}
+use Rattle.wtp_wire.specs.Rule.{RemoteBi, rule}
+use Rattle.wtp_wire.specs.Run.{Run, Tail, MayGoOn, H3, follows, past_unknown, run}
 use Rattle.wtransport_proto.specs.HeldRun.{tail_of, stop_of, count_held, run_held, run_of}
 use Rattle.wtransport_proto.specs.StreamPolling.{StreamTakesFrame, Faults, PassesUnknown, LacksMemory, StreamPolled}
 use Rattle.wtransport_proto.specs.Streams.{first_of, session_of}
 use Rattle.wtransport_proto.specs.Accepting.{Opening, Session, Request, Nothing, request_in, opening_by, known_by, opening, opening_of, TakesSession, TakesRequest, SameOpening, SkipsFrame, FailsToOpen, BiAcceptPolled, BiAcceptGiven, held_in, Judges}
-use Rattle.wtransport_proto.proofs.RunLemmas.{past_unknown-unknown, past_unknown-framed, past_unknown-bad, past_unknown-big, past_unknown-short}
+use Rattle.wtp_wire.proofs.RunLemmas.{past_unknown-unknown, past_unknown-framed, past_unknown-bad, past_unknown-big, past_unknown-short}
 use Rattle.wtransport_proto.proofs.HeldRunLemmas.{run_framed, run_refused, run_case, run_held-run, leaves_run, unknown_run, unknown_size, frame_run, framed_size}
 
 -- ---- by the first frame

@@ -6,11 +6,11 @@ use Rattle.wtp_core.proofs.RestLemmas.{rest-same, rest-rest}
 use Rattle.wtp_wire.specs.Content.{Content, kind_in}
 use Rattle.wtp_wire.specs.Front.{Front, Framed, Unknown, BadId, TooBig, Short, Begins, front}
 use Rattle.wtp_wire.proofs.FrontLemmas.{front_holds, framed-shorter, unknown-shorter}
-use Rattle.wtransport_proto.specs.Rule.{Role, rule}
-use Rattle.wtransport_proto.specs.Run.{Run, Tail, MayGoOn, Ending, past_unknown, run, judged, next_run}
+use Rattle.wtp_wire.specs.Rule.{Role, rule}
+use Rattle.wtp_wire.specs.Run.{Run, Tail, MayGoOn, Ending, past_unknown, run, judged, next_run}
 use Rattle.wtransport_proto.specs.Place.{Remainder, remainder_here, remainder}
 use Rattle.wtransport_proto.specs.Agreeing.{EndsBy, EndsAfter, Agrees}
-use Rattle.wtransport_proto.proofs.RunLemmas.{run-step, past_unknown-shorter, past_unknown-unknown, past_unknown-framed, past_unknown-bad, past_unknown-big, past_unknown-short}
+use Rattle.wtp_wire.proofs.RunLemmas.{run-step, past_unknown-shorter, past_unknown-unknown, past_unknown-framed, past_unknown-bad, past_unknown-big, past_unknown-short}
 use Rattle.wtransport_proto.proofs.RemainderLemmas.{remainder-at, remainder-allowed, remainder-refused}
 
 -- ---- no unknown frame follows the unknown frames

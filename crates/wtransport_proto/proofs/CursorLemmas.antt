@@ -16,15 +16,15 @@ use Rattle.wtp_wire.proofs.FramePollLemmas.{front_none, front_due}
 use Rattle.wtransport_proto.specs.CutFrame.{due_in}
 use Rattle.wtransport_proto.specs.FrameCursor.{run_from, known_from, payload_at, frame_at, Continues, IsFault, IsPlaceOf}
 use Rattle.wtransport_proto.specs.HeldRun.{stop_of, count_held, run_held}
-use Rattle.wtransport_proto.specs.Role.{role_of}
-use Rattle.wtransport_proto.specs.Rule.{Role, rule}
-use Rattle.wtransport_proto.specs.Run.{Run, Tail, MayGoOn, Ended, WasReset, Lost, H3, ends, follows, passed, past_within, past_unknown, run}
+use Rattle.wtp_wire.specs.Role.{role_of}
+use Rattle.wtp_wire.specs.Rule.{Role, rule}
+use Rattle.wtp_wire.specs.Run.{Run, Tail, MayGoOn, Ended, WasReset, Lost, H3, ends, follows, passed, past_within, past_unknown, run}
 use Rattle.wtransport_proto.specs.declared.stream.cursor.FrameCursor.{FrameCursor}
 use Rattle.wtransport_proto.specs.declared.stream.cursor.FramePlace.{FramePlace}
 use Rattle.wtransport_proto.proofs.CutFrameLemmas.{HasNumbers, Lacks, lacks_due, unknown_front}
 use Rattle.wtransport_proto.proofs.HeldRunLemmas.{run_case, run_held-run, run_held-due, by_same}
 use Rattle.wtransport_proto.proofs.ReadingLemmas.{run-unknown}
-use Rattle.wtransport_proto.proofs.RunLaws.{run-allowed, run-refused, run-bad_id, run-too_big}
+use Rattle.wtp_wire.proofs.RunLaws.{run-allowed, run-refused, run-bad_id, run-too_big}
 
 abbrev skipping : ℕ → Held
 skipping n = record { taken = []; due = n }

@@ -12,15 +12,15 @@ use Rattle.wtransport_proto.specs.CutFrame.{due_in}
 use Rattle.wtransport_proto.specs.FrameCursor.{held_by, run_from, known_from, frame_at, Continues, IsFault, IsPlaceOf, TakesFrame, WantsMore}
 use Rattle.wtransport_proto.specs.HeldRun.{stop_of}
 use Rattle.wtransport_proto.specs.Reading.{AnswersKnown}
-use Rattle.wtransport_proto.specs.Role.{role_of}
-use Rattle.wtransport_proto.specs.Rule.{Role, rule}
-use Rattle.wtransport_proto.specs.Run.{Ended, Ending, H3, ImmediateFin, ends, follows, past_unknown}
+use Rattle.wtp_wire.specs.Role.{role_of}
+use Rattle.wtp_wire.specs.Rule.{Role, rule}
+use Rattle.wtp_wire.specs.Run.{Ended, Ending, H3, ImmediateFin, ends, follows, past_unknown}
 use Rattle.wtransport_proto.specs.declared.stream.cursor.FrameCursor.{FrameCursor}
 use Rattle.wtransport_proto.specs.declared.stream.cursor.FramePlace.{FramePlace}
 use Rattle.wtransport_proto.proofs.CutFrameLemmas.{few_left}
 use Rattle.wtransport_proto.proofs.CursorLemmas.{known_rest, at_place, place_fits, continues_framed, continues_due, continues_cut, continues_left}
 use Rattle.wtransport_proto.proofs.HeldRunLemmas.{run_case}
-use Rattle.wtransport_proto.proofs.RunLemmas.{past_unknown-empty}
+use Rattle.wtp_wire.proofs.RunLemmas.{past_unknown-empty}
 
 -- ---- what was read after the bytes that are due
 

@@ -11,12 +11,12 @@ use Rattle.wtp_wire.specs.Held.{Held, new_held, front_held, skip_front, Skips, L
 use Rattle.wtp_wire.specs.FramePolling.{Decided}
 use Rattle.wtp_wire.proofs.FrontLemmas.{front_holds, framed-shorter, head_not_empty}
 use Rattle.wtp_wire.proofs.FramePollLemmas.{front_none, front_due}
-use Rattle.wtransport_proto.specs.Rule.{Role, rule}
-use Rattle.wtransport_proto.specs.Run.{Run, Tail, MayGoOn, Ended, WasReset, Lost, Ending, H3, ends, follows, run}
-use Rattle.wtransport_proto.specs.Run as stopping
+use Rattle.wtp_wire.specs.Rule.{Role, rule}
+use Rattle.wtp_wire.specs.Run.{Run, Tail, MayGoOn, Ended, WasReset, Lost, Ending, H3, ends, follows, run}
+use Rattle.wtp_wire.specs.Run as stopping
 use Rattle.wtransport_proto.specs.HeldRun.{tail_of, stop_of, run_by, count_held, run_held, run_of, size_of}
 use Rattle.wtransport_proto.specs.StreamPolling.{StreamTakesFrame, PassesUnknown}
-use Rattle.wtransport_proto.proofs.RunLemmas.{run-step, past_unknown-framed, past_unknown-bad, past_unknown-big, past_unknown-short}
+use Rattle.wtp_wire.proofs.RunLemmas.{run-step, past_unknown-framed, past_unknown-bad, past_unknown-big, past_unknown-short}
 use Rattle.wtransport_proto.proofs.ReadingLemmas.{run-unknown}
 
 -- ---- if no bytes are still to be skipped

@@ -21,14 +21,14 @@ use Rattle.wtp_fields.proofs.Payloads.{payload_again}
 use Rattle.wtransport_proto.specs.declared.stream.polled.IoReadError.{IoReadError}
 use Rattle.wtransport_proto.specs.declared.journey.ReceiveError.{ReceiveError}
 use Rattle.wtransport_proto.specs.declared.journey.ReceiveError.TheVariants as receive
-use Rattle.wtransport_proto.specs.Rule.{Role, RemoteBi, LocalBi, RemoteUni, InSession, rule}
-use Rattle.wtransport_proto.specs.Run.{Run, Tail, past_unknown, run, follows}
+use Rattle.wtp_wire.specs.Rule.{Role, RemoteBi, LocalBi, RemoteUni, InSession, rule}
+use Rattle.wtp_wire.specs.Run.{Run, Tail, past_unknown, run, follows}
 use Rattle.wtransport_proto.specs.HeldRun.{tail_of, run_of}
 use Rattle.wtransport_proto.specs.Reading.{FirstAfter}
 use Rattle.wtransport_proto.specs.StreamPolling.{SourceIsAfter, StreamTakesFrame, Faults, PassesUnknown, LacksMemory, StreamPolled}
 use Rattle.wtransport_proto.specs.Journey.{past_front, KeptPlace, Turned, Takes, LeftIsAfter, Breaks, FrameDid, MapDid, CameBack, ReadsBack}
-use Rattle.wtransport_proto.proofs.RunLemmas.{past_unknown-unknown, past_unknown-framed, past_unknown-bad, past_unknown-big, past_unknown-short}
-use Rattle.wtransport_proto.proofs.RunLaws.{run-allowed}
+use Rattle.wtp_wire.proofs.RunLemmas.{past_unknown-unknown, past_unknown-framed, past_unknown-bad, past_unknown-big, past_unknown-short}
+use Rattle.wtp_wire.proofs.RunLaws.{run-allowed}
 use Rattle.wtransport_proto.proofs.HeldRunLemmas.{skip_not_read, leaves_run, leaves_size, unknown_run, unknown_size, run_new}
 use Rattle.wtransport_proto.proofs.DriveLemmas.{asks_more, asks_last}
 

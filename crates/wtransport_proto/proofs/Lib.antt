@@ -1,6 +1,4 @@
-pub mod RunLemmas
 pub mod ReadingLemmas
-pub mod RunLaws
 pub mod HeldRunLemmas
 pub mod RemainderLemmas
 pub mod PlaceLemmas
@@ -9,8 +7,10 @@ pub mod DriveLemmas
 pub mod AgreeLemmas
 pub mod SendLemmas
 pub mod JourneyLemmas
-pub mod RuleLemmas
 pub mod AcceptLemmas
 pub mod CutFrameLemmas
 pub mod CursorLemmas
 pub mod CursorStepLemmas
+pub use Rattle.wtp_wire.proofs.RuleLemmas
+pub use Rattle.wtp_wire.proofs.RunLemmas
+pub use Rattle.wtp_wire.proofs.RunLaws

@@ -8,12 +8,12 @@ use Rattle.wtp_wire.specs.Front.{Front, Framed, Unknown, BadId, TooBig, Short, f
 use Rattle.wtp_wire.specs.Held.{Held, new_held, front_held, IsUnfinished, Skips, Leaves}
 use Rattle.wtp_wire.proofs.FramePollLemmas.{front_none}
 use Rattle.wtransport_proto.specs.declared.stream.polled.IoReadError.{IoReadError}
-use Rattle.wtransport_proto.specs.Rule.{Role, rule}
-use Rattle.wtransport_proto.specs.Run.{Run, past_unknown, follows}
+use Rattle.wtp_wire.specs.Rule.{Role, rule}
+use Rattle.wtp_wire.specs.Run.{Run, past_unknown, follows}
 use Rattle.wtransport_proto.specs.HeldRun.{tail_of, run_of}
 use Rattle.wtransport_proto.specs.StreamPolling.{Faults, StreamTakesFrame, PassesUnknown, SourceIsAfter}
 use Rattle.wtransport_proto.specs.Place.{Place, if_allowed, remainder, place_after, place_by, place_held, place_of, BeginsUnknown, ComesDue, Remains, SamePlace, LeftAfter, StopsAt}
-use Rattle.wtransport_proto.proofs.RunLemmas.{past_unknown-framed, past_unknown-bad, past_unknown-big, past_unknown-short}
+use Rattle.wtp_wire.proofs.RunLemmas.{past_unknown-framed, past_unknown-bad, past_unknown-big, past_unknown-short}
 use Rattle.wtransport_proto.proofs.RemainderLemmas.{after-unknown, after-known}
 use Rattle.wtransport_proto.proofs.HeldRunLemmas.{run_framed}
 

@@ -8,11 +8,10 @@ use Rattle.wtp_wire.specs.Front.{Front, Framed, Unknown, BadId, TooBig, Short, f
 use Rattle.wtp_wire.specs.FrameReading.{Answers}
 use Rattle.wtp_core.specs.Reader.{IsRest}
 use Rattle.wtp_core.proofs.RestLemmas.{rest-same, rest-rest}
-use Rattle.wtransport_proto.specs.Run.{past_unknown, run, Run, next_run, follows, ends, run_stop, Tail, MayGoOn, Ended, WasReset, Lost, Open, H3}
-use Rattle.wtransport_proto.specs.Rule.{Role, RemoteBi, LocalBi, RemoteUni, InSession, rule}
-use Rattle.wtp_wire.specs.declared.frame.kind.FrameKind.{FrameKind}
+use Rattle.wtp_wire.specs.Run.{past_unknown, run, Run, next_run, follows, ends, run_stop, Tail, MayGoOn, Ended, WasReset, Lost, Open, H3}
+use Rattle.wtp_wire.specs.Rule.{Role, rule}
 use Rattle.wtransport_proto.specs.Reading.{AnswersKnown, AnswersFrame, FirstAfter, ReaderIsAfter, verdict}
-use Rattle.wtransport_proto.proofs.RunLemmas.{past_unknown-unknown, past_unknown-framed, past_unknown-bad, past_unknown-big, past_unknown-short, run-step}
+use Rattle.wtp_wire.proofs.RunLemmas.{past_unknown-unknown, past_unknown-framed, past_unknown-bad, past_unknown-big, past_unknown-short, run-step}
 
 -- only unknown frames were skipped between old and cur
 pub record Passes (old cur : List ℕ) : Type 0 where
@@ -154,9 +153,3 @@ run-unknown role first bytes rest tail closed e =
     ∙ ap (λ (b : List ℕ). next_run (λ f r. run role f r tail) role first bytes b tail (front b)) (past_unknown-unknown bytes rest e)
     ∙ same_end role first bytes rest (past_unknown rest) tail (front (past_unknown rest)) (λ f r. run role f r tail) closed
     ∙ sym (run-step role first rest tail)
-
-pub rule_first : (role : Role) (f g : Bool) (kind : FrameKind) → role ≢ RemoteBi → rule role f kind ≡ rule role g kind
-rule_first RemoteBi f g kind h = absurd (h refl)
-rule_first LocalBi f g kind h = refl
-rule_first RemoteUni f g kind h = refl
-rule_first InSession f g kind h = refl

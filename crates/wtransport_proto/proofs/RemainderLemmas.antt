@@ -4,10 +4,10 @@ use Rattle.wtp_core.specs.declared.error.ErrorCode.{ErrorCode}
 use Rattle.wtp_wire.specs.Content.{Content, kind_in}
 use Rattle.wtp_wire.specs.Front.{Front, Framed, Unknown, BadId, TooBig, Short, front}
 use Rattle.wtp_wire.proofs.FrontLemmas.{framed-shorter, front-empty}
-use Rattle.wtransport_proto.specs.Rule.{Role, rule}
-use Rattle.wtransport_proto.specs.Run.{past_unknown}
+use Rattle.wtp_wire.specs.Rule.{Role, rule}
+use Rattle.wtp_wire.specs.Run.{past_unknown}
 use Rattle.wtransport_proto.specs.Place.{Remainder, if_allowed, remainder_here, next_remainder, remainder_within, remainder, place_after}
-use Rattle.wtransport_proto.proofs.RunLemmas.{past_unknown-empty, past_unknown-shorter, past_unknown-unknown}
+use Rattle.wtp_wire.proofs.RunLemmas.{past_unknown-empty, past_unknown-shorter, past_unknown-unknown}
 
 next_same : (c : Front) (f g : Bool → List ℕ → Remainder) (role : Role) (first : Bool) (bytes : List ℕ) → ((x : Content) (rest : List ℕ) → c ≡ Framed x rest → f false rest ≡ g false rest) → next_remainder f role first bytes c ≡ next_remainder g role first bytes c
 next_same (Framed x rest) f g role first bytes h = ap (λ (r : Remainder). if_allowed (rule role first (kind_in x)) r (record { first = first; bytes = bytes })) (h x rest refl)

@@ -19,8 +19,8 @@ use Rattle.wtp_wire.specs.Front.{Framed, BadId, TooBig, Short}
 use Rattle.wtp_wire.specs.Held.{Held}
 use Rattle.wtp_wire.specs.FramePolling.{Decided, Stopped, FramePolled}
 use Rattle.wtransport_proto.specs.declared.stream.polled.IoReadError.TheVariants as stream
-use Rattle.wtransport_proto.specs.Rule.{Role, rule}
-use Rattle.wtransport_proto.specs.Run.{Run, H3, ends}
+use Rattle.wtp_wire.specs.Rule.{Role, rule}
+use Rattle.wtp_wire.specs.Run.{Run, H3, ends}
 use Rattle.wtransport_proto.specs.HeldRun.{tail_of, stop_of, count_held, run_of}
 use Rattle.wtransport_proto.specs.StreamPolling.{IsStreamFault, IsDry, stream_fault, EndsSo, Faults, PassesUnknown, StreamPolled, JudgesPolled}
 use Rattle.wtransport_proto.proofs.HeldRunLemmas.{read_front, framed_size, bad_size, big_size, size_new, leaves_size, run_refused, run_case}

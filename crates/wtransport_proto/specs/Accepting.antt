@@ -21,8 +21,8 @@ use Rattle.wtransport_proto.specs.declared.stream.accepting.BiAccepted.TheVarian
 use Rattle.wtransport_proto.specs.declared.stream.accepting.BiAccepting.{BiAccepting}
 use Rattle.wtransport_proto.specs.declared.stream.polled.IoReadError.{IoReadError}
 use Rattle.wtransport_proto.specs.declared.stream.polled.IoReadError.TheVariants as stream
-use Rattle.wtransport_proto.specs.Rule.{RemoteBi}
-use Rattle.wtransport_proto.specs.Run.{Run, Tail, Ending, H3, past_unknown}
+use Rattle.wtp_wire.specs.Rule.{RemoteBi}
+use Rattle.wtp_wire.specs.Run.{Run, Tail, Ending, H3, past_unknown}
 use Rattle.wtransport_proto.specs.HeldRun.{tail_of, run_held, run_of, size_of}
 use Rattle.wtransport_proto.specs.Reading.{FirstAfter}
 use Rattle.wtransport_proto.specs.StreamPolling.{IsStreamFault, IsDry, StreamTakesFrame, SourceIsAfter, Faults, PassesUnknown, LacksMemory, CodeGiven, PassGiven}

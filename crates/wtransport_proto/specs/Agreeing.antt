@@ -6,8 +6,8 @@ use Rattle.wtp_core.specs.declared.error.ErrorCode.TheVariants.{Id, ExcessiveLoa
 use Rattle.wtp_core.specs.Reader.{IsRest}
 use Rattle.wtp_wire.specs.Content.{kind_in}
 use Rattle.wtp_wire.specs.Front.{Front, Framed, Unknown, BadId, TooBig, Short, front}
-use Rattle.wtransport_proto.specs.Rule.{Role, rule}
-use Rattle.wtransport_proto.specs.Run.{Run, Tail, MayGoOn, Ending, H3, past_unknown, run_stop}
+use Rattle.wtp_wire.specs.Rule.{Role, rule}
+use Rattle.wtp_wire.specs.Run.{Run, Tail, MayGoOn, Ending, H3, past_unknown, run_stop}
 use Rattle.wtransport_proto.specs.Place.{Remainder, remainder}
 
 -- The ending, by the first frame among the bytes left that is not unknown: the code of a frame that

@@ -6,8 +6,8 @@ use Rattle.wtp_wire.specs.Content.{Content}
 use Rattle.wtp_wire.specs.Held.{Held}
 use Rattle.wtransport_proto.specs.declared.stream.driving.Driven.{Driven}
 use Rattle.wtransport_proto.specs.declared.stream.driving.Driven.TheVariants as driven
-use Rattle.wtransport_proto.specs.Rule.{Role}
-use Rattle.wtransport_proto.specs.Run.{Run}
+use Rattle.wtp_wire.specs.Rule.{Role}
+use Rattle.wtp_wire.specs.Run.{Run}
 use Rattle.wtransport_proto.specs.HeldRun.{run_of, size_of}
 use Rattle.wtransport_proto.specs.Place.{place_of, SamePlace, StopsAt}
 use Rattle.wtransport_proto.specs.StreamPolling.{EndsSo, IsDry}

@@ -7,9 +7,9 @@ use Rattle.wtp_wire.specs.Front.{Front, Framed, Unknown, BadId, TooBig, Short, f
 use Rattle.wtp_wire.specs.Held.{Held, front_held}
 use Rattle.wtransport_proto.specs.CutFrame.{due_in}
 use Rattle.wtransport_proto.specs.HeldRun.{run_held}
-use Rattle.wtransport_proto.specs.Role.{role_of}
-use Rattle.wtransport_proto.specs.Rule.{Role, rule}
-use Rattle.wtransport_proto.specs.Run.{Run, Tail, MayGoOn, Ending, H3, ImmediateFin, ends, follows, past_unknown}
+use Rattle.wtp_wire.specs.Role.{role_of}
+use Rattle.wtp_wire.specs.Rule.{Role, rule}
+use Rattle.wtp_wire.specs.Run.{Run, Tail, MayGoOn, Ending, H3, ImmediateFin, ends, follows, past_unknown}
 use Rattle.wtransport_proto.specs.declared.stream.cursor.FrameCursor.{FrameCursor}
 use Rattle.wtransport_proto.specs.declared.stream.cursor.FramePlace.{FramePlace}
 use Rattle.wtransport_proto.specs.declared.stream.cursor.CursorStep.{CursorStep}

@@ -10,8 +10,8 @@ use Rattle.wtp_core.specs.Source as source
 use Rattle.wtp_wire.specs.Content.{kind_in}
 use Rattle.wtp_wire.specs.Front.{Front, Framed, Unknown, BadId, TooBig, Short}
 use Rattle.wtp_wire.specs.Held.{Held, front_held}
-use Rattle.wtransport_proto.specs.Rule.{Role, rule}
-use Rattle.wtransport_proto.specs.Run.{Run, Tail, MayGoOn, Ended, WasReset, Lost, Ending, Open, H3, ImmediateFin, Reset, NotConnected, ends, judged, run}
+use Rattle.wtp_wire.specs.Rule.{Role, rule}
+use Rattle.wtp_wire.specs.Run.{Run, Tail, MayGoOn, Ended, WasReset, Lost, Ending, Open, H3, ImmediateFin, Reset, NotConnected, ends, judged, run}
 
 -- how the bytes of a source end
 abbrev pub tail_of : source.SourceEnding → Tail

@@ -19,8 +19,8 @@ use Rattle.wtransport_proto.specs.declared.journey.ReceiveError.{ReceiveError}
 use Rattle.wtransport_proto.specs.declared.journey.ReceiveError.TheVariants as receive
 use Rattle.wtransport_proto.specs.declared.journey.JourneyError.{JourneyError}
 use Rattle.wtransport_proto.specs.declared.journey.JourneyError.TheVariants as journey
-use Rattle.wtransport_proto.specs.Rule.{Role, RemoteUni, rule}
-use Rattle.wtransport_proto.specs.Run.{past_unknown, run}
+use Rattle.wtp_wire.specs.Rule.{Role, RemoteUni, rule}
+use Rattle.wtp_wire.specs.Run.{past_unknown, run}
 use Rattle.wtransport_proto.specs.HeldRun.{tail_of, run_of, size_of}
 use Rattle.wtransport_proto.specs.StreamPolling.{EndsSo, IsDry}
 use Rattle.wtransport_proto.specs.Reading.{FirstAfter}

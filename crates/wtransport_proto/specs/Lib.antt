@@ -1,8 +1,5 @@
-pub mod Rule
-pub mod Role
 pub mod CutFrame
 pub mod FrameCursor
-pub mod Run
 pub mod Streams
 pub mod Reading
 pub mod Upgrading
@@ -56,6 +53,9 @@ pub use Rattle.wtp_wire.specs.HeaderPolling
 pub use Rattle.wtp_wire.specs.SettingId
 pub use Rattle.wtp_wire.specs.Settings
 pub use Rattle.wtp_wire.specs.SettingsList
+pub use Rattle.wtp_wire.specs.Rule
+pub use Rattle.wtp_wire.specs.Role
+pub use Rattle.wtp_wire.specs.Run
 pub use Rattle.wtp_wire.specs.Capsule
 pub use Rattle.wtp_wire.specs.CloseSession
 pub use Rattle.wtp_wire.specs.Codes as WireCodes

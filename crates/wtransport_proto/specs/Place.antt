@@ -10,8 +10,8 @@ use Rattle.wtp_core.specs.Source.{Source}
 use Rattle.wtp_wire.specs.Content.{kind_in}
 use Rattle.wtp_wire.specs.Front.{Front, Framed, Unknown, BadId, TooBig, Short, front}
 use Rattle.wtp_wire.specs.Held.{Held, new_held, front_held, IsUnknownHead}
-use Rattle.wtransport_proto.specs.Rule.{Role, rule}
-use Rattle.wtransport_proto.specs.Run.{past_unknown}
+use Rattle.wtp_wire.specs.Rule.{Role, rule}
+use Rattle.wtp_wire.specs.Run.{past_unknown}
 use Rattle.wtransport_proto.specs.Reading.{FirstAfter}
 
 -- onward if there is no fault, otherwise here

@@ -4,8 +4,8 @@ use Rattle.wtp_core.specs.declared.error.ErrorCode.{ErrorCode}
 use Rattle.wtp_core.specs.declared.error.ErrorCode.TheVariants.{Id, ExcessiveLoad}
 use Rattle.wtp_wire.specs.Content.{Content, kind_in}
 use Rattle.wtp_wire.specs.Front.{Front, Framed, Unknown, BadId, TooBig, Short, front}
-use Rattle.wtransport_proto.specs.Rule.{Role, rule}
-use Rattle.wtransport_proto.specs.Run.{MayGoOn, Open, H3, ends, follows, past_unknown, run}
+use Rattle.wtp_wire.specs.Rule.{Role, rule}
+use Rattle.wtp_wire.specs.Run.{MayGoOn, Open, H3, ends, follows, past_unknown, run}
 
 -- a frame, or the fault that refuses it
 abbrev pub verdict : Option ErrorCode → Content → Result (Option Content) ErrorCode

@@ -14,9 +14,9 @@ use Rattle.wtp_wire.specs.Held.{Held, new_held, front_held, Skips, Leaves}
 use Rattle.wtp_wire.specs.FramePolling.{Decided, WantsPayload, KeepsHeld, Answered, HoldsHead, FramePolled, FrameGiven}
 use Rattle.wtransport_proto.specs.declared.stream.polled.IoReadError.{IoReadError}
 use Rattle.wtransport_proto.specs.declared.stream.polled.IoReadError.TheVariants as stream
-use Rattle.wtransport_proto.specs.Rule.{Role, rule}
+use Rattle.wtp_wire.specs.Rule.{Role, rule}
 use Rattle.wtransport_proto.specs.Reading.{FirstAfter}
-use Rattle.wtransport_proto.specs.Run.{Run, Ending, H3, ImmediateFin, Reset, NotConnected}
+use Rattle.wtp_wire.specs.Run.{Run, Ending, H3, ImmediateFin, Reset, NotConnected}
 use Rattle.wtransport_proto.specs.HeldRun.{run_of, size_of}
 
 -- In all of these, old and new are what the reading holds before and after one poll; first and next

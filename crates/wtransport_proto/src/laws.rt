@@ -11,10 +11,10 @@ ghost use Rattle.wtp_wire.specs.Front.{Framed, Unknown, BadId, TooBig, Short, fr
 ghost use Rattle.wtp_wire.specs.Held.{Held};
 ghost use Rattle.wtp_wire.specs.Wire.{wire};
 ghost use Rattle.wtp_wire.specs.declared.frame.kind.FrameKind.{FrameKind};
+ghost use Rattle.wtp_wire.specs.Rule.{Role, RemoteBi, RemoteUni, rule};
+ghost use Rattle.wtp_wire.specs.Run.{Tail, MayGoOn, H3, past_unknown, run, ends, follows, run_stop, counted};
 ghost use Rattle.wtransport_proto.specs.Agreeing.{Agrees};
 ghost use Rattle.wtransport_proto.specs.HeldRun.{run_held, stop_of, count_held};
-ghost use Rattle.wtransport_proto.specs.Rule.{Role, RemoteBi, RemoteUni, rule};
-ghost use Rattle.wtransport_proto.specs.Run.{Tail, MayGoOn, H3, past_unknown, run, ends, follows, run_stop, counted};
 
 pub use wtp_core::laws as base;
 pub use wtp_fields::laws as fields;

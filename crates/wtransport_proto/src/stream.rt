@@ -22,7 +22,6 @@ mod cursor;
 mod driving;
 mod polled;
 mod reading;
-mod rules;
 pub mod session;
 pub mod types;
 pub mod unilocal;
@@ -33,9 +32,9 @@ pub use accepting::{BiAccepted, BiAccepting, UniAccepting};
 pub use cursor::{CursorStep, FrameCursor, FramePlace};
 pub use driving::{Driven, ReadsFrames, drive};
 pub use polled::IoReadError;
-pub use rules::{StreamRole, fault_of};
 pub use upgrading::{BiUpgrading, UniUpgrading};
 pub use wtp_core::bytes::IoWriteError;
+pub use wtp_wire::rules::{StreamRole, fault_of};
 
 /// A stream of kind `K` in state `S` (see `types`).
 #[derive(Debug, Drop)]

@@ -1,12 +1,12 @@
 //! Frames that are not allowed by a rule that the library does not check.
 ghost use Rattle.std.specs.Prelude.{◌≡◌, IfOk};
 
-use crate::item::FrameName;
 use crate::reading::{Phase, Reading};
 use std::alloc::AllocError;
-use wtransport_proto::frame::FrameKind;
-use wtransport_proto::stream::StreamRole;
-use wtransport_proto::varint::VarInt;
+use wt_items::item::FrameName;
+use wtp_core::varint::VarInt;
+use wtp_wire::frame::FrameKind;
+use wtp_wire::rules::StreamRole;
 
 /// Adds a warning if a frame is not allowed here by a rule that the library does not check.
 pub(crate) fn warn_of_frame(

@@ -3,7 +3,7 @@
 use super::object::Object;
 use crate::text::parts::name_setting;
 use std::alloc::{AllocError, Global};
-use wt_inspection::item::{
+use wt_items::item::{
     CapsuleItem, CloseReason, FieldSection, Line, SectionFault, SettingFlag, SettingLine,
 };
 

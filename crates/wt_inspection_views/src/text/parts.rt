@@ -3,10 +3,10 @@
 use crate::escaped::{add_escaped, add_hex_byte};
 use crate::plain::PlainText;
 use std::alloc::{AllocError, Global};
-use wt_inspection::item::{
+use wt_items::item::{
     CapsuleItem, CloseReason, FieldSection, Line, SectionFault, SettingFlag, SettingLine, Warning,
 };
-use wtransport_proto::settings::SettingId;
+use wtp_wire::settings::SettingId;
 
 /// How many bytes a line of a payload shows.
 const BYTES_PER_LINE: usize = 32;

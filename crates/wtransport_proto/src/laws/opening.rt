@@ -5,10 +5,10 @@ ghost use Rattle.wtp_core.specs.declared.error.ErrorCode.TheVariants.{FrameUnexp
 ghost use Rattle.wtp_wire.specs.Content.{Content, WebTransportOf, DataOf, HeadersOf, ExerciseOf, kind_in};
 ghost use Rattle.wtp_wire.specs.Front.{Framed, Unknown, BadId, TooBig, Short};
 ghost use Rattle.wtp_wire.specs.Held.{Held, new_held, front_held};
+ghost use Rattle.wtp_wire.specs.Rule.{RemoteBi, rule};
+ghost use Rattle.wtp_wire.specs.Run.{Tail, MayGoOn, H3, run};
 ghost use Rattle.wtransport_proto.specs.Accepting.{Session, Request, Nothing, opening};
 ghost use Rattle.wtransport_proto.specs.HeldRun.{stop_of, count_held};
-ghost use Rattle.wtransport_proto.specs.Rule.{RemoteBi, rule};
-ghost use Rattle.wtransport_proto.specs.Run.{Tail, MayGoOn, H3, run};
 
 /// What opens a stream, by the first frame of what is held and ahead. A WebTransport frame does as
 /// the first frame of the stream, and a HEADERS frame at any place; frames of reserved and unknown

@@ -4,10 +4,10 @@ ghost use Rattle.wtp_core.specs.declared.error.ErrorCode.{ErrorCode};
 ghost use Rattle.wtp_wire.specs.Content.{Content, kind_in};
 ghost use Rattle.wtp_wire.specs.Front.{Framed, Unknown, BadId, TooBig, Short, front};
 ghost use Rattle.wtp_wire.specs.Held.{Held, new_held, front_held};
+ghost use Rattle.wtp_wire.specs.Rule.{Role, rule};
+ghost use Rattle.wtp_wire.specs.Run.{Tail, past_unknown, run};
 ghost use Rattle.wtransport_proto.specs.Agreeing.{EndsAfter};
 ghost use Rattle.wtransport_proto.specs.Place.{remainder, remainder_here, place_held, place_here, place_after};
-ghost use Rattle.wtransport_proto.specs.Rule.{Role, rule};
-ghost use Rattle.wtransport_proto.specs.Run.{Tail, past_unknown, run};
 
 /// What the frames of a run leave of its bytes: if the stream allows the first frame after any
 /// unknown frames, what they leave of the bytes after it; otherwise all of the bytes.

@@ -96,8 +96,8 @@ impl BiAccepting {
     ghost use Rattle.wtp_core.specs.Source.{Telling};
     ghost use Rattle.wtp_core.specs.Polled.{Asks};
     ghost use Rattle.wtp_wire.specs.Content.{kind_in};
-    ghost use Rattle.wtransport_proto.specs.Rule.{RemoteBi, rule};
     ghost use Rattle.wtp_wire.specs.Held.{IsUnfinished};
+    ghost use Rattle.wtp_wire.specs.Rule.{RemoteBi, rule};
     ghost use Rattle.wtransport_proto.specs.Accepting.{BiAcceptPolled, BiAcceptGiven, Judges, held_in};
     ghost use Rattle.wtransport_proto.specs.Streams.{first_of};
 

@@ -11,16 +11,15 @@ ghost use Rattle.wtp_wire.specs.Content.{WebTransportOf, kind_in};
 ghost use Rattle.wtp_wire.specs.Front.{front};
 ghost use Rattle.wtp_wire.specs.Held.{IsUnfinished};
 ghost use Rattle.wtp_wire.specs.Wire.{parts_of, wire};
+ghost use Rattle.wtp_wire.specs.Rule.{LocalBi};
+ghost use Rattle.wtp_wire.specs.Run.{past_unknown};
 ghost use Rattle.wtransport_proto.specs.Reading.{AnswersFrame, AnswersRun, ReaderIsAfter};
-ghost use Rattle.wtransport_proto.specs.Rule.{LocalBi};
-ghost use Rattle.wtransport_proto.specs.Run.{past_unknown};
 ghost use Rattle.wtransport_proto.specs.StreamPolling.{StreamPolled, StreamGiven};
 ghost use Rattle.wtransport_proto.specs.StreamWriting.{WritesPlain, Begun};
 ghost use Rattle.wtransport_proto.specs.Streams.{can_upgrade, request_of, session_of};
 ghost use Rattle.wtransport_proto.specs.Upgrading.{write_answer};
 
 use crate::stream::reading::{self, Rule};
-use crate::stream::rules::{StreamRole, fault_of};
 use crate::stream::session::StreamSession;
 use crate::stream::types::{Bi, BiLocal, H3, Quic, Session, WT};
 use crate::stream::{BiUpgrading, IoReadError, IoWriteError, Stream, polled};
@@ -32,6 +31,7 @@ use wtp_core::error::ErrorCode;
 use wtp_core::ids::SessionId;
 use wtp_fields::session::SessionRequest;
 use wtp_wire::frame::{Frame, FrameKind, FrameOwned, FrameReading, FrameWriting};
+use wtp_wire::rules::{StreamRole, fault_of};
 
 /// A stream of QUIC.
 pub type StreamBiLocalQuic = Stream<BiLocal, Quic>;
@@ -274,7 +274,7 @@ impl StreamBiLocalH3 {
 }
 
 impl Rule for StreamBiLocalH3 {
-    ghost use Rattle.wtransport_proto.specs.Rule.{LocalBi};
+    ghost use Rattle.wtp_wire.specs.Rule.{LocalBi};
 
     ghost role = { LocalBi };
 

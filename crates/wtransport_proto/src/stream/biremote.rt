@@ -10,14 +10,13 @@ ghost use Rattle.wtp_core.specs.Put.{GoesOn, IsSent, WritePolled};
 ghost use Rattle.wtp_wire.specs.Front.{front};
 ghost use Rattle.wtp_wire.specs.Held.{IsUnfinished};
 ghost use Rattle.wtp_wire.specs.Wire.{parts_of, wire};
+ghost use Rattle.wtp_wire.specs.Rule.{RemoteBi};
+ghost use Rattle.wtp_wire.specs.Run.{past_unknown};
 ghost use Rattle.wtransport_proto.specs.Reading.{AnswersFrame, AnswersRun, ReaderIsAfter};
-ghost use Rattle.wtransport_proto.specs.Rule.{RemoteBi};
-ghost use Rattle.wtransport_proto.specs.Run.{past_unknown};
 ghost use Rattle.wtransport_proto.specs.StreamPolling.{StreamPolled, StreamGiven};
 ghost use Rattle.wtransport_proto.specs.Streams.{first_of, request_of, session_of};
 
 use crate::stream::reading::{self, Rule};
-use crate::stream::rules::{StreamRole, fault_of};
 use crate::stream::session::StreamSession;
 use crate::stream::types::{Bi, BiRemote, H3, Quic, Session, WT};
 use crate::stream::{BiAccepting, IoReadError, IoWriteError, Stream, polled};
@@ -29,6 +28,7 @@ use wtp_core::error::ErrorCode;
 use wtp_core::ids::SessionId;
 use wtp_fields::session::SessionRequest;
 use wtp_wire::frame::{Frame, FrameKind, FrameOwned, FrameReading, FrameWriting};
+use wtp_wire::rules::{StreamRole, fault_of};
 
 /// A stream of QUIC.
 pub type StreamBiRemoteQuic = Stream<BiRemote, Quic>;
@@ -226,7 +226,7 @@ impl StreamBiRemoteH3 {
 }
 
 impl Rule for StreamBiRemoteH3 {
-    ghost use Rattle.wtransport_proto.specs.Rule.{RemoteBi};
+    ghost use Rattle.wtp_wire.specs.Rule.{RemoteBi};
 
     ghost role = { RemoteBi };
 

@@ -3,15 +3,15 @@
 ghost use Rattle.std.specs.Prelude.{◌≡◌, ◌≤◌, ◌-◌, ◌↔◌, length, Ok, None, true, IsOk, OnErr, Err};
 ghost use Rattle.wtp_core.specs.Reader.{IsRest};
 ghost use Rattle.wtp_wire.specs.Front.{front};
+ghost use Rattle.wtp_wire.specs.Run.{past_unknown};
 ghost use Rattle.wtransport_proto.specs.CutFrame.{due_in};
 ghost use Rattle.wtransport_proto.specs.Reading.{AnswersKnown};
-ghost use Rattle.wtransport_proto.specs.Run.{past_unknown};
 
-use crate::stream::rules::{StreamRole, fault_of};
 use wtp_core::bytes::BytesReader;
 use wtp_core::error::ErrorCode;
 use wtp_core::ids::SessionId;
 use wtp_wire::frame::{Frame, FrameKind, ParseError};
+use wtp_wire::rules::{StreamRole, fault_of};
 
 /// All that reading the frames of a stream remembers between two calls. Not in the Rust crate.
 ///
@@ -83,9 +83,9 @@ impl FramePlace {
 
 impl FrameCursor {
     ghost use Rattle.wtransport_proto.specs.FrameCursor.{StepIs, RunGoesOn, held_by, run_from, ending_of};
-    ghost use Rattle.wtransport_proto.specs.Run.{Ended, ends};
     ghost use Rattle.wtp_wire.specs.Front.{Short};
     ghost use Rattle.wtp_wire.specs.Held.{front_held};
+    ghost use Rattle.wtp_wire.specs.Run.{Ended, ends};
 
     /// Creates a cursor at the first frame of a stream.
     pub fn new(role: StreamRole) -> Self

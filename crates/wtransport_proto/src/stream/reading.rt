@@ -3,9 +3,9 @@ ghost use Rattle.std.specs.Prelude.{◌≡◌, true, not};
 ghost use Rattle.wtp_core.specs.Cursor.{left_of, whole_of};
 ghost use Rattle.wtp_core.specs.Reader.{IsRest};
 ghost use Rattle.wtp_wire.specs.Front.{front};
+ghost use Rattle.wtp_wire.specs.Rule.{Role, rule};
+ghost use Rattle.wtp_wire.specs.Run.{past_unknown};
 ghost use Rattle.wtransport_proto.specs.Reading.{AnswersFrame, AnswersKnown, AnswersRun, ReaderIsAfter};
-ghost use Rattle.wtransport_proto.specs.Rule.{Role, rule};
-ghost use Rattle.wtransport_proto.specs.Run.{past_unknown};
 
 use wtp_core::bytes::{BufferReader, BytesReader};
 use wtp_core::error::ErrorCode;

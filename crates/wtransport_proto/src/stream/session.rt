@@ -10,14 +10,13 @@ ghost use Rattle.wtp_core.specs.Put.{GoesOn, IsSent, WritePolled};
 ghost use Rattle.wtp_wire.specs.Front.{front};
 ghost use Rattle.wtp_wire.specs.Held.{IsUnfinished};
 ghost use Rattle.wtp_wire.specs.Wire.{parts_of, wire};
+ghost use Rattle.wtp_wire.specs.Rule.{InSession};
+ghost use Rattle.wtp_wire.specs.Run.{past_unknown};
 ghost use Rattle.wtransport_proto.specs.Reading.{AnswersFrame, AnswersRun, ReaderIsAfter};
-ghost use Rattle.wtransport_proto.specs.Rule.{InSession};
-ghost use Rattle.wtransport_proto.specs.Run.{past_unknown};
 ghost use Rattle.wtransport_proto.specs.StreamPolling.{StreamPolled, StreamGiven};
 ghost use Rattle.wtransport_proto.specs.Streams.{request_of};
 
 use crate::stream::reading::{self, Rule};
-use crate::stream::rules::{StreamRole, fault_of};
 use crate::stream::types::{Bi, Session};
 use crate::stream::{IoReadError, IoWriteError, Stream, polled};
 use wtp_core::bytes::{
@@ -27,6 +26,7 @@ use wtp_core::bytes::{
 use wtp_core::error::ErrorCode;
 use wtp_fields::session::SessionRequest;
 use wtp_wire::frame::{Frame, FrameKind, FrameOwned, FrameReading, FrameWriting};
+use wtp_wire::rules::{StreamRole, fault_of};
 
 /// A stream that carries the request for a session, and its response.
 pub type StreamSession = Stream<Bi, Session>;
@@ -155,7 +155,7 @@ impl StreamSession {
 }
 
 impl Rule for StreamSession {
-    ghost use Rattle.wtransport_proto.specs.Rule.{InSession};
+    ghost use Rattle.wtp_wire.specs.Rule.{InSession};
 
     ghost role = { InSession };
 

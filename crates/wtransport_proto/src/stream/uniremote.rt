@@ -7,20 +7,20 @@ ghost use Rattle.wtp_core.specs.Polled.{Asks};
 ghost use Rattle.wtp_wire.specs.Front.{front};
 ghost use Rattle.wtp_wire.specs.Held.{IsUnfinished};
 ghost use Rattle.wtp_wire.specs.HeaderFront.{header_front};
+ghost use Rattle.wtp_wire.specs.Rule.{RemoteUni};
+ghost use Rattle.wtp_wire.specs.Run.{past_unknown};
 ghost use Rattle.wtransport_proto.specs.Reading.{AnswersFrame, AnswersRun, ReaderIsAfter};
-ghost use Rattle.wtransport_proto.specs.Rule.{RemoteUni};
-ghost use Rattle.wtransport_proto.specs.Run.{past_unknown};
 ghost use Rattle.wtransport_proto.specs.StreamPolling.{StreamPolled, StreamGiven};
 ghost use Rattle.wtransport_proto.specs.Streams.{CanRead};
 ghost use Rattle.wtransport_proto.specs.Upgrading.{AnswersUpgrade};
 
 use crate::stream::reading::{self, Rule};
-use crate::stream::rules::{StreamRole, fault_of};
 use crate::stream::types::{H3, Quic, UniRemote, WT};
 use crate::stream::{IoReadError, Stream, UniAccepting, polled};
 use wtp_core::bytes::{AsyncRead, BufferReader, BytesReader, Polled};
 use wtp_core::error::ErrorCode;
 use wtp_wire::frame::{Frame, FrameKind, FrameOwned, FrameReading};
+use wtp_wire::rules::{StreamRole, fault_of};
 use wtp_wire::stream_header::{ParseError, StreamHeader, StreamKind};
 
 /// A stream of QUIC.
@@ -177,7 +177,7 @@ impl StreamUniRemoteH3 {
 }
 
 impl Rule for StreamUniRemoteH3 {
-    ghost use Rattle.wtransport_proto.specs.Rule.{RemoteUni};
+    ghost use Rattle.wtp_wire.specs.Rule.{RemoteUni};
 
     ghost role = { RemoteUni };
 

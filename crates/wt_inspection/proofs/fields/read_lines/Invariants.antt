@@ -1,5 +1,5 @@
 use Rattle.std.proofs.Common.{map, length}
-use Rattle.wtransport_proto.specs.FieldLines.{AreOctetLines}
+use Rattle.wtp_qpack.specs.FieldLines.{AreOctetLines}
 use Rattle.wt_inspection.specs.Sections.{field_of}
 use Rattle.wt_inspection.proofs.fields.read_lines.Given as goal
 

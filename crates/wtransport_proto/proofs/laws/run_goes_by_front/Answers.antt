@@ -1,4 +1,4 @@
-use Rattle.wtransport_proto.proofs.RunLaws.{run-allowed, run-refused, run-bad_id, run-too_big, run-short}
+use Rattle.wtp_wire.proofs.RunLaws.{run-allowed, run-refused, run-bad_id, run-too_big, run-short}
 use Rattle.wtransport_proto.proofs.laws.run_goes_by_front.Goals as goal
 
 pub returns : goal.returns

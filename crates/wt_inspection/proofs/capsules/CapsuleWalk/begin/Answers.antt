@@ -1,5 +1,5 @@
 use Rattle.std.proofs.Common.{[], arith}
-use Rattle.wtransport_proto.specs.Capsule.{capsule_kind_of}
+use Rattle.wtp_wire.specs.Capsule.{capsule_kind_of}
 use Rattle.wt_inspection.proofs.WalkLemmas.{keeps_all, ok_map}
 use Rattle.wt_inspection.proofs.capsules.CapsuleWalk.begin.Goals as goal
 

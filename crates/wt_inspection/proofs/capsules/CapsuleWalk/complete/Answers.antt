@@ -1,4 +1,4 @@
-use Rattle.wtransport_proto.specs.Capsule.{capsule_kind_of}
+use Rattle.wtp_wire.specs.Capsule.{capsule_kind_of}
 use Rattle.wt_inspection.specs.Walks.{Keeps}
 use Rattle.wt_inspection.proofs.WalkLemmas.{Shows, done, spoiled, no_pair}
 use Rattle.wt_inspection.proofs.capsules.CapsuleWalk.complete.Goals as goal

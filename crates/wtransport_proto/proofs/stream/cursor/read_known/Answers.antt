@@ -2,7 +2,7 @@ use Rattle.std.proofs.Common.{Some, None, sym, ◌∙◌}
 use Rattle.wtp_core.proofs.RestLemmas.{rest-rest}
 use Rattle.wtp_wire.proofs.FrontLemmas.{unknown-shorter}
 use Rattle.wtransport_proto.proofs.ReadingLemmas.{passes-none, passes-one, known-ok, known-bad, known-big}
-use Rattle.wtransport_proto.proofs.RunLemmas.{past_unknown-short}
+use Rattle.wtp_wire.proofs.RunLemmas.{past_unknown-short}
 use Rattle.wtransport_proto.proofs.stream.cursor.read_known.Goals as goal
 
 pub returns-in-Ok-Some : goal.returns-in-Ok-Some

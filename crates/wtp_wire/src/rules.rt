@@ -1,10 +1,10 @@
 //! Which frames a stream allows, by its role (RFC 9114, sections 6.2.1 and 7.2).
 ghost use Rattle.std.specs.Prelude.{◌≡◌};
-ghost use Rattle.wtransport_proto.specs.Role.{role_of};
-ghost use Rattle.wtransport_proto.specs.Rule.{rule};
+ghost use Rattle.wtp_wire.specs.Role.{role_of};
+ghost use Rattle.wtp_wire.specs.Rule.{rule};
 
+use crate::frame::FrameKind;
 use wtp_core::error::ErrorCode;
-use wtp_wire::frame::FrameKind;
 
 /// The role of a stream whose frames are read. Not in the Rust crate.
 #[derive(Clone, Copy, Debug, PartialEq, Eq)]

@@ -1,9 +1,9 @@
 //! Settings.
 ghost use Rattle.std.specs.Prelude.{◌≡◌, ◌<◌, ◌^◌};
-ghost use Rattle.wtransport_proto.specs.SettingId.{setting_id_of};
+ghost use Rattle.wtp_wire.specs.SettingId.{setting_id_of};
 
-use wtransport_proto::settings::SettingId;
-use wtransport_proto::varint::VarInt;
+use wtp_core::varint::VarInt;
+use wtp_wire::settings::SettingId;
 
 /// A setting as a SETTINGS frame has it (RFC 9114, section 7.2.4).
 #[derive(Clone, Copy, Debug, PartialEq, Eq)]

@@ -3,8 +3,8 @@ use Rattle.std.proofs.Common.{◌≡◌, ℕ, zero, suc, ◌≤◌, ◌<◌, Boo
 use Rattle.wtp_wire.specs.Content.{Content, kind_in}
 use Rattle.wtp_wire.specs.Front.{Front, Framed, Unknown, BadId, TooBig, Short, front}
 use Rattle.wtp_wire.proofs.FrontLemmas.{framed-shorter, unknown-shorter, front-empty}
-use Rattle.wtransport_proto.specs.Rule.{Role, rule}
-use Rattle.wtransport_proto.specs.Run.{Run, Tail, passed, past_within, past_unknown, ends, judged, next_run, run_within, run, run_stop}
+use Rattle.wtp_wire.specs.Rule.{Role, rule}
+use Rattle.wtp_wire.specs.Run.{Run, Tail, passed, past_within, past_unknown, ends, judged, next_run, run_within, run, run_stop}
 
 passed_same : (c : Front) (f g : List ℕ → List ℕ) (bytes : List ℕ) → ((rest : List ℕ) → c ≡ Unknown rest → f rest ≡ g rest) → passed f bytes c ≡ passed g bytes c
 passed_same (Framed x rest) f g bytes h = refl

@@ -10,7 +10,7 @@ use Rattle.wtp_core.specs.declared.error.ErrorCode.TheVariants.{Id, ExcessiveLoa
 use Rattle.wtp_core.specs.declared.error.ErrorCode.TheVariants as code
 use Rattle.wtp_wire.specs.Content.{Content, kind_in}
 use Rattle.wtp_wire.specs.Front.{Front, Framed, Unknown, BadId, TooBig, Short, front}
-use Rattle.wtransport_proto.specs.Rule.{Role, rule}
+use Rattle.wtp_wire.specs.Rule.{Role, rule}
 
 -- How the bytes end: they may go on, or not.
 pub data Tail : Type 0 where

@@ -1,10 +1,10 @@
 //! Names of frame types and stream types.
 ghost use Rattle.std.specs.Prelude.{◌≡◌};
-ghost use Rattle.wt_inspection.specs.Names.{frame_name_of, stream_name_of};
+ghost use Rattle.wt_items.specs.Names.{frame_name_of, stream_name_of};
 
-use wtransport_proto::frame::FrameKind;
-use wtransport_proto::stream_header::StreamKind;
-use wtransport_proto::varint::VarInt;
+use wtp_core::varint::VarInt;
+use wtp_wire::frame::FrameKind;
+use wtp_wire::stream_header::StreamKind;
 
 /// The name of a frame type.
 #[derive(Clone, Copy, Debug, PartialEq, Eq)]

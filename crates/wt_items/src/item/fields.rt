@@ -1,6 +1,6 @@
 //! Field sections.
 
-use wtransport_proto::qpack::DecodingError;
+use wtp_qpack::qpack::DecodingError;
 
 /// A field section: its lines, up to the first that cannot be read (RFC 9204, section 4.5).
 #[derive(Drop)]

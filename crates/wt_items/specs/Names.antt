@@ -1,14 +1,14 @@
 -- The names of frame types (RFC 9114, section 7.2; RFC 9218, section 7.2) and of stream types (RFC
 -- 9114, section 6.2).
 use Rattle.std.specs.Prelude.{ℕ, Bool, ◌||◌, ◌==◌, if◌then◌else◌, Option, Some, None}
-use Rattle.wtransport_proto.specs.Kind.{kind_of}
+use Rattle.wtp_wire.specs.Kind.{kind_of}
 use Rattle.wtp_wire.specs.declared.frame.kind.FrameKind.{FrameKind}
-use Rattle.wtransport_proto.specs.StreamKind.{stream_kind_of}
+use Rattle.wtp_wire.specs.StreamKind.{stream_kind_of}
 use Rattle.wtp_wire.specs.declared.stream_header.StreamKind.{StreamKind}
-use Rattle.wt_inspection.specs.declared.item.names.StreamName.{StreamName}
-use Rattle.wt_inspection.specs.declared.item.names.StreamName.TheVariants as stream-name-is
-use Rattle.wt_inspection.specs.declared.item.names.FrameName.{FrameName}
-use Rattle.wt_inspection.specs.declared.item.names.FrameName.TheVariants.{Read, CancelPush, PushPromise, Goaway, MaxPushId, PriorityUpdate, Http2, Unknown}
+use Rattle.wt_items.specs.declared.item.names.StreamName.{StreamName}
+use Rattle.wt_items.specs.declared.item.names.StreamName.TheVariants as stream-name-is
+use Rattle.wt_items.specs.declared.item.names.FrameName.{FrameName}
+use Rattle.wt_items.specs.declared.item.names.FrameName.TheVariants.{Read, CancelPush, PushPromise, Goaway, MaxPushId, PriorityUpdate, Http2, Unknown}
 
 -- the types of HTTP/2 that must not be sent (RFC 9114, section 7.2.8)
 abbrev pub is_http2 : ℕ → Bool

@@ -4,10 +4,10 @@ use Rattle.wtp_core.specs.declared.error.ErrorCode.{ErrorCode}
 use Rattle.wtp_core.specs.declared.error.ErrorCode.TheVariants.{Id, ExcessiveLoad}
 use Rattle.wtp_wire.specs.Content.{Content, kind_in}
 use Rattle.wtp_wire.specs.Front.{Front, Framed, Unknown, BadId, TooBig, Short, front}
-use Rattle.wtransport_proto.specs.Rule.{Role, RemoteBi, rule}
-use Rattle.wtransport_proto.specs.Run.{Run, Tail, MayGoOn, H3, past_unknown, run, next_run, judged, ends, follows, run_stop, counted}
-use Rattle.wtransport_proto.proofs.RunLemmas.{past_unknown-unknown, past_unknown-framed, past_unknown-bad, past_unknown-big, past_unknown-short, run-step}
-use Rattle.wtransport_proto.proofs.ReadingLemmas.{rule_first}
+use Rattle.wtp_wire.specs.Rule.{Role, RemoteBi, rule}
+use Rattle.wtp_wire.specs.Run.{Run, Tail, MayGoOn, H3, past_unknown, run, next_run, judged, ends, follows, run_stop, counted}
+use Rattle.wtp_wire.proofs.RunLemmas.{past_unknown-unknown, past_unknown-framed, past_unknown-bad, past_unknown-big, past_unknown-short, run-step}
+use Rattle.wtp_wire.proofs.RuleLemmas.{rule_first}
 
 -- the bytes do not start with an unknown frame, and are of this case
 run_at : (role : Role) (first : Bool) (bytes : List ℕ) (tail : Tail) (c : Front) → past_unknown bytes ≡ bytes → front bytes ≡ c → run role first bytes tail ≡ next_run (λ f r. run role f r tail) role first bytes bytes tail c

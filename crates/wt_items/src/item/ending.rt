@@ -1,6 +1,6 @@
 //! How bytes end, and what looks wrong in them.
 
-use wtransport_proto::error::ErrorCode;
+use wtp_core::error::ErrorCode;
 
 /// How the bytes end.
 #[derive(Clone, Copy, Debug, PartialEq, Eq)]

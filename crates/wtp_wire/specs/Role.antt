@@ -1,0 +1,10 @@
+-- The roles of streams as the rule knows them.
+use Rattle.wtp_wire.specs.Rule.{Role, RemoteBi, LocalBi, RemoteUni, InSession}
+use Rattle.wtp_wire.specs.declared.rules.StreamRole.{StreamRole}
+use Rattle.wtp_wire.specs.declared.rules.StreamRole.TheVariants.{BiRemote, BiLocal, UniRemote, Session}
+
+abbrev pub role_of : StreamRole → Role
+role_of BiRemote = RemoteBi
+role_of BiLocal = LocalBi
+role_of UniRemote = RemoteUni
+role_of Session = InSession
