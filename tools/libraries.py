@@ -56,7 +56,7 @@ def main(words):
     crate, file = words
     folder = f"{TOP}/crates/{crate}"
     to = ["--toolchain", f"{KIT}/toolchain", "-o", os.path.abspath(file)]
-    return subprocess.run(["rattle", "build", *words_of(folder, crate), "--jobs", str(max(1, os.cpu_count() // 2)), *to], cwd=folder).returncode
+    return subprocess.run(["rattle", "build", *words_of(folder, crate), "--jobs", str(os.cpu_count()), *to], cwd=folder).returncode
 
 
 if __name__ == "__main__":
