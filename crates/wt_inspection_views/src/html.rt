@@ -33,47 +33,45 @@ pub fn write_html(
     ensures { IfOk result (λ page. IsPage page.items) }
 {
     let mut page = Page::new(alloc);
-    page.markup(Markup::Head)?;
-    add_all_rows(alloc, &mut page, inspection.items.as_slice(), bytes)?;
-    page.markup(Markup::Items)?;
-    add_items(alloc, &mut page, inspection)?;
-    add_end(alloc, &mut page, inspection.end, bytes.len())?;
-    page.markup(Markup::Tail)?;
-    Ok(page.into_bytes())
+    page.markup(Markup::Head);
+    add_all_rows(&mut page, inspection.items.as_slice(), bytes);
+    page.markup(Markup::Items);
+    add_items(&mut page, inspection);
+    add_end(&mut page, inspection.end, bytes.len());
+    page.markup(Markup::Tail);
+    page.into_bytes()
 }
 
 /// Adds the lines of all items and of their warnings.
-fn add_items(alloc: Global, page: &mut Page, inspection: &Inspection) -> Result<(), AllocError> {
+fn add_items(page: &mut Page, inspection: &Inspection) {
     let mut warnings = inspection.warnings.as_slice();
     for (index, item) in inspection.items.iter().enumerate() {
-        warnings = add_item(alloc, page, index, item, warnings)?;
+        warnings = add_item(page, index, item, warnings);
     }
-    Ok(())
 }
 
 /// Adds the lines of an item and of those of these warnings that are about it, which are marked by
 /// its index. Returns the other warnings.
 fn add_item<'a>(
-    alloc: Global,
     page: &mut Page,
     index: usize,
     item: &Item,
     warnings: &'a [Warning],
-) -> Result<&'a [Warning], AllocError> {
+) -> &'a [Warning] {
     let (here, later) = split_warnings(item, warnings);
-    page.markup(Markup::ItemOf)?;
-    page.index(index)?;
-    page.text(item_lines(alloc, item)?.as_str())?;
-    page.markup(Markup::Warnings)?;
-    page.text(warning_lines(alloc, here)?.as_str())?;
-    page.markup(Markup::ItemEnd)?;
-    Ok(later)
+    page.markup(Markup::ItemOf);
+    page.index(index);
+    page.text(item_lines(page.alloc, item));
+    page.markup(Markup::Warnings);
+    page.text(warning_lines(page.alloc, here));
+    page.markup(Markup::ItemEnd);
+    later
 }
 
 /// Adds the line of how bytes of this length end.
-fn add_end(alloc: Global, page: &mut Page, end: End, length: usize) -> Result<(), AllocError> {
-    page.markup(begin_end(end))?;
-    page.text(end_line(alloc, end, length)?.as_str())
+fn add_end(page: &mut Page, end: End, length: usize) {
+    page.markup(begin_end(end));
+    page.text(end_line(page.alloc, end, length));
 }
 
 /// Returns what begins the line of an end.
@@ -85,44 +83,30 @@ fn begin_end(end: End) -> Markup {
 }
 
 /// Adds the rows of the bytes of all items.
-fn add_all_rows(
-    alloc: Global,
-    page: &mut Page,
-    items: &[Item],
-    bytes: &[u8],
-) -> Result<(), AllocError> {
+fn add_all_rows(page: &mut Page, items: &[Item], bytes: &[u8]) {
     let is_long = bytes.len() > MOST_SHOWN;
     for (index, item) in items.iter().enumerate() {
-        add_rows(alloc, page, index, item, bytes, is_long)?;
+        add_rows(page, index, item, bytes, is_long);
     }
-    Ok(())
 }
 
 /// Adds the rows of an item's bytes, sixteen a row, which are marked by its index.
-fn add_rows(
-    alloc: Global,
-    page: &mut Page,
-    index: usize,
-    item: &Item,
-    bytes: &[u8],
-    is_long: bool,
-) -> Result<(), AllocError> {
+fn add_rows(page: &mut Page, index: usize, item: &Item, bytes: &[u8], is_long: bool) {
     let shown = if is_long { head_of(item) } else { item.length };
-    page.markup(Markup::RowsOf)?;
-    page.index(index)?;
-    add_bytes(alloc, page, item.at, bytes_of(bytes, item.at, shown))?;
-    add_left(alloc, page, item.length.saturating_sub(shown))?;
-    page.markup(Markup::RowsEnd)
+    page.markup(Markup::RowsOf);
+    page.index(index);
+    add_bytes(page, item.at, bytes_of(bytes, item.at, shown));
+    add_left(page, item.length.saturating_sub(shown));
+    page.markup(Markup::RowsEnd);
 }
 
 /// Adds the rows of bytes, which begin at this place.
-fn add_bytes(alloc: Global, page: &mut Page, at: usize, bytes: &[u8]) -> Result<(), AllocError> {
+fn add_bytes(page: &mut Page, at: usize, bytes: &[u8]) {
     let mut place = at;
     for row in bytes.chunks(BYTES_PER_ROW) {
-        page.text(row_of(alloc, place, row)?.as_str())?;
+        page.text(row_of(page.alloc, place, row));
         place = place.saturating_add(BYTES_PER_ROW);
     }
-    Ok(())
 }
 
 /// Returns the row of bytes at this place.
@@ -134,10 +118,10 @@ fn row_of(alloc: Global, place: usize, row: &[u8]) -> Result<String, AllocError>
 }
 
 /// Adds how many bytes of payload are not shown, if some are not.
-fn add_left(alloc: Global, page: &mut Page, left: usize) -> Result<(), AllocError> {
-    match left {
-        0 => Ok(()),
-        _ => page.text(format!(in alloc; "        {left} bytes of payload\n")?.as_str()),
+fn add_left(page: &mut Page, left: usize) {
+    if left > 0 {
+        let alloc = page.alloc;
+        page.text(format!(in alloc; "        {left} bytes of payload\n"));
     }
 }
 

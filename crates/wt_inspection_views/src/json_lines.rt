@@ -39,218 +39,192 @@ pub fn write_json(
     let mut warnings = inspection.warnings.as_slice();
     for item in &inspection.items {
         let shown = shown_of(item, bytes, payload);
-        warnings = write_all_of(alloc, &mut lines, item, shown, warnings)?;
+        warnings = write_all_of(&mut lines, item, shown, warnings);
     }
-    write_end(alloc, &mut lines, inspection.end, bytes.len())?;
-    Ok(lines.into_bytes())
+    write_end(&mut lines, inspection.end, bytes.len());
+    lines.into_bytes()
 }
 
 /// Writes the lines of an item, with these bytes of its payload, and of those of these warnings that
 /// are about it. Returns the others.
 fn write_all_of<'a>(
-    alloc: Global,
     lines: &mut Lines,
     item: &Item,
     shown: &[u8],
     warnings: &'a [Warning],
-) -> Result<&'a [Warning], AllocError> {
+) -> &'a [Warning] {
     let (here, later) = split_warnings(item, warnings);
-    write_item(alloc, lines, item, shown)?;
-    write_warnings(alloc, lines, here)?;
-    Ok(later)
+    write_item(lines, item, shown);
+    write_warnings(lines, here);
+    later
 }
 
 /// Writes the line of an item after these lines, with these bytes of its payload.
-fn write_item(
-    alloc: Global,
-    lines: &mut Lines,
-    item: &Item,
-    shown: &[u8],
-) -> Result<(), AllocError> {
-    let mut object = Object::new(alloc)?;
-    object.add_number("at", item.at as u64)?;
-    object.add_number("length", item.length as u64)?;
-    add_content(alloc, &mut object, &item.content)?;
-    add_shown(alloc, &mut object, shown)?;
+fn write_item(lines: &mut Lines, item: &Item, shown: &[u8]) {
+    let mut object = Object::new(lines.alloc);
+    object.add_number("at", item.at as u64);
+    object.add_number("length", item.length as u64);
+    add_content(&mut object, &item.content);
+    add_shown(&mut object, shown);
     lines.add(object)
 }
 
 /// Adds these bytes of a payload, if there are some.
-fn add_shown(alloc: Global, object: &mut Object, shown: &[u8]) -> Result<(), AllocError> {
-    if shown.is_empty() {
-        return Ok(());
+fn add_shown(object: &mut Object, shown: &[u8]) {
+    if !shown.is_empty() {
+        object.add_hex("hex", shown);
     }
-    object.add_hex(alloc, "hex", shown)
 }
 
 /// Adds what an item is.
-fn add_content(alloc: Global, object: &mut Object, content: &Content) -> Result<(), AllocError> {
+fn add_content(object: &mut Object, content: &Content) {
     match content {
         Content::Stream(head) => add_stream(object, *head),
-        Content::Frame(frame) => add_frame(alloc, object, frame),
+        Content::Frame(frame) => add_frame(object, frame),
         Content::Session(id) => add_session(object, *id),
         Content::Payload => object.add_text("item", "payload"),
-        Content::Capsule(capsule) => add_capsule_item(alloc, object, capsule),
+        Content::Capsule(capsule) => add_capsule_item(object, capsule),
         Content::Datagram(head) => add_datagram(object, *head),
-        Content::Section(section) => add_section_item(alloc, object, section),
-        Content::Settings(settings) => add_settings_item(alloc, object, settings.as_slice()),
+        Content::Section(section) => add_section_item(object, section),
+        Content::Settings(settings) => add_settings_item(object, settings.as_slice()),
         Content::Unread => object.add_text("item", "unread"),
     }
 }
 
 /// Adds the head of a bidirectional WebTransport stream.
-fn add_session(object: &mut Object, id: u64) -> Result<(), AllocError> {
-    object.add_text("item", "session")?;
+fn add_session(object: &mut Object, id: u64) {
+    object.add_text("item", "session");
     object.add_number("session", id)
 }
 
 /// Adds a capsule that no DATA frame contains.
-fn add_capsule_item(
-    alloc: Global,
-    object: &mut Object,
-    capsule: &CapsuleItem,
-) -> Result<(), AllocError> {
-    object.add_text("item", "capsule")?;
-    add_capsule(alloc, object, capsule)
+fn add_capsule_item(object: &mut Object, capsule: &CapsuleItem) {
+    object.add_text("item", "capsule");
+    add_capsule(object, capsule)
 }
 
 /// Adds a field section that no HEADERS frame contains.
-fn add_section_item(
-    alloc: Global,
-    object: &mut Object,
-    section: &FieldSection,
-) -> Result<(), AllocError> {
-    object.add_text("item", "section")?;
-    add_section(alloc, object, section)
+fn add_section_item(object: &mut Object, section: &FieldSection) {
+    object.add_text("item", "section");
+    add_section(object, section)
 }
 
 /// Adds settings that no SETTINGS frame contains.
-fn add_settings_item(
-    alloc: Global,
-    object: &mut Object,
-    settings: &[SettingLine],
-) -> Result<(), AllocError> {
-    object.add_text("item", "settings")?;
-    add_settings(alloc, object, settings)
+fn add_settings_item(object: &mut Object, settings: &[SettingLine]) {
+    object.add_text("item", "settings");
+    add_settings(object, settings)
 }
 
 /// Adds the head of a unidirectional stream.
-fn add_stream(object: &mut Object, head: StreamHead) -> Result<(), AllocError> {
-    object.add_text("item", "stream")?;
-    object.add_text("type", head.name.as_str())?;
-    object.add_number("number", head.number)?;
+fn add_stream(object: &mut Object, head: StreamHead) {
+    object.add_text("item", "stream");
+    object.add_text("type", head.name.as_str());
+    object.add_number("number", head.number);
     match head.session {
         Some(id) => object.add_number("session", id),
-        None => Ok(()),
+        None => {}
     }
 }
 
 /// Adds a frame.
-fn add_frame(alloc: Global, object: &mut Object, frame: &FrameItem) -> Result<(), AllocError> {
-    object.add_text("item", "frame")?;
-    object.add_text("type", frame.name.as_str())?;
-    object.add_number("number", frame.number)?;
-    object.add_number("payload", frame.announced)?;
-    add_present(object, frame)?;
-    add_parts(alloc, object, &frame.parts)
+fn add_frame(object: &mut Object, frame: &FrameItem) {
+    object.add_text("item", "frame");
+    object.add_text("type", frame.name.as_str());
+    object.add_number("number", frame.number);
+    object.add_number("payload", frame.announced);
+    add_present(object, frame);
+    add_parts(object, &frame.parts)
 }
 
 /// Adds how many bytes of a frame's payload are present, if not all.
-fn add_present(object: &mut Object, frame: &FrameItem) -> Result<(), AllocError> {
-    if frame.present as u64 == frame.announced {
-        Ok(())
-    } else {
-        object.add_number("present", frame.present as u64)
+fn add_present(object: &mut Object, frame: &FrameItem) {
+    if frame.present as u64 != frame.announced {
+        object.add_number("present", frame.present as u64);
     }
 }
 
 /// Adds what a frame contains.
-fn add_parts(alloc: Global, object: &mut Object, parts: &Parts) -> Result<(), AllocError> {
+fn add_parts(object: &mut Object, parts: &Parts) {
     match parts {
-        Parts::Opaque => Ok(()),
-        Parts::Fields(section) => add_section(alloc, object, section),
-        Parts::Settings(settings) => add_settings(alloc, object, settings.as_slice()),
-        Parts::Capsules(capsules) => add_capsules(alloc, object, capsules.as_slice()),
+        Parts::Opaque => {}
+        Parts::Fields(section) => add_section(object, section),
+        Parts::Settings(settings) => add_settings(object, settings.as_slice()),
+        Parts::Capsules(capsules) => add_capsules(object, capsules.as_slice()),
     }
 }
 
 /// Adds the head of a datagram.
-fn add_datagram(object: &mut Object, head: DatagramHead) -> Result<(), AllocError> {
-    object.add_text("item", "datagram")?;
-    object.add_number("quarter", head.quarter)?;
-    object.add_number("session", head.session)?;
+fn add_datagram(object: &mut Object, head: DatagramHead) {
+    object.add_text("item", "datagram");
+    object.add_number("quarter", head.quarter);
+    object.add_number("session", head.session);
     object.add_number("payload", head.payload as u64)
 }
 
 /// Writes the lines of warnings after these lines.
-fn write_warnings(
-    alloc: Global,
-    lines: &mut Lines,
-    warnings: &[Warning],
-) -> Result<(), AllocError> {
+fn write_warnings(lines: &mut Lines, warnings: &[Warning]) {
     for warning in warnings {
-        write_warning(alloc, lines, warning)?;
+        write_warning(lines, warning);
     }
-    Ok(())
 }
 
 /// Writes the line of a warning after these lines.
-fn write_warning(alloc: Global, lines: &mut Lines, warning: &Warning) -> Result<(), AllocError> {
-    let mut object = Object::new(alloc)?;
-    object.add_number("at", warning.at as u64)?;
-    object.add_text("item", "warning")?;
-    add_place(&mut object, warning.line)?;
-    object.add_text("why", warning.why)?;
+fn write_warning(lines: &mut Lines, warning: &Warning) {
+    let mut object = Object::new(lines.alloc);
+    object.add_number("at", warning.at as u64);
+    object.add_text("item", "warning");
+    add_place(&mut object, warning.line);
+    object.add_text("why", warning.why);
     lines.add(object)
 }
 
 /// Adds the field line that a warning is about, if it is about one.
-fn add_place(object: &mut Object, line: Option<usize>) -> Result<(), AllocError> {
+fn add_place(object: &mut Object, line: Option<usize>) {
     match line {
         Some(line) => object.add_number("line", line as u64),
-        None => Ok(()),
+        None => {}
     }
 }
 
 /// Writes the line of the end after these lines, where the input has this length.
-fn write_end(alloc: Global, lines: &mut Lines, end: End, length: usize) -> Result<(), AllocError> {
-    let mut object = Object::new(alloc)?;
-    add_end(alloc, &mut object, end, length)?;
+fn write_end(lines: &mut Lines, end: End, length: usize) {
+    let mut object = Object::new(lines.alloc);
+    add_end(&mut object, end, length);
     lines.add(object)
 }
 
 /// Adds how bytes of this length end.
-fn add_end(alloc: Global, object: &mut Object, end: End, length: usize) -> Result<(), AllocError> {
+fn add_end(object: &mut Object, end: End, length: usize) {
     match end {
         End::Whole => add_whole(object, length),
         End::Cut(cut) => add_cut(object, cut),
-        End::Fault(fault) => add_fault(alloc, object, fault),
+        End::Fault(fault) => add_fault(object, fault),
     }
 }
 
 /// Adds the end after this number of bytes.
-fn add_whole(object: &mut Object, length: usize) -> Result<(), AllocError> {
-    object.add_number("at", length as u64)?;
-    object.add_text("item", "end")?;
+fn add_whole(object: &mut Object, length: usize) {
+    object.add_number("at", length as u64);
+    object.add_text("item", "end");
     object.add_text("state", "whole")
 }
 
 /// Adds the end within an item.
-fn add_cut(object: &mut Object, cut: Cut) -> Result<(), AllocError> {
-    object.add_number("at", cut.at as u64)?;
-    object.add_text("item", "end")?;
-    object.add_text("state", "cut")?;
-    object.add_text("of", cut.item)?;
+fn add_cut(object: &mut Object, cut: Cut) {
+    object.add_number("at", cut.at as u64);
+    object.add_text("item", "end");
+    object.add_text("state", "cut");
+    object.add_text("of", cut.item);
     object.add_number("missing", cut.missing)
 }
 
 /// Adds the end at a fault.
-fn add_fault(alloc: Global, object: &mut Object, fault: Fault) -> Result<(), AllocError> {
+fn add_fault(object: &mut Object, fault: Fault) {
     let code = fault.code;
-    object.add_number("at", fault.at as u64)?;
-    object.add_text("item", "end")?;
-    object.add_text("state", "fault")?;
-    object.add_number("code", code.to_code().into_inner())?;
-    object.add_text("name", format!(in alloc; "{code}")?.as_str())?;
+    object.add_number("at", fault.at as u64);
+    object.add_text("item", "end");
+    object.add_text("state", "fault");
+    object.add_number("code", code.to_code().into_inner());
+    object.add_made("name", format!(in object.alloc; "{code}"));
     object.add_text("why", fault.why)
 }

@@ -79,11 +79,14 @@ impl Markup {
     }
 }
 
-/// A page: markup, and text that is escaped.
+/// A page: markup, and text that is escaped. It remembers a failed allocation, so what adds to it
+/// returns nothing.
 #[derive(Drop)]
 pub(super) struct Page {
-    alloc: Global,
+    /// The allocator of the page.
+    pub(super) alloc: Global,
     out: Vec<u8>,
+    is_whole: bool,
 }
 
 // The bytes of the page.
@@ -103,23 +106,46 @@ impl Page {
         Page {
             alloc,
             out: Vec::new(alloc),
+            is_whole: true,
         }
+    }
+
+    /// Remembers whether an addition failed.
+    fn note(&mut self, added: Result<(), AllocError>) {
+        if added.is_err() {
+            self.is_whole = false;
+        }
+    }
+
+    /// Adds markup as it is.
+    pub(super) fn markup(&mut self, markup: Markup) {
+        let added = self.try_markup(markup);
+        self.note(added);
     }
 
     /// Adds markup as it is.
     ///
     /// Returns [`AllocError`] if allocation fails; then the page is as it was.
-    pub(super) fn markup(&mut self, markup: Markup) -> Result<(), AllocError>
+    fn try_markup(&mut self, markup: Markup) -> Result<(), AllocError>
         ensures added { IfOk result (λ _. self.new ≡ self.old ++ markup_bytes markup) }
         ensures kept { OnErr result (self.new ≡ self.old) }
     {
         self.out.extend_from_slice(markup.as_str().as_bytes())
     }
 
+    /// Adds a text for which memory was allocated, escaped.
+    pub(super) fn text(&mut self, text: Result<String, AllocError>) {
+        let added = match text {
+            Ok(text) => self.try_text(text.as_str()),
+            Err(error) => Err(error),
+        };
+        self.note(added);
+    }
+
     /// Adds a text, escaped.
     ///
     /// Returns [`AllocError`] if allocation fails; then the page is as it was.
-    pub(super) fn text(&mut self, text: &str) -> Result<(), AllocError>
+    fn try_text(&mut self, text: &str) -> Result<(), AllocError>
         ensures added { IfOk result (λ _. self.new ≡ self.old ++ html_text text.now) }
         ensures kept { OnErr result (self.new ≡ self.old) }
     {
@@ -128,19 +154,21 @@ impl Page {
     }
 
     /// Adds an index in an attribute, and ends its tag.
-    pub(super) fn index(&mut self, index: usize) -> Result<(), AllocError> {
+    pub(super) fn index(&mut self, index: usize) {
         let alloc = self.alloc;
-        let digits = format!(in alloc; "{index}")?;
-        self.text(digits.as_str())?;
-        self.markup(Markup::TagEnd)
+        self.text(format!(in alloc; "{index}"));
+        self.markup(Markup::TagEnd);
     }
 
-    /// Returns the page.
-    pub(super) fn into_bytes(self) -> Vec<u8>
-        ensures bytes { result.items ≡ self }
-        ensures page { IsPage result.items }
+    /// Returns the page, or [`AllocError`] if an allocation failed meanwhile.
+    pub(super) fn into_bytes(self) -> Result<Vec<u8>, AllocError>
+        ensures { IfOk result (λ page. IsPage page.items) }
     {
-        self.out
+        if self.is_whole {
+            Ok(self.out)
+        } else {
+            Err(AllocError)
+        }
     }
 }
 

@@ -10,10 +10,13 @@ use std::marker::Model;
 /// How many bytes an object has room for before it grows.
 const ROOM: usize = 256;
 
-/// Lines of JSON.
+/// Lines of JSON. They remember a failed allocation, so what adds lines returns nothing.
 #[derive(Drop)]
 pub(super) struct Lines {
+    /// The allocator of the lines.
+    pub(super) alloc: Global,
     text: Vec<u8>,
+    is_whole: bool,
 }
 
 // The bytes of the lines.
@@ -31,14 +34,23 @@ impl Lines {
         ensures { result ≡ [] }
     {
         Lines {
+            alloc,
             text: Vec::new(alloc),
+            is_whole: true,
+        }
+    }
+
+    /// Ends an object, and adds it as a line.
+    pub(super) fn add(&mut self, object: Object) {
+        if self.try_add(object).is_err() {
+            self.is_whole = false;
         }
     }
 
     /// Ends an object, and adds it as a line.
     ///
-    /// Returns [`AllocError`] if allocation fails; then the lines are as they were.
-    pub(super) fn add(&mut self, object: Object) -> Result<(), AllocError>
+    /// Returns [`AllocError`] if allocation failed; then the lines are as they were.
+    fn try_add(&mut self, object: Object) -> Result<(), AllocError>
         ensures added { IfOk result
             (λ _. (line : List ℕ) × IsJsonLine line × (self.new ≡ self.old ++ line)) }
         ensures kept { OnErr result (self.new ≡ self.old) }
@@ -47,89 +59,121 @@ impl Lines {
         self.text.extend_from_slice(line.as_slice())
     }
 
-    /// Returns the lines.
-    pub(super) fn into_bytes(self) -> Vec<u8>
-        ensures bytes { result.items ≡ self }
-        ensures lines { AreJsonLines result.items }
+    /// Returns the lines, or [`AllocError`] if an allocation failed meanwhile.
+    pub(super) fn into_bytes(self) -> Result<Vec<u8>, AllocError>
+        ensures { IfOk result (λ text. AreJsonLines text.items) }
     {
-        self.text
+        if self.is_whole {
+            Ok(self.text)
+        } else {
+            Err(AllocError)
+        }
     }
 }
 
-/// An object whose members are added in order. It has a writer of its own, since the kit's fills up
-/// to 16 KiB after a long text, and takes them back when it ends.
+/// An object whose members are added in order. It remembers a failed allocation, so what adds
+/// members returns nothing. It has a writer of its own, since the kit's fills up to 16 KiB after a
+/// long text, and takes them back when it ends.
 #[derive(Drop)]
 pub(super) struct Object {
+    /// The allocator of the object.
+    pub(super) alloc: Global,
     out: Writer<Global>,
+    is_whole: bool,
     ghost alone: { out.before ≡ [] },
 }
 
 impl Object {
     /// Creates an object without members.
-    pub(super) fn new(alloc: Global) -> Result<Self, AllocError> {
-        let mut out = Writer::new(Vec::with_capacity(alloc, ROOM)?);
-        out.begin_object()?;
-        Ok(Object { out })
+    pub(super) fn new(alloc: Global) -> Self {
+        let mut text = Vec::new(alloc);
+        let reserved = text.reserve(ROOM);
+        let mut out = Writer::new(text);
+        let begun = out.begin_object();
+        Object {
+            alloc,
+            out,
+            is_whole: reserved.and(begun).is_ok(),
+        }
+    }
+
+    /// Remembers whether an addition failed.
+    fn note(&mut self, added: Result<(), AllocError>) {
+        if added.is_err() {
+            self.is_whole = false;
+        }
     }
 
     /// Adds a member that is a number.
-    pub(super) fn add_number(&mut self, name: &str, number: u64) -> Result<(), AllocError> {
-        self.out.key(name)?;
-        self.out.u64(number)
+    pub(super) fn add_number(&mut self, name: &str, number: u64) {
+        self.add_name(name);
+        let added = self.out.u64(number);
+        self.note(added);
     }
 
     /// Adds a member that is a string.
-    pub(super) fn add_text(&mut self, name: &str, text: &str) -> Result<(), AllocError> {
-        self.out.key(name)?;
-        self.out.string(text)
+    pub(super) fn add_text(&mut self, name: &str, text: &str) {
+        self.add_name(name);
+        let added = self.out.string(text);
+        self.note(added);
+    }
+
+    /// Adds a member that is a string for which memory was allocated.
+    pub(super) fn add_made(&mut self, name: &str, text: Result<String, AllocError>) {
+        match text {
+            Ok(text) => self.add_text(name, text.as_str()),
+            Err(_) => self.is_whole = false,
+        }
     }
 
     /// Adds a member that is the hexadecimal digits of bytes.
-    pub(super) fn add_hex(
-        &mut self,
-        alloc: Global,
-        name: &str,
-        bytes: &[u8],
-    ) -> Result<(), AllocError> {
-        self.add_text(name, digits_of(alloc, bytes)?.as_str())
+    pub(super) fn add_hex(&mut self, name: &str, bytes: &[u8]) {
+        let digits = digits_of(self.alloc, bytes);
+        self.add_made(name, digits);
     }
 
     /// Adds the name of a member. Its value is added next.
-    pub(super) fn add_name(&mut self, name: &str) -> Result<(), AllocError> {
-        self.out.key(name)
+    pub(super) fn add_name(&mut self, name: &str) {
+        let added = self.out.key(name);
+        self.note(added);
     }
 
     /// Adds what a peer sent as a value: a string, or an object with its hexadecimal digits.
-    pub(super) fn add_value(&mut self, alloc: Global, bytes: &[u8]) -> Result<(), AllocError> {
+    pub(super) fn add_value(&mut self, bytes: &[u8]) {
         if let Some(text) = shown_text(bytes) {
-            return self.out.string(text);
+            let added = self.out.string(text);
+            return self.note(added);
         }
-        self.begin_object()?;
-        self.add_hex(alloc, "hex", bytes)?;
-        self.end_object()
+        self.begin_object();
+        self.add_hex("hex", bytes);
+        self.end_object();
     }
 
     /// Begins a value that is a list.
-    pub(super) fn begin_array(&mut self) -> Result<(), AllocError> {
-        self.out.begin_array()
+    pub(super) fn begin_array(&mut self) {
+        let added = self.out.begin_array();
+        self.note(added);
     }
 
     /// Ends a list.
-    pub(super) fn end_array(&mut self) -> Result<(), AllocError> {
-        self.out.end_array()
+    pub(super) fn end_array(&mut self) {
+        let added = self.out.end_array();
+        self.note(added);
     }
 
     /// Begins a value that is an object.
-    pub(super) fn begin_object(&mut self) -> Result<(), AllocError> {
-        self.out.begin_object()
+    pub(super) fn begin_object(&mut self) {
+        let added = self.out.begin_object();
+        self.note(added);
     }
 
     /// Ends an object within this one.
-    pub(super) fn end_object(&mut self) -> Result<(), AllocError> {
-        self.out.end_object()
+    pub(super) fn end_object(&mut self) {
+        let added = self.out.end_object();
+        self.note(added);
     }
 
-    /// Ends the object, and returns its line.
+    /// Ends the object, and returns its line, or [`AllocError`] if an allocation failed meanwhile.
     fn into_line(self) -> Result<Vec<u8>, AllocError>
         ensures { IfOk result (λ line. IsJsonLine line.items) }
     {
@@ -137,7 +181,11 @@ impl Object {
         out.end_object()?;
         let mut line = out.into_inner();
         line.push(b'\n')?;
-        Ok(line)
+        if self.is_whole {
+            Ok(line)
+        } else {
+            Err(AllocError)
+        }
     }
 }
 

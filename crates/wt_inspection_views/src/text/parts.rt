@@ -1,7 +1,7 @@
 //! The lines below an item.
 
+use super::lines::Lines;
 use crate::escaped::{add_escaped, add_hex_byte};
-use crate::plain::PlainText;
 use std::alloc::{AllocError, Global};
 use wt_items::item::{
     CapsuleItem, CloseReason, FieldSection, Line, SectionFault, SettingFlag, SettingLine, Warning,
@@ -20,70 +20,52 @@ pub(super) fn count_bytes(alloc: Global, count: u64) -> Result<String, AllocErro
 }
 
 /// Adds the lines of a field section: a line for each field, and one for the fault that ends it.
-pub(super) fn add_fields(
-    alloc: Global,
-    text: &mut PlainText,
-    section: &FieldSection,
-) -> Result<(), AllocError> {
+pub(super) fn add_fields(text: &mut Lines, section: &FieldSection) {
     for line in &section.lines {
-        add_field(alloc, text, line)?;
+        text.add_made(words_of_field(text.alloc, line));
     }
     match section.fault {
-        None => Ok(()),
-        Some(fault) => add_stop(alloc, text, fault, section.insert_count),
+        None => {}
+        Some(fault) => add_stop(text, fault, section.insert_count),
     }
 }
 
 /// Adds the line of why the lines of a section end early.
-fn add_stop(
-    alloc: Global,
-    text: &mut PlainText,
-    fault: SectionFault,
-    insert_count: Option<u64>,
-) -> Result<(), AllocError> {
+fn add_stop(text: &mut Lines, fault: SectionFault, insert_count: Option<u64>) {
     match (fault, insert_count) {
         (SectionFault::Malformed(fault), _) => {
-            text.add_line(format!(in alloc; "        malformed: {fault}")?.as_str())
+            text.add_made(format!(in text.alloc; "        malformed: {fault}"))
         }
-        (SectionFault::NeedsDynamicTable, None) => text.add_line("        needs the dynamic table"),
+        (SectionFault::NeedsDynamicTable, None) => text.add("        needs the dynamic table"),
         (SectionFault::NeedsDynamicTable, Some(count)) => {
             let words = "needs the dynamic table, encoded Required Insert Count";
-            text.add_line(format!(in alloc; "        {words} {count}")?.as_str())
+            text.add_made(format!(in text.alloc; "        {words} {count}"))
         }
     }
 }
 
-/// Adds the line of a field.
-fn add_field(alloc: Global, text: &mut PlainText, field: &Line) -> Result<(), AllocError> {
+/// Returns the line of a field.
+fn words_of_field(alloc: Global, field: &Line) -> Result<String, AllocError> {
     let mut words = String::from_str(alloc, "        ")?;
     add_escaped(&mut words, field.name.as_slice())?;
     words.push_str(" = ")?;
     add_escaped(&mut words, field.value.as_slice())?;
-    text.add_line(words.as_str())
+    Ok(words)
 }
 
 /// Adds the lines of settings.
-pub(super) fn add_settings(
-    alloc: Global,
-    text: &mut PlainText,
-    settings: &[SettingLine],
-) -> Result<(), AllocError> {
+pub(super) fn add_settings(text: &mut Lines, settings: &[SettingLine]) {
     for setting in settings {
-        add_setting(alloc, text, setting)?;
+        text.add_made(words_of_setting(text.alloc, setting));
     }
-    Ok(())
 }
 
-/// Adds the line of a setting.
-fn add_setting(
-    alloc: Global,
-    text: &mut PlainText,
-    setting: &SettingLine,
-) -> Result<(), AllocError> {
+/// Returns the line of a setting.
+fn words_of_setting(alloc: Global, setting: &SettingLine) -> Result<String, AllocError> {
     let SettingLine { id, value, .. } = *setting;
     let name = name_setting(alloc, setting)?;
     let flag = words_of_flag(setting.flag);
-    text.add_line(format!(in alloc; "        {name} ({id:#x}) = {value}{flag}")?.as_str())
+    format!(in alloc; "        {name} ({id:#x}) = {value}{flag}")
 }
 
 /// Returns what a line says of a setting with this flag.
@@ -106,18 +88,15 @@ pub(crate) fn name_setting(alloc: Global, setting: &SettingLine) -> Result<Strin
 }
 
 /// Adds the lines of a capsule: indented, unless it is an item of its own with a place.
-pub(super) fn add_capsule(
-    alloc: Global,
-    text: &mut PlainText,
-    at: Option<usize>,
-    capsule: &CapsuleItem,
-) -> Result<(), AllocError> {
-    let more = words_of_capsule(alloc, capsule)?;
-    let line = line_of_capsule(alloc, at, more.as_str())?;
-    text.add_line(line.as_str())?;
+pub(super) fn add_capsule(text: &mut Lines, at: Option<usize>, capsule: &CapsuleItem) {
+    let more = words_of_capsule(text.alloc, capsule);
+    match at {
+        Some(at) => text.add_head(at, "capsule", more),
+        None => text.add_made(indented(text.alloc, more)),
+    }
     match &capsule.close {
-        None => Ok(()),
-        Some(close) => add_close(alloc, text, close),
+        None => {}
+        Some(close) => add_close(text, close),
     }
 }
 
@@ -132,61 +111,58 @@ fn words_of_capsule(alloc: Global, capsule: &CapsuleItem) -> Result<String, Allo
     }
 }
 
-/// Returns the line of a capsule, which ends with these words.
-fn line_of_capsule(alloc: Global, at: Option<usize>, more: &str) -> Result<String, AllocError> {
-    match at {
-        Some(at) => format!(in alloc; "{at:<5} capsule            {more}"),
-        None => format!(in alloc; "        capsule          {more}"),
-    }
+/// Returns the line of a capsule without a place of its own, which ends with these words.
+fn indented(alloc: Global, more: Result<String, AllocError>) -> Result<String, AllocError> {
+    let more = more?;
+    format!(in alloc; "        capsule          {more}")
 }
 
 /// Adds the lines of why a session is closed.
-fn add_close(alloc: Global, text: &mut PlainText, close: &CloseReason) -> Result<(), AllocError> {
+fn add_close(text: &mut Lines, close: &CloseReason) {
     let code = close.code;
-    text.add_line(format!(in alloc; "            code = {code}")?.as_str())?;
+    text.add_made(format!(in text.alloc; "            code = {code}"));
+    text.add_made(words_of_reason(text.alloc, close));
+}
+
+/// Returns the line of the reason for which a session is closed.
+fn words_of_reason(alloc: Global, close: &CloseReason) -> Result<String, AllocError> {
     let mut words = String::from_str(alloc, "            reason = ")?;
     add_escaped(&mut words, close.reason.as_bytes())?;
-    text.add_line(words.as_str())
+    Ok(words)
 }
 
 /// Adds the lines of warnings.
-pub(super) fn add_warnings(
-    alloc: Global,
-    text: &mut PlainText,
-    warnings: &[Warning],
-) -> Result<(), AllocError> {
+pub(super) fn add_warnings(text: &mut Lines, warnings: &[Warning]) {
     for warning in warnings {
-        add_warning(alloc, text, warning)?;
+        add_warning(text, warning);
     }
-    Ok(())
 }
 
 /// Adds the line of a warning. Field lines are counted from 1.
-fn add_warning(alloc: Global, text: &mut PlainText, warning: &Warning) -> Result<(), AllocError> {
+fn add_warning(text: &mut Lines, warning: &Warning) {
     let why = warning.why;
     match warning.line {
         Some(line) => {
             let place = line.saturating_add(1);
-            text.add_line(format!(in alloc; "        warning: field {place}: {why}")?.as_str())
+            text.add_made(format!(in text.alloc; "        warning: field {place}: {why}"))
         }
-        None => text.add_line(format!(in alloc; "        warning: {why}")?.as_str()),
+        None => text.add_made(format!(in text.alloc; "        warning: {why}")),
     }
 }
 
 /// Adds lines of bytes in hexadecimal digits.
-pub(super) fn add_hex(alloc: Global, text: &mut PlainText, bytes: &[u8]) -> Result<(), AllocError> {
+pub(super) fn add_hex(text: &mut Lines, bytes: &[u8]) {
     for row in bytes.chunks(BYTES_PER_LINE) {
-        add_hex_line(alloc, text, row)?;
+        text.add_made(hex_line(text.alloc, row));
     }
-    Ok(())
 }
 
-/// Adds a line of bytes.
-fn add_hex_line(alloc: Global, text: &mut PlainText, row: &[u8]) -> Result<(), AllocError> {
+/// Returns the line of some bytes.
+fn hex_line(alloc: Global, row: &[u8]) -> Result<String, AllocError> {
     let mut words = String::with_capacity(alloc, 8 + 3 * BYTES_PER_LINE)?;
     words.push_str("       ")?;
     add_digits(&mut words, row)?;
-    text.add_line(words.as_str())
+    Ok(words)
 }
 
 /// Adds the hexadecimal digits of bytes, with a blank before each byte.

@@ -1,7 +1,7 @@
 use Rattle.std.proofs.Common.{is_ok, sym, subst}
 use Rattle.wt_inspection_views.specs.JsonLines.{IsJsonLine}
 use Rattle.wt_inspection_views.proofs.JsonLemmas.{AreJsonLines-pushed}
-use Rattle.wt_inspection_views.proofs.json_lines.object.Lines.add.Goals as goal
+use Rattle.wt_inspection_views.proofs.json_lines.object.Lines.try_add.Goals as goal
 
 -- src/json_lines/object.rt:41:5
 pub invariant_of-self : goal.invariant_of-self

@@ -1,7 +1,7 @@
 use Rattle.std.proofs.Common.{◌≡◌, ◌++◌, List, ℕ, cond, is_ok, subst, ap, ◌∙◌}
 use Rattle.wt_inspection_views.specs.Html.{text, html_text}
 use Rattle.wt_inspection_views.proofs.PageLemmas.{IsPage-pushed}
-use Rattle.wt_inspection_views.proofs.html.page.Page.text.Goals as goal
+use Rattle.wt_inspection_views.proofs.html.page.Page.try_text.Goals as goal
 
 pub invariant_of-self : goal.invariant_of-self
 invariant_of-self c =

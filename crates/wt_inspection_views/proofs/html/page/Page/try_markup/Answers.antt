@@ -1,7 +1,7 @@
 use Rattle.std.proofs.Common.{◌≡◌, ◌++◌, List, ℕ, cond, is_ok, subst, ◌∙◌}
 use Rattle.wt_inspection_views.specs.Html.{markup, markup_bytes}
 use Rattle.wt_inspection_views.proofs.PageLemmas.{IsPage-pushed}
-use Rattle.wt_inspection_views.proofs.html.page.Page.markup.Goals as goal
+use Rattle.wt_inspection_views.proofs.html.page.Page.try_markup.Goals as goal
 
 pub invariant_of-self : goal.invariant_of-self
 invariant_of-self c =

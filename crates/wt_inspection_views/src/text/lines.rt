@@ -1,0 +1,72 @@
+//! Lines of text that remember a failed allocation.
+ghost use Rattle.std.specs.Prelude.{IfOk, string_bytes};
+ghost use Rattle.wt_inspection_views.specs.Escaped.{IsClean};
+
+use super::parts::count_bytes;
+use crate::plain::PlainText;
+use std::alloc::{AllocError, Global};
+
+/// Lines that are added one after another. They remember a failed allocation, so what adds lines
+/// returns nothing.
+#[derive(Drop)]
+pub(super) struct Lines {
+    /// The allocator of the lines.
+    pub(super) alloc: Global,
+    text: PlainText,
+    is_whole: bool,
+}
+
+impl Lines {
+    /// Creates no lines.
+    pub(super) fn new(alloc: Global) -> Self {
+        Lines {
+            alloc,
+            text: PlainText::new(alloc),
+            is_whole: true,
+        }
+    }
+
+    /// Remembers that an allocation failed.
+    pub(super) fn lose(&mut self) {
+        self.is_whole = false;
+    }
+
+    /// Adds a line of these words.
+    pub(super) fn add(&mut self, words: &str) {
+        if self.text.add_line(words).is_err() {
+            self.lose();
+        }
+    }
+
+    /// Adds a line of words for which memory was allocated.
+    pub(super) fn add_made(&mut self, words: Result<String, AllocError>) {
+        match words {
+            Ok(words) => self.add(words.as_str()),
+            Err(_) => self.lose(),
+        }
+    }
+
+    /// Adds the line of an item: its place, what it is, and more of it.
+    pub(super) fn add_head(&mut self, at: usize, what: &str, more: Result<String, AllocError>) {
+        match more {
+            Ok(more) => self.add_made(format!(in self.alloc; "{at:<5} {what:<18} {more}")),
+            Err(_) => self.lose(),
+        }
+    }
+
+    /// Adds the line of an item with its number of bytes.
+    pub(super) fn add_size(&mut self, at: usize, what: &str, size: u64) {
+        self.add_head(at, what, count_bytes(self.alloc, size));
+    }
+
+    /// Returns the text, or [`AllocError`] if an allocation failed meanwhile.
+    pub(super) fn into_text(self) -> Result<String, AllocError>
+        ensures { IfOk result (λ t. IsClean (string_bytes t)) }
+    {
+        if self.is_whole {
+            Ok(self.text.into_text())
+        } else {
+            Err(AllocError)
+        }
+    }
+}
