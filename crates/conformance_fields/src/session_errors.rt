@@ -22,7 +22,7 @@ fn assert_shown(rt: &impl Abort, alloc: Global, error: &impl Display, text: &str
 }
 
 /// Asserts it of each error.
-pub(crate) fn assert_texts<E: Display>(rt: &impl Abort, alloc: Global, rows: &[(E, &str)]) {
+fn assert_texts<E: Display>(rt: &impl Abort, alloc: Global, rows: &[(E, &str)]) {
     for (error, text) in rows {
         assert_shown(rt, alloc, error, text);
     }

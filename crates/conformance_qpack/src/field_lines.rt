@@ -2,7 +2,7 @@
 use crate::same::same;
 use std::alloc::Global;
 use std::process::Abort;
-use wtp_fields::qpack::{DecodingError, FieldLine, FieldLines, FieldRoom};
+use wtp_qpack::qpack::{DecodingError, FieldLine, FieldLines, FieldRoom};
 
 /// What the next call answers: nothing, a fault, or whether the line is this field.
 type Taken = Option<Result<bool, DecodingError>>;

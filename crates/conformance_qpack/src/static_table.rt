@@ -3,7 +3,7 @@ use crate::same::same;
 use crate::sections::{FaultRow, assert_decoded, assert_encoded, assert_faults, join};
 use std::alloc::Global;
 use std::process::Abort;
-use wtp_fields::qpack::DecodingError;
+use wtp_qpack::qpack::DecodingError;
 
 /// The names and values of a table.
 type Entries = &'static [(&'static str, &'static str)];

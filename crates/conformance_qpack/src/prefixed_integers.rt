@@ -4,7 +4,7 @@ use crate::same::same;
 use crate::sections::{FaultRow, assert_come_back, assert_decoded, assert_faults, encode, join};
 use std::alloc::Global;
 use std::process::Abort;
-use wtp_fields::qpack::DecodingError;
+use wtp_qpack::qpack::DecodingError;
 
 /// Letters whose text is as long in the Huffman code, where each is 0xfd.
 static Z: [u8; 2139] = [b'Z'; 2139];

@@ -5,7 +5,7 @@ use std::alloc::{AllocError, Global};
 use std::collections::BTreeMap;
 use std::fmt::Display;
 use std::process::Abort;
-use wtp_fields::qpack::{Decoder, DecodingError, Encoder};
+use wtp_qpack::qpack::{Decoder, DecodingError, Encoder};
 
 /// The fields of a section.
 type Fields = BTreeMap<String, String>;

@@ -4,7 +4,7 @@ use crate::same::same;
 use crate::sections::{assert_decoded, decode, join};
 use std::alloc::Global;
 use std::process::Abort;
-use wtp_fields::qpack::DecodingError;
+use wtp_qpack::qpack::DecodingError;
 
 /// What a line is, its least and its greatest first byte, and what is answered where nothing
 /// follows the byte: a line of the dynamic table is refused by its first byte, and any other is
