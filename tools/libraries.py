@@ -1,17 +1,21 @@
 """The crates of crates.txt, and the words by which `rattle` checks one of them over the libraries that `rt ci` leaves.
 
-    python3 tools/libraries.py NAME FILE
+    python3 tools/libraries.py NAME FILE [LINES]
 
-builds the static library NAME so, and writes it to FILE.
+builds the static library NAME so, and writes it to FILE. With LINES, a file to which an `rt ci` is writing its lines, it
+waits until that has proved NAME.
 
 `rt ci` leaves each library in `crates/NAME/out/rlib`, and `rt lib` does not take these up: it would prove all of them once
 more. They match the sources only until one changes, so nothing but `.ci/run` uses them.
 """
 
 import os
+import re
 import shutil
 import subprocess
 import sys
+import tempfile
+import time
 
 TOP = os.path.dirname(os.path.dirname(os.path.realpath(__file__)))
 KIT = os.path.dirname(os.path.dirname(os.path.realpath(shutil.which("rattle") or "rattle")))
@@ -50,13 +54,52 @@ def words_of(folder, crate, elsewhere=None):
     return [*words, "--antt-project", f"{KIT}/rattle/logic/antt-project.json", "--logic-built", f"{KIT}/logic_built"]
 
 
+class Beside:
+    """An `rt ci` whose lines are being written to a file, or none, and a folder for copies of its libraries."""
+
+    def __init__(self, path, room):
+        self.path, self.room, self.caller, self.taken = path, room, os.getppid(), {}
+
+    def has_said(self, pattern):
+        with open(self.path, encoding="utf-8", errors="replace") as it:
+            return re.search(pattern, it.read(), re.M)
+
+    def has_ended(self):
+        """Returns whether nothing more comes, as when the script that called both was killed."""
+        return not self.path or os.getppid() != self.caller or self.has_said(r"^rt ci has ended$")
+
+    def proves(self, crate):
+        """Waits until `rt ci` has proved a crate, and returns whether it has."""
+        while True:
+            # (asked first, since its last lines may come in between)
+            has_ended = self.has_ended()
+            if self.has_said(rf"^rt: {crate} (proved|is kept)\b"):
+                return True
+            if has_ended or self.has_said(rf"^rt: {crate} NOT PROVED"):
+                return False
+            time.sleep(1)
+
+    def take(self, crate):
+        """Copies a library that `rt ci` has proved, since it may put another in its place when it ends."""
+        if crate not in self.taken:
+            shutil.copytree(f"{TOP}/crates/{crate}/out/rlib", f"{self.room}/libraries/{crate}")
+            self.taken[crate] = f"{self.room}/libraries/{crate}"
+
+
 def main(words):
-    if len(words) != 2 or words[0] not in rows():
-        sys.exit("usage: python3 tools/libraries.py NAME FILE, with a crate of crates.txt")
-    crate, file = words
+    if len(words) not in (2, 3) or words[0] not in rows():
+        sys.exit("usage: python3 tools/libraries.py NAME FILE [LINES], with a crate of crates.txt")
+    crate, file, *lines = words
     folder = f"{TOP}/crates/{crate}"
     to = ["--toolchain", f"{KIT}/toolchain", "-o", os.path.abspath(file)]
-    return subprocess.run(["rattle", "build", *words_of(folder, crate), "--jobs", str(os.cpu_count()), *to], cwd=folder).returncode
+    with tempfile.TemporaryDirectory() as room:
+        beside = Beside(lines[0] if lines else "", room)
+        if lines and not beside.proves(crate):
+            sys.exit(f"{crate} is not built, since rt ci has not proved it")
+        for it in libraries_below([crate]) if lines else []:
+            beside.take(it)
+        jobs = ["--jobs", str(max(1, os.cpu_count() // 2))]
+        return subprocess.run(["rattle", "build", *words_of(folder, crate, beside.taken), *jobs, *to], cwd=folder).returncode
 
 
 if __name__ == "__main__":
