@@ -63,7 +63,10 @@ typedef struct wt_stream_header {
   uint64_t session; /* of a WebTransport stream; otherwise 0 */
 } wt_stream_header;
 
-/* Reads the header at the start of a stream.
+/* Reads the header at the start of a stream. After that of a control stream come frames
+   (WT_READ_CONTROL), after that of a WebTransport stream the application's bytes, after those of QPACK
+   the instructions for dynamic tables, which this library has not, and what comes after a reserved one
+   is to be ignored.
    WT_OK: *header is the header, and *consumed its size.
    WT_MORE: there are too few bytes; *consumed is 0.
    WT_FAULT: *code is 0x103 for an unknown type, after which the stream alone is no longer read, or
@@ -95,12 +98,13 @@ int wt_datagram_write_head(uint64_t session, uint8_t *out, size_t room, size_t *
 /* ---- Frames that are read (RFC 9114, section 7.1) ---- */
 
 enum {
-  WT_READ_BI_REMOTE = 0, /* a bidirectional stream that the peer opened: DATA, HEADERS, and a
-                            WebTransport frame as the first */
-  WT_READ_BI_LOCAL = 1,  /* a bidirectional stream that was opened here: DATA, HEADERS */
+  WT_READ_BI_REMOTE = 0, /* a bidirectional stream that the peer opened, as a server reads requests:
+                            DATA, HEADERS, and a WebTransport frame as the first */
+  WT_READ_BI_LOCAL = 1,  /* a bidirectional stream that was opened here, as a client reads responses:
+                            DATA, HEADERS */
   WT_READ_CONTROL = 2,   /* the peer's control stream, after its header: SETTINGS */
-  WT_READ_SESSION = 3    /* the stream of a session, after its request or response: DATA, HEADERS. A
-                            reader of the whole stream may also go on */
+  WT_READ_SESSION = 3    /* the stream of a session, by a reader that begins after the request or the
+                            response: DATA, HEADERS. The reader of these can go on instead */
 };
 
 /* All that reading the frames of a stream remembers between two calls. wt_reader_new makes one, and
@@ -125,13 +129,16 @@ int wt_reader_new(uint8_t kind, wt_reader *reader);
 
 /* Reads the next frame from the bytes after those that were consumed before. Frames of unknown types
    are skipped, also piece by piece. Those of types reserved for exercise are returned, and are to be
-   ignored (RFC 9114, section 7.2.8). Which frame may follow which is for the caller to check, as that
-   HEADERS come before DATA, but for a WebTransport frame, which has to be the first.
+   ignored (RFC 9114, section 7.2.8). Unknown are all types but those of WT_FRAME_.. and the reserved
+   ones, GOAWAY among them, and those of HTTP/2, which RFC 9114, section 7.2.8, forbids. Which frame may
+   follow which is for the caller to check, as that HEADERS come before DATA, but for a WebTransport
+   frame, which has to be the first: a frame that is skipped does not count, and a reserved one does.
    WT_OK: *frame is the next frame. The next call begins after the first *consumed bytes.
    WT_MORE: there is no complete frame. The bytes after the first *consumed, at most 4111, are to be
    given again, with more bytes after them.
-   WT_FAULT: *code is 0x105 or 0x106 for a frame that the stream does not allow, 0x108 for an invalid
-   session ID, or 0x107 for a payload above 4096 bytes; *consumed is 0, and the reader stays.
+   WT_FAULT: *code is 0x105 for a frame that the stream does not allow, 0x106 for a WebTransport frame
+   that is not the first of a stream that the peer opened, 0x108 for an invalid session ID, or 0x107 for
+   a payload above 4096 bytes; *consumed is 0, and the reader stays.
    WT_INVALID: *reader is not a reader.
    However a stream is cut into pieces, its frames and its first fault are the same. After a
    WebTransport frame all bytes are the application's: do not call this for them. */
@@ -174,7 +181,9 @@ typedef struct wt_setting {
   uint64_t value;
 } wt_setting;
 
-/* Reads the payload of a SETTINGS frame. Unknown identifiers are left out. It allocates.
+/* Reads the payload of a SETTINGS frame. Unknown identifiers are left out, and those reserved for
+   exercise, 0x21 + 0x1f * n, are not. A value may be any number: whether the setting allows it is for
+   the caller to check. It allocates.
    WT_OK: the settings are the first *count, in ascending order of their identifiers.
    WT_ROOM: `settings` is too short and did not change; *count is the room that is needed.
    WT_FAULT: *code is 0x106 if the payload is cut, or 0x109 for an identifier that is repeated or
@@ -190,7 +199,8 @@ int wt_settings_write(const wt_setting *settings, size_t count, uint8_t *out, si
                       size_t *used);
 
 /* Writes the name of a setting in ASCII, without a final zero, as SETTINGS_H3_DATAGRAM; or its number,
-   as 0x21, if it is reserved for exercise. It allocates.
+   as 0x21, if it is reserved for exercise. No name, here and below, has more than 64 bytes. It
+   allocates.
    WT_OK, WT_ROOM: as above. WT_INVALID: the setting is unknown. WT_MEMORY. */
 int wt_setting_name(uint64_t id, char *out, size_t room, size_t *used);
 
@@ -219,10 +229,12 @@ int wt_fields_write(const wt_field *fields, size_t count, const uint8_t *texts, 
 
 /* ---- Sessions (RFC 9220, section 3; WebTransport over HTTP/3) ---- */
 
-/* Writes the HEADERS frame of the request for the session at a URL, with these fields too. Of fields
-   with the same name the last one alone is written. Names are written as they are: HTTP/3 wants them
-   in lower case (RFC 9114, section 4.2). Pseudo-header fields come first, and each group is in the
-   byte order of the names. It allocates.
+/* Writes the HEADERS frame of the request for the session at a URL, with these fields too. The URL is
+   read as the URL Standard describes: its host is sent in lower case, port 443 and a fragment are not
+   sent. A user name and a password in it are sent in :authority, which RFC 9114, section 4.3.1, forbids.
+   Of fields with the same name the last one alone is written. Names are written as they are: HTTP/3
+   wants them in lower case (RFC 9114, section 4.2). Pseudo-header fields come first, and each group is
+   in the byte order of the names. It allocates.
    WT_OK, WT_ROOM: as above. WT_INVALID: the URL is not one or its scheme is not https, or a field is
    not within the texts, is not UTF-8, or has a name that a request sets itself (:method, :scheme,
    :protocol, :authority, :path). WT_MEMORY. */
@@ -230,9 +242,9 @@ int wt_request_write(const uint8_t *url, size_t url_length, const wt_field *fiel
                      const uint8_t *texts, size_t texts_length, uint8_t *out, size_t room,
                      size_t *used);
 
-/* Reads the request in a field section, and writes its authority and then its path to `out`. Its
-   other fields are read by wt_fields_read. Of a repeated name, that of a pseudo-header field too, the
-   last value counts; wt_fields_read shows all. It allocates.
+/* Reads the request in a field section, the payload of a HEADERS frame, and writes its authority and
+   then its path to `out`. wt_fields_read reads all of its fields, the pseudo-header fields too. Of a
+   repeated name, that of a pseudo-header field too, the last value counts. It allocates.
    WT_OK, WT_ROOM: as above, and *authority is the size of the authority.
    WT_FAULT: *code is 0x200 for a section with a fault, or 0x10e for one that is not a request.
    WT_MEMORY. WT_INVALID: the section has 2^62 bytes. */
@@ -271,7 +283,7 @@ int wt_request_fault_name(int fault, char *out, size_t room, size_t *used);
 int wt_response_write(uint32_t status, const wt_field *fields, size_t count, const uint8_t *texts,
                       size_t texts_length, uint8_t *out, size_t room, size_t *used);
 
-/* Reads the response in a field section. It allocates.
+/* Reads the response in a field section, the payload of a HEADERS frame. It allocates.
    WT_OK: *status is its status.
    WT_FAULT: *code is 0x200 for a section with a fault, or 0x10e for one without a status from 100 to
    599. WT_MEMORY. WT_INVALID: the section has 2^62 bytes. */

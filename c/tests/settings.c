@@ -75,6 +75,10 @@ void test_settings(void) {
   named(0x07, "SETTINGS_QPACK_BLOCKED_STREAMS");
   named(0x08, "SETTINGS_ENABLE_CONNECT_PROTOCOL");
   named(0x33, "SETTINGS_H3_DATAGRAM");
+  named(0x2b603742, "SETTINGS_ENABLE_WEBTRANSPORT");
+  named(0xc671706a, "SETTINGS_WEBTRANSPORT_MAX_SESSIONS");
+  named(0x21, "0x21");
+  named(0x3ffffffffffffffe, "0x3ffffffffffffffe");
   CHECK(wt_setting_name(0x02, NULL, 0, &used) == WT_INVALID && used == 99);
   CHECK(wt_setting_name(UINT64_MAX, NULL, 0, &used) == WT_INVALID && used == 99);
 }
