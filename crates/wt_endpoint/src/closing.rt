@@ -15,7 +15,7 @@ pub enum Closing {
     Connection(VarInt),
 }
 
-/// Returns what to close after a fault of a stream.
+/// Returns what to close after a fault of the frames of a stream.
 pub fn after_fault(fault: &stream::IoReadError) -> Closing {
     match fault {
         stream::IoReadError::H3(code) => after_code(*code),
@@ -23,14 +23,22 @@ pub fn after_fault(fault: &stream::IoReadError) -> Closing {
     }
 }
 
-/// Returns what to close after an error code. `StreamCreation` is that of an unknown stream type
-/// here, which must not end the connection (RFC 9114, section 6.2); the other codes of either scope
-/// end it.
-pub fn after_code(code: ErrorCode) -> Closing {
-    match (code.scope(), code) {
-        (ErrorScope::Stream, _) | (_, ErrorCode::StreamCreation) => {
-            Closing::Stream(code.to_code())
+/// Returns what to close after a fault of the header of a unidirectional stream. The peer may end a
+/// stream inside its header, and an unknown type ends the stream alone (RFC 9114, section 6.2).
+pub fn after_header_fault(fault: &stream::IoReadError) -> Closing {
+    match fault {
+        stream::IoReadError::H3(ErrorCode::Frame) => Closing::Nothing,
+        stream::IoReadError::H3(ErrorCode::StreamCreation) => {
+            Closing::Stream(ErrorCode::StreamCreation.to_code())
         }
-        _ => Closing::Connection(code.to_code()),
+        _ => after_fault(fault),
+    }
+}
+
+/// Returns what to close after an error code. Codes of either scope end the connection here.
+pub fn after_code(code: ErrorCode) -> Closing {
+    match code.scope() {
+        ErrorScope::Stream => Closing::Stream(code.to_code()),
+        ErrorScope::Connection | ErrorScope::Either => Closing::Connection(code.to_code()),
     }
 }

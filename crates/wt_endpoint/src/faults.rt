@@ -1,6 +1,6 @@
 //! Wrong inputs, and what an endpoint closes after each.
 
-use crate::closing::{Closing, after_code, after_fault};
+use crate::closing::{Closing, after_code, after_fault, after_header_fault};
 use std::alloc::Global;
 use std::io;
 use wtransport_proto::bytes::Stepped;
@@ -29,6 +29,7 @@ pub fn print_each<R: Print>(rt: &R, alloc: Global) -> io::Result<()> {
         print_one(rt, fault, bidirectional(alloc, bytes))?;
     }
     print_one(rt, "an unknown stream type", unidirectional(b"\x07"))?;
+    print_one(rt, "an end inside a stream header", unidirectional(b"\x40"))?;
     print_one(rt, "an empty datagram", datagram(b""))
 }
 
@@ -76,7 +77,7 @@ fn unidirectional(bytes: &[u8]) -> Closing {
     let accepting = StreamUniRemoteQuic::accept_uni().upgrade_async();
     let mut source = bytes;
     match accepting.poll(&mut source) {
-        Stepped::Failed(_, fault) => after_fault(&fault),
+        Stepped::Failed(_, fault) => after_header_fault(&fault),
         _ => Closing::Nothing,
     }
 }
