@@ -6,7 +6,7 @@ use Rattle.std.specs.List.{flat_map, list_any}
 use Rattle.std.specs.Str.{NonePass, NoCharPasses}
 use Rattle.std.proofs.lemmas.Bool.{and_parts, and_left, and_right, or_from, or_parts, ltb-true, leb-true, lt-leb}
 use Rattle.std.proofs.lemmas.Str.{encode_ascii, NoCharPasses-nil, NoCharPasses-append}
-use Rattle.wt_inspection_views.specs.Escaped.{IsClean, IsLine, AddsShown, is_hidden, escaped_byte, is_plain_byte, digit_of}
+use Rattle.wt_inspection_views.specs.Escaped.{IsClean, IsLine, IsPlain, IsShown, is_hidden, escaped_byte, is_plain_byte, digit_of}
 
 pub none_from_any : (cs : List ℕ) → list_any is_control cs ≡ false → NonePass is_control cs
 none_from_any [] e = tt
@@ -60,9 +60,13 @@ no_control-all (b ∷ bytes) fits =
     (no_control-escaped b (is_plain_byte b) (fits 0) refl)
     (no_control-all bytes (λ k. fits (suc k)))
 
-no_control-shown : (bytes shown : List ℕ) → ((k : ℕ) → get_or bytes k 0 < 2 ^ 8) → AddsShown bytes [] shown → NoCharPasses is_control shown
+no_control-shown : (bytes shown : List ℕ) → ((k : ℕ) → get_or bytes k 0 < 2 ^ 8) → IsShown bytes shown → NoCharPasses is_control shown
 no_control-shown bytes shown fits (inl s) = subst (NoCharPasses is_control) (sym s.0) s.1
 no_control-shown bytes shown fits (inr s) = subst (NoCharPasses is_control) (sym s) (no_control-all bytes fits)
+
+no_control-plain : (words plain : List ℕ) → ((k : ℕ) → get_or words k 0 < 2 ^ 8) → IsPlain words plain → NoCharPasses is_control plain
+no_control-plain words plain fits (inl s) = subst (NoCharPasses is_control) (sym s.0) s.1
+no_control-plain words plain fits (inr s) = no_control-shown words plain fits s
 
 clean_line_feed : IsClean (10 ∷ [])
 clean_line_feed = (10 ∷ [], ap (λ (x : List ℕ). x ++ []) (encode_ascii 10 (omega arith)), (refl, tt))
@@ -71,7 +75,7 @@ pub IsClean-line : (words line : List ℕ) → ((k : ℕ) → get_or words k 0 <
 IsClean-line words line fits l =
     subst IsClean (sym l.2)
     (NoCharPasses-append is_hidden l.0 (10 ∷ [])
-    (clean_from_no_control l.0 (no_control-shown words l.0 fits l.1)) clean_line_feed)
+    (clean_from_no_control l.0 (no_control-plain words l.0 fits l.1)) clean_line_feed)
 
 pub IsClean-pushed : (old new line : List ℕ) (ok : Bool) → IsClean old → IsClean line → new ≡ cond ok (old ++ line) old → IsClean new
 IsClean-pushed old new line true o l e = subst IsClean (sym e) (NoCharPasses-append is_hidden old line o l)

@@ -1,8 +1,8 @@
 -- Bytes as a part of one line, and texts without control characters.
-use Rattle.std.specs.Prelude.{◌≡◌, ◌⊎◌, ℕ, ◌+◌, ◌/◌, ◌%◌, if◌then◌else◌, Bool, ◌&&◌, not}
+use Rattle.std.specs.Prelude.{◌≡◌, ◌⊎◌, ℕ, ◌+◌, ◌/◌, ◌%◌, if◌then◌else◌, Bool, false, ◌&&◌, not}
 use Rattle.std.specs.Prelude.{List, [], ◌∷◌, ◌++◌, nat_eq, nat_lt, nat_le, codes}
 use Rattle.std.specs.Char.{is_control}
-use Rattle.std.specs.List.{flat_map}
+use Rattle.std.specs.List.{flat_map, list_any}
 use Rattle.std.specs.Str.{NoCharPasses}
 
 -- a hexadecimal digit, as a character
@@ -18,12 +18,20 @@ abbrev pub escaped_byte : ℕ → List ℕ
 escaped_byte b =
     if is_plain_byte b then b ∷ [] else codes "\\x" ++ digit_of (b / 16) ∷ digit_of (b % 16) ∷ []
 
--- bytes were added to a line: as they are, which only a text without control characters is; or
--- each escaped
+-- no byte is a backslash
+abbrev pub HasNoBackslash : List ℕ → Type 0
+HasNoBackslash bytes = list_any (λ b. nat_eq b 92) bytes ≡ false
+
+-- what is shown of bytes: these bytes, which only a text with neither control characters nor
+-- backslashes is; or each byte escaped
+abbrev pub IsShown : List ℕ → List ℕ → Type 0
+IsShown bytes shown =
+    ((shown ≡ bytes) × NoCharPasses is_control bytes × HasNoBackslash bytes)
+    ⊎ (shown ≡ flat_map escaped_byte bytes)
+
+-- what is shown of bytes was added to a line
 abbrev pub AddsShown : List ℕ → List ℕ → List ℕ → Type 0
-AddsShown bytes old new =
-    ((new ≡ old ++ bytes) × NoCharPasses is_control bytes)
-    ⊎ (new ≡ old ++ flat_map escaped_byte bytes)
+AddsShown bytes old new = (shown : List ℕ) × IsShown bytes shown × (new ≡ old ++ shown)
 
 -- a control character (Unicode's category Cc) other than a line feed
 abbrev pub is_hidden : ℕ → Bool
@@ -33,10 +41,14 @@ is_hidden c = is_control c && not (nat_eq c 10)
 abbrev pub IsClean : List ℕ → Type 0
 IsClean = NoCharPasses is_hidden
 
--- a line of these words: the words as they are, or escaped, and a line feed
+-- what a line has of these words: the words, if they have no control characters; otherwise what is
+-- shown of them
+abbrev pub IsPlain : List ℕ → List ℕ → Type 0
+IsPlain words plain = ((plain ≡ words) × NoCharPasses is_control words) ⊎ IsShown words plain
+
+-- a line of these words, with its line feed
 abbrev pub IsLine : List ℕ → List ℕ → Type 0
-IsLine words line =
-    (shown : List ℕ) × AddsShown words [] shown × (line ≡ shown ++ codes "\n")
+IsLine words line = (plain : List ℕ) × IsPlain words plain × (line ≡ plain ++ codes "\n")
 
 -- a line of these words was added to a text
 abbrev pub AddsLine : List ℕ → List ℕ → List ℕ → Type 0

@@ -2,13 +2,14 @@
 ghost use Rattle.std.specs.Prelude.{◌≡◌, ◌<◌, ◌++◌, IfOk, IsTrue, string_bytes};
 ghost use Rattle.std.specs.Char.{is_control};
 ghost use Rattle.std.specs.Str.{NoCharPasses};
-ghost use Rattle.wt_inspection_views.specs.Escaped.{AddsShown, digit_of, escaped_byte, is_plain_byte};
+ghost use Rattle.wt_inspection_views.specs.Escaped.{AddsShown, HasNoBackslash, digit_of, escaped_byte, is_plain_byte};
 
 use std::alloc::AllocError;
 
 /// Adds bytes to a line: as they are, if they are UTF-8 without control characters and without
 /// backslashes; otherwise each byte but the printable ones of ASCII as `\xNN`, a backslash too. So
-/// no control character is added, and different bytes are added differently.
+/// no control character is added, and different bytes are added differently
+/// ([`shown_bytes_are_told_apart`](crate::laws::shown_bytes_are_told_apart)).
 ///
 /// Returns [`AllocError`] if allocation fails; then a part of the bytes may be added.
 pub fn add_escaped(line: &mut String, bytes: &[u8]) -> Result<(), AllocError>
@@ -28,7 +29,8 @@ pub fn add_escaped(line: &mut String, bytes: &[u8]) -> Result<(), AllocError>
 
 /// Returns whether a text has neither control characters nor backslashes.
 fn is_plain(text: &str) -> bool
-    ensures { IsTrue result → NoCharPasses is_control text.now }
+    ensures control { IsTrue result → NoCharPasses is_control text.now }
+    ensures backslash { IsTrue result → HasNoBackslash text.now }
 {
     has_no_control(text) && !text.as_bytes().contains(&b'\\')
 }

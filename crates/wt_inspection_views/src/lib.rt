@@ -10,6 +10,7 @@
 pub mod escaped;
 pub mod html;
 pub mod json_lines;
+pub mod laws;
 pub mod plain;
 pub mod text;
 
