@@ -8,11 +8,11 @@ use Rattle.std.proofs.lemmas.Bool.{and_parts, and_left, and_right, or_from, or_p
 use Rattle.std.proofs.lemmas.Str.{encode_ascii, NoCharPasses-nil, NoCharPasses-append}
 use Rattle.wt_inspection_views.specs.Escaped.{IsClean, IsLine, IsPlain, IsShown, is_hidden, escaped_byte, is_plain_byte, digit_of}
 
-pub none_from_any : (cs : List ℕ) → list_any is_control cs ≡ false → NonePass is_control cs
-none_from_any [] e = tt
-none_from_any (c ∷ cs) e =
-    let both = or_parts (is_control c) (list_any is_control cs) e in
-    (both.0, none_from_any cs both.1)
+pub none_from_any : (p : ℕ → Bool) (cs : List ℕ) → list_any p cs ≡ false → NonePass p cs
+none_from_any p [] e = tt
+none_from_any p (c ∷ cs) e =
+    let both = or_parts (p c) (list_any p cs) e in
+    (both.0, none_from_any p cs both.1)
 
 none_hidden : (cs : List ℕ) → NonePass is_control cs → NonePass is_hidden cs
 none_hidden [] n = tt
@@ -64,7 +64,7 @@ no_control-shown : (bytes shown : List ℕ) → ((k : ℕ) → get_or bytes k 0 
 no_control-shown bytes shown fits (inl s) = subst (NoCharPasses is_control) (sym s.0) s.1
 no_control-shown bytes shown fits (inr s) = subst (NoCharPasses is_control) (sym s) (no_control-all bytes fits)
 
-no_control-plain : (words plain : List ℕ) → ((k : ℕ) → get_or words k 0 < 2 ^ 8) → IsPlain words plain → NoCharPasses is_control plain
+pub no_control-plain : (words plain : List ℕ) → ((k : ℕ) → get_or words k 0 < 2 ^ 8) → IsPlain words plain → NoCharPasses is_control plain
 no_control-plain words plain fits (inl s) = subst (NoCharPasses is_control) (sym s.0) s.1
 no_control-plain words plain fits (inr s) = no_control-shown words plain fits s
 

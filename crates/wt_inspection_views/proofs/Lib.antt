@@ -2,3 +2,4 @@ pub mod CleanLemmas
 pub mod JsonLemmas
 pub mod PageLemmas
 pub mod ShownLemmas
+pub mod LineLemmas

@@ -1,13 +1,25 @@
 -- Pieces of a page after pieces of a page.
-use Rattle.std.proofs.Common.{◌≡◌, ℕ, Bool, true, false, cond, List, [], ◌∷◌, ◌++◌, sym, subst}
+use Rattle.std.proofs.Common.{arith, ◌≡◌, ℕ, Bool, true, false, cond, IsTrue, List, [], ◌∷◌, ◌++◌, sym, subst, ap, ◌∙◌}
 use Rattle.std.specs.List.{flat_map}
 use Rattle.std.proofs.lemmas.List.{flat_map_more}
-use Rattle.wt_inspection_views.specs.Html.{IsPage, Piece, piece_bytes}
+use Rattle.wt_inspection_views.specs.declared.html.page.Markup.TheVariants.{Head, Tail}
+use Rattle.wt_inspection_views.specs.Html.{BeginsPage, IsPage, Piece, markup, piece_bytes}
 
-IsPage-append : (old : List ℕ) (piece : Piece) → IsPage old → IsPage (old ++ piece_bytes piece)
-IsPage-append old piece o =
-    (o.0 ++ piece ∷ [], rw o.1 (flat_map_more piece_bytes [] o.0 piece))
+BeginsPage-append : (old : List ℕ) (piece : Piece) → BeginsPage old → BeginsPage (old ++ piece_bytes piece)
+BeginsPage-append old piece o =
+    (o.0 ++ piece ∷ [], rw o.1 (flat_map_more piece_bytes [] (markup Head ∷ o.0) piece))
 
-pub IsPage-pushed : (old new : List ℕ) (piece : Piece) (ok : Bool) → IsPage old → new ≡ cond ok (old ++ piece_bytes piece) old → IsPage new
-IsPage-pushed old new piece true o e = subst IsPage (sym e) (IsPage-append old piece o)
-IsPage-pushed old new piece false o e = subst IsPage (sym e) o
+pub BeginsPage-pushed : (old new : List ℕ) (piece : Piece) (ok : Bool) → BeginsPage old → new ≡ cond ok (old ++ piece_bytes piece) old → BeginsPage new
+BeginsPage-pushed old new piece true o e = subst BeginsPage (sym e) (BeginsPage-append old piece o)
+BeginsPage-pushed old new piece false o e = subst BeginsPage (sym e) o
+
+pub IsPage-ended : (old new : List ℕ) → BeginsPage old → new ≡ old ++ piece_bytes (markup Tail) → IsPage new
+IsPage-ended old new o e = (o.0, e ∙ rw o.1 (flat_map_more piece_bytes [] (markup Head ∷ o.0) (markup Tail)))
+
+-- the head after no bytes, if it was added
+pub BeginsPage-begun : (old new : List ℕ) (added ok : Bool) → old ≡ [] → new ≡ cond added (old ++ piece_bytes (markup Head)) old → ok ≡ added → IsTrue ok → BeginsPage new
+BeginsPage-begun old new added ok n e k w = begun old new added n e (subst IsTrue k w)
+  where
+    begun : (old new : List ℕ) (added : Bool) → old ≡ [] → new ≡ cond added (old ++ piece_bytes (markup Head)) old → IsTrue added → BeginsPage new
+    begun old new true n e w = ([], e ∙ (ap (λ (l : List ℕ). l ++ piece_bytes (markup Head)) n ∙ flat_map_more piece_bytes [] [] (markup Head)))
+    begun old new false n e w = grind arith

@@ -1,6 +1,6 @@
 -- Bytes as a part of one line, and texts without control characters.
 use Rattle.std.specs.Prelude.{◌≡◌, ◌⊎◌, ℕ, ◌+◌, ◌/◌, ◌%◌, if◌then◌else◌, Bool, false, ◌&&◌, not}
-use Rattle.std.specs.Prelude.{List, [], ◌∷◌, ◌++◌, nat_eq, nat_lt, nat_le, codes}
+use Rattle.std.specs.Prelude.{List, [], ◌∷◌, ◌++◌, nat_eq, nat_lt, nat_le, count_by, codes}
 use Rattle.std.specs.Char.{is_control}
 use Rattle.std.specs.List.{flat_map, list_any}
 use Rattle.std.specs.Str.{NoCharPasses}
@@ -53,3 +53,7 @@ IsLine words line = (plain : List ℕ) × IsPlain words plain × (line ≡ plain
 -- a line of these words was added to a text
 abbrev pub AddsLine : List ℕ → List ℕ → List ℕ → Type 0
 AddsLine words old new = (line : List ℕ) × IsLine words line × (new ≡ old ++ line)
+
+-- the line feeds of a text, each of which ends a line
+abbrev pub line_count : List ℕ → ℕ
+line_count = count_by (λ b. nat_eq b 10)

@@ -1,5 +1,5 @@
 -- Pages of HTML.
-use Rattle.std.specs.Prelude.{◌≡◌, ℕ, List, [], ◌∷◌, if◌then◌else◌, nat_eq, codes}
+use Rattle.std.specs.Prelude.{◌≡◌, ℕ, List, [], ◌∷◌, ◌++◌, if◌then◌else◌, nat_eq, codes}
 use Rattle.std.specs.List.{flat_map}
 use Rattle.wt_inspection_views.specs.declared.html.page.Markup.{Markup}
 use Rattle.wt_inspection_views.specs.declared.html.page.Markup.TheVariants as markup-is
@@ -43,6 +43,13 @@ abbrev pub piece_bytes : Piece → List ℕ
 piece_bytes (markup m) = markup_bytes m
 piece_bytes (text t) = html_text t
 
--- a page: markup of the inspector, and texts, each escaped
+-- the start of a page: its head, and then markup of the inspector, and texts, each escaped
+abbrev pub BeginsPage : List ℕ → Type 0
+BeginsPage bytes =
+    (pieces : List Piece) × (bytes ≡ flat_map piece_bytes (markup markup-is.Head ∷ pieces))
+
+-- a page: its head, markup of the inspector, and texts, each escaped, and its tail
 abbrev pub IsPage : List ℕ → Type 0
-IsPage bytes = (pieces : List Piece) × (bytes ≡ flat_map piece_bytes pieces)
+IsPage bytes =
+    (pieces : List Piece)
+    × (bytes ≡ flat_map piece_bytes (markup markup-is.Head ∷ pieces ++ markup markup-is.Tail ∷ []))

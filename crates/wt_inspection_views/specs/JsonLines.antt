@@ -1,9 +1,69 @@
--- Lines of JSON.
-use Rattle.std.specs.Prelude.{◌≡◌, ℕ, List, [], ◌∷◌, ◌++◌}
+-- Lines of JSON, each of which is one object.
+use Rattle.std.specs.Prelude.{◌≡◌, ℕ, Bool, true, false, List, [], ◌∷◌, ◌++◌, ◌&&◌, nat_le, fold}
 use Rattle.std.specs.List.{flat_map}
 use Rattle.json.specs.Token.{Token}
 use Rattle.json.specs.Lex.{tokens}
 use Rattle.json.specs.Print.{print}
+
+-- where the tokens so far leave a text: before its object; in an object, where a member or the end
+-- may come; after the name of a member; in an array; after the object; or not in JSON. The list has
+-- the brackets around, the innermost first: whether each is that of an object
+pub data Place : Type 0 where
+  start : Place
+  in_object : List Bool → Place
+  after_name : List Bool → Place
+  in_array : List Bool → Place
+  done : Place
+  wrong : Place
+
+-- after a value within these brackets
+abbrev pub after_value : List Bool → Place
+after_value [] = done
+after_value (true ∷ outer) = in_object outer
+after_value (false ∷ outer) = in_array outer
+
+-- after a value that is a member of an object, or an element of an array, within these brackets
+abbrev pub value_place : Bool → List Bool → Token → Place
+value_place is_member outer Token.begin_object = in_object (is_member ∷ outer)
+value_place is_member outer Token.begin_array = in_array (is_member ∷ outer)
+value_place is_member outer (Token.string s) = after_value (is_member ∷ outer)
+value_place is_member outer (Token.number s) = after_value (is_member ∷ outer)
+value_place is_member outer (Token.boolean b) = after_value (is_member ∷ outer)
+value_place is_member outer Token.null = after_value (is_member ∷ outer)
+value_place is_member outer other = wrong
+
+-- in an object, its next token
+abbrev pub member_place : List Bool → Token → Place
+member_place outer (Token.key s) = after_name outer
+member_place outer Token.end_object = after_value outer
+member_place outer other = wrong
+
+-- in an array, its next token
+abbrev pub element_place : List Bool → Token → Place
+element_place outer Token.end_array = after_value outer
+element_place outer other = value_place false outer other
+
+-- the first token
+abbrev pub first_place : Token → Place
+first_place Token.begin_object = in_object []
+first_place other = wrong
+
+-- after one token more (RFC 8259, sections 2, 4 and 5)
+abbrev pub next_place : Place → Token → Place
+next_place start t = first_place t
+next_place (in_object outer) t = member_place outer t
+next_place (after_name outer) t = value_place true outer t
+next_place (in_array outer) t = element_place outer t
+next_place done t = wrong
+next_place wrong t = wrong
+
+-- after these tokens
+abbrev pub place_of : List Token → Place
+place_of = fold next_place start
+
+-- the tokens are one complete object
+abbrev pub IsObject : List Token → Type 0
+IsObject ts = place_of ts ≡ done
 
 -- the line of these tokens: as the crate json writes them, and a line feed; a text among them is a
 -- string with its escapes (RFC 8259, section 7)
@@ -16,14 +76,18 @@ ReadsBack ts = tokens (print ts) ≡ ts
 
 -- a line of JSON
 abbrev pub IsJsonLine : List ℕ → Type 0
-IsJsonLine line = (ts : List Token) × (line ≡ json_line ts) × ReadsBack ts
+IsJsonLine line = (ts : List Token) × (line ≡ json_line ts) × ReadsBack ts × IsObject ts
 
--- each reads back
-abbrev pub AllReadBack : List (List Token) → Type 0
-AllReadBack [] = Unit {0}
-AllReadBack (ts ∷ more) = ReadsBack ts × AllReadBack more
+-- each is an object, and reads back
+abbrev pub AreObjects : List (List Token) → Type 0
+AreObjects [] = Unit {0}
+AreObjects (ts ∷ more) = (ReadsBack ts × IsObject ts) × AreObjects more
 
 -- lines of JSON and nothing else
 abbrev pub AreJsonLines : List ℕ → Type 0
 AreJsonLines bytes =
-    (lines : List (List Token)) × (bytes ≡ flat_map json_line lines) × AllReadBack lines
+    (lines : List (List Token)) × (bytes ≡ flat_map json_line lines) × AreObjects lines
+
+-- a control character that JSON does not escape: DEL, and those from U+0080 on
+abbrev pub is_late_control : ℕ → Bool
+is_late_control c = nat_le 127 c && nat_le c 159

@@ -1,3 +1,6 @@
 pub mod Escaped
 pub mod Html
 pub mod JsonLines
+pub mod TextLines
+pub mod Lines
+pub mod Objects

@@ -33,12 +33,10 @@ pub fn write_html(
     ensures { IfOk result (λ page. IsPage page.items) }
 {
     let mut page = Page::new(alloc);
-    page.markup(Markup::Head);
     add_all_rows(&mut page, inspection.items.as_slice(), bytes);
     page.markup(Markup::Items);
     add_items(&mut page, inspection);
     add_end(&mut page, inspection.end, bytes.len());
-    page.markup(Markup::Tail);
     page.into_bytes()
 }
 

@@ -1,6 +1,7 @@
 //! Inspections as JSON (RFC 8259), one object a line.
-ghost use Rattle.std.specs.Prelude.{IfOk};
-ghost use Rattle.wt_inspection_views.specs.JsonLines.{AreJsonLines};
+ghost use Rattle.std.specs.Prelude.{[], IfOk};
+ghost use Rattle.wt_inspection_views.specs.JsonLines.{AreJsonLines, in_object};
+ghost use Rattle.wt_inspection_views.specs.Objects.{AddsMembers, IsAt};
 
 mod object;
 mod parts;
@@ -41,6 +42,7 @@ pub fn write_json(
         let shown = shown_of(item, bytes, payload);
         warnings = write_all_of(&mut lines, item, shown, warnings);
     }
+    write_warnings(&mut lines, warnings);
     write_end(&mut lines, inspection.end, bytes.len());
     lines.into_bytes()
 }
@@ -70,14 +72,18 @@ fn write_item(lines: &mut Lines, item: &Item, shown: &[u8]) {
 }
 
 /// Adds these bytes of a payload, if there are some.
-fn add_shown(object: &mut Object, shown: &[u8]) {
+fn add_shown(object: &mut Object, shown: &[u8])
+    ensures { AddsMembers object.old object.new }
+{
     if !shown.is_empty() {
         object.add_hex("hex", shown);
     }
 }
 
 /// Adds what an item is.
-fn add_content(object: &mut Object, content: &Content) {
+fn add_content(object: &mut Object, content: &Content)
+    ensures { AddsMembers object.old object.new }
+{
     match content {
         Content::Stream(head) => add_stream(object, *head),
         Content::Frame(frame) => add_frame(object, frame),
@@ -92,31 +98,41 @@ fn add_content(object: &mut Object, content: &Content) {
 }
 
 /// Adds the head of a bidirectional WebTransport stream.
-fn add_session(object: &mut Object, id: u64) {
+fn add_session(object: &mut Object, id: u64)
+    ensures { AddsMembers object.old object.new }
+{
     object.add_text("item", "session");
     object.add_number("session", id)
 }
 
 /// Adds a capsule that no DATA frame contains.
-fn add_capsule_item(object: &mut Object, capsule: &CapsuleItem) {
+fn add_capsule_item(object: &mut Object, capsule: &CapsuleItem)
+    ensures { AddsMembers object.old object.new }
+{
     object.add_text("item", "capsule");
     add_capsule(object, capsule)
 }
 
 /// Adds a field section that no HEADERS frame contains.
-fn add_section_item(object: &mut Object, section: &FieldSection) {
+fn add_section_item(object: &mut Object, section: &FieldSection)
+    ensures { AddsMembers object.old object.new }
+{
     object.add_text("item", "section");
     add_section(object, section)
 }
 
 /// Adds settings that no SETTINGS frame contains.
-fn add_settings_item(object: &mut Object, settings: &[SettingLine]) {
+fn add_settings_item(object: &mut Object, settings: &[SettingLine])
+    ensures { AddsMembers object.old object.new }
+{
     object.add_text("item", "settings");
     add_settings(object, settings)
 }
 
 /// Adds the head of a unidirectional stream.
-fn add_stream(object: &mut Object, head: StreamHead) {
+fn add_stream(object: &mut Object, head: StreamHead)
+    ensures { AddsMembers object.old object.new }
+{
     object.add_text("item", "stream");
     object.add_text("type", head.name.as_str());
     object.add_number("number", head.number);
@@ -127,7 +143,9 @@ fn add_stream(object: &mut Object, head: StreamHead) {
 }
 
 /// Adds a frame.
-fn add_frame(object: &mut Object, frame: &FrameItem) {
+fn add_frame(object: &mut Object, frame: &FrameItem)
+    ensures { AddsMembers object.old object.new }
+{
     object.add_text("item", "frame");
     object.add_text("type", frame.name.as_str());
     object.add_number("number", frame.number);
@@ -137,14 +155,18 @@ fn add_frame(object: &mut Object, frame: &FrameItem) {
 }
 
 /// Adds how many bytes of a frame's payload are present, if not all.
-fn add_present(object: &mut Object, frame: &FrameItem) {
+fn add_present(object: &mut Object, frame: &FrameItem)
+    ensures { AddsMembers object.old object.new }
+{
     if frame.present as u64 != frame.announced {
         object.add_number("present", frame.present as u64);
     }
 }
 
 /// Adds what a frame contains.
-fn add_parts(object: &mut Object, parts: &Parts) {
+fn add_parts(object: &mut Object, parts: &Parts)
+    ensures { AddsMembers object.old object.new }
+{
     match parts {
         Parts::Opaque => {}
         Parts::Fields(section) => add_section(object, section),
@@ -154,7 +176,9 @@ fn add_parts(object: &mut Object, parts: &Parts) {
 }
 
 /// Adds the head of a datagram.
-fn add_datagram(object: &mut Object, head: DatagramHead) {
+fn add_datagram(object: &mut Object, head: DatagramHead)
+    ensures { AddsMembers object.old object.new }
+{
     object.add_text("item", "datagram");
     object.add_number("quarter", head.quarter);
     object.add_number("session", head.session);
@@ -179,7 +203,9 @@ fn write_warning(lines: &mut Lines, warning: &Warning) {
 }
 
 /// Adds the field line that a warning is about, if it is about one.
-fn add_place(object: &mut Object, line: Option<usize>) {
+fn add_place(object: &mut Object, line: Option<usize>)
+    ensures { AddsMembers object.old object.new }
+{
     match line {
         Some(line) => object.add_number("line", line as u64),
         None => {}
@@ -194,7 +220,9 @@ fn write_end(lines: &mut Lines, end: End, length: usize) {
 }
 
 /// Adds how bytes of this length end.
-fn add_end(object: &mut Object, end: End, length: usize) {
+fn add_end(object: &mut Object, end: End, length: usize)
+    ensures { AddsMembers object.old object.new }
+{
     match end {
         End::Whole => add_whole(object, length),
         End::Cut(cut) => add_cut(object, cut),
@@ -203,14 +231,18 @@ fn add_end(object: &mut Object, end: End, length: usize) {
 }
 
 /// Adds the end after this number of bytes.
-fn add_whole(object: &mut Object, length: usize) {
+fn add_whole(object: &mut Object, length: usize)
+    ensures { AddsMembers object.old object.new }
+{
     object.add_number("at", length as u64);
     object.add_text("item", "end");
     object.add_text("state", "whole")
 }
 
 /// Adds the end within an item.
-fn add_cut(object: &mut Object, cut: Cut) {
+fn add_cut(object: &mut Object, cut: Cut)
+    ensures { AddsMembers object.old object.new }
+{
     object.add_number("at", cut.at as u64);
     object.add_text("item", "end");
     object.add_text("state", "cut");
@@ -219,7 +251,9 @@ fn add_cut(object: &mut Object, cut: Cut) {
 }
 
 /// Adds the end at a fault.
-fn add_fault(object: &mut Object, fault: Fault) {
+fn add_fault(object: &mut Object, fault: Fault)
+    ensures { AddsMembers object.old object.new }
+{
     let code = fault.code;
     object.add_number("at", fault.at as u64);
     object.add_text("item", "end");

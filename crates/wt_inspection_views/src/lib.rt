@@ -7,6 +7,9 @@
 //! Not in the Rust crate.
 #![tactic(auto)]
 
+ghost use Rattle.std.specs.Prelude.{◌≡◌, ◌++◌};
+ghost use Rattle.wt_inspection_views.specs.TextLines.{bytes_at};
+
 pub mod escaped;
 pub mod html;
 pub mod json_lines;
@@ -17,7 +20,9 @@ pub mod text;
 use wt_items::item::{Item, Warning};
 
 /// Returns these bytes of the input, or none if they are not all there.
-pub(crate) fn bytes_of(bytes: &[u8], at: usize, length: usize) -> &[u8] {
+pub(crate) fn bytes_of(bytes: &[u8], at: usize, length: usize) -> &[u8]
+    ensures { result.now ≡ bytes_at bytes.now at length }
+{
     match bytes.get(at..) {
         Some(rest) if length <= rest.len() => &rest[..length],
         _ => &[],
@@ -29,7 +34,9 @@ pub(crate) fn bytes_of(bytes: &[u8], at: usize, length: usize) -> &[u8] {
 pub(crate) fn split_warnings<'a>(
     item: &Item,
     warnings: &'a [Warning],
-) -> (&'a [Warning], &'a [Warning]) {
+) -> (&'a [Warning], &'a [Warning])
+    ensures { result.0.now ++ result.1.now ≡ warnings.now }
+{
     let end = item.at.saturating_add(item.length);
     warnings.split_at(warnings.partition_point(|warning| warning.at < end))
 }

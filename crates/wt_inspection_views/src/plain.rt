@@ -1,6 +1,6 @@
 //! Texts for a terminal.
-ghost use Rattle.std.specs.Prelude.{◌≡◌, ℕ, List, [], IfOk, OnErr, string_bytes};
-ghost use Rattle.wt_inspection_views.specs.Escaped.{AddsLine, IsClean, IsLine};
+ghost use Rattle.std.specs.Prelude.{◌≡◌, ◌+◌, ℕ, List, [], IfOk, OnErr, string_bytes};
+ghost use Rattle.wt_inspection_views.specs.Escaped.{AddsLine, IsClean, IsLine, line_count};
 
 use crate::escaped::{add_escaped, has_no_control};
 use std::alloc::{AllocError, Global};
@@ -39,6 +39,7 @@ impl PlainText {
     /// Returns [`AllocError`] if allocation fails; then the text is as it was.
     pub fn add_line(&mut self, words: &str) -> Result<(), AllocError>
         ensures added { IfOk result (λ _. AddsLine words.now self.old self.new) }
+        ensures one_line { IfOk result (λ _. line_count self.new ≡ line_count self.old + 1) }
         ensures kept { OnErr result (self.new ≡ self.old) }
     {
         let line = line_of(self.alloc, words)?;

@@ -1,6 +1,8 @@
 //! Inspections as text for people.
-ghost use Rattle.std.specs.Prelude.{IfOk, string_bytes};
-ghost use Rattle.wt_inspection_views.specs.Escaped.{IsClean};
+ghost use Rattle.std.specs.Prelude.{◌≡◌, ◌+◌, IfOk, IsTrue, length, string_bytes, sum_by};
+ghost use Rattle.wt_inspection_views.specs.Escaped.{IsClean, line_count};
+ghost use Rattle.wt_inspection_views.specs.Lines.{Gains};
+ghost use Rattle.wt_inspection_views.specs.TextLines.{capsule_lines, content_lines, hex_lines, inspection_lines, parts_lines, payload_of as payload_of_item, shown_of as shown_of_item};
 
 mod lines;
 pub(crate) mod parts;
@@ -23,7 +25,8 @@ use wtp_wire::frame::FrameKind;
 ///
 /// What a peer sent is shown as it is if it is UTF-8 without control characters and without
 /// backslashes; otherwise each byte but the printable ones of ASCII is `\xNN`. So the only control
-/// characters of the text are the line feeds at the ends of these lines.
+/// characters of the text are the line feeds at the ends of these lines, and their number is that of
+/// the items, the lines of what these contain, the warnings, and one.
 ///
 /// Returns [`AllocError`] if allocation fails. Not in the Rust crate.
 pub fn write_text(
@@ -33,6 +36,8 @@ pub fn write_text(
     payload: bool,
 ) -> Result<String, AllocError>
     ensures clean { IfOk result (λ t. IsClean (string_bytes t)) }
+    ensures lines { IfOk result
+        (λ t. line_count (string_bytes t) ≡ inspection_lines payload bytes.now inspection.now) }
 {
     let mut text = Lines::new(alloc);
     let mut warnings = inspection.warnings.as_slice();
@@ -40,6 +45,7 @@ pub fn write_text(
         let shown = shown_of(item, bytes, payload);
         warnings = add_all_of(&mut text, item, shown, warnings);
     }
+    add_warnings(&mut text, warnings);
     add_end(&mut text, inspection.end, bytes.len());
     text.into_text()
 }
@@ -51,7 +57,11 @@ fn add_all_of<'a>(
     item: &Item,
     shown: &[u8],
     warnings: &'a [Warning],
-) -> &'a [Warning] {
+) -> &'a [Warning]
+    ensures { IsTrue text.new.is_whole → IsTrue text.old.is_whole
+        × (line_count text.new.text + length result.now ≡ line_count text.old.text
+        + (content_lines item.now.content + hex_lines (length shown.now)) + length warnings.now) }
+{
     let (here, later) = split_warnings(item, warnings);
     add_item(text, item);
     add_hex(text, shown);
@@ -81,7 +91,9 @@ pub(crate) fn end_line(alloc: Global, end: End, length: usize) -> Result<String,
 }
 
 /// Returns the bytes of an item that are payload of an application, or none if payload is not shown.
-pub(crate) fn shown_of<'a>(item: &Item, bytes: &'a [u8], payload: bool) -> &'a [u8] {
+pub(crate) fn shown_of<'a>(item: &Item, bytes: &'a [u8], payload: bool) -> &'a [u8]
+    ensures { result.now ≡ shown_of_item payload bytes.now item.now }
+{
     if payload {
         payload_of(item, bytes)
     } else {
@@ -90,7 +102,9 @@ pub(crate) fn shown_of<'a>(item: &Item, bytes: &'a [u8], payload: bool) -> &'a [
 }
 
 /// Returns the bytes of an item that are payload of an application.
-fn payload_of<'a>(item: &Item, bytes: &'a [u8]) -> &'a [u8] {
+fn payload_of<'a>(item: &Item, bytes: &'a [u8]) -> &'a [u8]
+    ensures { result.now ≡ payload_of_item bytes.now item.now item.now.content }
+{
     match &item.content {
         Content::Payload => bytes_of(bytes, item.at, item.length),
         Content::Datagram(head) if head.payload <= item.length => {
@@ -105,7 +119,9 @@ fn payload_of<'a>(item: &Item, bytes: &'a [u8]) -> &'a [u8] {
 }
 
 /// Adds the lines of an item.
-fn add_item(text: &mut Lines, item: &Item) {
+fn add_item(text: &mut Lines, item: &Item)
+    ensures { Gains (content_lines item.now.content) text.old text.new }
+{
     let at = item.at;
     let size = item.length as u64;
     match &item.content {
@@ -142,7 +158,17 @@ fn words_of_stream(alloc: Global, head: StreamHead) -> Result<String, AllocError
 }
 
 /// Adds the lines of a frame.
-fn add_frame(text: &mut Lines, at: usize, frame: &FrameItem) {
+fn add_frame(text: &mut Lines, at: usize, frame: &FrameItem)
+    ensures { Gains (1 + parts_lines frame.now.parts) text.old text.new }
+{
+    add_frame_head(text, at, frame);
+    add_parts(text, &frame.parts)
+}
+
+/// Adds the first line of a frame.
+fn add_frame_head(text: &mut Lines, at: usize, frame: &FrameItem)
+    ensures { Gains 1 text.old text.new }
+{
     let name = frame.name.as_str();
     let size = size_of_frame(text.alloc, frame);
     match frame.name {
@@ -160,7 +186,6 @@ fn add_frame(text: &mut Lines, at: usize, frame: &FrameItem) {
             _ => text.add_head(at, name, size),
         },
     }
-    add_parts(text, &frame.parts)
 }
 
 /// Returns a name and the words of a size.
@@ -174,7 +199,9 @@ fn named_size(
 }
 
 /// Adds the line of a frame that the number of its type tells from others.
-fn add_numbered(text: &mut Lines, at: usize, frame: &FrameItem, size: Result<String, AllocError>) {
+fn add_numbered(text: &mut Lines, at: usize, frame: &FrameItem, size: Result<String, AllocError>)
+    ensures { Gains 1 text.old text.new }
+{
     let name = frame.name.as_str();
     match format!(in text.alloc; "{name} frame") {
         Ok(what) => {
@@ -210,7 +237,9 @@ fn size_of_frame(alloc: Global, frame: &FrameItem) -> Result<String, AllocError>
 }
 
 /// Adds the lines of what a frame contains.
-fn add_parts(text: &mut Lines, parts: &Parts) {
+fn add_parts(text: &mut Lines, parts: &Parts)
+    ensures { Gains (parts_lines parts.now) text.old text.new }
+{
     match parts {
         Parts::Opaque => {}
         Parts::Fields(section) => add_fields(text, section),
@@ -220,7 +249,9 @@ fn add_parts(text: &mut Lines, parts: &Parts) {
 }
 
 /// Adds the lines of the capsules of a frame.
-fn add_capsules(text: &mut Lines, capsules: &[CapsuleItem]) {
+fn add_capsules(text: &mut Lines, capsules: &[CapsuleItem])
+    ensures { Gains (sum_by capsule_lines capsules.now) text.old text.new }
+{
     for capsule in capsules {
         add_capsule(text, None, capsule);
     }
@@ -262,7 +293,9 @@ fn words_of_datagram(alloc: Global, head: DatagramHead) -> Result<String, AllocE
 }
 
 /// Adds the line of how bytes of this length end.
-fn add_end(text: &mut Lines, end: End, length: usize) {
+fn add_end(text: &mut Lines, end: End, length: usize)
+    ensures { Gains 1 text.old text.new }
+{
     match end {
         End::Whole => text.add_made(format!(in text.alloc; "{length:<5} end")),
         End::Cut(cut) => text.add_head(cut.at, "cut", words_of_cut(text.alloc, cut)),

@@ -1,6 +1,6 @@
 //! A page of HTML.
-ghost use Rattle.std.specs.Prelude.{◌≡◌, ℕ, List, [], ◌∷◌, ◌++◌, IfOk, MatchOption, OnErr};
-ghost use Rattle.wt_inspection_views.specs.Html.{IsPage, html_byte, html_text, markup_bytes};
+ghost use Rattle.std.specs.Prelude.{◌≡◌, ℕ, List, [], ◌∷◌, ◌++◌, IfOk, IsTrue, MatchOption, OnErr};
+ghost use Rattle.wt_inspection_views.specs.Html.{BeginsPage, IsPage, html_byte, html_text, markup_bytes};
 
 use std::alloc::{AllocError, Global};
 use std::marker::Model;
@@ -95,18 +95,18 @@ impl Model for Page {
 
     ghost view = { λ page. page.out.items };
 
-    ghost invariant = { λ page. IsPage page.out.items };
+    ghost invariant = { λ page. IsTrue page.is_whole → BeginsPage page.out.items };
 }
 
 impl Page {
-    /// Creates an empty page.
-    pub(super) fn new(alloc: Global) -> Self
-        ensures { result ≡ [] }
-    {
+    /// Creates a page that has its head alone.
+    pub(super) fn new(alloc: Global) -> Self {
+        let mut out = Vec::new(alloc);
+        let added = out.extend_from_slice(Markup::Head.as_str().as_bytes());
         Page {
             alloc,
-            out: Vec::new(alloc),
-            is_whole: true,
+            out,
+            is_whole: added.is_ok(),
         }
     }
 
@@ -160,12 +160,14 @@ impl Page {
         self.markup(Markup::TagEnd);
     }
 
-    /// Returns the page, or [`AllocError`] if an allocation failed meanwhile.
+    /// Adds the tail, and returns the page, or [`AllocError`] if an allocation failed meanwhile.
     pub(super) fn into_bytes(self) -> Result<Vec<u8>, AllocError>
         ensures { IfOk result (λ page. IsPage page.items) }
     {
+        let mut out = self.out;
+        out.extend_from_slice(Markup::Tail.as_str().as_bytes())?;
         if self.is_whole {
-            Ok(self.out)
+            Ok(out)
         } else {
             Err(AllocError)
         }

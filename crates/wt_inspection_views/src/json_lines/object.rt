@@ -1,6 +1,8 @@
 //! Lines of JSON, each of which is one object.
-ghost use Rattle.std.specs.Prelude.{◌≡◌, ℕ, List, [], ◌++◌, IfOk, OnErr};
-ghost use Rattle.wt_inspection_views.specs.JsonLines.{AreJsonLines, IsJsonLine};
+ghost use Rattle.std.specs.Prelude.{◌≡◌, ℕ, Bool, true, false, List, [], ◌∷◌, ◌++◌, IfOk, IfSome, OnErr, OnOk, IsTrue};
+ghost use Rattle.std.specs.Str.{NoCharPasses};
+ghost use Rattle.json.specs.Token.{Token};
+ghost use Rattle.wt_inspection_views.specs.JsonLines.{AreJsonLines, is_late_control};
 
 use crate::escaped::add_hex_byte;
 use json::Writer;
@@ -29,6 +31,9 @@ impl Model for Lines {
 }
 
 impl Lines {
+    ghost use Rattle.wt_inspection_views.specs.JsonLines.{AreJsonLines, IsJsonLine, in_object};
+    ghost use Rattle.wt_inspection_views.specs.Objects.{IsAt};
+
     /// Creates no lines.
     pub(super) fn new(alloc: Global) -> Self
         ensures { result ≡ [] }
@@ -41,7 +46,9 @@ impl Lines {
     }
 
     /// Ends an object, and adds it as a line.
-    pub(super) fn add(&mut self, object: Object) {
+    pub(super) fn add(&mut self, object: Object)
+        requires { IsAt (in_object []) object }
+    {
         if self.try_add(object).is_err() {
             self.is_whole = false;
         }
@@ -51,6 +58,7 @@ impl Lines {
     ///
     /// Returns [`AllocError`] if allocation failed; then the lines are as they were.
     fn try_add(&mut self, object: Object) -> Result<(), AllocError>
+        requires { IsAt (in_object []) object }
         ensures added { IfOk result
             (λ _. (line : List ℕ) × IsJsonLine line × (self.new ≡ self.old ++ line)) }
         ensures kept { OnErr result (self.new ≡ self.old) }
@@ -84,8 +92,14 @@ pub(super) struct Object {
 }
 
 impl Object {
+    ghost use Rattle.wt_inspection_views.specs.JsonLines.{IsJsonLine, Place, in_object, in_array, after_name};
+    ghost use Rattle.wt_inspection_views.specs.Objects.{AddsElements, AddsMembers, AddsName, AddsValue, IsAt};
+
     /// Creates an object without members.
-    pub(super) fn new(alloc: Global) -> Self {
+    #[tactic(auto, unfolding(crate::specs::Objects::IsAt))]
+    pub(super) fn new(alloc: Global) -> Self
+        ensures { IsAt (in_object []) result }
+    {
         let mut text = Vec::new(alloc);
         let reserved = text.reserve(ROOM);
         let mut out = Writer::new(text);
@@ -97,84 +111,160 @@ impl Object {
         }
     }
 
+    /// Remembers that an allocation failed.
+    #[tactic(auto, unfolding(crate::specs::Objects::IsAt))]
+    fn lose(&mut self)
+        ensures { (place : Place) → IsAt place self.new }
+    {
+        self.is_whole = false;
+    }
+
     /// Remembers whether an addition failed.
-    fn note(&mut self, added: Result<(), AllocError>) {
+    fn note(&mut self, added: Result<(), AllocError>)
+        ensures tokens { self.new.out ≡ self.old.out }
+        ensures whole { IsTrue self.new.is_whole → IsTrue self.old.is_whole }
+        ensures noted { OnErr added (self.new.is_whole ≡ false) }
+    {
         if added.is_err() {
             self.is_whole = false;
         }
     }
 
     /// Adds a member that is a number.
-    pub(super) fn add_number(&mut self, name: &str, number: u64) {
+    pub(super) fn add_number(&mut self, name: &str, number: u64)
+        ensures { AddsMembers self.old self.new }
+    {
         self.add_name(name);
+        self.add_count(number)
+    }
+
+    /// Adds the value of a member that is a number.
+    #[tactic(auto, unfolding(crate::specs::Objects::IsAt))]
+    fn add_count(&mut self, number: u64)
+        ensures { AddsValue self.old self.new }
+    {
         let added = self.out.u64(number);
         self.note(added);
     }
 
     /// Adds a member that is a string.
-    pub(super) fn add_text(&mut self, name: &str, text: &str) {
+    pub(super) fn add_text(&mut self, name: &str, text: &str)
+        ensures { AddsMembers self.old self.new }
+    {
         self.add_name(name);
+        self.add_string(text)
+    }
+
+    /// Adds a value that is a string.
+    #[tactic(auto, unfolding(crate::specs::Objects::IsAt))]
+    fn add_string(&mut self, text: &str)
+        ensures member { AddsValue self.old self.new }
+        ensures element { AddsElements self.old self.new }
+    {
         let added = self.out.string(text);
         self.note(added);
     }
 
     /// Adds a member that is a string for which memory was allocated.
-    pub(super) fn add_made(&mut self, name: &str, text: Result<String, AllocError>) {
+    pub(super) fn add_made(&mut self, name: &str, text: Result<String, AllocError>)
+        ensures { AddsMembers self.old self.new }
+    {
         match text {
             Ok(text) => self.add_text(name, text.as_str()),
-            Err(_) => self.is_whole = false,
+            Err(_) => self.lose(),
         }
     }
 
     /// Adds a member that is the hexadecimal digits of bytes.
-    pub(super) fn add_hex(&mut self, name: &str, bytes: &[u8]) {
+    pub(super) fn add_hex(&mut self, name: &str, bytes: &[u8])
+        ensures { AddsMembers self.old self.new }
+    {
         let digits = digits_of(self.alloc, bytes);
         self.add_made(name, digits);
     }
 
     /// Adds the name of a member. Its value is added next.
-    pub(super) fn add_name(&mut self, name: &str) {
+    #[tactic(auto, unfolding(crate::specs::Objects::IsAt))]
+    pub(super) fn add_name(&mut self, name: &str)
+        ensures { AddsName self.old self.new }
+    {
         let added = self.out.key(name);
         self.note(added);
     }
 
     /// Adds what a peer sent as a value: a string, or an object with its hexadecimal digits.
-    pub(super) fn add_value(&mut self, bytes: &[u8]) {
-        if let Some(text) = shown_text(bytes) {
-            let added = self.out.string(text);
-            return self.note(added);
+    pub(super) fn add_value(&mut self, bytes: &[u8])
+        ensures member { AddsValue self.old self.new }
+        ensures element { AddsElements self.old self.new }
+    {
+        match shown_text(bytes) {
+            Some(text) => self.add_string(text),
+            None => self.add_hex_value(bytes),
         }
+    }
+
+    /// Adds a value that is an object with the hexadecimal digits of bytes.
+    fn add_hex_value(&mut self, bytes: &[u8])
+        ensures member { AddsValue self.old self.new }
+        ensures element { AddsElements self.old self.new }
+    {
         self.begin_object();
         self.add_hex("hex", bytes);
         self.end_object();
     }
 
     /// Begins a value that is a list.
-    pub(super) fn begin_array(&mut self) {
+    #[tactic(auto, unfolding(crate::specs::Objects::IsAt))]
+    pub(super) fn begin_array(&mut self)
+        ensures member { (outer : List Bool) → IsAt (after_name outer) self.old
+            → IsAt (in_array (true ∷ outer)) self.new }
+        ensures element { (outer : List Bool) → IsAt (in_array outer) self.old
+            → IsAt (in_array (false ∷ outer)) self.new }
+    {
         let added = self.out.begin_array();
         self.note(added);
     }
 
     /// Ends a list.
-    pub(super) fn end_array(&mut self) {
+    #[tactic(auto, unfolding(crate::specs::Objects::IsAt))]
+    pub(super) fn end_array(&mut self)
+        ensures member { (outer : List Bool) → IsAt (in_array (true ∷ outer)) self.old
+            → IsAt (in_object outer) self.new }
+        ensures element { (outer : List Bool) → IsAt (in_array (false ∷ outer)) self.old
+            → IsAt (in_array outer) self.new }
+    {
         let added = self.out.end_array();
         self.note(added);
     }
 
     /// Begins a value that is an object.
-    pub(super) fn begin_object(&mut self) {
+    #[tactic(auto, unfolding(crate::specs::Objects::IsAt))]
+    pub(super) fn begin_object(&mut self)
+        ensures member { (outer : List Bool) → IsAt (after_name outer) self.old
+            → IsAt (in_object (true ∷ outer)) self.new }
+        ensures element { (outer : List Bool) → IsAt (in_array outer) self.old
+            → IsAt (in_object (false ∷ outer)) self.new }
+    {
         let added = self.out.begin_object();
         self.note(added);
     }
 
     /// Ends an object within this one.
-    pub(super) fn end_object(&mut self) {
+    #[tactic(auto, unfolding(crate::specs::Objects::IsAt))]
+    pub(super) fn end_object(&mut self)
+        ensures member { (outer : List Bool) → IsAt (in_object (true ∷ outer)) self.old
+            → IsAt (in_object outer) self.new }
+        ensures element { (outer : List Bool) → IsAt (in_object (false ∷ outer)) self.old
+            → IsAt (in_array outer) self.new }
+    {
         let added = self.out.end_object();
         self.note(added);
     }
 
     /// Ends the object, and returns its line, or [`AllocError`] if an allocation failed meanwhile.
+    #[tactic(auto, unfolding(crate::specs::Objects::IsAt))]
     fn into_line(self) -> Result<Vec<u8>, AllocError>
+        requires { IsAt (in_object []) self }
         ensures { IfOk result (λ line. IsJsonLine line.items) }
     {
         let mut out = self.out;
@@ -191,11 +281,20 @@ impl Object {
 
 /// Returns bytes as a text, if they are UTF-8 without DEL and without U+0080 to U+009F. A string of
 /// JSON has escapes for the other control characters.
-fn shown_text(bytes: &[u8]) -> Option<&str> {
+fn shown_text(bytes: &[u8]) -> Option<&str>
+    ensures { IfSome result (λ t. (t.now ≡ bytes.now) × NoCharPasses is_late_control t.now) }
+{
     match str::from_utf8(bytes) {
-        Ok(text) if !text.chars().any(|c| c >= '\u{7f}' && c <= '\u{9f}') => Some(text),
+        Ok(text) if !has_late_control(text) => Some(text),
         _ => None,
     }
+}
+
+/// Returns whether a text has DEL or one of U+0080 to U+009F.
+fn has_late_control(text: &str) -> bool
+    ensures { (result ≡ false) → NoCharPasses is_late_control text.now }
+{
+    text.chars().any(|c| c >= '\u{7f}' && c <= '\u{9f}')
 }
 
 /// Returns the hexadecimal digits of bytes.

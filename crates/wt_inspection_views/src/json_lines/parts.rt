@@ -1,4 +1,6 @@
 //! Members that have parts of their own.
+ghost use Rattle.std.specs.Prelude.{List, Bool};
+ghost use Rattle.wt_inspection_views.specs.Objects.{AddsElements, AddsMembers};
 
 use super::object::Object;
 use crate::text::parts::name_setting;
@@ -7,12 +9,12 @@ use wt_items::item::{
 };
 
 /// Adds the lines of a field section, and why they end early, if they do.
-pub(super) fn add_section(object: &mut Object, section: &FieldSection) {
+pub(super) fn add_section(object: &mut Object, section: &FieldSection)
+    ensures { AddsMembers object.old object.new }
+{
     object.add_name("fields");
     object.begin_array();
-    for line in &section.lines {
-        add_field(object, line);
-    }
+    add_fields(object, section.lines.as_slice());
     object.end_array();
     match section.fault {
         None => {}
@@ -20,8 +22,19 @@ pub(super) fn add_section(object: &mut Object, section: &FieldSection) {
     }
 }
 
+/// Adds field lines as elements.
+fn add_fields(object: &mut Object, lines: &[Line])
+    ensures { AddsElements object.old object.new }
+{
+    for line in lines {
+        add_field(object, line);
+    }
+}
+
 /// Adds a field line.
-fn add_field(object: &mut Object, line: &Line) {
+fn add_field(object: &mut Object, line: &Line)
+    ensures { AddsElements object.old object.new }
+{
     object.begin_array();
     object.add_value(line.name.as_slice());
     object.add_value(line.value.as_slice());
@@ -29,7 +42,9 @@ fn add_field(object: &mut Object, line: &Line) {
 }
 
 /// Adds why the lines of a section end early.
-fn add_stop(object: &mut Object, fault: SectionFault, insert_count: Option<u64>) {
+fn add_stop(object: &mut Object, fault: SectionFault, insert_count: Option<u64>)
+    ensures { AddsMembers object.old object.new }
+{
     match fault {
         SectionFault::NeedsDynamicTable => add_dynamic(object, insert_count),
         SectionFault::Malformed(fault) => {
@@ -39,7 +54,9 @@ fn add_stop(object: &mut Object, fault: SectionFault, insert_count: Option<u64>)
 }
 
 /// Adds that a line needs the dynamic table, and the Required Insert Count, if it could be read.
-fn add_dynamic(object: &mut Object, insert_count: Option<u64>) {
+fn add_dynamic(object: &mut Object, insert_count: Option<u64>)
+    ensures { AddsMembers object.old object.new }
+{
     object.add_text("stopped", "needs the dynamic table");
     match insert_count {
         Some(count) => object.add_number("insert_count", count),
@@ -48,17 +65,28 @@ fn add_dynamic(object: &mut Object, insert_count: Option<u64>) {
 }
 
 /// Adds settings.
-pub(super) fn add_settings(object: &mut Object, settings: &[SettingLine]) {
+pub(super) fn add_settings(object: &mut Object, settings: &[SettingLine])
+    ensures { AddsMembers object.old object.new }
+{
     object.add_name("settings");
     object.begin_array();
-    for setting in settings {
-        add_setting(object, setting);
-    }
+    add_each_setting(object, settings);
     object.end_array()
 }
 
+/// Adds settings as elements.
+fn add_each_setting(object: &mut Object, settings: &[SettingLine])
+    ensures { AddsElements object.old object.new }
+{
+    for setting in settings {
+        add_setting(object, setting);
+    }
+}
+
 /// Adds a setting.
-fn add_setting(object: &mut Object, setting: &SettingLine) {
+fn add_setting(object: &mut Object, setting: &SettingLine)
+    ensures { AddsElements object.old object.new }
+{
     object.begin_object();
     object.add_number("id", setting.id);
     object.add_made("name", name_setting(object.alloc, setting));
@@ -68,7 +96,9 @@ fn add_setting(object: &mut Object, setting: &SettingLine) {
 }
 
 /// Adds what is wrong with a setting.
-fn add_flag(object: &mut Object, flag: Option<SettingFlag>) {
+fn add_flag(object: &mut Object, flag: Option<SettingFlag>)
+    ensures { AddsMembers object.old object.new }
+{
     match flag {
         None => {}
         Some(SettingFlag::Reserved) => object.add_text("fault", "reserved"),
@@ -77,17 +107,28 @@ fn add_flag(object: &mut Object, flag: Option<SettingFlag>) {
 }
 
 /// Adds the capsules of a frame.
-pub(super) fn add_capsules(object: &mut Object, capsules: &[CapsuleItem]) {
+pub(super) fn add_capsules(object: &mut Object, capsules: &[CapsuleItem])
+    ensures { AddsMembers object.old object.new }
+{
     object.add_name("capsules");
     object.begin_array();
-    for capsule in capsules {
-        add_placed_capsule(object, capsule);
-    }
+    add_each_capsule(object, capsules);
     object.end_array()
 }
 
+/// Adds capsules as elements.
+fn add_each_capsule(object: &mut Object, capsules: &[CapsuleItem])
+    ensures { AddsElements object.old object.new }
+{
+    for capsule in capsules {
+        add_placed_capsule(object, capsule);
+    }
+}
+
 /// Adds an object that has the place of a capsule, and the capsule.
-fn add_placed_capsule(object: &mut Object, capsule: &CapsuleItem) {
+fn add_placed_capsule(object: &mut Object, capsule: &CapsuleItem)
+    ensures { AddsElements object.old object.new }
+{
     object.begin_object();
     object.add_number("at", capsule.at as u64);
     add_capsule(object, capsule);
@@ -95,7 +136,9 @@ fn add_placed_capsule(object: &mut Object, capsule: &CapsuleItem) {
 }
 
 /// Adds a capsule.
-pub(super) fn add_capsule(object: &mut Object, capsule: &CapsuleItem) {
+pub(super) fn add_capsule(object: &mut Object, capsule: &CapsuleItem)
+    ensures { AddsMembers object.old object.new }
+{
     object.add_text("type", capsule.name);
     object.add_number("number", capsule.number);
     object.add_number("payload", capsule.announced);
@@ -106,7 +149,9 @@ pub(super) fn add_capsule(object: &mut Object, capsule: &CapsuleItem) {
 }
 
 /// Adds why a session is closed.
-fn add_close(object: &mut Object, close: &CloseReason) {
+fn add_close(object: &mut Object, close: &CloseReason)
+    ensures { AddsMembers object.old object.new }
+{
     object.add_number("code", close.code);
     object.add_name("reason");
     object.add_value(close.reason.as_bytes())

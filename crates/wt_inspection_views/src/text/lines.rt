@@ -1,6 +1,7 @@
 //! Lines of text that remember a failed allocation.
-ghost use Rattle.std.specs.Prelude.{IfOk, string_bytes};
-ghost use Rattle.wt_inspection_views.specs.Escaped.{IsClean};
+ghost use Rattle.std.specs.Prelude.{◌≡◌, false, true, IfOk, IsTrue, string_bytes};
+ghost use Rattle.wt_inspection_views.specs.Escaped.{IsClean, line_count};
+ghost use Rattle.wt_inspection_views.specs.Lines.{Gains};
 
 use super::parts::count_bytes;
 use crate::plain::PlainText;
@@ -18,7 +19,10 @@ pub(super) struct Lines {
 
 impl Lines {
     /// Creates no lines.
-    pub(super) fn new(alloc: Global) -> Self {
+    pub(super) fn new(alloc: Global) -> Self
+        ensures whole { result.is_whole ≡ true }
+        ensures lines { line_count result.text ≡ 0 }
+    {
         Lines {
             alloc,
             text: PlainText::new(alloc),
@@ -27,19 +31,25 @@ impl Lines {
     }
 
     /// Remembers that an allocation failed.
-    pub(super) fn lose(&mut self) {
+    pub(super) fn lose(&mut self)
+        ensures { self.new.is_whole ≡ false }
+    {
         self.is_whole = false;
     }
 
     /// Adds a line of these words.
-    pub(super) fn add(&mut self, words: &str) {
+    pub(super) fn add(&mut self, words: &str)
+        ensures { Gains 1 self.old self.new }
+    {
         if self.text.add_line(words).is_err() {
             self.lose();
         }
     }
 
     /// Adds a line of words for which memory was allocated.
-    pub(super) fn add_made(&mut self, words: Result<String, AllocError>) {
+    pub(super) fn add_made(&mut self, words: Result<String, AllocError>)
+        ensures { Gains 1 self.old self.new }
+    {
         match words {
             Ok(words) => self.add(words.as_str()),
             Err(_) => self.lose(),
@@ -47,7 +57,9 @@ impl Lines {
     }
 
     /// Adds the line of an item: its place, what it is, and more of it.
-    pub(super) fn add_head(&mut self, at: usize, what: &str, more: Result<String, AllocError>) {
+    pub(super) fn add_head(&mut self, at: usize, what: &str, more: Result<String, AllocError>)
+        ensures { Gains 1 self.old self.new }
+    {
         match more {
             Ok(more) => self.add_made(format!(in self.alloc; "{at:<5} {what:<18} {more}")),
             Err(_) => self.lose(),
@@ -55,13 +67,16 @@ impl Lines {
     }
 
     /// Adds the line of an item with its number of bytes.
-    pub(super) fn add_size(&mut self, at: usize, what: &str, size: u64) {
+    pub(super) fn add_size(&mut self, at: usize, what: &str, size: u64)
+        ensures { Gains 1 self.old self.new }
+    {
         self.add_head(at, what, count_bytes(self.alloc, size));
     }
 
     /// Returns the text, or [`AllocError`] if an allocation failed meanwhile.
     pub(super) fn into_text(self) -> Result<String, AllocError>
-        ensures { IfOk result (λ t. IsClean (string_bytes t)) }
+        ensures clean { IfOk result (λ t. IsClean (string_bytes t)) }
+        ensures lines { IfOk result (λ t. IsTrue self.is_whole × (line_count (string_bytes t) ≡ line_count self.text)) }
     {
         if self.is_whole {
             Ok(self.text.into_text())

@@ -1,4 +1,7 @@
 //! The lines below an item.
+ghost use Rattle.std.specs.Prelude.{length};
+ghost use Rattle.wt_inspection_views.specs.Lines.{Gains};
+ghost use Rattle.wt_inspection_views.specs.TextLines.{capsule_lines, close_lines, field_lines, hex_lines, stop_lines};
 
 use super::lines::Lines;
 use crate::escaped::{add_escaped, add_hex_byte};
@@ -20,18 +23,29 @@ pub(super) fn count_bytes(alloc: Global, count: u64) -> Result<String, AllocErro
 }
 
 /// Adds the lines of a field section: a line for each field, and one for the fault that ends it.
-pub(super) fn add_fields(text: &mut Lines, section: &FieldSection) {
+pub(super) fn add_fields(text: &mut Lines, section: &FieldSection)
+    ensures { Gains (field_lines section.now) text.old text.new }
+{
     for line in &section.lines {
         text.add_made(words_of_field(text.alloc, line));
     }
+    add_stop(text, section)
+}
+
+/// Adds the line of why the lines of a section end early, if they do.
+fn add_stop(text: &mut Lines, section: &FieldSection)
+    ensures { Gains (stop_lines section.now.fault) text.old text.new }
+{
     match section.fault {
         None => {}
-        Some(fault) => add_stop(text, fault, section.insert_count),
+        Some(fault) => add_fault(text, fault, section.insert_count),
     }
 }
 
-/// Adds the line of why the lines of a section end early.
-fn add_stop(text: &mut Lines, fault: SectionFault, insert_count: Option<u64>) {
+/// Adds the line of the fault of a section.
+fn add_fault(text: &mut Lines, fault: SectionFault, insert_count: Option<u64>)
+    ensures { Gains 1 text.old text.new }
+{
     match (fault, insert_count) {
         (SectionFault::Malformed(fault), _) => {
             text.add_made(format!(in text.alloc; "        malformed: {fault}"))
@@ -54,7 +68,9 @@ fn words_of_field(alloc: Global, field: &Line) -> Result<String, AllocError> {
 }
 
 /// Adds the lines of settings.
-pub(super) fn add_settings(text: &mut Lines, settings: &[SettingLine]) {
+pub(super) fn add_settings(text: &mut Lines, settings: &[SettingLine])
+    ensures { Gains (length settings.now) text.old text.new }
+{
     for setting in settings {
         text.add_made(words_of_setting(text.alloc, setting));
     }
@@ -88,15 +104,21 @@ pub(crate) fn name_setting(alloc: Global, setting: &SettingLine) -> Result<Strin
 }
 
 /// Adds the lines of a capsule: indented, unless it is an item of its own with a place.
-pub(super) fn add_capsule(text: &mut Lines, at: Option<usize>, capsule: &CapsuleItem) {
+pub(super) fn add_capsule(text: &mut Lines, at: Option<usize>, capsule: &CapsuleItem)
+    ensures { Gains (capsule_lines capsule.now) text.old text.new }
+{
+    add_capsule_head(text, at, capsule);
+    add_close(text, &capsule.close)
+}
+
+/// Adds the first line of a capsule.
+fn add_capsule_head(text: &mut Lines, at: Option<usize>, capsule: &CapsuleItem)
+    ensures { Gains 1 text.old text.new }
+{
     let more = words_of_capsule(text.alloc, capsule);
     match at {
         Some(at) => text.add_head(at, "capsule", more),
         None => text.add_made(indented(text.alloc, more)),
-    }
-    match &capsule.close {
-        None => {}
-        Some(close) => add_close(text, close),
     }
 }
 
@@ -117,8 +139,20 @@ fn indented(alloc: Global, more: Result<String, AllocError>) -> Result<String, A
     format!(in alloc; "        capsule          {more}")
 }
 
-/// Adds the lines of why a session is closed.
-fn add_close(text: &mut Lines, close: &CloseReason) {
+/// Adds the lines of why a session is closed, if it is.
+fn add_close(text: &mut Lines, close: &Option<CloseReason>)
+    ensures { Gains (close_lines close.now) text.old text.new }
+{
+    match close {
+        None => {}
+        Some(close) => add_reason(text, close),
+    }
+}
+
+/// Adds the lines of the code and the reason for which a session is closed.
+fn add_reason(text: &mut Lines, close: &CloseReason)
+    ensures { Gains 2 text.old text.new }
+{
     let code = close.code;
     text.add_made(format!(in text.alloc; "            code = {code}"));
     text.add_made(words_of_reason(text.alloc, close));
@@ -132,14 +166,18 @@ fn words_of_reason(alloc: Global, close: &CloseReason) -> Result<String, AllocEr
 }
 
 /// Adds the lines of warnings.
-pub(super) fn add_warnings(text: &mut Lines, warnings: &[Warning]) {
+pub(super) fn add_warnings(text: &mut Lines, warnings: &[Warning])
+    ensures { Gains (length warnings.now) text.old text.new }
+{
     for warning in warnings {
         add_warning(text, warning);
     }
 }
 
 /// Adds the line of a warning. Field lines are counted from 1.
-fn add_warning(text: &mut Lines, warning: &Warning) {
+fn add_warning(text: &mut Lines, warning: &Warning)
+    ensures { Gains 1 text.old text.new }
+{
     let why = warning.why;
     match warning.line {
         Some(line) => {
@@ -151,9 +189,13 @@ fn add_warning(text: &mut Lines, warning: &Warning) {
 }
 
 /// Adds lines of bytes in hexadecimal digits.
-pub(super) fn add_hex(text: &mut Lines, bytes: &[u8]) {
-    for row in bytes.chunks(BYTES_PER_LINE) {
-        text.add_made(hex_line(text.alloc, row));
+pub(super) fn add_hex(text: &mut Lines, bytes: &[u8])
+    ensures { Gains (hex_lines (length bytes.now)) text.old text.new }
+{
+    for row in 0..bytes.len().div_ceil(BYTES_PER_LINE) {
+        let start = row * BYTES_PER_LINE;
+        let end = bytes.len().min(start + BYTES_PER_LINE);
+        text.add_made(hex_line(text.alloc, &bytes[start..end]));
     }
 }
 

@@ -15,4 +15,4 @@ false_from_not true t = sym t
 pub returns : goal.returns
 returns c t =
     let any = any_from_yields_List is_control _ _ c.any.result c.any.ensures.ran (YieldsList-from_chars c.args.text.now c.utf8.text (search rules)) (λ x b q k. search (rules, tests)) in
-    (chars c.args.text.now, encodes-chars c.args.text.now c.utf8.text, none_from_any (chars c.args.text.now) (sym any ∙ false_from_not c.any.result t))
+    (chars c.args.text.now, encodes-chars c.args.text.now c.utf8.text, none_from_any is_control (chars c.args.text.now) (sym any ∙ false_from_not c.any.result t))
