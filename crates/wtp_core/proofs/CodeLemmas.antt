@@ -1,10 +1,12 @@
 -- Error codes and their numbers, and those of applications.
-use Rattle.std.proofs.Common.{◌≡◌, ℕ, ◌+◌, ◌-◌, ◌*◌, ◌/◌, ◌%◌, ◌^◌, ◌<◌, ◌≤◌, ◌==◌, if◌then◌else◌, refl, sym, ap, ◌∙◌, List, get_or, length, inl, inr, subst, arith}
+use Rattle.std.proofs.Common.{◌≡◌, ℕ, ◌+◌, ◌-◌, ◌*◌, ◌/◌, ◌%◌, ◌^◌, ◌<◌, ◌≤◌, ◌==◌, if◌then◌else◌, refl, sym, ap, ◌∙◌, get_or, length, inl, inr, arith}
 use Rattle.std.proofs.lemmas.Bool.{cases_lt}
 use Rattle.wtp_core.specs.declared.error.ErrorCode.{ErrorCode}
 use Rattle.wtp_core.specs.declared.error.ErrorCode.TheVariants.{Datagram, NoError, StreamCreation, ClosedCriticalStream, FrameUnexpected, Frame, ExcessiveLoad, Id, Settings, MissingSettings, RequestRejected, Message, Decompression, BufferedStreamRejected, SessionGone}
 use Rattle.wtp_core.specs.declared.error.number.TheConstants.{CODES}
 use Rattle.wtp_core.specs.ErrorCodes.{code_number}
+use Rattle.wtp_core.specs.ErrorScope.{scope_of}
+use Rattle.wtp_core.specs.Codes.{registration, registered, code_scope}
 use Rattle.wtp_core.specs.ApplicationCodes.{IsReservedCode, http3_number}
 
 -- the code of a number
@@ -63,6 +65,24 @@ number-not_reserved Message (n, e) = omega arith
 number-not_reserved Decompression (n, e) = omega arith
 number-not_reserved BufferedStreamRejected (n, e) = omega arith
 number-not_reserved SessionGone (n, e) = omega arith
+
+pub scope-agrees : (x : ErrorCode) → code_scope (code_number x) ≡ scope_of x
+unfolding registration registered
+scope-agrees Datagram = refl
+scope-agrees NoError = refl
+scope-agrees StreamCreation = refl
+scope-agrees ClosedCriticalStream = refl
+scope-agrees FrameUnexpected = refl
+scope-agrees Frame = refl
+scope-agrees ExcessiveLoad = refl
+scope-agrees Id = refl
+scope-agrees Settings = refl
+scope-agrees MissingSettings = refl
+scope-agrees RequestRejected = refl
+scope-agrees Message = refl
+scope-agrees Decompression = refl
+scope-agrees BufferedStreamRejected = refl
+scope-agrees SessionGone = refl
 
 -- where a code is in the list of all codes
 place_of : ErrorCode → ℕ

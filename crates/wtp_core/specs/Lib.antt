@@ -6,6 +6,7 @@ pub mod BufferWriter
 pub mod Ids
 pub mod ErrorCodes
 pub mod ErrorScope
+pub mod Codes
 pub mod ApplicationCodes
 pub mod VarintNeed
 pub mod Source

@@ -2,10 +2,12 @@
 ghost use Rattle.std.specs.Prelude.{◌≡◌};
 
 pub mod application_codes;
+mod code;
 mod number;
 mod scope;
 
 use crate::varint::VarInt;
+pub use code::Code;
 pub use number::UnknownErrorCode;
 pub use scope::ErrorScope;
 use std::fmt;
@@ -132,8 +134,8 @@ impl ErrorCode {
         }
     }
 
-    /// Returns the printed name.
-    fn name(self) -> &'static str
+    /// Returns the printed name. Not in the Rust crate.
+    pub fn name(self) -> &'static str
         ensures { result.now ≡ name_of self }
     {
         match self {

@@ -11,7 +11,10 @@ mod codes;
 use crate::bytes::{BytesReader, EndOfBuffer, ParentReader};
 use crate::ids::{QStreamId, SessionId, StatusCode, StreamId};
 use crate::varint::VarInt;
-pub use codes::{application_and_back, application_codes, code_and_back, codes_have_numbers};
+pub use codes::{
+    application_and_back, application_codes, code_and_back, code_of_error, codes_have_numbers,
+    scopes_agree,
+};
 use std::cmp::Ordering;
 use std::hash::{Hash, Hasher};
 

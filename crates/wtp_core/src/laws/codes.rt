@@ -2,10 +2,13 @@
 ghost use Rattle.std.specs.Prelude.{◌≡◌, ℕ, ◌-◌, ◌<◌, ◌≤◌, ◌^◌, Ok};
 ghost use Rattle.wtp_core.specs.declared.error.ErrorCode.{ErrorCode};
 ghost use Rattle.wtp_core.specs.ErrorCodes.{code_number};
+ghost use Rattle.wtp_core.specs.ErrorScope.{scope_of};
+ghost use Rattle.wtp_core.specs.Codes.{code_scope};
 ghost use Rattle.wtp_core.specs.ApplicationCodes.{IsReservedCode, http3_number};
 
 use crate::error::application_codes::{NotAnApplicationCode, from_http3, to_http3};
-use crate::error::{ErrorCode, UnknownErrorCode};
+use crate::error::{Code, ErrorCode, ErrorScope, UnknownErrorCode};
+use crate::varint::VarInt;
 
 /// Two error codes have two numbers, and none is reserved (RFC 9114, section 8.1).
 pub fn codes_have_numbers()
@@ -18,6 +21,20 @@ pub fn code_and_back(code: ErrorCode) -> Result<ErrorCode, UnknownErrorCode>
     ensures { result ≡ Ok code }
 {
     ErrorCode::try_from(code.to_code())
+}
+
+/// The scope of an error code is that of its number.
+pub fn scopes_agree()
+    ensures { (x : ErrorCode) → code_scope (code_number x) ≡ scope_of x }
+{}
+
+/// An error code as a [`Code`] keeps its number and its scope.
+pub fn code_of_error(error: ErrorCode) -> (VarInt, ErrorScope)
+    ensures number { result.0 ≡ code_number error }
+    ensures scope { result.1 ≡ scope_of error }
+{
+    let code = Code::from(error);
+    (code.number(), code.scope())
 }
 
 /// The HTTP/3 error codes of applications, of numbers of 32 bits, are those of a range, from the
