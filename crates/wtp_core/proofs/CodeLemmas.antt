@@ -7,7 +7,8 @@ use Rattle.wtp_core.specs.declared.error.number.TheConstants.{CODES}
 use Rattle.wtp_core.specs.ErrorCodes.{code_number}
 use Rattle.wtp_core.specs.ErrorScope.{scope_of}
 use Rattle.wtp_core.specs.Codes.{registration, registered, code_scope}
-use Rattle.wtp_core.specs.ApplicationCodes.{IsReservedCode, http3_number}
+use Rattle.wtp_core.specs.Numbers.{IsReserved}
+use Rattle.wtp_core.specs.ApplicationCodes.{http3_number}
 
 -- the code of a number
 code_at : ℕ → ErrorCode
@@ -49,7 +50,7 @@ code_at-number SessionGone = refl
 pub number-one : (x y : ErrorCode) → code_number x ≡ code_number y → x ≡ y
 number-one x y e = sym (code_at-number x) ∙ ap code_at e ∙ code_at-number y
 
-pub number-not_reserved : (x : ErrorCode) → ¬ IsReservedCode (code_number x)
+pub number-not_reserved : (x : ErrorCode) → ¬ IsReserved (code_number x)
 number-not_reserved Datagram (n, e) = omega arith
 number-not_reserved NoError (n, e) = omega arith
 number-not_reserved StreamCreation (n, e) = omega arith
@@ -147,13 +148,13 @@ split n = record { q = n / 30; r = n % 30; is = omega arith; small = omega arith
 pub application-range : (n : ℕ) → n < 2 ^ 32 → (http3_number 0 ≤ http3_number n) × (http3_number n ≤ http3_number (2 ^ 32 - 1))
 application-range n few = (omega arith, omega arith)
 
-pub application-not_reserved : (n : ℕ) → ¬ IsReservedCode (http3_number n)
+pub application-not_reserved : (n : ℕ) → ¬ IsReserved (http3_number n)
 application-not_reserved n (m, e) = let s = split n in omega arith
 
 pub application-one : (m n : ℕ) → http3_number m ≡ http3_number n → m ≡ n
 application-one m n e = omega arith
 
-pub application-every : (h : ℕ) → http3_number 0 ≤ h → h ≤ http3_number (2 ^ 32 - 1) → ¬ IsReservedCode h → (n : ℕ) × (n < 2 ^ 32) × (h ≡ http3_number n)
+pub application-every : (h : ℕ) → http3_number 0 ≤ h → h ≤ http3_number (2 ^ 32 - 1) → ¬ IsReserved h → (n : ℕ) × (n < 2 ^ 32) × (h ≡ http3_number n)
 application-every h low high free =
     let s : ℕ = h - 0x52e4a40fa8db in
     let n : ℕ = s - s / 31 in

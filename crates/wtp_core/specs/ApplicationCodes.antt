@@ -1,10 +1,6 @@
 -- Error codes of applications as error codes of HTTP/3 (WebTransport over HTTP/3, "Resetting Data
 -- Streams").
-use Rattle.std.specs.Prelude.{◌≡◌, ℕ, ◌+◌, ◌*◌, ◌/◌}
-
--- an HTTP/3 error code that is reserved to exercise unknown codes (RFC 9114, section 8.1)
-abbrev pub IsReservedCode : ℕ → Type 0
-IsReservedCode h = (n : ℕ) × (h ≡ 0x1f * n + 0x21)
+use Rattle.std.specs.Prelude.{ℕ, ◌+◌, ◌/◌}
 
 -- the HTTP/3 error code of the application's error code n
 abbrev pub http3_number : ℕ → ℕ

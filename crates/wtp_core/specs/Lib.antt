@@ -4,6 +4,7 @@ pub mod Cursor
 pub mod Writer
 pub mod BufferWriter
 pub mod Ids
+pub mod Numbers
 pub mod ErrorCodes
 pub mod ErrorScope
 pub mod Codes

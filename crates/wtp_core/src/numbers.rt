@@ -3,6 +3,24 @@
 //! The modules of the wire format re-export them under their own names. They are defined here
 //! because a `VarInt` constant is a struct literal, which needs the private field.
 
+ghost use Rattle.std.specs.Prelude.{◌≡◌, ◌↔◌, IsTrue};
+ghost use Rattle.wtp_core.specs.Numbers.{IsReserved, is_reserved};
+
+use crate::varint::VarInt;
+
+/// Returns whether the number is `0x1f * n + 0x21` for a number `n`.
+///
+/// These types of frames and streams, identifiers of settings and error codes are reserved to
+/// exercise the requirement to ignore unknown ones (RFC 9114, sections 7.2.8, 6.2.3, 7.2.4.1 and
+/// 8.1). Not in the Rust crate.
+#[inline(always)]
+pub fn is_reserved(number: VarInt) -> bool
+    ensures value { result ≡ is_reserved number }
+    ensures reserved { IsTrue result ↔ IsReserved number }
+{
+    number.value >= 0x21 && (number.value - 0x21) % 0x1f == 0
+}
+
 /// Frame types (RFC 9114, section 11.2.1; 0x41: draft-ietf-webtrans-http3-02, section 4.2).
 pub mod frame_kind_ids {
     use crate::varint::VarInt;

@@ -1,5 +1,6 @@
 -- The kinds of frames by their types (RFC 9114, section 7.2; 0x41 is the WebTransport type).
-use Rattle.std.specs.Prelude.{◌≡◌, ℕ, ◌+◌, ◌*◌, ◌-◌, ◌%◌, Bool, ◌&&◌, nat_le, ◌==◌, if◌then◌else◌, List, [], ◌∷◌, Option, Some, None, IsTrue}
+use Rattle.std.specs.Prelude.{◌≡◌, ℕ, Bool, ◌==◌, if◌then◌else◌, List, [], ◌∷◌, Option, Some, None, IsTrue}
+use Rattle.wtp_core.specs.Numbers.{IsReserved, is_reserved}
 use Rattle.wtp_wire.specs.declared.frame.kind.FrameKind.{FrameKind}
 use Rattle.wtp_wire.specs.declared.frame.kind.FrameKind.TheVariants.{Data, Headers, Settings, WebTransport, Exercise}
 
@@ -22,7 +23,7 @@ registered = Data ∷ Headers ∷ Settings ∷ WebTransport ∷ []
 -- a type that is reserved to exercise the requirement to ignore unknown types (RFC 9114, section
 -- 7.2.8)
 abbrev pub IsExercise : ℕ → Type 0
-IsExercise id = (n : ℕ) × (id ≡ 0x21 + 0x1f * n)
+IsExercise id = IsReserved id
 
 -- the frames of this type are of this kind
 abbrev pub IsKind : FrameKind → ℕ → Type 0
@@ -32,7 +33,7 @@ IsKind kind id = id ≡ frame_type_of kind
 -- ---- the same, computed
 
 abbrev pub is_exercise : ℕ → Bool
-is_exercise id = nat_le 33 id && ((id - 33) % 31 == 0)
+is_exercise id = is_reserved id
 
 -- the number of an exercise kind is one of those that are reserved
 abbrev pub IsKnown : FrameKind → Type 0

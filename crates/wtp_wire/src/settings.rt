@@ -15,6 +15,7 @@ use std::fmt;
 use std::marker::Model;
 use wtp_core::bytes::{BufferWriter, BytesReader, BytesWriter, EndOfBuffer, PutError};
 use wtp_core::error::{ErrorCode, Refused};
+use wtp_core::numbers;
 pub use wtp_core::numbers::setting_ids;
 use wtp_core::varint::VarInt;
 
@@ -88,7 +89,7 @@ impl SettingId {
     fn is_exercise(id: VarInt) -> bool
         ensures { result ≡ is_exercise id }
     {
-        id.into_inner() >= 0x21 && (id.into_inner() - 0x21) % 0x1f == 0
+        numbers::is_reserved(id)
     }
 
     /// Returns whether the number is an HTTP/2 setting that must not be received.

@@ -15,6 +15,7 @@ use wtp_core::bytes::{
     BufferReader, BufferWriter, BytesReader, BytesWriter, EndOfBuffer, PutError,
 };
 use wtp_core::ids::SessionId;
+use wtp_core::numbers;
 pub use wtp_core::numbers::stream_type_ids;
 use wtp_core::varint::VarInt;
 
@@ -53,7 +54,7 @@ impl StreamKind {
     pub fn is_id_exercise(id: VarInt) -> bool
         ensures { result ≡ is_exercise id }
     {
-        id.into_inner() >= 0x21 && (id.into_inner() - 0x21) % 0x1f == 0
+        numbers::is_reserved(id)
     }
 
     /// Returns the type.

@@ -4,6 +4,7 @@
 ghost use Rattle.std.specs.Prelude.{◌≡◌, ◌≢◌, ℕ, ◌<◌, ◌^◌, MatchResult};
 ghost use Rattle.wtp_core.specs.ApplicationCodes.{http3_number};
 
+use crate::numbers::is_reserved;
 use crate::varint::VarInt;
 
 /// The HTTP/3 error code of the application's error code 0.
@@ -40,7 +41,7 @@ pub fn from_http3(number: VarInt) -> Result<u32, NotAnApplicationCode>
         (λ _. (code : ℕ) → code < 2 ^ 32 → number ≢ http3_number code) }
 {
     let value = number.value;
-    if value < FIRST.value || LAST.value < value || (value - 0x21) % 0x1f == 0 {
+    if value < FIRST.value || LAST.value < value || is_reserved(number) {
         return Err(NotAnApplicationCode);
     }
     let shifted = value - FIRST.value;

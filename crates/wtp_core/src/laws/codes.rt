@@ -4,7 +4,8 @@ ghost use Rattle.wtp_core.specs.declared.error.ErrorCode.{ErrorCode};
 ghost use Rattle.wtp_core.specs.ErrorCodes.{code_number};
 ghost use Rattle.wtp_core.specs.ErrorScope.{scope_of};
 ghost use Rattle.wtp_core.specs.Codes.{code_scope};
-ghost use Rattle.wtp_core.specs.ApplicationCodes.{IsReservedCode, http3_number};
+ghost use Rattle.wtp_core.specs.Numbers.{IsReserved};
+ghost use Rattle.wtp_core.specs.ApplicationCodes.{http3_number};
 
 use crate::error::application_codes::{NotAnApplicationCode, from_http3, to_http3};
 use crate::error::{Code, ErrorCode, ErrorScope, UnknownErrorCode};
@@ -13,7 +14,7 @@ use crate::varint::VarInt;
 /// Two error codes have two numbers, and none is reserved (RFC 9114, section 8.1).
 pub fn codes_have_numbers()
     ensures one { (x y : ErrorCode) → code_number x ≡ code_number y → x ≡ y }
-    ensures not_reserved { (x : ErrorCode) → ¬ IsReservedCode (code_number x) }
+    ensures not_reserved { (x : ErrorCode) → ¬ IsReserved (code_number x) }
 {}
 
 /// The number of an error code is read as that code.
@@ -42,9 +43,9 @@ pub fn code_of_error(error: ErrorCode) -> (VarInt, ErrorScope)
 pub fn application_codes()
     ensures range { (n : ℕ) → n < 2 ^ 32
         → (http3_number 0 ≤ http3_number n) × (http3_number n ≤ http3_number (2 ^ 32 - 1)) }
-    ensures not_reserved { (n : ℕ) → ¬ IsReservedCode (http3_number n) }
+    ensures not_reserved { (n : ℕ) → ¬ IsReserved (http3_number n) }
     ensures every { (h : ℕ) → http3_number 0 ≤ h → h ≤ http3_number (2 ^ 32 - 1)
-        → ¬ IsReservedCode h
+        → ¬ IsReserved h
         → (n : ℕ) × (n < 2 ^ 32) × (h ≡ http3_number n) }
     ensures one { (m n : ℕ) → http3_number m ≡ http3_number n → m ≡ n }
 {}

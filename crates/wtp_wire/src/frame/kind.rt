@@ -3,7 +3,7 @@ ghost use Rattle.std.specs.Prelude.{◌≡◌, Some, IfSome};
 ghost use Rattle.wtp_wire.specs.Kind.{is_exercise, kind_of, frame_type_of, registered_kind, IsKnown};
 
 use std::marker::Model;
-use wtp_core::numbers::frame_kind_ids;
+use wtp_core::numbers::{frame_kind_ids, is_reserved};
 use wtp_core::varint::VarInt;
 
 /// The kind of a frame.
@@ -28,7 +28,7 @@ impl FrameKind {
     pub fn is_id_exercise(id: VarInt) -> bool
         ensures { result ≡ is_exercise id }
     {
-        id.into_inner() >= 0x21 && (id.into_inner() - 0x21) % 0x1f == 0
+        is_reserved(id)
     }
 
     /// Returns the type.
