@@ -4,6 +4,7 @@ pub mod LeastLemmas
 pub mod RestLemmas
 pub mod WriterLemmas
 pub mod TellingLemmas
+pub mod WaitLemmas
 pub mod FillLemmas
 pub mod PassLemmas
 pub mod NeedLemmas

@@ -37,6 +37,18 @@ abbrev pub FillTells :
     {U : Type 0} → Result U Halt → List ℕ → List ℕ → Option Source → Option Source → Type 0
 FillTells r held new old now = Telling old now (λ a b. FillMoves r held new a b)
 
+-- how often the source was not ready: once if that is why no more bytes came, and otherwise never
+abbrev pub halt_waits : {U : Type 0} → Result U Halt → ℕ
+halt_waits (Ok _) = 0
+halt_waits (Err halt.NotReady) = 1
+halt_waits (Err halt.Fin) = 0
+halt_waits (Err halt.Reset) = 0
+halt_waits (Err halt.NotConnected) = 0
+
+-- the source was not ready so often, and no more
+abbrev pub HaltWaits : {U : Type 0} → Result U Halt → Source → Source → Type 0
+HaltWaits r a b = b.waits ≡ a.waits + halt_waits r
+
 -- the error of a reading that stopped after this many bytes were taken, if the source gives no more
 abbrev pub halt_fault : Halt → ℕ → Option IoReadError
 halt_fault halt.NotReady taken = None

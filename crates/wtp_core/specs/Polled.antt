@@ -2,6 +2,8 @@
 use Rattle.std.specs.Prelude.{◌≡◌, ℕ, ◌+◌, ◌≤◌, ◌==◌, if◌then◌else◌}
 use Rattle.std.specs.declared.io.ErrorKind.{ErrorKind}
 use Rattle.std.specs.declared.io.ErrorKind.TheVariants.{ConnectionReset}
+use Rattle.wtp_core.specs.declared.bytes.polled.Polled.{Polled}
+use Rattle.wtp_core.specs.declared.bytes.polled.Polled.TheVariants.{Ready, Pending, Again, NoMemory}
 use Rattle.wtp_core.specs.declared.bytes.polled.IoReadError.{IoReadError}
 use Rattle.wtp_core.specs.declared.bytes.polled.IoReadError.TheVariants as read
 use Rattle.wtp_core.specs.declared.bytes.polled.IoWriteError.{IoWriteError}
@@ -29,3 +31,14 @@ pub record Asks (calls : ℕ) (a b : Source) : Type 0 where
   pub no_less : a.asked ≤ b.asked
   pub ending : b.ending ≡ a.ending
   pub waits : a.waits ≤ b.waits
+
+-- how often the source was not ready in one poll: once if the poll is pending, and otherwise never
+abbrev pub polled_waits : {T : Type 0} → Polled T → ℕ
+polled_waits (Ready _) = 0
+polled_waits Pending = 1
+polled_waits Again = 0
+polled_waits NoMemory = 0
+
+-- the source was not ready as often as this result of a poll says, and no more
+abbrev pub WaitsAs : {T : Type 0} → Polled T → Source → Source → Type 0
+WaitsAs result a b = b.waits ≡ a.waits + polled_waits result

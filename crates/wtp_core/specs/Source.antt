@@ -64,6 +64,16 @@ StepMoves NotConnected buf a b = IsOver a b AtDisconnection
 abbrev pub StepTells : ReadStep → List ℕ → Option Source → Option Source → Type 0
 StepTells step buf old new = Telling old new (λ a b. AsksOnce a b × StepMoves step buf a b)
 
+-- how often the source was not ready in one call
+abbrev pub step_waits : ReadStep → ℕ
+step_waits (Bytes n) = 0
+step_waits NotReady = 1
+step_waits Reset = 0
+step_waits NotConnected = 0
+
+abbrev pub StepWaits : ReadStep → Source → Source → Type 0
+StepWaits step a b = b.waits ≡ a.waits + step_waits step
+
 -- ---- the buffered bytes
 
 -- the bytes ahead start with these bytes

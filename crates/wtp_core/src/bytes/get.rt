@@ -1,7 +1,7 @@
 //! Reading a number, or into a buffer, poll by poll.
 ghost use Rattle.std.specs.Prelude.{◌≡◌, ℕ, ◌<◌, ◌≤◌, List, [], None, length, take, Ok};
 ghost use Rattle.wtp_core.specs.Source.{Telling};
-ghost use Rattle.wtp_core.specs.Polled.{Asks};
+ghost use Rattle.wtp_core.specs.Polled.{Asks, WaitsAs};
 ghost use Rattle.wtp_core.specs.Varint.{number_at};
 ghost use Rattle.wtp_core.specs.VarintNeed.{varint_need, IsCutNumber, varint_need_most, varint_need_grows};
 ghost use Rattle.wtp_core.specs.Get.{VarintPolled, VarintGiven, BufferPolled, BufferGiven};
@@ -72,14 +72,15 @@ impl GetVarint {
 
     /// Reads as far as the source goes, in at most 8 calls, and does not allocate.
     ///
-    /// Returns the number, and is then as new; `Pending` if the source was not ready; or why the
-    /// source gave no more. After `Pending` or an error it may be polled again.
+    /// Returns the number, and is then as new; `Pending` once the source was not ready, which is not
+    /// called again then; or why the source gave no more. After `Pending` or an error it may be polled again.
     pub fn poll<S: AsyncRead>(&mut self, source: &mut S) -> Polled<Result<VarInt, IoReadError>>
         ensures was_cut { number_at self.old ≡ None }
         ensures cut { number_at self.new ≡ None }
         ensures given { VarintGiven result self.old self.new }
         ensures polled { Telling (S.tells source.old) (S.tells source.new)
             (VarintPolled result self.old self.new) }
+        ensures waits { Telling (S.tells source.old) (S.tells source.new) (WaitsAs result) }
         ensures asks { Telling (S.tells source.old) (S.tells source.new) (Asks 8) }
     {
         match fill_head::<VarintHead, S>(source, &mut self.bytes, &mut self.len) {
@@ -130,6 +131,7 @@ impl<'a> GetBuffer<'a> {
             (taken_of self.new) }
         ensures polled { Telling (S.tells source.old) (S.tells source.new)
             (BufferPolled result (taken_of self.old) (taken_of self.new)) }
+        ensures waits { Telling (S.tells source.old) (S.tells source.new) (WaitsAs result) }
         ensures asks { Telling (S.tells source.old) (S.tells source.new) (Asks (room_of self.old)) }
         ensures finished { length (taken_of self.old) ≡ room_of self.old
             → (source.new ≡ source.old) × (result ≡ Polled.Ready (Ok tt))

@@ -1,6 +1,7 @@
 //! Reading from a source into a buffer, as far as the source goes.
 ghost use Rattle.std.specs.Prelude.{◌≡◌, ◌≤◌, length, take};
-ghost use Rattle.wtp_core.specs.Fill.{FillKeepsLengths, FillTells, halt_fault, HaltsAs};
+ghost use Rattle.wtp_core.specs.Source.{Telling};
+ghost use Rattle.wtp_core.specs.Fill.{FillKeepsLengths, FillTells, HaltWaits, halt_fault, HaltsAs};
 
 use crate::bytes::polled::{IoReadError, Polled};
 use crate::bytes::source::{AsyncRead, ReadStep};
@@ -24,7 +25,7 @@ pub enum Halt {
 /// The bytes before the old position do not change. On an error all received bytes are in
 /// `buf[..at]`, `at` is less than the length of `buf`, and a later call continues from there:
 ///
-/// - `NotReady`: the source was not ready. Its count of waits rose.
+/// - `NotReady`: the source was not ready. Its count of waits rose by one; otherwise it is unchanged.
 /// - `Fin`, `Reset`, `NotConnected`: the source ended in this way, and has no bytes ahead.
 #[inline(always)]
 pub fn fill<S: AsyncRead>(source: &mut S, buf: &mut [u8], at: &mut usize) -> Result<(), Halt>
@@ -34,6 +35,7 @@ pub fn fill<S: AsyncRead>(source: &mut S, buf: &mut [u8], at: &mut usize) -> Res
     ensures lengths { FillKeepsLengths result at.new (length buf.new) }
     ensures tells { FillTells result (take at.old buf.old) (take at.new buf.new)
         (S.tells source.old) (S.tells source.new) }
+    ensures waits { Telling (S.tells source.old) (S.tells source.new) (HaltWaits result) }
 {
     while *at < buf.len() {
         match source.poll_read(&mut buf[*at..]) {

@@ -1,6 +1,7 @@
 //! Reading a head: the first bytes of an item, which determine the length of the head.
 ghost use Rattle.std.specs.Prelude.{◌≡◌, ℕ, ◌<◌, ◌≤◌, List, ◌++◌, length, take, OnOk, OnErr};
-ghost use Rattle.wtp_core.specs.Fill.{FillTells};
+ghost use Rattle.wtp_core.specs.Source.{Telling};
+ghost use Rattle.wtp_core.specs.Fill.{FillTells, HaltWaits};
 
 use crate::bytes::source::AsyncRead;
 use crate::polling::fill::{Halt, fill};
@@ -48,6 +49,7 @@ pub fn fill_head<H: Head, S: AsyncRead>(
         → (len.new ≡ len.old) × (buf.new ≡ buf.old) }
     ensures tells { FillTells result (take len.old buf.old) (take len.new buf.new)
         (S.tells source.old) (S.tells source.new) }
+    ensures waits { Telling (S.tells source.old) (S.tells source.new) (HaltWaits result) }
 {
     loop {
         let need = H::need(&buf[..*len]);

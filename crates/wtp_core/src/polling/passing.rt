@@ -1,5 +1,7 @@
 //! Skipping bytes of a source.
 ghost use Rattle.std.specs.Prelude.{◌≡◌, ◌+◌, ◌-◌, ◌<◌, ◌≤◌, OnOk, OnErr};
+ghost use Rattle.wtp_core.specs.Source.{Telling, StepWaits};
+ghost use Rattle.wtp_core.specs.Fill.{HaltWaits};
 ghost use Rattle.wtp_core.specs.Passing.{max_passed, PassTells, CountFits, StepPasses};
 
 use crate::bytes::source::{AsyncRead, ReadStep};
@@ -21,6 +23,7 @@ pub fn pass<S: AsyncRead>(source: &mut S, due: &mut u64) -> Result<(), Halt>
     ensures part { OnErr result (0 < due.new) }
     ensures some { OnErr result (due.old < due.new + max_passed) }
     ensures tells { PassTells result (due.old - due.new) (S.tells source.old) (S.tells source.new) }
+    ensures waits { Telling (S.tells source.old) (S.tells source.new) (HaltWaits result) }
 {
     let mut room = MAX_PASSED;
     let mut scratch = [0; 64];
@@ -46,6 +49,7 @@ fn read_some<S: AsyncRead>(source: &mut S, buf: &mut [u8; 64], want: usize) -> R
     requires fits { want ≤ 64 }
     ensures lengths { CountFits result want }
     ensures tells { StepPasses result (S.tells source.old) (S.tells source.new) }
+    ensures waits { Telling (S.tells source.old) (S.tells source.new) (StepWaits result) }
 {
     source.poll_read(&mut buf[..want])
 }

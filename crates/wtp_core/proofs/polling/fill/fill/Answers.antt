@@ -2,7 +2,9 @@ use Rattle.std.proofs.Common.{◌-◌, ◌++◌, length, take, sym, ◌∙◌, a
 use Rattle.wtp_core.specs.declared.polling.fill.Halt.TheVariants as halt
 use Rattle.wtp_core.specs.Fill.{Gains, HaltIsTrue}
 use borrow.Rule.Slice.PartMut.{post_of}
-use Rattle.wtp_core.proofs.TellingLemmas.{telling_then}
+use Rattle.wtp_core.specs.declared.bytes.source.ReadStep.TheVariants.{Bytes}
+use Rattle.wtp_core.proofs.TellingLemmas.{telling_then, telling_map}
+use Rattle.wtp_core.proofs.WaitLemmas.{step_waited, waits_then, none_waits}
 use Rattle.wtp_core.proofs.FillLemmas.{front_kept, front_stays, gains_bytes, gains_none}
 use Rattle.wtp_core.proofs.polling.fill.fill.Goals as goal
 
@@ -17,6 +19,7 @@ loop-at-preserved g c =
       front = front_kept _ at _ buf _ inv.forward (front_stays at buf _ inv.within) inv.front;
       forward = omega arith;
       within = omega (arith, c.in-Bytes.ensures.lengths, length-take at buf, length-append (take at buf) (part ++ rest), length-append part rest);
+      waits = none_waits _ _ (waits_then 0 _ _ _ inv.waits (telling_map _ _ _ _ (λ x y q. step_waited (Bytes c.in-Bytes.n) _ x y q.1) c.in-Bytes.ensures.tells));
       tells = telling_then _ _ _ _ _ _ (λ x y z p q. gains_bytes (take c.args.at.now c.args.buf.now) buf part rest at c.in-Bytes.n x y z p inv.within c.in-Bytes.ensures.lengths (omega arith) q.0 q.1.0 q.1.1) inv.tells c.in-Bytes.ensures.tells;
     }
 

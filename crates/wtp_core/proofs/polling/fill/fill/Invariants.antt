@@ -8,6 +8,7 @@ invariant-loop-at g l = record {
   front : take l.fn.at l.buf ≡ take l.fn.at l.fn.buf;
   forward : l.fn.at ≤ l.at;
   within : l.at ≤ length l.buf;
+  waits : Telling (g.S.AsyncRead.tells l.fn.source) (g.S.AsyncRead.tells l.source) (λ a b. b.waits ≡ a.waits);
   tells : Telling (g.S.AsyncRead.tells l.fn.source) (g.S.AsyncRead.tells l.source) (λ a b. Gains (take l.fn.at l.fn.buf) (take l.at l.buf) a b 0);
 }
 

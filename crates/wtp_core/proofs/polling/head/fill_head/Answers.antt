@@ -1,6 +1,8 @@
-use Rattle.std.proofs.Common.{◌≡◌, ◌<◌, ◌≤◌, length, take, drop, ◌++◌, refl, ap, arith, length-take}
+use Rattle.std.proofs.Common.{◌≡◌, ◌<◌, ◌≤◌, length, take, drop, ◌++◌, Err, refl, ap, arith, length-take}
 use Rattle.wtp_core.specs.Fill.{Gains, HaltIsTrue}
 use Rattle.wtp_core.proofs.TellingLemmas.{telling_then}
+use Rattle.wtp_core.specs.Fill.{halt_waits}
+use Rattle.wtp_core.proofs.WaitLemmas.{waits_then, none_waits, waits_none}
 use Rattle.wtp_core.proofs.FillLemmas.{Grown, grown, front_kept, gains_then, halt_then}
 use Rattle.wtp_core.proofs.polling.head.fill_head.Goals as goal
 
@@ -18,6 +20,7 @@ loop-len-preserved g c =
     record {
       within = let (more, is) = w.extends in omega (arith, g.met.H.Head.need_grows held more, ap g.H.Head.need is, at_is, same);
       forward = let before = c.loop-len.invariant.forward in omega (arith, c.fill.ensures.forward);
+      waits = none_waits _ _ (waits_then 0 _ _ _ c.loop-len.invariant.waits c.in-Ok.ensures.waits);
       front = front_kept _ c.loop-len.len _ c.loop-len.buf _ c.loop-len.invariant.forward w.front c.loop-len.invariant.front;
       stays = λ whole.
           let was = c.loop-len.invariant.stays whole in
@@ -25,6 +28,12 @@ loop-len-preserved g c =
           absurd (omega (arith, ap g.H.Head.need held_is, was.0, same, whole, c.if-len-need.false));
       tells = telling_then _ _ _ _ _ _ (λ x y z p q. gains_then _ _ _ _ _ x y z 0 p q w.held w.shown) c.loop-len.invariant.tells c.in-Ok.ensures.tells;
     }
+
+pub returns-in-Err-clause-waits : goal.returns-in-Err-clause-waits
+returns-in-Err-clause-waits g c = waits_then (halt_waits {U = Unit {0}} (Err c.in-Err.halt)) _ _ _ c.loop-len.invariant.waits c.in-Err.ensures.waits
+
+pub returns-then-len-need-clause-waits : goal.returns-then-len-need-clause-waits
+returns-then-len-need-clause-waits g c = waits_none _ _ c.loop-len.invariant.waits
 
 pub returns-in-Err-clause-cut : goal.returns-in-Err-clause-cut
 returns-in-Err-clause-cut g c =

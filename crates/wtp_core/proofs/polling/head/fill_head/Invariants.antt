@@ -7,6 +7,7 @@ abbrev pub invariant-loop-len : goal.invariant-loop-len
 invariant-loop-len g l = record {
   within : l.len ≤ g.H.Head.need (take l.len l.buf);
   forward : l.fn.len ≤ l.len;
+  waits : Telling (g.S.AsyncRead.tells l.fn.source) (g.S.AsyncRead.tells l.source) (λ a b. b.waits ≡ a.waits);
   front : take l.fn.len l.buf ≡ take l.fn.len l.fn.buf;
   stays : g.H.Head.need (take l.fn.len l.fn.buf) ≡ l.fn.len → (l.len ≡ l.fn.len) × (l.buf ≡ l.fn.buf);
   tells : Telling (g.S.AsyncRead.tells l.fn.source) (g.S.AsyncRead.tells l.source) (λ a b. Gains (take l.fn.len l.fn.buf) (take l.len l.buf) a b 0);

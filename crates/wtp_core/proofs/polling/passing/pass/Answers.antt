@@ -1,6 +1,7 @@
 use Rattle.std.proofs.Common.{◌-◌, ◌<◌, ◌≤◌, arith}
 use Rattle.wtp_core.specs.Passing.{Passed}
 use Rattle.wtp_core.proofs.TellingLemmas.{telling_then}
+use Rattle.wtp_core.proofs.WaitLemmas.{waits_then, none_waits}
 use Rattle.wtp_core.proofs.PassLemmas.{passed_then, passed_some}
 use Rattle.wtp_core.proofs.polling.passing.pass.Goals as goal
 
@@ -17,6 +18,7 @@ loop-due-preserved g c =
       fewer = omega arith;
       room = omega arith;
       most = omega arith;
+      waits = none_waits _ _ (waits_then 0 _ _ _ inv.waits c.in-Bytes.ensures.waits);
       tells = telling_then _ _ _ _ _ (λ x z. Passed (c.args.due.now - (c.loop-due.due - n)) x z 0)
           (λ x y z p q. passed_then (c.args.due.now - c.loop-due.due) n _ 0 x y z (omega arith) p (passed_some n y z some q.0 q.1)) inv.tells c.in-Bytes.ensures.tells;
     }

@@ -8,6 +8,7 @@ invariant-loop-due g l = record {
   fewer : l.due ≤ l.fn.due;
   room : l.due + max_passed ≡ l.fn.due + l.room;
   most : l.room ≤ max_passed;
+  waits : Telling (g.S.AsyncRead.tells l.fn.source) (g.S.AsyncRead.tells l.source) (λ a b. b.waits ≡ a.waits);
   tells : Telling (g.S.AsyncRead.tells l.fn.source) (g.S.AsyncRead.tells l.source) (λ a b. Passed (l.fn.due - l.due) a b 0);
 }
 

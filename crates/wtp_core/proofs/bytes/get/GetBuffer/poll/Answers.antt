@@ -1,6 +1,8 @@
 use Rattle.std.proofs.Common.{take, arith, length-take, ◌∙◌}
 use Rattle.std.proofs.lemmas.List.{take-take}
 use Rattle.wtp_core.proofs.FillLemmas.{begins}
+use Rattle.wtp_core.specs.declared.bytes.polled.IoReadError.{IoReadError}
+use Rattle.wtp_core.proofs.WaitLemmas.{halted_waits}
 use Rattle.wtp_core.proofs.GetLemmas.{halted_plain, halted_buffer_given}
 use Rattle.wtp_core.proofs.bytes.get.GetBuffer.poll.Goals as goal
 
@@ -9,6 +11,9 @@ returns-in-Ok-clause-given g c = (
   omega (arith, c.in-Ok.ensures.lengths, c.fill.auto.buf, length-take c.fill.new.at c.fill.new.buf),
   begins c.args.self.now.filled _ (take c.fill.new.at c.fill.new.buf) (take-take c.args.self.now.filled c.fill.new.at c.fill.new.buf c.fill.ensures.forward ∙ c.fill.ensures.front),
 )
+
+pub returns-in-Err-clause-waits : goal.returns-in-Err-clause-waits
+returns-in-Err-clause-waits g c = rw (halted_plain _ _ _ c.halt_result.ensures) (halted_waits (Unit {0}) IoReadError (Unit {0}) (λ f. f) c.in-Err.halt c.fill.new.at _ _ c.in-Err.ensures.waits)
 
 pub returns-in-Err-clause-given : goal.returns-in-Err-clause-given
 returns-in-Err-clause-given g c = rw (halted_plain _ _ _ c.halt_result.ensures) (halted_buffer_given (Unit {0}) c.in-Err.halt c.fill.new.at c.args.self.now.filled _ _ (take c.fill.new.at c.fill.new.buf)

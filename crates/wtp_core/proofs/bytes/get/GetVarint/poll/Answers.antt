@@ -1,6 +1,8 @@
 use Rattle.std.proofs.Common.{◌≡◌, ℕ, ◌≤◌, List, [], take, ◌∙◌, arith, length-take}
 use Rattle.std.proofs.lemmas.List.{take-take}
 use Rattle.wtp_core.proofs.NeedLemmas.{number_at-cut, number_at-whole}
+use Rattle.wtp_core.specs.declared.bytes.polled.IoReadError.{IoReadError}
+use Rattle.wtp_core.proofs.WaitLemmas.{halted_waits}
 use Rattle.wtp_core.proofs.GetLemmas.{halted_plain, halted_varint_told, halted_varint_given, whole_varint_told, whole_varint_given}
 use Rattle.wtp_core.proofs.bytes.get.GetVarint.poll.Goals as goal
 
@@ -13,6 +15,9 @@ returns-in-Err-clause-was_cut g c = rw (← c.self.view_is) (number_at-cut (take
 
 pub returns-in-Err-clause-cut : goal.returns-in-Err-clause-cut
 returns-in-Err-clause-cut g c = number_at-cut (take c.fill_head.new.len c.fill_head.new.buf) (omega (arith, c.in-Err.ensures.cut, length-take c.fill_head.new.len c.fill_head.new.buf))
+
+pub returns-in-Err-clause-waits : goal.returns-in-Err-clause-waits
+returns-in-Err-clause-waits g c = rw (halted_plain _ _ _ c.halt_result.ensures) (halted_waits ℕ IoReadError (Unit {0}) (λ f. f) c.in-Err.halt c.fill_head.new.len _ _ c.in-Err.ensures.waits)
 
 pub returns-in-Err-clause-given : goal.returns-in-Err-clause-given
 returns-in-Err-clause-given g c = rw (halted_plain _ _ _ c.halt_result.ensures, ← c.self.view_is) (halted_varint_given c.in-Err.halt c.fill_head.new.len c.self.inside.len _ (take c.fill_head.new.len c.fill_head.new.buf)
