@@ -11,10 +11,10 @@ abbrev pub scope_of : ErrorCode → ErrorScope
 -- a datagram that is malformed ends the connection, one of a request that has none ends the request
 -- (RFC 9297, sections 2 and 2.1)
 scope_of Datagram = Either
--- a connection or a stream that is closed without an error (RFC 9114, sections 4.1.1 and 5.2)
+-- a connection or a stream that is closed without an error (RFC 9114, sections 4.1 and 5.2)
 scope_of NoError = Either
--- a second control or push stream ends the connection, a stream of an unknown type only itself (RFC
--- 9114, section 6.2)
+-- a second control stream ends the connection, and so does a push stream that a client opens; a
+-- stream of an unknown type is only stopped (RFC 9114, sections 6.2, 6.2.1 and 6.2.2)
 scope_of StreamCreation = Either
 scope_of ClosedCriticalStream = Connection  -- RFC 9114, section 6.2.1
 scope_of FrameUnexpected = Connection  -- RFC 9114, sections 4.1 and 7.2

@@ -16,7 +16,7 @@ use std::fmt;
 pub mod h3_error_codes {
     use crate::varint::VarInt;
 
-    /// A datagram is malformed, or its session does not exist (RFC 9297, section 5.2).
+    /// A datagram or a capsule cannot be parsed (RFC 9297, section 5.2).
     pub const H3_DATAGRAM_ERROR: VarInt = VarInt { value: 0x33 };
 
     /// No error; the connection or stream is closed without one.
@@ -75,7 +75,7 @@ pub mod wt_error_codes {
 /// An error code for closing a stream or a connection.
 #[derive(Clone, Copy, PartialEq, Eq)]
 pub enum ErrorCode {
-    /// A datagram is malformed, or its session does not exist (RFC 9297, section 5.2).
+    /// A datagram or a capsule cannot be parsed (RFC 9297, section 5.2).
     Datagram,
     /// No error; the connection or stream is closed without one.
     NoError,

@@ -463,3 +463,20 @@ impl fmt::Debug for StatusCode {
         fmt::Display::fmt(self, f)
     }
 }
+
+// The bounds, and the status codes of RFC 9110, section 15, and RFC 6585, section 4.
+const _: () = prove!(StreamId::MAX.id.value == 0x3fff_ffff_ffff_ffff);
+
+const _: () = prove!(QStreamId::MAX.id.value == 0x0fff_ffff_ffff_ffff);
+
+const _: () = prove!(StatusCode::MAX.code == 599);
+
+const _: () = prove!(StatusCode::MIN.code == 100);
+
+const _: () = prove!(StatusCode::OK.code == 200);
+
+const _: () = prove!(StatusCode::FORBIDDEN.code == 403);
+
+const _: () = prove!(StatusCode::NOT_FOUND.code == 404);
+
+const _: () = prove!(StatusCode::TOO_MANY_REQUESTS.code == 429);

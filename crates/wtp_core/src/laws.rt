@@ -4,6 +4,7 @@ ghost use Rattle.std.specs.Prelude.{◌≡◌, ℕ, ◌+◌, ◌-◌, ◌*◌, �
 ghost use Rattle.std.specs.Int.{Width, byte_len};
 ghost use Rattle.std.specs.Ordering.{nat_cmp};
 ghost use Rattle.std.specs.Hash as hashed;
+ghost use Rattle.wtp_core.specs.Reader.{IsRest};
 ghost use Rattle.wtp_core.specs.Varint.{Encodes, width_of, number_at, shortest};
 
 mod codes;
@@ -27,6 +28,12 @@ pub fn encoding_is_read()
 pub fn read_is_encoding()
     ensures { (v : ℕ) (bytes rest : List ℕ) → number_at bytes ≡ Some (v, rest)
         → (s : List ℕ) × Encodes v s × (bytes ≡ s ++ rest) }
+{}
+
+/// All of the bytes are a rest of them, and a rest of a rest is a rest.
+pub fn rests_of_rests()
+    ensures same { (bytes : List ℕ) → IsRest bytes bytes }
+    ensures rest { (new mid old : List ℕ) → IsRest new mid → IsRest mid old → IsRest new old }
 {}
 
 /// The shortest encoding is an encoding: none is shorter, and no other one is as short.

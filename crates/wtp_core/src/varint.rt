@@ -107,13 +107,14 @@ impl VarInt {
     }
 }
 
-/// Decodes the integer at the start of `bytes`. Returns its value and the size of its encoding, or
-/// `None` if there are too few bytes. Not in the Rust crate.
+/// Decodes the integer at the start of `bytes`. Returns its value and the size of its encoding, at
+/// least 1, or `None` if there are too few bytes. Not in the Rust crate.
 #[tactic(auto, unfolding(crate::specs::Varint::number_at, crate::specs::Varint::value_of))]
 #[inline(always)]
 pub fn first_varint(bytes: &[u8]) -> Option<(VarInt, usize)>
     ensures found { MatchOption result (number_at bytes.now ≡ None)
         (λ x. number_at bytes.now ≡ Some (x.0, drop x.1 bytes.now)) }
+    ensures positive { IfSome result (λ x. 0 < x.1) }
     ensures within { IfSome result (λ x. x.1 ≤ length bytes.now) }
 {
     let first = *bytes.first()?;
@@ -221,3 +222,10 @@ impl fmt::Debug for VarInt {
         fmt::Display::fmt(self, f)
     }
 }
+
+// The bounds (RFC 9000, section 16).
+const _: () = prove!(VarInt::MAX.value == 0x3fff_ffff_ffff_ffff);
+
+const _: () = prove!(VarInt::MIN.value == 0);
+
+const _: () = prove!(VarInt::MAX_SIZE == 8);

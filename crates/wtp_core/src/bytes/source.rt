@@ -1,5 +1,5 @@
 //! Polled sources of bytes, and slices as sources.
-ghost use Rattle.std.specs.Prelude.{◌≡◌, Option, Some, None, ◌≤◌, ◌↔◌, length, false, IsTrue};
+ghost use Rattle.std.specs.Prelude.{◌≡◌, Option, Some, None, ◌≤◌, ◌↔◌, length, min, false, IsTrue};
 ghost use Rattle.wtp_core.specs.Source.{Source, StepKeepsLengths, StepTells, Telling, Shows, TakesBuffered, all_ahead};
 
 /// The result of one call of a source.
@@ -44,8 +44,9 @@ pub trait AsyncRead {
         &[]
     }
 
-    /// Takes `count` of the bytes ahead if so many are buffered, and returns whether it did. If
-    /// not, it takes none. Not in the Rust crate.
+    /// Takes `count` of the bytes ahead and returns `true`, or takes none and returns `false`. A
+    /// source may refuse any count, also one of bytes that `buffered` returns. Not in the Rust
+    /// crate.
     fn take_buffered(&mut self, count: usize) -> bool
         ensures taken { IsTrue result
             → Telling (tells self.old) (tells self.new) (TakesBuffered count) }
@@ -61,7 +62,12 @@ impl AsyncRead for &[u8] {
 
     /// Gives as many of the bytes as fit into the buffer, and then the end. It is always ready.
     #[inline(always)]
-    fn poll_read(&mut self, buf: &mut [u8]) -> ReadStep {
+    fn poll_read(&mut self, buf: &mut [u8]) -> ReadStep
+        ensures lengths { StepKeepsLengths result (length buf.new) }
+        ensures tells { StepTells result buf.new (Some (all_ahead self.old.now))
+            (Some (all_ahead self.new.now)) }
+        ensures fits { result ≡ ReadStep.Bytes (min (length self.old.now) (length buf.old)) }
+    {
         let n = self.len().min(buf.len());
         let (front, rest) = self.split_at(n);
         buf[..n].copy_from_slice(front);

@@ -7,8 +7,8 @@ ghost use Rattle.wtp_core.specs.ErrorCodes.{code_number};
 use super::ErrorCode;
 use crate::varint::VarInt;
 
-/// The number is not that of an [`ErrorCode`]. An unknown error code is as good as
-/// [`ErrorCode::NoError`] (RFC 9114, section 9).
+/// The number is not that of an [`ErrorCode`]. An unknown error code is treated as
+/// [`ErrorCode::NoError`] (RFC 9114, section 8).
 #[derive(Debug, Drop, PartialEq, Eq, thiserror::Error)]
 #[error("unknown error code")]
 pub struct UnknownErrorCode;

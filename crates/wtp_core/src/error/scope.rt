@@ -90,7 +90,7 @@ impl From<UnknownErrorCode> for ErrorCode {
     ghost from_gives = { λ _ code. code ≡ NoError };
 
     /// Returns [`ErrorCode::NoError`], which an unknown error code is treated as (RFC 9114, section
-    /// 9). Not in the Rust crate.
+    /// 8). Not in the Rust crate.
     fn from(_error: UnknownErrorCode) -> ErrorCode {
         ErrorCode::NoError
     }
