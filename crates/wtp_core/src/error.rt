@@ -194,3 +194,34 @@ pub enum Refused {
     #[error("no memory")]
     Memory,
 }
+
+// The registered numbers.
+const _: () = prove!(h3_error_codes::H3_DATAGRAM_ERROR.value == 0x33);
+
+const _: () = prove!(h3_error_codes::H3_NO_ERROR.value == 0x0100);
+
+const _: () = prove!(h3_error_codes::H3_STREAM_CREATION_ERROR.value == 0x0103);
+
+const _: () = prove!(h3_error_codes::H3_CLOSED_CRITICAL_STREAM.value == 0x0104);
+
+const _: () = prove!(h3_error_codes::H3_FRAME_UNEXPECTED.value == 0x0105);
+
+const _: () = prove!(h3_error_codes::H3_FRAME_ERROR.value == 0x0106);
+
+const _: () = prove!(h3_error_codes::H3_EXCESSIVE_LOAD.value == 0x0107);
+
+const _: () = prove!(h3_error_codes::H3_ID_ERROR.value == 0x0108);
+
+const _: () = prove!(h3_error_codes::H3_SETTINGS_ERROR.value == 0x0109);
+
+const _: () = prove!(h3_error_codes::H3_MISSING_SETTINGS.value == 0x010a);
+
+const _: () = prove!(h3_error_codes::H3_REQUEST_REJECTED.value == 0x010b);
+
+const _: () = prove!(h3_error_codes::H3_MESSAGE_ERROR.value == 0x010e);
+
+const _: () = prove!(qpack_error_codes::QPACK_DECOMPRESSION_FAILED.value == 0x0200);
+
+const _: () = prove!(wt_error_codes::WEBTRANSPORT_BUFFERED_STREAM_REJECTED.value == 0x3994bd84);
+
+const _: () = prove!(wt_error_codes::WEBTRANSPORT_SESSION_GONE.value == 0x170d7b68);

@@ -90,3 +90,36 @@ pub mod capsule_types {
     /// A WebTransport session is closed (draft-ietf-webtrans-http3-02, section 5).
     pub const CAPSULE_TYPE_CLOSE_WEBTRANSPORT_SESSION: VarInt = VarInt { value: 0x2843 };
 }
+
+// The registered numbers.
+const _: () = prove!(frame_kind_ids::DATA.value == 0x00);
+
+const _: () = prove!(frame_kind_ids::HEADERS.value == 0x01);
+
+const _: () = prove!(frame_kind_ids::SETTINGS.value == 0x04);
+
+const _: () = prove!(frame_kind_ids::WEBTRANSPORT_STREAM.value == 0x41);
+
+const _: () = prove!(stream_type_ids::CONTROL_STREAM.value == 0x00);
+
+const _: () = prove!(stream_type_ids::QPACK_ENCODER_STREAM.value == 0x02);
+
+const _: () = prove!(stream_type_ids::QPACK_DECODER_STREAM.value == 0x03);
+
+const _: () = prove!(stream_type_ids::WEBTRANSPORT_STREAM.value == 0x54);
+
+const _: () = prove!(setting_ids::SETTINGS_QPACK_MAX_TABLE_CAPACITY.value == 0x01);
+
+const _: () = prove!(setting_ids::SETTINGS_MAX_FIELD_SECTION_SIZE.value == 0x06);
+
+const _: () = prove!(setting_ids::SETTINGS_QPACK_BLOCKED_STREAMS.value == 0x07);
+
+const _: () = prove!(setting_ids::SETTINGS_ENABLE_CONNECT_PROTOCOL.value == 0x08);
+
+const _: () = prove!(setting_ids::SETTINGS_H3_DATAGRAM.value == 0x33);
+
+const _: () = prove!(setting_ids::SETTINGS_ENABLE_WEBTRANSPORT.value == 0x2b60_3742);
+
+const _: () = prove!(setting_ids::SETTINGS_WEBTRANSPORT_MAX_SESSIONS.value == 0xc671_706a);
+
+const _: () = prove!(capsule_types::CAPSULE_TYPE_CLOSE_WEBTRANSPORT_SESSION.value == 0x2843);

@@ -47,3 +47,8 @@ pub fn from_http3(number: VarInt) -> Result<u32, NotAnApplicationCode>
     let shifted = value - FIRST.value;
     Ok((shifted - shifted / 0x1f) as u32)
 }
+
+// The bounds (WebTransport over HTTP/3, "Resetting Data Streams").
+const _: () = prove!(FIRST.value == 0x52e4_a40f_a8db);
+
+const _: () = prove!(LAST.value == 0x52e5_ac98_3162);

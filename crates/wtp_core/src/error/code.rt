@@ -404,3 +404,54 @@ impl fmt::Debug for Code {
         }
     }
 }
+
+// The registered numbers.
+const _: () = prove!(Code::H3_DATAGRAM_ERROR.number.value == 0x33);
+
+const _: () = prove!(Code::H3_NO_ERROR.number.value == 0x0100);
+
+const _: () = prove!(Code::H3_GENERAL_PROTOCOL_ERROR.number.value == 0x0101);
+
+const _: () = prove!(Code::H3_INTERNAL_ERROR.number.value == 0x0102);
+
+const _: () = prove!(Code::H3_STREAM_CREATION_ERROR.number.value == 0x0103);
+
+const _: () = prove!(Code::H3_CLOSED_CRITICAL_STREAM.number.value == 0x0104);
+
+const _: () = prove!(Code::H3_FRAME_UNEXPECTED.number.value == 0x0105);
+
+const _: () = prove!(Code::H3_FRAME_ERROR.number.value == 0x0106);
+
+const _: () = prove!(Code::H3_EXCESSIVE_LOAD.number.value == 0x0107);
+
+const _: () = prove!(Code::H3_ID_ERROR.number.value == 0x0108);
+
+const _: () = prove!(Code::H3_SETTINGS_ERROR.number.value == 0x0109);
+
+const _: () = prove!(Code::H3_MISSING_SETTINGS.number.value == 0x010a);
+
+const _: () = prove!(Code::H3_REQUEST_REJECTED.number.value == 0x010b);
+
+const _: () = prove!(Code::H3_REQUEST_CANCELLED.number.value == 0x010c);
+
+const _: () = prove!(Code::H3_REQUEST_INCOMPLETE.number.value == 0x010d);
+
+const _: () = prove!(Code::H3_MESSAGE_ERROR.number.value == 0x010e);
+
+const _: () = prove!(Code::H3_CONNECT_ERROR.number.value == 0x010f);
+
+const _: () = prove!(Code::H3_VERSION_FALLBACK.number.value == 0x0110);
+
+const _: () = prove!(Code::QPACK_DECOMPRESSION_FAILED.number.value == 0x0200);
+
+const _: () = prove!(Code::QPACK_ENCODER_STREAM_ERROR.number.value == 0x0201);
+
+const _: () = prove!(Code::QPACK_DECODER_STREAM_ERROR.number.value == 0x0202);
+
+const _: () = prove!(Code::WEBTRANSPORT_BUFFERED_STREAM_REJECTED.number.value == 0x3994bd84);
+
+const _: () = prove!(Code::WEBTRANSPORT_SESSION_GONE.number.value == 0x170d7b68);
+
+const _: () = prove!(Code::WT_FLOW_CONTROL_ERROR.number.value == 0x045d4487);
+
+const _: () = prove!(Code::WT_ALPN_ERROR.number.value == 0x0817b3dd);
