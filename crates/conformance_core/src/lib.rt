@@ -13,6 +13,8 @@ mod ids;
 #[cfg(test)]
 mod readers;
 #[cfg(test)]
+mod registered_codes;
+#[cfg(test)]
 mod same;
 #[cfg(test)]
 mod texts;
