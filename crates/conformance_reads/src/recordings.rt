@@ -5,7 +5,7 @@ use crate::same::same;
 use std::process::Abort;
 use wtransport_proto::bytes::BufferReader;
 use wtransport_proto::capsule::capsules::CloseWebTransportSession;
-use wtransport_proto::capsule::{Capsule, CapsuleReading};
+use wtransport_proto::capsule::{Capsule, CapsuleKind, CapsuleReading};
 use wtransport_proto::datagram::Datagram;
 use wtransport_proto::frame::{Frame, FrameKind};
 use wtransport_proto::qpack::{FieldLines, FieldRoom};
@@ -72,9 +72,14 @@ fn check_only<R: Abort + AllocGlobal>(
     wanted: Close,
     shows: &str,
 ) {
-    let close = CloseWebTransportSession::with_capsule(rt.alloc(), capsule).expect(rt, "a close");
-    let came = (close.error_code().into_inner(), close.reason());
-    same(rt, came, wanted, shows);
+    match capsule.kind() {
+        CapsuleKind::CloseWebTransportSession => {
+            let close = CloseWebTransportSession::with_capsule(rt.alloc(), capsule);
+            let close = close.expect(rt, "a close");
+            let came = (close.error_code().into_inner(), close.reason());
+            same(rt, came, wanted, shows);
+        }
+    }
     same(rt, rest.len(), 0, shows);
 }
 

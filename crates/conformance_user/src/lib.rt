@@ -75,9 +75,13 @@ pub fn closes_cleanly(alloc: Global, frame: &Frame<'_>) -> bool
     let Some(capsule) = Capsule::with_frame(frame) else {
         return false;
     };
-    match CloseWebTransportSession::with_capsule(alloc, &capsule) {
-        Ok(close) => close.error_code() == VarInt::MIN,
-        Err(_) => false,
+    match capsule.kind() {
+        CapsuleKind::CloseWebTransportSession => {
+            match CloseWebTransportSession::with_capsule(alloc, &capsule) {
+                Ok(close) => close.error_code() == VarInt::MIN,
+                Err(_) => false,
+            }
+        }
     }
 }
 

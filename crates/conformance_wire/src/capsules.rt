@@ -14,9 +14,11 @@ fn read<R: Abort + AllocGlobal>(
 ) -> Option<Result<CloseWebTransportSession, Refused>> {
     assert!(rt; payload.len() < 2048);
     let frame = Frame::new_data(CowSlice::Borrowed(payload));
-    match Capsule::with_frame(&frame) {
-        Some(capsule) => Some(CloseWebTransportSession::with_capsule(rt.alloc(), &capsule)),
-        None => None,
+    let capsule = Capsule::with_frame(&frame)?;
+    match capsule.kind() {
+        CapsuleKind::CloseWebTransportSession => {
+            Some(CloseWebTransportSession::with_capsule(rt.alloc(), &capsule))
+        }
     }
 }
 

@@ -4,7 +4,7 @@ use crate::server::TURNS;
 use anyhow::{Result, bail};
 use std::alloc::Global;
 use wtransport_proto::bytes::{AsyncRead, IoReadError, Polled};
-use wtransport_proto::capsule::CapsuleReading;
+use wtransport_proto::capsule::{CapsuleKind, CapsuleReading};
 use wtransport_proto::capsule::capsules::CloseWebTransportSession;
 use wtransport_proto::frame::{FrameKind, FrameOwned, FrameReading};
 use wtransport_proto::stream;
@@ -87,5 +87,9 @@ fn close_in(
     let Some(capsule) = capsules.next(&mut data)? else {
         return Ok(None);
     };
-    Ok(Some(CloseWebTransportSession::with_capsule(alloc, &capsule)?))
+    match capsule.kind() {
+        CapsuleKind::CloseWebTransportSession => {
+            Ok(Some(CloseWebTransportSession::with_capsule(alloc, &capsule)?))
+        }
+    }
 }

@@ -1,5 +1,5 @@
 -- What the bytes of a cursor start with, and how far it goes, whatever follows them.
-use Rattle.std.proofs.Common.{◌≡◌, ℕ, nat_lt, ◌+◌, ◌-◌, ◌<◌, ◌≤◌, List, [], ◌∷◌, ◌++◌, length, take, drop, Option, Some, None, Ok, refl, sym, ap, subst, ◌∙◌, arith, inl, inr, append_assoc, append-nil, length-append, length-drop, length-take, get_or}
+use Rattle.std.proofs.Common.{◌≡◌, ℕ, nat_lt, ◌+◌, ◌-◌, ◌<◌, ◌≤◌, List, [], ◌∷◌, ◌++◌, length, take, drop, Option, Some, None, Ok, refl, sym, ap, subst, ◌∙◌, arith, inl, inr, append_assoc, append-nil, length-append, length-drop, length-take, get_or, lit≤}
 use Rattle.std.proofs.lemmas.Bool.{cases_Bool, cases_lt, lt-ltb, le-ltb}
 use Rattle.std.proofs.lemmas.List.{take-append-drop, drop-drop}
 use Rattle.wtp_core.specs.Varint.{Encodes, number_at, bytes_at}
@@ -98,8 +98,8 @@ value_part bytes mid rest id n kind h known small less =
 encoding_most : (v : ℕ) (s : List ℕ) → Encodes v s → length s ≤ 8
 encoding_most v s h = omega (arith, h.size, (byte_len_range (get_or s 0 0)).1)
 
-longest_is : (kind : CapsuleKind) → longest_value kind ≡ 1028
-longest_is CloseWebTransportSession = refl
+longest_most : (kind : CapsuleKind) → longest_value kind ≤ 1028
+longest_most CloseWebTransportSession = lit≤ tt
 
 pub part_few : (s : List ℕ) → IsCapsulePart s → length s ≤ 1043
 part_few s p = elim p [
@@ -107,7 +107,7 @@ part_few s p = elim p [
   | inr m ↦
       let first : length m.encoded.first ≤ 8 = encoding_most _ m.encoded.first m.encoded.type_number in
       let second : length m.encoded.second ≤ 8 = encoding_most _ m.encoded.second m.encoded.number in
-      omega (arith, ap length m.parts, length-append m.head m.part, ap length m.encoded.parts, length-append m.encoded.first m.encoded.second, longest_is m.kind, m.small, m.less)
+      omega (arith, ap length m.parts, length-append m.head m.part, ap length m.encoded.parts, length-append m.encoded.first m.encoded.second, longest_most m.kind, m.small, m.less)
 ]
 
 -- ---- where the bytes are split

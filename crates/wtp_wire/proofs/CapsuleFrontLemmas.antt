@@ -1,14 +1,13 @@
 -- The computed first capsule is the first capsule of the grammar.
 use Rattle.std.proofs.Common.{◌≡◌, ◌≢◌, ℕ, ◌<◌, ◌⊎◌, List, [], ◌∷◌, ◌++◌, length, Option, Some, None, refl, sym, ap, subst, ◌∙◌, append_assoc, arith, inl, inr, length-append}
-use Rattle.std.proofs.lemmas.Bool.{cases_eq, cases_lt, ne_eqb, lt-ltb, le-ltb}
+use Rattle.std.proofs.lemmas.Bool.{cases_lt, lt-ltb, le-ltb}
 use Rattle.wtp_core.specs.Varint.{number_at, bytes_at}
 use Rattle.wtp_core.proofs.EncodingLemmas.{number_at-encoding, number_at-encodes, encoding_not_empty, bytes_at-parts, bytes_at-append}
 use Rattle.wtp_wire.specs.declared.capsule.CapsuleKind.{CapsuleKind}
-use Rattle.wtp_wire.specs.declared.capsule.CapsuleKind.TheVariants.{CloseWebTransportSession}
 use Rattle.wtp_wire.specs.Capsule.{capsule_number_of, capsule_kind_of}
 use Rattle.wtp_wire.specs.CapsuleFront.{CapsuleFront, Found, Unknown, TooLong, Cut, End, longest_value, StartsWith, value_front, some_front, capsule_front}
 use Rattle.wtp_wire.specs.Front.{EncodesPair}
-use Rattle.wtp_wire.proofs.CapsuleLemmas.{capsule_kind_of-number, number-capsule_kind_of}
+use Rattle.wtp_wire.proofs.CapsuleLemmas.{capsule_kind_of-number, number-capsule_kind_of, no_kind_none}
 use Rattle.wtp_wire.proofs.FrontLemmas.{found}
 
 -- ---- by the type and the length
@@ -57,9 +56,6 @@ front_encoded id n head rest bytes s e =
     front_two bytes behind rest id n (ap number_at all ∙ number_at-encoding id s.first behind s.type_number) (number_at-encoding n s.second rest s.number)
 
 -- ---- what starts with a case is computed as that case
-
-no_kind_none : (id : ℕ) → ((kind : CapsuleKind) → id ≢ capsule_number_of kind) → capsule_kind_of id ≡ None
-no_kind_none id h = elim (cases_eq id 10307) [ inl is ↦ absurd (h CloseWebTransportSession is) | inr other ↦ rw (ne_eqb id 10307 other) refl ]
 
 with_rest : (bytes s head value rest : List ℕ) → bytes ≡ s ++ rest → s ≡ head ++ value → bytes ≡ head ++ (value ++ rest)
 with_rest bytes s head value rest e p = e ∙ ap (λ (x : List ℕ). x ++ rest) p ∙ append_assoc head value rest

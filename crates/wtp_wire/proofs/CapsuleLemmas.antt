@@ -1,12 +1,13 @@
 -- The computed capsule is the capsule at the start.
-use Rattle.std.proofs.Common.{◌≡◌, ℕ, List, ◌++◌, length, Option, Some, None, refl, sym, ap, subst, ◌∙◌, append_assoc, inl, inr}
-use Rattle.std.proofs.lemmas.Bool.{cases_eq, ne_eqb}
+use Rattle.std.proofs.Common.{◌≡◌, ◌≢◌, ℕ, eqb, List, [], ◌∷◌, ◌++◌, length, Option, Some, None, refl, sym, ap, subst, ◌∙◌, append_assoc, inl, inr}
+use Rattle.std.proofs.lemmas.Bool.{eqb-true}
 use Rattle.wtp_core.specs.Varint.{number_at, bytes_at, Encodes}
 use Rattle.wtp_core.proofs.EncodingLemmas.{number_at-encoding, number_at-encodes, bytes_at-append, bytes_at-parts}
 use Rattle.wtp_wire.specs.declared.capsule.CapsuleKind.{CapsuleKind}
 use Rattle.wtp_wire.specs.declared.capsule.CapsuleKind.TheVariants.{CloseWebTransportSession}
-use Rattle.wtp_wire.specs.Capsule.{capsule_number_of, BeginsWithCapsule, capsule_kind_of, payload_after, capsule_in}
+use Rattle.wtp_wire.specs.Capsule.{capsule_number_of, BeginsWithCapsule, capsule_kinds, capsule_kind_among, capsule_kind_of, payload_after, capsule_in}
 use Rattle.wtp_wire.proofs.FrontLemmas.{found}
+use Rattle.wtp_wire.proofs.KindLemmas.{which}
 
 pub capsule_kind_of-number : (kind : CapsuleKind) → capsule_kind_of (capsule_number_of kind) ≡ Some kind
 capsule_kind_of-number CloseWebTransportSession = refl
@@ -50,11 +51,24 @@ none_some x o d e = cc
 some_is : (x y : CapsuleKind × List ℕ) → Some x ≡ Some y → x ≡ y
 some_is x y e = cc
 
-pub number-capsule_kind_of : (id : ℕ) (kind : CapsuleKind) → capsule_kind_of id ≡ Some kind → id ≡ capsule_number_of kind
-number-capsule_kind_of id CloseWebTransportSession e = elim (cases_eq id 10307) [ inl is ↦ is | inr other ↦ absurd (no_kind (rw (ne_eqb id 10307 other) at e)) ]
+among-number : (kinds : List CapsuleKind) (id : ℕ) (kind : CapsuleKind) → capsule_kind_among kinds id ≡ Some kind → id ≡ capsule_number_of kind
+among-number [] id kind e = absurd cc
+among-number (k ∷ kinds) id kind e = elim (which (eqb id (capsule_number_of k)) (Some k) (capsule_kind_among kinds id) (Some kind) e) [
+  | inl p ↦ eqb-true id (capsule_number_of k) p.0 ∙ ap capsule_number_of (same_kind p.1)
+  | inr p ↦ among-number kinds id kind p.1
+]
   where
-    no_kind : None ≡ Some CloseWebTransportSession → ⊥
-    no_kind h = cc
+    same_kind : Some k ≡ Some kind → k ≡ kind
+    same_kind s = cc
+
+pub number-capsule_kind_of : (id : ℕ) (kind : CapsuleKind) → capsule_kind_of id ≡ Some kind → id ≡ capsule_number_of kind
+number-capsule_kind_of id kind e = among-number capsule_kinds id kind e
+
+pub capsule_kind_of-is : (kind : CapsuleKind) (id : ℕ) → id ≡ capsule_number_of kind → capsule_kind_of id ≡ Some kind
+capsule_kind_of-is kind id e = ap capsule_kind_of e ∙ capsule_kind_of-number kind
+
+pub no_kind_none : (id : ℕ) → ((kind : CapsuleKind) → id ≢ capsule_number_of kind) → capsule_kind_of id ≡ None
+no_kind_none id h = elim (found (capsule_kind_of id)) [ inl none ↦ none | inr (kind, is) ↦ absurd (h kind (number-capsule_kind_of id kind is)) ]
 
 pub begins-capsule_in : (bytes : List ℕ) (kind : CapsuleKind) (payload : List ℕ) → capsule_in bytes ≡ Some (kind, payload) → BeginsWithCapsule bytes kind payload
 begins-capsule_in bytes kind payload e = elim (found (number_at bytes)) [

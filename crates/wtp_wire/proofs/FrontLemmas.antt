@@ -3,10 +3,10 @@ use Rattle.std.proofs.Common.{◌≡◌, ◌≢◌, ℕ, ◌+◌, ◌-◌, ◌%�
 use Rattle.std.proofs.lemmas.Bool.{cases_eq, cases_lt, eq-eqb, ne_eqb, lt-ltb, le-ltb}
 use Rattle.std.proofs.lemmas.List.{length-append}
 use Rattle.std.proofs.Math.Seq.{drop-append_seam}
-use Rattle.wtp_core.specs.Varint.{Encodes, number_at, bytes_at}
+use Rattle.wtp_core.specs.Varint.{number_at, bytes_at}
 use Rattle.wtp_core.proofs.EncodingLemmas.{number_at-encoding, number_at-encodes, encoding_not_empty, bytes_at-parts, bytes_at-append}
 use Rattle.wtp_wire.specs.declared.frame.kind.FrameKind.{FrameKind}
-use Rattle.wtp_wire.specs.declared.frame.kind.FrameKind.TheVariants.{Data, WebTransport}
+use Rattle.wtp_wire.specs.declared.frame.kind.FrameKind.TheVariants.{WebTransport}
 use Rattle.wtp_wire.specs.declared.frame.head.Announcement.{Announcement}
 use Rattle.wtp_wire.specs.declared.frame.head.Announcement.TheVariants as announces
 use Rattle.wtp_wire.specs.Kind.{frame_type_of, IsKind, kind_of}

@@ -1,6 +1,5 @@
 -- Which frames streams allow.
-use Rattle.std.proofs.Common.{◌≡◌, ◌≢◌, ℕ, Bool, Option, None, refl}
-use Rattle.wtp_core.specs.declared.error.ErrorCode.{ErrorCode}
+use Rattle.std.proofs.Common.{◌≡◌, ◌≢◌, ℕ, Bool, None, refl}
 use Rattle.wtp_wire.specs.declared.frame.kind.FrameKind.{FrameKind}
 use Rattle.wtp_wire.specs.declared.frame.kind.FrameKind.TheVariants.{WebTransport, Exercise}
 use Rattle.wtp_wire.specs.Rule.{Role, RemoteBi, LocalBi, RemoteUni, InSession, request_rule, rule}

@@ -2,8 +2,8 @@
 use Rattle.std.specs.Prelude.{◌≡◌, ◌≢◌, ℕ, ◌<◌, ◌≤◌, List, [], ◌∷◌, ◌++◌, length, nat_lt, Option, Some, None, if◌then◌else◌}
 use Rattle.wtp_core.specs.Varint.{number_at, bytes_at}
 use Rattle.wtp_wire.specs.declared.capsule.CapsuleKind.{CapsuleKind}
-use Rattle.wtp_wire.specs.declared.capsule.CapsuleKind.TheVariants.{CloseWebTransportSession}
 use Rattle.wtp_wire.specs.Capsule.{capsule_number_of, capsule_kind_of}
+pub use Rattle.wtp_wire.specs.Capsule.{longest_value}
 use Rattle.wtp_wire.specs.Front.{EncodesPair}
 
 -- What the bytes start with, and the bytes after it: a capsule of a known kind, with its value; a
@@ -15,11 +15,6 @@ pub data CapsuleFront : Type 0 where
   TooLong : List ℕ → CapsuleFront
   Cut : CapsuleFront
   End : CapsuleFront
-
--- the longest value that is read: of a close capsule, a code of 4 bytes and a reason of at most
--- 1024
-abbrev pub longest_value : CapsuleKind → ℕ
-longest_value CloseWebTransportSession = 1028
 
 -- ---- the wire grammar
 

@@ -23,8 +23,7 @@ pub enum CapsuleKind {
 }
 
 impl CapsuleKind {
-    ghost use Rattle.wtp_wire.specs.Capsule.{capsule_kind_of, capsule_number_of};
-    ghost use Rattle.wtp_wire.specs.CapsuleFront.{longest_value};
+    ghost use Rattle.wtp_wire.specs.Capsule.{capsule_kind_of, capsule_number_of, longest_value};
 
     /// Returns the type. Not in the Rust crate.
     pub fn id(self) -> VarInt
@@ -48,14 +47,15 @@ impl CapsuleKind {
         }
     }
 
-    /// Returns the kind of this type, or `None` if the type is unknown.
-    fn parse(id: VarInt) -> Option<Self>
+    /// Returns the kind of this type, or `None` if the type is unknown. Not in the Rust crate.
+    pub fn parse(id: VarInt) -> Option<Self>
         ensures { result ≡ capsule_kind_of id }
     {
-        if id == capsule_types::CAPSULE_TYPE_CLOSE_WEBTRANSPORT_SESSION {
-            Some(CapsuleKind::CloseWebTransportSession)
-        } else {
-            None
+        match id {
+            capsule_types::CAPSULE_TYPE_CLOSE_WEBTRANSPORT_SESSION => {
+                Some(CapsuleKind::CloseWebTransportSession)
+            }
+            _ => None,
         }
     }
 }

@@ -2,7 +2,7 @@
 ghost use Rattle.std.specs.Prelude.{◌≡◌, ◌+◌, length, IfOk};
 ghost use Rattle.wtp_core.specs.Writer.{PutsParts, LacksRoom};
 
-use crate::capsule::{Capsule, CapsuleError, capsule_types};
+use crate::capsule::{Capsule, CapsuleError, CapsuleKind, capsule_types};
 use std::alloc::Global;
 use std::marker::Model;
 use wtp_core::bytes::{BytesWriter, PutError};
@@ -55,13 +55,15 @@ impl CloseWebTransportSession {
     }
 
     /// Reads the code and the reason from a capsule's payload: an error code of four bytes, most
-    /// significant first, and then the reason (draft-ietf-webtrans-http3-02, section 5).
+    /// significant first, and then the reason (draft-ietf-webtrans-http3-02, section 5). Requires
+    /// that the capsule closes its session, which `Capsule::kind` says.
     ///
     /// Returns `Code(Datagram)` if the payload has fewer than 4 or more than 1028 bytes, or is not
     /// UTF-8 after the first four. Returns `Memory` if allocation failed; only a valid payload with
     /// a reason that is not empty allocates. The capsule does not change, and may be read again.
     #[tactic(auto, unfolding(crate::specs::CloseSession::close_in))]
     pub fn with_capsule(alloc: Global, capsule: &Capsule<'_>) -> Result<Self, Refused>
+        requires { capsule.now.0 ≡ CapsuleKind.CloseWebTransportSession }
         ensures { AnswersClose capsule.now.1 result }
     {
         let Some((code, text)) = capsule.payload().split_first_chunk::<4>() else {

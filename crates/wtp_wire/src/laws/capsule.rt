@@ -1,6 +1,6 @@
 //! Laws of capsules.
 ghost use Rattle.std.specs.Prelude.{◌≡◌, ◌≢◌, ◌++◌, ◌⊎◌, ℕ, List, [], Option, Some, Result, Err};
-ghost use Rattle.wtp_wire.specs.Capsule.{BeginsWithCapsule, capsule_in};
+ghost use Rattle.wtp_wire.specs.Capsule.{BeginsWithCapsule, capsule_in, capsule_kind_of, capsule_number_of};
 ghost use Rattle.wtp_wire.specs.CapsuleCursor.{CursorEvent, LeadsTo, StepIs, capsules_from, data_in, found_in};
 ghost use Rattle.wtp_wire.specs.CapsuleFront.{CapsuleFront, Found, Unknown, TooLong, Cut, End, StartsWith, capsule_front};
 ghost use Rattle.wtp_wire.specs.CapsuleStream.{CapsuleEnding, Between, Within, AtTooLong, Step, Leads, data_of, returned, next_capsule, next_held, ends, follows, by_front, capsules, capsules_held, NextGiven, with_result};
@@ -10,6 +10,14 @@ ghost use Rattle.wtp_wire.specs.declared.capsule.CapsuleError.{CapsuleError};
 ghost use Rattle.wtp_wire.specs.declared.capsule.CapsuleKind.{CapsuleKind};
 ghost use Rattle.wtp_wire.specs.declared.capsule.cursor.CapsuleCursor.{CapsuleCursor};
 ghost use Rattle.wtp_wire.specs.declared.capsule.cursor.CapsuleStep.{CapsuleStep};
+
+/// The computed kind of a capsule type is the kind that has this type.
+pub fn capsule_kind_is_computed()
+    ensures computed { (kind : CapsuleKind) (id : ℕ) → id ≡ capsule_number_of kind
+        → capsule_kind_of id ≡ Some kind }
+    ensures defined { (kind : CapsuleKind) (id : ℕ) → capsule_kind_of id ≡ Some kind
+        → id ≡ capsule_number_of kind }
+{}
 
 /// The capsule at the start of the input is computed, and what is computed is at its start: so the
 /// input starts with at most one capsule.

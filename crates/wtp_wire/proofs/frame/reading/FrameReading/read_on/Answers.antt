@@ -1,4 +1,4 @@
-use Rattle.std.proofs.Common.{◌≡◌, [], refl, sym, ap, ◌∙◌, arith, Ok, Err}
+use Rattle.std.proofs.Common.{[], refl, sym, ap, arith, Ok, Err}
 use Rattle.wtp_core.specs.declared.bytes.polled.Polled.TheVariants.{Ready, NoMemory}
 use Rattle.wtp_core.specs.Source.{Telling}
 use Rattle.wtp_wire.specs.declared.frame.head.Announcement.{Announcement}
