@@ -3,6 +3,7 @@ use crate::same::same;
 use std::borrow::CowSlice;
 use std::process::Abort;
 use wtp_core::error::{ErrorCode, Refused};
+use wtp_core::varint::VarInt;
 use wtp_wire::capsule::capsules::CloseWebTransportSession;
 use wtp_wire::capsule::{Capsule, CapsuleKind, capsule_types};
 use wtp_wire::frame::Frame;
@@ -95,6 +96,20 @@ fn sessions_are_closed_past_refused_memory(rt: HostRuntime) {
 fn the_close_capsule_has_its_number(rt: HostRuntime) {
     let number = capsule_types::CAPSULE_TYPE_CLOSE_WEBTRANSPORT_SESSION;
     same(&rt, number.into_inner(), 0x2843, "the number");
+    let kind = CapsuleKind::parse(number).expect(&rt, "a kind");
+    same(&rt, kind, CapsuleKind::CloseWebTransportSession, "the kind");
+}
+
+/// Types of capsules that are unknown here: DATAGRAM (RFC 9297, section 3.5), the numbers beside the
+/// known one, one that is reserved for exercise (section 5.4), and the largest.
+static UNKNOWN_TYPES: [u64; 5] = [0x00, 0x2842, 0x2844, 0x17, 0x3fff_ffff_ffff_ffff];
+
+#[test]
+fn other_types_have_no_kind(rt: HostRuntime) {
+    for number in &UNKNOWN_TYPES {
+        let id = VarInt::try_from_u64(*number).expect(&rt, "a number");
+        same(&rt, CapsuleKind::parse(id), None, *number);
+    }
 }
 
 /// The answer to a payload that is at fault.

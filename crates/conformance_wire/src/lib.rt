@@ -19,6 +19,8 @@ mod printed;
 #[cfg(test)]
 mod same;
 #[cfg(test)]
+mod setting_pairs;
+#[cfg(test)]
 mod settings;
 #[cfg(test)]
 mod settings_listed;

@@ -20,6 +20,7 @@ pub mod ValueLemmas
 pub mod KeptLemmas
 pub mod PayloadLemmas
 pub mod SettingsListLemmas
+pub mod SettingPairsLemmas
 pub mod CloseLemmas
 pub mod CloseWireLemmas
 pub mod CapsuleLemmas

@@ -22,6 +22,7 @@ pub mod HeaderWire
 pub mod SettingId
 pub mod Settings
 pub mod SettingsList
+pub mod SettingPairs
 pub mod Capsule
 pub mod CloseSession
 pub mod Codes

@@ -4,10 +4,12 @@ ghost use Rattle.wtp_core.specs.Writer.{PutsParts};
 
 mod builder;
 mod iter;
+mod pairs;
 
 use crate::frame::{Frame, FrameKind, FrameOwned, GenerateError};
 pub use builder::SettingsBuilder;
 pub use iter::SettingsIter;
+pub use pairs::{SettingPair, SettingPairs};
 use std::alloc::{AllocError, Global};
 use std::borrow::CowSlice;
 use std::collections::BTreeMap;
@@ -92,8 +94,10 @@ impl SettingId {
         numbers::is_reserved(id)
     }
 
-    /// Returns whether the number is an HTTP/2 setting that must not be received.
-    fn is_reserved(id: VarInt) -> bool
+    /// Returns whether the number identified a setting of HTTP/2 that HTTP/3 does not have: 0x00, or
+    /// 0x02 to 0x05. Such a setting must not be received (RFC 9114, section 7.2.4.1). Not in the Rust
+    /// crate.
+    pub fn is_reserved(id: VarInt) -> bool
         ensures { result ≡ is_reserved id }
     {
         matches!(id.into_inner(), 0x00 | 0x02..=0x05)

@@ -1,8 +1,11 @@
 //! Laws of settings.
-ghost use Rattle.std.specs.Prelude.{◌≡◌, ◌≢◌, ◌⊎◌, ℕ, List, Ok, Err, Some};
+ghost use Rattle.std.specs.Prelude.{◌≡◌, ◌≢◌, ◌⊎◌, ℕ, List, Option, Ok, Err, Some, None};
 ghost use Rattle.wtp_core.specs.declared.error.ErrorCode.{ErrorCode};
+ghost use Rattle.wtp_core.specs.declared.error.ErrorCode.TheVariants.{Settings};
 ghost use Rattle.wtp_wire.specs.SettingId.{IsSettingId, setting_id_of};
-ghost use Rattle.wtp_wire.specs.Settings.{IsSettings, IsPayload, IsSettingsFault, value_at, with_setting, settings_in, settings_wire};
+ghost use Rattle.wtp_wire.specs.Settings.{IsSettings, IsPayload, IsSettingsFault, AreFaultless, AreKept, value_at, with_setting, settings_in, settings_wire};
+ghost use Rattle.wtp_wire.specs.SettingPairs.{HasPairs, Repeats, numbers_of, pair_items, setting_items};
+ghost use Rattle.wtp_wire.specs.declared.settings.pairs.SettingPair.{SettingPair};
 ghost use Rattle.wtp_wire.specs.SettingsList.{AreListed, settings_list};
 ghost use Rattle.wtp_wire.specs.declared.settings.SettingId.{SettingId};
 
@@ -47,4 +50,35 @@ pub fn one_setting_changes()
 /// order of their numbers.
 pub fn settings_are_listed()
     ensures { (m : List (ℕ × ℕ)) → IsSettings m → AreListed m (settings_list m) }
+{}
+
+/// The computed pairs of a payload, and its fault, are those by definition.
+pub fn setting_pairs_are_computed()
+    ensures computed { (ps : List SettingPair) (fault : Option ErrorCode) (payload : List ℕ)
+        → HasPairs ps fault payload → setting_items payload ≡ pair_items ps fault }
+    ensures defined { (ps : List SettingPair) (fault : Option ErrorCode) (payload : List ℕ)
+        → setting_items payload ≡ pair_items ps fault → HasPairs ps fault payload }
+{}
+
+/// Each payload has pairs, and then ends or has a fault.
+pub fn one_list_of_pairs()
+    ensures { (payload : List ℕ)
+        → (ps : List SettingPair) × (fault : Option ErrorCode) × HasPairs ps fault payload }
+{}
+
+/// The settings of a payload are those among its pairs, and its first fault is that of its pairs,
+/// except for a repeated identifier of a setting: that is a fault of the settings alone.
+pub fn settings_are_among_the_pairs()
+    ensures settings { (m : List (ℕ × ℕ)) (payload : List ℕ) → settings_in payload ≡ Ok m
+        → (ps : List SettingPair) × HasPairs ps None payload × AreFaultless (numbers_of ps)
+        × AreKept m (numbers_of ps) }
+    ensures fault { (code : ErrorCode) (payload : List ℕ) → settings_in payload ≡ Err code
+        → (ps : List SettingPair) × AreFaultless (numbers_of ps)
+        × (HasPairs ps (Some code) payload ⊎ ((code ≡ Settings) × Repeats ps payload)) }
+    ensures same_settings { (ps : List SettingPair) (m : List (ℕ × ℕ)) (payload : List ℕ)
+        → HasPairs ps None payload → AreFaultless (numbers_of ps) → AreKept m (numbers_of ps)
+        → settings_in payload ≡ Ok m }
+    ensures same_fault { (ps : List SettingPair) (code : ErrorCode) (payload : List ℕ)
+        → HasPairs ps (Some code) payload → AreFaultless (numbers_of ps)
+        → settings_in payload ≡ Err code }
 {}
