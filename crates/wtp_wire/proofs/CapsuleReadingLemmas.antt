@@ -1,5 +1,5 @@
 -- One call of a reading of capsules: what is held before and after, and the bytes.
-use Rattle.std.proofs.Common.{◌≡◌, ℕ, ◌+◌, ◌-◌, ◌<◌, ◌≤◌, ◌⊎◌, nat_lt, List, [], ◌∷◌, ◌++◌, length, take, drop, Option, Some, None, refl, sym, ap, subst, ◌∙◌, arith, inl, inr, append_assoc, append-nil, length-append, length-drop, length-take}
+use Rattle.std.proofs.Common.{◌≡◌, ℕ, ◌+◌, ◌-◌, ◌<◌, ◌≤◌, ◌⊎◌, nat_lt, List, [], ◌∷◌, ◌++◌, length, take, drop, Option, Some, None, Result, Ok, Err, refl, sym, ap, subst, ◌∙◌, arith, inl, inr, append_assoc, append-nil, length-append, length-drop, length-take}
 use Rattle.std.proofs.lemmas.Bool.{cases_Bool, cases_lt, lt-ltb, le-ltb, ltb-false, ne_eqb}
 use Rattle.std.proofs.lemmas.List.{append_cancel_left, take-append-drop}
 use Rattle.std.proofs.Math.Seq.{drop-append-add}
@@ -13,8 +13,10 @@ use Rattle.wtp_wire.specs.declared.capsule.reading.CapsuleHead.TheVariants as he
 use Rattle.wtp_wire.specs.declared.capsule.reading.Reached.TheVariants as reached-is
 use Rattle.wtp_wire.specs.Capsule.{capsule_number_of, capsule_kind_of}
 use Rattle.wtp_wire.specs.CapsuleFront.{Found, Unknown, TooLong, Cut, End, longest_value, or_cut, value_front, capsule_front}
-use Rattle.wtp_wire.specs.CapsuleStream.{next_capsule, next_held, past_unknown, Joins, MissesValue}
-use Rattle.wtp_wire.specs.CapsuleSteps.{length_says, head_says, front_after, FitsHead, IsPart, holding, Advanced}
+use Rattle.wtp_wire.specs.CapsuleStream.{next_capsule, next_held, past_unknown, Joins, MissesValue, NextGiven}
+use Rattle.wtp_wire.specs.declared.capsule.CapsuleError.{CapsuleError}
+use Rattle.wtp_wire.specs.declared.capsule.CapsuleError.TheVariants as error-is
+use Rattle.wtp_wire.specs.CapsuleSteps.{HasRoom, length_says, head_says, front_after, FitsHead, IsPart, holding, Advanced}
 use Rattle.wtp_wire.specs.Front.{EncodesPair}
 use Rattle.wtp_wire.specs.FrameNeed.{frame_need, frame_need_is, frame_need_some}
 use Rattle.wtp_wire.specs.Held.{Held}
@@ -110,6 +112,10 @@ misses_value h v k m w e l =
       less = l;
       parts = ap (λ (x : List ℕ). x ++ v) (two.parts ∙ append-nil two.head);
     }
+
+none_missed : (h v : List ℕ) (k : CapsuleKind) (m : ℕ) (w : frame_need h ≡ length h) (e : head_says h ≡ head-is.Keep k m) (l : length v < m) → v ≡ [] → (misses_value h v k m w e l).part ≡ []
+unfolding misses_value
+none_missed h v k m w e l none = none
 
 -- ---- what is held and the bytes
 
@@ -385,10 +391,10 @@ advanced_value h v d a h' c v' e k n t w is joins less none = (
   record { none_left = none; short = inl (short_value h' v' k n (d - length a) t.zero less w is); joins = joins_value h v d a h' c v' e t joins },
 )
 
-pub advanced_memory : (h v : List ℕ) (d : ℕ) (a h' c v' e : List ℕ) (k : CapsuleKind) (n : ℕ) → Headed h v d a h' c → frame_need h' ≡ length h' → head_says h' ≡ head-is.Keep k n → v ++ c ≡ v' ++ e → length v' < n → Advanced reached-is.Memory (holding h v d) a h' v' (d - length a) e
-advanced_memory h v d a h' c v' e k n t w is joins less = (
+pub advanced_memory : (h v : List ℕ) (d : ℕ) (a h' c v' e : List ℕ) (k : CapsuleKind) (n : ℕ) → Headed h v d a h' c → frame_need h' ≡ length h' → head_says h' ≡ head-is.Keep k n → v ++ c ≡ v' ++ e → length v' < n → v' ≡ [] → Advanced reached-is.Memory (holding h v d) a h' v' (d - length a) e
+advanced_memory h v d a h' c v' e k n t w is joins less none = (
   part_value h' v' (d - length a) k n t.zero w is less,
-  record { none_due = t.zero; misses = misses_value h' v' k n w is less; joins = joins_value h v d a h' c v' e t joins },
+  record { none_due = t.zero; misses = misses_value h' v' k n w is less; none_held = none_missed h' v' k n w is less none; joins = joins_value h v d a h' c v' e t joins },
 )
 
 -- ---- from the parts of a call
@@ -402,3 +408,31 @@ headed head head' v a b c d len len' due room room' fits fits' forward part is r
 
 pub size_of : (head : List ℕ) (len : ℕ) → length head ≡ 16 → len ≤ 16 → length (take len head) ≡ len
 size_of head len room fits = omega (arith, length-take len head)
+
+-- ---- the room for a value
+
+pub no_room : (s : CapsuleHead) (n room : ℕ) → n ≡ 0 → HasRoom s n room
+no_room head-is.Unfinished n room e = tt
+no_room (head-is.Keep k len) n room e = λ l. absurd (omega arith)
+no_room (head-is.Skip len) n room e = tt
+no_room head-is.TooLong n room e = tt
+
+-- nothing is held of a type
+pub room_new : (h : List ℕ) (n room : ℕ) → h ≡ [] → HasRoom (head_says h) n room
+room_new h n room e = let some = frame_need_some [] in rw (e, says_unfinished [] some) tt
+
+-- the room stays while a type and a length are taken
+pub room_head : (h v : List ℕ) (d : ℕ) (a h' c : List ℕ) (n room : ℕ) → Headed h v d a h' c → n ≡ length v → HasRoom (head_says h) n room → HasRoom (head_says h') n room
+room_head h v d a h' c n room t size r = elim (before h v h' (drop d a) c d t.part t.head) [
+  | inl same ↦ rw same r
+  | inr none ↦ no_room (head_says h') n room (size ∙ ap length none)
+]
+
+-- ---- from call to call
+
+-- the result of a call from a later point is that from an earlier one, whatever was skipped between
+pub given_later : (r : Result (Option (CapsuleKind × List ℕ)) CapsuleError) (old mid new : Held) (a b c : List ℕ) → Joins old a mid b → NextGiven r mid b new c → NextGiven r old a new c
+given_later (Ok (Some x)) old mid new a b c j g = record { found = λ more. j more ∙ g.found more; empty = g.empty }
+given_later (Ok None) old mid new a b c j g = record { none_left = g.none_left; short = g.short; joins = λ more. j more ∙ g.joins more }
+given_later (Err error-is.TooLong) old mid new a b c j g = record { found = λ more. j more ∙ g.found more; stays = g.stays }
+given_later (Err error-is.Memory) old mid new a b c j g = record { none_due = g.none_due; misses = g.misses; none_held = g.none_held; joins = λ more. j more ∙ g.joins more }

@@ -52,6 +52,11 @@ pub record IsPart (h v : List ℕ) (due : ℕ) : Type 0 where
   pub fits : FitsHead (head_says h) v
   pub alone : 0 < due → h ≡ []
 
+-- where n bytes of a value are held, there is room for all of it
+abbrev pub HasRoom : CapsuleHead → ℕ → ℕ → Type 0
+HasRoom (head-is.Keep kind len) n room = 0 < n → len ≤ room
+HasRoom head n room = Unit {0}
+
 abbrev pub holding : List ℕ → List ℕ → ℕ → Held
 holding h v due = record { taken = h ++ v; due = due }
 

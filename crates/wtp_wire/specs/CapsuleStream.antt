@@ -120,10 +120,12 @@ pub record MissesValue (t : List ℕ) : Type 0 where
   pub less : length part < len
   pub parts : t ≡ head ++ part
 
--- nothing is lost, and the value of a capsule is read
+-- nothing is lost; of a capsule of a known kind, whose value has at least one byte, the type and
+-- the length are held, and no byte of the value
 pub record WantsMemory (old : Held) (a : List ℕ) (new : Held) (b : List ℕ) : Type 0 where
   pub none_due : new.due ≡ 0
   pub misses : MissesValue new.taken
+  pub none_held : misses.part ≡ []
   pub joins : Joins old a new b
 
 abbrev pub NextGiven :

@@ -1,8 +1,8 @@
 //! Reading the capsules of a stream's data, piece by piece. Not in the Rust crate.
-ghost use Rattle.std.specs.Prelude.{◌≡◌, ◌-◌, ◌<◌, ◌≤◌, ◌++◌, ◌↔◌, List, ℕ, [], length, take, drop, true, false, IsTrue, IsOk, Ok, OnErr};
+ghost use Rattle.std.specs.Prelude.{◌≡◌, ◌-◌, ◌<◌, ◌≤◌, ◌++◌, ◌↔◌, List, ℕ, [], length, take, drop, true, false, vec_len, vec_capacity, IsTrue, IsOk, Ok, OnErr};
 ghost use Rattle.wtp_wire.specs.CapsuleFront.{End};
 ghost use Rattle.wtp_wire.specs.CapsuleStream.{NextGiven, capsules_held, next_held, with_result};
-ghost use Rattle.wtp_wire.specs.CapsuleSteps.{Advanced, IsPart, Stepped, head_says, holding};
+ghost use Rattle.wtp_wire.specs.CapsuleSteps.{Advanced, HasRoom, IsPart, Stepped, head_says, holding};
 ghost use Rattle.wtp_wire.specs.FrameNeed.{frame_need};
 ghost use Rattle.wtp_wire.specs.Held.{Held, new_held};
 
@@ -23,8 +23,8 @@ pub struct CutCapsule;
 /// Reads the capsules of known kinds from the data of a stream, which are the payloads of its DATA
 /// frames, cut anywhere (RFC 9297, section 3.2). Not in the Rust crate.
 ///
-/// It skips capsules of unknown types, which take no memory. The value of another is allocated
-/// once, at its length, which has a limit: `CapsuleKind::longest_value`.
+/// It skips capsules of unknown types, which take no memory. The memory for the value of another is
+/// allocated before its first byte; its length has a limit: `CapsuleKind::longest_value`.
 #[derive(Drop)]
 pub struct CapsuleReading {
     alloc: Global,
@@ -50,7 +50,8 @@ impl Model for CapsuleReading {
 
     ghost view = { λ s. record { taken = take s.len s.head ++ s.value.items; due = s.due } };
 
-    ghost invariant = { λ s. (s.len ≤ 16) × IsPart (take s.len s.head) s.value.items s.due };
+    ghost invariant = { λ s. (s.len ≤ 16) × IsPart (take s.len s.head) s.value.items s.due
+        × HasRoom (head_says (take s.len s.head)) (vec_len s.value) (vec_capacity s.value) };
 }
 
 impl CapsuleReading {
@@ -74,8 +75,9 @@ impl CapsuleReading {
     ///
     /// - `TooLong`: the next capsule of a known kind is longer than the limit. `bytes` are those
     ///   after its length, and each later call returns `TooLong` and takes no byte.
-    /// - `Memory`: allocation failed for a value of at least one byte. Nothing is lost: a later
-    ///   call with the bytes left continues.
+    /// - `Memory`: allocation failed for a value of at least one byte. The type and the length are
+    ///   taken, no byte of the value is, and nothing is lost: a later call with the bytes left
+    ///   continues.
     pub fn next(&mut self, bytes: &mut &[u8]) -> Result<Option<CapsuleOwned>, CapsuleError>
         ensures given { NextGiven result self.old bytes.old.now self.new bytes.new.now }
     {
@@ -153,7 +155,11 @@ fn advance(
 ) -> Reached
     requires fits { len.old ≤ 16 }
     requires part { IsPart (take len.old head.old) value.old.items due.old }
+    requires room { HasRoom (head_says (take len.old head.old)) (vec_len value.old)
+        (vec_capacity value.old) }
     ensures fits { len.new ≤ 16 }
+    ensures room { HasRoom (head_says (take len.new head.new)) (vec_len value.new)
+        (vec_capacity value.new) }
     ensures advanced { Advanced result (holding (take len.old head.old) value.old.items due.old)
         bytes.old.now
         (take len.new head.new) value.new.items due.new bytes.new.now }
@@ -256,16 +262,20 @@ pub(crate) fn read_head(held: &[u8]) -> CapsuleHead
 /// Takes bytes until the value has `size` bytes. Returns whether it has. Its room is allocated
 /// before the first of them.
 fn take_value(bytes: &mut &[u8], value: &mut Vec<u8>, size: usize) -> Result<bool, AllocError>
-    requires { length value.old.items ≤ size }
+    requires fits { length value.old.items ≤ size }
+    requires room { 0 < vec_len value.old → size ≤ vec_capacity value.old }
     ensures whole { result ≡ Ok true → length value.new.items ≡ size }
     ensures cut { result ≡ Ok false → (length value.new.items < size) × (bytes.new.now ≡ []) }
-    ensures refused { OnErr result (length value.new.items < size) }
+    ensures refused { OnErr result ((length value.new.items < size) × (value.new.items ≡ [])) }
     ensures joins { value.old.items ++ bytes.old.now ≡ value.new.items ++ bytes.new.now }
+    ensures room { 0 < vec_len value.new → size ≤ vec_capacity value.new }
 {
+    if value.is_empty() {
+        value.reserve_exact(size)?;
+    }
     let missing = size - value.len();
-    value.reserve_exact(missing)?;
     let (front, rest) = bytes.split_at(missing.min(bytes.len()));
-    value.extend_from_slice(front)?;
+    value.extend_from_slice(front).unwrap();
     *bytes = rest;
     Ok(value.len() == size)
 }
