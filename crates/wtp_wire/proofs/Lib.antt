@@ -14,6 +14,7 @@ pub mod HeaderFrontLemmas
 pub mod SettingsLemmas
 pub mod PairLemmas
 pub mod PartsLemmas
+pub mod PastLemmas
 pub mod OverwrittenLemmas
 pub mod SettingIdLemmas
 pub mod ValueLemmas

@@ -31,6 +31,8 @@ pub pair_at-encoded : (n v : ℕ) (s more : List ℕ) → EncodesPair n v s → 
 pair_at-encoded n v s more h =
     pair_at-some (s ++ more) (h.second ++ more) more n v (rw (h.parts, append_assoc h.first h.second more) (number_at-encoding n h.first (h.second ++ more) h.type_number)) (number_at-encoding v h.second more h.number)
 
+pub ruleset pair_steps = (pair_at-some, pair_at-no_number, pair_at-no_value)
+
 -- the bytes start with the encoding of a pair
 pub record BeginsWithPair (bytes : List ℕ) (n v : ℕ) (more : List ℕ) : Type 0 where
   pub s : List ℕ

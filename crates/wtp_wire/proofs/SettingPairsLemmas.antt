@@ -68,6 +68,8 @@ items-reserved bytes more id value e t = items-some bytes (let short : length mo
 pub items-pair : (bytes more : List ℕ) (p : SettingPair) → pair_at bytes ≡ Some ((p.id, p.value), more) → is_reserved p.id ≡ false → setting_items bytes ≡ Ok p ∷ setting_items more
 items-pair bytes more p e t = items-some bytes (let short : length more < length bytes = pair_at-shorter bytes more p.id p.value e in omega arith) ∙ rw (e, t) refl
 
+pub ruleset item_steps = (items-empty, items-nil, items-cut, items-reserved, items-pair)
+
 -- ---- what the grammar says is computed
 
 not_reserved : (id : ℕ) → (IsReserved id → ⊥) → is_reserved id ≡ false

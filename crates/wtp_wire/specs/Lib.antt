@@ -3,6 +3,7 @@ pub mod KindNumber
 pub mod Content
 pub mod Body
 pub mod FrameHead
+pub mod PastNumber
 pub mod Front
 pub mod FrameReading
 pub mod Wire

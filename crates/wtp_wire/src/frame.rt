@@ -94,6 +94,7 @@ impl<'a> Frame<'a> {
     ghost use Rattle.wtp_wire.specs.FrameHead.{AnnouncesKind};
     ghost use Rattle.wtp_wire.specs.Front.{front, front_after};
     ghost use Rattle.wtp_wire.specs.FrameReading.{Answers, AnswersWhole};
+    ghost use Rattle.wtp_wire.specs.PastNumber.{past_two};
     ghost use Rattle.wtp_wire.specs.Wire.{parts_of, wire, IsReadable};
 
     /// Creates a HEADERS frame with this payload, an encoded field section (RFC 9114, section
@@ -182,8 +183,8 @@ impl<'a> Frame<'a> {
 
     /// Reads the first frame of the input. It does not allocate.
     ///
-    /// Returns `None` if there are too few bytes; complete numbers at the start may have been read
-    /// then. Errors:
+    /// Returns `None` if there are too few bytes. Those of the first two numbers that are complete
+    /// were read then, and nothing else was. Errors:
     ///
     /// - `UnknownFrame`: a complete frame of an unknown type was read.
     /// - `InvalidSessionId`: the WebTransport type and an invalid session ID were read.
@@ -192,13 +193,14 @@ impl<'a> Frame<'a> {
     #[inline(always)]
     pub fn read<R: BytesReader<'a>>(reader: &mut R) -> Result<Option<Self>, ParseError>
         ensures answer { Answers (front (R.left reader.old)) result (R.left reader.new) }
+        ensures none { result ≡ Ok None → R.left reader.new ≡ past_two (R.left reader.old) }
         ensures rest { IsRest (R.left reader.new) (R.left reader.old) }
         ensures kept { R.kept reader.new ≡ R.kept reader.old }
     {
-        match get_head(reader) {
-            Some((id, announcement)) => Self::read_body(reader, id, announcement),
-            None => Ok(None),
-        }
+        let Some((id, announcement)) = get_head(reader) else {
+            return Ok(None);
+        };
+        Self::read_body(reader, id, announcement)
     }
 
     /// Reads what follows a head of this type, which announces it.
@@ -211,6 +213,7 @@ impl<'a> Frame<'a> {
         requires { AnnouncesKind (kind_of id) announcement }
         ensures answer { Answers (front_after announcement (R.left reader.old)) result
             (R.left reader.new) }
+        ensures none { result ≡ Ok None → R.left reader.new ≡ R.left reader.old }
         ensures rest { IsRest (R.left reader.new) (R.left reader.old) }
         ensures kept { R.kept reader.new ≡ R.kept reader.old }
     {

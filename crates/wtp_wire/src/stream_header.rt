@@ -118,6 +118,7 @@ impl StreamHeader {
     ghost use Rattle.wtp_wire.specs.StreamKind.{IsKnownStream, has_session};
     ghost use Rattle.wtp_wire.specs.HeaderFront.{header_front, session_header_front};
     ghost use Rattle.wtp_wire.specs.HeaderReading.{AnswersHeader, AnswersHeaderWhole};
+    ghost use Rattle.wtp_wire.specs.PastNumber.{past_number};
     ghost use Rattle.wtp_wire.specs.HeaderWire.{header_parts, header_wire, IsReadableHeader};
 
     /// The largest size of an encoded header, in bytes.
@@ -160,10 +161,11 @@ impl StreamHeader {
     }
 
     /// Reads the session ID after the WebTransport type.
-    #[tactic(auto, unfolding(crate::specs::HeaderFront::session_header_front))]
+    #[tactic(auto, using(wtp_core::proofs::RestLemmas::rests), unfolding(crate::specs::HeaderFront::session_header_front))]
     fn read_session<'a, R: BytesReader<'a>>(reader: &mut R) -> Result<Option<Self>, ParseError>
         ensures answer { AnswersHeader (session_header_front (R.left reader.old)) result
             (R.left reader.new) }
+        ensures none { result ≡ Ok None → R.left reader.new ≡ R.left reader.old }
         ensures rest { IsRest (R.left reader.new) (R.left reader.old) }
         ensures kept { R.kept reader.new ≡ R.kept reader.old }
     {
@@ -178,7 +180,8 @@ impl StreamHeader {
 
     /// Reads the header at the start of the input. It does not allocate.
     ///
-    /// Returns `None` if there are too few bytes; the type may have been read then. Errors:
+    /// Returns `None` if there are too few bytes. The type was read then, if it is complete, and
+    /// nothing else was. Errors:
     ///
     /// - `UnknownStream`: an unknown type was read.
     /// - `InvalidSessionId`: the WebTransport type and an invalid session ID were read.
@@ -186,6 +189,7 @@ impl StreamHeader {
     pub fn read<'a, R: BytesReader<'a>>(reader: &mut R) -> Result<Option<Self>, ParseError>
         ensures answer { AnswersHeader (header_front (R.left reader.old)) result
             (R.left reader.new) }
+        ensures none { result ≡ Ok None → R.left reader.new ≡ past_number (R.left reader.old) }
         ensures rest { IsRest (R.left reader.new) (R.left reader.old) }
         ensures kept { R.kept reader.new ≡ R.kept reader.old }
     {

@@ -5,6 +5,7 @@ ghost use Rattle.wtp_core.specs.Reader.{IsRest};
 ghost use Rattle.wtp_wire.specs.FrameNeed.{frame_need, frame_need_most, frame_need_grows};
 ghost use Rattle.wtp_wire.specs.FrameHead.{head_at, announcement_at, announcement_of, AnnouncesKind};
 ghost use Rattle.wtp_wire.specs.Kind.{kind_of};
+ghost use Rattle.wtp_wire.specs.PastNumber.{past_two};
 
 use crate::frame::FrameKind;
 use wtp_core::bytes::BytesReader;
@@ -99,6 +100,7 @@ pub(crate) fn get_head<'a, R: BytesReader<'a>>(reader: &mut R) -> Option<(VarInt
     ensures head { MatchOption result (head_at (R.left reader.old) ≡ None)
         (λ h. head_at (R.left reader.old) ≡ Some (h.1, R.left reader.new)) }
     ensures kind { IfSome result (λ h. AnnouncesKind (kind_of h.0) h.1) }
+    ensures left { R.left reader.new ≡ past_two (R.left reader.old) }
     ensures rest { IsRest (R.left reader.new) (R.left reader.old) }
     ensures kept { R.kept reader.new ≡ R.kept reader.old }
 {

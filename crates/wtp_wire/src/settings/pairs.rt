@@ -62,6 +62,7 @@ impl<'a> SettingPairs<'a> {
 }
 
 /// Takes an identifier and a value. Returns `None` if one is truncated.
+#[tactic(auto, using(crate::proofs::PairLemmas::pair_steps))]
 fn take_pair(bytes: &mut &[u8]) -> Option<SettingPair>
     ensures { MatchOption result (pair_at bytes.old.now ≡ None)
         (λ p. pair_at bytes.old.now ≡ Some ((p.id, p.value), bytes.new.now)) }
@@ -76,6 +77,7 @@ fn take_pair(bytes: &mut &[u8]) -> Option<SettingPair>
 }
 
 /// Takes a pair, or returns the fault in its place and takes all bytes.
+#[tactic(auto, using(crate::proofs::SettingPairsLemmas::item_steps))]
 fn take_item(bytes: &mut &[u8]) -> Option<Result<SettingPair, ErrorCode>>
     ensures { YieldsFirst (λ b. setting_items b) bytes.old.now result bytes.new.now }
 {
