@@ -11,6 +11,8 @@ mod capsules;
 #[cfg(test)]
 mod fault_codes;
 #[cfg(test)]
+mod first_pairs;
+#[cfg(test)]
 mod frames;
 #[cfg(test)]
 mod polled;

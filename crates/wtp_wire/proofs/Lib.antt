@@ -28,6 +28,7 @@ pub mod CapsuleLemmas
 pub mod CapsuleFrontLemmas
 pub mod CapsuleStreamLemmas
 pub mod CapsuleReadingLemmas
+pub mod HeadPairLemmas
 pub mod CapsuleCursorLemmas
 pub mod WritingLemmas
 pub mod HeaderPollLemmas

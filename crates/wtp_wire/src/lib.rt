@@ -6,6 +6,7 @@ pub mod capsule;
 mod codes;
 pub mod datagram;
 pub mod frame;
+pub mod head;
 pub mod laws;
 pub mod rules;
 pub mod settings;

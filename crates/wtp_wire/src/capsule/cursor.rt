@@ -3,7 +3,7 @@ ghost use Rattle.std.specs.Prelude.{◌≡◌, ◌≤◌, ◌-◌, ◌↔◌, le
 
 use crate::capsule::reading::{CapsuleHead, read_head};
 use crate::capsule::{CapsuleKind, CutCapsule};
-use crate::frame::head::head_size;
+use crate::head::pair_size;
 
 /// All that reading the capsules of a stream's data remembers between two calls. Not in the Rust
 /// crate.
@@ -157,7 +157,7 @@ impl Start {
     fn read(bytes: &[u8]) -> Start
         ensures { StartIs result bytes.now }
     {
-        let start = head_size(bytes);
+        let start = pair_size(bytes);
         match read_head(bytes) {
             CapsuleHead::Unfinished => Start::Cut,
             CapsuleHead::TooLong => Start::TooLong,

@@ -8,12 +8,12 @@ ghost use Rattle.wtp_wire.specs.Held.{Held, new_held};
 
 use crate::capsule::{Capsule, CapsuleError, CapsuleKind, CapsuleOwned};
 use crate::frame::head::FrameHead;
+use crate::head::first_pair;
 use std::alloc::{AllocError, Global};
 use std::borrow::CowSlice;
 use std::marker::Model;
 use std::{fmt, mem};
 use wtp_core::polling::head::fill_head;
-use wtp_core::varint::first_varint;
 
 /// The data ended within a capsule.
 #[derive(Debug, Drop, PartialEq, Eq, thiserror::Error)]
@@ -238,20 +238,17 @@ pub(crate) enum CapsuleHead {
 }
 
 /// Returns what the type and the length say.
-#[tactic(auto, unfolding(crate::specs::CapsuleSteps::head_says))]
+#[tactic(auto, using(crate::proofs::HeadPairLemmas::capsule_steps))]
 pub(crate) fn read_head(held: &[u8]) -> CapsuleHead
     ensures { result ≡ head_says held.now }
 {
-    let Some((id, size)) = first_varint(held) else {
+    let Some(head) = first_pair(held) else {
         return CapsuleHead::Unfinished;
     };
-    let Some((len, _)) = first_varint(&held[size..]) else {
-        return CapsuleHead::Unfinished;
+    let Some(kind) = CapsuleKind::parse(head.first) else {
+        return CapsuleHead::Skip(head.second.into_inner());
     };
-    let Some(kind) = CapsuleKind::parse(id) else {
-        return CapsuleHead::Skip(len.into_inner());
-    };
-    let len = len.into_inner() as usize;
+    let len = head.second.into_inner() as usize;
     if len > kind.longest_value() {
         CapsuleHead::TooLong
     } else {

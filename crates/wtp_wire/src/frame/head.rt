@@ -8,11 +8,11 @@ ghost use Rattle.wtp_wire.specs.Kind.{kind_of};
 ghost use Rattle.wtp_wire.specs.PastNumber.{past_two};
 
 use crate::frame::FrameKind;
+use crate::head::{first_pair, pair_size};
 use wtp_core::bytes::BytesReader;
-use wtp_core::bytes::get::varint_need;
 use wtp_core::ids::SessionId;
 use wtp_core::polling::head::Head;
-use wtp_core::varint::{VarInt, first_varint};
+use wtp_core::varint::VarInt;
 
 /// The longest payload that is read, in bytes.
 pub(crate) const MAX_PAYLOAD: u64 = 4096;
@@ -44,21 +44,12 @@ impl Head for FrameHead {
 
     #[inline(always)]
     fn need(held: &[u8]) -> usize {
-        head_size(held)
+        pair_size(held)
     }
 
     ghost need_most = { frame_need_most };
 
     ghost need_grows = { frame_need_grows };
-}
-
-/// Returns the least size of two numbers that start with these bytes.
-#[inline(always)]
-pub(crate) fn head_size(bytes: &[u8]) -> usize
-    ensures { result ≡ frame_need bytes.now }
-{
-    let first = varint_need(bytes);
-    first + varint_need(bytes.get(first..).unwrap_or(&[]))
 }
 
 /// The head at the start of some bytes.
@@ -75,20 +66,18 @@ pub(crate) struct FirstHead<'a> {
 /// Returns the head at the start of these bytes, or `None` if its two numbers are not both
 /// complete.
 #[inline(always)]
-#[tactic(auto, unfolding(crate::specs::FrameHead::head_at))]
+#[tactic(auto, using(crate::proofs::HeadPairLemmas::head_steps))]
 pub(crate) fn first_head<'a>(bytes: &'a [u8]) -> Option<FirstHead<'a>>
     ensures head { MatchOption result (head_at bytes.now ≡ None)
         (λ h. head_at bytes.now ≡ Some (h.announcement, h.after.now)) }
     ensures kind { IfSome result (λ h. AnnouncesKind (kind_of h.id) h.announcement) }
     ensures within { IfSome result (λ h. length h.after.now ≤ length bytes.now) }
 {
-    let (id, id_size) = first_varint(bytes)?;
-    let behind = &bytes[id_size..];
-    let (number, size) = first_varint(behind)?;
+    let pair = first_pair(bytes)?;
     Some(FirstHead {
-        id,
-        announcement: classify_head(id, number),
-        after: &behind[size..],
+        id: pair.first,
+        announcement: classify_head(pair.first, pair.second),
+        after: &bytes[pair.size..],
     })
 }
 

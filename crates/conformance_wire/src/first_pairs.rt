@@ -1,0 +1,86 @@
+//! The two numbers with which a frame, a capsule and a setting start.
+use crate::same::same;
+use std::process::Abort;
+use wtp_wire::head::{first_pair, missing_bytes, pair_size};
+
+/// The start of a frame, a capsule or a setting, its two numbers and their size, or `None` if they
+/// are not both complete; the least size of two numbers that start so (RFC 9000, section 16), and
+/// what the row shows.
+struct Row {
+    shows: &'static str,
+    bytes: &'static [u8],
+    pair: Option<(u64, u64, usize)>,
+    size: usize,
+}
+
+static ROWS: [Row; 8] = [
+    Row {
+        shows: "no byte",
+        bytes: &[],
+        pair: None,
+        size: 2,
+    },
+    Row {
+        shows: "the first number alone",
+        bytes: &[0x00],
+        pair: None,
+        size: 2,
+    },
+    Row {
+        shows: "one byte of two, and one of the second number at least",
+        bytes: &[0x40],
+        pair: None,
+        size: 3,
+    },
+    Row {
+        shows: "the first number, and one byte of eight",
+        bytes: &[0x40, 0x41, 0xc0],
+        pair: None,
+        size: 10,
+    },
+    Row {
+        shows: "a DATA frame of three bytes, one of which is there",
+        bytes: &[0x00, 0x03, 0xff],
+        pair: Some((0, 3, 2)),
+        size: 2,
+    },
+    Row {
+        shows: "the WebTransport type and a session",
+        bytes: &[0x40, 0x41, 0x04],
+        pair: Some((0x41, 4, 3)),
+        size: 3,
+    },
+    Row {
+        shows: "the numbers 494878333 and 151288809941952652 of the RFC",
+        bytes: &[
+            0x9d, 0x7f, 0x3e, 0x7d, 0xc2, 0x19, 0x7c, 0x5e, 0xff, 0x14, 0xe8, 0x8c,
+        ],
+        pair: Some((494_878_333, 151_288_809_941_952_652, 12)),
+        size: 12,
+    },
+    Row {
+        shows: "a length that is not in its shortest encoding",
+        bytes: &[0x68, 0x43, 0x80, 0x00, 0x00, 0x04, 0x00],
+        pair: Some((0x2843, 4, 6)),
+        size: 6,
+    },
+];
+
+/// Asserts the two numbers of a row, and how many bytes are missing.
+fn check_row<R: Abort>(rt: &R, row: &Row) {
+    let pair = match first_pair(row.bytes) {
+        Some(pair) => Some((pair.first.into_inner(), pair.second.into_inner(), pair.size)),
+        None => None,
+    };
+    same(rt, pair, row.pair, row.shows);
+    same(rt, pair_size(row.bytes), row.size, row.shows);
+    let missing = row.size.saturating_sub(row.bytes.len());
+    same(rt, missing_bytes(row.bytes), missing, row.shows);
+}
+
+#[test]
+fn two_numbers_are_read(rt: HostRuntime) {
+    for row in &ROWS {
+        check_row(&rt, row);
+    }
+}

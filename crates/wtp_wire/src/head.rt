@@ -1,0 +1,60 @@
+//! The two numbers with which a frame, a capsule and a setting start: a type or an identifier, and
+//! then a length, a session ID or a value. Not in the Rust crate.
+ghost use Rattle.std.specs.Prelude.{◌≡◌, ◌≢◌, ◌+◌, ◌-◌, ◌<◌, ◌≤◌, ◌↔◌, length, drop, Some, None, MatchOption, IfSome};
+ghost use Rattle.wtp_wire.specs.FrameNeed.{frame_need};
+ghost use Rattle.wtp_wire.specs.Settings.{pair_at};
+
+use wtp_core::bytes::get::varint_need;
+use wtp_core::varint::{VarInt, first_varint};
+
+/// Two numbers at the start of some bytes, one after the other.
+#[derive(Clone, Copy, Debug, PartialEq, Eq)]
+pub struct FirstPair {
+    /// The first number.
+    pub first: VarInt,
+    /// The second number.
+    pub second: VarInt,
+    /// The size of both encodings, in bytes.
+    pub size: usize,
+}
+
+/// Returns the two numbers at the start of these bytes, or `None` if they are not both complete.
+///
+/// Source: RFC 9000, section 16.
+#[inline(always)]
+#[tactic(auto, unfolding(crate::specs::Settings::pair_at))]
+pub fn first_pair(bytes: &[u8]) -> Option<FirstPair>
+    ensures found { MatchOption result (pair_at bytes.now ≡ None)
+        (λ p. pair_at bytes.now ≡ Some ((p.first, p.second), drop p.size bytes.now)) }
+    ensures within { IfSome result (λ p. p.size ≤ length bytes.now) }
+    ensures some { IfSome result (λ p. 0 < p.size) }
+{
+    let (first, first_size) = first_varint(bytes)?;
+    let (second, second_size) = first_varint(&bytes[first_size..])?;
+    Some(FirstPair {
+        first,
+        second,
+        size: first_size + second_size,
+    })
+}
+
+/// Returns the least size of two numbers that start with these bytes, in bytes: from 2 to 16. If
+/// both numbers are complete, it is their size.
+#[inline(always)]
+pub fn pair_size(bytes: &[u8]) -> usize
+    ensures size { result ≡ frame_need bytes.now }
+    ensures least { 2 ≤ result }
+    ensures most { result ≤ 16 }
+{
+    let first = varint_need(bytes);
+    first + varint_need(bytes.get(first..).unwrap_or(&[]))
+}
+
+/// Returns the least number of bytes missing until two numbers that start with these bytes are
+/// complete: 0 exactly if they are.
+pub fn missing_bytes(bytes: &[u8]) -> usize
+    ensures missing { result ≡ frame_need bytes.now - length bytes.now }
+    ensures complete { (result ≡ 0) ↔ (pair_at bytes.now ≢ None) }
+{
+    pair_size(bytes).saturating_sub(bytes.len())
+}
