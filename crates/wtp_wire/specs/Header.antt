@@ -1,7 +1,7 @@
 -- The content of the header of a unidirectional stream (RFC 9114, section 6.2).
 use Rattle.std.specs.Prelude.{◌≡◌, ℕ, Option, Some, None, is_some}
 use Rattle.wtp_wire.specs.declared.stream_header.StreamKind.{StreamKind}
-use Rattle.wtp_wire.specs.declared.stream_header.StreamKind.TheVariants.{Control, QPackEncoder, QPackDecoder, WebTransport, Exercise}
+use Rattle.wtp_wire.specs.declared.stream_header.StreamKind.TheVariants.{Control, WebTransport}
 use Rattle.wtp_wire.specs.StreamKind.{IsKnownStream, has_session}
 
 -- a header: the kind of a stream without a session, or the session of a WebTransport stream
@@ -11,15 +11,6 @@ pub data Header : Type 0 where
 
 abbrev pub ControlHeader : Header
 ControlHeader = PlainHeader Control
-
-abbrev pub EncoderHeader : Header
-EncoderHeader = PlainHeader QPackEncoder
-
-abbrev pub DecoderHeader : Header
-DecoderHeader = PlainHeader QPackDecoder
-
-abbrev pub ExerciseHeader : ℕ → Header
-ExerciseHeader number = PlainHeader (Exercise number)
 
 abbrev pub header_kind : Header → StreamKind
 header_kind (PlainHeader kind) = kind

@@ -1,5 +1,6 @@
--- Which frames a stream allows (RFC 9114, sections 6.2.1, 7.2 and table 1; a WebTransport frame
--- only as the first of a stream that the peer opened).
+-- Which frames a stream allows: of RFC 9114, sections 6.2.1, 7.2 and table 1, the rules that this
+-- library checks (docs/DIFFERENCES.md lists the others); and a WebTransport frame only as the first
+-- of a stream that the peer opened (draft-ietf-webtrans-http3-02, section 4.2).
 use Rattle.std.specs.Prelude.{Bool, if◌then◌else◌, Option, Some, None}
 use Rattle.wtp_core.specs.declared.error.ErrorCode.{ErrorCode}
 use Rattle.wtp_core.specs.declared.error.ErrorCode.TheVariants.{FrameUnexpected, Frame}

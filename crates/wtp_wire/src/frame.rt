@@ -10,6 +10,7 @@ pub(crate) mod head;
 mod kind;
 pub mod reading;
 mod short;
+mod try_new;
 mod whole;
 pub mod writing;
 
@@ -98,7 +99,7 @@ impl<'a> Frame<'a> {
     ghost use Rattle.wtp_wire.specs.Wire.{parts_of, wire, IsReadable};
 
     /// Creates a HEADERS frame with this payload, an encoded field section (RFC 9114, section
-    /// 7.2.2). Requires that the payload has fewer than 2^62 bytes.
+    /// 7.2.2). Requires that the payload has fewer than 2^62 bytes; `try_new_headers` tests it.
     pub fn new_headers(payload: CowSlice<'a, u8>) -> Self
         requires { length (cow_slice_items payload) < 2 ^ 62 }
         ensures { result ≡ HeadersOf (cow_slice_items payload.entry) }
@@ -110,7 +111,7 @@ impl<'a> Frame<'a> {
     }
 
     /// Creates a SETTINGS frame with this payload (RFC 9114, section 7.2.4). Requires that the
-    /// payload has fewer than 2^62 bytes.
+    /// payload has fewer than 2^62 bytes; `try_new_settings` tests it.
     pub fn new_settings(payload: CowSlice<'a, u8>) -> Self
         requires { length (cow_slice_items payload) < 2 ^ 62 }
         ensures { result ≡ SettingsOf (cow_slice_items payload.entry) }
@@ -146,7 +147,7 @@ impl<'a> Frame<'a> {
     }
 
     /// Creates a DATA frame with this payload (RFC 9114, section 7.2.1). Requires that the payload
-    /// has fewer than 2^62 bytes.
+    /// has fewer than 2^62 bytes; `try_new_data` tests it.
     pub fn new_data(payload: CowSlice<'a, u8>) -> Self
         requires { length (cow_slice_items payload) < 2 ^ 62 }
         ensures { result ≡ DataOf (cow_slice_items payload.entry) }

@@ -1,4 +1,5 @@
-//! Which frames a stream allows, by its role (RFC 9114, sections 6.2.1 and 7.2).
+//! Which frames a stream allows, by its role: the rules of RFC 9114, sections 6.2.1 and 7.2, that
+//! this library checks (docs/DIFFERENCES.md lists the others).
 ghost use Rattle.std.specs.Prelude.{◌≡◌};
 ghost use Rattle.wtp_wire.specs.Role.{role_of};
 ghost use Rattle.wtp_wire.specs.Rule.{rule};
@@ -24,8 +25,10 @@ pub enum StreamRole {
 ///
 /// `first` says whether it is the first frame of the stream, other than unknown ones. It matters
 /// only on a `BiRemote` stream, where a WebTransport frame has to be the first: `Frame`. Every
-/// other fault is `FrameUnexpected` (RFC 9114, sections 6.2.1, 7.2 and table 1;
-/// draft-ietf-webtrans-http3-02, section 4.2). Not in the Rust crate.
+/// other fault is `FrameUnexpected`. Not in the Rust crate.
+///
+/// Source: the rules of RFC 9114, sections 6.2.1, 7.2 and table 1, that this library checks
+/// (docs/DIFFERENCES.md lists the others); draft-ietf-webtrans-http3-02, section 4.2.
 #[inline(always)]
 #[tactic(auto, using(crate::proofs::RuleLemmas::rules_of_kinds))]
 pub fn fault_of(role: StreamRole, first: bool, kind: FrameKind) -> Option<ErrorCode>

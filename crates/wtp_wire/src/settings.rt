@@ -271,8 +271,8 @@ impl Settings {
     /// Creates a SETTINGS frame of these settings, in ascending order of their numbers, with its
     /// payload in the buffer. It does not allocate.
     ///
-    /// Returns `EndOfBuffer` exactly if the buffer is too short; then it starts with those of the
-    /// payload's numbers that fit completely.
+    /// Returns `EndOfBuffer` exactly if the buffer is too short. What the buffer holds then is not
+    /// said here: `write_to` says it.
     pub fn generate_frame_ref<'a>(&self, buffer: &'a mut [u8]) -> Result<Frame<'a>, EndOfBuffer>
         requires { length buffer.old < 2 ^ 62 }
         ensures room { IsOk result ↔ (length (settings_wire self.now) ≤ length buffer.old) }
@@ -284,8 +284,7 @@ impl Settings {
     }
 
     /// Writes the payload of a SETTINGS frame to the start of the buffer, in ascending order of the
-    /// setting numbers, and returns its size in bytes: what `generate_frame_ref` does to its
-    /// buffer. It does not allocate. Not in the Rust crate.
+    /// setting numbers, and returns its size in bytes. It does not allocate. Not in the Rust crate.
     ///
     /// Returns `EndOfBuffer` exactly if the buffer is too short. Whatever it returns, the buffer
     /// then starts with those of the payload's numbers that fit completely, and its other bytes do

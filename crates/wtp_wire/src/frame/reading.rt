@@ -115,9 +115,11 @@ impl FrameReading {
     /// - `Again`: 4096 bytes of an unknown frame's payload were skipped, and some are still to be
     ///   skipped.
     ///
-    /// It may be polled again after each of these, with the same source or another. A complete
-    /// frame that the source has buffered is taken in one call, and a payload of at most 40 bytes
-    /// then mostly does not allocate.
+    /// It may be polled again after each of these, with the same source or another.
+    ///
+    /// A complete frame that the source has buffered is taken in one call, and a payload of at most
+    /// 40 bytes then mostly does not allocate: that is how it is done, and no promise of the
+    /// contract.
     #[inline(always)]
     pub fn poll<S: AsyncRead>(&mut self, source: &mut S) -> Polled<Result<FrameOwned, IoReadError>>
         ensures was_unfinished { IsUnfinished self.old }
