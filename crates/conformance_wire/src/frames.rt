@@ -46,6 +46,27 @@ fn other_numbers_are_no_kind(rt: HostRuntime) {
     same(&rt, is_exercise, true, "the least of an exercise");
 }
 
+/// Asserts the kind and the payload of a frame that was created.
+fn check_created<R: Abort>(rt: &R, frame: &Frame<'_>, kind: FrameKind, payload: &[u8]) {
+    same(
+        rt,
+        (frame.kind(), frame.payload()),
+        (kind, payload),
+        "a frame",
+    );
+}
+
+#[test]
+fn payloads_of_any_length_are_tested(rt: HostRuntime) {
+    let data = Frame::try_new_data(CowSlice::Borrowed(b"abc")).expect(&rt, "data");
+    check_created(&rt, &data, FrameKind::Data, b"abc");
+    let headers = Frame::try_new_headers(CowSlice::Borrowed(&[0x00, 0x00, 0xd9]));
+    let headers = headers.expect(&rt, "headers");
+    check_created(&rt, &headers, FrameKind::Headers, &[0x00, 0x00, 0xd9]);
+    let settings = Frame::try_new_settings(CowSlice::Borrowed(&[])).expect(&rt, "settings");
+    check_created(&rt, &settings, FrameKind::Settings, &[]);
+}
+
 /// What is read from bytes.
 type Outcome<'a> = Result<Option<Frame<'a>>, ParseError>;
 
