@@ -351,8 +351,8 @@ advanced_long h v d a h' c t w is =
       record { found = λ more. joins_head h v d a h' c t more ∙ long (c ++ more); stays = long },
     )
 
-pub advanced_skip : (h v : List ℕ) (d : ℕ) (a h' c : List ℕ) (n : ℕ) → Headed h v d a h' c → frame_need h' ≡ length h' → head_says h' ≡ head-is.Skip n → Advanced reached-is.Skipping (holding h v d) a [] v n c
-advanced_skip h v d a h' c n t w is =
+skip_advanced : (h v : List ℕ) (d : ℕ) (a h' c : List ℕ) (n : ℕ) → Headed h v d a h' c → frame_need h' ≡ length h' → head_says h' ≡ head-is.Skip n → Advanced reached-is.Skipping (holding h v d) a [] v n c
+skip_advanced h v d a h' c n t w is =
     let empty : v ≡ [] = elim (fits_after h v h' (drop d a) c d (head-is.Skip n) t.part t.head is) [ inl f ↦ absurd f | inr e ↦ e ] in
     let more_head : length h' ≡ length h → ⊥ = λ e. let says : head_says h ≡ head-is.Skip n = ap head_says (sym (t.head.same e)) ∙ is in let f : ⊥ = rw says at t.part.fits in f in
     let forward = t.head.forward in
@@ -363,6 +363,10 @@ advanced_skip h v d a h' c n t w is =
       joins = joins_then (hold (h ++ v) d) (hold (h' ++ v) (d - length a)) (hold ([] ++ v) n) a c c (joins_head h v d a h' c t) (λ more. rw (empty, append-nil h') (joins_skip h' c n (d - length a) n t.zero refl w is more));
       shorter = omega (arith, ap length t.head.joins, length-append h (drop d a), length-append h' c, length-drop d a);
     }
+
+-- as many bytes are to be skipped as the length says
+pub advanced_skip : (h v : List ℕ) (d : ℕ) (a h' c : List ℕ) (n m : ℕ) → m ≡ n → Headed h v d a h' c → frame_need h' ≡ length h' → head_says h' ≡ head-is.Skip n → Advanced reached-is.Skipping (holding h v d) a [] v m c
+advanced_skip h v d a h' c n m e t w is = rw e (skip_advanced h v d a h' c n t w is)
 
 -- ---- its value
 

@@ -1,5 +1,5 @@
 -- The two numbers at the start of bytes, and what they say of a frame and of a capsule.
-use Rattle.std.proofs.Common.{◌≡◌, ◌≢◌, ℕ, ◌+◌, ◌-◌, ◌<◌, ◌≤◌, ◌↔◌, List, length, drop, Option, Some, None, refl, sym, ap, ◌∙◌, arith, inl, inr, length-drop}
+use Rattle.std.proofs.Common.{◌≡◌, ◌≢◌, ℕ, ◌-◌, ◌<◌, ◌≤◌, ◌↔◌, List, length, drop, Option, Some, None, refl, sym, ap, ◌∙◌, arith, inl, inr, length-drop}
 use Rattle.std.proofs.lemmas.Bool.{cases_lt}
 use Rattle.wtp_core.specs.Varint.{number_at}
 use Rattle.wtp_core.specs.VarintNeed.{varint_need}

@@ -28,8 +28,16 @@ pub struct CutCapsule;
 #[derive(Drop)]
 pub struct CapsuleReading {
     alloc: Global,
+    part: CapsulePart,
+}
+
+/// The part of a capsule that is held, and how many bytes of an unknown one are still to be skipped.
+#[derive(Drop)]
+struct CapsulePart {
+    // The type and the length, of which `len` bytes are held.
     head: [u8; 16],
     len: usize,
+    // The bytes that are held of a value.
     value: Vec<u8>,
     due: u64,
 }
@@ -38,9 +46,9 @@ pub struct CapsuleReading {
 impl fmt::Debug for CapsuleReading {
     fn fmt<W: fmt::Write>(&self, f: &mut fmt::Formatter<W>) -> fmt::Result {
         f.debug_struct("CapsuleReading")
-            .field("head_bytes", &self.len)
-            .field("value_bytes", &self.value.len())
-            .field("due_bytes", &self.due)
+            .field("head_bytes", &self.part.len)
+            .field("value_bytes", &self.part.value.len())
+            .field("due_bytes", &self.part.due)
             .finish_non_exhaustive()
     }
 }
@@ -48,10 +56,12 @@ impl fmt::Debug for CapsuleReading {
 impl Model for CapsuleReading {
     ghost Value = { Held };
 
-    ghost view = { λ s. record { taken = take s.len s.head ++ s.value.items; due = s.due } };
+    ghost view = { λ s. holding (take s.part.len s.part.head) s.part.value.items s.part.due };
 
-    ghost invariant = { λ s. (s.len ≤ 16) × IsPart (take s.len s.head) s.value.items s.due
-        × HasRoom (head_says (take s.len s.head)) (vec_len s.value) (vec_capacity s.value) };
+    ghost invariant = { λ s. (length s.part.head ≡ 16) × (s.part.len ≤ 16)
+        × IsPart (take s.part.len s.part.head) s.part.value.items s.part.due
+        × HasRoom (head_says (take s.part.len s.part.head)) (vec_len s.part.value)
+        (vec_capacity s.part.value) };
 }
 
 impl CapsuleReading {
@@ -61,10 +71,12 @@ impl CapsuleReading {
     {
         CapsuleReading {
             alloc,
-            head: [0; 16],
-            len: 0,
-            value: Vec::new(alloc),
-            due: 0,
+            part: CapsulePart {
+                head: [0; 16],
+                len: 0,
+                value: Vec::new(alloc),
+                due: 0,
+            },
         }
     }
 
@@ -93,11 +105,7 @@ impl CapsuleReading {
     pub fn finish(&self) -> Result<(), CutCapsule>
         ensures { IsOk result ↔ (next_held self.now [] ≡ End) }
     {
-        let held = self.head[..self.len].len();
-        if held > 0 {
-            return Err(CutCapsule);
-        }
-        if self.due > 0 {
+        if self.part.len > 0 || self.part.due > 0 {
             return Err(CutCapsule);
         }
         Ok(())
@@ -107,20 +115,14 @@ impl CapsuleReading {
     fn step(&mut self, bytes: &mut &[u8]) -> Option<Result<Option<CapsuleOwned>, CapsuleError>>
         ensures { Stepped result self.old bytes.old.now self.new bytes.new.now }
     {
-        match advance(
-            bytes,
-            &mut self.head,
-            &mut self.len,
-            &mut self.value,
-            &mut self.due,
-        ) {
+        match self.part.advance(bytes) {
             Reached::Skipping => None,
             Reached::More => Some(Ok(None)),
             Reached::TooLong => Some(Err(CapsuleError::TooLong)),
             Reached::Memory => Some(Err(CapsuleError::Memory)),
             Reached::Complete(kind) => {
-                let value = mem::replace(&mut self.value, Vec::new(self.alloc));
-                self.len = 0;
+                let value = mem::replace(&mut self.part.value, Vec::new(self.alloc));
+                self.part.len = 0;
                 Some(Ok(Some(Capsule {
                     kind,
                     payload: CowSlice::Owned(value),
@@ -145,45 +147,44 @@ enum Reached {
     Complete(CapsuleKind),
 }
 
-/// Takes bytes of one capsule.
-fn advance(
-    bytes: &mut &[u8],
-    head: &mut [u8; 16],
-    len: &mut usize,
-    value: &mut Vec<u8>,
-    due: &mut u64,
-) -> Reached
-    requires fits { len.old ≤ 16 }
-    requires part { IsPart (take len.old head.old) value.old.items due.old }
-    requires room { HasRoom (head_says (take len.old head.old)) (vec_len value.old)
-        (vec_capacity value.old) }
-    ensures fits { len.new ≤ 16 }
-    ensures room { HasRoom (head_says (take len.new head.new)) (vec_len value.new)
-        (vec_capacity value.new) }
-    ensures advanced { Advanced result (holding (take len.old head.old) value.old.items due.old)
-        bytes.old.now
-        (take len.new head.new) value.new.items due.new bytes.new.now }
-{
-    skip(bytes, due);
-    if *due > 0 {
-        return Reached::More;
-    }
-    if !take_head(bytes, head, len) {
-        return Reached::More;
-    }
-    match read_head(&head[..*len]) {
-        CapsuleHead::Unfinished => unreachable!(),
-        CapsuleHead::TooLong => Reached::TooLong,
-        CapsuleHead::Skip(size) => {
-            *len = 0;
-            *due = size;
-            Reached::Skipping
+impl CapsulePart {
+    /// Takes bytes of one capsule.
+    fn advance(&mut self, bytes: &mut &[u8]) -> Reached
+        requires long { length self.old.head ≡ 16 }
+        requires fits { self.old.len ≤ 16 }
+        requires part { IsPart (take self.old.len self.old.head) self.old.value.items self.old.due }
+        requires room { HasRoom (head_says (take self.old.len self.old.head))
+            (vec_len self.old.value) (vec_capacity self.old.value) }
+        ensures long { length self.new.head ≡ 16 }
+        ensures fits { self.new.len ≤ 16 }
+        ensures room { HasRoom (head_says (take self.new.len self.new.head))
+            (vec_len self.new.value) (vec_capacity self.new.value) }
+        ensures advanced { Advanced result
+            (holding (take self.old.len self.old.head) self.old.value.items self.old.due)
+            bytes.old.now
+            (take self.new.len self.new.head) self.new.value.items self.new.due bytes.new.now }
+    {
+        skip(bytes, &mut self.due);
+        if self.due > 0 {
+            return Reached::More;
         }
-        CapsuleHead::Keep(kind, size) => match take_value(bytes, value, size) {
-            Ok(true) => Reached::Complete(kind),
-            Ok(false) => Reached::More,
-            Err(_) => Reached::Memory,
-        },
+        if !take_head(bytes, &mut self.head, &mut self.len) {
+            return Reached::More;
+        }
+        match read_head(&self.head[..self.len]) {
+            CapsuleHead::Unfinished => unreachable!(),
+            CapsuleHead::TooLong => Reached::TooLong,
+            CapsuleHead::Skip(size) => {
+                self.len = 0;
+                self.due = size;
+                Reached::Skipping
+            }
+            CapsuleHead::Keep(kind, size) => match take_value(bytes, &mut self.value, size) {
+                Ok(true) => Reached::Complete(kind),
+                Ok(false) => Reached::More,
+                Err(_) => Reached::Memory,
+            },
+        }
     }
 }
 
@@ -210,6 +211,7 @@ fn take_head(bytes: &mut &[u8], head: &mut [u8; 16], len: &mut usize) -> bool
     ensures whole { IsTrue result → frame_need (take len.new head.new) ≡ len.new }
     ensures cut { result ≡ false
         → (len.new < frame_need (take len.new head.new)) × (bytes.new.now ≡ []) }
+    ensures long { length head.new ≡ 16 }
     ensures room { len.new ≤ 16 }
     ensures forward { len.old ≤ len.new }
     ensures front { take len.old head.new ≡ take len.old head.old }

@@ -1,4 +1,4 @@
-use Rattle.std.proofs.Common.{◌<◌, length, drop, arith, length-drop}
+use Rattle.std.proofs.Common.{arith, length-drop}
 use Rattle.wtp_wire.proofs.CapsuleFrontLemmas.{number_shorter}
 use Rattle.wtp_wire.proofs.head.first_pair.Goals as goal
 

@@ -1,4 +1,4 @@
-use Rattle.std.proofs.Common.{◌≡◌, ◌-◌, List, ℕ, take, drop, length, Some, arith}
+use Rattle.std.proofs.Common.{◌≡◌, ◌-◌, List, ℕ, take, drop, length, arith}
 use Rattle.std.proofs.lemmas.Grind.{common_steps}
 use Rattle.wtp_wire.proofs.HeadPairLemmas.{head_at-pair}
 use Rattle.wtp_wire.proofs.frame.head.first_head.Goals as goal
