@@ -1,5 +1,5 @@
 -- Field lines one by one, as bytes (RFC 9204, section 4.5): their texts need not be UTF-8.
-use Rattle.std.specs.Prelude.{◌≡◌, ◌≢◌, ℕ, ◌<◌, ◌≤◌, take, drop, if◌then◌else◌, Bool, false, ◌||◌, IsTrue, List, [], ◌∷◌, length, Option, Some, None, Result, Ok, Err, ◌&&◌}
+use Rattle.std.specs.Prelude.{◌≡◌, ◌≢◌, ℕ, ◌<◌, ◌≤◌, take, drop, if◌then◌else◌, Bool, false, ◌||◌, IsTrue, List, [], ◌∷◌, length, Option, Some, None, Result, Ok, Err, ◌&&◌, nat_le}
 use Rattle.std.specs.Str.{is_utf8}
 use Rattle.std.specs.Borrow.{Bor}
 use Rattle.std.specs.Vec.{vec_capacity}
@@ -12,10 +12,11 @@ use Rattle.wtp_qpack.specs.declared.qpack.field_lines.FieldLine.{FieldLine}
 use Rattle.wtp_qpack.specs.declared.qpack.field_lines.FieldRoom.{FieldRoom}
 use Rattle.wtp_qpack.specs.declared.qpack.field_lines.Parts.{Parts}
 use Rattle.wtp_qpack.specs.Field.{Field}
-use Rattle.wtp_qpack.specs.Qpack.{GivesUnlessMemory}
+use Rattle.wtp_qpack.specs.Qpack.{GivesUnlessMemory, ◌>>=◌}
 use Rattle.wtp_qpack.specs.Integer.{integer_at}
 use Rattle.wtp_qpack.specs.StringLiteral.{or_invalid, huffman_text, flag_above, string_by}
-use Rattle.wtp_qpack.specs.FieldLine.{Lines, name_reference_by, literal_name_by, line_from, representation_of}
+use Rattle.wtp_qpack.specs.StaticTable.{entry_at}
+use Rattle.wtp_qpack.specs.FieldLine.{Lines, or_not_found, name_reference_by, literal_name_by, line_from, representation_of}
 
 -- the bytes of a string, decoded if they are Huffman text
 abbrev pub octets : Bool → List ℕ → Result (List ℕ) DecodingError
@@ -82,17 +83,34 @@ TakesLine old new (Some (Err fault)) =
 
 -- ---- lines that are decoded
 
+-- what was read of a string's length is a length, and all the bytes that it announces follow
+abbrev pub is_whole : Result (ℕ × List ℕ) DecodingError → Bool
+is_whole (Ok size) = nat_le size.0 (length size.1)
+is_whole (Err fault) = false
+
+-- Huffman text is at the start, with its length in n bits: the flag H is set, and all of it is there
+abbrev pub is_coded : ℕ → List ℕ → Bool
+is_coded n bytes = flag_above n bytes && is_whole (integer_at n bytes)
+
+-- the value begins after what was read of the line, and is Huffman text
 abbrev pub value_is_coded : {X : Type 0} → Result (X × List ℕ) DecodingError → Bool
-value_is_coded (Ok before) = flag_above 7 before.1
+value_is_coded (Ok before) = is_coded 7 before.1
 value_is_coded (Err fault) = false
 
--- a Huffman text begins at the end of what was read of the line
+-- the entry of an index with prefix 4
+abbrev pub named_entry_at : Lines
+named_entry_at bytes = do
+  index ← integer_at 4 bytes
+  entry ← or_not_found (entry_at index.0)
+  Ok (entry, index.1)
+
+-- a line of this representation has Huffman text, before which it has no fault
 abbrev pub has_coded : Representation → List ℕ → Bool
-has_coded (NameReference Static) bytes = value_is_coded (integer_at 4 bytes)
-has_coded LiteralName bytes = flag_above 3 bytes || value_is_coded (octets_at 3 bytes)
+has_coded (NameReference Static) bytes = value_is_coded (named_entry_at bytes)
+has_coded LiteralName bytes = is_coded 3 bytes || value_is_coded (octets_at 3 bytes)
 has_coded _ bytes = false
 
--- the line at the start has a Huffman text
+-- the line at the start has Huffman text, before which it has no fault
 unfoldable pub is_coded_line : List ℕ → Bool
 is_coded_line [] = false
 is_coded_line (first ∷ bytes) = has_coded (representation_of first) (first ∷ bytes)

@@ -10,7 +10,7 @@ ghost use Rattle.wtp_qpack.specs.Integer.{integer_at};
 ghost use Rattle.wtp_qpack.specs.StringLiteral.{flag_above, or_invalid, huffman_text};
 ghost use Rattle.wtp_qpack.specs.FieldLine.{indexed_at};
 ghost use Rattle.wtp_qpack.specs.FieldSection.{after_prefix};
-ghost use Rattle.wtp_qpack.specs.FieldLines.{octets_at, octet_reference_at, octet_name_at, octet_line_by, octet_line_at, IsEmptyRoom, room_bytes, Grows, TakesLine, value_is_coded, has_coded, is_coded_line, seen_string, GivesParts};
+ghost use Rattle.wtp_qpack.specs.FieldLines.{octets_at, octet_reference_at, octet_name_at, octet_line_by, octet_line_at, IsEmptyRoom, room_bytes, Grows, TakesLine, is_coded, named_entry_at, value_is_coded, has_coded, is_coded_line, seen_string, GivesParts};
 
 use super::field_line::{self, Representation, Table};
 use super::{DecodingError, field_section, integer, string_literal};
@@ -175,10 +175,10 @@ fn read_string<'a, const N: u32>(
     ensures front { OnOk result (take (length room.old.items) room.new.items ≡ room.old.items) }
     ensures size { IfOk result (λ x. vec_len room.new + 2 * length x.1.now
         ≤ vec_len room.old + 2 * length bytes.now) }
-    ensures once { Grows (flag_above N bytes.now) most
+    ensures once { Grows (is_coded N bytes.now) most
         (vec_capacity room.old) (vec_capacity room.new) }
     ensures memory { result ≡ Err Memory
-        → IsTrue (flag_above N bytes.now) × (vec_capacity room.old < most) }
+        → IsTrue (is_coded N bytes.now) × (vec_capacity room.old < most) }
 {
     let (size, rest) = integer::read::<N>(bytes)?;
     if size > rest.len() as u64 {
@@ -215,9 +215,9 @@ fn name_reference<'a>(room: &mut Vec<u8>, bytes: &'a [u8]) -> Result<Parts<'a>, 
     requires none { vec_len room.old ≡ 0 }
     ensures read { GivesParts room.new.items result (octet_reference_at bytes.now) }
     ensures middle { IfOk result (λ parts. parts.middle ≡ 0) }
-    ensures once { Grows (value_is_coded (integer_at 4 bytes.now)) (length bytes.now * 2)
+    ensures once { Grows (value_is_coded (named_entry_at bytes.now)) (length bytes.now * 2)
         (vec_capacity room.old) (vec_capacity room.new) }
-    ensures memory { result ≡ Err Memory → IsTrue (value_is_coded (integer_at 4 bytes.now))
+    ensures memory { result ≡ Err Memory → IsTrue (value_is_coded (named_entry_at bytes.now))
         × (vec_capacity room.old < length bytes.now * 2) }
 {
     let (index, rest) = integer::read::<4>(bytes)?;
