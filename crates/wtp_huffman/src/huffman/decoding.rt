@@ -88,6 +88,11 @@ pub fn decode_into(out: &mut Vec<u8>, text: &[u8]) -> Result<bool, HuffmanError>
         → MatchResult result (λ _. out.new.items ≡ t) (λ e. e ≡ Memory) }
     ensures ascii { IfOk result (λ is_ascii. TellsAscii is_ascii out.new.items) }
     ensures err { OnErr result (out.new.items ≡ []) }
+    // With room for twice the length of the code it allocates nothing.
+    ensures room { 2 * length text.now ≤ vec_capacity out.old
+        → vec_capacity out.new ≡ vec_capacity out.old }
+    ensures memory { result ≡ Err Memory → vec_capacity out.old < 2 * length text.now }
+    ensures capacity { vec_capacity out.old ≤ vec_capacity out.new }
     ensures empty { length text.now ≡ 0 → IsOk result }
 {
     out.clear();
