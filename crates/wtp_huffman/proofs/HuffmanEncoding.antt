@@ -1,5 +1,6 @@
 -- The steps of the encoder over the bits that wait.
-use Rattle.std.proofs.Common.{Bool, List, [], drop, length-append, ap, append-nil, append_assoc, arith, get_or, length, refl, subst, suc, sym, take, ℕ, ◌%◌, ◌*◌, ◌++◌, ◌+◌, ◌-◌, ◌/◌, ◌<◌, ◌^◌, ◌∙◌, ◌∷◌, ◌≡◌, ◌≤◌}
+use Rattle.std.specs.Prelude.{OnErr}
+use Rattle.std.proofs.Common.{Bool, Result, Ok, Err, List, [], drop, length-append, ap, append-nil, append_assoc, arith, get_or, length, refl, subst, suc, sym, take, ℕ, ◌%◌, ◌*◌, ◌++◌, ◌+◌, ◌-◌, ◌/◌, ◌<◌, ◌^◌, ◌∙◌, ◌∷◌, ◌≡◌, ◌≤◌}
 use Rattle.std.proofs.Math.Nat.{mul-le-mul_right, mul-div_cancel, mul-mod_left}
 use Rattle.std.proofs.Math.Seq.{take-append-add, take-append_seam}
 use Rattle.std.proofs.lemmas.List.{drop_all, drop_more, take_more, take-append-drop}
@@ -8,7 +9,7 @@ use Rattle.std.specs.Int.{to_be_bytes, w64}
 use Rattle.wtp_huffman.specs.Huffman.{AllOnes, IsBytes, IsPadding, bits_of, code, text_code, low_bits, word_of}
 use Rattle.wtp_huffman.specs.HuffmanDecoding.{window_of}
 use Rattle.wtp_huffman.specs.HuffmanEncoding.{Adds, AppendsHuffman, BeginsWith, GivesOut}
-use Rattle.wtp_huffman.proofs.HuffmanBits.{be_bits_8, bits_append, bits_take, drop_low_bits, window_low_bits, low_bits_append, low_bits_cat, low_bits_length, low_bits_mod, ones_bits}
+use Rattle.wtp_huffman.proofs.HuffmanBits.{be_bits_8, bits_append, bits_take, drop_low_bits, window_low_bits, low_bits_append, low_bits_cat, length_bits, low_bits_length, low_bits_mod, ones_bits}
 use Rattle.wtp_huffman.proofs.HuffmanDecoding.{coded_append, coded_one}
 use Rattle.wtp_huffman.proofs.HuffmanTable.{word_facts}
 
@@ -204,3 +205,28 @@ pub begins_cut : (old bytes : List ℕ) (n : ℕ) → length old ≤ n → Begin
 begins_cut old bytes n h =
     let all : n ≡ length old + (n - length old) = omega arith in
     record { more = take (n - length old) bytes; is = ap (λ j. take j (old ++ bytes)) all ∙ take-append-add old bytes (n - length old) }
+
+-- ---- how long the bytes are
+
+pub adds_length : (most : ℕ) (more : List Bool) (old : List ℕ) (count waiting : ℕ) (new : List ℕ) (left rest : ℕ) → Adds most more old count waiting new left rest
+    → 8 * length new + left ≡ 8 * length old + count + length more
+adds_length most more old count waiting new left rest added =
+    omega (arith, ap length added.same, length-append (bits_of new) (low_bits left rest), length_bits new, low_bits_length left rest, length-append (bits_of old) (low_bits count waiting ++ more), length_bits old, length-append (low_bits count waiting) more, low_bits_length count waiting)
+
+pub whole_length : (all behind : List Bool) (old out : List ℕ) (count waiting : ℕ) → bits_of old ++ all ≡ bits_of out ++ (low_bits count waiting ++ behind)
+    → 8 * length old + length all ≡ 8 * length out + count + length behind
+whole_length all behind old out count waiting same =
+    omega (arith, ap length same, length-append (bits_of old) all, length_bits old, length-append (bits_of out) (low_bits count waiting ++ behind), length_bits out, length-append (low_bits count waiting) behind, low_bits_length count waiting)
+
+-- ---- where memory may be short
+
+pub on_err : {X E P : Type 0} (r : Result X E) → P → OnErr r P
+on_err (Ok x) p = tt
+on_err (Err e) p = p
+
+pub err_by : {X E P Q : Type 0} (r : Result X E) → (P → Q) → OnErr r P → OnErr r Q
+err_by (Ok x) f p = tt
+err_by (Err e) f p = f p
+
+pub eight_length : (all first second rest : List Bool) → all ≡ (first ++ second) ++ rest → length all ≡ length first + length second + length rest
+eight_length all first second rest e = omega (arith, ap length e, length-append (first ++ second) rest, length-append first second)

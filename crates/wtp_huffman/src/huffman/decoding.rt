@@ -80,8 +80,8 @@ fn most_bytes(text: &[u8]) -> usize
 /// quickly computed.
 ///
 /// Returns [`HuffmanError::Invalid`] if the bytes are not code words followed by fewer than eight
-/// ones (RFC 7541, section 5.2), and [`HuffmanError::Memory`] if allocation fails. `out` is then
-/// empty. An empty text never fails.
+/// ones (RFC 7541, section 5.2), and [`HuffmanError::Memory`] if it allocates and that fails. `out`
+/// is then empty. An empty text never fails.
 pub fn decode_into(out: &mut Vec<u8>, text: &[u8]) -> Result<bool, HuffmanError>
     ensures found { OnOk result (IsHuffman out.new.items text.now) }
     ensures only { (t : List ℕ) → IsHuffman t text.now

@@ -1,6 +1,7 @@
 //! Encoding: from a text to code words.
 ghost use Rattle.std.specs.Prelude.{◌≡◌, ℕ, ◌*◌, ◌+◌, ◌%◌, ◌<◌, ◌≤◌, ◌^◌, ◌++◌, Bool, List, length};
-ghost use Rattle.std.specs.Prelude.{IfOk, OnOk, IsOk, MatchOption, SomeIff};
+ghost use Rattle.std.specs.Prelude.{IfOk, OnOk, OnErr, IsOk, MatchOption, SomeIff};
+ghost use Rattle.std.specs.Vec.{vec_len, vec_capacity};
 ghost use Rattle.wtp_huffman.specs.Huffman.{bits_of, low_bits, code, text_code, coded_len, IsBytes};
 ghost use Rattle.wtp_huffman.specs.Huffman.{IsHuffman, IsPadding};
 ghost use Rattle.wtp_huffman.specs.declared.huffman.rows.TheConstants.{LONGEST};
@@ -51,12 +52,15 @@ fn room_for(text: &[u8]) -> usize
 
 /// Appends the code words of a text, followed by ones up to a whole byte (RFC 7541, section 5.2).
 ///
-/// Returns [`AllocError`] if `out` has too little room and allocation fails. `out` then still
-/// begins with the bytes that it contained before, and may contain the code of part of the text
-/// after them. An empty text never fails.
+/// Returns [`AllocError`] if allocation fails, and only where `out` has less room than eight bytes
+/// more than the code. `out` then still begins with the bytes that it contained before, and may
+/// contain the code of part of the text after them. An empty text never fails.
 pub fn append(out: &mut Vec<u8>, text: &[u8]) -> Result<(), AllocError>
     ensures coded { OnOk result (AppendsHuffman text.now out.old.items out.new.items) }
     ensures front { BeginsWith out.old.items out.new.items }
+    ensures full { OnErr result
+        (vec_capacity out.old < vec_len out.old + coded_len text.now + 8) }
+    ensures capacity { vec_capacity out.old ≤ vec_capacity out.new }
     ensures empty { length text.now ≡ 0 → IsOk result }
 {
     are_bytes(out.as_slice());
@@ -187,6 +191,9 @@ fn add_eight(
         out.old.items waiting.count waiting.number
         out.new.items r.count r.number) }
     ensures front { BeginsWith out.old.items out.new.items }
+    ensures full { OnErr result (8 * vec_capacity out.old < 8 * vec_len out.old + waiting.count
+        + length (text_code four.now) + length (text_code next.now) + 64) }
+    ensures capacity { vec_capacity out.old ≤ vec_capacity out.new }
 {
     let front = words_of(four);
     let back = words_of(next);
@@ -212,6 +219,9 @@ fn add_four(
         out.old.items waiting.count waiting.number
         out.new.items r.count r.number) }
     ensures front { BeginsWith out.old.items out.new.items }
+    ensures full { OnErr result (8 * vec_capacity out.old
+        < 8 * vec_len out.old + waiting.count + length (text_code four.now) + 64) }
+    ensures capacity { vec_capacity out.old ≤ vec_capacity out.new }
 {
     if words.count <= MOST {
         return give_whole(out, join(waiting, words));
@@ -228,6 +238,9 @@ fn add_each(out: &mut Vec<u8>, waiting: Bits, four: &[u8; 4]) -> Result<Bits, Al
         out.old.items waiting.count waiting.number
         out.new.items r.count r.number) }
     ensures front { BeginsWith out.old.items out.new.items }
+    ensures full { OnErr result (8 * vec_capacity out.old
+        < 8 * vec_len out.old + waiting.count + length (text_code four.now) + 64) }
+    ensures capacity { vec_capacity out.old ≤ vec_capacity out.new }
 {
     let mut waiting = waiting;
     for byte in four {
@@ -245,6 +258,8 @@ fn add_word(out: &mut Vec<u8>, waiting: Bits, byte: u8) -> Result<Bits, AllocErr
         out.old.items waiting.count waiting.number
         out.new.items r.count r.number) }
     ensures front { BeginsWith out.old.items out.new.items }
+    ensures full { OnErr result (vec_capacity out.old < vec_len out.old + 8) }
+    ensures capacity { vec_capacity out.old ≤ vec_capacity out.new }
 {
     let word = word(byte);
     if waiting.count + word.count < 64 {
@@ -265,6 +280,8 @@ fn give_whole(out: &mut Vec<u8>, waiting: Bits) -> Result<Bits, AllocError>
         out.new.items r.count r.number) }
     ensures left { IfOk result (λ r. r.count ≡ waiting.count % 8) }
     ensures front { BeginsWith out.old.items out.new.items }
+    ensures full { OnErr result (vec_capacity out.old < vec_len out.old + 8) }
+    ensures capacity { vec_capacity out.old ≤ vec_capacity out.new }
 {
     let front = waiting.number << (64 - waiting.count);
     out.extend_from_slice(&front.to_be_bytes())?;
@@ -284,6 +301,8 @@ fn give_last(out: &mut Vec<u8>, waiting: Bits) -> Result<(), AllocError>
         ≡ bits_of out.old.items ++ (low_bits waiting.count waiting.number ++ pad))) }
     ensures empty { waiting.count ≡ 0 → IsOk result }
     ensures front { BeginsWith out.old.items out.new.items }
+    ensures full { OnErr result (vec_capacity out.old < vec_len out.old + 8) }
+    ensures capacity { vec_capacity out.old ≤ vec_capacity out.new }
 {
     if waiting.count == 0 {
         return Ok(());

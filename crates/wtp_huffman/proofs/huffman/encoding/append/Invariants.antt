@@ -1,4 +1,5 @@
 use Rattle.std.proofs.Common.{◌≡◌, ◌++◌, ◌<◌, ◌≤◌, length, drop}
+use Rattle.std.specs.Vec.{vec_capacity}
 use Rattle.wtp_huffman.specs.Huffman.{bits_of, low_bits, text_code}
 use Rattle.wtp_huffman.specs.HuffmanEncoding.{BeginsWith}
 use Rattle.wtp_huffman.proofs.huffman.encoding.append.Given as goal
@@ -11,6 +12,7 @@ invariant-loop-four l =
       size : length l.rest ≤ length l.text;
       none : length l.text ≡ 0 → l.waiting.count ≡ 0;
       front : BeginsWith l.fn.out.items l.out.items;
+      capacity : vec_capacity l.fn.out ≤ vec_capacity l.out;
     }
 
 abbrev pub decreases-loop-four : goal.decreases-loop-four
@@ -24,4 +26,5 @@ invariant-loop-byte l =
       size : length l.byte-items ≤ length l.text;
       none : length l.text ≡ 0 → l.waiting.count ≡ 0;
       front : BeginsWith l.fn.out.items l.out.items;
+      capacity : vec_capacity l.fn.out ≤ vec_capacity l.out;
     }
