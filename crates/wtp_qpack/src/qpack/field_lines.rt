@@ -19,8 +19,13 @@ use std::marker::Model;
 use wtp_huffman::huffman::{self, HuffmanError};
 
 /// Where the Huffman texts of a line are decoded: one block of memory, for the name and the value
-/// after it. One room serves any number of sections, and allocates at most once for each: at the
-/// first Huffman text, and only if it has less than twice the bytes that are left of the section.
+/// after it. One room serves any number of sections. [`FieldLines::next_line`] returns
+/// [`DecodingError::Memory`] only at a Huffman text, and only if the room has less than twice the
+/// bytes that are left of the section.
+///
+/// The private `read_line`, which reads the line, also ensures that the room never shrinks, and
+/// allocates only in that case, to at least that size: at most once for each section. The contract
+/// of `next_line` cannot say so, because its result borrows the room.
 #[derive(Debug, Drop)]
 pub struct FieldRoom {
     texts: Vec<u8>,
@@ -79,8 +84,9 @@ impl<'a> FieldLines<'a> {
     /// all others are where they are.
     ///
     /// Returns the fault of the line, if it has one. Returns [`DecodingError::Memory`] only if
-    /// `room` allocates, at a line with a Huffman text, and that fails. On an error no line is
-    /// taken, so the next call reads the same line.
+    /// `room` has less than twice the bytes that are left, and the line has a Huffman text that is
+    /// there, with no fault before it. On an error no line is taken, so the next call reads the
+    /// same line.
     #[tactic(auto, using(crate::proofs::SectionReading::octet_line_shorter))]
     pub fn next_line<'r>(
         &mut self,
