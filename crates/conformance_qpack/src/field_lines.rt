@@ -211,6 +211,37 @@ fn faults_of_lines_past_refused_memory(rt: HostRuntime) {
     assert_rows(&rt, rt.alloc(), &FAULTS);
 }
 
+/// Sections whose first line has a fault before any Huffman text that is there, so no memory is
+/// needed to find it: lengths of Huffman texts past the end (RFC 7541, section 5.2), and an index
+/// that the static table lacks before a Huffman value (RFC 9204, appendix A).
+static FAULTS_BEFORE_TEXTS: [Row; 3] = [
+    (
+        "a Huffman name is cut",
+        b"\x00\x00\x2b\x25",
+        &[],
+        Some(Err(DecodingError::UnexpectedFin)),
+    ),
+    (
+        "a Huffman value is cut",
+        b"\x00\x00\x23abc\x85\x25",
+        &[],
+        Some(Err(DecodingError::UnexpectedFin)),
+    ),
+    (
+        "index 99, and a Huffman value",
+        b"\x00\x00\x5f\x54\x82\x64\x02",
+        &[],
+        Some(Err(DecodingError::IndexNotfound)),
+    ),
+];
+
+/// A room with no memory is enough for these, also where memory is refused.
+#[test]
+fn faults_before_texts_need_no_memory(rt: HostRuntime) {
+    let mut room = FieldRoom::new(rt.alloc());
+    assert_served(&rt, &mut room, &FAULTS_BEFORE_TEXTS, false);
+}
+
 /// Prefixes with a fault: no byte, one integer, and an integer without an end.
 static PREFIXES: [(&str, &[u8], DecodingError); 4] = [
     ("no byte", b"", DecodingError::UnexpectedFin),
