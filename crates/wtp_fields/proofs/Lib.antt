@@ -1,3 +1,5 @@
+pub mod FieldListLaws
+pub mod FieldListLemmas
 pub mod HeaderLemmas
 pub mod Payloads
 pub mod RequestLemmas

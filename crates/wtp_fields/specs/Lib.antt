@@ -3,6 +3,8 @@ pub mod SessionRequest
 pub mod SessionResponse
 pub mod ResponseFrame
 pub mod FieldCodes
+pub mod FieldList
+pub mod FieldMessages
 pub use Rattle.wtp_qpack.specs.Qpack
 pub use Rattle.wtp_qpack.specs.Integer
 pub use Rattle.wtp_qpack.specs.Field

@@ -1,8 +1,10 @@
 //! Laws of the definitions: the contract of each function is the law. Those about definitions only
 //! do nothing.
 
+mod fields;
 mod headers;
 
+pub use fields::maps_of_lists;
 pub use headers::{header_maps, header_payloads};
 pub use wtp_huffman::laws::{huffman_texts, huffman_words};
 pub use wtp_qpack::laws::{

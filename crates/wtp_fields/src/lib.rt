@@ -3,6 +3,7 @@
 #![tactic(auto)]
 
 mod codes;
+pub mod fields;
 pub mod headers;
 pub mod huffman;
 pub mod laws;

@@ -10,7 +10,8 @@
 //! - [`frame`]: the frames on a stream.
 //! - [`settings`]: the first frame of a control stream.
 //! - [`session`]: the request for a session, and the response, in HEADERS frames.
-//! - [`headers`], [`qpack`], [`huffman`]: the fields of both, and how they are encoded.
+//! - [`fields`], [`headers`]: the fields of both, as a list of bytes and as a map of texts.
+//! - [`qpack`], [`huffman`]: how fields are encoded.
 //! - [`datagram`]: the datagrams of a session.
 //! - [`capsule`]: the capsule that closes a session, in DATA frames.
 //! - [`error`]: the codes with which a stream or the connection is closed after a fault.
@@ -22,7 +23,7 @@
 #![tactic(auto)]
 
 pub use wtp_core::{bytes, error, ids, varint};
-pub use wtp_fields::{headers, huffman, qpack, session};
+pub use wtp_fields::{fields, headers, huffman, qpack, session};
 pub use wtp_wire::{capsule, datagram, frame, settings, stream_header};
 
 mod codes;

@@ -1,0 +1,242 @@
+//! Field lists: the fields of a section in their order, with repeated names, as bytes (RFC 9110,
+//! section 5; RFC 9114, section 4.2). Not in the Rust crate.
+//!
+//! A header map ([`Headers`](crate::headers::Headers)) has UTF-8 texts only, and one value for each
+//! name; [`FieldList::to_headers`] returns it.
+ghost use Rattle.std.specs.Prelude.{◌≡◌, ◌≢◌, ◌==◌, ◌+◌, ◌-◌, ◌≤◌, ℕ, List, [], ◌∷◌, ◌++◌, length};
+ghost use Rattle.std.specs.Prelude.{OnOk, OnErr, IfErr, SomeIff, slice_get, option_map};
+ghost use Rattle.std.specs.Option.{option_copied};
+ghost use Rattle.wtp_qpack.specs.Field.{Field, field_value, last_value};
+ghost use Rattle.wtp_qpack.specs.FieldLines.{seen_line};
+ghost use Rattle.wtp_qpack.specs.declared.qpack.DecodingError.TheVariants as decoding;
+ghost use Rattle.wtp_fields.specs.FieldList.{stored, values_of, field_size, DecodesTo};
+ghost use Rattle.wtp_fields.specs.FieldCodes.{section_error, field_section_code};
+
+mod iter;
+mod message;
+
+pub use iter::{Fields, Values};
+pub use message::{RequestTarget, ToHeadersError};
+use std::alloc::{AllocError, Global};
+use std::marker::Model;
+use thiserror::Error;
+use wtp_core::error::ErrorCode;
+pub use wtp_qpack::qpack::FieldLine;
+use wtp_qpack::qpack::{DecodingError, FieldLines, FieldRoom};
+
+/// The reason there is no list of a section's fields.
+#[derive(Debug, Drop, Clone, Copy, PartialEq, Eq, Error)]
+pub enum FieldSectionError {
+    /// The section cannot be decoded: the first fault in byte order, which is never
+    /// [`DecodingError::Memory`].
+    #[error("{0}")]
+    Decoding(DecodingError),
+    /// The size of the fields exceeds the limit.
+    #[error("the fields are larger than the limit")]
+    TooLarge,
+    /// Memory allocation failed.
+    #[error("no memory")]
+    Memory,
+}
+
+impl From<DecodingError> for FieldSectionError {
+    ghost from_gives = { λ fault e. e ≡ section_error fault };
+
+    fn from(fault: DecodingError) -> FieldSectionError {
+        match fault {
+            DecodingError::Memory => FieldSectionError::Memory,
+            fault => FieldSectionError::Decoding(fault),
+        }
+    }
+}
+
+impl From<AllocError> for FieldSectionError {
+    ghost use Rattle.std.specs.Prelude.{◌≡◌};
+    ghost use Rattle.wtp_fields.specs.declared.fields.FieldSectionError.TheVariants.{Memory};
+
+    ghost from_gives = { λ _ e. e ≡ Memory };
+
+    fn from(_e: AllocError) -> FieldSectionError {
+        FieldSectionError::Memory
+    }
+}
+
+impl FieldSectionError {
+    /// Returns the error code: [`ErrorCode::Decompression`] for a section that cannot be decoded
+    /// (RFC 9204, section 6), and `None` otherwise. Fields that exceed a limit are no fault of the
+    /// peer: a server may answer them with the status code 431 (RFC 9114, section 4.2.2).
+    pub fn code(&self) -> Option<ErrorCode>
+        ensures { result ≡ field_section_code self.now }
+    {
+        match self {
+            FieldSectionError::Decoding(_) => Some(ErrorCode::Decompression),
+            FieldSectionError::TooLarge | FieldSectionError::Memory => None,
+        }
+    }
+}
+
+/// A field of a list, with memory of its own.
+#[derive(Debug, Drop)]
+struct StoredField {
+    name: Vec<u8>,
+    value: Vec<u8>,
+}
+
+/// Returns the name and the value of a stored field.
+fn line_of(field: &StoredField) -> FieldLine<'_>
+    ensures { seen_line result ≡ stored field.now }
+{
+    FieldLine {
+        name: field.name.as_slice(),
+        value: field.value.as_slice(),
+    }
+}
+
+/// A list of fields: each has a name and a value, which are bytes. Names may be repeated, and the
+/// order is that of the section.
+#[derive(Debug, Drop)]
+pub struct FieldList {
+    fields: Vec<StoredField>,
+    // the allocator of later fields
+    alloc: Global,
+}
+
+// Contracts treat a list as its fields, names and values as bytes.
+impl Model for FieldList {
+    ghost use Rattle.std.specs.Prelude.{List};
+    ghost use Rattle.wtp_qpack.specs.Field.{Field};
+    ghost use Rattle.wtp_fields.specs.FieldList.{all_stored};
+
+    ghost Value = { List Field };
+
+    ghost view = { λ list. all_stored list.fields.items };
+}
+
+impl FieldList {
+    /// Returns the empty list. Nothing is allocated.
+    fn empty(alloc: Global) -> Self
+        ensures { result ≡ [] }
+    {
+        FieldList {
+            fields: Vec::new(alloc),
+            alloc,
+        }
+    }
+
+    /// Appends a field. On an error nothing changes.
+    fn append(&mut self, name: &[u8], value: &[u8]) -> Result<(), AllocError>
+        ensures ok { OnOk result (self.new ≡ self.old ++ (name.now, value.now) ∷ []) }
+        ensures err { OnErr result (self.new ≡ self.old) }
+    {
+        let name = Vec::from_slice(self.alloc, name)?;
+        let value = Vec::from_slice(self.alloc, value)?;
+        self.fields.push(StoredField { name, value })?;
+        Ok(())
+    }
+
+    /// Returns the fields of a section, in its order (RFC 9204, section 4.5).
+    ///
+    /// `limit` bounds their size: for each field the bytes of its name and of its value, decoded,
+    /// and 32 more (RFC 9114, section 4.2.2). A field is counted before it is copied.
+    ///
+    /// In byte order, the first line that cannot be decoded is [`FieldSectionError::Decoding`] with
+    /// its fault, and the first with which the size exceeds the limit is
+    /// [`FieldSectionError::TooLarge`]. Returns [`FieldSectionError::Memory`] only if allocation
+    /// failed at a line after valid ones that has a Huffman text, or that is valid and does not
+    /// exceed the limit: the section can be decoded again.
+    pub fn decode(alloc: Global, section: &[u8], limit: u64) -> Result<Self, FieldSectionError>
+        ensures read { DecodesTo limit section.now result }
+        ensures no_fault { IfErr result (λ e. e ≢ FieldSectionError.Decoding decoding.Memory) }
+    {
+        let mut lines = FieldLines::new(section)?;
+        let mut room = FieldRoom::new(alloc);
+        let mut list = FieldList::empty(alloc);
+        let mut left = limit;
+        'lines: loop {
+            match lines.next_line(&mut room) {
+                None => return Ok(list),
+                Some(Err(fault)) => return Err(FieldSectionError::from(fault)),
+                Some(Ok(line)) => match left_after(left, line) {
+                    None => return Err(FieldSectionError::TooLarge),
+                    Some(less) => {
+                        left = less;
+                        list.append(line.name, line.value)?;
+                    }
+                },
+            }
+        }
+    }
+
+    /// Returns the number of fields.
+    pub fn len(&self) -> usize
+        ensures { result ≡ length self.now }
+    {
+        self.fields.len()
+    }
+
+    /// Returns whether there is no field.
+    pub fn is_empty(&self) -> bool
+        ensures { result ≡ (length self.now == 0) }
+    {
+        self.fields.is_empty()
+    }
+
+    /// Returns the field at an index, from 0 on.
+    pub fn get(&self, index: usize) -> Option<FieldLine<'_>>
+        ensures { option_map seen_line result ≡ slice_get self.now index }
+    {
+        match self.fields.get(index) {
+            Some(field) => Some(line_of(field)),
+            None => None,
+        }
+    }
+
+    /// Returns an iterator over the fields, in their order.
+    pub fn iter(&self) -> Fields<'_>
+        ensures { result ≡ self.now }
+    {
+        Fields::new(self.fields.as_slice())
+    }
+
+    /// Returns an iterator over the values of all fields of a name, in their order.
+    pub fn all<'a>(&'a self, name: &'a [u8]) -> Values<'a>
+        ensures { result ≡ values_of name.now self.now }
+    {
+        Values::new(self.fields.as_slice(), name)
+    }
+
+    /// Returns the value of the first field of a name.
+    pub fn first(&self, name: &[u8]) -> Option<&[u8]>
+        ensures { option_copied result ≡ field_value name.now self.now }
+    {
+        for field in &self.fields {
+            if field.name.as_slice() == name {
+                return Some(field.value.as_slice());
+            }
+        }
+        None
+    }
+
+    /// Returns the value of the last field of a name.
+    pub fn last(&self, name: &[u8]) -> Option<&[u8]>
+        ensures { option_copied result ≡ last_value name.now self.now }
+    {
+        let mut found: Option<&[u8]> = None;
+        for field in &self.fields {
+            if field.name.as_slice() == name {
+                found = Some(field.value.as_slice());
+            }
+        }
+        found
+    }
+}
+
+/// Returns what is left of a limit after a field, if its size does not exceed it.
+fn left_after(left: u64, line: FieldLine<'_>) -> Option<u64>
+    ensures { SomeIff result (field_size (seen_line line.entry) ≤ left)
+        (left - field_size (seen_line line.entry)) }
+{
+    let left = left.checked_sub(32)?;
+    let left = left.checked_sub(line.name.len() as u64)?;
+    left.checked_sub(line.value.len() as u64)
+}

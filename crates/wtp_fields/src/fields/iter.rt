@@ -1,0 +1,93 @@
+//! The fields of a list one by one.
+ghost use Rattle.std.specs.Prelude.{◌≡◌};
+ghost use Rattle.std.specs.Iterator.{YieldsFirstBy, YieldsFirstRef, item_count};
+ghost use Rattle.wtp_qpack.specs.FieldLines.{seen_line};
+ghost use Rattle.wtp_fields.specs.FieldList.{all_stored, values_of};
+
+use super::{FieldLine, StoredField, line_of};
+use std::marker::Model;
+
+/// An iterator over the fields of a list: see [`FieldList::iter`](super::FieldList::iter).
+#[derive(Drop)]
+pub struct Fields<'a> {
+    rest: &'a [StoredField],
+}
+
+// Contracts treat the iterator as the fields that are left.
+impl<'a> Model for Fields<'a> {
+    ghost use Rattle.std.specs.Prelude.{List};
+    ghost use Rattle.wtp_qpack.specs.Field.{Field};
+    ghost use Rattle.wtp_fields.specs.FieldList.{all_stored};
+
+    ghost Value = { List Field };
+
+    ghost view = { λ fields. all_stored fields.rest.now };
+}
+
+impl<'a> Fields<'a> {
+    /// Returns the iterator over these fields.
+    pub(super) fn new(fields: &'a [StoredField]) -> Self
+        ensures { result ≡ all_stored fields.now }
+    {
+        Fields { rest: fields }
+    }
+}
+
+impl<'a> Iterator for Fields<'a> {
+    type Item = FieldLine<'a>;
+
+    ghost next_gives = { YieldsFirstBy seen_line (λ fields. fields) };
+
+    ghost remaining = { item_count (λ fields. fields) };
+
+    fn next(&mut self) -> Option<FieldLine<'a>> {
+        let (first, others) = self.rest.split_first()?;
+        self.rest = others;
+        Some(line_of(first))
+    }
+}
+
+/// An iterator over the values of all fields of a name: see
+/// [`FieldList::all`](super::FieldList::all).
+#[derive(Drop)]
+pub struct Values<'a> {
+    rest: &'a [StoredField],
+    name: &'a [u8],
+}
+
+// Contracts treat the iterator as the values that are left.
+impl<'a> Model for Values<'a> {
+    ghost use Rattle.std.specs.Prelude.{List, ℕ};
+    ghost use Rattle.wtp_fields.specs.FieldList.{all_stored, values_of};
+
+    ghost Value = { List (List ℕ) };
+
+    ghost view = { λ values. values_of values.name.now (all_stored values.rest.now) };
+}
+
+impl<'a> Values<'a> {
+    /// Returns the iterator over the values of a name in these fields.
+    pub(super) fn new(fields: &'a [StoredField], name: &'a [u8]) -> Self
+        ensures { result ≡ values_of name.now (all_stored fields.now) }
+    {
+        Values { rest: fields, name }
+    }
+}
+
+impl<'a> Iterator for Values<'a> {
+    type Item = &'a [u8];
+
+    ghost next_gives = { YieldsFirstRef (λ values. values) };
+
+    ghost remaining = { item_count (λ values. values) };
+
+    fn next(&mut self) -> Option<&'a [u8]> {
+        while let Some((first, others)) = self.rest.split_first() {
+            self.rest = others;
+            if first.name.as_slice() == self.name {
+                return Some(first.value.as_slice());
+            }
+        }
+        None
+    }
+}
