@@ -8,6 +8,7 @@ pub use fields::maps_of_lists;
 pub use headers::{header_maps, header_payloads};
 pub use wtp_huffman::laws::{huffman_texts, huffman_words};
 pub use wtp_qpack::laws::{
-    encode_and_decode, field_lines, field_maps, field_sections, lines_of_texts, maps_of_lines,
+    encode_and_decode, field_lines, field_maps, field_sections, lines_again, lines_of_texts,
+    maps_of_lines,
     prefixed_integers, string_literals,
 };

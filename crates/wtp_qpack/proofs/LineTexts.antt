@@ -102,7 +102,7 @@ ascii_at (b ∷ bs) all (suc i) = ascii_at bs (and_right (nat_lt b 128) (below_1
 ascii_utf8 : (bs : List ℕ) → below_128 bs ≡ true → is_utf8 bs ≡ true
 ascii_utf8 bs all = is_utf8-from_IsUtf8 bs (IsUtf8-from_ascii bs (ascii_at bs all))
 
-entry_utf8 : (k : ℕ) (entry : Field) → entry_at k ≡ Some entry → (is_utf8 entry.0 ≡ true) × (is_utf8 entry.1 ≡ true)
+pub entry_utf8 : (k : ℕ) (entry : Field) → entry_at k ≡ Some entry → (is_utf8 entry.0 ≡ true) × (is_utf8 entry.1 ≡ true)
 unfolding ascii_field
 entry_utf8 k entry e =
     let both = all_at static_table k entry entries_ascii e in

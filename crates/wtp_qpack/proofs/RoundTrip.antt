@@ -75,13 +75,13 @@ line_as : (text rest : List ℕ) (b : ℕ) (r : Representation) → text ≡ b �
 unfolding line_at
 line_as text rest b r e form = ap line_at e ∙ ap (λ z. line_by z (b ∷ rest)) form ∙ ap (line_by r) (sym e)
 
-indexed_form : (low b : ℕ) → low < 2 ^ 6 → b ≡ 3 * 2 ^ 6 + low → representation_of b ≡ Indexed Static
+pub indexed_form : (low b : ℕ) → low < 2 ^ 6 → b ≡ 3 * 2 ^ 6 + low → representation_of b ≡ Indexed Static
 indexed_form low b small e = rw (eq-eqb (b / 2 ^ 7 % 2) 1 (omega arith), eq-eqb (b / 2 ^ 6 % 2) 1 (omega arith)) refl
 
-name_form : (low b : ℕ) → low < 2 ^ 4 → b ≡ 5 * 2 ^ 4 + low → representation_of b ≡ NameReference Static
+pub name_form : (low b : ℕ) → low < 2 ^ 4 → b ≡ 5 * 2 ^ 4 + low → representation_of b ≡ NameReference Static
 name_form low b small e = rw (ne_eqb (b / 2 ^ 7 % 2) 1 (omega arith), eq-eqb (b / 2 ^ 6 % 2) 1 (omega arith), eq-eqb (b / 2 ^ 4 % 2) 1 (omega arith)) refl
 
-literal_form : (h low b : ℕ) → h < 2 → low < 2 ^ 3 → b ≡ (2 * 2 + h) * 2 ^ 3 + low → representation_of b ≡ LiteralName
+pub literal_form : (h low b : ℕ) → h < 2 → low < 2 ^ 3 → b ≡ (2 * 2 + h) * 2 ^ 3 + low → representation_of b ≡ LiteralName
 literal_form h low b bit small e = rw (ne_eqb (b / 2 ^ 7 % 2) 1 (omega arith), ne_eqb (b / 2 ^ 6 % 2) 1 (omega arith), eq-eqb (b / 2 ^ 5 % 2) 1 (omega arith)) refl
 
 indexed_again : (k : ℕ) (e : Field) (rest : List ℕ) → entry_at k ≡ Some e → k < 99 → line_at (shortest_int 6 3 k ++ rest) ≡ Ok (e, rest)
@@ -103,7 +103,7 @@ name_again k e v rest there small text_v =
     ∙ line_as text head.2 (5 * 2 ^ 4 + head.0) (NameReference Static) head.3 (name_form head.0 (5 * 2 ^ 4 + head.0) head.1 refl)
     ∙ rw (size, there, text_again 7 0 v rest text_v) refl
 
-text_head : (n f : ℕ) (t more : List ℕ) → (h : ℕ) × (h < 2) × (low : ℕ) × (low < 2 ^ n) × (rest : List ℕ) × (encoded_string n f t ++ more ≡ ((f * 2 + h) * 2 ^ n + low) ∷ rest)
+pub text_head : (n f : ℕ) (t more : List ℕ) → (h : ℕ) × (h < 2) × (low : ℕ) × (low < 2 ^ n) × (rest : List ℕ) × (encoded_string n f t ++ more ≡ ((f * 2 + h) * 2 ^ n + low) ∷ rest)
 unfolding encoded_string
 text_head n f t more = elim (cases_lt (length (huffman_bytes t)) (length t)) [
   | inl less ↦

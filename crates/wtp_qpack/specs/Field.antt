@@ -9,6 +9,7 @@ use Rattle.std.specs.Global.{Global}
 use Rattle.std.specs.Cmp.Lexicographic.{slice_cmp}
 use Rattle.std.specs.Ordering.{nat_cmp}
 use Rattle.std.specs.BTreeMap.{BTreeMap, insert_entry}
+use Rattle.wtp_huffman.specs.Huffman.{IsBytes}
 
 -- a name and a value
 abbrev pub Field : Type 0
@@ -30,6 +31,15 @@ pub record IsText (t : List ℕ) : Type 0 where
 abbrev pub AreTexts : List Field → Type 0
 AreTexts [] = Unit {0}
 AreTexts (field ∷ fields) = IsText field.0 × IsText field.1 × AreTexts fields
+
+-- bytes, fewer than 2^64
+pub record IsOctets (t : List ℕ) : Type 0 where
+  pub bytes : IsBytes t
+  pub few : length t < 2 ^ 64
+
+abbrev pub AreOctets : List Field → Type 0
+AreOctets [] = Unit {0}
+AreOctets (field ∷ fields) = IsOctets field.0 × IsOctets field.1 × AreOctets fields
 
 -- ---- maps
 

@@ -1,10 +1,10 @@
 //! Laws of field lines as bytes, and of the lines and maps of texts that they make.
-ghost use Rattle.std.specs.Prelude.{◌≡◌, ◌⊎◌, ℕ, ◌<◌, List, [], length, Ok, Err};
+ghost use Rattle.std.specs.Prelude.{◌≡◌, ◌⊎◌, ℕ, ◌<◌, List, [], ◌++◌, length, Ok, Err};
 ghost use Rattle.wtp_qpack.specs.declared.qpack.DecodingError.{DecodingError};
 ghost use Rattle.wtp_qpack.specs.declared.qpack.DecodingError.TheVariants.{InvalidString};
-ghost use Rattle.wtp_qpack.specs.Field.{Field, field_map};
-ghost use Rattle.wtp_qpack.specs.FieldLine.{line_at};
-ghost use Rattle.wtp_qpack.specs.FieldSection.{after_prefix, map_at};
+ghost use Rattle.wtp_qpack.specs.Field.{Field, IsOctets, AreOctets, field_map};
+ghost use Rattle.wtp_qpack.specs.FieldLine.{line_at, encoded_line};
+ghost use Rattle.wtp_qpack.specs.FieldSection.{after_prefix, map_at, section_of};
 ghost use Rattle.wtp_qpack.specs.FieldLines.{octet_line_at, as_texts, AreOctetLines, AreUtf8Fields};
 
 /// A line of bytes is the line of texts, if its name and its value are UTF-8, and otherwise no
@@ -35,4 +35,13 @@ pub fn maps_of_lines()
         → after_prefix section ≡ Ok lines → AreOctetLines lines fields rest → AreUtf8Fields fields
         → octet_line_at rest ≡ Ok (line, behind) → as_texts (line, behind) ≡ Err InvalidString
         → map_at section ≡ Err InvalidString }
+{}
+
+/// An encoded line reads as its field, whatever follows; and an encoded section has the lines of
+/// its fields, in their order. Names and values need not be UTF-8.
+pub fn lines_again()
+    ensures line { (field : Field) (rest : List ℕ) → IsOctets field.0 → IsOctets field.1
+        → octet_line_at (encoded_line field ++ rest) ≡ Ok (field, rest) }
+    ensures section { (fields : List Field) → AreOctets fields → (lines : List ℕ)
+        × (after_prefix (section_of fields) ≡ Ok lines) × AreOctetLines lines fields [] }
 {}

@@ -7,7 +7,7 @@ ghost use Rattle.wtp_qpack.specs.StaticTable.{entry_at};
 ghost use Rattle.wtp_qpack.specs.FieldLine.{bit, table_of, representation_of, line_view};
 ghost use Rattle.wtp_qpack.specs.FieldLine.{or_not_found, indexed_at, name_reference_at};
 ghost use Rattle.wtp_qpack.specs.FieldLine.{literal_name_at, line_by, line_at, has_value};
-ghost use Rattle.wtp_qpack.specs.FieldLine.{encoded_line};
+ghost use Rattle.wtp_qpack.specs.FieldLine.{encoded_line, line_of};
 
 use super::{DecodingError, integer, static_table, string_literal};
 use std::alloc::{AllocError, Global};
@@ -175,11 +175,11 @@ pub fn read<'a>(
 }
 
 /// Returns whether the static entry of an index has this value.
-fn is_value(index: usize, value: &str) -> bool
+fn is_value(index: usize, value: &[u8]) -> bool
     ensures { result ≡ has_value (entry_at index) value.now }
 {
     match static_table::entry(index as u64) {
-        Some((_, known)) => known == value,
+        Some((_, known)) => known.as_bytes() == value,
         None => false,
     }
 }
@@ -189,15 +189,16 @@ fn is_text(text: &str)
     ensures { IsText text.now }
 {}
 
-/// Appends the line of a field.
-#[tactic(auto, unfolding(crate::specs::FieldLine::encoded_line))]
-pub fn write(out: &mut Vec<u8>, name: &str, value: &str) -> Result<(), AllocError>
-    ensures ok { OnOk result (out.new.items ≡ out.old.items ++ encoded_line (name.now, value.now)) }
-    ensures texts { IsText name.now × IsText value.now }
+/// Appends the line of a field, by the index of the first static entry of its name.
+fn write_by(
+    out: &mut Vec<u8>,
+    index: Option<usize>,
+    name: &[u8],
+    value: &[u8],
+) -> Result<(), AllocError>
+    ensures { OnOk result (out.new.items ≡ out.old.items ++ line_of index (name.now, value.now)) }
 {
-    is_text(name);
-    is_text(value);
-    match static_table::first_entry(name) {
+    match index {
         None => {
             string_literal::write::<3>(out, 0b10, name)?;
             string_literal::write::<7>(out, 0, value)
@@ -211,4 +212,28 @@ pub fn write(out: &mut Vec<u8>, name: &str, value: &str) -> Result<(), AllocErro
             }
         }
     }
+}
+
+/// Appends the line of a field.
+#[tactic(auto, unfolding(crate::specs::FieldLine::encoded_line))]
+pub fn write(out: &mut Vec<u8>, name: &str, value: &str) -> Result<(), AllocError>
+    ensures ok { OnOk result (out.new.items ≡ out.old.items ++ encoded_line (name.now, value.now)) }
+    ensures texts { IsText name.now × IsText value.now }
+{
+    is_text(name);
+    is_text(value);
+    write_by(
+        out,
+        static_table::first_entry(name),
+        name.as_bytes(),
+        value.as_bytes(),
+    )
+}
+
+/// Appends the line of a field whose name and value need not be UTF-8.
+#[tactic(auto, unfolding(crate::specs::FieldLine::encoded_line))]
+pub fn write_octets(out: &mut Vec<u8>, name: &[u8], value: &[u8]) -> Result<(), AllocError>
+    ensures { OnOk result (out.new.items ≡ out.old.items ++ encoded_line (name.now, value.now)) }
+{
+    write_by(out, static_table::first_entry_of(name), name, value)
 }

@@ -239,3 +239,13 @@ pub fn first_entry(name: &str) -> Option<usize>
     let first = name.as_bytes().first()?;
     index_in(names_of(*first), name)
 }
+
+/// The same for a name that need not be UTF-8. All names of the table are.
+pub fn first_entry_of(name: &[u8]) -> Option<usize>
+    ensures { result ≡ first_entry name.now }
+{
+    match str::from_utf8(name) {
+        Ok(name) => first_entry(name),
+        Err(_) => None,
+    }
+}

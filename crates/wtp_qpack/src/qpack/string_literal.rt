@@ -116,18 +116,17 @@ fn shorter_len(text: &[u8]) -> Option<usize>
 
 /// Appends the length of a text and then the text, under the flags: in the Huffman code if that is
 /// strictly shorter.
-pub fn write<const N: u32>(out: &mut Vec<u8>, flags: u8, text: &str) -> Result<(), AllocError>
+pub fn write<const N: u32>(out: &mut Vec<u8>, flags: u8, text: &[u8]) -> Result<(), AllocError>
     requires some { 1 ≤ N }
     requires few { N ≤ 7 }
     requires small { flags < 64 }
     requires above { flags * 2 + 1 < 2 ^ (8 - N) }
     ensures { OnOk result (out.new.items ≡ out.old.items ++ encoded_string N flags text.now) }
 {
-    let bytes = text.as_bytes();
-    if bytes.len() < 1 << N {
-        write_short::<N>(out, flags, bytes)
+    if text.len() < 1 << N {
+        write_short::<N>(out, flags, text)
     } else {
-        write_long::<N>(out, flags, bytes)
+        write_long::<N>(out, flags, text)
     }
 }
 
