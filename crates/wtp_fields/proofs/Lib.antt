@@ -1,5 +1,6 @@
 pub mod FieldListLaws
 pub mod FieldListLemmas
+pub mod FieldListWriting
 pub mod HeaderLemmas
 pub mod Payloads
 pub mod RequestLemmas

@@ -5,6 +5,7 @@ pub mod ResponseFrame
 pub mod FieldCodes
 pub mod FieldList
 pub mod FieldMessages
+pub mod FieldWriting
 pub use Rattle.wtp_qpack.specs.Qpack
 pub use Rattle.wtp_qpack.specs.Integer
 pub use Rattle.wtp_qpack.specs.Field

@@ -14,12 +14,14 @@ ghost use Rattle.wtp_fields.specs.FieldCodes.{section_error, field_section_code}
 
 mod iter;
 mod message;
+mod writing;
 
 pub use iter::{Fields, Values};
 pub use message::{RequestTarget, ToHeadersError};
 use std::alloc::{AllocError, Global};
 use std::marker::Model;
 use thiserror::Error;
+pub use writing::PushError;
 use wtp_core::error::ErrorCode;
 pub use wtp_qpack::qpack::FieldLine;
 use wtp_qpack::qpack::{DecodingError, FieldLines, FieldRoom};

@@ -1,0 +1,273 @@
+//! Field lists for a message that is sent, and its HEADERS frame (RFC 9114, sections 4.1.2, 4.2,
+//! 4.3 and 7.2.2).
+ghost use Rattle.std.specs.Prelude.{◌≡◌, ◌≢◌, ◌⊎◌, ◌++◌, ◌==◌, ◌≤◌, ◌^◌, List, [], ◌∷◌, length, Some, None, Ok, Err};
+ghost use Rattle.std.specs.Prelude.{MatchResult, OnOk, OnErr, IfOk, codes};
+ghost use Rattle.std.specs.List.{list_all, list_any};
+ghost use Rattle.std.specs.Option.{option_copied};
+ghost use Rattle.url.specs.Parser.{parse_url};
+ghost use Rattle.wtp_wire.specs.Content.{HeadersOf};
+ghost use Rattle.wtp_qpack.specs.Field.{IsOctets, AreOctets};
+ghost use Rattle.wtp_qpack.specs.FieldSection.{section_of};
+ghost use Rattle.wtp_fields.specs.SessionResponse.{status_alone};
+ghost use Rattle.wtp_fields.specs.FieldWriting.{is_upper, is_tchar, is_value_byte, is_blank_at};
+ghost use Rattle.wtp_fields.specs.FieldWriting.{is_field_value, name_fault, push_fault, fault_in};
+ghost use Rattle.wtp_fields.specs.FieldWriting.{request_fields, list_at};
+ghost use Rattle.wtp_fields.specs.declared.session.request.UrlParseError.TheVariants as answered;
+
+use super::FieldList;
+use crate::session::{SessionRequest, UrlParseError};
+use std::alloc::{AllocError, Global};
+use std::borrow::CowSlice;
+use thiserror::Error;
+use wtp_core::ids::StatusCode;
+use wtp_core::varint::VarInt;
+use wtp_qpack::section;
+use wtp_wire::frame::{Frame, FrameOwned, GenerateError};
+
+/// The reason a field was not pushed.
+#[derive(Debug, Drop, Clone, Copy, PartialEq, Eq, Error)]
+pub enum PushError {
+    /// The name is empty.
+    #[error("the name is empty")]
+    EmptyName,
+    /// The name starts with a colon: it is that of a pseudo-header field (RFC 9114, section 4.3).
+    #[error("the name is that of a pseudo-header field")]
+    PseudoHeader,
+    /// The name has an upper-case letter (RFC 9114, section 4.2).
+    #[error("the name has an upper-case letter")]
+    UpperCase,
+    /// The name has a character that no token has (RFC 9110, section 5.6.2).
+    #[error("the name is no token")]
+    NotAToken,
+    /// The value has a control character other than a tab, as CR, LF or NUL, or it starts or ends
+    /// with a space or a tab (RFC 9110, section 5.5; RFC 9114, section 10.3).
+    #[error("the value has a forbidden character")]
+    ForbiddenValue,
+    /// Memory allocation failed.
+    #[error("no memory")]
+    Memory,
+}
+
+impl From<AllocError> for PushError {
+    ghost use Rattle.std.specs.Prelude.{◌≡◌};
+    ghost use Rattle.wtp_fields.specs.declared.fields.writing.PushError.TheVariants.{Memory};
+
+    ghost from_gives = { λ _ e. e ≡ Memory };
+
+    fn from(_e: AllocError) -> PushError {
+        PushError::Memory
+    }
+}
+
+impl FieldList {
+    /// Returns the list of the request for the session at a URL, whose scheme is `https` (RFC 9220,
+    /// section 3; RFC 9114, section 4.3.1): `:method`, `:scheme`, `:protocol`, `:authority` and
+    /// `:path`, with the values that [`SessionRequest::new`] gives them.
+    ///
+    /// Returns the errors of [`SessionRequest::new`].
+    pub fn request(alloc: Global, url: &str) -> Result<Self, UrlParseError>
+        ensures request { MatchResult result
+            (λ list. list_at (parse_url None url.now) ≡ Ok list)
+            (λ e. (list_at (parse_url None url.now) ≡ Err e)
+            ⊎ ((e ≡ answered.Memory) ⊎ (e ≡ answered.Overflow))) }
+        ensures overflow { result ≡ Err answered.Overflow → 2 ^ 24 ≤ length url.now }
+    {
+        let request = SessionRequest::new(alloc, url)?;
+        let authority = request.authority().as_bytes();
+        let path = request.path().as_bytes();
+        let list = of_target(alloc, authority, path)?;
+        Ok(list)
+    }
+
+    /// Returns the list of a response: `:status` only, in three digits (RFC 9114, section 4.3.2).
+    ///
+    /// Returns [`AllocError`] if allocation fails.
+    pub fn response(alloc: Global, status_code: StatusCode) -> Result<Self, AllocError>
+        ensures { IfOk result (λ list. list ≡ status_alone status_code) }
+    {
+        let code = status_code.into_inner();
+        let text = format!(in alloc; "{code}")?;
+        let mut list = FieldList::empty(alloc);
+        list.append(b":status", text.as_bytes())?;
+        Ok(list)
+    }
+
+    /// Appends a field, which may have the name of an earlier one.
+    ///
+    /// Refuses a name that is empty, that starts with a colon, that has an upper-case letter, or
+    /// that is no token, and a value that has a control character other than a tab, or that starts
+    /// or ends with a space or a tab: the first of these is returned, in the order of
+    /// [`PushError`], before anything is allocated. On an error nothing changes.
+    pub fn push(&mut self, name: &[u8], value: &[u8]) -> Result<(), PushError>
+        ensures ok { OnOk result (self.new ≡ self.old ++ (name.now, value.now) ∷ []) }
+        ensures fault { MatchResult result (λ _. push_fault name.now value.now ≡ None)
+            (λ e. push_fault name.now value.now ≡ fault_in e) }
+        ensures err { OnErr result (self.new ≡ self.old) }
+    {
+        check_field(name, value)?;
+        self.append(name, value)?;
+        Ok(())
+    }
+
+    /// Returns the field section of the list, with the static table only (RFC 9204, section 4.5):
+    /// its fields in their order. A list that [`FieldList::request`] or [`FieldList::response`]
+    /// made has its pseudo-header fields first, as RFC 9114, section 4.3 requires. A list that was
+    /// decoded is written as it was received, whatever its fields are.
+    ///
+    /// Returns [`AllocError`] if allocation fails.
+    pub fn encode(&self, alloc: Global) -> Result<Vec<u8>, AllocError>
+        ensures section { IfOk result (λ section. section.items ≡ section_of self.now) }
+        // So the section is read as this list.
+        ensures octets { IfOk result (λ _. AreOctets self.now) }
+    {
+        let mut out = section::empty_prefix(alloc)?;
+        for field in &self.fields {
+            let name = octets(field.name.as_slice());
+            let value = octets(field.value.as_slice());
+            section::write_octet_line(&mut out, name, value)?;
+        }
+        Ok(out)
+    }
+
+    /// Returns the HEADERS frame of the list (RFC 9114, section 7.2.2), whose payload is its
+    /// section.
+    ///
+    /// Returns [`GenerateError::Memory`] if allocation fails, and [`GenerateError::PayloadTooLong`]
+    /// if the payload has 2^62 bytes or more.
+    pub fn generate_frame(&self, alloc: Global) -> Result<FrameOwned, GenerateError>
+        ensures frame { IfOk result (λ frame. frame ≡ HeadersOf (section_of self.now)) }
+        ensures too_long { result ≡ Err GenerateError.PayloadTooLong
+            → 2 ^ 62 ≤ length (section_of self.now) }
+    {
+        let Ok(payload) = self.encode(alloc) else {
+            return Err(GenerateError::Memory);
+        };
+        if payload.len() as u64 > VarInt::MAX.into_inner() {
+            return Err(GenerateError::PayloadTooLong);
+        }
+        Ok(Frame::new_headers(CowSlice::Owned(payload)))
+    }
+}
+
+/// Returns the list of the five fields of a request.
+fn of_target(alloc: Global, authority: &[u8], path: &[u8]) -> Result<FieldList, AllocError>
+    ensures { IfOk result (λ list. list ≡ request_fields authority.now path.now) }
+{
+    let mut list = FieldList::empty(alloc);
+    list.append(b":method", b"CONNECT")?;
+    list.append(b":scheme", b"https")?;
+    list.append(b":protocol", b"webtransport")?;
+    list.append(b":authority", authority)?;
+    list.append(b":path", path)?;
+    Ok(list)
+}
+
+/// Returns the same bytes, of which it is a fact that each is below 256.
+fn octets(bytes: &[u8]) -> &[u8]
+    ensures same { result.now ≡ bytes.now }
+    ensures octets { IsOctets bytes.now }
+{
+    bytes
+}
+
+/// Returns the first fault of a field.
+#[tactic(auto, unfolding(crate::specs::FieldWriting::push_fault))]
+fn check_field(name: &[u8], value: &[u8]) -> Result<(), PushError>
+    ensures { MatchResult result (λ _. push_fault name.now value.now ≡ None)
+        (λ e. (push_fault name.now value.now ≡ Some e) × (e ≢ PushError.Memory)) }
+{
+    check_name(name)?;
+    if is_field_value(value) {
+        Ok(())
+    } else {
+        Err(PushError::ForbiddenValue)
+    }
+}
+
+/// Returns the first fault of a name.
+fn check_name(name: &[u8]) -> Result<(), PushError>
+    ensures { MatchResult result (λ _. name_fault name.now ≡ None)
+        (λ e. (name_fault name.now ≡ Some e) × (e ≢ PushError.Memory)) }
+{
+    match name.first() {
+        None => Err(PushError::EmptyName),
+        Some(b':') => Err(PushError::PseudoHeader),
+        Some(_) if has_upper(name) => Err(PushError::UpperCase),
+        Some(_) if is_token(name) => Ok(()),
+        Some(_) => Err(PushError::NotAToken),
+    }
+}
+
+/// Returns whether a name has an upper-case letter.
+fn has_upper(name: &[u8]) -> bool
+    ensures { result ≡ list_any is_upper name.now }
+{
+    for byte in name {
+        if byte.is_ascii_uppercase() {
+            return true;
+        }
+    }
+    false
+}
+
+/// Returns whether each byte is a character of tokens.
+fn is_token(name: &[u8]) -> bool
+    ensures { result ≡ list_all is_tchar name.now }
+{
+    for byte in name {
+        if !is_tchar(*byte) {
+            return false;
+        }
+    }
+    true
+}
+
+/// Returns whether a byte is a character of tokens (RFC 9110, section 5.6.2).
+fn is_tchar(byte: u8) -> bool
+    ensures { result ≡ is_tchar byte }
+{
+    byte.is_ascii_alphanumeric() || is_mark(byte)
+}
+
+/// Returns whether a byte is one of the other characters of tokens.
+fn is_mark(byte: u8) -> bool
+    ensures { result ≡ list_any (λ mark. mark == byte) (codes "!#$%&'*+-.^_`|~") }
+{
+    b"!#$%&'*+-.^_`|~".contains(&byte)
+}
+
+/// Returns whether bytes are the value of a field.
+fn is_field_value(value: &[u8]) -> bool
+    ensures { result ≡ is_field_value value.now }
+{
+    are_value_bytes(value) && !is_blank_at(value.first()) && !is_blank_at(value.last())
+}
+
+/// Returns whether each byte may be in a value.
+fn are_value_bytes(value: &[u8]) -> bool
+    ensures { result ≡ list_all is_value_byte value.now }
+{
+    for byte in value {
+        if !is_value_byte(*byte) {
+            return false;
+        }
+    }
+    true
+}
+
+/// Returns whether a byte may be in a value: a tab, or any but a control character.
+fn is_value_byte(byte: u8) -> bool
+    ensures { result ≡ is_value_byte byte }
+{
+    byte == b'\t' || (byte > 31 && byte != 127)
+}
+
+/// Returns whether there is a byte, a space or a tab.
+fn is_blank_at(byte: Option<&u8>) -> bool
+    ensures { result ≡ is_blank_at (option_copied byte.entry) }
+{
+    match byte {
+        Some(byte) => *byte == b' ' || *byte == b'\t',
+        None => false,
+    }
+}
