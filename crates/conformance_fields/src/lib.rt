@@ -5,6 +5,8 @@
 #[cfg(test)]
 mod fault_codes;
 #[cfg(test)]
+mod field_lists;
+#[cfg(test)]
 mod header_maps;
 #[cfg(test)]
 mod requests;

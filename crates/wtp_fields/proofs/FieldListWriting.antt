@@ -1,10 +1,23 @@
 -- Field lists for a message.
-use Rattle.std.proofs.Common.{◌≡◌, ◌⊎◌, inl, inr, ℕ, Bool, true, false, cond, List, codes, refl, sym, ◌∙◌, ap, Option, Some, Result, Ok, Err, MatchResult}
+use Rattle.std.proofs.Common.{◌≡◌, ◌⊎◌, inl, inr, ℕ, zero, suc, ◌+◌, ◌<◌, ◌≤◌, ◌==◌, ◌&&◌, Bool, true, false, cond, List, [], ◌∷◌, codes, decimal, refl, sym, ◌∙◌, ap, subst, arith, Option, Some, None, Result, Ok, Err, MatchResult}
 use Rattle.std.specs.Result.{IsErrAnd}
 use Rattle.std.specs.Str.{bytes_eq}
+use Rattle.std.specs.Fmt.{digits}
+use Rattle.std.specs.List.{flat_map}
+use Rattle.std.proofs.lemmas.Bool.{and_parts, cases_eq, eqb-true}
+use Rattle.wtp_core.specs.Ids.{IsStatus}
+use Rattle.wtp_qpack.specs.declared.qpack.DecodingError.{DecodingError}
+use Rattle.wtp_qpack.specs.FieldLine.{encoded_line}
+use Rattle.wtp_qpack.specs.FieldSection.{section_of}
+use Rattle.wtp_qpack.specs.FieldLines.{octet_line_at, AreOctetLines}
+use Rattle.wtp_qpack.proofs.OctetWriting.{octet_lines_again, prefix_again}
+use Rattle.wtp_fields.specs.declared.session.HeadersParseError.{HeadersParseError}
+use Rattle.wtp_fields.specs.SessionResponse.{status_alone}
+use Rattle.wtp_fields.specs.FieldList.{Reaches, list_size}
+use Rattle.wtp_fields.specs.FieldMessages.{request_fault, status_by, status_of}
 use Rattle.url.specs.Parts.{Parts}
 use Rattle.url.specs.Parser.{Parsed}
-use Rattle.wtp_qpack.specs.Field.{Field, field_value}
+use Rattle.wtp_qpack.specs.Field.{Field, AreOctets, field_map, field_value}
 use Rattle.wtp_qpack.proofs.FieldMaps.{map_last}
 use Rattle.wtp_fields.specs.declared.session.request.UrlParseError.{UrlParseError}
 use Rattle.wtp_fields.specs.declared.session.request.UrlParseError.TheVariants as answered
@@ -60,3 +73,72 @@ pub list_found : (parsed : Parsed Parts) (m : List Field) (a p : List ℕ) → r
 unfolding request_for
 list_found (Err fault) m a p is authority path = cc is
 list_found (Ok url) m a p is authority path = found_fields (bytes_eq url.scheme (codes "https")) (authority_of url) (with_query url.path url.query) a p m _ is authority path
+
+-- ---- what is read of a written list
+
+pub list_again : (limit : ℕ) (fields : List Field) → AreOctets fields → list_size fields ≤ limit → Reaches limit (section_of fields) fields []
+list_again limit fields are fits = record { start = flat_map encoded_line fields; prefix = prefix_again fields; are = octet_lines_again fields are; fits = fits }
+
+no_line : (field : Field) (behind : List ℕ) → octet_line_at [] ≡ Ok (field, behind) → ⊥
+unfolding octet_line_at
+no_line field behind e = cc e
+
+same_lines : (bytes : List ℕ) (fields others : List Field) → AreOctetLines bytes fields [] → AreOctetLines bytes others [] → fields ≡ others
+same_lines bytes [] [] a b = refl
+same_lines bytes [] (other ∷ others) a (behind, line, more) = absurd (no_line other behind (ap octet_line_at (sym a) ∙ line))
+same_lines bytes (field ∷ fields) [] (behind, line, more) b = absurd (no_line field behind (ap octet_line_at (sym b) ∙ line))
+same_lines bytes (field ∷ fields) (other ∷ others) (after, line, more) (behind, other_line, rest) =
+    let one = ok_pair field other after behind (sym line ∙ other_line) in
+    rw (one.0, same_lines behind fields others (subst (λ z. AreOctetLines z fields []) one.1 more) rest) refl
+  where
+    ok_pair : (x y : Field) (s t : List ℕ) → ◌≡◌ {A = Result (Field × List ℕ) DecodingError} (Ok (x, s)) (Ok (y, t)) → (x ≡ y) × (s ≡ t)
+    ok_pair x y s t e = let pair : ◌≡◌ {A = Field × List ℕ} (x, s) (y, t) = cc e in (ap (λ (p : Field × List ℕ). p.0) pair, ap (λ (p : Field × List ℕ). p.1) pair)
+
+pub one_list : (limit most : ℕ) (section : List ℕ) (fields others : List Field) → Reaches limit section fields [] → Reaches most section others [] → fields ≡ others
+one_list limit most section fields others a b =
+    let same : a.start ≡ b.start = ok_same a.start b.start (sym a.prefix ∙ b.prefix) in
+    same_lines b.start fields others (subst (λ z. AreOctetLines z fields []) same a.are) b.are
+  where
+    ok_same : (x y : List ℕ) → ◌≡◌ {A = Result (List ℕ) DecodingError} (Ok x) (Ok y) → x ≡ y
+    ok_same x y e = cc
+
+-- ---- the lists of a request and of a response
+
+pub request_good : (authority path : List ℕ) → request_fault (request_fields authority path) ≡ None
+unfolding request_fault
+request_good authority path = refl
+
+pub request_map : (authority path : List ℕ) → field_map (request_fields authority path) ≡ five_fields authority path
+unfolding five_fields
+request_map authority path = refl
+
+-- the status code is read back, as a test
+is_code : Result ℕ HeadersParseError → ℕ → Bool
+is_code (Ok n) code = n == code
+is_code (Err e) code = false
+
+is_code_from : (r : Result ℕ HeadersParseError) (code : ℕ) → is_code r code ≡ true → r ≡ Ok code
+unfolding is_code
+is_code_from (Ok n) code e = ap Ok (eqb-true n code e)
+is_code_from (Err x) code e = cc e
+
+codes_from : ℕ → ℕ → Bool
+codes_from zero code = true
+codes_from (suc n) code = is_code (status_by (Some (decimal code))) code && codes_from n (code + 1)
+
+all_codes : codes_from 500 100 ≡ true
+unfolding codes_from is_code status_by digits
+all_codes = refl
+
+code_among : (n first code : ℕ) → codes_from n first ≡ true → first ≤ code → code < first + n → status_by (Some (decimal code)) ≡ Ok code
+unfolding codes_from
+code_among zero first code all low high = absurd (omega arith)
+code_among (suc n) first code all low high =
+    let parts = and_parts (is_code (status_by (Some (decimal first))) first) (codes_from n (first + 1)) all in
+    elim (cases_eq first code) [
+      | inl same ↦ subst (λ k. status_by (Some (decimal k)) ≡ Ok k) same (is_code_from (status_by (Some (decimal first))) first parts.0)
+      | inr other ↦ code_among n (first + 1) code parts.1 (omega arith) (omega arith)
+    ]
+
+pub status_again : (code : ℕ) → IsStatus code → status_of (status_alone code) ≡ Ok code
+status_again code is = code_among 500 100 code all_codes is.0 (let high = is.1 in omega (arith, high))

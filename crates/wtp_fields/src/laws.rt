@@ -4,7 +4,7 @@
 mod fields;
 mod headers;
 
-pub use fields::maps_of_lists;
+pub use fields::{maps_of_lists, sent_lists};
 pub use headers::{header_maps, header_payloads};
 pub use wtp_huffman::laws::{huffman_texts, huffman_words};
 pub use wtp_qpack::laws::{

@@ -1,13 +1,15 @@
 //! Laws of field lists, and of the header maps that they make.
-ghost use Rattle.std.specs.Prelude.{◌≡◌, ℕ, List, [], Ok, Some, codes};
-ghost use Rattle.wtp_core.specs.Ids.{IsStatusText, status_in};
-ghost use Rattle.wtp_qpack.specs.Field.{Field, field_map, field_value, last_value};
+ghost use Rattle.std.specs.Prelude.{◌≡◌, ◌≤◌, ℕ, List, [], Ok, None};
+ghost use Rattle.wtp_core.specs.Ids.{IsStatus};
+ghost use Rattle.wtp_qpack.specs.Field.{Field, AreOctets, field_map, field_value, last_value};
+ghost use Rattle.wtp_qpack.specs.FieldSection.{section_of};
 ghost use Rattle.wtp_qpack.specs.FieldLines.{AreUtf8Fields};
 ghost use Rattle.wtp_fields.specs.Headers.{headers_at};
-ghost use Rattle.wtp_fields.specs.SessionRequest.{fault_of};
-ghost use Rattle.wtp_fields.specs.SessionResponse.{status_value};
-ghost use Rattle.wtp_fields.specs.FieldList.{Reaches};
+ghost use Rattle.wtp_fields.specs.SessionRequest.{fault_of, five_fields};
+ghost use Rattle.wtp_fields.specs.SessionResponse.{status_alone};
+ghost use Rattle.wtp_fields.specs.FieldList.{Reaches, list_size};
 ghost use Rattle.wtp_fields.specs.FieldMessages.{request_fault, status_of, HasStatusOf};
+ghost use Rattle.wtp_fields.specs.FieldWriting.{request_fields};
 
 /// A section whose fields are UTF-8 has the map of its list, whatever limit the list was read
 /// under. A list is a request exactly if its map is, with the same fault and the same values; and
@@ -21,4 +23,19 @@ pub fn maps_of_lists()
         → last_value name fields ≡ field_value name (field_map fields) }
     ensures status { (fields : List Field) (code : ℕ) → status_of fields ≡ Ok code
         → HasStatusOf code (field_map fields) }
+{}
+
+/// A section that a list is written as is read as that list, under any limit that its size does not
+/// exceed, and a section is read as one list only. The list of a request is that of a session, with
+/// the map that [`SessionRequest`](crate::session::SessionRequest) has; and the list of a response
+/// has its status code.
+pub fn sent_lists()
+    ensures again { (limit : ℕ) (fields : List Field) → AreOctets fields
+        → list_size fields ≤ limit → Reaches limit (section_of fields) fields [] }
+    ensures only { (limit most : ℕ) (section : List ℕ) (fields others : List Field)
+        → Reaches limit section fields [] → Reaches most section others [] → fields ≡ others }
+    ensures request { (authority path : List ℕ) → request_fault (request_fields authority path) ≡ None }
+    ensures map { (authority path : List ℕ)
+        → field_map (request_fields authority path) ≡ five_fields authority path }
+    ensures status { (code : ℕ) → IsStatus code → status_of (status_alone code) ≡ Ok code }
 {}

@@ -49,7 +49,8 @@ pub enum UrlParseError {
     /// A host for a URL that has none. This does not occur, because no host is set.
     #[error("a cannot-be-a-base URL doesn’t have a host to set")]
     SetHostOnCannotBeABaseUrl,
-    /// The URL would be 4 GB or longer. It is returned only for a text of at least 16 MiB.
+    /// The text is too long. A text of 16 MiB (2^24 bytes) or more may be refused in this way, even
+    /// if its URL is valid and shorter than 4 GB; a shorter text never is.
     #[error("URLs more than 4 GB are not supported")]
     Overflow,
     /// Another fault of the URL.
@@ -162,8 +163,8 @@ impl SessionRequest {
     ///
     /// Returns the error of the same name for a fault of the URL, [`UrlParseError::SchemeNotHttps`]
     /// for a URL of another scheme, and [`UrlParseError::Memory`] if allocation fails.
-    /// [`UrlParseError::Overflow`] is returned only for a text of 16 MiB (2^24 bytes) or more whose
-    /// URL would be 4 GB or longer.
+    /// A text of 16 MiB (2^24 bytes) or more may be refused with [`UrlParseError::Overflow`],
+    /// whatever its URL is; a shorter text never is.
     pub fn new(alloc: Global, url: &str) -> Result<Self, UrlParseError>
         ensures request { MatchResult result
             (λ request. request_at (parse_url None url.now) ≡ Ok request)
