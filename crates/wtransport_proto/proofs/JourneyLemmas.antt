@@ -11,7 +11,8 @@ use Rattle.wtp_core.specs.declared.error.Refused.{Refused}
 use Rattle.wtp_core.specs.declared.error.Refused.TheVariants as refused
 use Rattle.wtp_wire.specs.Content.{Content, PlainOf, HeadersOf, WebTransportOf, kind_in, payload_in}
 use Rattle.wtp_wire.specs.Front.{Front, Framed, Unknown, BadId, TooBig, Short, front}
-use Rattle.wtp_wire.specs.Held.{Held, new_held, front_held, Leaves}
+use Rattle.wtp_wire.specs.Held.{Held, new_held, front_held, IsUnfinished, Leaves}
+use Rattle.wtp_wire.proofs.FrontLemmas.{front-empty}
 use Rattle.wtp_wire.specs.Wire.{wire}
 use Rattle.wtp_fields.specs.Field.{Field, IsMap, AreTexts}
 use Rattle.wtp_fields.specs.Headers.{payload, headers_at, or_decompression, BeginsLine}
@@ -124,10 +125,10 @@ told_unknown s t u role f0 f1 f2 n mid new p q k =
     p (telling_both t u (PassesUnknown f1 f2 mid new) (Asks 4112) q k)
 
 pub told_memory : (s t u : Option Source) (role : Role) (f0 f1 f2 : Bool) (n turns : ℕ) (mid new : Held)
-    → Telling s t (Turned role f0 f1 n mid) → Telling t u (StreamPolled role NoMemory f1 f2 mid new) → Telling t u (Asks 4112) → Telling s u (FrameDid role f0 f2 turns (Err receive.Memory))
-told_memory s t u role f0 f1 f2 n turns mid new p q k =
+    → IsUnfinished new → Telling s t (Turned role f0 f1 n mid) → Telling t u (StreamPolled role NoMemory f1 f2 mid new) → Telling t u (Asks 4112) → Telling s u (FrameDid role f0 f2 turns (Err receive.Memory))
+told_memory s t u role f0 f1 f2 n turns mid new unfinished p q k =
     telling_then s t u (Turned role f0 f1 n mid) (λ b c. LacksMemory f1 f2 mid new b c × Asks 4112 b c) (FrameDid role f0 f2 turns (Err receive.Memory))
-    (λ a b c g h. (new, kept_still role f0 f1 f2 mid new a b c g.kept h.0.leaves h.0.flag h.1.ending))
+    (λ a b c g h. (new, unfinished, kept_still role f0 f1 f2 mid new a b c g.kept h.0.leaves h.0.flag h.1.ending))
     p (telling_both t u (LacksMemory f1 f2 mid new) (Asks 4112) q k)
 
 taken : (role : Role) (f0 f1 f2 : Bool) (mid new : Held) (f : Content) (a b c : Source) → KeptPlace role f0 f1 mid a b → StreamTakesFrame role f1 f2 mid new f b c → Takes role f0 f2 f a c
@@ -162,8 +163,11 @@ told_broken s t u role f0 f1 f2 n turns mid new x p q =
     telling_then s t u (Turned role f0 f1 n mid) (Faults role f1 f2 mid new x) (Breaks role f0 f2 x) (λ a b c g h. broken role f0 f1 f2 mid new x a b c g.kept h) p q
 
 pub told_waited : (s t : Option Source) (role : Role) (f0 f1 : Bool) (turns : ℕ) (mid : Held)
-    → Telling s t (Turned role f0 f1 turns mid) → Telling s t (FrameDid role f0 f1 turns (Err receive.Waiting))
-told_waited s t role f0 f1 turns mid p = telling_map s t (Turned role f0 f1 turns mid) (FrameDid role f0 f1 turns (Err receive.Waiting)) (λ a b g. (mid, g)) p
+    → IsUnfinished mid → Telling s t (Turned role f0 f1 turns mid) → Telling s t (FrameDid role f0 f1 turns (Err receive.Waiting))
+told_waited s t role f0 f1 turns mid unfinished p = telling_map s t (Turned role f0 f1 turns mid) (FrameDid role f0 f1 turns (Err receive.Waiting)) (λ a b g. (mid, unfinished, g)) p
+
+pub nothing_held : (h : Held) → h ≡ new_held → IsUnfinished h
+nothing_held h e = rw e (record { short = front_none [] 0 [] refl ∙ front-empty; alone = λ l. refl })
 
 -- ---- calls
 
@@ -201,7 +205,7 @@ reads_back role first next turns m (Ok n) a b ordered texts (p, t, read) rest al
     let same = found role first next (HeadersOf p) (HeadersOf (payload m)) rest a b at t in
     let good : headers_at (payload m) ≡ Ok m = ap or_decompression (payload_again m ordered texts) in
     let one = same.0 in (cc, same.1)
-reads_back role first next turns m (Err receive.Waiting) a b ordered texts (held, g) rest allowed small is =
+reads_back role first next turns m (Err receive.Waiting) a b ordered texts (held, u, g) rest allowed small is =
     let at : front a.ahead ≡ Framed (HeadersOf (payload m)) rest = ap front is ∙ front-wire (HeadersOf (payload m)) rest small in
     (g.waited (HeadersOf (payload m)) rest at).1
 reads_back role first next turns m (Err (receive.Stream x)) a b ordered texts g rest allowed small is =

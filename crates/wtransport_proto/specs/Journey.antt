@@ -8,7 +8,7 @@ use Rattle.wtp_core.specs.Sink.{Sink, Took}
 use Rattle.wtp_wire.specs.declared.frame.kind.FrameKind.TheVariants.{Headers}
 use Rattle.wtp_wire.specs.Content.{Content, HeadersOf, kind_in}
 use Rattle.wtp_wire.specs.Front.{Front, Framed, Unknown, BadId, TooBig, Short, front}
-use Rattle.wtp_wire.specs.Held.{Held, front_held}
+use Rattle.wtp_wire.specs.Held.{Held, front_held, IsUnfinished}
 use Rattle.wtp_wire.specs.Wire.{wire}
 use Rattle.wtp_fields.specs.Field.{Field}
 use Rattle.wtp_fields.specs.Headers.{payload, headers_at, BeginsLine}
@@ -110,12 +110,12 @@ abbrev pub FrameDid :
     Role → Bool → Bool → ℕ → Result Content ReceiveError → Source → Source → Type 0
 FrameDid role first next turns (Ok f) a b = Takes role first next f a b
 FrameDid role first next turns (Err receive.Waiting) a b =
-    (held : Held) × Turned role first next turns held a b
+    (held : Held) × IsUnfinished held × Turned role first next turns held a b
 FrameDid role first next turns (Err (receive.Stream x)) a b = Breaks role first next x a b
 FrameDid role first next turns (Err (receive.OtherKind kind)) a b = ⊥
 FrameDid role first next turns (Err (receive.Section e)) a b = ⊥
 FrameDid role first next turns (Err receive.Memory) a b =
-    (held : Held) × KeptPlace role first next held a b
+    (held : Held) × IsUnfinished held × KeptPlace role first next held a b
 
 -- what reading the map of a frame did
 abbrev pub MapDid :

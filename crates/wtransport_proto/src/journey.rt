@@ -117,8 +117,9 @@ fn next_frame<K: ReadsFrames, S: AsyncRead>(
 /// Reads the header map of the next frame, in at most `turns` polls. Unknown frames are skipped.
 /// Not in the Rust crate.
 ///
-/// The source is then positioned right after the frame. The bytes of a frame that is incomplete
-/// after the last turn are lost. Requires that frames may be read, as `can_read` reports.
+/// The source is then positioned right after the frame. After `Waiting` or `Memory`, only the bytes
+/// of an incomplete frame may have been taken, and are lost; a complete frame is still ahead.
+/// Requires that frames may be read, as `can_read` reports.
 ///
 /// If the input starts with the frame of a map, with a payload of at most 4096 bytes, and the
 /// stream allows HEADERS frames, then that map is read, or the source was not ready in each turn,

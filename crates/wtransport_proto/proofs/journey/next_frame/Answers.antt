@@ -1,11 +1,12 @@
 use Rattle.std.proofs.Common.{◌≡◌, inl, inr, arith}
 use Rattle.wtransport_proto.proofs.DriveLemmas.{first_same, first_on}
-use Rattle.wtransport_proto.proofs.JourneyLemmas.{told_start, told_waiting, told_unknown, told_memory, told_taken, told_broken, told_waited, asks_start, asks_on, asks_end}
+use Rattle.wtransport_proto.proofs.JourneyLemmas.{told_start, told_waiting, told_unknown, told_memory, told_taken, told_broken, told_waited, nothing_held, asks_start, asks_on, asks_end}
 use Rattle.wtransport_proto.proofs.journey.next_frame.Goals as goal
 
 pub loop-turn-init : goal.loop-turn-init
 loop-turn-init g c = record {
   can = c.requires;
+  unfinished = nothing_held _ c.new-reading.ensures;
   changes = first_same g.K.ReadsFrames.first c.args.stream.now;
   tells = told_start (g.S.AsyncRead.tells c.args.source.now) g.K.ReadsFrames.role (g.K.ReadsFrames.first c.args.stream.now) _ c.new-reading.ensures;
   asks = asks_start (g.S.AsyncRead.tells c.args.source.now);
@@ -14,6 +15,7 @@ loop-turn-init g c = record {
 pub loop-turn-preserved : goal.loop-turn-preserved
 loop-turn-preserved g c = record {
   can = c.read_frame_async.ensures.can;
+  unfinished = c.read_frame_async.ensures.unfinished;
   changes = first_on g.K.ReadsFrames.first _ _ _ c.loop-turn.invariant.changes c.read_frame_async.ensures.changes;
   tells = elim c.in-Pending.is [
     | inl e ↦ told_waiting (g.S.AsyncRead.tells c.args.source.now) (g.S.AsyncRead.tells c.loop-turn.source) (g.S.AsyncRead.tells c.read_frame_async.new.source)
@@ -67,7 +69,7 @@ returns-in-NoMemory g c =
     record {
       can = c.read_frame_async.ensures.can;
       changes = first_on g.K.ReadsFrames.first _ _ _ c.loop-turn.invariant.changes c.read_frame_async.ensures.changes;
-      read = told_memory s t u g.K.ReadsFrames.role f0 f1 f2 c.loop-turn._turn c.args.turns c.loop-turn.reading c.read_frame_async.new.reading c.loop-turn.invariant.tells c.in-NoMemory.ensures.polled c.read_frame_async.ensures.asks;
+      read = told_memory s t u g.K.ReadsFrames.role f0 f1 f2 c.loop-turn._turn c.args.turns c.loop-turn.reading c.read_frame_async.new.reading c.read_frame_async.ensures.unfinished c.loop-turn.invariant.tells c.in-NoMemory.ensures.polled c.read_frame_async.ensures.asks;
       asks = asks_end s t u c.loop-turn._turn c.args.turns c.loop-turn-test.true c.loop-turn.invariant.asks c.read_frame_async.ensures.asks;
     }
 
@@ -78,6 +80,6 @@ returns g c =
       can = c.loop-turn.invariant.can;
       changes = c.loop-turn.invariant.changes;
       read = told_waited (g.S.AsyncRead.tells c.args.source.now) (g.S.AsyncRead.tells c.loop-turn.source) g.K.ReadsFrames.role (g.K.ReadsFrames.first c.args.stream.now) (g.K.ReadsFrames.first c.loop-turn.stream)
-          c.args.turns c.loop-turn.reading (rw all at c.loop-turn.invariant.tells);
+          c.args.turns c.loop-turn.reading c.loop-turn.invariant.unfinished (rw all at c.loop-turn.invariant.tells);
       asks = rw all at c.loop-turn.invariant.asks;
     }
