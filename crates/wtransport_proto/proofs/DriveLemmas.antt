@@ -1,5 +1,5 @@
 -- Polls of one drive add up.
-use Rattle.std.proofs.Common.{◌≡◌, ℕ, ◌+◌, ◌*◌, ◌<◌, ◌≤◌, Bool, true, false, List, [], ◌∷◌, ◌++◌, length, drop, refl, sym, ap, ◌∙◌, arith, append_assoc, append-nil, length-append, Option, Ok, Err}
+use Rattle.std.proofs.Common.{◌≡◌, ℕ, ◌+◌, ◌*◌, ◌<◌, ◌≤◌, inl, inr, Bool, true, false, List, [], ◌∷◌, ◌++◌, length, drop, refl, sym, ap, ◌∙◌, arith, append_assoc, append-nil, length-append, Option, Ok, Err}
 use Rattle.std.proofs.Math.Seq.{drop-append_seam}
 use Rattle.std.proofs.lemmas.List.{drop-append-le}
 use Rattle.wtp_core.specs.declared.bytes.polled.Polled.TheVariants.{Ready, Pending, Again, NoMemory}
@@ -15,6 +15,8 @@ use Rattle.wtp_wire.specs.Run.{Run}
 use Rattle.wtransport_proto.specs.HeldRun.{run_of, size_of}
 use Rattle.wtransport_proto.specs.StreamPolling.{EndsSo, Faults, StreamTakesFrame, PassesUnknown, StreamPolled}
 use Rattle.wtransport_proto.specs.Place.{place_of}
+use Rattle.wtransport_proto.specs.Polls.{TakesSome, Series}
+use Rattle.wtransport_proto.proofs.PollsLemmas.{series_start, series_end, series_on}
 use Rattle.wtransport_proto.specs.Driving.{ChangesFirst, after, RunsOn, KeepsPlace, DriveKeeps, DriveDid, Drove}
 use Rattle.wtransport_proto.proofs.PlaceLemmas.{same_refl, same_then, leaves_place, unknown_place, frame_place, fault_place}
 use Rattle.wtransport_proto.proofs.HeldRunLemmas.{leaves_run, leaves_size, unknown_run, unknown_size, frame_run, framed_size}
@@ -83,6 +85,7 @@ drove_start role first h fs a none = record {
   place = same_refl (place_of role first h a);
   shorter = omega arith;
   asks = record { asked = omega arith; no_less = omega arith; ending = refl; waits = omega arith };
+  series = series_start TakesSome role first h fs a none;
 }
 
 drove_frame : (role : Role) (f0 f1 f2 : Bool) (old mid new : Held) (fs fs' : List Content) (f : Content) (n : ℕ) (a b c : Source) → fs' ≡ fs ++ f ∷ [] → Drove role f0 f1 old mid fs n a b → StreamTakesFrame role f1 f2 mid new f b c → Asks 4112 b c → Drove role f0 f2 old new fs' (n + 1) a c
@@ -91,6 +94,7 @@ drove_frame role f0 f1 f2 old mid new fs fs' f n a b c is g t k = record {
   place = same_then (place_of role f0 old a) (place_of role f1 mid b) (place_of role f2 new c) g.place (frame_place role f1 f2 mid new f b c t);
   shorter = let one = g.shorter in let two = framed_size mid new f b c t.decided in omega arith;
   asks = asks_more n a b c g.asks k;
+  series = series_on TakesSome role fs fs' n (Ready (Ok f)) f0 f1 f2 old mid new a b c is tt g.series t;
 }
 
 drove_unknown : (role : Role) (f0 f1 f2 : Bool) (old mid new : Held) (fs : List Content) (n : ℕ) (a b c : Source) → IsUnfinished mid → Drove role f0 f1 old mid fs n a b → PassesUnknown f1 f2 mid new b c → Asks 4112 b c → Drove role f0 f2 old new fs (n + 1) a c
@@ -99,6 +103,7 @@ drove_unknown role f0 f1 f2 old mid new fs n a b c u g t k = record {
   place = same_then (place_of role f0 old a) (place_of role f1 mid b) (place_of role f2 new c) g.place (unknown_place role f1 f2 mid new b c u t);
   shorter = let one = g.shorter in let two = unknown_size f1 f2 mid new b c t in omega arith;
   asks = asks_more n a b c g.asks k;
+  series = series_on TakesSome role fs fs n Again f0 f1 f2 old mid new a b c (sym (append-nil fs)) tt g.series t;
 }
 
 runs_after : (role : Role) (f0 f1 f2 : Bool) (old mid new : Held) (fs : List Content) (n : ℕ) (a b c : Source) → Drove role f0 f1 old mid fs n a b → Leaves mid new b c → f2 ≡ f1 → Asks 4112 b c → RunsOn role f0 f2 old new fs a c
@@ -121,19 +126,19 @@ ended role f0 f1 f2 old mid new fs x n a b c g t = record {
 
 -- ---- each result of one more poll
 
-pub told_full : (s t : Option Source) (role : Role) (f0 f1 : Bool) (r0 r1 : Held) (fs : List Content) (n polls : ℕ) → n ≤ polls
+pub told_full : (s t : Option Source) (role : Role) (f0 f1 : Bool) (r0 r1 : Held) (fs : List Content) (n polls : ℕ) → n < polls
     → Telling s t (Drove role f0 f1 r0 r1 fs n)
     → Telling s t (DriveDid role driven.NoMemory f0 f1 r0 r1 fs polls)
 told_full s t role f0 f1 r0 r1 fs n polls l p =
     telling_map s t (Drove role f0 f1 r0 r1 fs n) (DriveDid role driven.NoMemory f0 f1 r0 r1 fs polls)
-    (λ a b g. (g.run, record { size = let one = g.shorter in omega arith; asks = asks_within n polls a b l g.asks }, g.place)) p
+    (λ a b g. (g.run, record { size = let one = g.shorter in omega arith; asks = asks_within n polls a b (omega arith) g.asks }, g.place, (n, l, inl g.series))) p
 
 pub told_spent : (s t : Option Source) (role : Role) (f0 f1 : Bool) (r0 r1 : Held) (fs : List Content) (polls : ℕ)
     → Telling s t (Drove role f0 f1 r0 r1 fs polls)
     → Telling s t (DriveDid role driven.Spent f0 f1 r0 r1 fs polls)
 told_spent s t role f0 f1 r0 r1 fs polls p =
     telling_map s t (Drove role f0 f1 r0 r1 fs polls) (DriveDid role driven.Spent f0 f1 r0 r1 fs polls)
-    (λ a b g. (g.run, g.shorter, record { size = let one = g.shorter in omega arith; asks = g.asks }, g.place)) p
+    (λ a b g. (g.run, g.shorter, record { size = let one = g.shorter in omega arith; asks = g.asks }, g.place, g.series)) p
 
 pub told_still : (s t u : Option Source) (role : Role) (f0 f1 f2 : Bool) (r0 r1 r2 : Held) (fs : List Content) (n polls : ℕ) → n < polls → IsUnfinished r1
     → Telling s t (Drove role f0 f1 r0 r1 fs n)
@@ -145,6 +150,7 @@ told_still s t u role f0 f1 f2 r0 r1 r2 fs n polls lt unfinished p q k =
       runs_after role f0 f1 f2 r0 r1 r2 fs n a b c g h.0.leaves h.0.flag h.1,
       keeps_after role f0 f1 r0 r1 r2 fs n polls a b c lt g (leaves_size r1 r2 b c h.0.leaves) h.1,
       place_after role f0 f1 f2 r0 r1 r2 fs n a b c unfinished g h.0.leaves h.0.flag,
+      (n, lt, inr (series_end TakesSome role fs n NoMemory f0 f1 f2 r0 r1 r2 a b c g.series h.0)),
     ))
     p (telling_both t u (StreamPolled role NoMemory f1 f2 r1 r2) (Asks 4112) q k)
 
@@ -159,6 +165,7 @@ told_waiting s t u role f0 f1 f2 r0 r1 r2 fs n polls lt unfinished p q k =
       let one = g.asks.waits in let two = h.0.2 in omega arith,
       keeps_after role f0 f1 r0 r1 r2 fs n polls a b c lt g (leaves_size r1 r2 b c h.0.0) h.1,
       place_after role f0 f1 f2 r0 r1 r2 fs n a b c unfinished g h.0.0 h.0.1,
+      (n, lt, series_end TakesSome role fs n Pending f0 f1 f2 r0 r1 r2 a b c g.series h.0),
     ))
     p (telling_both t u (StreamPolled role Pending f1 f2 r1 r2) (Asks 4112) q k)
 
@@ -173,6 +180,7 @@ told_ended s t u role f0 f1 f2 r0 r1 r2 fs x n polls lt unfinished p q k =
       h.0.dry,
       keeps_after role f0 f1 r0 r1 r2 fs n polls a b c lt g h.0.size h.1,
       fault_place role f1 f2 (place_of role f0 r0 a) r1 r2 x b c unfinished g.place h.0,
+      (n, lt, series_end TakesSome role fs n (Ready (Err x)) f0 f1 f2 r0 r1 r2 a b c g.series h.0),
     ))
     p (telling_both t u (Faults role f1 f2 r1 r2 x) (Asks 4112) q k)
 

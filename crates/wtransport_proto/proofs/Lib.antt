@@ -3,6 +3,7 @@ pub mod HeldRunLemmas
 pub mod RemainderLemmas
 pub mod PlaceLemmas
 pub mod StreamPollLemmas
+pub mod PollsLemmas
 pub mod DriveLemmas
 pub mod AgreeLemmas
 pub mod SendLemmas

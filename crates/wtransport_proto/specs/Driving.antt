@@ -1,5 +1,6 @@
 -- Driving a stream: polls of it until one has to wait, fails, or enough were made.
-use Rattle.std.specs.Prelude.{◌≡◌, ℕ, ◌+◌, ◌*◌, ◌<◌, ◌≤◌, Bool, false, List, ◌++◌}
+use Rattle.std.specs.Prelude.{◌≡◌, ℕ, ◌+◌, ◌*◌, ◌<◌, ◌≤◌, ◌⊎◌, Bool, false, List, [], ◌∷◌, ◌++◌, Err}
+use Rattle.wtp_core.specs.declared.bytes.polled.Polled.TheVariants.{Ready, Pending, NoMemory}
 use Rattle.wtp_core.specs.Source.{Source}
 use Rattle.wtp_core.specs.Polled.{Asks}
 use Rattle.wtp_wire.specs.Content.{Content}
@@ -11,6 +12,7 @@ use Rattle.wtp_wire.specs.Run.{Run}
 use Rattle.wtransport_proto.specs.HeldRun.{run_of, size_of}
 use Rattle.wtransport_proto.specs.Place.{place_of, SamePlace, StopsAt}
 use Rattle.wtransport_proto.specs.StreamPolling.{EndsSo, IsDry}
+use Rattle.wtransport_proto.specs.Polls.{TakesSome, Series}
 
 -- A stream changed in nothing but whether its next frame is the first, and that permanently.
 pub record ChangesFirst {X : Type 0} (first : X → Bool) (old new : X) : Type 0 where
@@ -38,6 +40,10 @@ KeepsPlace role first next old new a b =
 
 -- What a drive did that produced the frames fs. If it ended, reading, source and flag are as the
 -- fault's poll leaves them, at the place where the run of what was there ends.
+--
+-- `Spent` comes after all polls, and each of them took a frame, or passed an unknown one or 4096
+-- bytes of it. Every other result comes after fewer such polls, and then the one that says so; but
+-- there was no such poll if allocation failed for a place in the list.
 abbrev pub DriveDid :
     Role → Driven → Bool → Bool → Held → Held → List Content → ℕ → Source → Source → Type 0
 DriveDid role (driven.Ended x) first next old new fs polls a b =
@@ -45,20 +51,27 @@ DriveDid role (driven.Ended x) first next old new fs polls a b =
     × IsDry x b
     × DriveKeeps old new polls a b
     × StopsAt role (place_of role first old a) next new b.ahead
+    × ((n : ℕ) × (n < polls)
+    × Series TakesSome role fs n (Ready (Err x) ∷ []) first next old new a b)
 DriveDid role driven.Waiting first next old new fs polls a b =
     RunsOn role first next old new fs a b
     × (a.waits < b.waits)
     × DriveKeeps old new polls a b
     × KeepsPlace role first next old new a b
+    × ((n : ℕ) × (n < polls) × Series TakesSome role fs n (Pending ∷ []) first next old new a b)
 DriveDid role driven.Spent first next old new fs polls a b =
     RunsOn role first next old new fs a b
     × (size_of new b + polls ≤ size_of old a)
     × DriveKeeps old new polls a b
     × KeepsPlace role first next old new a b
+    × Series TakesSome role fs polls [] first next old new a b
 DriveDid role driven.NoMemory first next old new fs polls a b =
     RunsOn role first next old new fs a b
     × DriveKeeps old new polls a b
     × KeepsPlace role first next old new a b
+    × ((n : ℕ) × (n < polls)
+    × (Series TakesSome role fs n [] first next old new a b
+    ⊎ Series TakesSome role fs n (NoMemory ∷ []) first next old new a b))
 
 -- what a drive did so far, in this many polls that each took something
 pub record Drove (role : Role) (first next : Bool) (old new : Held) (fs : List Content) (polls : ℕ)
@@ -67,3 +80,4 @@ pub record Drove (role : Role) (first next : Bool) (old new : Held) (fs : List C
   pub place : KeepsPlace role first next old new a b
   pub shorter : size_of new b + polls ≤ size_of old a
   pub asks : Asks (4112 * polls) a b
+  pub series : Series TakesSome role fs polls [] first next old new a b

@@ -6,6 +6,7 @@ pub mod Upgrading
 pub mod HeldRun
 pub mod Place
 pub mod StreamPolling
+pub mod Polls
 pub mod Driving
 pub mod StreamWriting
 pub mod UpgradeSteps

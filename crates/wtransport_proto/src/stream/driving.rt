@@ -142,7 +142,7 @@ pub enum Driven {
     Ended(IoReadError),
     /// The source was not ready.
     Waiting,
-    /// All polls were made, and each took something.
+    /// All polls were made, and each took a frame, or skipped an unknown one or 4096 bytes of it.
     Spent,
     /// Memory allocation failed, for a payload or for a place in the list.
     NoMemory,
@@ -154,8 +154,11 @@ pub enum Driven {
 ///   right after a refused frame, or after the bytes that decided, and nothing is held; if the
 ///   source ended inside a frame, all bytes received of it are held.
 /// - `Waiting`: the source was not ready.
-/// - `Spent`: all polls were made, and each took something.
+/// - `Spent`: all polls were made, and each took a frame, or skipped an unknown one or 4096 bytes of
+///   its payload.
 /// - `NoMemory`: allocation failed, for a payload or for a place in `out`.
+///
+/// It polls until the first result other than these two, and not once more.
 ///
 /// It is for a stream whose bytes are frames to its end: the stream of a request after its first
 /// frame, of a response, or a control stream. It is not for a bidirectional stream that the peer
