@@ -274,7 +274,7 @@ frames_of_run [] role first still stage final bytes rest tail (same, kept, all) 
     rw (one, all) refl
 frames_of_run (item ∷ items) role first still stage final bytes rest tail (Err end, mid, within, step, moves, reads) readable =
     absurd (stopped items end (next-is.Frames role still) mid final (drop item.length bytes) rest reads)
-frames_of_run (item ∷ items) role first still stage final bytes rest tail (Ok next, mid, within, step, moves, reads) (one, others) = elim (one_item item.content role first bytes item.length next tail within step one) [
+frames_of_run (item ∷ items) role first still stage final bytes rest tail (Ok next, mid, within, step, moves, reads) (one, others) = elim (one_item item.content role first bytes item.length next tail within.1 step one) [
   | inl is ↦ absurd (never_back items role still mid final (drop item.length bytes) rest (subst (λ (n : Next). Reads (Ok n) mid (drop item.length bytes) items (Ok (next-is.Frames role still)) final rest) is reads))
   | inr g ↦
       let more = frames_of_run items role g.still still mid final (drop item.length bytes) rest tail (subst (λ (n : Next). Reads (Ok n) mid (drop item.length bytes) items (Ok (next-is.Frames role still)) final rest) g.on reads) others in

@@ -20,23 +20,23 @@ use Rattle.wt_inspection.specs.declared.reading.Next.TheVariants as next-is
 use Rattle.wt_inspection.proofs.PairLemmas.{pair_numbers, some_is}
 use Rattle.wt_inspection.specs.DataCapsules.{Stage}
 use Rattle.wt_inspection.specs.Pair.{pair_at}
-use Rattle.wt_inspection.specs.Recording.{Then, Stops, IsStep, IsNext, IsNoFrame, IsNoHead, IsNoSession, IsRefused, IsSessionHead, Moves, Reads, after_head, has_session, is_session}
+use Rattle.wt_inspection.specs.Recording.{Then, IsPart, Stops, IsStep, IsNext, IsNoFrame, IsNoHead, IsNoSession, IsRefused, IsSessionHead, Moves, Reads, after_head, has_session, is_session}
 
 -- no item yet
 pub reads_none : (items : List Item) (before last : Then) (stage : Stage) (bytes : List ℕ) (at : ℕ) → items ≡ [] → at ≡ 0 → last ≡ before → Reads before stage bytes items last stage (drop at bytes)
 reads_none items before last stage bytes at none start same = rw (none, start, same) (refl, refl, refl)
 
 -- one more item
-reads_with : (items : List Item) (before mid after : Then) (stage now next : Stage) (bytes rest : List ℕ) (item : Item) → Reads before stage bytes items mid now rest → item.length ≤ length rest → IsStep mid rest item.length item.content after → Moves mid rest item.content after now next → Reads before stage bytes (items ++ item ∷ []) after next (drop item.length rest)
+reads_with : (items : List Item) (before mid after : Then) (stage now next : Stage) (bytes rest : List ℕ) (item : Item) → Reads before stage bytes items mid now rest → IsPart item.length rest → IsStep mid rest item.length item.content after → Moves mid rest item.content after now next → Reads before stage bytes (items ++ item ∷ []) after next (drop item.length rest)
 reads_with [] before mid after stage now next bytes rest item (same, still, all) within one moves = (after, next, rw all within, rw (same, all) one, rw (same, all, still) moves, (refl, refl, ap (λ (b : List ℕ). drop item.length b) all))
 reads_with (first ∷ items) before mid after stage now next bytes rest item (then, there, is, step, went, reads) within one moves =
     (then, there, is, step, went, reads_with items then mid after there now next (drop first.length bytes) rest item reads within one moves)
 
 -- one more item, which ends at the end of the items
-pub reads_more : (items more : List Item) (before mid after : Then) (stage now next : Stage) (bytes held rest : List ℕ) (at end : ℕ) (item : Item) → held ≡ bytes → rest ≡ drop at held → end ≡ at + item.length → more ≡ items ++ item ∷ [] → Reads before stage bytes items mid now (drop at bytes) → item.length ≤ length rest → IsStep mid rest item.length item.content after → Moves mid rest item.content after now next → Reads before stage bytes more after next (drop end bytes)
+pub reads_more : (items more : List Item) (before mid after : Then) (stage now next : Stage) (bytes held rest : List ℕ) (at end : ℕ) (item : Item) → held ≡ bytes → rest ≡ drop at held → end ≡ at + item.length → more ≡ items ++ item ∷ [] → Reads before stage bytes items mid now (drop at bytes) → IsPart item.length rest → IsStep mid rest item.length item.content after → Moves mid rest item.content after now next → Reads before stage bytes more after next (drop end bytes)
 reads_more items more before mid after stage now next bytes held rest at end item same left ends is reads within step moves =
     let behind : rest ≡ drop at bytes = left ∙ ap (drop at) same in
-    let there : item.length ≤ length (drop at bytes) = rw behind at within in
+    let there : IsPart item.length (drop at bytes) = rw behind at within in
     let one : IsStep mid (drop at bytes) item.length item.content after = rw behind at step in
     let went : Moves mid (drop at bytes) item.content after now next = rw behind at moves in
     rw (is, ends, ← drop-drop item.length at bytes) (reads_with items before mid after stage now next bytes (drop at bytes) item reads there one went)

@@ -122,6 +122,12 @@ abbrev pub is_session : Option FrameKind → Bool
 is_session (Some kind-is.WebTransport) = true
 is_session other = false
 
+-- what a frame of this name contains if some of its payload is missing
+abbrev pub IsCutPart : FrameName → Parts → Type 0
+IsCutPart name parts-is.Opaque = Unit {0}
+IsCutPart (name-is.Read kind-is.Data) (parts-is.Capsules capsules) = Unit {0}
+IsCutPart name other = ⊥
+
 -- a frame, of which len bytes are there
 pub record IsFrameAt (role : StreamRole) (first : Bool) (bytes : List ℕ) (len : ℕ) (f : FrameItem)
     (after : Then) : Type 0 where
@@ -130,7 +136,7 @@ pub record IsFrameAt (role : StreamRole) (first : Bool) (bytes : List ℕ) (len 
   pub plain : is_session (kind_of f.number) ≡ false
   pub size : f.head + f.present ≡ len
   pub most : f.present ≤ f.announced
-  pub cut : f.present < f.announced → (len ≡ length bytes) × Stops after
+  pub cut : f.present < f.announced → (len ≡ length bytes) × Stops after × IsCutPart f.name f.parts
   pub whole : f.present ≡ f.announced
       → Judged (name_fault role first f.name) f.name (take f.present (drop f.head bytes)) f.parts
       (Ok (next-is.Frames role (still_first first f.name))) after
@@ -204,6 +210,7 @@ Closes None found after = (found ≡ None) × (after ≡ Ok next-is.Capsules)
 -- a capsule, of which len bytes are there
 pub record IsCapsuleAt (bytes : List ℕ) (len : ℕ) (c : CapsuleItem) (after : Then) : Type 0 where
   pub head : ℕ
+  pub there : head ≤ length bytes
   pub numbers : pair_at bytes ≡ Some (c.number, c.announced, drop head bytes)
   pub most : len ≤ head + c.announced
   pub cut : len < head + c.announced → (len ≡ length bytes) × (c.close ≡ None) × Stops after
@@ -327,12 +334,16 @@ abbrev pub Moves : Then → List ℕ → Content → Then → Stage → Stage �
 Moves (Ok is) bytes content after stage next = MovesNext is bytes content after stage next
 Moves (Err end) bytes content after stage next = next ≡ stage
 
+-- at least one of the bytes, and no more than there are
+abbrev pub IsPart : ℕ → List ℕ → Type 0
+IsPart n bytes = (0 < n) × (n ≤ length bytes)
+
 -- the bytes are these items, one after the other, followed by the rest
 abbrev pub Reads : Then → Stage → List ℕ → List Item → Then → Stage → List ℕ → Type 0
 Reads before stage bytes [] last final rest =
     (before ≡ last) × (stage ≡ final) × (bytes ≡ rest)
 Reads before stage bytes (item ∷ items) last final rest =
-    (after : Then) × (next : Stage) × (item.length ≤ length bytes)
+    (after : Then) × (next : Stage) × IsPart item.length bytes
     × IsStep before bytes item.length item.content after
     × Moves before bytes item.content after stage next
     × Reads after next (drop item.length bytes) items last final rest

@@ -1,5 +1,5 @@
 -- Field sections, line by line (RFC 9204, section 4.5).
-use Rattle.std.specs.Prelude.{◌≡◌, ℕ, List, [], map, Option, Some, None, Result, Ok, Err}
+use Rattle.std.specs.Prelude.{◌≡◌, ℕ, ◌<◌, List, [], length, map, Option, Some, None, Result, Ok, Err}
 use Rattle.wtp_qpack.specs.declared.qpack.DecodingError.{DecodingError}
 use Rattle.wtp_qpack.specs.declared.qpack.DecodingError.TheVariants.{DynamicNotSupported}
 use Rattle.wtp_qpack.specs.Field.{Field}
@@ -23,7 +23,7 @@ fault_of cause = Malformed cause
 abbrev pub EndsLines : List ℕ → Option SectionFault → Type 0
 EndsLines rest None = rest ≡ []
 EndsLines rest (Some fault) =
-    (cause : DecodingError) × (octet_line_at rest ≡ Err cause) × (fault ≡ fault_of cause)
+    (0 < length rest) × (cause : DecodingError) × (octet_line_at rest ≡ Err cause) × (fault ≡ fault_of cause)
 
 -- the bytes start with these lines, after which they end so
 abbrev pub HasLines : List ℕ → List Line → Option SectionFault → Type 0

@@ -4,7 +4,7 @@ ghost use Rattle.wtp_wire.specs.Kind.{kind_of};
 ghost use Rattle.wt_items.specs.Names.{frame_name_of};
 ghost use Rattle.wt_inspection.specs.Walks.{Leads};
 ghost use Rattle.wt_inspection.specs.Pair.{pair_at};
-ghost use Rattle.wt_inspection.specs.Recording.{HasNoFrame, HasParts, IsNext, Judged, Moves, Stops, Takes, TakesWhole, is_data, is_session, is_whole, name_fault, still_first};
+ghost use Rattle.wt_inspection.specs.Recording.{IsCutPart, HasNoFrame, HasParts, IsNext, Judged, Moves, Stops, Takes, TakesWhole, is_data, is_session, is_whole, name_fault, still_first};
 
 mod warnings;
 
@@ -204,7 +204,7 @@ fn whole_frame(
 
 /// Returns what the present payload of a cut frame contains, which begins at this place. The
 /// reading ends so, unless there is a fault before.
-#[tactic(auto, using(crate::proofs::WalkLemmas::data_leads, crate::proofs::WalkLemmas::data_has, crate::proofs::WalkLemmas::opaque_leads))]
+#[tactic(auto, using(crate::proofs::WalkLemmas::data_leads, crate::proofs::WalkLemmas::data_has, crate::proofs::WalkLemmas::opaque_leads, crate::proofs::WalkLemmas::cut_part))]
 fn cut_parts(
     reading: &mut Reading,
     at: usize,
@@ -214,6 +214,7 @@ fn cut_parts(
 ) -> Result<Found, AllocError>
     requires { is_whole end ≡ false }
     ensures stops { IfOk result (λ f. Stops f.after) }
+    ensures parts { IfOk result (λ f. IsCutPart (frame_name_of number) f.parts) }
     ensures stage { IfOk result (λ f. Leads reading.old.phase reading.new.phase
         (Takes (frame_name_of number) present.now f.parts (Err end) f.after) f.after) }
 {
