@@ -1,6 +1,6 @@
 //! Names of frame types and stream types.
 ghost use Rattle.std.specs.Prelude.{◌≡◌};
-ghost use Rattle.wt_items.specs.Names.{frame_name_of, stream_name_of};
+ghost use Rattle.wt_items.specs.Names.{frame_name_of, frame_name_text, stream_name_of, stream_name_text};
 
 use wtp_core::varint::VarInt;
 use wtp_wire::frame::FrameKind;
@@ -48,7 +48,9 @@ impl FrameName {
     }
 
     /// Returns the text of the name: as the RFCs write it, `reserved`, `unknown`, or `HTTP/2`.
-    pub fn as_str(self) -> &'static str {
+    pub fn as_str(self) -> &'static str
+        ensures { result.now ≡ frame_name_text self }
+    {
         match self {
             FrameName::Read(FrameKind::Data) => "DATA",
             FrameName::Read(FrameKind::Headers) => "HEADERS",
@@ -93,8 +95,10 @@ impl StreamName {
         }
     }
 
-    /// Returns the text of the name.
-    pub fn as_str(self) -> &'static str {
+    /// Returns the text of the name: that of the stream's purpose, `reserved`, or `unknown`.
+    pub fn as_str(self) -> &'static str
+        ensures { result.now ≡ stream_name_text self }
+    {
         match self {
             StreamName::Read(StreamKind::Control) => "control",
             StreamName::Read(StreamKind::QPackEncoder) => "QPACK encoder",
