@@ -36,10 +36,20 @@ use Rattle.wt_inspection.specs.DataCapsules.{Stage}
 use Rattle.wt_inspection.specs.ItemFrames.{frame_of, frames_at, frames_in, IsWithin, IsReadable, AreReadable}
 use Rattle.wt_items.specs.Names.{frame_name_of, named, other_name, is_http2}
 use Rattle.wt_inspection.specs.Pair.{pair_at}
-use Rattle.wt_inspection.specs.Recording.{Then, AfterSection, AfterSettings, HasParts, Judged, IsFrameAt, IsNext, IsNoFrame, IsRefused, Reads, is_session, name_fault, still_first}
+use Rattle.wt_inspection.specs.Recording.{Then, AfterSection, AfterSettings, HasParts, IsCut, IsCutPart, Judged, IsFrameAt, IsNext, IsNoFrame, IsRefused, Reads, is_session, name_fault, still_first}
 use Rattle.wt_inspection.proofs.PairLemmas.{pair_numbers}
 
 -- ---- where the reading goes on, it goes on as after a frame that is allowed
+
+never_on : (on : Then) (next : Next) → Ok next ≡ on → IsCut on → ⊥
+never_on on next e stops = rw (← e) at stops
+
+cut_on : (name : FrameName) (parts : Parts) (on : Then) (next : Next) → IsCut on → IsCutPart name parts on (Ok next) → ⊥
+cut_on name parts-is.Opaque on next stops e = never_on on next e stops
+cut_on name (parts-is.Capsules capsules) on next stops (is, inl e) = never_on on next e stops
+cut_on name (parts-is.Capsules capsules) on next stops (is, inr faults) = absurd faults
+cut_on name (parts-is.Fields section) on next stops h = absurd h
+cut_on name (parts-is.Settings lines) on next stops h = absurd h
 
 section_on : (fault : Option SectionFault) (on : Then) (next : Next) → AfterSection fault on (Ok next) → Ok next ≡ on
 section_on None on next h = h
@@ -228,7 +238,7 @@ no_frame_on role first (Some (number, id, rest)) next h = refused_on (id % 4 == 
 
 one_item : (content : Content) (role : StreamRole) (first : Bool) (bytes : List ℕ) (len : ℕ) (next : Next) (tail : Tail) → len ≤ length bytes → IsNext (next-is.Frames role first) bytes len content (Ok next) → IsReadable content → (next ≡ next-is.Payload) ⊎ Goes role first bytes len content next tail
 one_item (content-is.Frame f) role first bytes len next tail within r readable = elim (cases_lt f.present f.announced) [
-  | inl cut ↦ absurd ((r.cut cut).1)
+  | inl cut ↦ let (all, on, stops, part) = r.cut cut in absurd (cut_on f.name f.parts on next stops part)
   | inr full ↦
       let whole : f.present ≡ f.announced = omega (arith, r.most, full) in
       let (allowed, on) = judged_on (name_fault role first f.name) f.name (take f.present (drop f.head bytes)) f.parts (Ok (next-is.Frames role (still_first first f.name))) next (r.whole whole) in

@@ -20,7 +20,7 @@ use Rattle.wt_inspection.specs.declared.reading.Next.TheVariants as next-is
 use Rattle.wt_inspection.proofs.PairLemmas.{pair_numbers, some_is}
 use Rattle.wt_inspection.specs.DataCapsules.{Stage}
 use Rattle.wt_inspection.specs.Pair.{pair_at}
-use Rattle.wt_inspection.specs.Recording.{Then, IsPart, Stops, IsStep, IsNext, IsNoFrame, IsNoHead, IsNoSession, IsRefused, IsSessionHead, Moves, Reads, after_head, has_session, is_session}
+use Rattle.wt_inspection.specs.Recording.{Then, IsPart, IsCut, IsStep, IsNext, IsNoFrame, IsNoHead, IsNoSession, IsRefused, IsSessionHead, Moves, Reads, after_head, has_session, is_session}
 
 -- no item yet
 pub reads_none : (items : List Item) (before last : Then) (stage : Stage) (bytes : List ℕ) (at : ℕ) → items ≡ [] → at ≡ 0 → last ≡ before → Reads before stage bytes items last stage (drop at bytes)
@@ -43,7 +43,7 @@ reads_more items more before mid after stage now next bytes held rest at end ite
 
 -- ---- frames
 
-pub no_frame_cut : (role : StreamRole) (first : Bool) (bytes : List ℕ) (after : Then) → pair_at bytes ≡ None → Stops after → IsNoFrame role first (pair_at bytes) after
+pub no_frame_cut : (role : StreamRole) (first : Bool) (bytes : List ℕ) (after : Then) → pair_at bytes ≡ None → IsCut after → IsNoFrame role first (pair_at bytes) after
 no_frame_cut role first bytes after e s = rw e s
 
 pub no_frame_refused : (role : StreamRole) (first : Bool) (bytes rest : List ℕ) (number id : ℕ) (after : Then) → pair_at bytes ≡ Some (number, id, rest) → is_session (kind_of number) ≡ true → IsRefused (id % 4 == 0) (rule (role_of role) first kind-is.WebTransport) after → IsNoFrame role first (pair_at bytes) after
@@ -62,13 +62,13 @@ session_kind number e = session_is (kind_of number) e
 
 -- ---- heads of unidirectional streams
 
-pub no_session_cut : (bytes : List ℕ) (after : Then) → pair_at bytes ≡ None → Stops after → IsNoSession (pair_at bytes) after
+pub no_session_cut : (bytes : List ℕ) (after : Then) → pair_at bytes ≡ None → IsCut after → IsNoSession (pair_at bytes) after
 no_session_cut bytes after e s = rw e s
 
 pub no_session_id : (bytes rest : List ℕ) (number id : ℕ) (after : Then) → pair_at bytes ≡ Some (number, id, rest) → IsNoSession (Some (number, id, rest)) after → IsNoSession (pair_at bytes) after
 no_session_id bytes rest number id after e s = rw e s
 
-pub no_head_cut : (bytes : List ℕ) (after : Then) → number_at bytes ≡ None → Stops after → IsNoHead (number_at bytes) bytes after
+pub no_head_cut : (bytes : List ℕ) (after : Then) → number_at bytes ≡ None → IsCut after → IsNoHead (number_at bytes) bytes after
 no_head_cut bytes after e s = rw e s
 
 payload_after : (k : Option StreamKind) → has_session k ≡ true → after_head k ≡ next-is.Payload

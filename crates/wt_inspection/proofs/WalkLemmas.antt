@@ -44,7 +44,7 @@ use Rattle.wt_inspection.specs.declared.capsules.CapsuleWalk.{CapsuleWalk}
 use Rattle.wt_inspection.specs.declared.numbers.Pair.{Pair}
 use Rattle.wt_inspection.specs.DataCapsules.{Stage, Opening, Plain, Session, IsFirst, StartsCapsule, StartsCapsules, EndsWith}
 use Rattle.wt_inspection.specs.Pair.{pair_at}
-use Rattle.wt_inspection.specs.Recording.{Then, IsCutPart, EndsStage, HasNoFrame, HasParts, Moves, MovesFrames, MovesNext, Takes, TakesData, TakesFrame, TakesWhole, is_data, is_whole, name_fault, still_first}
+use Rattle.wt_inspection.specs.Recording.{Then, IsCutPart, EndsStage, HasNoFrame, HasParts, Moves, MovesFrames, MovesNext, Takes, TakesData, TakesFrame, TakesWhole, is_data, is_cut, name_fault, still_first}
 use Rattle.wt_inspection.specs.Walks.{Keeps, HoldsPair, Holds, IsBad, JudgesClose, IsStage, IsStageAt, IsWhole, Judges, Leads, LeadsAt, TakesPiece, Turned, is_too_long}
 use Rattle.wt_inspection.proofs.PairLemmas.{Numbers, pair_numbers, some_is}
 
@@ -400,14 +400,14 @@ data_name name-is.PriorityUpdate e = absurd (cc e)
 data_name name-is.Http2 e = absurd (cc e)
 data_name name-is.Unknown e = absurd (cc e)
 
-has_cut : (parts : Parts) (payload : List ℕ) (on after : Then) → HasParts (name-is.Read kind-is.Data) payload parts on after → IsCutPart (name-is.Read kind-is.Data) parts
-has_cut parts-is.Opaque payload on after h = tt
-has_cut (parts-is.Capsules capsules) payload on after h = tt
+has_cut : (parts : Parts) (payload : List ℕ) (on after : Then) → HasParts (name-is.Read kind-is.Data) payload parts on after → IsCutPart (name-is.Read kind-is.Data) parts on after
+has_cut parts-is.Opaque payload on after h = h
+has_cut (parts-is.Capsules capsules) payload on after h = (refl, h)
 has_cut (parts-is.Fields section) payload on after h = absurd h
 has_cut (parts-is.Settings lines) payload on after h = absurd h
 
 -- what a cut DATA frame contains
-pub cut_part : (name : FrameName) (parts : Parts) (payload : List ℕ) (on after : Then) → is_data name ≡ true → HasParts (name-is.Read kind-is.Data) payload parts on after → IsCutPart name parts
+pub cut_part : (name : FrameName) (parts : Parts) (payload : List ℕ) (on after : Then) → is_data name ≡ true → HasParts (name-is.Read kind-is.Data) payload parts on after → IsCutPart name parts on after
 cut_part name parts payload on after e h = rw (data_name name e) (has_cut parts payload on after h)
 
 pub data_leads : (name : FrameName) (old new : Phase) (payload : List ℕ) (parts : Parts) (on after : Then) → is_data name ≡ true → Leads old new (Takes (name-is.Read kind-is.Data) payload parts on after) after → Leads old new (Takes name payload parts on after) after
@@ -416,7 +416,7 @@ data_leads name old new payload parts on after e l = rw (data_name name e) l
 pub data_has : (name : FrameName) (payload : List ℕ) (parts : Parts) (on after : Then) → is_data name ≡ true → HasParts (name-is.Read kind-is.Data) payload parts on after → HasParts name payload parts on after
 data_has name payload parts on after e h = rw (data_name name e) h
 
-pub cut_leads : (role : StreamRole) (first : Bool) (bytes : List ℕ) (f : FrameItem) (after : Then) (end : End) (old new : Phase) → Leads old new (Takes f.name (take f.present (drop f.head bytes)) f.parts (Err end) after) after → is_whole end ≡ false → f.present < f.announced → Leads old new (TakesFrame role first bytes f after) after
+pub cut_leads : (role : StreamRole) (first : Bool) (bytes : List ℕ) (f : FrameItem) (after : Then) (end : End) (old new : Phase) → Leads old new (Takes f.name (take f.present (drop f.head bytes)) f.parts (Err end) after) after → is_cut end ≡ true → f.present < f.announced → Leads old new (TakesFrame role first bytes f after) after
 cut_leads role first bytes f after end old new leads stops less = λ stage h.
     let (next, takes, there) = leads stage h in
     (next, record { whole = λ e. absurd (omega (arith, e, less)); cut = λ l. (Err end, stops, takes) }, there)

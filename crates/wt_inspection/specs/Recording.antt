@@ -1,6 +1,6 @@
 -- What the items of a recording are: each is what the bytes at its place are, after the items
 -- before it (RFC 9114, sections 4.1, 6.2 and 7; RFC 9297, sections 2.1 and 3.2).
-use Rattle.std.specs.Prelude.{◌≡◌, ℕ, ◌++◌, ◌+◌, ◌<◌, ◌≤◌, ◌%◌, ◌^◌, ◌⊎◌, ◌==◌, Bool, true, false, List, [], ◌∷◌, length, take, drop, string_bytes, Option, Some, None, Result, Ok, Err}
+use Rattle.std.specs.Prelude.{◌≡◌, ℕ, ◌++◌, ◌+◌, ◌<◌, ◌≤◌, ◌%◌, ◌^◌, ◌⊎◌, ◌==◌, Bool, true, false, not, List, [], ◌∷◌, length, take, drop, string_bytes, Option, Some, None, Result, Ok, Err}
 use Rattle.wtp_core.specs.Varint.{number_at}
 use Rattle.wtp_wire.specs.Kind.{kind_of}
 use Rattle.wtp_wire.specs.StreamKind.{stream_kind_of}
@@ -55,15 +55,20 @@ abbrev pub fault_code : End → Option ErrorCode
 fault_code (end-is.Fault fault) = Some fault.code
 fault_code other = None
 
--- the bytes are complete
-abbrev pub is_whole : End → Bool
-is_whole end-is.Whole = true
-is_whole other = false
+-- the bytes end within an item
+abbrev pub is_cut : End → Bool
+is_cut (end-is.Cut cut) = true
+is_cut other = false
 
--- the reading ends here, and not because the bytes are complete
-abbrev pub Stops : Then → Type 0
-Stops (Ok next) = ⊥
-Stops (Err end) = is_whole end ≡ false
+-- the reading ends here, within an item
+abbrev pub IsCut : Then → Type 0
+IsCut (Ok next) = ⊥
+IsCut (Err end) = is_cut end ≡ true
+
+-- the reading ends here with a fault
+abbrev pub Faults : Then → Type 0
+Faults (Err (end-is.Fault fault)) = Unit {0}
+Faults other = ⊥
 
 -- the reading ends here with a fault of this code
 abbrev pub StopsWith : ErrorCode → Then → Type 0
@@ -108,7 +113,7 @@ HasParts (name-is.Read kind-is.Settings) payload (parts-is.Settings lines) on af
     AreSettings payload lines.items × AfterSettings (settings_in payload) on after
 HasParts (name-is.Read kind-is.Settings) payload other on after = ⊥
 HasParts (name-is.Read kind-is.Data) payload (parts-is.Capsules capsules) on after =
-    (after ≡ on) ⊎ Stops after
+    (after ≡ on) ⊎ Faults after
 HasParts name payload parts-is.Opaque on after = after ≡ on
 HasParts name payload other on after = ⊥
 
@@ -122,11 +127,18 @@ abbrev pub is_session : Option FrameKind → Bool
 is_session (Some kind-is.WebTransport) = true
 is_session other = false
 
--- what a frame of this name contains if some of its payload is missing
-abbrev pub IsCutPart : FrameName → Parts → Type 0
-IsCutPart name parts-is.Opaque = Unit {0}
-IsCutPart (name-is.Read kind-is.Data) (parts-is.Capsules capsules) = Unit {0}
-IsCutPart name other = ⊥
+-- a DATA frame has this name
+abbrev pub is_data : FrameName → Bool
+is_data (name-is.Read kind-is.Data) = true
+is_data other = false
+
+-- what a frame of this name contains if some of its payload is missing: nothing that is read, or
+-- capsules of a DATA frame, which may have a fault
+abbrev pub IsCutPart : FrameName → Parts → Then → Then → Type 0
+IsCutPart name parts-is.Opaque on after = after ≡ on
+IsCutPart name (parts-is.Capsules capsules) on after =
+    (is_data name ≡ true) × ((after ≡ on) ⊎ Faults after)
+IsCutPart name other on after = ⊥
 
 -- a frame, of which len bytes are there
 pub record IsFrameAt (role : StreamRole) (first : Bool) (bytes : List ℕ) (len : ℕ) (f : FrameItem)
@@ -136,7 +148,8 @@ pub record IsFrameAt (role : StreamRole) (first : Bool) (bytes : List ℕ) (len 
   pub plain : is_session (kind_of f.number) ≡ false
   pub size : f.head + f.present ≡ len
   pub most : f.present ≤ f.announced
-  pub cut : f.present < f.announced → (len ≡ length bytes) × Stops after × IsCutPart f.name f.parts
+  pub cut : f.present < f.announced → (len ≡ length bytes)
+      × (on : Then) × IsCut on × IsCutPart f.name f.parts on after
   pub whole : f.present ≡ f.announced
       → Judged (name_fault role first f.name) f.name (take f.present (drop f.head bytes)) f.parts
       (Ok (next-is.Frames role (still_first first f.name))) after
@@ -149,7 +162,7 @@ IsRefused true None after = ⊥
 
 -- no frame can be read from these two numbers, or from too few bytes
 abbrev pub IsNoFrame : StreamRole → Bool → Option (ℕ × ℕ × List ℕ) → Then → Type 0
-IsNoFrame role first None after = Stops after
+IsNoFrame role first None after = IsCut after
 IsNoFrame role first (Some (number, id, rest)) after =
     (is_session (kind_of number) ≡ true)
     × IsRefused (id % 4 == 0) (rule (role_of role) first kind-is.WebTransport) after
@@ -176,12 +189,12 @@ IsHead false bytes len head =
 
 -- no session ID can be read from these two numbers, or from too few bytes
 abbrev pub IsNoSession : Option (ℕ × ℕ × List ℕ) → Then → Type 0
-IsNoSession None after = Stops after
+IsNoSession None after = IsCut after
 IsNoSession (Some (number, id, rest)) after = ((id % 4 == 0) ≡ false) × StopsWith code-is.Id after
 
 -- no head can be read from this type, or from too few bytes
 abbrev pub IsNoHead : Option (ℕ × List ℕ) → List ℕ → Then → Type 0
-IsNoHead None bytes after = Stops after
+IsNoHead None bytes after = IsCut after
 IsNoHead (Some (number, rest)) bytes after =
     (has_session (stream_kind_of number) ≡ true) × IsNoSession (pair_at bytes) after
 
@@ -213,7 +226,7 @@ pub record IsCapsuleAt (bytes : List ℕ) (len : ℕ) (c : CapsuleItem) (after :
   pub there : head ≤ length bytes
   pub numbers : pair_at bytes ≡ Some (c.number, c.announced, drop head bytes)
   pub most : len ≤ head + c.announced
-  pub cut : len < head + c.announced → (len ≡ length bytes) × (c.close ≡ None) × Stops after
+  pub cut : len < head + c.announced → (len ≡ length bytes) × (c.close ≡ None) × IsCut after
   pub whole : len ≡ head + c.announced → len < 2 ^ 62
       → Closes (capsule_in (take len bytes)) c.close after
 
@@ -237,7 +250,7 @@ IsNext next-is.Payload bytes len content-is.Payload after =
     (len ≡ length bytes) × (after ≡ Ok next-is.Payload)
 IsNext next-is.Capsules bytes len (content-is.Capsule c) after = IsCapsuleAt bytes len c after
 IsNext next-is.Capsules bytes len content-is.Unread after =
-    (len ≡ length bytes) × (pair_at bytes ≡ None) × Stops after
+    (len ≡ length bytes) × (pair_at bytes ≡ None) × IsCut after
 IsNext next-is.Datagram bytes len (content-is.Datagram d) after =
     (len ≡ length bytes) × IsDatagramItem bytes d × (after ≡ Ok next-is.Datagram)
 IsNext next-is.Datagram bytes len content-is.Unread after =
@@ -283,11 +296,6 @@ TakesSection Opening next = (next ≡ Opening) ⊎ ((next ≡ Plain) ⊎ (next �
 TakesSection Plain next = next ≡ Plain
 TakesSection (Session held) next = next ≡ Session held
 
--- a DATA frame has this name
-abbrev pub is_data : FrameName → Bool
-is_data (name-is.Read kind-is.Data) = true
-is_data other = false
-
 -- how far the message is after a frame of this name with these parts
 abbrev pub Takes : FrameName → List ℕ → Parts → Then → Then → Stage → Stage → Type 0
 Takes (name-is.Read kind-is.Data) payload (parts-is.Capsules capsules) on after stage next =
@@ -312,7 +320,7 @@ pub record TakesFrame (role : StreamRole) (first : Bool) (bytes : List ℕ) (f :
       → TakesWhole (name_fault role first f.name) f.name (take f.present (drop f.head bytes))
       f.parts (Ok (next-is.Frames role (still_first first f.name))) after stage next
   pub cut : f.present < f.announced
-      → (on : Then) × Stops on
+      → (on : Then) × IsCut on
       × Takes f.name (take f.present (drop f.head bytes)) f.parts on after stage next
 
 abbrev pub HasNoFrame : Content → Type 0
@@ -375,15 +383,30 @@ EndsStage (Session (byte ∷ held)) (end-is.Cut cut) = Unit {0}
 EndsStage (Session (byte ∷ held)) other = ⊥
 EndsStage other end = end ≡ end-is.Whole
 
--- the end of an inspection: where the reading stopped, if it did; otherwise no fault, unless there
--- are no bytes
-abbrev pub EndsSo : Recorded → Bool → Then → Stage → End → Type 0
-EndsSo kind empty (Err stop) stage end = end ≡ stop
-EndsSo kind true (Ok next) stage end = EndsEmpty (code_of_nothing kind) end
-EndsSo kind false (Ok next) stage end = EndsStage stage end
+-- a stream of frames, no bytes of which follow, may not end within one (RFC 9114, section 7.1)
+abbrev pub may_not_be_cut : Recorded → Bool → Bool
+may_not_be_cut recorded-is.Bi more = not more
+may_not_be_cut recorded-is.Answer more = not more
+may_not_be_cut other more = false
 
--- the items of a recording
-abbrev pub IsRecording : Recorded → List ℕ → List Item → End → Type 0
-IsRecording kind bytes items end =
+-- how bytes end whose reading stops so: where it stops, or, if they are cut and may not be, with
+-- the fault of a frame that is cut at this place
+abbrev pub StopsSo : Bool → End → End → Type 0
+StopsSo false stop end = end ≡ stop
+StopsSo true (end-is.Cut cut) (end-is.Fault fault) =
+    (fault.code ≡ code-is.Frame) × (fault.at ≡ cut.at) × (fault.missing ≡ cut.missing)
+StopsSo true (end-is.Cut cut) other = ⊥
+StopsSo true stop end = end ≡ stop
+
+-- the end of an inspection, if more bytes may follow or not: where the reading stopped, if it did;
+-- otherwise no fault, unless there are no bytes
+abbrev pub EndsSo : Recorded → Bool → Bool → Then → Stage → End → Type 0
+EndsSo kind more empty (Err stop) stage end = StopsSo (may_not_be_cut kind more) stop end
+EndsSo kind more true (Ok next) stage end = EndsEmpty (code_of_nothing kind) end
+EndsSo kind more false (Ok next) stage end = EndsStage stage end
+
+-- the items of a recording, after which more bytes may follow or not
+abbrev pub IsRecording : Recorded → Bool → List ℕ → List Item → End → Type 0
+IsRecording kind more bytes items end =
     (last : Then) × (final : Stage) × Reads (Ok (start_of kind)) Opening bytes items last final []
-    × EndsSo kind (length bytes == 0) last final end
+    × EndsSo kind more (length bytes == 0) last final end

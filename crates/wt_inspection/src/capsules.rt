@@ -7,7 +7,7 @@ ghost use Rattle.wt_inspection.specs.Recording.{Closes, IsNext};
 ghost use Rattle.wt_inspection.specs.Walks.{Fits, Holds, JudgesClose, Judges, Keeps, TakesPiece, Turned, is_too_long};
 
 use crate::numbers::{Pair, first_pair, missing_of_pair};
-use crate::reading::{Next, Reading, Step, fault, fault_at};
+use crate::reading::{Next, Reading, Step, cut, fault, fault_at};
 use std::alloc::{AllocError, Global};
 use std::borrow::CowSlice;
 use wt_items::item::{CapsuleItem, CloseReason, Content, Cut, End, Fault};
@@ -329,13 +329,13 @@ pub(crate) fn next_capsule(reading: &Reading, at: usize, rest: &[u8]) -> Result<
     ensures read { IfOk result (λ s. IsNext Next.Capsules rest.now s.length s.content s.after) }
 {
     let Some(pair) = first_pair(rest) else {
-        let end = reading.cut(at, "capsule", missing_of_pair(rest));
+        let end = cut(at, "capsule", missing_of_pair(rest));
         return Ok(Step::last(rest.len(), Content::Unread, end));
     };
     let left = rest.len() - pair.size;
     let announced = pair.second.into_inner();
     if announced > left as u64 {
-        let end = reading.cut(at, "capsule", announced - left as u64);
+        let end = cut(at, "capsule", announced - left as u64);
         return Ok(Step::last(
             rest.len(),
             Content::Capsule(capsule_of(at, pair, None)),

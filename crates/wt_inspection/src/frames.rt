@@ -4,7 +4,7 @@ ghost use Rattle.wtp_wire.specs.Kind.{kind_of};
 ghost use Rattle.wt_items.specs.Names.{frame_name_of};
 ghost use Rattle.wt_inspection.specs.Walks.{Leads};
 ghost use Rattle.wt_inspection.specs.Pair.{pair_at};
-ghost use Rattle.wt_inspection.specs.Recording.{IsCutPart, HasNoFrame, HasParts, IsNext, Judged, Moves, Stops, Takes, TakesWhole, is_data, is_session, is_whole, name_fault, still_first};
+ghost use Rattle.wt_inspection.specs.Recording.{IsCutPart, HasNoFrame, HasParts, IsNext, Judged, Moves, Takes, TakesWhole, is_cut, is_data, is_session, name_fault, still_first};
 
 mod warnings;
 
@@ -13,7 +13,7 @@ use crate::fields::{read_section, section_then};
 use crate::frames::warnings::warn_of_frame;
 use crate::message::take_section;
 use crate::numbers::{Pair, first_pair, missing_of_pair};
-use crate::reading::{Next, Phase, Reading, Step, fault};
+use crate::reading::{Next, Phase, Reading, Step, cut, fault};
 use crate::settings::{read_settings, settings_then};
 use std::alloc::AllocError;
 use wt_items::item::{Content, End, FrameItem, FrameName, Parts};
@@ -55,7 +55,7 @@ pub(crate) fn next_frame(
         (Moves (Ok (Next.Frames role first)) rest.now s.content s.after) s.after) }
 {
     let Some(pair) = first_pair(rest) else {
-        let end = reading.cut(at, "frame", missing_of_pair(rest));
+        let end = cut(at, "frame", missing_of_pair(rest));
         return Ok(Step::last(rest.len(), Content::Unread, end));
     };
     if is_session(pair.number) {
@@ -140,7 +140,7 @@ fn cut_frame(
     } = pair;
     let present = rest.split_at(size).1;
     let missing = second.into_inner().saturating_sub(present.len() as u64);
-    let end = reading.cut(at, "frame", missing);
+    let end = cut(at, "frame", missing);
     let Found { parts, after } = cut_parts(reading, at.saturating_add(size), number, present, end)?;
     let frame = FrameItem {
         number: number.into_inner(),
@@ -212,9 +212,8 @@ fn cut_parts(
     present: &[u8],
     end: End,
 ) -> Result<Found, AllocError>
-    requires { is_whole end ≡ false }
-    ensures stops { IfOk result (λ f. Stops f.after) }
-    ensures parts { IfOk result (λ f. IsCutPart (frame_name_of number) f.parts) }
+    requires { is_cut end ≡ true }
+    ensures parts { IfOk result (λ f. IsCutPart (frame_name_of number) f.parts (Err end) f.after) }
     ensures stage { IfOk result (λ f. Leads reading.old.phase reading.new.phase
         (Takes (frame_name_of number) present.now f.parts (Err end) f.after) f.after) }
 {

@@ -1,6 +1,6 @@
 //! From bytes to items.
-ghost use Rattle.std.specs.Prelude.{◌≡◌, ◌≤◌, ◌<◌, ◌==◌, false, IfOk, Ok, length};
-ghost use Rattle.wt_inspection.specs.Recording.{EndsSo, IsNext, IsRecording, IsSessionHead, IsStep, Moves, after_head, has_session, is_whole};
+ghost use Rattle.std.specs.Prelude.{◌≡◌, ◌≤◌, ◌<◌, ◌==◌, true, IfOk, Ok, length};
+ghost use Rattle.wt_inspection.specs.Recording.{EndsSo, IsNext, IsRecording, IsSessionHead, IsStep, Moves, after_head, has_session, is_cut};
 ghost use Rattle.wt_inspection.specs.DataCapsules.{Stage};
 ghost use Rattle.wt_inspection.specs.Tiles.{Tiles};
 ghost use Rattle.wt_inspection.specs.Walks.{IsStageAt, LeadsAt};
@@ -11,11 +11,11 @@ use crate::fields::{read_section, section_then};
 use crate::frames::next_frame;
 use crate::message::warn_of_section;
 use crate::numbers::{first_pair, missing_of_pair};
-use crate::reading::{Next, Reading, Recorded, Step, end_of_nothing, fault, start_of};
+use crate::reading::{Next, Reading, Recorded, Step, cut, end_at, end_of_nothing, fault, start_of};
 use crate::settings::{read_settings, settings_then};
 use crate::tiling::Tiling;
 use std::alloc::{AllocError, Global};
-use wt_items::item::{Content, Cut, DatagramHead, End, Inspection, StreamHead, StreamName};
+use wt_items::item::{Content, DatagramHead, End, Inspection, StreamHead, StreamName};
 use wtp_core::error::ErrorCode;
 use wtp_core::ids::SessionId;
 use wtp_core::varint::{VarInt, first_varint};
@@ -23,12 +23,15 @@ use wtp_wire::datagram::Datagram;
 use wtp_wire::rules::StreamRole;
 use wtp_wire::stream_header::StreamKind;
 
-/// Returns what the bytes contain. If `open`, more bytes may follow them.
+/// Returns what the bytes contain. If `open`, more bytes may follow them; otherwise the stream ends
+/// after them.
 ///
 /// The items tile the bytes: each byte belongs to exactly one item, and the items are in order.
 /// Each is what the bytes at its place are after the items before it. The bytes after the first
-/// fault, and too few bytes for an item, are one item that is not read; the end is then that fault,
-/// or where the bytes are cut.
+/// fault, and too few bytes for an item, are one item that is not read. The end is then that fault, or
+/// where the bytes are cut: [`End::Cut`], unless `kind` is [`Recorded::Bi`] or [`Recorded::Answer`] and
+/// they are not `open`. A stream may not end within a frame, so that is the fault
+/// [`ErrorCode::Frame`] (RFC 9114, section 7.1).
 ///
 /// Returns [`AllocError`] if allocation fails.
 pub fn inspect(
@@ -38,10 +41,10 @@ pub fn inspect(
     open: bool,
 ) -> Result<Inspection, AllocError>
     ensures tiles { IfOk result (λ i. Tiles 0 i.items.items (length bytes.now)) }
-    ensures read { IfOk result (λ i. IsRecording kind bytes.now i.items.items i.end) }
+    ensures read { IfOk result (λ i. IsRecording kind «open» bytes.now i.items.items i.end) }
 {
     let mut tiling = Tiling::new(alloc, bytes);
-    let mut reading = Reading::new(alloc, kind, open);
+    let mut reading = Reading::new(alloc, kind);
     let mut state = Ok(start_of(kind));
     'items: loop {
         let rest = tiling.rest();
@@ -56,7 +59,7 @@ pub fn inspect(
         tiling.push(length, content)?;
         state = after;
     }
-    let end = end_of(&reading, kind, state, bytes);
+    let end = end_of(&reading, kind, open, state, bytes);
     Ok(Inspection {
         items: tiling.into_items(),
         warnings: reading.warnings,
@@ -65,12 +68,18 @@ pub fn inspect(
 }
 
 /// Returns how these bytes end, if this follows their last item.
-fn end_of(reading: &Reading, kind: Recorded, state: Result<Next, End>, bytes: &[u8]) -> End
+fn end_of(
+    reading: &Reading,
+    kind: Recorded,
+    open: bool,
+    state: Result<Next, End>,
+    bytes: &[u8],
+) -> End
     ensures { (stage : Stage) → IsStageAt state reading.now.phase stage
-        → EndsSo kind (length bytes.now == 0) state stage result }
+        → EndsSo kind «open» (length bytes.now == 0) state stage result }
 {
     match state {
-        Err(end) => end,
+        Err(stop) => end_at(kind, open, stop),
         Ok(_) => {
             if bytes.is_empty() {
                 end_of_nothing(kind)
@@ -197,14 +206,9 @@ fn session_head(rest: &[u8]) -> Step
 /// Returns the end within the head of a unidirectional stream, which may end there (RFC 9114,
 /// section 6.2).
 fn cut_head(rest: &[u8]) -> End
-    ensures { is_whole result ≡ false }
+    ensures { is_cut result ≡ true }
 {
-    let missing = missing_of_pair(rest);
-    End::Cut(Cut {
-        at: 0,
-        item: "stream type",
-        missing,
-    })
+    cut(0, "stream type", missing_of_pair(rest))
 }
 
 /// Returns the only item of a datagram (RFC 9297, section 2.1).

@@ -1,8 +1,8 @@
 //! What reading remembers from item to item.
-ghost use Rattle.std.specs.Prelude.{◌≡◌, false, Some, Ok, Err, IfOk};
+ghost use Rattle.std.specs.Prelude.{◌≡◌, true, Some, Ok, Err, IfOk};
 ghost use Rattle.wt_inspection.specs.DataCapsules.{Stage};
 ghost use Rattle.wt_inspection.specs.Walks.{IsStage};
-ghost use Rattle.wt_inspection.specs.Recording.{EndsEmpty, EndsStage, code_of_nothing, fault_code, is_whole, start_of};
+ghost use Rattle.wt_inspection.specs.Recording.{EndsEmpty, EndsStage, code_of_nothing, fault_code, is_cut, may_not_be_cut, start_of, StopsSo};
 
 use crate::capsules::CapsuleWalk;
 use std::alloc::{AllocError, Global};
@@ -81,7 +81,6 @@ pub(crate) enum Phase {
 pub(crate) struct Reading {
     pub(crate) alloc: Global,
     pub(crate) kind: Recorded,
-    pub(crate) open: bool,
     /// Whether a frame of a control stream was read.
     pub(crate) begun: bool,
     pub(crate) phase: Phase,
@@ -98,13 +97,12 @@ pub(crate) struct Step {
 
 impl Reading {
     /// Creates a reading of the first byte.
-    pub(crate) fn new(alloc: Global, kind: Recorded, open: bool) -> Self
+    pub(crate) fn new(alloc: Global, kind: Recorded) -> Self
         ensures { result.phase ≡ Phase.Opening }
     {
         Reading {
             alloc,
             kind,
-            open,
             begun: false,
             phase: Phase::Opening,
             warnings: Vec::new(alloc),
@@ -121,21 +119,6 @@ impl Reading {
             why,
         })?;
         Ok(())
-    }
-
-    /// Returns how the reading ends within an item.
-    pub(crate) fn cut(&self, at: usize, item: &'static str, missing: u64) -> End
-        ensures { is_whole result ≡ false }
-    {
-        if self.open || self.kind != Recorded::Bi && self.kind != Recorded::Answer {
-            return End::Cut(Cut { at, item, missing });
-        }
-        End::Fault(Fault {
-            at,
-            code: ErrorCode::Frame,
-            why: "the stream ends within a frame (RFC 9114, section 7.1)",
-            missing,
-        })
     }
 
     /// Returns how the reading ends after the last byte of the last item.
@@ -201,10 +184,49 @@ impl Step {
     }
 }
 
+/// Returns the end within an item.
+pub(crate) fn cut(at: usize, item: &'static str, missing: u64) -> End
+    ensures { is_cut result ≡ true }
+{
+    End::Cut(Cut { at, item, missing })
+}
+
+/// Returns how bytes end whose reading stops at this end. If they are cut though the stream ends
+/// after them, that is a fault of the frame.
+pub(crate) fn end_at(kind: Recorded, open: bool, stop: End) -> End
+    ensures { StopsSo (may_not_be_cut kind «open») stop result }
+{
+    if !may_not_be_cut(kind, open) {
+        return stop;
+    }
+    match stop {
+        End::Cut(Cut { at, missing, .. }) => End::Fault(Fault {
+            at,
+            code: ErrorCode::Frame,
+            why: "the stream ends within a frame (RFC 9114, section 7.1)",
+            missing,
+        }),
+        End::Fault(_) | End::Whole => stop,
+    }
+}
+
+/// Returns whether bytes may not end within an item, if no more follow them unless `open`.
+fn may_not_be_cut(kind: Recorded, open: bool) -> bool
+    ensures { result ≡ may_not_be_cut kind «open» }
+{
+    match kind {
+        Recorded::Bi | Recorded::Answer => !open,
+        Recorded::Uni
+        | Recorded::Datagram
+        | Recorded::Capsules
+        | Recorded::Section
+        | Recorded::Settings => false,
+    }
+}
+
 /// Returns the end at a fault.
 pub(crate) fn fault(at: usize, code: ErrorCode, why: &'static str) -> End
-    ensures code { fault_code result ≡ Some code }
-    ensures stops { is_whole result ≡ false }
+    ensures { fault_code result ≡ Some code }
 {
     End::Fault(fault_at(at, code, why))
 }
