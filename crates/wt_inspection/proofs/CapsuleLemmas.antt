@@ -6,27 +6,28 @@ use Rattle.wtp_wire.specs.CloseSession.{close_in}
 use Rattle.wtp_core.specs.declared.error.ErrorCode.{ErrorCode}
 use Rattle.wtp_core.specs.declared.error.ErrorCode.TheVariants as code-is
 use Rattle.wtp_wire.specs.declared.capsule.CapsuleKind.{CapsuleKind}
+use Rattle.wtp_wire.specs.declared.capsule.CapsuleKind.TheVariants.{CloseWebTransportSession}
 use Rattle.wt_inspection.specs.declared.capsules.Closing.{Closing}
 use Rattle.wt_inspection.specs.declared.capsules.Closing.TheVariants as closing-is
 use Rattle.wt_items.specs.declared.item.capsule.CloseReason.{CloseReason}
 use Rattle.wt_inspection.specs.declared.reading.Next.TheVariants as next-is
 use Rattle.wt_inspection.specs.Recording.{Then, Closes, StopsWith}
 use Rattle.wt_inspection.specs.Recording.{IsClosing}
-use Rattle.wt_inspection.specs.Walks.{JudgesClose, Judges}
+use Rattle.wt_inspection.specs.Walks.{JudgesBy, JudgesClose, Judges}
 
 -- ---- what a capsule says
 
 pub judges_none : (bytes : List ℕ) → capsule_in bytes ≡ None → Judges (capsule_in bytes) closing-is.Other
 judges_none bytes e = rw e refl
 
-pub judges_some : (bytes : List ℕ) (capsule : CapsuleKind × List ℕ) (closing : Closing) → capsule_in bytes ≡ Some capsule → JudgesClose (close_in capsule.1) closing → Judges (capsule_in bytes) closing
+pub judges_some : (bytes : List ℕ) (capsule : CapsuleKind × List ℕ) (closing : Closing) → capsule_in bytes ≡ Some capsule → JudgesBy capsule.0 capsule.1 closing → Judges (capsule_in bytes) closing
 judges_some bytes capsule closing e is = rw e is
 
 -- ---- what follows it
 
 none_closes : (o : Option (CapsuleKind × List ℕ)) → Judges o closing-is.Other → Closes o None (Ok next-is.Capsules)
 none_closes None h = (refl, refl)
-none_closes (Some capsule) h = absurd h
+none_closes (Some (CloseWebTransportSession, value)) h = absurd h
 
 pub closes_other : (bytes : List ℕ) → Judges (capsule_in bytes) closing-is.Other → Closes (capsule_in bytes) None (Ok next-is.Capsules)
 closes_other bytes h = none_closes (capsule_in bytes) h
@@ -37,7 +38,7 @@ one_closes None found h = absurd h
 
 good_closes : (o : Option (CapsuleKind × List ℕ)) (found : CloseReason) → Judges o (closing-is.Close found) → Closes o (Some found) (Ok next-is.Capsules)
 good_closes None found h = absurd (cc h)
-good_closes (Some capsule) found h = one_closes (close_in capsule.1) found h
+good_closes (Some (CloseWebTransportSession, value)) found h = one_closes (close_in value) found h
 
 pub closes_close : (bytes : List ℕ) (found : CloseReason) → Judges (capsule_in bytes) (closing-is.Close found) → Closes (capsule_in bytes) (Some found) (Ok next-is.Capsules)
 closes_close bytes found h = good_closes (capsule_in bytes) found h
@@ -47,7 +48,7 @@ no_closes o code after (none, same) stops = rw none (refl, rw same at stops)
 
 bad_closes : (o : Option (CapsuleKind × List ℕ)) (code : ErrorCode) (after : Then) → Judges o (closing-is.Bad code) → StopsWith code after → Closes o None after
 bad_closes None code after h stops = absurd (cc h)
-bad_closes (Some capsule) code after h stops = no_closes (close_in capsule.1) code after h stops
+bad_closes (Some (CloseWebTransportSession, value)) code after h stops = no_closes (close_in value) code after h stops
 
 pub closes_bad : (bytes : List ℕ) (code : ErrorCode) (after : Then) → Judges (capsule_in bytes) (closing-is.Bad code) → StopsWith code after → Closes (capsule_in bytes) None after
 closes_bad bytes code after h stops = bad_closes (capsule_in bytes) code after h stops

@@ -16,6 +16,7 @@ use Rattle.wtp_core.specs.declared.error.ErrorCode.TheVariants as code-is
 use Rattle.wtp_wire.specs.declared.frame.kind.FrameKind.{FrameKind}
 use Rattle.wtp_wire.specs.declared.frame.kind.FrameKind.TheVariants as kind-is
 use Rattle.wtp_wire.specs.declared.capsule.CapsuleKind.{CapsuleKind}
+use Rattle.wtp_wire.specs.declared.capsule.CapsuleKind.TheVariants.{CloseWebTransportSession}
 use Rattle.wtp_wire.specs.declared.stream_header.StreamKind.{StreamKind}
 use Rattle.wtp_wire.specs.declared.stream_header.StreamKind.TheVariants as stream-is
 use Rattle.wtp_wire.specs.declared.rules.StreamRole.{StreamRole}
@@ -215,9 +216,13 @@ IsClosing (Some close) (Some found) after =
 IsClosing (Some close) None after = ⊥
 IsClosing None found after = (found ≡ None) × StopsWith code-is.Datagram after
 
+-- what a capsule of this kind with this value has, and whether the reading goes on after it
+abbrev pub ClosesBy : CapsuleKind → List ℕ → Option CloseReason → Then → Type 0
+ClosesBy CloseWebTransportSession value found after = IsClosing (close_in value) found after
+
 -- the same of a capsule that may be of another type
 abbrev pub Closes : Option (CapsuleKind × List ℕ) → Option CloseReason → Then → Type 0
-Closes (Some capsule) found after = IsClosing (close_in capsule.1) found after
+Closes (Some capsule) found after = ClosesBy capsule.0 capsule.1 found after
 Closes None found after = (found ≡ None) × (after ≡ Ok next-is.Capsules)
 
 -- a capsule, of which len bytes are there

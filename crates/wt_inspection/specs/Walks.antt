@@ -2,6 +2,7 @@
 use Rattle.std.specs.Prelude.{◌≡◌, ℕ, ◌+◌, ◌<◌, ◌≤◌, List, [], ◌++◌, length, nat_lt, Bool, false, Option, Some, None, Ok, Err}
 use Rattle.wtp_core.specs.declared.error.ErrorCode.TheVariants.{Datagram}
 use Rattle.wtp_wire.specs.declared.capsule.CapsuleKind.{CapsuleKind}
+use Rattle.wtp_wire.specs.declared.capsule.CapsuleKind.TheVariants.{CloseWebTransportSession}
 use Rattle.wtp_wire.specs.CapsuleFront.{capsule_front, longest_value}
 use Rattle.wtp_wire.specs.Capsule.{capsule_kind_of}
 use Rattle.wtp_wire.specs.CloseSession.{close_in}
@@ -64,15 +65,19 @@ Turned turn-is.More walk bytes = Holds walk bytes
 Turned (turn-is.Done item) walk bytes = IsWhole bytes item × Holds walk []
 Turned (turn-is.Fault fault) walk bytes = IsBad bytes fault
 
--- what a complete capsule of a known kind is
+-- what a complete capsule that closes its session is
 abbrev pub JudgesClose : Option (ℕ × List ℕ) → Closing → Type 0
 JudgesClose found closing-is.Other = ⊥
 JudgesClose found (closing-is.Close reason) = Says found (Some reason)
 JudgesClose found (closing-is.Bad code) = (found ≡ None) × (code ≡ Datagram)
 
+-- what a complete capsule of this kind with this value is
+abbrev pub JudgesBy : CapsuleKind → List ℕ → Closing → Type 0
+JudgesBy CloseWebTransportSession value closing = JudgesClose (close_in value) closing
+
 -- the same of a capsule that may be of another type
 abbrev pub Judges : Option (CapsuleKind × List ℕ) → Closing → Type 0
-Judges (Some capsule) closing = JudgesClose (close_in capsule.1) closing
+Judges (Some capsule) closing = JudgesBy capsule.0 capsule.1 closing
 Judges None closing = closing ≡ closing-is.Other
 
 -- ---- a piece of data

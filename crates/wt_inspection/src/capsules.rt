@@ -1,10 +1,10 @@
 //! Capsules (RFC 9297, section 3.2).
-ghost use Rattle.std.specs.Prelude.{◌≡◌, ◌≢◌, ◌+◌, ◌≤◌, ◌<◌, ◌^◌, ◌++◌, ℕ, List, [], IsSome, true, false, Some, None, IfOk, MatchOption, length, string_bytes};
+ghost use Rattle.std.specs.Prelude.{◌≡◌, ◌≢◌, ◌+◌, ◌%◌, ◌==◌, ◌≤◌, ◌<◌, ◌^◌, ◌++◌, ℕ, List, [], IsSome, true, false, Some, None, IfOk, MatchOption, length, string_bytes};
 ghost use Rattle.wtp_wire.specs.Capsule.{capsule_in, capsule_kind_of};
 ghost use Rattle.wtp_wire.specs.CloseSession.{close_in};
 ghost use Rattle.wt_inspection.specs.Pair.{pair_at};
 ghost use Rattle.wt_inspection.specs.Recording.{Closes, IsNext};
-ghost use Rattle.wt_inspection.specs.Walks.{Fits, Holds, JudgesClose, Judges, Keeps, TakesPiece, Turned, is_too_long};
+ghost use Rattle.wt_inspection.specs.Walks.{Fits, Holds, JudgesBy, JudgesClose, Judges, Keeps, TakesPiece, Turned, is_too_long};
 
 use crate::numbers::{Pair, first_pair, missing_of_pair};
 use crate::reading::{Next, Reading, Step, cut, fault, fault_at};
@@ -14,7 +14,7 @@ use wt_items::item::{CapsuleItem, CloseReason, Content, Cut, End, Fault};
 use wtp_core::error::{ErrorCode, Refused};
 use wtp_core::varint::VarInt;
 use wtp_wire::capsule::capsules::CloseWebTransportSession;
-use wtp_wire::capsule::{Capsule, CapsuleKind, capsule_types};
+use wtp_wire::capsule::{Capsule, CapsuleKind};
 use wtp_wire::frame::Frame;
 
 /// Reads the capsules of pieces of data, cut anywhere.
@@ -239,23 +239,12 @@ impl CapsuleWalk {
 const BAD_CLOSE: &str = "a close capsule is a code and a text of at most 1024 bytes \
                          (draft-ietf-webtrans-http3-02, section 5)";
 
-/// Returns the kind of this type, if it has one.
-fn kind_of(number: VarInt) -> Option<CapsuleKind>
-    ensures { result ≡ capsule_kind_of number }
-{
-    if number == capsule_types::CAPSULE_TYPE_CLOSE_WEBTRANSPORT_SESSION {
-        Some(CapsuleKind::CloseWebTransportSession)
-    } else {
-        None
-    }
-}
-
 /// Returns the length of the value of a capsule, or `None` if it is too long.
 fn due_of(number: VarInt, length: VarInt) -> Option<u64>
     ensures { MatchOption result (is_too_long (capsule_kind_of number) length ≡ true)
         (λ due. (due ≡ length) × (is_too_long (capsule_kind_of number) length ≡ false)) }
 {
-    match kind_of(number) {
+    match CapsuleKind::parse(number) {
         Some(kind) if length.into_inner() > kind.longest_value() as u64 => None,
         Some(_) => Some(length.into_inner()),
         None => Some(length.into_inner()),
@@ -267,7 +256,7 @@ fn kept_of(number: VarInt, front: &[u8]) -> &[u8]
     ensures all { IsSome (capsule_kind_of number) → result.now ≡ front.now }
     ensures none { capsule_kind_of number ≡ None → result.now ≡ [] }
 {
-    match kind_of(number) {
+    match CapsuleKind::parse(number) {
         Some(_) => front,
         None => &[],
     }
@@ -307,18 +296,22 @@ fn reason_of(alloc: Global, close: &CloseWebTransportSession) -> Result<CloseRea
     })
 }
 
-/// Returns the name of a capsule's type. Those of the form 0x29 * n + 0x17 are reserved (RFC 9297,
-/// section 5.4).
+/// Returns the name of a capsule's type.
 fn name_of(number: VarInt) -> &'static str {
-    if number == capsule_types::CAPSULE_TYPE_CLOSE_WEBTRANSPORT_SESSION {
-        "CLOSE_WEBTRANSPORT_SESSION"
-    } else if number.into_inner() == 0 {
-        "DATAGRAM"
-    } else if number.into_inner() % 0x29 == 0x17 {
-        "reserved"
-    } else {
-        "unknown"
+    match CapsuleKind::parse(number) {
+        Some(CapsuleKind::CloseWebTransportSession) => "CLOSE_WEBTRANSPORT_SESSION",
+        None if number.into_inner() == 0 => "DATAGRAM",
+        None if is_reserved(number) => "reserved",
+        None => "unknown",
     }
+}
+
+/// Returns whether a capsule's type is `0x29 * n + 0x17` for a number `n`. Those are reserved to
+/// exercise the requirement to ignore unknown ones (RFC 9297, section 5.4).
+fn is_reserved(number: VarInt) -> bool
+    ensures { result ≡ ((number % 0x29) == 0x17) }
+{
+    number.into_inner() % 0x29 == 0x17
 }
 
 /// Returns the next capsule of bytes that are capsules.
@@ -376,7 +369,7 @@ fn closing_if(alloc: Global, number: VarInt, bytes: &[u8]) -> Result<Closing, Al
     ensures known { IfOk result (λ closing. IsSome (capsule_kind_of number)
         → length bytes.now < 2 ^ 62 → Judges (capsule_in bytes.now) closing) }
 {
-    if kind_of(number).is_none() {
+    if CapsuleKind::parse(number).is_none() {
         return Ok(Closing::Other);
     }
     closing_of(alloc, bytes)
@@ -395,11 +388,21 @@ fn closing_of(alloc: Global, bytes: &[u8]) -> Result<Closing, AllocError>
     let Some(capsule) = Capsule::with_frame(&frame) else {
         return Ok(Closing::Other);
     };
-    closing_in(alloc, &capsule)
+    closing_by(alloc, &capsule)
+}
+
+/// Returns what a capsule says of its session, by its kind.
+fn closing_by(alloc: Global, capsule: &Capsule<'_>) -> Result<Closing, AllocError>
+    ensures { IfOk result (λ closing. JudgesBy capsule.now.0 capsule.now.1 closing) }
+{
+    match capsule.kind() {
+        CapsuleKind::CloseWebTransportSession => closing_in(alloc, capsule),
+    }
 }
 
 /// Returns what a close capsule says of its session.
 fn closing_in(alloc: Global, capsule: &Capsule<'_>) -> Result<Closing, AllocError>
+    requires { capsule.now.0 ≡ CapsuleKind.CloseWebTransportSession }
     ensures { IfOk result (λ closing. JudgesClose (close_in capsule.now.1) closing) }
 {
     match CloseWebTransportSession::with_capsule(alloc, capsule) {

@@ -2,8 +2,8 @@
 ghost use Rattle.std.specs.Prelude.{◌≡◌, ◌≤◌, ◌<◌, IfSome, Some, None, MatchOption, length, drop};
 ghost use Rattle.wt_inspection.specs.Pair.{pair_at};
 
-use wtp_core::bytes::get::varint_need;
 use wtp_core::varint::{VarInt, first_varint};
+use wtp_wire::head::missing_bytes;
 
 /// Two numbers, one after the other.
 #[derive(Clone, Copy)]
@@ -35,7 +35,5 @@ pub(crate) fn first_pair(bytes: &[u8]) -> Option<Pair>
 
 /// Returns how many bytes are missing at least until both numbers are complete.
 pub(crate) fn missing_of_pair(bytes: &[u8]) -> u64 {
-    let first = varint_need(bytes);
-    let need = first + varint_need(bytes.get(first..).unwrap_or(&[]));
-    need.saturating_sub(bytes.len()) as u64
+    missing_bytes(bytes) as u64
 }

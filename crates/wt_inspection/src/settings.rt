@@ -12,9 +12,8 @@ use std::borrow::CowSlice;
 use std::collections::BTreeSet;
 use wt_items::item::{End, SettingFlag, SettingLine};
 use wtp_core::error::{ErrorCode, Refused};
-use wtp_core::varint::VarInt;
 use wtp_wire::frame::Frame;
-use wtp_wire::settings::Settings;
+use wtp_wire::settings::{SettingId, Settings};
 
 /// Returns the settings of a payload in their order, up to one that is cut.
 pub(crate) fn read_settings(alloc: Global, bytes: &[u8]) -> Result<Vec<SettingLine>, AllocError>
@@ -40,7 +39,7 @@ fn line_of(pair: Pair, is_new: bool) -> SettingLine
     ensures value { result.value ≡ pair.second }
     ensures flag { result.flag ≡ flag_of (is_reserved pair.number) (not is_new) }
 {
-    let flag = if is_reserved(pair.number) {
+    let flag = if SettingId::is_reserved(pair.number) {
         Some(SettingFlag::Reserved)
     } else if is_new {
         None
@@ -52,14 +51,6 @@ fn line_of(pair: Pair, is_new: bool) -> SettingLine
         value: pair.second.into_inner(),
         flag,
     }
-}
-
-/// Returns whether an identifier is one of HTTP/2 that must not be sent (RFC 9114, section
-/// 7.2.4.1).
-fn is_reserved(id: VarInt) -> bool
-    ensures { result ≡ is_reserved id }
-{
-    matches!(id.into_inner(), 0x00 | 0x02..=0x05)
 }
 
 /// Returns what follows settings: these bytes, or the end of the reading if they have a fault.
