@@ -31,7 +31,10 @@ DIFFER = re.compile(
     r".*?and the other has `([^`]*)` \(found\)"
 )
 # Both types whole, where the prover does not say in which term they differ.
-TYPES = re.compile(r"apart from the names of bound variables expected type `([^`]*)` but this has type `([^`]*)`")
+TYPES = re.compile(
+    r"apart from the names of bound variables expected type `([^`]*)` but this has type `([^`]*)`"
+    r"|computed as far as they go, the two types are `([^`]*)` \(expected\) and `([^`]*)` \(found\)"
+)
 FAILS_AT = re.compile(r"the goal fails, at `")
 # The path of a value among those that the steps of a body give, as `c.get_bytes.new.self`; its first part is the step.
 OF_STEP = re.compile(r"c\.([^\s.()]+)(?:\.[^\s()]+)*")
@@ -50,8 +53,24 @@ class Refusal:
     is_by_goal: bool
     gone: str = ""
 
+    @property
+    def is_false(self):
+        """Returns whether the prover found values at which the goal is false."""
+        return "the facts known there allow values" in self.words
+
     def __str__(self):
         return f"{self.path}:{self.line}: {self.words[:200]}"
+
+
+def sort_of(goal):
+    """Returns what a goal asks wherever it comes up: `returns` and `clause-rest` of `returns-in-Some-clause-rest`."""
+    place, _, clause = goal.partition("-clause-")
+    return re.split(r"-(?:in|then|else|after)[-_]", place)[0], clause, place.endswith("-preserved")
+
+
+def may_be(goal, gone):
+    """Returns whether a goal may be one of those that are gone, under another name."""
+    return any(sort_of(goal) == sort_of(other) for other in gone)
 
 
 def differ_in_a_name(expected, found):
@@ -70,9 +89,10 @@ def is_by_goal(words):
         # (the last is of the types as far as they can be computed)
         return not differ_in_a_name(*differ[-1])
     if types := TYPES.search(words):
-        expected, found = (re.findall(r"[^\s()]+", side) for side in types.groups())
+        expected, found = (re.findall(r"[^\s()]+", side) for side in types.groups() if side is not None)
         differ = [pair for pair in zip(expected, found) if pair[0] != pair[1]]
-        return len(expected) == len(found) and any(not differ_in_a_name(*pair) for pair in differ)
+        is_whole = len(expected) == len(found) and "…" not in types[0]
+        return is_whole and any(not differ_in_a_name(*pair) for pair in differ)
     return bool(FAILS_AT.search(words))
 
 

@@ -2,7 +2,7 @@
 
 import unittest
 
-from refusals import refusals
+from refusals import may_be, refusals
 
 ANSWERS = "./proofs/frame/Frame/read/Answers.antt:5:38: "
 
@@ -37,6 +37,7 @@ class Refusals(unittest.TestCase):
         )
         self.check(said, True)
         self.assertEqual(self.only(said).goal, "returns-in-UnknownFrame")
+        self.assertTrue(self.only(said).is_false)
 
     def test_the_result_of_another_call(self):
         self.check(self.differ("c.get_bytes", "c.get_varint"), False)
@@ -60,6 +61,12 @@ class Refusals(unittest.TestCase):
         self.check(ANSWERS + words + types.format("a", "2"), True)
         self.check(ANSWERS + words + types.format("b", "0"), False)
 
+    def test_a_table_that_does_not_compute(self):
+        words = "error: `all_short`: expected type `all 254 ≡ true`, but this has type `all 254 ≡ all 254`"
+        types = "\n  computed as far as they go, the two types are `{}` (expected) and `{}` (found)\n"
+        self.check(ANSWERS + words + types.format("Path Bool false true", "Path Bool false false"), True)
+        self.check(ANSWERS + words + types.format("IsPart [] (c.be…[2243 bytes]….now)", "IsPart [] (c.a)"), False)
+
     def test_a_term_that_is_cut_short(self):
         self.check(self.differ("{T = Content} …[276 bytes]… c.before.len.result", "0"), False)
 
@@ -70,6 +77,13 @@ class Refusals(unittest.TestCase):
         )
         self.check(said, False)
         self.assertEqual(self.only(said).gone, "returns-then-self-gt0")
+
+    def test_a_goal_under_another_name(self):
+        self.assertTrue(may_be("returns-then-self-gt1", {"returns-then-self-gt0"}))
+        self.assertTrue(may_be("returns-in-Some-clause-rest", {"returns-in_default-clause-rest"}))
+        self.assertFalse(may_be("returns-in-Some-clause-rest", {"returns-in-Some-clause-kept"}))
+        self.assertFalse(may_be("returns-in-Err", {"frames-preserved"}))
+        self.assertFalse(may_be("returns-in-Err", set()))
 
     def test_a_field_that_is_gone(self):
         self.check(f"{ANSWERS}error: `returns`: record `View.In-Start` has no field `find`\n", False)
