@@ -2,7 +2,10 @@
    bidirectional stream: writes the response to standard output, and what it read to standard error.
      printf '...' | answer | od -An -tx1 */
 #include <stdio.h>
+#include <string.h>
 #include <wtransport.h>
+
+static const char chat[] = "/chat";
 
 static int respond(unsigned status) {
   uint8_t out[64];
@@ -36,6 +39,7 @@ int main(void) {
   }
   fprintf(stderr, "host %.*s, path %.*s\n", (int)authority, (const char *)texts,
           (int)(used - authority), (const char *)texts + authority);
-  /* "/chat" is there, and nothing else */
-  return respond(used - authority == 5 && texts[authority + 1] == 'c' ? 200 : 404);
+  /* /chat exists, and nothing else */
+  size = used - authority;
+  return respond(size == strlen(chat) && memcmp(texts + authority, chat, size) == 0 ? 200 : 404);
 }

@@ -107,12 +107,12 @@ enum {
                             response: DATA, HEADERS. The reader of these can go on instead */
 };
 
-/* All that reading the frames of a stream remembers between two calls. wt_reader_new makes one, and
-   wt_read_frame changes it; any other is refused. */
+/* Frame-reader state for one stream. Initialise it with wt_reader_new; wt_read_frame updates it. A value
+   out of these ranges is rejected with WT_INVALID. */
 typedef struct wt_reader {
   uint8_t kind;  /* one of WT_READ_.. */
   uint8_t first; /* 1 if the next frame would be the first, otherwise 0 */
-  uint64_t due;  /* payload bytes of an unknown frame that are still to be skipped */
+  uint64_t due;  /* payload bytes of an unknown frame that are still to be skipped, fewer than 2^62 */
 } wt_reader;
 
 /* A frame. Its payload is `length` bytes from bytes[offset] on, of the bytes given to the call that
@@ -138,16 +138,17 @@ int wt_reader_new(uint8_t kind, wt_reader *reader);
    given again, with more bytes after them.
    WT_FAULT: *code is 0x105 for a frame that the stream does not allow, 0x106 for a WebTransport frame
    that is not the first of a stream that the peer opened, 0x108 for an invalid session ID, or 0x107 for
-   a payload above 4096 bytes; *consumed is 0, and the reader stays.
-   WT_INVALID: *reader is not a reader.
+   a payload above 4096 bytes; *consumed is 0, and *reader is unchanged.
+   WT_INVALID: *reader is not valid, as its comment says.
    However a stream is cut into pieces, its frames and its first fault are the same. After a
    WebTransport frame all bytes are the application's: do not call this for them. */
 int wt_read_frame(wt_reader *reader, const uint8_t *bytes, size_t length, size_t *consumed,
                   wt_frame *frame, uint64_t *code);
 
-/* Tells what it means that the stream ends here, with these bytes left over: those after the first
+/* Call this when the stream ends, with the bytes that have not been consumed: those after the first
    *consumed of the last WT_MORE, or none.
-   WT_OK: it may. WT_FAULT: a frame has begun; *code is 0x106. WT_INVALID: *reader is not a reader. */
+   WT_OK: the stream may end here. WT_FAULT: a frame has begun; *code is 0x106. WT_INVALID: *reader is
+   not valid. */
 int wt_read_end(const wt_reader *reader, const uint8_t *rest, size_t length, uint64_t *code);
 
 /* ---- Frames that are written (RFC 9114, section 7) ---- */
@@ -214,7 +215,8 @@ typedef struct wt_field {
 /* Reads a field section, the payload of a HEADERS frame: its lines in their order, with repeated
    names, as bytes that need not be UTF-8. It allocates for Huffman text, at most once or twice for a
    section.
-   WT_OK: the lines are the first *count, and their texts the first *used bytes of `texts`.
+   WT_OK: the lines are the first *count, and their texts the first *used bytes of `texts`. What is after
+   these does not change.
    WT_ROOM: an array is too short; *count and *used are the room that is needed.
    WT_FAULT: *code is 0x200. WT_MEMORY.
    If it does not return WT_OK, the contents of both arrays are unspecified. */
@@ -312,7 +314,7 @@ typedef struct wt_capsule {
    WT_OK: *capsule is the next capsule. The next call begins after the first *consumed bytes.
    WT_MORE: there is no complete capsule. The bytes after the first *consumed, at most 1043, are to be
    given again, with those of the next payload after them.
-   WT_FAULT: *code is 0x33 for a value above 1028 bytes; *consumed is 0, and the reader stays.
+   WT_FAULT: *code is 0x33 for a value above 1028 bytes; *consumed is 0, and *reader is unchanged.
    However the bytes are cut into payloads and pieces, the capsules and the fault are the same. */
 int wt_capsule_read(wt_capsule_reader *reader, const uint8_t *bytes, size_t length, size_t *consumed,
                     wt_capsule *capsule, uint64_t *code);

@@ -91,7 +91,8 @@ static void test_ends(void) {
 }
 
 void test_reader(void) {
-  wt_reader kind4 = {4, 0, 0}, first2 = {0, 2, 0}, far = {0, 0, UINT64_MAX};
+  wt_reader kind4 = {4, 0, 0}, first2 = {0, 2, 0}, far = {0, 0, UINT64_MAX},
+            above = {0, 0, 1ull << 62}, last = {0, 0, (1ull << 62) - 1};
   wt_frame frame;
   size_t consumed;
   uint64_t code = 99;
@@ -100,6 +101,8 @@ void test_reader(void) {
   CHECK(wt_reader_new(4, &first2) == WT_INVALID && first2.first == 2);
   refused(kind4);
   refused(first2);
+  refused(far);
+  refused(above);
   /* DATA on a control stream, SETTINGS on a request's: table 1 of RFC 9114 */
   faulty(WT_READ_CONTROL, 1, "\x00\x00", 2, 0x105);
   faulty(WT_READ_BI_REMOTE, 1, "\x04\x00", 2, 0x105);
@@ -116,6 +119,6 @@ void test_reader(void) {
     CHECK(frame.type == WT_FRAME_WEBTRANSPORT && frame.session == 4 && frame.length == 0);
     free(bytes);
   }
-  CHECK(wt_read_frame(&far, (const uint8_t *)"abc", 3, &consumed, &frame, &code) == WT_MORE);
-  CHECK(consumed == 3 && far.due == UINT64_MAX - 3 && code == 99);
+  CHECK(wt_read_frame(&last, (const uint8_t *)"abc", 3, &consumed, &frame, &code) == WT_MORE);
+  CHECK(consumed == 3 && last.due == (1ull << 62) - 4 && code == 99);
 }

@@ -1,16 +1,16 @@
 -- Field lines that are put into arrays one after the other.
 use Rattle.std.proofs.Common.{◌≡◌, ℕ, zero, suc, ◌+◌, ◌-◌, ◌^◌, ◌<◌, ◌≤◌, inl, inr, List, [], ◌∷◌}
 use Rattle.std.proofs.Common.{◌++◌, map, length, take, drop, refl, sym, ap, ◌∙◌, arith}
-use Rattle.std.proofs.Common.{length-append, slice_set, Ok, nat_lt}
+use Rattle.std.proofs.Common.{length-append, append_assoc, slice_set, Ok, nat_lt}
 use Rattle.std.proofs.lemmas.Bool.{cases_lt, lt-ltb, le-ltb}
-use Rattle.std.proofs.lemmas.List.{take_more_set, length-set}
+use Rattle.std.proofs.lemmas.List.{take_more_set, length-set, drop-set-lt, drop-drop, drop_at}
 use Rattle.wtp_fields.specs.Field.{Field}
 use Rattle.wtp_fields.specs.FieldLines.{octet_line_at, AreOctetLines}
 use Rattle.wt_c.specs.Fields.{field_in, IsWithin, AreWithin, texts_size, HoldLines, capped}
 use Rattle.wt_c.specs.Fields.{place_of, LinePut}
 use Rattle.wt_c.specs.declared.fields.WtField.{WtField}
 
--- ---- one more
+-- ---- parts of a list
 
 part_is : (off len k : ℕ) (a b : List ℕ) → off + len ≤ k → take k a ≡ take k b → take len (drop off a) ≡ take len (drop off b)
 part_is off len k a b l e = sym (inner off len k a l) ∙ ap (λ (s : List ℕ). take len (drop off s)) e ∙ inner off len k b l
@@ -26,6 +26,46 @@ part_is off len k a b l e = sym (inner off len k a l) ∙ ap (λ (s : List ℕ).
     inner (suc off) len zero a l = absurd (omega arith)
     inner (suc off) len (suc k) [] l = refl
     inner (suc off) len (suc k) (x ∷ a) l = inner off len k a (omega arith)
+
+-- ---- one text
+
+pub text_after : (at : ℕ) (out front room text copied tail : List ℕ) → length front ≡ at → room ≡ drop at out → copied ≡ text → tail ≡ drop (length text) room
+    → drop (at + length text) (front ++ (copied ++ tail)) ≡ drop (at + length text) out
+text_after at out front room text copied tail f r t e =
+    ap (λ (s : List ℕ). drop (at + length text) (front ++ (s ++ tail))) t
+    ∙ ap (λ (s : List ℕ). drop (at + length text) s) (sym (append_assoc front text tail))
+    ∙ drop_at (front ++ text) tail (at + length text) (length-append front text ∙ ap (λ (n : ℕ). n + length text) f)
+    ∙ e ∙ ap (λ (s : List ℕ). drop (length text) s) r ∙ drop-drop (length text) at out
+
+-- what is the same from n on is the same from there on too
+pub later : {A : Type 0} → (n k : ℕ) (a b : List A) → drop n a ≡ drop n b → drop (n + k) a ≡ drop (n + k) b
+later {A} n k a b e = sym (drop-drop k n a) ∙ ap (λ (s : List A). drop k s) e ∙ drop-drop k n b
+
+pub record PutsText (out new : List ℕ) (at : ℕ) (text : List ℕ) : Type 0 where
+  pub front : take at new ≡ take at out
+  pub text_is : take (length text) (drop at new) ≡ text
+  pub after : drop (at + length text) new ≡ drop (at + length text) out
+
+-- this text was put after the first `at` bytes
+pub put_is : (out new : List ℕ) (at : ℕ) (text : List ℕ) → take at new ≡ take at out → take (length text) (drop at new) ≡ text → drop (at + length text) new ≡ drop (at + length text) out → PutsText out new at text
+put_is out new at text f t a = record { front = f; text_is = t; after = a }
+
+-- a name was put into the texts, and after it a value
+pub line_put : (old : List WtField) (out mid new : List ℕ) (n at to : ℕ) (name value : List ℕ)
+    → to ≡ at + length name → PutsText out mid at name → PutsText mid new to value
+    → LinePut old out n at name value (slice_set old n (record { name_offset = at; name_len = length name; value_offset = to; value_len = length value })) new
+line_put old out mid new n at to name value e one two =
+    let front : take (at + length name) new ≡ take (at + length name) mid = rw e at two.front in
+    let after : drop ((at + length name) + length value) new ≡ drop ((at + length name) + length value) mid = rw e at two.after in
+    record {
+      fields_are = rw e refl;
+      front = part_is 0 at (at + length name) new mid (omega arith) front ∙ one.front;
+      name_is = part_is at (length name) (at + length name) new mid (omega arith) front ∙ one.text_is;
+      value_is = rw e at two.text_is;
+      after = after ∙ later (at + length name) (length value) mid out one.after;
+    }
+
+-- ---- one more
 
 same_fields : (ws : List WtField) (at : ℕ) (a b : List ℕ) → take at a ≡ take at b → AreWithin at ws → map (λ w. field_in a w) ws ≡ map (λ w. field_in b w) ws
 same_fields [] at a b e h = refl
@@ -46,11 +86,11 @@ size_more : (lines : List Field) (line : Field) → texts_size (lines ++ line �
 size_more [] line = omega arith
 size_more (first ∷ lines) line = let e = size_more lines line in omega (arith, e)
 
-hold_more : (fields new : List WtField) (old texts : List ℕ) (n at to : ℕ) (name value : List ℕ) (lines : List Field)
-    → HoldLines fields old n at lines → n < length fields → to ≡ (at + length name) + length value → to ≤ length texts
+hold_more : (first : List WtField) (first_texts : List ℕ) (fields new : List WtField) (old texts : List ℕ) (n at to : ℕ) (name value : List ℕ) (lines : List Field)
+    → HoldLines first first_texts fields old n at lines → n < length fields → to ≡ (at + length name) + length value → to ≤ length texts
     → LinePut fields old n at name value new texts
-    → HoldLines new texts (n + 1) to (lines ++ (name, value) ∷ [])
-hold_more fields new old texts n at to name value lines p l to_is room put = rw put.fields_are (record {
+    → HoldLines first first_texts new texts (n + 1) to (lines ++ (name, value) ∷ [])
+hold_more first first_texts fields new old texts n at to name value lines p l to_is room put = rw put.fields_are (record {
   count_is = let c = p.count_is in omega (arith, c, length-append lines ((name, value) ∷ []));
   used_is = let u = p.used_is in omega (arith, u, to_is, size_more lines (name, value));
   room = omega (arith, l, length-set fields n w);
@@ -59,6 +99,9 @@ hold_more fields new old texts n at to name value lines p l to_is room put = rw 
   says = rw taken (map_more texts (take n fields) w
       ∙ ap (λ (r : List Field). r ++ (field_in texts w ∷ [])) (same_fields (take n fields) at texts old put.front p.within ∙ p.says)
       ∙ ap (λ (f : Field). lines ++ (f ∷ [])) same);
+  fields_after = drop-set-lt (n + 1) fields n w (omega arith) ∙ later {A = WtField} n 1 fields first p.fields_after;
+  texts_after = let more : to ≡ at + (length name + length value) = omega (arith, to_is) in
+      rw (← to_is) at put.after ∙ rw more (later {A = ℕ} at (length name + length value) old first_texts p.texts_after);
 })
   where
     w : WtField
@@ -92,25 +135,25 @@ again n k = elim (cases_lt n (2 ^ 64)) [
   ])
 ]
 
-pub record IsRead (start rest : List ℕ) (fields : List WtField) (texts : List ℕ) (count used : ℕ) : Type 0 where
+pub record IsRead (start rest : List ℕ) (first : List WtField) (first_texts : List ℕ) (fields : List WtField) (texts : List ℕ) (count used : ℕ) : Type 0 where
   pub done : List Field
   pub lines : AreOctetLines start done rest
   pub count_is : count ≡ capped (length done)
   pub used_is : used ≡ capped (texts_size done)
-  pub held : count ≤ length fields → used ≤ length texts → HoldLines fields texts count used done
+  pub held : count ≤ length fields → used ≤ length texts → HoldLines first first_texts fields texts count used done
 
 -- a number of at most m, which is small, is the number that it is capped from
 low_enough : (n m : ℕ) → n ≤ m → m < 2 ^ 63 → capped n ≤ m
 low_enough n m l small = rw (lt-ltb n (2 ^ 64) (omega (arith, l, small))) l
 
-pub read_more : (start rest behind : List ℕ) (fields new : List WtField) (old texts : List ℕ) (count used next end to : ℕ) (name value : List ℕ)
-    → IsRead start rest fields old count used
+pub read_more : (start rest behind : List ℕ) (first : List WtField) (first_texts : List ℕ) (fields new : List WtField) (old texts : List ℕ) (count used next end to : ℕ) (name value : List ℕ)
+    → IsRead start rest first first_texts fields old count used
     → octet_line_at rest ≡ Ok ((name, value), behind)
     → next ≡ capped (count + 1) → end ≡ capped (used + length name) → to ≡ capped (end + length value)
     → length new ≡ length fields → length fields < 2 ^ 63 → length texts ≡ length old → length old < 2 ^ 63
     → (count < length fields → (used + length name) + length value ≤ length old → LinePut fields old count used name value new texts)
-    → IsRead start behind new texts next to
-read_more start rest behind fields new old texts count used next end to name value p o next_is end_is to_is same_room few same_texts small put = record {
+    → IsRead start behind first first_texts new texts next to
+read_more start rest behind first first_texts fields new old texts count used next end to name value p o next_is end_is to_is same_room few same_texts small put = record {
   done = p.done ++ (name, value) ∷ [];
   lines = octets_more start rest behind p.done (name, value) p.lines o;
   count_is = let e : length p.done + 1 ≡ length (p.done ++ (name, value) ∷ []) = omega (arith, length-append p.done ((name, value) ∷ [])) in next_sum ∙ ap capped e;
@@ -126,7 +169,7 @@ read_more start rest behind fields new old texts count used next end to name val
         ∙ ap (λ (k : ℕ). capped (k + length value)) (again (texts_size p.done) (length name))
         ∙ again (texts_size p.done + length name) (length value)
 
-    holds : next ≤ length new → to ≤ length texts → HoldLines new texts next to (p.done ++ (name, value) ∷ [])
+    holds : next ≤ length new → to ≤ length texts → HoldLines first first_texts new texts next to (p.done ++ (name, value) ∷ [])
     holds a b =
         let fit : length new < 2 ^ 63 = omega (arith, same_room, few) in
         let fit_texts : length texts < 2 ^ 63 = omega (arith, same_texts, small) in
@@ -140,4 +183,4 @@ read_more start rest behind fields new old texts count used next end to name val
         let one_more : next ≡ count + 1 = omega (arith, n, c) in
         let old_count : count ≤ length fields = omega (arith, l) in
         let old_used : used ≤ length old = omega (arith, k) in
-        rw one_more (hold_more fields new old texts count used to name value p.done (p.held old_count old_used) l to_end b (put l k))
+        rw one_more (hold_more first first_texts fields new old texts count used to name value p.done (p.held old_count old_used) l to_end b (put l k))

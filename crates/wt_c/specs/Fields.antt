@@ -61,15 +61,18 @@ abbrev pub texts_size : List Field → ℕ
 texts_size [] = 0
 texts_size (line ∷ lines) = (length line.0 + length line.1) + texts_size lines
 
--- the first `count` fields are these lines, and their texts are the first `used` bytes
-pub record HoldLines (fields : List WtField) (texts : List ℕ) (count used : ℕ)
-    (lines : List Field) : Type 0 where
+-- the first `count` fields are these lines, and their texts are the first `used` bytes; both arrays
+-- did not change after these
+pub record HoldLines (old : List WtField) (old_texts : List ℕ) (fields : List WtField)
+    (texts : List ℕ) (count used : ℕ) (lines : List Field) : Type 0 where
   pub count_is : count ≡ length lines
   pub used_is : used ≡ texts_size lines
   pub room : count ≤ length fields
   pub texts_room : used ≤ length texts
   pub within : AreWithin used (take count fields)
   pub says : map (λ w. field_in texts w) (take count fields) ≡ lines
+  pub fields_after : drop count fields ≡ drop count old
+  pub texts_after : drop used texts ≡ drop used old_texts
 
 -- a number of bytes as C has it: the largest that C has, if it is more
 abbrev pub capped : ℕ → ℕ
@@ -99,3 +102,5 @@ pub record LinePut (old : List WtField) (old_texts : List ℕ) (n at : ℕ) (nam
   pub front : take at texts ≡ take at old_texts
   pub name_is : take (length name) (drop at texts) ≡ name
   pub value_is : take (length value) (drop (at + length name) texts) ≡ value
+  pub after : drop ((at + length name) + length value) texts
+      ≡ drop ((at + length name) + length value) old_texts

@@ -1,5 +1,5 @@
 -- Reading frames as C does it: the reader, a frame's place, and what one call did.
-use Rattle.std.specs.Prelude.{◌≡◌, ℕ, ◌-◌, ◌≤◌, ◌==◌, if◌then◌else◌, not, Bool, List, unwrap_or}
+use Rattle.std.specs.Prelude.{◌≡◌, ℕ, ◌-◌, ◌<◌, ◌≤◌, ◌^◌, ◌==◌, if◌then◌else◌, not, Bool, List, unwrap_or}
 use Rattle.wtp_wire.specs.Kind.{frame_type_of}
 use Rattle.wtransport_proto.specs.FrameCursor.{StepIs, RunGoesOn}
 use Rattle.wtp_wire.specs.declared.rules.StreamRole.{StreamRole}
@@ -8,19 +8,22 @@ use Rattle.wtp_wire.specs.declared.rules.StreamRole.TheVariants.{UniRemote, Sess
 use Rattle.wtransport_proto.specs.declared.stream.cursor.FrameCursor.{FrameCursor}
 use Rattle.wtransport_proto.specs.declared.stream.cursor.FramePlace.{FramePlace}
 use Rattle.wtransport_proto.specs.declared.stream.cursor.CursorStep.{CursorStep}
+use Rattle.wt_c.specs.declared.reader.TheConstants.{BI_REMOTE, BI_LOCAL, CONTROL, SESSION}
 use Rattle.wt_c.specs.declared.reader.WtReader.{WtReader}
 use Rattle.wt_c.specs.declared.reader.WtFrame.{WtFrame}
 
--- a reader that wt_reader_new made, or a later state of it; any other is refused
+-- A reader that wt_reader_new made, or a later state of it; any other is rejected. What is still to
+-- be skipped of a payload is less than the largest length (RFC 9114, section 7.1) allows.
 pub record IsReader (r : WtReader) : Type 0 where
-  pub kind : r.kind ≤ 3
+  pub kind : r.kind ≤ SESSION
   pub first : r.first ≤ 1
+  pub due : r.due < 2 ^ 62
 
--- the role of a stream's kind in C, if the kind is at most 3
+-- the role of a stream's kind in C, if it is one
 abbrev pub stream_role : ℕ → StreamRole
 stream_role n =
-    if n == 0 then BiRemote
-    else (if n == 1 then BiLocal else (if n == 2 then UniRemote else Session))
+    if n == BI_REMOTE then BiRemote
+    else (if n == BI_LOCAL then BiLocal else (if n == CONTROL then UniRemote else Session))
 
 abbrev pub is_first : ℕ → Bool
 is_first n = not (n == 0)

@@ -41,6 +41,7 @@ fn put_text(text: &[u8], out: &mut [u8], at: usize) -> Option<usize>
     ensures end { IfSome result (λ end. (end ≡ at + length text.now) × (end ≤ length out.new)) }
     ensures front { take at out.new ≡ take at out.old }
     ensures text { IfSome result (λ end. take (length text.now) (drop at out.new) ≡ text.now) }
+    ensures after { drop (at + length text.now) out.new ≡ drop (at + length text.now) out.old }
     ensures fits { at + length text.now ≤ length out.old → IsSome result }
     ensures room { length out.new ≡ length out.old }
 {
@@ -93,7 +94,7 @@ fn read_lines(
     ensures read { IfOk result (λ sizes. (done : List Field) × AreOctetLines lines.old done []
         × (sizes.0 ≡ capped (length done)) × (sizes.1 ≡ capped (texts_size done))
         × (sizes.0 ≤ length fields.new → sizes.1 ≤ length texts.new
-        → HoldLines fields.new texts.new sizes.0 sizes.1 done)) }
+        → HoldLines fields.old texts.old fields.new texts.new sizes.0 sizes.1 done)) }
     ensures fault { IfErr result (λ e. (done : List Field) × (rest : List ℕ)
         × AreOctetLines lines.old done rest × (0 < length rest)
         × (e ≢ Memory → octet_line_at rest ≡ Err e)
@@ -119,11 +120,12 @@ fn read_lines(
 /// Reads a field section: its lines in their order, with repeated names, as bytes.
 ///
 /// Returns `OK` with the lines: the first `count` of `fields`, whose texts are the first `used`
-/// bytes of `texts`. Returns `ROOM` if an array is too short; `count` and `used` are then the room
-/// that the lines need, and the contents of both arrays are unspecified. Returns `FAULT` with the
-/// code `QPACK_DECOMPRESSION_FAILED` (0x200) for a section with a fault, and `MEMORY` if allocation
-/// failed, which happens only at a line with a Huffman text; `count` and `used` do not change then,
-/// and the contents of both arrays are unspecified.
+/// bytes of `texts`. After these, both arrays do not change. Returns `ROOM` if an array is too
+/// short; `count` and `used` are then the room that the lines need, and the contents of both arrays
+/// are unspecified. Returns `FAULT` with the code `QPACK_DECOMPRESSION_FAILED` (0x200) for a
+/// section with a fault, and `MEMORY` if allocation failed, which happens only at a line with a
+/// Huffman text; `count` and `used` do not change then, and the contents of both arrays are
+/// unspecified.
 #[unsafe(no_mangle)]
 pub extern "C" fn wt_fields_read(
     alloc: Global,
@@ -136,7 +138,7 @@ pub extern "C" fn wt_fields_read(
 ) -> i32
     ensures answers { (result ≡ OK) ⊎ ((result ≡ ROOM) ⊎ ((result ≡ FAULT) ⊎ (result ≡ MEMORY))) }
     ensures lines { result ≡ OK → (lines : List Field) × AreLinesOf section.now lines
-        × HoldLines fields.new texts.new count.new used.new lines }
+        × HoldLines fields.old texts.old fields.new texts.new count.new used.new lines }
     ensures room { result ≡ ROOM → (lines : List Field) × AreLinesOf section.now lines
         × LackRoom fields.old texts.old count.new used.new lines }
     ensures fault { result ≡ FAULT → HasSectionFault section.now × (code.new ≡ 0x200)

@@ -10,19 +10,32 @@ ghost use Rattle.wtransport_proto.specs.declared.stream.cursor.CursorStep.{Curso
 ghost use Rattle.wt_c.specs.Reader.{IsReader, Stepped, c_frame, cursor_of, stream_role};
 
 use crate::answers::{FAULT, INVALID, MORE, OK};
+use wtp_core::varint::VarInt;
 use wtransport_proto::error::ErrorCode;
 use wtransport_proto::stream::{CursorStep, FrameCursor, FramePlace, StreamRole};
 
-/// All that reading the frames of a stream remembers between two calls.
+/// A bidirectional stream that the peer opened.
+pub const BI_REMOTE: u8 = 0;
+
+/// A bidirectional stream that was opened here.
+pub const BI_LOCAL: u8 = 1;
+
+/// The peer's control stream, after its header.
+pub const CONTROL: u8 = 2;
+
+/// The stream of a session, after the request or the response.
+pub const SESSION: u8 = 3;
+
+/// Frame-reader state for one stream. A value that `wt_reader_new` or `wt_read_frame` cannot have
+/// made is rejected.
 #[repr(C)]
 #[derive(Clone, Copy)]
 pub struct WtReader {
-    /// The kind of the stream: 0 for a bidirectional one that the peer opened, 1 for one that was
-    /// opened here, 2 for the peer's control stream after its header, and 3 for a session's.
+    /// The kind of the stream: `BI_REMOTE`, `BI_LOCAL`, `CONTROL` or `SESSION`.
     pub kind: u8,
     /// Whether the next frame would be the first of the stream: 1, or 0.
     pub first: u8,
-    /// How many payload bytes of an unknown frame are still to be skipped.
+    /// How many payload bytes of an unknown frame are still to be skipped: fewer than 2^62.
     pub due: u64,
 }
 
@@ -42,18 +55,19 @@ pub struct WtFrame {
 
 /// Returns the role of a stream's kind, if it is one.
 fn role_of(kind: u8) -> Option<StreamRole>
-    ensures { MatchOption result (3 < kind) (λ role. (kind ≤ 3) × (role ≡ stream_role kind)) }
+    ensures { MatchOption result (SESSION < kind)
+        (λ role. (kind ≤ SESSION) × (role ≡ stream_role kind)) }
 {
     match kind {
-        0 => Some(StreamRole::BiRemote),
-        1 => Some(StreamRole::BiLocal),
-        2 => Some(StreamRole::UniRemote),
-        3 => Some(StreamRole::Session),
+        BI_REMOTE => Some(StreamRole::BiRemote),
+        BI_LOCAL => Some(StreamRole::BiLocal),
+        CONTROL => Some(StreamRole::UniRemote),
+        SESSION => Some(StreamRole::Session),
         _ => None,
     }
 }
 
-/// Returns the cursor of a reader, if it is one.
+/// Returns the cursor of a reader, if the reader is valid.
 fn cursor_of(reader: &WtReader) -> Option<FrameCursor>
     ensures { MatchOption result (¬ (IsReader reader.now))
         (λ cursor. IsReader reader.now × (cursor ≡ cursor_of reader.now)) }
@@ -61,7 +75,7 @@ fn cursor_of(reader: &WtReader) -> Option<FrameCursor>
     let Some(role) = role_of(reader.kind) else {
         return None;
     };
-    if reader.first > 1 {
+    if reader.first > 1 || reader.due > VarInt::MAX.into_inner() {
         return None;
     }
     Some(FrameCursor {
@@ -73,15 +87,15 @@ fn cursor_of(reader: &WtReader) -> Option<FrameCursor>
 
 /// Makes the reader of a stream's first frame.
 ///
-/// Returns `OK`, or `INVALID` if the kind is above 3; then `reader` does not change.
+/// Returns `OK`, or `INVALID` if the kind is above `SESSION`; then `reader` does not change.
 #[unsafe(no_mangle)]
 pub extern "C" fn wt_reader_new(kind: u8, reader: &mut WtReader) -> i32
     ensures answers { (result ≡ OK) ⊎ (result ≡ INVALID) }
-    ensures reader { result ≡ OK → (kind ≤ 3)
+    ensures reader { result ≡ OK → (kind ≤ SESSION)
         × (reader.new ≡ record { kind = kind; first = 1; due = 0 }) }
-    ensures invalid { result ≡ INVALID → (3 < kind) × (reader.new ≡ reader.old) }
+    ensures invalid { result ≡ INVALID → (SESSION < kind) × (reader.new ≡ reader.old) }
 {
-    if kind > 3 {
+    if kind > SESSION {
         return INVALID;
     }
     *reader = WtReader {
@@ -98,8 +112,10 @@ pub extern "C" fn wt_reader_new(kind: u8, reader: &mut WtReader) -> i32
 /// - `OK`: the next frame, which the stream allows. `consumed` is the offset after its payload.
 /// - `MORE`: there is no complete frame. The bytes after the first `consumed` have to be given
 ///   again with more bytes after them; they are at most 4111.
-/// - `FAULT`: the stream has a fault, by its code. The reader does not change, and `consumed` is 0.
-/// - `INVALID`: `reader` is not a reader. Nothing changes.
+/// - `FAULT`: the stream has a fault, whose error code is `code`. The reader does not change, and
+///   `consumed` is 0.
+/// - `INVALID`: `reader` is not valid: its kind is above `SESSION`, `first` above 1, or `due` 2^62 or
+///   more. Nothing changes.
 ///
 /// However the bytes of a stream are cut, the frames and the first fault are the same. `frame`
 /// changes for `OK` alone, and `code` for `FAULT` alone.
@@ -167,11 +183,11 @@ fn frame_at(place: &FramePlace) -> WtFrame
     }
 }
 
-/// Returns what it means that the stream ends here, after `MORE`, with `rest` left over.
+/// Checks that the stream may end here. `rest` is the bytes that were not consumed, after `MORE`.
 ///
 /// Returns `OK` if the stream may end here. Returns `FAULT` with the code `H3_FRAME_ERROR` (0x106)
-/// if a frame has begun (RFC 9114, section 7.1), and `INVALID` if `reader` is not a reader; `code`
-/// changes for `FAULT` alone.
+/// if a frame has begun (RFC 9114, section 7.1), and `INVALID` if `reader` is not valid, as
+/// `wt_read_frame` does; `code` changes for `FAULT` alone.
 #[unsafe(no_mangle)]
 pub extern "C" fn wt_read_end(reader: &WtReader, rest: &[u8], code: &mut u64) -> i32
     ensures answers { (result ≡ OK) ⊎ ((result ≡ FAULT) ⊎ (result ≡ INVALID)) }
