@@ -15,7 +15,7 @@ pub enum ErrorScope {
     /// The connection, which is closed.
     Connection,
     /// The stream or the connection: the standards use the code for both, and the rule that is
-    /// violated says which.
+    /// violated says which; or no rule says what the code ends.
     Either,
 }
 

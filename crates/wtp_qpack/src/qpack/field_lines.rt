@@ -25,7 +25,7 @@ use wtp_huffman::huffman::{self, HuffmanError};
 ///
 /// The private `read_line`, which reads the line, also ensures that the room never shrinks, and
 /// allocates only in that case, to at least that size: at most once for each section. The contract
-/// of `next_line` cannot say so, because its result borrows the room.
+/// of `next_line` does not say so.
 #[derive(Debug, Drop)]
 pub struct FieldRoom {
     texts: Vec<u8>,
