@@ -32,7 +32,9 @@ impl UniAccepting {
     /// - `StreamCreation` after an unknown type, which must not be treated as a connection error
     ///   (RFC 9114, section 6.2);
     /// - `Id` after the WebTransport type and an invalid session ID;
-    /// - `Frame` if the source ended inside the header;
+    /// - `Frame` if the source ended inside the header, which must not end the connection: a
+    ///   unidirectional stream may be closed or reset before its header is complete (RFC 9114,
+    ///   section 6.2);
     /// - or the fault of the source.
     pub fn poll<S: AsyncRead>(
         mut self,

@@ -13,7 +13,7 @@ use wtp_core::ids::SessionId;
 use wtp_wire::frame::{Frame, FrameKind, ParseError};
 use wtp_wire::rules::{StreamRole, fault_of};
 
-/// All that reading the frames of a stream remembers between two calls. Not in the Rust crate.
+/// The state of reading the frames of a stream, between two calls. Not in the Rust crate.
 ///
 /// It holds no bytes: the caller does, and gives those after the ones that were consumed. Each
 /// value is a valid one.
@@ -106,8 +106,7 @@ impl FrameCursor {
     ///   consumed.
     /// - `More(n)`: there is no complete frame. The first `n` bytes are consumed; at most 4111 are
     ///   left, which have to be given again with more bytes after them.
-    /// - `Fault(code)`: `FrameUnexpected` or `Frame` for a frame that is not permitted here, `Id`
-    /// for
+    /// - `Fault(code)`: `FrameUnexpected` or `Frame` for a frame that is not permitted here, `Id` for
     ///   an invalid session ID, `ExcessiveLoad` for a length above 4096. The cursor is unchanged.
     ///
     /// However the bytes of a stream are cut, the frames and the first fault are the same.
@@ -141,8 +140,8 @@ impl FrameCursor {
         }
     }
 
-    /// Returns what it means that the stream ends here, with `rest` left over: after `More(n)`, the
-    /// bytes after the first `n`.
+    /// Checks that the stream may end here, with `rest` left over: after `More(n)`, the bytes after
+    /// the first `n`.
     ///
     /// Returns `Frame` if a frame has begun (RFC 9114, section 7.1).
     #[tactic(auto, using(crate::proofs::CursorStepLemmas::endings))]
