@@ -25,6 +25,14 @@ fault_status ReadFault = 3
 fault_status WriteFault = 3
 fault_status NoMemory = 4
 
+-- the text of a fault
+abbrev pub fault_text : Fault → List ℕ
+fault_text Usage = codes "wt_frames: usage"
+fault_text InputTooLong = codes "wt_frames: input too long"
+fault_text ReadFault = codes "wt_frames: read fault"
+fault_text WriteFault = codes "wt_frames: write fault"
+fault_text NoMemory = codes "wt_frames: no memory"
+
 -- the arguments as texts
 abbrev pub texts_of : List (String Global) → List (List ℕ)
 texts_of arguments = map (λ argument. string_bytes argument) arguments

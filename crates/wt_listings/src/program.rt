@@ -1,9 +1,9 @@
 //! The program: its arguments, its input and output, and its statuses.
 ghost use Rattle.std.specs.Prelude.{◌≡◌, ◌≢◌, ◌≤◌, ◌<◌, ◌⊎◌, length, Err};
-ghost use Rattle.std.specs.Prelude.{IfOk, IfErr, IfSome, OnOk, vec_len};
+ghost use Rattle.std.specs.Prelude.{◌++◌, IfOk, IfErr, IfSome, OnOk, codes, vec_len};
 ghost use Rattle.std.specs.Io.KnownBytes.{Appends, IsAtEnd};
 ghost use Rattle.wt_listings.specs.Listing.{Says};
-ghost use Rattle.wt_listings.specs.Program.{fault_status, texts_of, listing_of, CanList};
+ghost use Rattle.wt_listings.specs.Program.{fault_status, fault_text, texts_of, listing_of, CanList};
 ghost use Rattle.wt_listings.specs.Program.{NamesNone, ListsArguments, ReadsWhole};
 
 mod arguments;
@@ -15,32 +15,49 @@ use crate::listing::stepped::list_stepped;
 pub use arguments::Command;
 use arguments::named_command;
 use std::alloc::{AllocError, Global};
+use std::fmt;
 use std::io::{Read, Write};
 
 /// The greatest number of bytes of input that are listed.
 const MAX_INPUT: usize = 1_048_576;
 
 /// Why there is no listing.
-#[derive(Clone, Copy, Debug, PartialEq, Eq, thiserror::Error)]
+#[derive(Clone, Copy, Debug, PartialEq, Eq)]
 pub enum Fault {
     /// The arguments name no listing.
-    #[error("wt_frames: usage")]
     Usage,
     /// More than 1048576 bytes of input.
-    #[error("wt_frames: input too long")]
     InputTooLong,
     /// Input could not be read.
-    #[error("wt_frames: read fault")]
     ReadFault,
     /// The listing could not be written.
-    #[error("wt_frames: write fault")]
     WriteFault,
     /// Allocation failed.
-    #[error("wt_frames: no memory")]
     NoMemory,
 }
 
+impl fmt::Display for Fault {
+    fn fmt<W: fmt::Write>(&self, f: &mut fmt::Formatter<W>) -> fmt::Result {
+        f.write_str(self.as_str())
+    }
+}
+
+impl std::error::Error for Fault {}
+
 impl Fault {
+    /// The text of the fault, which is one line.
+    pub fn as_str(self) -> &'static str
+        ensures { result.now ≡ fault_text self }
+    {
+        match self {
+            Fault::Usage => "wt_frames: usage",
+            Fault::InputTooLong => "wt_frames: input too long",
+            Fault::ReadFault => "wt_frames: read fault",
+            Fault::WriteFault => "wt_frames: write fault",
+            Fault::NoMemory => "wt_frames: no memory",
+        }
+    }
+
     /// The status with which the program ends.
     pub fn status(self) -> u8
         ensures { result ≡ fault_status self }
@@ -63,9 +80,10 @@ impl Fault {
 ///
 /// The status is that of the listing; 1 for other arguments, before anything is read or written; 3
 /// for more than 1048576 bytes of input, a failed read and a failed write; 4 if allocation fails.
-/// With 1, 3 and 4 one line is written to `errors`, and a fault of that line is ignored. Nothing is
-/// written to `output` before the whole listing is made: with 1 and 4 `output` is unchanged, and
-/// with 3 too unless the listing could not be written, of which it may then contain a part.
+/// With 1, 3 and 4 one line is written to `errors`, and a fault of that line is ignored; with every
+/// other status `errors` is unchanged. Nothing is written to `output` before the whole listing is
+/// made: with 1 and 4 `output` is unchanged, and with 3 too unless the listing could not be written,
+/// of which it may then contain a part.
 pub fn run_program<R: Read, W: Write, E: Write>(
     alloc: Global,
     arguments: &[String],
@@ -87,15 +105,25 @@ pub fn run_program<R: Read, W: Write, E: Write>(
     // written.
     ensures refused { result ≡ 3 → (output.new ≡ output.old)
         ⊎ ReadsWhole (texts_of arguments.now) (R.remaining input.old) (R.remaining input.new) }
+    // Status 0 and 2 come with no line of an error.
+    ensures silent { (result ≡ 0) ⊎ (result ≡ 2) → errors.new ≡ errors.old }
     ensures statuses { result ≤ 4 }
 {
     match try_run(alloc, arguments, input, output) {
         Ok(status) => status,
         Err(fault) => {
-            let _ = writeln!(errors, "{fault}");
+            let _ = report(errors, fault);
             fault.status()
         }
     }
+}
+
+/// Writes the line of a fault.
+fn report<E: Write>(errors: &mut E, fault: Fault) -> std::io::Result<()>
+    ensures { OnOk result (Appends (E.contents errors.old) (E.contents errors.new)
+        (fault_text fault ++ codes "\n")) }
+{
+    writeln!(errors, "{}", fault.as_str())
 }
 
 /// The same, but returns a fault in place of its line and status.
