@@ -27,8 +27,8 @@ IN_PROOF = re.compile(r"error: (?:`([^`]+)`: )?")
 GONE = re.compile(r"has no field|is not in scope|has no `|was not admitted")
 GONE_GOAL = re.compile(r"module `[\w.+-]+\.Goals` has no `([^`]+)`")
 DIFFER = re.compile(
-    r"the two types (?:first )?differ (?:only )?where one has `([^`]*)` \(expected\)"
-    r".*?and the other has `([^`]*)` \(found\)"
+    r"the two (?:types|sides) (?:first )?differ (?:only )?where one has `([^`]*)` \((?:expected|left)\)"
+    r".*?(?:and the other has|and the other) `([^`]*)` \((?:found|right)\)"
 )
 # Both types whole, where the prover does not say in which term they differ.
 TYPES = re.compile(
