@@ -1,4 +1,4 @@
-use Rattle.std.proofs.Common.{arith}
+use Rattle.std.proofs.Common.{◌≡◌, take, arith}
 use Rattle.wtp_qpack.proofs.StringWriting.{encoded_raw, taken_back, written_after}
 use Rattle.wtp_qpack.proofs.qpack.string_literal.write_short.Goals as goal
 
@@ -11,4 +11,5 @@ pub returns : goal.returns
 returns g c =
     let back = taken_back c.len-start.result _ c.args.text.now c.args.out.now.items _ c.append.new.out.items (omega (arith, c.len-start.ensures)) (omega (arith, c.len.ensures)) c.if-size-text.false
     c.in_ok-push.ensures.items c.in_ok-append.ensures.coded in
-    rw (encoded_raw g.row.N c.args.flags c.args.text.now back.1) (rw (c.truncate.ensures.items, back.0) at c.write_plain.ensures)
+    let kept : _ ≡ take c.len-start.result c.append.new.out.items = c.truncate.ensures.items in
+    rw (encoded_raw g.row.N c.args.flags c.args.text.now back.1) (rw (kept, back.0) at c.write_plain.ensures)
