@@ -17,8 +17,11 @@ static int list(const uint8_t *payload, size_t length) {
   if (wt_settings_read(payload, length, settings, 64, &count, &code) != WT_OK) return refuse("settings", code);
   for (size_t i = 0; i < count; i++) {
     char name[64];
-    if (wt_setting_name(settings[i].id, name, sizeof name, &size) != WT_OK) return 1;
-    printf("%.*s %" PRIu64 "\n", (int)size, name, settings[i].value);
+    switch (wt_setting_name(settings[i].id, name, sizeof name, &size)) {
+      case WT_OK: printf("%.*s %" PRIu64 "\n", (int)size, name, settings[i].value); break;
+      case WT_INVALID: printf("0x%" PRIx64 " %" PRIu64 "\n", settings[i].id, settings[i].value); break;
+      default: return 1;
+    }
   }
   return 0;
 }

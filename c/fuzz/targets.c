@@ -155,11 +155,11 @@ static void request_fault(const uint8_t *d, size_t n) {
   int read = wt_request_read(d, n, out, sizeof out, &authority, &used, &other);
   note((uint64_t)answer, (uint64_t)fault);
   if (answer == WT_FAULT) {
-    MUST(fault == -1 && code == 0x200 && read == WT_FAULT && other == 0x200);
+    MUST(fault == -1 && code == WT_QPACK_DECOMPRESSION_FAILED && read == WT_FAULT && other == WT_QPACK_DECOMPRESSION_FAILED);
   } else if (fault == WT_REQUEST_OK) {
     MUST(read == WT_OK || read == WT_ROOM);
   } else {
-    MUST(answer == WT_OK && read == WT_FAULT && other == 0x10e);
+    MUST(answer == WT_OK && read == WT_FAULT && other == WT_H3_MESSAGE_ERROR);
     MUST(wt_request_fault_name(fault, name, sizeof name, &size) == WT_OK && size > 0);
   }
 }

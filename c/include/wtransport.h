@@ -10,7 +10,7 @@
 
    Pointers. A pointer with a length of 0 may be null. Every other pointer points to as many valid
    elements as its length says, or to one. What a call writes overlaps nothing else that it is given.
-   A call breaks these rules at the caller's own risk, as with any C library.
+   Breaking these rules is undefined behaviour.
 
    Answers. A call that returns an int returns 0 or above if it found no fault, and below 0
    otherwise: one of WT_OK to WT_MEMORY below, if its comment names no other numbers. */
@@ -28,12 +28,44 @@ enum {
   WT_FAULT = -1,   /* the input has a fault; *code is its error code */
   WT_ROOM = -2,    /* an output is too short; its size is reported */
   WT_INVALID = -3, /* an argument is out of its range; nothing changed */
-  WT_MEMORY = -4   /* memory allocation failed; the call can be made again */
+  WT_MEMORY = -4   /* memory allocation failed; nothing changed but the arrays of wt_fields_read, and the
+                      call can be made again */
 };
 
 /* Calls that write do so at the start of `out`, which has room for `room` bytes, and change nothing
    after that. `WT_OK`: *used bytes were written. `WT_ROOM`: `out` did not change, and *used is the
    room that is needed; so a call with no room at all is a way to ask for the size. */
+
+/* ---- Error codes ---- */
+
+/* The error codes that are registered for HTTP/3, QPACK, HTTP Datagrams and WebTransport over HTTP/3:
+   what calls report in *code, and what a QUIC library closes a stream or a connection with. Each is
+   WT_ and the name that wt_code_name writes. */
+#define WT_H3_DATAGRAM_ERROR                     UINT64_C(0x33) /* RFC 9297, section 5.2 */
+#define WT_H3_NO_ERROR                           UINT64_C(0x0100) /* RFC 9114, section 8.1 */
+#define WT_H3_GENERAL_PROTOCOL_ERROR             UINT64_C(0x0101)
+#define WT_H3_INTERNAL_ERROR                     UINT64_C(0x0102)
+#define WT_H3_STREAM_CREATION_ERROR              UINT64_C(0x0103)
+#define WT_H3_CLOSED_CRITICAL_STREAM             UINT64_C(0x0104)
+#define WT_H3_FRAME_UNEXPECTED                   UINT64_C(0x0105)
+#define WT_H3_FRAME_ERROR                        UINT64_C(0x0106)
+#define WT_H3_EXCESSIVE_LOAD                     UINT64_C(0x0107)
+#define WT_H3_ID_ERROR                           UINT64_C(0x0108)
+#define WT_H3_SETTINGS_ERROR                     UINT64_C(0x0109)
+#define WT_H3_MISSING_SETTINGS                   UINT64_C(0x010a)
+#define WT_H3_REQUEST_REJECTED                   UINT64_C(0x010b)
+#define WT_H3_REQUEST_CANCELLED                  UINT64_C(0x010c)
+#define WT_H3_REQUEST_INCOMPLETE                 UINT64_C(0x010d)
+#define WT_H3_MESSAGE_ERROR                      UINT64_C(0x010e)
+#define WT_H3_CONNECT_ERROR                      UINT64_C(0x010f)
+#define WT_H3_VERSION_FALLBACK                   UINT64_C(0x0110)
+#define WT_QPACK_DECOMPRESSION_FAILED            UINT64_C(0x0200) /* RFC 9204, section 6 */
+#define WT_QPACK_ENCODER_STREAM_ERROR            UINT64_C(0x0201)
+#define WT_QPACK_DECODER_STREAM_ERROR            UINT64_C(0x0202)
+#define WT_WEBTRANSPORT_BUFFERED_STREAM_REJECTED UINT64_C(0x3994bd84) /* draft-ietf-webtrans-http3-07 */
+#define WT_WEBTRANSPORT_SESSION_GONE             UINT64_C(0x170d7b68)
+#define WT_WT_FLOW_CONTROL_ERROR                 UINT64_C(0x045d4487) /* later drafts */
+#define WT_WT_ALPN_ERROR                         UINT64_C(0x0817b3dd)
 
 /* ---- Numbers: variable-length integers, below 2^62 (RFC 9000, section 16) ---- */
 
@@ -65,12 +97,12 @@ typedef struct wt_stream_header {
 
 /* Reads the header at the start of a stream. After that of a control stream come frames
    (WT_READ_CONTROL), after that of a WebTransport stream the application's bytes, after those of QPACK
-   the instructions for dynamic tables, which this library has not, and what comes after a reserved one
-   is to be ignored.
+   the instructions for the dynamic table, which this library does not implement, and what comes after a
+   reserved one is to be ignored.
    WT_OK: *header is the header, and *consumed its size.
    WT_MORE: there are too few bytes; *consumed is 0.
-   WT_FAULT: *code is 0x103 for an unknown type, after which the stream alone is no longer read, or
-   0x108 for an invalid session ID; *consumed is 0. */
+   WT_FAULT: *code is WT_H3_STREAM_CREATION_ERROR for an unknown type, after which the stream alone is no
+   longer read, or WT_H3_ID_ERROR for an invalid session ID; *consumed is 0. */
 int wt_stream_header_read(const uint8_t *bytes, size_t length, size_t *consumed,
                           wt_stream_header *header, uint64_t *code);
 
@@ -83,7 +115,7 @@ int wt_stream_header_write(const wt_stream_header *header, uint8_t *out, size_t 
 
 /* Reads a QUIC datagram.
    WT_OK: *session is its session, and the payload is all bytes from *offset on.
-   WT_FAULT: *code is 0x33. */
+   WT_FAULT: *code is WT_H3_DATAGRAM_ERROR. */
 int wt_datagram_read(const uint8_t *bytes, size_t length, uint64_t *session, size_t *offset,
                      uint64_t *code);
 
@@ -127,28 +159,29 @@ typedef struct wt_frame {
 /* Makes the reader of a stream. WT_INVALID: the kind is none of WT_READ_... */
 int wt_reader_new(uint8_t kind, wt_reader *reader);
 
-/* Reads the next frame from the bytes after those that were consumed before. Frames of unknown types
-   are skipped, also piece by piece. Those of types reserved for exercise are returned, and are to be
-   ignored (RFC 9114, section 7.2.8). Unknown are all types but those of WT_FRAME_.. and the reserved
-   ones, GOAWAY among them, and those of HTTP/2, which RFC 9114, section 7.2.8, forbids. Which frame may
-   follow which is for the caller to check, as that HEADERS come before DATA, but for a WebTransport
-   frame, which has to be the first: a frame that is skipped does not count, and a reserved one does.
+/* Reads the next frame from the bytes after those that were consumed before. Frames of unknown types are
+   skipped, also piece by piece. Those of types reserved for exercise are returned, and are to be ignored
+   (RFC 9114, section 7.2.8). Unknown are all types but those of WT_FRAME_.. and the reserved ones, GOAWAY
+   among them, and those of HTTP/2, which RFC 9114, section 7.2.8, forbids. Which frame may follow which
+   is for the caller to check, as that HEADERS come before DATA, but for a WebTransport frame, which has
+   to be the first: a frame that is skipped does not count, and a reserved one does.
    WT_OK: *frame is the next frame. The next call begins after the first *consumed bytes.
-   WT_MORE: there is no complete frame. The bytes after the first *consumed, at most 4111, are to be
-   given again, with more bytes after them.
-   WT_FAULT: *code is 0x105 for a frame that the stream does not allow, 0x106 for a WebTransport frame
-   that is not the first of a stream that the peer opened, 0x108 for an invalid session ID, or 0x107 for
-   a payload above 4096 bytes; *consumed is 0, and *reader is unchanged.
-   WT_INVALID: *reader is not valid, as its comment says.
-   However a stream is cut into pieces, its frames and its first fault are the same. After a
-   WebTransport frame all bytes are the application's: do not call this for them. */
+   WT_MORE: there is no complete frame. The bytes after the first *consumed, at most 4111, are to be given
+   again, with more bytes after them.
+   WT_FAULT: *code is WT_H3_FRAME_UNEXPECTED for a frame that the stream does not allow, WT_H3_FRAME_ERROR
+   for a WebTransport frame that is not the first of a stream that the peer opened, WT_H3_ID_ERROR for an
+   invalid session ID, or WT_H3_EXCESSIVE_LOAD for a payload above 4096 bytes; *consumed is 0, and *reader
+   is unchanged.
+   WT_INVALID: *reader is not valid, as its comment says. However a stream is cut into pieces, its frames
+   and its first fault are the same. After a WebTransport frame all bytes are the application's: do not
+   call this for them. */
 int wt_read_frame(wt_reader *reader, const uint8_t *bytes, size_t length, size_t *consumed,
                   wt_frame *frame, uint64_t *code);
 
 /* Call this when the stream ends, with the bytes that have not been consumed: those after the first
    *consumed of the last WT_MORE, or none.
-   WT_OK: the stream may end here. WT_FAULT: a frame has begun; *code is 0x106. WT_INVALID: *reader is
-   not valid. */
+   WT_OK: the stream may end here. WT_FAULT: a frame has begun; *code is WT_H3_FRAME_ERROR. WT_INVALID:
+   *reader is not valid. */
 int wt_read_end(const wt_reader *reader, const uint8_t *rest, size_t length, uint64_t *code);
 
 /* ---- Frames that are written (RFC 9114, section 7) ---- */
@@ -177,25 +210,36 @@ int wt_session_frame_write(uint64_t session, uint8_t *out, size_t room, size_t *
 
 /* ---- Settings (RFC 9114, section 7.2.4) ---- */
 
+/* The settings with a name. A setting of 1 enables what it names, in ENABLE_.. and in H3_DATAGRAM. */
+#define WT_SETTING_QPACK_MAX_TABLE_CAPACITY  UINT64_C(0x01) /* RFC 9204, section 5 */
+#define WT_SETTING_MAX_FIELD_SECTION_SIZE    UINT64_C(0x06) /* RFC 9114, section 7.2.4.1 */
+#define WT_SETTING_QPACK_BLOCKED_STREAMS     UINT64_C(0x07) /* RFC 9204, section 5 */
+#define WT_SETTING_ENABLE_CONNECT_PROTOCOL   UINT64_C(0x08) /* RFC 9220, section 3 */
+#define WT_SETTING_H3_DATAGRAM               UINT64_C(0x33) /* RFC 9297, section 2.1.1 */
+#define WT_SETTING_ENABLE_WEBTRANSPORT       UINT64_C(0x2b603742) /* draft-ietf-webtrans-http3-02 */
+#define WT_SETTING_WEBTRANSPORT_MAX_SESSIONS UINT64_C(0xc671706a) /* draft-ietf-webtrans-http3-07 */
+
 typedef struct wt_setting {
   uint64_t id;
   uint64_t value;
 } wt_setting;
 
-/* Reads the payload of a SETTINGS frame. Unknown identifiers are left out, and those reserved for
-   exercise, 0x21 + 0x1f * n, are not. A value may be any number: whether the setting allows it is for
-   the caller to check. It allocates.
-   WT_OK: the settings are the first *count, in ascending order of their identifiers.
+/* Reads the payload of a SETTINGS frame: all settings in the payload's order. Those with an unknown
+   identifier are to be ignored (RFC 9114, section 7.2.4), and so are those reserved for exercise,
+   0x21 + 0x1f * n. A value may be any number: whether the setting allows it is for the caller to check.
+   It allocates.
+   WT_OK: the settings are the first *count. What is after these in `settings` does not change.
    WT_ROOM: `settings` is too short and did not change; *count is the room that is needed.
-   WT_FAULT: *code is 0x106 if the payload is cut, or 0x109 for an identifier that is repeated or
-   that HTTP/2 used.
+   WT_FAULT: *code is WT_H3_FRAME_ERROR if the payload is cut, or WT_H3_SETTINGS_ERROR for an identifier
+   that HTTP/2 used, or that is repeated and has a name or is reserved for exercise: an unknown one may be
+   repeated.
    WT_MEMORY. WT_INVALID: the payload has 2^62 bytes. */
 int wt_settings_read(const uint8_t *payload, size_t length, wt_setting *settings, size_t room,
                      size_t *count, uint64_t *code);
 
 /* Writes the payload of a SETTINGS frame: the settings in their order. It allocates.
    WT_OK, WT_ROOM: as above. WT_INVALID: a number is 2^62 or more, an identifier is one that HTTP/2
-   used, or one that wt_settings_read does not leave out is repeated. WT_MEMORY. */
+   used, or one that has a name or is reserved for exercise is repeated. WT_MEMORY. */
 int wt_settings_write(const wt_setting *settings, size_t count, uint8_t *out, size_t room,
                       size_t *used);
 
@@ -213,48 +257,50 @@ typedef struct wt_field {
 } wt_field;
 
 /* Reads a field section, the payload of a HEADERS frame: its lines in their order, with repeated
-   names, as bytes that need not be UTF-8. It allocates for Huffman text, at most once or twice for a
-   section.
+   names, as bytes that need not be UTF-8. It allocates for Huffman text.
    WT_OK: the lines are the first *count, and their texts the first *used bytes of `texts`. What is after
    these does not change.
    WT_ROOM: an array is too short; *count and *used are the room that is needed.
-   WT_FAULT: *code is 0x200. WT_MEMORY.
+   WT_FAULT: *code is WT_QPACK_DECOMPRESSION_FAILED. WT_MEMORY.
    If it does not return WT_OK, the contents of both arrays are unspecified. */
 int wt_fields_read(const uint8_t *section, size_t length, wt_field *fields, size_t fields_room,
                    uint8_t *texts, size_t texts_room, size_t *count, size_t *used, uint64_t *code);
 
 /* Writes a field section: the fields in their order, each text in the Huffman code if that is shorter.
-   It allocates.
+   Names and values are written as they are, pseudo-header fields too: that they are allowed in a message
+   (RFC 9114, sections 4.2 and 4.3) is for the caller to check. It allocates.
    WT_OK, WT_ROOM: as above. WT_INVALID: a field is not within the texts or is not UTF-8. WT_MEMORY. */
 int wt_fields_write(const wt_field *fields, size_t count, const uint8_t *texts, size_t texts_length,
                     uint8_t *out, size_t room, size_t *used);
 
 /* ---- Sessions (RFC 9220, section 3; WebTransport over HTTP/3) ---- */
 
-/* Writes the HEADERS frame of the request for the session at a URL, with these fields too. The URL is
-   read as the URL Standard describes: its host is sent in lower case, port 443 and a fragment are not
-   sent. A user name and a password in it are sent in :authority, which RFC 9114, section 4.3.1, forbids.
-   Of fields with the same name the last one alone is written. Names are written as they are: HTTP/3
-   wants them in lower case (RFC 9114, section 4.2). Pseudo-header fields come first, and each group is
-   in the byte order of the names. It allocates.
-   WT_OK, WT_ROOM: as above. WT_INVALID: the URL is not one or its scheme is not https, or a field is
-   not within the texts, is not UTF-8, or has a name that a request sets itself (:method, :scheme,
-   :protocol, :authority, :path). WT_MEMORY. */
+/* Writes the HEADERS frame of the request for the session at a URL: the pseudo-header fields, and then
+   these fields in their order, with repeated names. The URL is read as the URL Standard describes: its
+   host is sent in lower case, port 443 and a fragment are not sent. A user name and a password in it are
+   sent in :authority, which RFC 9114, section 4.3.1, forbids. A value is any bytes, as RFC 9110, section
+   5.5, allows them. It allocates.
+   WT_OK, WT_ROOM: as above. WT_INVALID: the URL is not one, its scheme is not https, or it has 16 MiB or
+   more and would be too long. Or a field is not within the texts; its name is empty, starts with a colon
+   (as a pseudo-header field), has an upper-case letter or is no token; or its value has a control
+   character other than a tab, such as CR, LF or NUL, or starts or ends with a space or a tab.
+   WT_MEMORY. */
 int wt_request_write(const uint8_t *url, size_t url_length, const wt_field *fields, size_t count,
                      const uint8_t *texts, size_t texts_length, uint8_t *out, size_t room,
                      size_t *used);
 
-/* Reads the request in a field section, the payload of a HEADERS frame, and writes its authority and
-   then its path to `out`. wt_fields_read reads all of its fields, the pseudo-header fields too. Of a
-   repeated name, that of a pseudo-header field too, the last value counts. It allocates.
+/* Reads the request in a field section, the payload of a HEADERS frame, and writes its authority and then
+   its path to `out`. wt_fields_read reads all of its fields, the pseudo-header fields too. Names and
+   values are bytes, and need not be UTF-8. Of a repeated name, that of a pseudo-header field too, the
+   last value counts. It allocates.
    WT_OK, WT_ROOM: as above, and *authority is the size of the authority.
-   WT_FAULT: *code is 0x200 for a section with a fault, or 0x10e for one that is not a request.
-   WT_MEMORY. WT_INVALID: the section has 2^62 bytes. */
+   WT_FAULT: *code is WT_QPACK_DECOMPRESSION_FAILED for a section with a fault, or WT_H3_MESSAGE_ERROR for
+   one that is not a request. WT_MEMORY. */
 int wt_request_read(const uint8_t *section, size_t length, uint8_t *out, size_t room,
                     size_t *authority, size_t *used, uint64_t *code);
 
-/* The first fault that the fields of a section have as those of a request. The order is that in which
-   they are looked for (RFC 9114, section 4.3.1; RFC 9220, section 3). */
+/* Why a field section is not the request for a session. The checks run in this order (RFC 9114, section
+   4.3.1; RFC 9220, section 3). */
 enum {
   WT_REQUEST_OK = 0,                        /* no fault: they are those of a request */
   WT_REQUEST_MISSING_METHOD = 1,            /* no :method */
@@ -267,11 +313,11 @@ enum {
   WT_REQUEST_MISSING_PATH = 8               /* no :path */
 };
 
-/* Finds the first fault of a request, so that the code 0x10e of wt_request_read can be explained. It
-   allocates.
+/* Finds the first fault of a request, so that the WT_H3_MESSAGE_ERROR of wt_request_read can be
+   explained. It allocates.
    WT_OK: *fault is one of WT_REQUEST_...
-   WT_FAULT: *code is 0x200 for a section with a fault. WT_MEMORY. WT_INVALID: the section has 2^62
-   bytes. Then *fault does not change. */
+   WT_FAULT: *code is WT_QPACK_DECOMPRESSION_FAILED for a section with a fault. WT_MEMORY. Then *fault
+   does not change. */
 int wt_request_fault(const uint8_t *section, size_t length, int *fault, uint64_t *code);
 
 /* Writes the name of a fault in ASCII, without a final zero, as MissingMethod for
@@ -279,24 +325,25 @@ int wt_request_fault(const uint8_t *section, size_t length, int *fault, uint64_t
    WT_OK, WT_ROOM: as above. WT_INVALID: no fault has this number; WT_REQUEST_OK is none. */
 int wt_request_fault_name(int fault, char *out, size_t room, size_t *used);
 
-/* Writes the HEADERS frame of the response with a status, with these fields too. It allocates.
-   WT_OK, WT_ROOM: as above. WT_INVALID: the status is not from 100 to 599, or a field is not within
-   the texts, is not UTF-8, or is another :status. WT_MEMORY. */
+/* Writes the HEADERS frame of the response with a status: :status, and then these fields in their order,
+   with repeated names, such as set-cookie. It allocates.
+   WT_OK, WT_ROOM: as above. WT_INVALID: the status is not from 100 to 599, or for a field that
+   wt_request_write rejects. WT_MEMORY. */
 int wt_response_write(uint32_t status, const wt_field *fields, size_t count, const uint8_t *texts,
                       size_t texts_length, uint8_t *out, size_t room, size_t *used);
 
-/* Reads the response in a field section, the payload of a HEADERS frame. It allocates.
+/* Reads the response in a field section, the payload of a HEADERS frame. Names and values need not be
+   UTF-8. It allocates.
    WT_OK: *status is its status.
-   WT_FAULT: *code is 0x200 for a section with a fault, or 0x10e for one without a status from 100 to
-   599. WT_MEMORY. WT_INVALID: the section has 2^62 bytes. */
+   WT_FAULT: *code is WT_QPACK_DECOMPRESSION_FAILED for a section with a fault, or WT_H3_MESSAGE_ERROR for
+   one without a :status of three digits from 100 to 599. WT_MEMORY. */
 int wt_response_read(const uint8_t *section, size_t length, uint16_t *status, uint64_t *code);
 
 /* ---- Capsules (RFC 9297, section 3.2) ---- */
 
 enum { WT_CAPSULE_CLOSE_SESSION = 0x2843 };
 
-/* All that reading the capsules of a stream remembers between two calls. It begins as {0}; every value
-   is valid. */
+/* Capsule-reader state for one stream. It begins as {0}; every value is valid. */
 typedef struct wt_capsule_reader {
   uint64_t due; /* bytes of an unknown capsule's value that are still to be skipped */
 } wt_capsule_reader;
@@ -314,22 +361,24 @@ typedef struct wt_capsule {
    WT_OK: *capsule is the next capsule. The next call begins after the first *consumed bytes.
    WT_MORE: there is no complete capsule. The bytes after the first *consumed, at most 1043, are to be
    given again, with those of the next payload after them.
-   WT_FAULT: *code is 0x33 for a value above 1028 bytes; *consumed is 0, and *reader is unchanged.
-   However the bytes are cut into payloads and pieces, the capsules and the fault are the same. */
+   WT_FAULT: *code is WT_H3_DATAGRAM_ERROR for a value above 1028 bytes; *consumed is 0, and *reader is
+   unchanged. However the bytes are cut into payloads and pieces, the capsules and the fault are the
+   same. */
 int wt_capsule_read(wt_capsule_reader *reader, const uint8_t *bytes, size_t length, size_t *consumed,
                     wt_capsule *capsule, uint64_t *code);
 
-/* Tells what it means that the stream ends here, with these bytes left over after WT_MORE.
-   WT_OK: it may. WT_FAULT: a capsule has begun; *code is 0x10e (RFC 9297, section 3.3). */
+/* Call this when the stream ends, with the bytes that have not been consumed after WT_MORE.
+   WT_OK: the stream may end here. WT_FAULT: a capsule has begun; *code is WT_H3_MESSAGE_ERROR (RFC 9297,
+   section 3.3). */
 int wt_capsule_end(const wt_capsule_reader *reader, const uint8_t *rest, size_t length,
                    uint64_t *code);
 
 /* ---- The end of a session (WebTransport over HTTP/3, "Session Termination") ---- */
 
-/* Reads the value of a capsule of type 0x2843, which closes a session.
+/* Reads the value of a capsule of type WT_CAPSULE_CLOSE_SESSION.
    WT_OK: *reset is the application's code, and the reason is all bytes from the fifth on.
-   WT_FAULT: *code is 0x33 for a value of fewer than 4 or more than 1028 bytes, or a reason that is not
-   UTF-8. */
+   WT_FAULT: *code is WT_H3_DATAGRAM_ERROR for a value of fewer than 4 or more than 1028 bytes, or a
+   reason that is not UTF-8. */
 int wt_close_read(const uint8_t *value, size_t length, uint32_t *reset, uint64_t *code);
 
 /* Writes the capsule that closes a session: type, length and value. It is the last of the payloads of
@@ -339,16 +388,17 @@ int wt_close_read(const uint8_t *value, size_t length, uint32_t *reset, uint64_t
 int wt_close_write(uint32_t reset, const uint8_t *reason, size_t length, uint8_t *out, size_t room,
                    size_t *used);
 
-/* ---- Error codes (RFC 9114, section 8) ---- */
+/* ---- Names and scopes of error codes (RFC 9114, section 8) ---- */
 
-/* Writes the name of a code in ASCII, without a final zero, as FrameUnexpectedError for 0x105. Numbers
-   reserved for exercise have no name.
-   WT_OK, WT_ROOM: as above. WT_INVALID: no code has this number. */
+/* Writes the name of a registered code in ASCII, without a final zero, such as H3_FRAME_UNEXPECTED for
+   WT_H3_FRAME_UNEXPECTED. Numbers reserved for exercise have no name.
+   WT_OK, WT_ROOM: as above. WT_INVALID: no code is registered with this number; it is to be treated as
+   WT_H3_NO_ERROR. */
 int wt_code_name(uint64_t code, char *out, size_t room, size_t *used);
 
 enum { WT_SCOPE_STREAM = 0, WT_SCOPE_CONNECTION = 1, WT_SCOPE_EITHER = 2 };
 
-/* What a code ends, or WT_INVALID. WT_SCOPE_EITHER: the rule that is violated says which. */
+/* What a registered code ends, or WT_INVALID. WT_SCOPE_EITHER: the rule that is violated says which. */
 int wt_code_scope(uint64_t code);
 
 /* The HTTP/3 error code of an application's error code (WebTransport over HTTP/3, "Resetting Data

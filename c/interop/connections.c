@@ -36,13 +36,13 @@ static const exchange exchanges[] = {
       .trailers = {{"x-sum", "1"}}},
      {.lines = {{":status", "200"}}, .data = {9}, .trailers = {{"x-sum", "2"}, {"x-time", "3"}}}},
     {"session", "https://example.com:4433/chat?room=1",
-     {.lines = {{":authority", "example.com:4433"}, {":method", "CONNECT"}, {":path", "/chat?room=1"},
-                {":protocol", "webtransport"}, {":scheme", "https"}, {"origin", "https://example.com"}},
+     {.lines = {{":method", "CONNECT"}, {":scheme", "https"}, {":protocol", "webtransport"},
+                {":authority", "example.com:4433"}, {":path", "/chat?room=1"}, {"origin", "https://example.com"}},
       .data = {7}},
      {.lines = {{":status", "200"}, {"server", "h3"}}, .data = {9, 300}}},
     {"session refused", "https://example.com/none",
-     {.lines = {{":authority", "example.com"}, {":method", "CONNECT"}, {":path", "/none"},
-                {":protocol", "webtransport"}, {":scheme", "https"}}},
+     {.lines = {{":method", "CONNECT"}, {":scheme", "https"}, {":protocol", "webtransport"},
+                {":authority", "example.com"}, {":path", "/none"}}},
      {.lines = {{":status", "404"}}}},
 };
 

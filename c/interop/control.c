@@ -41,8 +41,8 @@ static void read_settings(size_t row, int is_server, unsigned long times) {
   open_peer(&writes, is_server, &settings);
   take_written(&writes);
   wanted.size = 0;
-  tell_setting(&wanted, 0x01, settings_rows[row].table);
   tell_setting(&wanted, 0x06, settings_rows[row].section);
+  tell_setting(&wanted, 0x01, settings_rows[row].table);
   tell_setting(&wanted, 0x07, settings_rows[row].blocked);
   if (is_server && settings_rows[row].extended) tell_setting(&wanted, 0x08, 1);
   tell_end(&wanted);

@@ -53,6 +53,9 @@ lib.wt_read_frame.argtypes = [C.POINTER(Reader), C.c_char_p, C.c_size_t, size_re
 lib.wt_read_end.argtypes = [C.POINTER(Reader), C.c_char_p, C.c_size_t, u64_ref]
 lib.wt_capsule_read.argtypes = [C.POINTER(CapsuleReader), C.c_char_p, C.c_size_t, size_ref, C.POINTER(Capsule), u64_ref]
 lib.wt_capsule_end.argtypes = [C.POINTER(CapsuleReader), C.c_char_p, C.c_size_t, u64_ref]
+lib.wt_code_name.argtypes = [C.c_uint64, C.c_char_p, C.c_size_t, size_ref]
+lib.wt_code_scope.argtypes = [C.c_uint64]
+lib.wt_response_read.argtypes = [C.c_char_p, C.c_size_t, C.POINTER(C.c_uint16), u64_ref]
 lib.wt_settings_read.argtypes = [C.c_char_p, C.c_size_t, C.POINTER(Setting), C.c_size_t, size_ref, u64_ref]
 lib.wt_fields_read.argtypes = [C.c_char_p, C.c_size_t, C.POINTER(Field), C.c_size_t, C.c_char_p, C.c_size_t, size_ref, size_ref, u64_ref]
 
@@ -148,11 +151,6 @@ def settings(payload):
     return (answer, code.value) if answer != OK else (OK, [(s.id, s.value) for s in array[: count.value]])
 
 
-def is_exercise(number):
-    return number >= 0x21 and (number - 0x21) % 0x1F == 0
-
-
-KNOWN_SETTINGS = (0x01, 0x06, 0x07, 0x08, 0x33, 0x2B603742, 0xC671706A)
 SKIPPED = ("GOAWAY", "MAX_PUSH_ID", "PRIORITY_UPDATE", "PUSH_PROMISE")
 
 
@@ -233,7 +231,6 @@ def recorded(folder, row):
         if what == "control":
             found, _ = recorded_stream(name, data[consumed:], CONTROL, said, index[1:])
             ids = [(int(i, 16), v) for i, v in index[1]["is"]]
-            ids = sorted(p for p in ids if p[0] in KNOWN_SETTINGS or is_exercise(p[0]))
             check(name, settings(found[0][2]), (OK, ids))
     elif kind.startswith("WebTransport stream, opened by this"):
         found, held, code = frames(BI_REMOTE, data, 1)
@@ -251,6 +248,15 @@ def by_hand():
     check("no bytes", lib.wt_varint_read(None, 0, value, consumed), MORE)
     check("stream header", stream_header(b"\x40\x54\x04"), (OK, 3, 0x54, 4, 0))
     check("frames", frames(BI_REMOTE, b"\x02\x01x\x00\x03abc", 3), ([(DATA, 0, b"abc")], b"", None))
+    out, used = C.create_string_buffer(64), C.c_size_t()
+    check("code", (lib.wt_code_name(0x10C, out, 64, used), out.raw[: used.value]), (OK, b"H3_REQUEST_CANCELLED"))
+    check("scope", lib.wt_code_scope(0x10C), 0)
+    check("no code", lib.wt_code_name(0x21, out, 64, used), INVALID)
+    status, code = C.c_uint16(), C.c_uint64()
+    # :status 200 as static entry 25, and a field whose value is not UTF-8
+    latin = b"\x00\x00\xd9\x21x\x01\xe9"
+    check("response", (lib.wt_response_read(latin, len(latin), status, code), status.value), (OK, 200))
+    check("settings", settings(b"\x0d\x00\x33\x01\x0d\x05"), (OK, [(0x0D, 0), (0x33, 1), (0x0D, 5)]))
     check("fields", lines(b"\x00\x00\xd1"), (OK, [[b":method", b"GET"]]))
 
 

@@ -13,29 +13,39 @@ static void faulty(const char *payload, size_t size, uint64_t expected) {
   free(bytes);
 }
 
+static int are(const wt_setting *settings, const wt_setting *expected, size_t count) {
+  return memcmp(settings, expected, count * sizeof *settings) == 0;
+}
+
 static void test_read(void) {
-  /* an unknown identifier, 0x0d, twice: it is ignored */
-  static const char payload[] = "\x33\x01\x0d\x00\x08\x01\x0d\x05";
-  wt_setting settings[4];
-  size_t count = 99;
+  /* an unknown identifier, 0x0d, twice, and one reserved for exercise, 0x21 */
+  static const char payload[] = "\x33\x01\x0d\x00\x08\x01\x0d\x05\x21\x40\x40";
+  static const wt_setting expected[] = {
+      {WT_SETTING_H3_DATAGRAM, 1}, {0x0d, 0}, {WT_SETTING_ENABLE_CONNECT_PROTOCOL, 1}, {0x0d, 5}, {0x21, 64}};
+  wt_setting settings[6] = {{0, 0}, {0, 0}, {0, 0}, {0, 0}, {0, 0}, {98, 99}};
+  size_t count = 99, size = sizeof payload - 1;
   uint64_t code = 99;
-  uint8_t *bytes = exactly(payload, 8);
-  CHECK(wt_settings_read(bytes, 8, settings, 4, &count, &code) == WT_OK && count == 2);
-  CHECK(settings[0].id == 0x08 && settings[0].value == 1);
-  CHECK(settings[1].id == 0x33 && settings[1].value == 1 && code == 99);
-  CHECK(wt_settings_read(bytes, 8, settings, 2, &count, &code) == WT_OK && count == 2);
+  uint8_t *bytes = exactly(payload, size);
+  CHECK(wt_settings_read(bytes, size, settings, 6, &count, &code) == WT_OK && count == 5);
+  CHECK(are(settings, expected, 5) && settings[5].id == 98 && settings[5].value == 99 && code == 99);
+  memset(settings, 0, sizeof settings);
+  CHECK(wt_settings_read(bytes, size, settings, 5, &count, &code) == WT_OK && count == 5);
+  CHECK(are(settings, expected, 5));
   settings[0].id = 98;
-  CHECK(wt_settings_read(bytes, 8, settings, 1, &count, &code) == WT_ROOM && count == 2);
+  CHECK(wt_settings_read(bytes, size, settings, 4, &count, &code) == WT_ROOM && count == 5);
   CHECK(settings[0].id == 98);
-  CHECK(wt_settings_read(bytes, 8, NULL, 0, &count, &code) == WT_ROOM && count == 2);
+  CHECK(wt_settings_read(bytes, size, NULL, 0, &count, &code) == WT_ROOM && count == 5 && code == 99);
   free(bytes);
   CHECK(wt_settings_read(NULL, 0, NULL, 0, &count, &code) == WT_OK && count == 0);
-  faulty("\x33", 1, 0x106);
-  faulty("\x33\x40", 2, 0x106);
-  faulty("\x33\x01\x33\x01", 4, 0x109);
-  faulty("\x00\x00", 2, 0x109);
-  faulty("\x02\x00", 2, 0x109);
-  faulty("\x05\x00", 2, 0x109);
+  faulty("\x33", 1, WT_H3_FRAME_ERROR);
+  faulty("\x33\x40", 2, WT_H3_FRAME_ERROR);
+  faulty("\x0d\x00\x33", 3, WT_H3_FRAME_ERROR);
+  faulty("\x33\x01\x33\x01", 4, WT_H3_SETTINGS_ERROR);
+  faulty("\x33\x01\x0d\x00\x33\x01", 6, WT_H3_SETTINGS_ERROR);
+  faulty("\x21\x01\x21\x01", 4, WT_H3_SETTINGS_ERROR);
+  faulty("\x00\x00", 2, WT_H3_SETTINGS_ERROR);
+  faulty("\x02\x00", 2, WT_H3_SETTINGS_ERROR);
+  faulty("\x05\x00", 2, WT_H3_SETTINGS_ERROR);
 }
 
 static void test_write(void) {
@@ -43,6 +53,7 @@ static void test_write(void) {
   static const wt_setting twice[] = {{0x33, 1}, {0x33, 1}};
   static const wt_setting http2[] = {{0x04, 1}};
   static const wt_setting large[] = {{0x33, UINT64_MAX}};
+  static const wt_setting unknown[] = {{0x0d, 0}, {0x0d, 5}};
   uint8_t out[32];
   size_t used = 99;
   memset(out, 0xee, sizeof out);
@@ -52,16 +63,18 @@ static void test_write(void) {
   memset(out, 0xee, sizeof out);
   CHECK(wt_settings_write(good, 3, out, 13, &used) == WT_ROOM && used == 14 && out[0] == 0xee);
   CHECK(wt_settings_write(NULL, 0, NULL, 0, &used) == WT_OK && used == 0);
+  CHECK(wt_settings_write(unknown, 2, out, sizeof out, &used) == WT_OK && used == 4);
+  CHECK(memcmp(out, "\x0d\x00\x0d\x05", 4) == 0);
   used = 99;
   CHECK(wt_settings_write(twice, 2, out, sizeof out, &used) == WT_INVALID && used == 99);
   CHECK(wt_settings_write(http2, 1, out, sizeof out, &used) == WT_INVALID && used == 99);
   CHECK(wt_settings_write(large, 1, out, sizeof out, &used) == WT_INVALID && used == 99);
 }
 
-static void named(uint64_t id, const char *name) {
+static void named(uint64_t id, uint64_t constant, const char *name) {
   char out[64];
   size_t used = 99, size = strlen(name);
-  CHECK(wt_setting_name(id, out, sizeof out, &used) == WT_OK);
+  CHECK(id == constant && wt_setting_name(id, out, sizeof out, &used) == WT_OK);
   CHECK(used == size && memcmp(out, name, size) == 0);
   CHECK(wt_setting_name(id, out, size - 1, &used) == WT_ROOM && used == size);
 }
@@ -70,15 +83,15 @@ void test_settings(void) {
   size_t used = 99;
   test_read();
   test_write();
-  named(0x01, "SETTINGS_QPACK_MAX_TABLE_CAPACITY");
-  named(0x06, "SETTINGS_MAX_FIELD_SECTION_SIZE");
-  named(0x07, "SETTINGS_QPACK_BLOCKED_STREAMS");
-  named(0x08, "SETTINGS_ENABLE_CONNECT_PROTOCOL");
-  named(0x33, "SETTINGS_H3_DATAGRAM");
-  named(0x2b603742, "SETTINGS_ENABLE_WEBTRANSPORT");
-  named(0xc671706a, "SETTINGS_WEBTRANSPORT_MAX_SESSIONS");
-  named(0x21, "0x21");
-  named(0x3ffffffffffffffe, "0x3ffffffffffffffe");
+  named(0x01, WT_SETTING_QPACK_MAX_TABLE_CAPACITY, "SETTINGS_QPACK_MAX_TABLE_CAPACITY");
+  named(0x06, WT_SETTING_MAX_FIELD_SECTION_SIZE, "SETTINGS_MAX_FIELD_SECTION_SIZE");
+  named(0x07, WT_SETTING_QPACK_BLOCKED_STREAMS, "SETTINGS_QPACK_BLOCKED_STREAMS");
+  named(0x08, WT_SETTING_ENABLE_CONNECT_PROTOCOL, "SETTINGS_ENABLE_CONNECT_PROTOCOL");
+  named(0x33, WT_SETTING_H3_DATAGRAM, "SETTINGS_H3_DATAGRAM");
+  named(0x2b603742, WT_SETTING_ENABLE_WEBTRANSPORT, "SETTINGS_ENABLE_WEBTRANSPORT");
+  named(0xc671706a, WT_SETTING_WEBTRANSPORT_MAX_SESSIONS, "SETTINGS_WEBTRANSPORT_MAX_SESSIONS");
+  named(0x21, 0x21, "0x21");
+  named(0x3ffffffffffffffe, 0x3ffffffffffffffe, "0x3ffffffffffffffe");
   CHECK(wt_setting_name(0x02, NULL, 0, &used) == WT_INVALID && used == 99);
   CHECK(wt_setting_name(UINT64_MAX, NULL, 0, &used) == WT_INVALID && used == 99);
 }

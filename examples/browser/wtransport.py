@@ -180,7 +180,7 @@ def write_datagram(session, payload):
 
 
 def read_settings(payload):
-    """The settings that are known or reserved, as {identifier: value}."""
+    """All settings, as {identifier: value}; of an unknown one that is repeated, the last value."""
     room = len(payload) // 2 + 1
     array, count, code = (_Setting * room)(), _SIZE(), _U64()
     _accept(_lib.wt_settings_read(payload, len(payload), array, room, count, code), code)

@@ -6,3 +6,4 @@ pub mod SettingLemmas
 pub mod SessionLemmas
 pub mod ReaderLemmas
 pub mod TextLemmas
+pub mod ListLemmas

@@ -40,6 +40,17 @@ pub record HasCodedLine (section : List ℕ) : Type 0 where
   pub are : AreOctetLines start lines rest
   pub coded : IsTrue (is_coded_line rest)
 
+-- a line that needs memory begins after the prefix and these lines: it has a Huffman text, or it has
+-- no fault, so that its field is stored
+pub record HasStoredLine (section : List ℕ) : Type 0 where
+  pub start : List ℕ
+  pub lines : List Field
+  pub rest : List ℕ
+  pub prefix : after_prefix section ≡ Ok start
+  pub are : AreOctetLines start lines rest
+  pub needs : IsTrue (is_coded_line rest)
+      ⊎ ((line : Field) × (behind : List ℕ) × (octet_line_at rest ≡ Ok (line, behind)))
+
 -- ---- lines in arrays
 
 -- the name and the value that are in the texts

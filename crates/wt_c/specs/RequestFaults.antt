@@ -22,6 +22,10 @@ fault_number is.MissingStatusCode = REQUEST_OK
 fault_number is.InvalidStatusCode = REQUEST_OK
 fault_number is.Memory = REQUEST_OK
 
+-- the fault is one of a request: it has a number
+abbrev pub IsRequestFault : HeadersParseError → Type 0
+IsRequestFault fault = fault_number fault ≢ REQUEST_OK
+
 -- of the first fault, if there is one
 abbrev pub first_number : Option HeadersParseError → ℤ
 first_number None = REQUEST_OK

@@ -1,47 +1,61 @@
--- Fields that C adds to a request or a response.
-use Rattle.std.specs.Prelude.{◌≡◌, ℕ, ◌≤◌, ◌^◌, ◌⊎◌, List, [], ◌∷◌, length, codes, IsUtf8, IsTrue}
+-- Requests and responses as C has them (RFC 9114, sections 4.1.2, 4.2 and 4.3).
+use Rattle.std.specs.Prelude.{◌≡◌, ℕ, ◌≤◌, ◌^◌, ◌⊎◌, List, [], ◌∷◌, ◌++◌, length, codes, IsUtf8}
 use Rattle.std.specs.Prelude.{Some, None, Ok, Err}
 use Rattle.url.specs.Parser.{parse_url}
-use Rattle.wtp_wire.specs.Content.{HeadersOf}
 use Rattle.wtp_fields.specs.declared.session.request.UrlParseError.{UrlParseError}
-use Rattle.wtp_fields.specs.Field.{Field, field_value, put}
-use Rattle.wtp_fields.specs.SessionRequest.{is_reserved_name, request_at, request_in}
-use Rattle.wt_c.specs.Fields.{field_in}
-use Rattle.wt_c.specs.Texts.{IsTextField}
+use Rattle.wtp_fields.specs.declared.session.HeadersParseError.{HeadersParseError}
+use Rattle.wtp_fields.specs.Field.{Field, last_value}
+use Rattle.wtp_fields.specs.FieldMessages.{request_fault, status_of}
+use Rattle.wtp_fields.specs.FieldWriting.{list_at, push_fault}
+use Rattle.wtp_wire.specs.Content.{HeadersOf}
+use Rattle.wtp_wire.specs.Wire.{wire}
+use Rattle.wtp_fields.specs.FieldSection.{section_of}
+use Rattle.wt_c.specs.Texts.{lines_in}
+use Rattle.wt_c.specs.Fields.{field_in, AreLinesOf, HasSectionFault, IsWithin}
 use Rattle.wt_c.specs.declared.fields.WtField.{WtField}
 
--- the map with these fields, each in place of the previous one of its name
-abbrev pub with_fields : List ℕ → List Field → List WtField → List Field
-with_fields texts m [] = m
-with_fields texts m (w ∷ ws) = with_fields texts (put m (field_in texts w)) ws
+-- A message can have this field: it is within the texts, and its name and its value are those of a
+-- field (RFC 9114, sections 4.2 and 4.3; RFC 9110, section 5.5). So its name is not that of a
+-- pseudo-header field.
+pub record IsMessageField (texts : List ℕ) (w : WtField) : Type 0 where
+  pub within : IsWithin (length texts) w
+  pub faultless : push_fault (field_in texts w).0 (field_in texts w).1 ≡ None
 
--- a request can have this field: a text, and none of the names that a request sets itself
-pub record IsRequestField (texts : List ℕ) (w : WtField) : Type 0 where
-  pub text : IsTextField texts w
-  pub free : ¬ (IsTrue (is_reserved_name (field_in texts w).0))
+abbrev pub AreMessageFields : List ℕ → List WtField → Type 0
+AreMessageFields texts [] = Unit {0}
+AreMessageFields texts (w ∷ ws) = IsMessageField texts w × AreMessageFields texts ws
 
--- a response can have this field: a text, and not a status
-pub record IsResponseField (texts : List ℕ) (w : WtField) : Type 0 where
-  pub text : IsTextField texts w
-  pub free : ¬ ((field_in texts w).0 ≡ codes ":status")
-
-abbrev pub AreRequestFields : List ℕ → List WtField → Type 0
-AreRequestFields texts [] = Unit {0}
-AreRequestFields texts (w ∷ ws) = IsRequestField texts w × AreRequestFields texts ws
-
-abbrev pub AreResponseFields : List ℕ → List WtField → Type 0
-AreResponseFields texts [] = Unit {0}
-AreResponseFields texts (w ∷ ws) = IsResponseField texts w × AreResponseFields texts ws
+-- the HEADERS frame of these fields, and then of those of C in their order
+abbrev pub message_frame : List Field → List ℕ → List WtField → List ℕ
+message_frame m texts fields = wire (HeadersOf (section_of (m ++ lines_in texts fields)))
 
 -- There is no request at this URL: it is not UTF-8, or has a fault, or is so long (16 MiB or more)
 -- that it may be refused.
 abbrev pub IsNoUrl : List ℕ → Type 0
 IsNoUrl url =
     (¬ (IsUtf8 url))
-    ⊎ (((e : UrlParseError) × (request_at (parse_url None url) ≡ Err e)) ⊎ (2 ^ 24 ≤ length url))
+    ⊎ (((e : UrlParseError) × (list_at (parse_url None url) ≡ Err e)) ⊎ (2 ^ 24 ≤ length url))
 
--- the section is that of a request with this map, and these are its authority and its path
+-- these are the fields of the section, they are those of a request, and these are its authority and
+-- its path
 pub record IsRequestOf (section : List ℕ) (m : List Field) (host path : List ℕ) : Type 0 where
-  pub request : request_in (HeadersOf section) ≡ Ok m
-  pub host_is : field_value (codes ":authority") m ≡ Some host
-  pub path_is : field_value (codes ":path") m ≡ Some path
+  pub lines : AreLinesOf section m
+  pub faultless : request_fault m ≡ None
+  pub host_is : last_value (codes ":authority") m ≡ Some host
+  pub path_is : last_value (codes ":path") m ≡ Some path
+
+-- the section has a fault, or its fields are not those of a request (RFC 9114, section 4.1.2), and
+-- this is the error code
+abbrev pub HasRequestFault : List ℕ → ℕ → Type 0
+HasRequestFault section code =
+    (HasSectionFault section × (code ≡ 0x200))
+    ⊎ ((m : List Field) × (fault : HeadersParseError) × AreLinesOf section m
+    × (request_fault m ≡ Some fault) × (code ≡ 0x10e))
+
+-- the section has a fault, or its fields are not those of a response (RFC 9114, section 4.1.2), and
+-- this is the error code
+abbrev pub HasResponseFault : List ℕ → ℕ → Type 0
+HasResponseFault section code =
+    (HasSectionFault section × (code ≡ 0x200))
+    ⊎ ((m : List Field) × (fault : HeadersParseError) × AreLinesOf section m
+    × (status_of m ≡ Err fault) × (code ≡ 0x10e))

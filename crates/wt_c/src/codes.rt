@@ -1,15 +1,13 @@
 //! Error codes (RFC 9114, section 8).
-ghost use Rattle.std.specs.Prelude.{◌≡◌, ◌≢◌, ◌⊎◌, ◌<◌, ◌^◌, ℕ, MatchOption};
-ghost use Rattle.wtp_core.specs.declared.error.ErrorCode.{ErrorCode};
+ghost use Rattle.std.specs.Prelude.{◌≡◌, ◌≢◌, ◌⊎◌, ◌<◌, ◌^◌, ℕ, List, Some};
 ghost use Rattle.wtp_core.specs.ApplicationCodes.{http3_number};
-ghost use Rattle.wtp_core.specs.ErrorCodes.{code_number, name_of};
-ghost use Rattle.wtp_core.specs.ErrorScope.{scope_of};
-ghost use Rattle.wt_c.specs.Codes.{scope_number};
+ghost use Rattle.wtp_core.specs.Codes.{code_name, code_scope};
+ghost use Rattle.wt_c.specs.Codes.{IsNoCode, scope_number};
 ghost use Rattle.wt_c.specs.Output.{Puts, Lacks};
 
 use crate::answers::{INVALID, OK, ROOM};
 use crate::output::write_bytes;
-use wtp_core::error::{ErrorCode, ErrorScope, application_codes};
+use wtp_core::error::{Code, ErrorScope, application_codes};
 use wtp_core::varint::VarInt;
 
 /// The code ends one stream.
@@ -21,77 +19,60 @@ pub const CONNECTION: i32 = 1;
 /// The code ends a stream or the connection, as the rule that is violated says.
 pub const EITHER: i32 = 2;
 
-/// Returns the error code of a number on the wire, if it has one.
-fn code_of(number: u64) -> Option<ErrorCode>
-    ensures { MatchOption result ((code : ErrorCode) → number ≢ code_number code)
-        (λ code. number ≡ code_number code) }
-{
-    let varint = VarInt::try_from_u64(number).ok()?;
-    ErrorCode::try_from(varint).ok()
-}
-
-/// Returns the printed name of a code.
-fn name(code: ErrorCode) -> &'static str
-    ensures { result.now ≡ name_of code }
-{
-    match code {
-        ErrorCode::Datagram => "DatagramError",
-        ErrorCode::NoError => "NoError",
-        ErrorCode::StreamCreation => "StreamCreationError",
-        ErrorCode::ClosedCriticalStream => "ClosedCriticalStreamError",
-        ErrorCode::FrameUnexpected => "FrameUnexpectedError",
-        ErrorCode::Frame => "FrameError",
-        ErrorCode::ExcessiveLoad => "ExcessiveLoad",
-        ErrorCode::Id => "IdError",
-        ErrorCode::Settings => "SettingsError",
-        ErrorCode::MissingSettings => "MissingSettingsError",
-        ErrorCode::RequestRejected => "RequestRejectedError",
-        ErrorCode::Message => "MessageError",
-        ErrorCode::Decompression => "DecompressionError",
-        ErrorCode::BufferedStreamRejected => "BufferedStreamRejected",
-        ErrorCode::SessionGone => "SessionGone",
-    }
-}
-
-/// Writes the name of an error code to the start of `out`, in ASCII and without a final zero.
+/// Writes the name of an error code in the registry, such as `H3_FRAME_UNEXPECTED`, to the start of
+/// `out`, in ASCII and without a final zero.
 ///
 /// Returns `OK` with the size of the name in `used`. Returns `ROOM` if `out` is shorter than that
 /// size, which `used` then is; `out` does not change. Returns `INVALID` if the number is not that
-/// of a code; then nothing changes. An unknown error code is as good as `H3_NO_ERROR` (RFC 9114,
-/// section 9).
+/// of a registered code; then nothing changes. An unknown error code is treated as `H3_NO_ERROR`
+/// (RFC 9114, section 8).
 #[unsafe(no_mangle)]
 pub extern "C" fn wt_code_name(number: u64, out: &mut [u8], used: &mut usize) -> i32
     ensures answers { (result ≡ OK) ⊎ ((result ≡ ROOM) ⊎ (result ≡ INVALID)) }
-    ensures name { result ≡ OK → (code : ErrorCode) × (number ≡ code_number code)
-        × Puts (name_of code) out.old out.new used.new }
-    ensures room { result ≡ ROOM → (code : ErrorCode) × (number ≡ code_number code)
-        × Lacks (name_of code) out.old out.new used.new }
-    ensures invalid { result ≡ INVALID → ((code : ErrorCode) → number ≢ code_number code)
+    ensures name { result ≡ OK → (name : List ℕ) × (code_name number ≡ Some name)
+        × Puts name out.old out.new used.new }
+    ensures room { result ≡ ROOM → (name : List ℕ) × (code_name number ≡ Some name)
+        × Lacks name out.old out.new used.new }
+    ensures invalid { result ≡ INVALID → IsNoCode number
         × (out.new ≡ out.old) × (used.new ≡ used.old) }
 {
-    match code_of(number) {
-        Some(code) => write_bytes(name(code).as_bytes(), out, used),
+    let Ok(varint) = VarInt::try_from_u64(number) else {
+        return INVALID;
+    };
+    match Code::new(varint).name() {
+        Some(name) => write_bytes(name.as_bytes(), out, used),
         None => INVALID,
     }
 }
 
 /// Returns what an error code ends: `STREAM`, `CONNECTION` or `EITHER` (RFC 9114, section 8).
-/// Returns `INVALID` if the number is not that of a code.
+/// Returns `INVALID` if the number is not that of a registered code.
 #[unsafe(no_mangle)]
 pub extern "C" fn wt_code_scope(number: u64) -> i32
     ensures answers { (result ≡ STREAM)
         ⊎ ((result ≡ CONNECTION) ⊎ ((result ≡ EITHER) ⊎ (result ≡ INVALID))) }
-    ensures scope { result ≢ INVALID → (code : ErrorCode) × (number ≡ code_number code)
-        × (result ≡ scope_number (scope_of code)) }
-    ensures invalid { result ≡ INVALID → (code : ErrorCode) → number ≢ code_number code }
+    ensures scope { result ≢ INVALID → (name : List ℕ) × (code_name number ≡ Some name)
+        × (result ≡ scope_number (code_scope number)) }
+    ensures invalid { result ≡ INVALID → IsNoCode number }
 {
-    match code_of(number) {
-        Some(code) => match code.scope() {
-            ErrorScope::Stream => STREAM,
-            ErrorScope::Connection => CONNECTION,
-            ErrorScope::Either => EITHER,
-        },
+    let Ok(varint) = VarInt::try_from_u64(number) else {
+        return INVALID;
+    };
+    let code = Code::new(varint);
+    match code.name() {
+        Some(_) => number_of_scope(code.scope()),
         None => INVALID,
+    }
+}
+
+/// Returns what a code ends as C has it.
+fn number_of_scope(scope: ErrorScope) -> i32
+    ensures { result ≡ scope_number scope }
+{
+    match scope {
+        ErrorScope::Stream => STREAM,
+        ErrorScope::Connection => CONNECTION,
+        ErrorScope::Either => EITHER,
     }
 }
 

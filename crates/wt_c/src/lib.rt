@@ -11,6 +11,7 @@ pub mod codes;
 pub mod datagrams;
 pub mod fields;
 pub mod frames;
+mod lists;
 pub mod numbers;
 mod output;
 pub mod reader;

@@ -1,26 +1,20 @@
 //! The first fault of a request, by number and by name (RFC 9114, section 4.3.1; RFC 9220, section
 //! 3).
-ghost use Rattle.std.specs.Prelude.{◌≡◌, ◌≢◌, ◌⊎◌, ◌≤◌, ◌<◌, ◌^◌, List, length, Ok, Err};
-ghost use Rattle.std.specs.Prelude.{MatchOption};
-ghost use Rattle.wtp_core.specs.declared.error.ErrorCode.{ErrorCode};
-ghost use Rattle.wtp_core.specs.declared.error.Refused.TheVariants.{Code};
-ghost use Rattle.wtp_core.specs.ErrorCodes.{code_number};
+ghost use Rattle.std.specs.Prelude.{◌≡◌, ◌≢◌, ◌⊎◌, List, MatchOption};
 ghost use Rattle.wtp_fields.specs.Field.{Field};
-ghost use Rattle.wtp_fields.specs.Headers.{headers_at, BeginsLine, GivesUnlessRefused};
-ghost use Rattle.wtp_fields.specs.SessionRequest.{fault_of};
+ghost use Rattle.wtp_fields.specs.FieldMessages.{request_fault};
 ghost use Rattle.wtp_fields.specs.declared.session.HeadersParseError.{HeadersParseError};
+ghost use Rattle.wt_c.specs.Fields.{AreLinesOf, HasSectionFault, HasStoredLine};
 ghost use Rattle.wt_c.specs.Output.{Puts, Lacks};
-ghost use Rattle.wt_c.specs.RequestFaults.{IsFaultNumber, first_number, fault_number, fault_name};
+ghost use Rattle.wt_c.specs.RequestFaults.{IsFaultNumber, IsRequestFault, first_number};
+ghost use Rattle.wt_c.specs.RequestFaults.{fault_number, fault_name};
 
 use crate::answers::{FAULT, INVALID, MEMORY, OK, ROOM};
+use crate::lists::read_fields;
 use crate::output::write_bytes;
 use std::alloc::Global;
-use std::borrow::CowSlice;
-use wtp_core::error::Refused;
-use wtp_core::varint::VarInt;
-use wtp_fields::headers::Headers;
-use wtp_fields::session::{HeadersParseError, SessionRequest};
-use wtp_wire::frame::Frame;
+use wtp_fields::fields::FieldList;
+use wtp_fields::session::HeadersParseError;
 
 /// The fields are those of a request.
 pub const REQUEST_OK: i32 = 0;
@@ -49,8 +43,9 @@ pub const MISSING_AUTHORITY: i32 = 7;
 /// There is no `:path`.
 pub const MISSING_PATH: i32 = 8;
 
-/// Returns the number of a fault of a request, or `REQUEST_OK` for another.
+/// Returns the number of a fault of a request. The others are no faults of a request.
 fn number_of(fault: &HeadersParseError) -> i32
+    requires { IsRequestFault fault.now }
     ensures { result ≡ fault_number fault.now }
 {
     match fault {
@@ -64,36 +59,27 @@ fn number_of(fault: &HeadersParseError) -> i32
         HeadersParseError::MissingPath => MISSING_PATH,
         HeadersParseError::MissingStatusCode
         | HeadersParseError::InvalidStatusCode
-        | HeadersParseError::Memory => REQUEST_OK,
+        | HeadersParseError::Memory => unreachable!(),
     }
 }
 
 /// Returns the number of the first fault of a request's fields, or `REQUEST_OK` if there is none.
-fn first_fault(headers: Headers) -> i32
-    ensures { result ≡ first_number (fault_of headers) }
+#[tactic(auto, using(crate::proofs::ListLemmas::request_faults))]
+fn first_fault(fields: &FieldList) -> i32
+    ensures { result ≡ first_number (request_fault fields.now) }
 {
-    match SessionRequest::try_from(headers) {
+    match fields.session_request() {
         Ok(_) => REQUEST_OK,
         Err(fault) => number_of(&fault),
     }
-}
-
-/// Reads the fields of a field section, the payload of a HEADERS frame.
-fn read_headers(alloc: Global, section: &[u8]) -> Result<Headers, Refused>
-    requires { length section.now < 2 ^ 62 }
-    ensures read { GivesUnlessRefused result (headers_at section.now) }
-    ensures memory { result ≡ Err Refused.Memory → BeginsLine section.now }
-{
-    Headers::with_frame(alloc, &Frame::new_headers(CowSlice::Borrowed(section)))
 }
 
 /// Finds the first fault of the request in a field section, the payload of a HEADERS frame, in the
 /// order of the numbers.
 ///
 /// Returns `OK` with the number of the fault, or `REQUEST_OK` if the section is that of a request.
-/// Returns `FAULT` with the code `QPACK_DECOMPRESSION_FAILED` (0x200) for a section with a fault.
-/// Returns `MEMORY` if allocation failed, and `INVALID` for a section of 2^62 bytes or more. Then
-/// `fault` does not change.
+/// Returns `FAULT` with the code `QPACK_DECOMPRESSION_FAILED` (0x200) for a section with a fault,
+/// and `MEMORY` if allocation failed. Then `fault` does not change.
 #[unsafe(no_mangle)]
 pub extern "C" fn wt_request_fault(
     alloc: Global,
@@ -101,30 +87,20 @@ pub extern "C" fn wt_request_fault(
     fault: &mut i32,
     code: &mut u64,
 ) -> i32
-    ensures answers { (result ≡ OK)
-        ⊎ ((result ≡ FAULT) ⊎ ((result ≡ MEMORY) ⊎ (result ≡ INVALID))) }
-    ensures fields { result ≡ OK → (m : List Field) × (headers_at section.now ≡ Ok m)
-        × (fault.new ≡ first_number (fault_of m)) }
-    ensures section { result ≡ FAULT → (e : ErrorCode)
-        × (headers_at section.now ≡ Err (Code e)) × (code.new ≡ code_number e) }
-    ensures memory { result ≡ MEMORY → BeginsLine section.now }
-    ensures invalid { result ≡ INVALID → 2 ^ 62 ≤ length section.now }
+    ensures answers { (result ≡ OK) ⊎ ((result ≡ FAULT) ⊎ (result ≡ MEMORY)) }
+    ensures fields { result ≡ OK → (m : List Field) × AreLinesOf section.now m
+        × (fault.new ≡ first_number (request_fault m)) }
+    ensures section { result ≡ FAULT → HasSectionFault section.now × (code.new ≡ 0x200) }
+    ensures memory { result ≡ MEMORY → HasStoredLine section.now }
     ensures none { result ≢ OK → fault.new ≡ fault.old }
     ensures code { result ≢ FAULT → code.new ≡ code.old }
 {
-    if section.len() as u64 > VarInt::MAX.into_inner() {
-        return INVALID;
-    }
-    match read_headers(alloc, section) {
-        Ok(headers) => {
-            *fault = first_fault(headers);
+    match read_fields(alloc, section) {
+        Ok(fields) => {
+            *fault = first_fault(&fields);
             OK
         }
-        Err(Refused::Code(refusal)) => {
-            *code = refusal.to_code().into_inner();
-            FAULT
-        }
-        Err(Refused::Memory) => MEMORY,
+        Err(reason) => reason.answer(code),
     }
 }
 

@@ -8,7 +8,9 @@ ghost use Rattle.wtp_wire.specs.SettingId.{setting_id_of, setting_name_of};
 ghost use Rattle.wtp_wire.specs.Settings.{settings_in, settings_wire, StartsWithSettings};
 ghost use Rattle.wtp_wire.specs.Settings.{AnswersSettings};
 ghost use Rattle.wt_c.specs.Output.{Puts, Lacks};
-ghost use Rattle.wt_c.specs.Settings.{HoldSettings, LackSettings, AreNumbers, pairs_of};
+ghost use Rattle.wtp_wire.specs.SettingPairs.{numbers_of, setting_items};
+ghost use Rattle.wtp_wire.specs.declared.settings.pairs.SettingPair.{SettingPair};
+ghost use Rattle.wt_c.specs.Settings.{HoldSettings, LackSettings, ArePairsOf, AreNumbers, pairs_of};
 
 use crate::answers::{FAULT, INVALID, MEMORY, OK, ROOM};
 use crate::output::write_bytes;
@@ -19,7 +21,7 @@ use wtp_core::bytes::BytesWriter;
 use wtp_core::error::Refused;
 use wtp_core::varint::VarInt;
 use wtp_wire::frame::Frame;
-use wtp_wire::settings::{SettingId, Settings};
+use wtp_wire::settings::{SettingId, SettingPairs, Settings};
 
 /// A setting and its value.
 #[repr(C)]
@@ -31,23 +33,40 @@ pub struct WtSetting {
     pub value: u64,
 }
 
-/// Puts settings into an array, in ascending order of their identifiers.
-fn put_settings(read: &Settings, settings: &mut [WtSetting], count: &mut usize) -> i32
-    ensures answers { (result ≡ OK) ⊎ (result ≡ ROOM) }
-    ensures settings { result ≡ OK → HoldSettings settings.new count.new read.now }
-    ensures room { result ≡ ROOM → LackSettings settings.old count.new read.now
-        × (settings.new ≡ settings.old) }
+/// Returns how many settings a payload has, or one more if it has a fault.
+fn count_settings(payload: &[u8]) -> usize
+    ensures { result ≡ length (setting_items payload.now) }
 {
-    let mut left = read.iter();
-    *count = left.len();
+    let mut left = SettingPairs::new(payload);
+    let mut n: usize = 0;
+    'pairs: while let Some(_) = left.next() {
+        n += 1;
+    }
+    n
+}
+
+/// Puts the settings of a payload into an array, in the payload's order.
+fn put_settings(payload: &[u8], settings: &mut [WtSetting], count: &mut usize) -> i32
+    requires { (ps : List SettingPair) × ArePairsOf payload.now ps }
+    ensures answers { (result ≡ OK) ⊎ (result ≡ ROOM) }
+    ensures settings { result ≡ OK → (ps : List SettingPair) × ArePairsOf payload.now ps
+        × HoldSettings settings.old settings.new count.new (numbers_of ps) }
+    ensures room { result ≡ ROOM → (ps : List SettingPair) × ArePairsOf payload.now ps
+        × LackSettings settings.old count.new (numbers_of ps) × (settings.new ≡ settings.old) }
+{
+    *count = count_settings(payload);
     if *count > settings.len() {
         return ROOM;
     }
+    let mut left = SettingPairs::new(payload);
     let mut n: usize = 0;
-    'settings: while let Some((id, value)) = left.next() {
+    'settings: while let Some(item) = left.next() {
+        let Ok(pair) = item else {
+            unreachable!();
+        };
         settings[n] = WtSetting {
-            id: id.id().into_inner(),
-            value: value.into_inner(),
+            id: pair.id.into_inner(),
+            value: pair.value.into_inner(),
         };
         n += 1;
     }
@@ -62,13 +81,14 @@ fn read_settings(alloc: Global, payload: &[u8]) -> Result<Settings, Refused>
     Settings::with_frame(alloc, &Frame::new_settings(CowSlice::Borrowed(payload)))
 }
 
-/// Reads the payload of a SETTINGS frame. Unknown identifiers are left out.
+/// Reads the payload of a SETTINGS frame: all settings in the payload's order, those with unknown
+/// identifiers too.
 ///
-/// Returns `OK` with the settings: the first `count` of `settings`, in ascending order of their
-/// identifiers, each once. Returns `ROOM` if the array is too short; `count` is then the room that
-/// they need, and the array does not change. Returns `FAULT` with the code of the first fault:
-/// `H3_FRAME_ERROR` (0x106) for a payload that is cut, `H3_SETTINGS_ERROR` (0x109) for a repeated
-/// identifier or one of HTTP/2. Returns `MEMORY` if allocation failed, which happens only at a
+/// Returns `OK` with the settings: the first `count` of `settings`, after which the array does not
+/// change. Returns `ROOM` if the array is too short; `count` is then the room that they need, and
+/// the array does not change. Returns `FAULT` with the code of the first fault: `H3_FRAME_ERROR`
+/// (0x106) for a payload that is cut, `H3_SETTINGS_ERROR` (0x109) for an identifier of HTTP/2 or a
+/// repeated one, which is no fault of an unknown identifier. Returns `MEMORY` if allocation failed, which happens only at a
 /// setting. Returns `INVALID` for a payload of 2^62 bytes or more. Otherwise nothing changes.
 #[unsafe(no_mangle)]
 pub extern "C" fn wt_settings_read(
@@ -80,10 +100,10 @@ pub extern "C" fn wt_settings_read(
 ) -> i32
     ensures answers { (result ≡ OK) ⊎ ((result ≡ ROOM) ⊎ ((result ≡ FAULT)
         ⊎ ((result ≡ MEMORY) ⊎ (result ≡ INVALID)))) }
-    ensures settings { result ≡ OK → (m : List (ℕ × ℕ)) × (settings_in payload.now ≡ Ok m)
-        × HoldSettings settings.new count.new m }
-    ensures room { result ≡ ROOM → (m : List (ℕ × ℕ)) × (settings_in payload.now ≡ Ok m)
-        × LackSettings settings.old count.new m × (settings.new ≡ settings.old) }
+    ensures settings { result ≡ OK → (ps : List SettingPair) × ArePairsOf payload.now ps
+        × HoldSettings settings.old settings.new count.new (numbers_of ps) }
+    ensures room { result ≡ ROOM → (ps : List SettingPair) × ArePairsOf payload.now ps
+        × LackSettings settings.old count.new (numbers_of ps) × (settings.new ≡ settings.old) }
     ensures fault { result ≡ FAULT → (e : ErrorCode) × (settings_in payload.now ≡ Err e)
         × (code.new ≡ code_number e)
         × (settings.new ≡ settings.old) × (count.new ≡ count.old) }
@@ -97,7 +117,7 @@ pub extern "C" fn wt_settings_read(
         return INVALID;
     }
     match read_settings(alloc, payload) {
-        Ok(read) => put_settings(&read, settings, count),
+        Ok(_) => put_settings(payload, settings, count),
         Err(Refused::Code(fault)) => {
             *code = fault.to_code().into_inner();
             FAULT

@@ -2,7 +2,7 @@
 ghost use Rattle.std.specs.Prelude.{◌≡◌, ◌≤◌, ◌+◌, length, take, drop, IsUtf8, IsTrue};
 ghost use Rattle.std.specs.Prelude.{MatchOption, MatchBool};
 ghost use Rattle.std.specs.Str.{IsAscii};
-ghost use Rattle.wt_c.specs.Fields.{field_in, AreWithin};
+ghost use Rattle.wt_c.specs.Fields.{field_in, IsWithin, AreWithin};
 ghost use Rattle.wt_c.specs.Texts.{IsTextField, AreTextFields};
 
 use crate::answers::{INVALID, MEMORY};
@@ -12,7 +12,7 @@ use crate::fields::WtField;
 /// each field.
 const NEAR: usize = 128;
 
-/// The reason nothing was made of the arguments.
+/// Why the arguments were rejected.
 #[derive(Drop)]
 pub(crate) enum Unmade {
     /// An argument is out of its range.
@@ -88,6 +88,22 @@ fn text_at(bytes: &[u8], offset: usize, len: usize) -> Option<&str>
     text_of(bytes_at(bytes, offset, len))
 }
 
+/// Returns the name and the value of a field, if they are within the texts.
+pub(crate) fn parts_of<'a>(field: &WtField, texts: &'a [u8]) -> Option<(&'a [u8], &'a [u8])>
+    ensures { MatchOption result (¬ (IsWithin (length texts.now) field.now))
+        (λ f. IsWithin (length texts.now) field.now
+        × ((f.0.now, f.1.now) ≡ field_in texts.now field.now)) }
+{
+    if !is_within(texts.len(), field.name_offset, field.name_len)
+        || !is_within(texts.len(), field.value_offset, field.value_len)
+    {
+        return None;
+    }
+    let name = bytes_at(texts, field.name_offset, field.name_len);
+    let value = bytes_at(texts, field.value_offset, field.value_len);
+    Some((name, value))
+}
+
 /// Returns the name and the value of a field, if they are texts.
 pub(crate) fn texts_of<'a>(field: &WtField, texts: &'a [u8]) -> Option<(&'a str, &'a str)>
     ensures { MatchOption result (¬ (IsTextField texts.now field.now))
@@ -139,7 +155,7 @@ fn are_within(fields: &[WtField], size: usize) -> bool
     true
 }
 
-/// Returns whether all fields are pairs of texts, by a look at each text.
+/// Returns whether every name and value is valid UTF-8, checked one by one.
 fn are_each_texts(fields: &[WtField], texts: &[u8]) -> bool
     ensures { MatchBool result (AreTextFields texts.now fields.now)
         (¬ (AreTextFields texts.now fields.now)) }

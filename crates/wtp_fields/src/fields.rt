@@ -21,7 +21,7 @@ pub use message::{RequestTarget, ToHeadersError};
 use std::alloc::{AllocError, Global};
 use std::marker::Model;
 use thiserror::Error;
-pub use writing::PushError;
+pub use writing::{PushError, check_field};
 use wtp_core::error::ErrorCode;
 pub use wtp_qpack::qpack::FieldLine;
 use wtp_qpack::qpack::{DecodingError, FieldLines, FieldRoom};

@@ -170,9 +170,10 @@ fn octets(bytes: &[u8]) -> &[u8]
     bytes
 }
 
-/// Returns the first fault of a field.
+/// Returns the first fault of a field, as [`FieldList::push`] does, without a list. It does not
+/// allocate.
 #[tactic(auto, unfolding(crate::specs::FieldWriting::push_fault))]
-fn check_field(name: &[u8], value: &[u8]) -> Result<(), PushError>
+pub fn check_field(name: &[u8], value: &[u8]) -> Result<(), PushError>
     ensures { MatchResult result (λ _. push_fault name.now value.now ≡ None)
         (λ e. (push_fault name.now value.now ≡ Some e) × (e ≢ PushError.Memory)) }
 {
