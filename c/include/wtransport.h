@@ -237,9 +237,10 @@ typedef struct wt_setting {
 int wt_settings_read(const uint8_t *payload, size_t length, wt_setting *settings, size_t room,
                      size_t *count, uint64_t *code);
 
-/* Writes the payload of a SETTINGS frame: the settings in their order. It allocates.
+/* Writes the payload of a SETTINGS frame: the settings in their order. It allocates, but for none.
    WT_OK, WT_ROOM: as above. WT_INVALID: a number is 2^62 or more, an identifier is one that HTTP/2
-   used, or one that has a name or is reserved for exercise is repeated. WT_MEMORY. */
+   used, or one that has a name or is reserved for exercise is repeated. WT_MEMORY, only if it would not be
+   WT_INVALID. */
 int wt_settings_write(const wt_setting *settings, size_t count, uint8_t *out, size_t room,
                       size_t *used);
 

@@ -7,3 +7,4 @@ pub mod SessionLemmas
 pub mod ReaderLemmas
 pub mod TextLemmas
 pub mod ListLemmas
+pub mod FaultlessLemmas

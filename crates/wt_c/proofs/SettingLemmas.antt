@@ -136,5 +136,5 @@ payload_pairs payload m e = let (ps, has, faultless, kept) = settings-has_pairs 
 -- these are left of all, and the others were written
 pub record IsWriting (payload : List ℕ) (left all : List WtSetting) : Type 0 where
   pub bytes : payload ++ settings_wire (pairs_of left) ≡ settings_wire (pairs_of all)
-  pub good : AreNumbers left → AreNumbers all
-  pub bad : AreNumbers all → AreNumbers left
+  pub numbers : AreNumbers left
+  pub none : all ≡ [] → left ≡ []

@@ -1,5 +1,7 @@
 -- Settings as C has them (RFC 9114, section 7.2.4).
-use Rattle.std.specs.Prelude.{◌≡◌, ℕ, ◌<◌, ◌≤◌, ◌^◌, List, [], ◌∷◌, map, length, take, drop, None}
+use Rattle.std.specs.Prelude.{◌≡◌, ℕ, ◌<◌, ◌≤◌, ◌^◌, List, [], ◌∷◌, map, length, take, drop, None, Contains}
+use Rattle.std.specs.Map.{keys_of}
+use Rattle.wtp_wire.specs.SettingId.{IsReserved, IsSetting}
 use Rattle.wtp_wire.specs.declared.settings.pairs.SettingPair.{SettingPair}
 use Rattle.wtp_wire.specs.SettingPairs.{HasPairs, numbers_of}
 use Rattle.wtp_wire.specs.Settings.{AreFaultless}
@@ -35,3 +37,13 @@ pub record LackSettings (settings : List WtSetting) (count : ℕ) (m : List (ℕ
 abbrev pub AreNumbers : List WtSetting → Type 0
 AreNumbers [] = Unit {0}
 AreNumbers (s ∷ ss) = (s.id < 2 ^ 62) × (s.value < 2 ^ 62) × AreNumbers ss
+
+-- the identifier is not one of HTTP/2, and unless it is unknown, none of these has it too
+pub record IsFaultlessBefore (id : ℕ) (others : List WtSetting) : Type 0 where
+  pub free : ¬ IsReserved id
+  pub once : IsSetting id → ¬ Contains (keys_of (pairs_of others)) id
+
+-- they can be written, so that a peer finds no fault (RFC 9114, sections 7.2.4 and 7.2.4.1)
+pub record AreWritable (settings : List WtSetting) : Type 0 where
+  pub numbers : AreNumbers settings
+  pub faultless : AreFaultless (pairs_of settings)

@@ -1,21 +1,23 @@
 //! Settings of a connection (RFC 9114, section 7.2.4).
 ghost use Rattle.std.specs.Prelude.{◌≡◌, ◌≢◌, ◌⊎◌, ◌≤◌, ◌<◌, ◌^◌, ℕ, List, length, Some, None, Ok};
-ghost use Rattle.std.specs.Prelude.{Err, IfOk, IfErr};
+ghost use Rattle.std.specs.Prelude.{Err, [], IfOk, OnErr, MatchBool, Contains};
+ghost use Rattle.std.specs.Map.{keys_of};
 ghost use Rattle.wtp_core.specs.declared.error.ErrorCode.{ErrorCode};
 ghost use Rattle.wtp_core.specs.ErrorCodes.{code_number};
 ghost use Rattle.wtp_wire.specs.declared.settings.SettingId.{SettingId};
 ghost use Rattle.wtp_wire.specs.SettingId.{setting_id_of, setting_name_of};
 ghost use Rattle.wtp_wire.specs.Settings.{settings_in, settings_wire, StartsWithSettings};
-ghost use Rattle.wtp_wire.specs.Settings.{AnswersSettings};
+ghost use Rattle.wtp_wire.specs.Settings.{AnswersSettings, AreFaultless};
 ghost use Rattle.wt_c.specs.Output.{Puts, Lacks};
 ghost use Rattle.wtp_wire.specs.SettingPairs.{numbers_of, setting_items};
 ghost use Rattle.wtp_wire.specs.declared.settings.pairs.SettingPair.{SettingPair};
+ghost use Rattle.wt_c.specs.declared.settings.WtSetting.{WtSetting};
 ghost use Rattle.wt_c.specs.Settings.{HoldSettings, LackSettings, ArePairsOf, AreNumbers, pairs_of};
+ghost use Rattle.wt_c.specs.Settings.{IsFaultlessBefore, AreWritable};
 
 use crate::answers::{FAULT, INVALID, MEMORY, OK, ROOM};
 use crate::output::write_bytes;
-use crate::texts::Unmade;
-use std::alloc::Global;
+use std::alloc::{AllocError, Global};
 use std::borrow::CowSlice;
 use wtp_core::bytes::BytesWriter;
 use wtp_core::error::Refused;
@@ -126,46 +128,94 @@ pub extern "C" fn wt_settings_read(
     }
 }
 
-/// Returns why nothing was made of settings where allocation failed: `Invalid` if a number is 2^62
-/// or more all the same, and otherwise `Memory`.
-fn refuse_numbers(settings: &[WtSetting]) -> Unmade
-    ensures invalid { result ≡ Unmade.Invalid → ¬ (AreNumbers settings.now) }
-    ensures memory { result ≡ Unmade.Memory → AreNumbers settings.now }
+/// Returns whether each identifier and each value is below 2^62.
+fn are_numbers(settings: &[WtSetting]) -> bool
+    ensures { MatchBool result (AreNumbers settings.now) (¬ (AreNumbers settings.now)) }
 {
     let mut left = settings;
     'settings: while let Some((setting, others)) = left.split_first() {
-        if setting.id > VarInt::MAX.into_inner() {
-            return Unmade::Invalid;
-        }
-        if setting.value > VarInt::MAX.into_inner() {
-            return Unmade::Invalid;
+        if setting.id > VarInt::MAX.into_inner() || setting.value > VarInt::MAX.into_inner() {
+            return false;
         }
         left = others;
     }
-    Unmade::Memory
+    true
+}
+
+/// Returns whether one of the settings has this identifier.
+#[tactic(auto, using(crate::proofs::FaultlessLemmas::id_steps))]
+fn contains_id(settings: &[WtSetting], id: u64) -> bool
+    ensures { MatchBool result (Contains (keys_of (pairs_of settings.now)) id)
+        (¬ (Contains (keys_of (pairs_of settings.now)) id)) }
+{
+    let mut left = settings;
+    'settings: while let Some((setting, others)) = left.split_first() {
+        if setting.id == id {
+            return true;
+        }
+        left = others;
+    }
+    false
+}
+
+/// Returns whether a setting before these has no fault: its identifier is not one of HTTP/2, nor a
+/// known one that is repeated.
+#[tactic(auto, using(crate::proofs::FaultlessLemmas::before_steps))]
+fn is_faultless(id: VarInt, others: &[WtSetting]) -> bool
+    ensures { MatchBool result (IsFaultlessBefore id others.now)
+        (¬ (IsFaultlessBefore id others.now)) }
+{
+    if SettingId::is_reserved(id) {
+        return false;
+    }
+    match SettingId::parse(id) {
+        None => true,
+        Some(_setting) => {
+            if contains_id(others, id.into_inner()) {
+                return false;
+            }
+            true
+        }
+    }
+}
+
+/// Returns whether the settings have no fault.
+#[tactic(auto, using(crate::proofs::FaultlessLemmas::faultless_steps))]
+fn are_faultless(settings: &[WtSetting]) -> bool
+    requires { AreNumbers settings.now }
+    ensures { MatchBool result (AreFaultless (pairs_of settings.now))
+        (¬ (AreFaultless (pairs_of settings.now))) }
+{
+    let mut left = settings;
+    'settings: while let Some((setting, others)) = left.split_first() {
+        if !is_faultless(VarInt::from_u64_unchecked(setting.id), others) {
+            return false;
+        }
+        left = others;
+    }
+    true
 }
 
 /// Writes the numbers of settings and their values one after the other.
-fn write_pairs(alloc: Global, settings: &[WtSetting]) -> Result<Vec<u8>, Unmade>
-    ensures pairs { IfOk result (λ v. AreNumbers settings.now
-        × (v.items ≡ settings_wire (pairs_of settings.now))) }
-    ensures invalid { IfErr result (λ e. e ≡ Unmade.Invalid → ¬ (AreNumbers settings.now)) }
-    ensures memory { IfErr result (λ e. e ≡ Unmade.Memory → AreNumbers settings.now) }
+fn write_pairs(alloc: Global, settings: &[WtSetting]) -> Result<Vec<u8>, AllocError>
+    requires { AreNumbers settings.now }
+    ensures pairs { IfOk result (λ v. v.items ≡ settings_wire (pairs_of settings.now)) }
+    ensures memory { OnErr result (settings.now ≢ []) }
 {
     let mut payload = Vec::new(alloc);
     let mut left = settings;
     'settings: while let Some((setting, others)) = left.split_first() {
-        let Ok(id) = VarInt::try_from_u64(setting.id) else {
-            return Err(Unmade::Invalid);
-        };
-        let Ok(value) = VarInt::try_from_u64(setting.value) else {
-            return Err(Unmade::Invalid);
-        };
-        if payload.put_varint(id).is_err() {
-            return Err(refuse_numbers(settings));
+        if payload
+            .put_varint(VarInt::from_u64_unchecked(setting.id))
+            .is_err()
+        {
+            return Err(AllocError);
         }
-        if payload.put_varint(value).is_err() {
-            return Err(refuse_numbers(settings));
+        if payload
+            .put_varint(VarInt::from_u64_unchecked(setting.value))
+            .is_err()
+        {
+            return Err(AllocError);
         }
         left = others;
     }
@@ -177,8 +227,8 @@ fn write_pairs(alloc: Global, settings: &[WtSetting]) -> Result<Vec<u8>, Unmade>
 /// Returns `OK` with the size of the payload in `used`. Returns `ROOM` if `out` is shorter than
 /// that size, which `used` then is; `out` does not change. Returns `INVALID` if a number is 2^62 or
 /// more, or if a peer would find a fault in the payload: an identifier of HTTP/2, or a known one
-/// that is repeated. Returns `MEMORY` if allocation failed, which does not hide a number of 2^62 or
-/// more. Then nothing changes.
+/// that is repeated. Otherwise returns `MEMORY` if allocation failed, which does not happen for no
+/// settings at all. Then nothing changes.
 #[unsafe(no_mangle)]
 pub extern "C" fn wt_settings_write(
     alloc: Global,
@@ -187,31 +237,29 @@ pub extern "C" fn wt_settings_write(
     used: &mut usize,
 ) -> i32
     ensures answers { (result ≡ OK) ⊎ ((result ≡ ROOM) ⊎ ((result ≡ INVALID) ⊎ (result ≡ MEMORY))) }
-    ensures bytes { result ≡ OK → (m : List (ℕ × ℕ))
-        × (settings_in (settings_wire (pairs_of settings.now)) ≡ Ok m)
+    ensures bytes { result ≡ OK → AreWritable settings.now
         × Puts (settings_wire (pairs_of settings.now)) out.old out.new used.new }
-    ensures room { result ≡ ROOM → (m : List (ℕ × ℕ))
-        × (settings_in (settings_wire (pairs_of settings.now)) ≡ Ok m)
+    ensures room { result ≡ ROOM → AreWritable settings.now
         × Lacks (settings_wire (pairs_of settings.now)) out.old out.new used.new }
-    ensures invalid { result ≡ INVALID → ((¬ (AreNumbers settings.now))
-        ⊎ ((e : ErrorCode) × (settings_in (settings_wire (pairs_of settings.now)) ≡ Err e)))
+    ensures invalid { result ≡ INVALID → (¬ (AreWritable settings.now))
         × (out.new ≡ out.old) × (used.new ≡ used.old) }
-    ensures memory { result ≡ MEMORY → AreNumbers settings.now
+    ensures memory { result ≡ MEMORY → AreWritable settings.now × (settings.now ≢ [])
         × (out.new ≡ out.old) × (used.new ≡ used.old) }
 {
-    let payload = match write_pairs(alloc, settings) {
-        Ok(payload) => payload,
-        Err(reason) => return reason.answer(),
-    };
-    if payload.len() as u64 > VarInt::MAX.into_inner() {
-        return MEMORY;
+    if !are_numbers(settings) || !are_faultless(settings) {
+        return INVALID;
     }
-    match read_settings(alloc, payload.as_slice()) {
-        Ok(_) => write_bytes(payload.as_slice(), out, used),
-        Err(Refused::Code(_)) => INVALID,
-        Err(Refused::Memory) => MEMORY,
+    match write_pairs(alloc, settings) {
+        Ok(payload) => write_bytes(payload.as_slice(), out, used),
+        Err(_) => MEMORY,
     }
 }
+
+/// Settings that are written are read again without a fault.
+pub fn written_settings_are_read()
+    ensures { (settings : List WtSetting) → AreWritable settings → (m : List (ℕ × ℕ))
+        × (settings_in (settings_wire (pairs_of settings)) ≡ Ok m) }
+{}
 
 /// Writes the name of a setting to the start of `out`, in ASCII and without a final zero:
 /// `SETTINGS_H3_DATAGRAM` and its like, or the number of one that is reserved for exercise, as

@@ -1,7 +1,7 @@
 use Rattle.std.proofs.Common.{length}
 use Rattle.wt_c.specs.Settings.{AreNumbers}
 use Rattle.wt_c.proofs.TextLemmas.{AreLeft}
-use Rattle.wt_c.proofs.settings.refuse_numbers.Given as goal
+use Rattle.wt_c.proofs.settings.are_numbers.Given as goal
 
 abbrev pub invariant-settings : goal.invariant-settings
 invariant-settings l = AreLeft AreNumbers l.left l.settings
