@@ -1,5 +1,5 @@
 -- The result of one poll of a reading of a frame, once it has gone as far as the source goes.
-use Rattle.std.proofs.Common.{◌≡◌, ℕ, ◌+◌, ◌<◌, ◌≤◌, List, [], ◌∷◌, ◌++◌, length, refl, sym, ap, subst, ◌∙◌, arith, append_assoc, append-nil, length-append, inl, inr, Option, Some, None, Result}
+use Rattle.std.proofs.Common.{◌≡◌, ℕ, ◌+◌, ◌<◌, ◌≤◌, List, [], ◌∷◌, ◌++◌, length, refl, sym, ap, subst, ◌∙◌, arith, append_assoc, append-nil, length-append, inl, inr, Option, Some, None, Result, Err}
 use Rattle.std.proofs.lemmas.Bool.{cases_lt, lt-ltb, ne_eqb}
 use Rattle.wtp_core.specs.declared.bytes.polled.Polled.{Polled}
 use Rattle.wtp_core.specs.declared.bytes.polled.Polled.TheVariants.{Ready, NoMemory}
@@ -7,12 +7,13 @@ use Rattle.wtp_core.specs.declared.bytes.polled.IoReadError as bytes-is
 use Rattle.wtp_core.specs.declared.polling.fill.Halt.{Halt}
 use Rattle.wtp_core.specs.declared.polling.fill.Halt.TheVariants as halt
 use Rattle.wtp_core.specs.Source.{Source, AtEnd, AtReset, AtDisconnection, Telling}
-use Rattle.wtp_core.specs.Polled.{stop, Asks}
-use Rattle.wtp_core.specs.Fill.{Gains, HaltIsTrue, HaltsAs, halt_fault, halted_poll}
+use Rattle.wtp_core.specs.Polled.{stop, Asks, WaitsAs}
+use Rattle.wtp_core.specs.Fill.{Gains, HaltIsTrue, HaltsAs, halt_fault, halted_poll, halt_waits}
 use Rattle.wtp_core.specs.Varint.{bytes_at}
 use Rattle.wtp_core.proofs.EncodingLemmas.{bytes_at-append}
 use Rattle.wtp_core.proofs.TellingLemmas.{telling_map}
 use Rattle.wtp_core.proofs.FillLemmas.{halted_as}
+use Rattle.wtp_core.proofs.WaitLemmas.{halted_waits}
 use Rattle.wtp_core.proofs.GetLemmas.{dry}
 use Rattle.wtp_wire.specs.declared.frame.kind.FrameKind.{FrameKind}
 use Rattle.wtp_wire.specs.declared.frame.head.Announcement.{Announcement}
@@ -302,3 +303,8 @@ no_memory_polls s t old new d z was now w grew p = record {
   polled = telling_map s t _ (FramePolled NoMemory (hold (bytes_in old) d) (hold (bytes_in new) d)) (λ a c q. no_memory_polled old new d a c z w q) p;
   asks = telling_map s t _ (Asks max_calls) (λ a c q. asks_left new (bytes_in old) 0 a c (omega arith) now q) p;
 }
+
+-- the waits of a poll that stopped as its source did
+pub frame_halted_waits : (x : Halt) (n : ℕ) (s t : Option Source) (r : Polled (Result Content IoReadError)) → HaltsAs (λ f e. e ≡ IO f) (halt_fault x n) r → Telling s t (λ a b. b.waits ≡ a.waits + halt_waits {U = Unit {0}} (Err x)) → Telling s t (WaitsAs r)
+frame_halted_waits x n s t r h p =
+    rw (halted_as (λ (f : bytes-is.IoReadError). IO f) (halt_fault x n) r h) (halted_waits Content IoReadError (Unit {0}) (λ f. IO f) x n s t p)

@@ -99,6 +99,7 @@ takes_frame f shown size (Some a) (Some b) small e (rest, is) (once, parts, enou
     record {
       front = ap front is ∙ more_after f shown rest (drop size shown) e ∙ ap (λ (l : List ℕ). Framed f l) (sym (left ∙ same));
       asks = record { asked = once.asked; no_less = once.no_less; ending = once.ending; waits = omega arith };
+      waits = waits;
     }
 
 -- ---- the result of a poll

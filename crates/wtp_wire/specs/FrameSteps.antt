@@ -4,7 +4,7 @@ use Rattle.wtp_core.specs.declared.bytes.polled.Polled.{Polled}
 use Rattle.wtp_core.specs.declared.bytes.polled.Polled.TheVariants.{Ready, Pending, Again, NoMemory}
 use Rattle.wtp_core.specs.Source.{Source}
 use Rattle.wtp_core.specs.Polled.{stop, Asks}
-use Rattle.wtp_core.specs.Fill.{Gains, FillMoves}
+use Rattle.wtp_core.specs.Fill.{Gains, FillMoves, halt_waits}
 use Rattle.wtp_core.specs.Passing.{max_passed}
 use Rattle.wtp_wire.specs.declared.frame.kind.FrameKind.{FrameKind}
 use Rattle.wtp_wire.specs.declared.frame.kind.FrameKind.TheVariants.{WebTransport}
@@ -35,6 +35,7 @@ pub record IsFramed (f : Content) : Type 0 where
 pub record TakesFrame (f : Content) (a b : Source) : Type 0 where
   pub front : front a.ahead ≡ Framed f b.ahead
   pub asks : Asks 1 a b
+  pub waits : b.waits ≡ a.waits
 
 -- ---- reading on
 
@@ -47,6 +48,15 @@ abbrev pub StopMoves : {U : Type 0} → Result U Stop → List ℕ → List ℕ 
 StopMoves (Ok u) held new a b = Gains held new a b 0
 StopMoves {U} (Err (stopped.Source h)) held new a b = FillMoves {U = U} (Err h) held new a b
 StopMoves (Err stopped.NoMemory) held new a b = Gains held new a b 0
+
+-- how often the source was not ready
+abbrev pub stop_waits : {U : Type 0} → Result U Stop → ℕ
+stop_waits (Ok u) = 0
+stop_waits {U} (Err (stopped.Source h)) = halt_waits {U = U} (Err h)
+stop_waits (Err stopped.NoMemory) = 0
+
+abbrev pub StopWaits : {U : Type 0} → Result U Stop → Source → Source → Type 0
+StopWaits r a b = b.waits ≡ a.waits + stop_waits r
 
 -- there is no room, and none was to be had for a payload of this size
 pub record LacksPayloadRoom (size : ℕ) (old new : Part) : Type 0 where

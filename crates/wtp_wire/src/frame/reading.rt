@@ -1,7 +1,7 @@
 //! Reading a frame, poll by poll.
 ghost use Rattle.std.specs.Prelude.{◌≡◌, length, None, IfSome};
 ghost use Rattle.wtp_core.specs.Source.{Telling};
-ghost use Rattle.wtp_core.specs.Polled.{Asks};
+ghost use Rattle.wtp_core.specs.Polled.{Asks, WaitsAs};
 ghost use Rattle.wtp_wire.specs.Held.{new_held, IsUnfinished};
 ghost use Rattle.wtp_wire.specs.FramePolling.{FramePolled, FrameGiven};
 ghost use Rattle.wtp_wire.specs.FrameSteps.{CanAnswer, IsAnswer, IsFramed, TakesFrame, PassedOn, PassedPlain};
@@ -110,7 +110,7 @@ impl FrameReading {
     ///   payload is allocated, once, before its first byte.
     /// - `Ready(Err(IO(fault)))`: the source gave no more bytes, and there were too few. All are
     ///   held.
-    /// - `Pending`: the source was not ready. `NoMemory`: allocation failed for a payload of 1 to
+    /// - `Pending`: the source was not ready, once, and is not called again then. `NoMemory`: allocation failed for a payload of 1 to
     ///   4096 bytes. All bytes received are held.
     /// - `Again`: 4096 bytes of an unknown frame's payload were skipped, and some are still to be
     ///   skipped.
@@ -127,6 +127,7 @@ impl FrameReading {
         ensures given { FrameGiven result self.old self.new }
         ensures polled { Telling (S.tells source.old) (S.tells source.new)
             (FramePolled result self.old self.new) }
+        ensures waits { Telling (S.tells source.old) (S.tells source.new) (WaitsAs result) }
         ensures asks { Telling (S.tells source.old) (S.tells source.new) (Asks 4112) }
     {
         if self.due == 0 && self.part.head_len() == 0 {
@@ -144,6 +145,7 @@ impl FrameReading {
         ensures given { FrameGiven result self.old self.new }
         ensures polled { Telling (S.tells source.old) (S.tells source.new)
             (FramePolled result self.old self.new) }
+        ensures waits { Telling (S.tells source.old) (S.tells source.new) (WaitsAs result) }
         ensures asks { Telling (S.tells source.old) (S.tells source.new) (Asks 4112) }
     {
         if self.due > 0 {
@@ -204,6 +206,7 @@ fn pass_on<S: AsyncRead>(source: &mut S, due: &mut u64) -> Polled<Result<FrameOw
     ensures plain { PassedPlain result due.old due.new }
     ensures passed { Telling (S.tells source.old) (S.tells source.new)
         (PassedOn result due.old due.new) }
+    ensures waits { Telling (S.tells source.old) (S.tells source.new) (WaitsAs result) }
 {
     match pass(source, due) {
         Ok(()) => {

@@ -1,7 +1,7 @@
 //! Reading and writing a stream header, poll by poll.
 ghost use Rattle.std.specs.Prelude.{◌≡◌, ℕ, ◌+◌, ◌<◌, ◌≤◌, List, [], length, take, Ok};
 ghost use Rattle.wtp_core.specs.Source.{Telling};
-ghost use Rattle.wtp_core.specs.Polled.{Asks};
+ghost use Rattle.wtp_core.specs.Polled.{Asks, WaitsAs};
 ghost use Rattle.wtp_core.specs.Put.{Writing, unsent, GoesOn, IsSent, WritePolled};
 ghost use Rattle.wtp_wire.specs.HeaderFront.{Short, header_front};
 ghost use Rattle.wtp_wire.specs.HeaderNeed.{header_need, header_need_most, header_need_grows};
@@ -136,7 +136,8 @@ impl HeaderReading {
     ///   the bytes taken and ahead. The source is positioned right after the bytes that decided.
     /// - `Ready(Err(IO(fault)))`: the source gave no more bytes, and there were too few. All are
     ///   held.
-    /// - `Pending`: the source was not ready. All bytes received are held.
+    /// - `Pending`: the source was not ready, once, and is not called again then. All bytes received
+    ///   are held.
     ///
     /// It may be polled again after each of these, with the same source or another.
     pub fn poll<S: AsyncRead>(
@@ -148,6 +149,7 @@ impl HeaderReading {
         ensures given { HeaderGiven result self.old self.new }
         ensures polled { Telling (S.tells source.old) (S.tells source.new)
             (HeaderPolled result self.old self.new) }
+        ensures waits { Telling (S.tells source.old) (S.tells source.new) (WaitsAs result) }
         ensures asks { Telling (S.tells source.old) (S.tells source.new) (Asks 16) }
     {
         match fill_head::<HeaderHead, S>(source, &mut self.bytes, &mut self.len) {

@@ -3,7 +3,7 @@
 ghost use Rattle.std.specs.Prelude.{◌≡◌, ◌<◌, length, false, IsTrue};
 ghost use Rattle.wtp_core.specs.Source.{Telling};
 ghost use Rattle.wtp_wire.specs.FramePart.{Part, new_part, bytes_in, IsReading};
-ghost use Rattle.wtp_wire.specs.FrameSteps.{LacksPayloadRoom, PayloadKeeps, AdvanceKeeps, StopMoves, Grew};
+ghost use Rattle.wtp_wire.specs.FrameSteps.{LacksPayloadRoom, PayloadKeeps, AdvanceKeeps, StopMoves, StopWaits, Grew};
 
 use crate::frame::head::{Announcement, FrameHead, read_head};
 use std::alloc::Global;
@@ -100,6 +100,7 @@ impl FramePart {
         ensures grew { Grew (bytes_in self.old) (bytes_in self.new) }
         ensures moves { Telling (S.tells source.old) (S.tells source.new)
             (StopMoves result (bytes_in self.old) (bytes_in self.new)) }
+        ensures waits { Telling (S.tells source.old) (S.tells source.new) (StopWaits result) }
     {
         match fill_head::<FrameHead, S>(source, &mut self.head, &mut self.len) {
             Ok(()) => {}
@@ -124,6 +125,7 @@ impl FramePart {
         ensures grew { Grew self.old.payload self.new.payload }
         ensures moves { Telling (S.tells source.old) (S.tells source.new)
             (StopMoves result self.old.payload self.new.payload) }
+        ensures waits { Telling (S.tells source.old) (S.tells source.new) (StopWaits result) }
     {
         if !self.take_room(size) {
             return Err(Stop::NoMemory);

@@ -1,4 +1,7 @@
-use Rattle.std.proofs.Common.{arith, Ok}
+use Rattle.std.proofs.Common.{◌≡◌, arith, Ok}
+use Rattle.wtp_core.proofs.TellingLemmas.{telling_map}
+use Rattle.wtp_core.proofs.WaitLemmas.{waits_none}
+use Rattle.wtp_wire.specs.FrameSteps.{TakesFrame}
 use Rattle.wtp_core.specs.declared.bytes.polled.Polled.TheVariants.{Ready}
 use Rattle.wtp_wire.specs.FramePart.{bytes_in}
 use Rattle.wtp_wire.proofs.FrameReadingLemmas.{no_items}
@@ -14,4 +17,4 @@ returns-in-Some g c =
     let t = g.S.AsyncRead.tells c.take_buffered_frame.new.source in
     let q = polls_as s t (Ready (Ok c.in-Some.frame)) (hold (bytes_in old) d) c.args.self.now (hold (bytes_in old) d) c.args.self.now c.self.view_is c.self.view_is
     (whole_polls s t c.in-Some.frame old d (omega arith) c.self.invariant.0 (no_items old.head (omega (arith, c.head_len.ensures))) c.in-Some.ensures.framed c.in-Some.ensures.takes) in
-    record { was_unfinished = q.was_unfinished; unfinished = q.unfinished; given = q.given; polled = q.polled; asks = q.asks }
+    record { was_unfinished = q.was_unfinished; unfinished = q.unfinished; given = q.given; polled = q.polled; waits = waits_none s t (telling_map s t (TakesFrame c.in-Some.frame) (λ a b. b.waits ≡ a.waits) (λ a b k. k.waits) c.in-Some.ensures.takes); asks = q.asks }

@@ -6,7 +6,10 @@ use Rattle.wtp_wire.specs.declared.frame.reading.part.Stop.TheVariants as stoppe
 use Rattle.wtp_wire.specs.FramePart.{Part, bytes_in}
 use Rattle.wtp_wire.specs.FrameSteps.{StopMoves}
 use Rattle.wtp_wire.proofs.FramePollLemmas.{hold, reading_new, can_answer, answer_polls, halted_polls, no_memory_polls, polls_as}
+use Rattle.wtp_core.specs.Polled.{polled_waits}
+use Rattle.wtp_core.proofs.WaitLemmas.{none_waits, waits_then}
 use Rattle.wtp_wire.proofs.FramePassLemmas.{due_polls, skip_polls}
+use Rattle.wtp_wire.proofs.FramePollLemmas.{frame_halted_waits}
 use Rattle.wtp_wire.proofs.frame.reading.FrameReading.read_on.Goals as goal
 
 pub returns-then-self-gt0 : goal.returns-then-self-gt0
@@ -17,7 +20,7 @@ returns-then-self-gt0 g c =
     let t = g.S.AsyncRead.tells c.pass_on.new.source in
     let q = polls_as s t c.pass_on.result (hold (bytes_in old) d) c.args.self.now (hold (bytes_in old) c.pass_on.new.due) (hold (bytes_in old) c.pass_on.new.due) c.self.view_is refl
     (due_polls s t c.pass_on.result old d c.pass_on.new.due c.if-self-gt0.true c.self.invariant.0 (c.self.invariant.1 c.if-self-gt0.true) c.pass_on.ensures.plain c.pass_on.ensures.passed) in
-    record { was_unfinished = q.was_unfinished; unfinished = q.unfinished; given = q.given; polled = q.polled; asks = q.asks }
+    record { was_unfinished = q.was_unfinished; unfinished = q.unfinished; given = q.given; polled = q.polled; waits = c.pass_on.ensures.waits; asks = q.asks }
 
 pub returns-in-Err-Source : goal.returns-in-Err-Source
 returns-in-Err-Source g c =
@@ -31,7 +34,7 @@ returns-in-Err-Source g c =
     (rw c.in-Err-Source.field-0-is at c.in-Err-Source.ensures.moves) in
     let q = polls_as s t c.halt_result.result (hold (bytes_in old) d) c.args.self.now (hold (bytes_in new) d) (hold (bytes_in new) d) c.self.view_is refl
     (halted_polls s t halt c.len.result c.halt_result.result old new d (omega arith) c.len.ensures c.halt_result.ensures c.self.invariant.0 (rw c.in-Err-Source.field-0-is at c.in-Err-Source.ensures.keeps) c.advance.ensures.grew moves) in
-    record { was_unfinished = q.was_unfinished; unfinished = q.unfinished; given = q.given; polled = q.polled; asks = q.asks }
+    record { was_unfinished = q.was_unfinished; unfinished = q.unfinished; given = q.given; polled = q.polled; waits = frame_halted_waits halt c.len.result s t c.halt_result.result c.halt_result.ensures (rw c.in-Err-Source.field-0-is at c.in-Err-Source.ensures.waits); asks = q.asks }
 
 pub returns-in-Err-NoMemory : goal.returns-in-Err-NoMemory
 returns-in-Err-NoMemory g c =
@@ -45,7 +48,7 @@ returns-in-Err-NoMemory g c =
     let k = rw c.in-Err-NoMemory.field-0-is at c.in-Err-NoMemory.ensures.keeps in
     let q = polls_as s t NoMemory (hold (bytes_in old) d) c.args.self.now (hold (bytes_in new) d) (hold (bytes_in new) d) c.self.view_is refl
     (no_memory_polls s t old new d (omega arith) c.self.invariant.0 k.0 k.1 c.advance.ensures.grew moves) in
-    record { was_unfinished = q.was_unfinished; unfinished = q.unfinished; given = q.given; polled = q.polled; asks = q.asks }
+    record { was_unfinished = q.was_unfinished; unfinished = q.unfinished; given = q.given; polled = q.polled; waits = rw c.in-Err-NoMemory.field-0-is at c.in-Err-NoMemory.ensures.waits; asks = q.asks }
 
 pub invariant_of-self-in-Skip-1 : goal.invariant_of-self-in-Skip-1
 invariant_of-self-in-Skip-1 g c = rw c.take_payload-payload.ensures.empty (reading_new, λ _. refl)
@@ -71,7 +74,7 @@ returns-in-Skip g c =
     let q = polls_as s u c.pass_on-in-Skip.result (hold (bytes_in old) d) c.args.self.now (hold [] d') (hold (bytes_in c.take_payload-payload.new.self) d') c.self.view_is
     (ap (λ (x : Part). hold (bytes_in x) d') (sym c.take_payload-payload.ensures.empty))
     (skip_polls s t u c.pass_on-in-Skip.result old new m d d' (omega arith) c.self.invariant.0 (rw c.in-Skip.is at c.in-Ok.ensures.keeps) c.advance.ensures.grew moves c.pass_on-in-Skip.ensures.plain c.pass_on-in-Skip.ensures.passed) in
-    record { was_unfinished = q.was_unfinished; unfinished = q.unfinished; given = q.given; polled = q.polled; asks = q.asks }
+    record { was_unfinished = q.was_unfinished; unfinished = q.unfinished; given = q.given; polled = q.polled; waits = waits_then (polled_waits c.pass_on-in-Skip.result) s t u (none_waits s t c.in-Ok.ensures.waits) c.pass_on-in-Skip.ensures.waits; asks = q.asks }
 
 pub returns-in_default : goal.returns-in_default
 returns-in_default g c =
@@ -85,4 +88,4 @@ returns-in_default g c =
     let q = polls_as s t (Ready c.answer.result) (hold (bytes_in old) d) c.args.self.now (hold [] d) (hold (bytes_in c.take_payload-payload.new.self) d) c.self.view_is
     (ap (λ (x : Part). hold (bytes_in x) d) (sym c.take_payload-payload.ensures.empty))
     (answer_polls s t c.in-Ok.announcement c.answer.result old new d (omega arith) c.self.invariant.0 (rw c.take_payload-payload.ensures.payload at c.answer.ensures) c.in-Ok.ensures.keeps c.advance.ensures.grew moves) in
-    record { was_unfinished = q.was_unfinished; unfinished = q.unfinished; given = q.given; polled = q.polled; asks = q.asks }
+    record { was_unfinished = q.was_unfinished; unfinished = q.unfinished; given = q.given; polled = q.polled; waits = c.in-Ok.ensures.waits; asks = q.asks }

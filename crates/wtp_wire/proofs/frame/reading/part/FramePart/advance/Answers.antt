@@ -91,4 +91,5 @@ returns-in_default g c =
       keeps = announcement_bare c.read_head-announcement.result old new c.requires g' (ap (λ (x : Part). x.room) c.self.view_is) ep whole (sym c.read_head-announcement.ensures) c.in_default.not-Payload;
       grew = part_grew old new h p c.requires g' ep refl (grew_none p);
       moves = part_moves _ _ t old new h hd p c.requires g' eh ep refl c.in-Ok.ensures.tells (telling_same t (λ a b. Gains p p a b 0) (λ a. same_gains p a));
+      waits = c.in-Ok.ensures.waits;
     }
