@@ -5,7 +5,7 @@
 -- HEADERS frame opens a request (RFC 9114, section 4.1): frames of reserved types before it are
 -- skipped (section 7.2.8), and a DATA frame is unexpected there. Frames of unknown types are always
 -- skipped (section 9). The law `opening_by_front` states exactly that.
-use Rattle.std.specs.Prelude.{◌≡◌, ◌≢◌, ◌⊎◌, ℕ, ◌<◌, ◌≤◌, Bool, true, false, List, [], ◌∷◌}
+use Rattle.std.specs.Prelude.{◌≡◌, ◌≢◌, ◌⊎◌, ℕ, ◌+◌, ◌<◌, ◌≤◌, Bool, true, false, List, [], ◌∷◌}
 use Rattle.wtp_core.specs.declared.bytes.polled.IoReadError.TheVariants as io
 use Rattle.wtp_core.specs.declared.error.ErrorCode.{ErrorCode}
 use Rattle.wtp_core.specs.declared.error.ErrorCode.TheVariants.{Frame, FrameUnexpected}
@@ -149,6 +149,14 @@ BiAcceptPolled (accepted.NoMemory p) first old a b =
     × LacksMemory first (first_of p.stream) old p.reading a b
 BiAcceptPolled (accepted.Failed p x) first old a b =
     FailsToOpen first (first_of p.stream) old p.reading x a b
+
+-- how often the source was not ready
+abbrev pub bi_accept_waits : BiAccepted → ℕ
+bi_accept_waits (accepted.Pending p) = 1
+bi_accept_waits other = 0
+
+abbrev pub BiAcceptWaits : BiAccepted → Source → Source → Type 0
+BiAcceptWaits result a b = b.waits ≡ a.waits + bi_accept_waits result
 
 -- ---- of every source, also of one without a model
 

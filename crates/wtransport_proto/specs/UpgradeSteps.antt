@@ -1,5 +1,5 @@
 -- Upgrading a stream, poll by poll.
-use Rattle.std.specs.Prelude.{◌≡◌, ◌≢◌, ◌⊎◌, ℕ, ◌<◌, List, [], ◌++◌, length, drop}
+use Rattle.std.specs.Prelude.{◌≡◌, ◌≢◌, ◌⊎◌, ℕ, ◌+◌, ◌<◌, List, [], ◌++◌, length, drop}
 use Rattle.wtp_core.specs.declared.bytes.polled.Stepped.{Stepped}
 use Rattle.wtp_core.specs.declared.bytes.polled.Stepped.TheVariants.{Done, Pending, NoMemory, Failed}
 use Rattle.wtp_core.specs.declared.bytes.polled.IoReadError.TheVariants as read
@@ -99,6 +99,15 @@ AcceptPolled (NoMemory p) old a b = ⊥
 AcceptPolled (Failed p (stream.H3 c)) old a b = HeaderFault c old p.reading a b
 AcceptPolled (Failed p (stream.IO e)) old a b =
     (e ≢ read.UnexpectedFin) × (header_front (old ++ a.ahead) ≡ Short) × Stops old p.reading e a b
+
+-- how often the source was not ready
+abbrev pub accept_waits : Stepped UniAccepting (Stream UniRemote (H3 Header)) IoReadError → ℕ
+accept_waits (Pending p) = 1
+accept_waits other = 0
+
+abbrev pub AcceptWaits :
+    Stepped UniAccepting (Stream UniRemote (H3 Header)) IoReadError → Source → Source → Type 0
+AcceptWaits result a b = b.waits ≡ a.waits + accept_waits result
 
 abbrev pub HeaderFaultGiven : ErrorCode → List ℕ → List ℕ → Type 0
 HeaderFaultGiven c old new =

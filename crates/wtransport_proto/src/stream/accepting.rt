@@ -22,7 +22,7 @@ pub struct UniAccepting {
 impl UniAccepting {
     ghost use Rattle.wtp_core.specs.Source.{Telling};
     ghost use Rattle.wtp_core.specs.Polled.{Asks};
-    ghost use Rattle.wtransport_proto.specs.UpgradeSteps.{AcceptPolled, AcceptGiven};
+    ghost use Rattle.wtransport_proto.specs.UpgradeSteps.{AcceptPolled, AcceptWaits, AcceptGiven};
 
     /// Reads as far as the source goes, in at most 16 calls, and does not allocate. Returns `Done`
     /// once the header is read; the source is positioned right after it.
@@ -43,6 +43,7 @@ impl UniAccepting {
         ensures given { AcceptGiven result self }
         ensures polled { Telling (S.tells source.old) (S.tells source.new)
             (AcceptPolled result self.reading) }
+        ensures waits { Telling (S.tells source.old) (S.tells source.new) (AcceptWaits result) }
         ensures asks { Telling (S.tells source.old) (S.tells source.new) (Asks 16) }
     {
         match self.reading.poll(source) {
@@ -100,7 +101,7 @@ impl BiAccepting {
     ghost use Rattle.wtp_wire.specs.Content.{kind_in};
     ghost use Rattle.wtp_wire.specs.Held.{IsUnfinished};
     ghost use Rattle.wtp_wire.specs.Rule.{RemoteBi, rule};
-    ghost use Rattle.wtransport_proto.specs.Accepting.{BiAcceptPolled, BiAcceptGiven, Judges, held_in};
+    ghost use Rattle.wtransport_proto.specs.Accepting.{BiAcceptPolled, BiAcceptWaits, BiAcceptGiven, Judges, held_in};
     ghost use Rattle.wtransport_proto.specs.Streams.{first_of};
 
     /// Reads at most one frame, in at most 4112 calls to the source.
@@ -129,6 +130,7 @@ impl BiAccepting {
         ensures given { BiAcceptGiven result (first_of self.stream) self.reading }
         ensures polled { Telling (S.tells source.old) (S.tells source.new)
             (BiAcceptPolled result (first_of self.stream) self.reading) }
+        ensures waits { Telling (S.tells source.old) (S.tells source.new) (BiAcceptWaits result) }
         ensures asks { Telling (S.tells source.old) (S.tells source.new) (Asks 4112) }
     {
         match self.stream.read_frame_async(&mut self.reading, source) {

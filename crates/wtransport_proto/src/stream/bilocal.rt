@@ -3,7 +3,7 @@ ghost use Rattle.std.specs.Prelude.{◌≡◌, ◌≢◌, ◌≤◌, ◌↔◌, 
 ghost use Rattle.wtp_core.specs.Reader.{IsRest};
 ghost use Rattle.wtp_core.specs.Cursor.{left_of, whole_of};
 ghost use Rattle.wtp_core.specs.Source.{Telling};
-ghost use Rattle.wtp_core.specs.Polled.{Asks};
+ghost use Rattle.wtp_core.specs.Polled.{Asks, WaitsAs};
 ghost use Rattle.wtp_core.specs.Writer.{PutsParts, LacksRoom};
 ghost use Rattle.wtp_core.specs.BufferWriter.{room_in, loan_of, IsUnwritten, Wrote};
 ghost use Rattle.wtp_core.specs.Put.{GoesOn, IsSent, WritePolled, unsent};
@@ -124,6 +124,7 @@ impl StreamBiLocalH3 {
         ensures given { StreamGiven LocalBi result false false reading.old reading.new }
         ensures polled { Telling (S.tells source.old) (S.tells source.new)
             (StreamPolled LocalBi result false false reading.old reading.new) }
+        ensures waits { Telling (S.tells source.old) (S.tells source.new) (WaitsAs result) }
         ensures asks { Telling (S.tells source.old) (S.tells source.new) (Asks 4112) }
     {
         polled::judge::<Self>(reading.poll(source), &mut true)

@@ -3,7 +3,7 @@ ghost use Rattle.std.specs.Prelude.{◌≡◌, ◌≤◌, ◌↔◌, true, lengt
 ghost use Rattle.wtp_core.specs.Reader.{IsRest};
 ghost use Rattle.wtp_core.specs.Cursor.{left_of, whole_of};
 ghost use Rattle.wtp_core.specs.Source.{Telling};
-ghost use Rattle.wtp_core.specs.Polled.{Asks};
+ghost use Rattle.wtp_core.specs.Polled.{Asks, WaitsAs};
 ghost use Rattle.wtp_core.specs.Writer.{PutsParts, LacksRoom};
 ghost use Rattle.wtp_core.specs.BufferWriter.{room_in, loan_of, IsUnwritten, Wrote};
 ghost use Rattle.wtp_core.specs.Put.{GoesOn, IsSent, WritePolled};
@@ -132,6 +132,7 @@ impl StreamBiRemoteH3 {
         ensures polled { Telling (S.tells source.old) (S.tells source.new)
             (StreamPolled RemoteBi result (first_of self.old) (first_of self.new) reading.old
             reading.new) }
+        ensures waits { Telling (S.tells source.old) (S.tells source.new) (WaitsAs result) }
         ensures asks { Telling (S.tells source.old) (S.tells source.new) (Asks 4112) }
     {
         polled::judge::<Self>(reading.poll(source), &mut self.stage.first_frame_done)

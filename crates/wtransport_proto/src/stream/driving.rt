@@ -1,7 +1,7 @@
 //! Driving a stream: reading its frames poll by poll, as far as its source goes.
 ghost use Rattle.std.specs.Prelude.{◌≡◌, ◌≤◌, Bool, IsTrue, ◌↔◌, ◌++◌, length, drop, false};
 ghost use Rattle.wtp_core.specs.Source.{Telling};
-ghost use Rattle.wtp_core.specs.Polled.{Asks};
+ghost use Rattle.wtp_core.specs.Polled.{Asks, WaitsAs};
 ghost use Rattle.wtp_wire.specs.Held.{IsUnfinished};
 ghost use Rattle.wtp_wire.specs.Rule.{Role, RemoteBi, LocalBi, RemoteUni, InSession};
 ghost use Rattle.wtransport_proto.specs.Streams.{first_of, CanRead};
@@ -48,6 +48,7 @@ pub trait ReadsFrames {
             reading.new }
         ensures polled { Telling (S.tells source.old) (S.tells source.new)
             (StreamPolled role result (first self.old) (first self.new) reading.old reading.new) }
+        ensures waits { Telling (S.tells source.old) (S.tells source.new) (WaitsAs result) }
         ensures asks { Telling (S.tells source.old) (S.tells source.new) (Asks 4112) };
 }
 

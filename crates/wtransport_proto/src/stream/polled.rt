@@ -1,6 +1,7 @@
 //! The result of a stream for the result of its reading: one implementation for all kinds, which
 //! differ in their rule.
 ghost use Rattle.std.specs.Prelude.{◌≡◌, true, not};
+ghost use Rattle.wtp_core.specs.Polled.{polled_waits};
 ghost use Rattle.wtransport_proto.specs.StreamPolling.{JudgesGiven, JudgesPolled, stream_fault};
 
 use crate::stream::reading::Rule;
@@ -37,6 +38,7 @@ pub(crate) fn judge<K: Rule>(
         (not first_frame_done.old) (not first_frame_done.new) }
     ensures polled { JudgesPolled K.role answer.entry result
         (not first_frame_done.old) (not first_frame_done.new) }
+    ensures waits { polled_waits result ≡ polled_waits answer.entry }
     ensures stays { first_frame_done.old ≡ true → first_frame_done.new ≡ true }
 {
     match answer {

@@ -3,7 +3,7 @@ ghost use Rattle.std.specs.Prelude.{◌≡◌, ◌↔◌, [], false, IsTrue};
 ghost use Rattle.wtp_core.specs.Reader.{IsRest};
 ghost use Rattle.wtp_core.specs.Cursor.{left_of, whole_of};
 ghost use Rattle.wtp_core.specs.Source.{Telling};
-ghost use Rattle.wtp_core.specs.Polled.{Asks};
+ghost use Rattle.wtp_core.specs.Polled.{Asks, WaitsAs};
 ghost use Rattle.wtp_wire.specs.Front.{front};
 ghost use Rattle.wtp_wire.specs.Held.{IsUnfinished};
 ghost use Rattle.wtp_wire.specs.HeaderFront.{header_front};
@@ -168,6 +168,7 @@ impl StreamUniRemoteH3 {
         ensures given { StreamGiven RemoteUni result false false reading.old reading.new }
         ensures polled { Telling (S.tells source.old) (S.tells source.new)
             (StreamPolled RemoteUni result false false reading.old reading.new) }
+        ensures waits { Telling (S.tells source.old) (S.tells source.new) (WaitsAs result) }
         ensures asks { Telling (S.tells source.old) (S.tells source.new) (Asks 4112) }
         ensures same { self.new ≡ self.old }
         ensures readable { CanRead self.new }
