@@ -1,10 +1,8 @@
 -- What a capsule that closes its session has.
 use Rattle.std.proofs.Common.{◌≡◌, ℕ, List, Option, Some, None, Ok, refl}
-use Rattle.std.specs.Prelude.{string_bytes}
 use Rattle.wtp_wire.specs.Capsule.{capsule_in}
 use Rattle.wtp_wire.specs.CloseSession.{close_in}
 use Rattle.wtp_core.specs.declared.error.ErrorCode.{ErrorCode}
-use Rattle.wtp_core.specs.declared.error.ErrorCode.TheVariants as code-is
 use Rattle.wtp_wire.specs.declared.capsule.CapsuleKind.{CapsuleKind}
 use Rattle.wtp_wire.specs.declared.capsule.CapsuleKind.TheVariants.{CloseWebTransportSession}
 use Rattle.wt_inspection.specs.declared.capsules.Closing.{Closing}

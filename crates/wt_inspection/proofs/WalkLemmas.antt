@@ -1,7 +1,7 @@
 -- Capsules of data that is cut anywhere, turn by turn.
-use Rattle.std.proofs.Common.{◌≡◌, ◌≢◌, ℕ, ◌+◌, ◌-◌, ◌<◌, ◌≤◌, ◌^◌, ◌⊎◌, Bool, true, false, List, [], ◌∷◌, ◌++◌, length, take, drop, Option, Some, None, Result, Ok, Err, refl, sym, ap, subst, ◌∙◌, append_assoc, arith, inl, inr, length-drop, length-append}
+use Rattle.std.proofs.Common.{◌≡◌, ◌≢◌, ℕ, ◌+◌, ◌-◌, ◌<◌, ◌≤◌, ◌^◌, ◌⊎◌, Bool, true, false, List, [], ◌∷◌, ◌++◌, length, take, drop, Option, Some, None, Result, Ok, Err, refl, sym, ap, ◌∙◌, append_assoc, arith, inl, inr, length-drop, length-append}
 use Rattle.std.specs.Prelude.{IsSome, IfOk}
-use Rattle.std.proofs.lemmas.Bool.{cases_lt, lt-ltb, le-ltb, ltb-false}
+use Rattle.std.proofs.lemmas.Bool.{cases_lt, le-ltb, ltb-false}
 use Rattle.std.proofs.lemmas.List.{drop-drop, drop_all, append-nil, take_all}
 use Rattle.wtp_core.specs.declared.error.ErrorCode.{ErrorCode}
 use Rattle.wtp_core.specs.declared.error.ErrorCode.TheVariants.{Datagram}
@@ -12,7 +12,7 @@ use Rattle.wtp_core.proofs.NeedLemmas.{number_at-cut, number_at-full}
 use Rattle.wtp_wire.specs.declared.capsule.CapsuleKind.{CapsuleKind}
 use Rattle.wtp_wire.specs.declared.capsule.CapsuleKind.TheVariants.{CloseWebTransportSession}
 use Rattle.wtp_wire.specs.Capsule.{capsule_in, capsule_kind_of, payload_after}
-use Rattle.wtp_wire.specs.CapsuleFront.{CapsuleFront, Found, Unknown, TooLong, Cut as CutFront, End as NoFront, capsule_front, longest_value, value_front}
+use Rattle.wtp_wire.specs.CapsuleFront.{Found, Unknown, Cut as CutFront, capsule_front, longest_value, value_front}
 use Rattle.wtp_wire.specs.FrameNeed.{frame_need, frame_need_is, frame_need_grows, frame_need_most, frame_need_least}
 use Rattle.wtp_wire.proofs.CapsuleFrontLemmas.{front_end, front_none, front_one, front_two}
 use Rattle.wtp_wire.proofs.CapsuleReadingLemmas.{no_more}
@@ -46,7 +46,7 @@ use Rattle.wt_inspection.specs.DataCapsules.{Stage, Opening, Plain, Session, IsF
 use Rattle.wt_inspection.specs.Pair.{pair_at}
 use Rattle.wt_inspection.specs.Recording.{Then, IsCutPart, EndsStage, HasNoFrame, HasParts, Moves, MovesFrames, MovesNext, Takes, TakesData, TakesFrame, TakesWhole, is_data, is_cut, name_fault, still_first}
 use Rattle.wt_inspection.specs.Walks.{Keeps, HoldsPair, Holds, IsBad, JudgesClose, IsStage, IsStageAt, IsWhole, Judges, Leads, LeadsAt, TakesPiece, Turned, is_too_long}
-use Rattle.wt_inspection.proofs.PairLemmas.{Numbers, pair_numbers, some_is}
+use Rattle.wt_inspection.proofs.PairLemmas.{pair_numbers, some_is}
 
 -- ---- two numbers, as far as the bytes go
 
@@ -368,23 +368,23 @@ pub any_after : (after : Then) (phase : Phase) (stage : Stage) → IsStage phase
 any_after (Ok next) phase stage h = h
 any_after (Err end) phase stage h = tt
 
-opaque_takes : (name : FrameName) (payload : List ℕ) (on after : Then) (stage : Stage) → is_data name ≡ false → Takes name payload parts-is.Opaque on after stage stage
-opaque_takes (name-is.Read kind-is.Data) payload on after stage e = absurd (cc e)
-opaque_takes (name-is.Read kind-is.Headers) payload on after stage e = refl
-opaque_takes (name-is.Read kind-is.Settings) payload on after stage e = refl
-opaque_takes (name-is.Read kind-is.WebTransport) payload on after stage e = refl
-opaque_takes (name-is.Read (kind-is.Exercise number)) payload on after stage e = refl
-opaque_takes name-is.CancelPush payload on after stage e = refl
-opaque_takes name-is.PushPromise payload on after stage e = refl
-opaque_takes name-is.Goaway payload on after stage e = refl
-opaque_takes name-is.MaxPushId payload on after stage e = refl
-opaque_takes name-is.PriorityUpdate payload on after stage e = refl
-opaque_takes name-is.Http2 payload on after stage e = refl
-opaque_takes name-is.Unknown payload on after stage e = refl
+opaque_takes : (role : StreamRole) (name : FrameName) (payload : List ℕ) (on after : Then) (stage : Stage) → is_data name ≡ false → Takes role name payload parts-is.Opaque on after stage stage
+opaque_takes role (name-is.Read kind-is.Data) payload on after stage e = absurd (cc e)
+opaque_takes role (name-is.Read kind-is.Headers) payload on after stage e = refl
+opaque_takes role (name-is.Read kind-is.Settings) payload on after stage e = refl
+opaque_takes role (name-is.Read kind-is.WebTransport) payload on after stage e = refl
+opaque_takes role (name-is.Read (kind-is.Exercise number)) payload on after stage e = refl
+opaque_takes role name-is.CancelPush payload on after stage e = refl
+opaque_takes role name-is.PushPromise payload on after stage e = refl
+opaque_takes role name-is.Goaway payload on after stage e = refl
+opaque_takes role name-is.MaxPushId payload on after stage e = refl
+opaque_takes role name-is.PriorityUpdate payload on after stage e = refl
+opaque_takes role name-is.Http2 payload on after stage e = refl
+opaque_takes role name-is.Unknown payload on after stage e = refl
 
 -- a frame that is not read leaves the message as it is
-pub opaque_leads : (name : FrameName) (phase : Phase) (payload : List ℕ) (on after : Then) → is_data name ≡ false → Leads phase phase (Takes name payload parts-is.Opaque on after) after
-opaque_leads name phase payload on after e = λ stage h. (stage, opaque_takes name payload on after stage e, any_after after phase stage h)
+pub opaque_leads : (role : StreamRole) (name : FrameName) (phase : Phase) (payload : List ℕ) (on after : Then) → is_data name ≡ false → Leads phase phase (Takes role name payload parts-is.Opaque on after) after
+opaque_leads role name phase payload on after e = λ stage h. (stage, opaque_takes role name payload on after stage e, any_after after phase stage h)
 
 data_name : (name : FrameName) → is_data name ≡ true → name ≡ name-is.Read kind-is.Data
 data_name (name-is.Read kind-is.Data) e = refl
@@ -410,18 +410,18 @@ has_cut (parts-is.Settings lines) payload on after h = absurd h
 pub cut_part : (name : FrameName) (parts : Parts) (payload : List ℕ) (on after : Then) → is_data name ≡ true → HasParts (name-is.Read kind-is.Data) payload parts on after → IsCutPart name parts on after
 cut_part name parts payload on after e h = rw (data_name name e) (has_cut parts payload on after h)
 
-pub data_leads : (name : FrameName) (old new : Phase) (payload : List ℕ) (parts : Parts) (on after : Then) → is_data name ≡ true → Leads old new (Takes (name-is.Read kind-is.Data) payload parts on after) after → Leads old new (Takes name payload parts on after) after
-data_leads name old new payload parts on after e l = rw (data_name name e) l
+pub data_leads : (role : StreamRole) (name : FrameName) (old new : Phase) (payload : List ℕ) (parts : Parts) (on after : Then) → is_data name ≡ true → Leads old new (Takes role (name-is.Read kind-is.Data) payload parts on after) after → Leads old new (Takes role name payload parts on after) after
+data_leads role name old new payload parts on after e l = rw (data_name name e) l
 
 pub data_has : (name : FrameName) (payload : List ℕ) (parts : Parts) (on after : Then) → is_data name ≡ true → HasParts (name-is.Read kind-is.Data) payload parts on after → HasParts name payload parts on after
 data_has name payload parts on after e h = rw (data_name name e) h
 
-pub cut_leads : (role : StreamRole) (first : Bool) (bytes : List ℕ) (f : FrameItem) (after : Then) (end : End) (old new : Phase) → Leads old new (Takes f.name (take f.present (drop f.head bytes)) f.parts (Err end) after) after → is_cut end ≡ true → f.present < f.announced → Leads old new (TakesFrame role first bytes f after) after
+pub cut_leads : (role : StreamRole) (first : Bool) (bytes : List ℕ) (f : FrameItem) (after : Then) (end : End) (old new : Phase) → Leads old new (Takes role f.name (take f.present (drop f.head bytes)) f.parts (Err end) after) after → is_cut end ≡ true → f.present < f.announced → Leads old new (TakesFrame role first bytes f after) after
 cut_leads role first bytes f after end old new leads stops less = λ stage h.
     let (next, takes, there) = leads stage h in
     (next, record { whole = λ e. absurd (omega (arith, e, less)); cut = λ l. (Err end, stops, takes) }, there)
 
-pub whole_leads : (role : StreamRole) (first : Bool) (bytes : List ℕ) (f : FrameItem) (after : Then) (old new : Phase) → Leads old new (TakesWhole (name_fault role first f.name) f.name (take f.present (drop f.head bytes)) f.parts (Ok (next-is.Frames role (still_first first f.name))) after) after → f.present ≡ f.announced → Leads old new (TakesFrame role first bytes f after) after
+pub whole_leads : (role : StreamRole) (first : Bool) (bytes : List ℕ) (f : FrameItem) (after : Then) (old new : Phase) → Leads old new (TakesWhole (name_fault role first f.name) role f.name (take f.present (drop f.head bytes)) f.parts (Ok (next-is.Frames role (still_first first f.name))) after) after → f.present ≡ f.announced → Leads old new (TakesFrame role first bytes f after) after
 whole_leads role first bytes f after old new leads whole = λ stage h.
     let (next, takes, there) = leads stage h in
     (next, record { whole = λ e. takes; cut = λ l. absurd (omega (arith, whole, l)) }, there)
@@ -431,8 +431,8 @@ pub present_all : (n : ℕ) (bytes back : List ℕ) → back ≡ drop n bytes �
 present_all n bytes back e = ap (take (length back)) (sym e) ∙ take_all (length back) back (omega arith)
 
 -- settings leave the message as it is
-pub settings_leads : (name : FrameName) (phase : Phase) (payload : List ℕ) (parts : Parts) (on after : Then) → name ≡ name-is.Read kind-is.Settings → Leads phase phase (Takes name payload parts on after) after
-settings_leads name phase payload parts on after e = λ stage h. (stage, rw e refl, any_after after phase stage h)
+pub settings_leads : (role : StreamRole) (name : FrameName) (phase : Phase) (payload : List ℕ) (parts : Parts) (on after : Then) → name ≡ name-is.Read kind-is.Settings → Leads phase phase (Takes role name payload parts on after) after
+settings_leads role name phase payload parts on after e = λ stage h. (stage, rw e refl, any_after after phase stage h)
 
 no_frame_moves : (role : StreamRole) (first : Bool) (bytes : List ℕ) (content : Content) (after : Then) (stage : Stage) → HasNoFrame content → MovesFrames role first bytes content after stage stage
 no_frame_moves role first bytes (content-is.Frame f) after stage h = absurd h
@@ -450,8 +450,8 @@ pub no_frame_leads : (phase : Phase) (role : StreamRole) (first : Bool) (bytes :
 no_frame_leads phase role first bytes content after none = λ stage h. (stage, no_frame_moves role first bytes content after stage none, any_after after phase stage h)
 
 -- a refused frame leaves the message as it is
-pub refused_takes : (fault : Option ErrorCode) (code : ErrorCode) (name : FrameName) (payload : List ℕ) (parts : Parts) (on after : Then) (stage : Stage) → fault ≡ Some code → TakesWhole fault name payload parts on after stage stage
-refused_takes fault code name payload parts on after stage e = rw e refl
+pub refused_takes : (fault : Option ErrorCode) (code : ErrorCode) (role : StreamRole) (name : FrameName) (payload : List ℕ) (parts : Parts) (on after : Then) (stage : Stage) → fault ≡ Some code → TakesWhole fault role name payload parts on after stage stage
+refused_takes fault code role name payload parts on after stage e = rw e refl
 
 -- ---- other items than those of frames
 

@@ -1,6 +1,6 @@
 -- The capsules that the DATA frames of a session have, wherever they are cut (RFC 9297, section
 -- 3.2).
-use Rattle.std.specs.Prelude.{◌≡◌, ℕ, List, [], ◌∷◌, ◌++◌, string_bytes, Option, Some, None}
+use Rattle.std.specs.Prelude.{◌≡◌, ℕ, List, [], ◌∷◌, string_bytes, Option, Some, None}
 use Rattle.wtp_core.specs.declared.error.ErrorCode.{ErrorCode}
 use Rattle.wtp_core.specs.declared.error.ErrorCode.TheVariants as code-is
 use Rattle.wtp_wire.specs.CapsuleFront.{CapsuleFront, Found, Unknown, TooLong, Cut, End, capsule_front}

@@ -4,6 +4,7 @@ pub mod Heads
 pub mod Pair
 pub mod Tiles
 pub mod DataCapsules
+pub mod SessionSections
 pub mod Recording
 pub mod Walks
 pub mod ItemFrames

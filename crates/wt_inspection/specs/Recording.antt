@@ -32,6 +32,7 @@ use Rattle.wt_items.specs.declared.item.capsule.CapsuleItem.{CapsuleItem}
 use Rattle.wt_items.specs.declared.item.capsule.CloseReason.{CloseReason}
 use Rattle.wt_items.specs.declared.item.ending.End.{End}
 use Rattle.wt_items.specs.declared.item.ending.End.TheVariants as end-is
+use Rattle.wt_items.specs.declared.item.fields.FieldSection.{FieldSection}
 use Rattle.wt_items.specs.declared.item.fields.SectionFault.{SectionFault}
 use Rattle.wt_items.specs.declared.item.fields.SectionFault.TheVariants.{Malformed}
 use Rattle.wt_items.specs.declared.item.names.FrameName.{FrameName}
@@ -45,6 +46,7 @@ use Rattle.wt_inspection.specs.Heads.{IsSessionItem, IsDatagramItem}
 use Rattle.wt_items.specs.Names.{frame_name_of, stream_name_of}
 use Rattle.wt_inspection.specs.Pair.{pair_at}
 use Rattle.wt_inspection.specs.Sections.{IsSection}
+use Rattle.wt_inspection.specs.SessionSections.{stage_after}
 use Rattle.wt_inspection.specs.SettingLines.{AreSettings}
 
 -- What follows an item: the next bytes, or the end of the reading. No byte after that is read.
@@ -295,38 +297,43 @@ abbrev pub HasNoCapsules : Stage → Type 0
 HasNoCapsules (Session held) = ⊥
 HasNoCapsules other = Unit {0}
 
--- a field section before the content may be that of a session; none later may
-abbrev pub TakesSection : Stage → Stage → Type 0
-TakesSection Opening next = (next ≡ Opening) ⊎ ((next ≡ Plain) ⊎ (next ≡ Session []))
-TakesSection Plain next = next ≡ Plain
-TakesSection (Session held) next = next ≡ Session held
-
--- how far the message is after a frame of this name with these parts
-abbrev pub Takes : FrameName → List ℕ → Parts → Then → Then → Stage → Stage → Type 0
-Takes (name-is.Read kind-is.Data) payload (parts-is.Capsules capsules) on after stage next =
+-- how far the message is after a DATA frame with these parts
+abbrev pub TakesDataFrame : List ℕ → Parts → Then → Then → Stage → Stage → Type 0
+TakesDataFrame payload (parts-is.Capsules capsules) on after stage next =
     TakesData stage payload capsules.items on after next
-Takes (name-is.Read kind-is.Data) payload other on after stage next =
-    HasNoCapsules stage × (next ≡ stage)
-Takes (name-is.Read kind-is.Headers) payload (parts-is.Fields section) on after stage next =
-    TakesSection stage next
-Takes name payload parts on after stage next = next ≡ stage
+TakesDataFrame payload other on after stage next = HasNoCapsules stage × (next ≡ stage)
+
+-- a field section before the content may be that of a session; none later is
+abbrev pub TakesSection : StreamRole → FieldSection → Stage → Stage → Type 0
+TakesSection role section Opening next = next ≡ stage_after role section
+TakesSection role section Plain next = next ≡ Plain
+TakesSection role section (Session held) next = next ≡ Session held
+
+-- how far the message is after a frame of this name with these parts, on a stream of this role
+abbrev pub Takes :
+    StreamRole → FrameName → List ℕ → Parts → Then → Then → Stage → Stage → Type 0
+Takes role (name-is.Read kind-is.Data) payload parts on after stage next =
+    TakesDataFrame payload parts on after stage next
+Takes role (name-is.Read kind-is.Headers) payload (parts-is.Fields section) on after stage next =
+    TakesSection role section stage next
+Takes role name payload parts on after stage next = next ≡ stage
 
 -- the same of a complete frame, which may be refused
-abbrev pub TakesWhole :
-    Option ErrorCode → FrameName → List ℕ → Parts → Then → Then → Stage → Stage → Type 0
-TakesWhole (Some c) name payload parts on after stage next = next ≡ stage
-TakesWhole None name payload parts on after stage next =
-    Takes name payload parts on after stage next
+abbrev pub TakesWhole : Option ErrorCode
+    → StreamRole → FrameName → List ℕ → Parts → Then → Then → Stage → Stage → Type 0
+TakesWhole (Some c) role name payload parts on after stage next = next ≡ stage
+TakesWhole None role name payload parts on after stage next =
+    Takes role name payload parts on after stage next
 
 -- how far the message is after a frame, of which some bytes may be missing
 pub record TakesFrame (role : StreamRole) (first : Bool) (bytes : List ℕ) (f : FrameItem)
     (after : Then) (stage next : Stage) : Type 0 where
   pub whole : f.present ≡ f.announced
-      → TakesWhole (name_fault role first f.name) f.name (take f.present (drop f.head bytes))
+      → TakesWhole (name_fault role first f.name) role f.name (take f.present (drop f.head bytes))
       f.parts (Ok (next-is.Frames role (still_first first f.name))) after stage next
   pub cut : f.present < f.announced
       → (on : Then) × IsCut on
-      × Takes f.name (take f.present (drop f.head bytes)) f.parts on after stage next
+      × Takes role f.name (take f.present (drop f.head bytes)) f.parts on after stage next
 
 abbrev pub HasNoFrame : Content → Type 0
 HasNoFrame (content-is.Frame f) = ⊥

@@ -4,7 +4,7 @@ ghost use Rattle.wtp_wire.specs.Kind.{kind_of};
 ghost use Rattle.wt_items.specs.Names.{frame_name_of};
 ghost use Rattle.wt_inspection.specs.Walks.{Leads};
 ghost use Rattle.wt_inspection.specs.Pair.{pair_at};
-ghost use Rattle.wt_inspection.specs.Recording.{IsCutPart, HasNoFrame, HasParts, IsNext, Judged, Moves, Takes, TakesWhole, is_cut, is_data, is_session, name_fault, still_first};
+ghost use Rattle.wt_inspection.specs.Recording.{IsCutPart, HasNoFrame, HasParts, IsNext, Judged, Moves, Takes, TakesDataFrame, TakesWhole, is_cut, is_data, is_session, name_fault, still_first};
 
 mod warnings;
 
@@ -141,7 +141,14 @@ fn cut_frame(
     let present = rest.split_at(size).1;
     let missing = second.into_inner().saturating_sub(present.len() as u64);
     let end = cut(at, "frame", missing);
-    let Found { parts, after } = cut_parts(reading, at.saturating_add(size), number, present, end)?;
+    let Found { parts, after } = cut_parts(
+        reading,
+        role,
+        at.saturating_add(size),
+        number,
+        present,
+        end,
+    )?;
     let frame = FrameItem {
         number: number.into_inner(),
         name: FrameName::of(number),
@@ -207,6 +214,7 @@ fn whole_frame(
 #[tactic(auto, using(crate::proofs::WalkLemmas::data_leads, crate::proofs::WalkLemmas::data_has, crate::proofs::WalkLemmas::opaque_leads, crate::proofs::WalkLemmas::cut_part))]
 fn cut_parts(
     reading: &mut Reading,
+    role: StreamRole,
     at: usize,
     number: VarInt,
     present: &[u8],
@@ -215,7 +223,7 @@ fn cut_parts(
     requires { is_cut end ≡ true }
     ensures parts { IfOk result (λ f. IsCutPart (frame_name_of number) f.parts (Err end) f.after) }
     ensures stage { IfOk result (λ f. Leads reading.old.phase reading.new.phase
-        (Takes (frame_name_of number) present.now f.parts (Err end) f.after) f.after) }
+        (Takes role (frame_name_of number) present.now f.parts (Err end) f.after) f.after) }
 {
     if is_data(number) {
         return data_parts(reading, at, present, Err(end));
@@ -262,7 +270,7 @@ fn judged_parts(
         (Ok (Next.Frames role (still_first first name))) f.after) }
     ensures stage { IfOk result (λ f. let name = frame_name_of number in
         Leads reading.old.phase reading.new.phase
-        (TakesWhole (name_fault role first name) name payload.now f.parts
+        (TakesWhole (name_fault role first name) role name payload.now f.parts
         (Ok (Next.Frames role (still_first first name))) f.after) f.after) }
 {
     let Place { at, head } = place;
@@ -275,7 +283,7 @@ fn judged_parts(
     }
     let next = Next::Frames(role, still_first(first, number));
     warn_of_frame(reading, role, at, number)?;
-    parts_of(reading, at, head, number, payload, next)
+    parts_of(reading, role, at, head, number, payload, next)
 }
 
 /// Returns the fault of a frame of this type, if it may not be here.
@@ -323,6 +331,7 @@ fn still_first(first: bool, number: VarInt) -> bool
 #[tactic(auto, using(crate::proofs::WalkLemmas::data_leads, crate::proofs::WalkLemmas::data_has, crate::proofs::WalkLemmas::opaque_leads))]
 fn parts_of(
     reading: &mut Reading,
+    role: StreamRole,
     at: usize,
     head: usize,
     number: VarInt,
@@ -333,18 +342,19 @@ fn parts_of(
     ensures parts { IfOk result (λ f. HasParts (frame_name_of number) payload.now f.parts
         (Ok next) f.after) }
     ensures stage { IfOk result (λ f. Leads reading.old.phase reading.new.phase
-        (Takes (frame_name_of number) payload.now f.parts (Ok next) f.after) f.after) }
+        (Takes role (frame_name_of number) payload.now f.parts (Ok next) f.after) f.after) }
 {
     if is_data(number) {
         return data_parts(reading, at.saturating_add(head), payload, Ok(next));
     }
-    other_parts(reading, at, number, payload, next)
+    other_parts(reading, role, at, number, payload, next)
 }
 
 /// Returns what the payload of a complete frame contains, if it is not a DATA frame.
 #[tactic(auto, using(crate::proofs::WalkLemmas::opaque_leads))]
 fn other_parts(
     reading: &mut Reading,
+    role: StreamRole,
     at: usize,
     number: VarInt,
     payload: &[u8],
@@ -355,10 +365,10 @@ fn other_parts(
     ensures parts { IfOk result (λ f. HasParts (frame_name_of number) payload.now f.parts
         (Ok next) f.after) }
     ensures stage { IfOk result (λ f. Leads reading.old.phase reading.new.phase
-        (Takes (frame_name_of number) payload.now f.parts (Ok next) f.after) f.after) }
+        (Takes role (frame_name_of number) payload.now f.parts (Ok next) f.after) f.after) }
 {
     match FrameName::of(number) {
-        FrameName::Read(FrameKind::Headers) => headers_parts(reading, at, payload, next),
+        FrameName::Read(FrameKind::Headers) => headers_parts(reading, role, at, payload, next),
         FrameName::Read(FrameKind::Settings) => settings_parts(reading, at, payload, next),
         FrameName::Read(FrameKind::Data)
         | FrameName::Read(FrameKind::WebTransport)
@@ -379,6 +389,7 @@ fn other_parts(
 /// Returns the field section of a HEADERS frame. It ends the reading if it is malformed.
 fn headers_parts(
     reading: &mut Reading,
+    role: StreamRole,
     at: usize,
     payload: &[u8],
     next: Next,
@@ -386,10 +397,10 @@ fn headers_parts(
     ensures parts { IfOk result (λ f. HasParts (FrameName.Read FrameKind.Headers) payload.now
         f.parts (Ok next) f.after) }
     ensures stage { IfOk result (λ f. Leads reading.old.phase reading.new.phase
-        (Takes (FrameName.Read FrameKind.Headers) payload.now f.parts (Ok next) f.after) f.after) }
+        (Takes role (FrameName.Read FrameKind.Headers) payload.now f.parts (Ok next) f.after) f.after) }
 {
     let section = read_section(reading.alloc, payload)?;
-    take_section(reading, at, &section)?;
+    take_section(reading, role, at, &section)?;
     let after = section_then(at, &section, next);
     Ok(Found {
         parts: Parts::Fields(section),
@@ -427,7 +438,7 @@ fn data_parts(
     ensures parts { IfOk result (λ f. HasParts (FrameName.Read FrameKind.Data) payload.now f.parts
         on f.after) }
     ensures stage { IfOk result (λ f. Leads reading.old.phase reading.new.phase
-        (Takes (FrameName.Read FrameKind.Data) payload.now f.parts on f.after) f.after) }
+        (TakesDataFrame payload.now f.parts on f.after) f.after) }
 {
     let Phase::Session(walk) = &mut reading.phase else {
         return Ok(Found {

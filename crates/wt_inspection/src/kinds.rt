@@ -33,6 +33,12 @@ use wtp_wire::stream_header::StreamKind;
 /// they are not `open`. A stream may not end within a frame, so that is the fault
 /// [`ErrorCode::Frame`] (RFC 9114, section 7.1).
 ///
+/// DATA frames contain capsules if the first header section, or the first that is not of an interim
+/// response, is that of a session: a request with `:protocol` (RFC 8441, section 4; RFC 9220,
+/// section 3), or a response with `capsule-protocol`, `sec-webtransport-http3-draft` or
+/// `wt-protocol`. A CONNECT whose lines end early counts as a request with `:protocol`. Other DATA
+/// frames are not read.
+///
 /// Returns [`AllocError`] if allocation fails.
 pub fn inspect(
     alloc: Global,
@@ -44,7 +50,7 @@ pub fn inspect(
     ensures read { IfOk result (λ i. IsRecording kind «open» bytes.now i.items.items i.end) }
 {
     let mut tiling = Tiling::new(alloc, bytes);
-    let mut reading = Reading::new(alloc, kind);
+    let mut reading = Reading::new(alloc);
     let mut state = Ok(start_of(kind));
     'items: loop {
         let rest = tiling.rest();

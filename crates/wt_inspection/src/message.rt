@@ -1,7 +1,10 @@
 //! What is wrong with the field sections of a message (RFC 9114, sections 4.2 to 4.4).
 
+ghost use Rattle.std.specs.List.{list_any};
 ghost use Rattle.std.specs.Prelude.{◌≡◌, ◌≢◌, IfOk, Ok};
+ghost use Rattle.std.specs.Str.{bytes_eq};
 ghost use Rattle.wt_inspection.specs.Recording.{TakesSection};
+ghost use Rattle.wt_inspection.specs.SessionSections.{has_field, is_connect, is_interim, is_interim_status, opens_session, request_opens, response_opens, starts_with_one};
 ghost use Rattle.wt_inspection.specs.Walks.{Leads};
 
 mod lines;
@@ -10,9 +13,10 @@ mod pseudo;
 use crate::capsules::CapsuleWalk;
 use crate::message::lines::warning_of_line;
 use crate::message::pseudo::{Pseudo, warning_of_pseudo};
-use crate::reading::{Next, Phase, Reading, Recorded};
+use crate::reading::{Next, Phase, Reading};
 use std::alloc::{AllocError, Global};
 use wt_items::item::{FieldSection, Line, Warning};
+use wtp_wire::rules::StreamRole;
 
 /// What a field section belongs to.
 #[derive(Clone, Copy, PartialEq, Eq)]
@@ -27,32 +31,33 @@ pub(crate) enum Purpose {
     Any,
 }
 
-/// Takes the field section of the next HEADERS frame: warns of what is wrong with it, and finds out
-/// whether DATA frames contain capsules.
+/// Takes the field section of the next HEADERS frame on a stream of this role: warns of what is
+/// wrong with it, and finds out whether DATA frames contain capsules.
 pub(crate) fn take_section(
     reading: &mut Reading,
+    role: StreamRole,
     at: usize,
     section: &FieldSection,
 ) -> Result<(), AllocError>
-    ensures { IfOk result (λ _. Leads reading.old.phase reading.new.phase TakesSection
-        (Ok Next.Head)) }
+    ensures { IfOk result (λ _. Leads reading.old.phase reading.new.phase
+        (TakesSection role section.now) (Ok Next.Head)) }
 {
-    let purpose = purpose_of(reading);
+    let purpose = purpose_of(reading, role);
     warn_by(&mut reading.warnings, at, section, purpose)?;
     if purpose != Purpose::Trailers {
-        reading.phase = phase_after(reading.alloc, purpose, section);
+        reading.phase = phase_after(reading.alloc, role, section);
     }
     Ok(())
 }
 
 /// Returns how far a message is after its header section, or after the section of an interim
 /// response.
-fn phase_after(alloc: Global, purpose: Purpose, section: &FieldSection) -> Phase
-    ensures { Leads Phase.Opening result TakesSection (Ok Next.Head) }
+fn phase_after(alloc: Global, role: StreamRole, section: &FieldSection) -> Phase
+    ensures { Leads Phase.Opening result (TakesSection role section.now) (Ok Next.Head) }
 {
-    if purpose == Purpose::Response && is_interim(section) {
+    if is_interim(role, section) {
         Phase::Opening
-    } else if opens_session(purpose, section) {
+    } else if opens_session(role, section) {
         Phase::Session(CapsuleWalk::new(alloc))
     } else {
         Phase::Plain
@@ -70,25 +75,24 @@ pub(crate) fn warn_of_section(
     warn_by(&mut reading.warnings, at, section, Purpose::Any)
 }
 
-/// Returns what the next field section belongs to.
-fn purpose_of(reading: &Reading) -> Purpose
+/// Returns what the next field section on a stream of this role belongs to.
+fn purpose_of(reading: &Reading, role: StreamRole) -> Purpose
     ensures start { result ≢ Purpose.Trailers → reading.now.phase ≡ Phase.Opening }
     ensures trailers { result ≡ Purpose.Trailers → reading.now.phase ≢ Phase.Opening }
 {
     match reading.phase {
         Phase::Plain | Phase::Session(_) => Purpose::Trailers,
-        Phase::Opening => purpose_at_start(reading.kind),
+        Phase::Opening => purpose_at_start(role),
     }
 }
 
-/// Returns what the first field section belongs to.
-fn purpose_at_start(kind: Recorded) -> Purpose
+/// Returns what the first field section on a stream of this role belongs to.
+fn purpose_at_start(role: StreamRole) -> Purpose
     ensures { result ≢ Purpose.Trailers }
 {
-    if kind == Recorded::Answer {
-        Purpose::Response
-    } else {
-        Purpose::Request
+    match role {
+        StreamRole::BiLocal => Purpose::Response,
+        StreamRole::BiRemote | StreamRole::UniRemote | StreamRole::Session => Purpose::Request,
     }
 }
 
@@ -123,32 +127,100 @@ fn add_warning(
     Ok(())
 }
 
-/// Returns whether a line has this name.
-pub(crate) fn is_named(line: &Line, name: &str) -> bool {
-    line.name.as_slice() == name.as_bytes()
+/// Returns whether a section is that of an interim response, with a status from 100 to 199 (RFC
+/// 9114, section 4.1).
+fn is_interim(role: StreamRole, section: &FieldSection) -> bool
+    ensures { result ≡ is_interim role section.now }
+{
+    match role {
+        StreamRole::BiLocal => has_interim_status(section),
+        StreamRole::BiRemote | StreamRole::UniRemote | StreamRole::Session => false,
+    }
 }
 
-/// Returns whether a response is an interim one, with a status from 100 to 199 (RFC 9114, section
-/// 4.1).
-fn is_interim(section: &FieldSection) -> bool {
-    section.lines.iter().any(|line| is_named(line, ":status") && line.value.first() == Some(&b'1'))
+/// Returns whether a section has the status of an interim response.
+fn has_interim_status(section: &FieldSection) -> bool
+    ensures { result ≡ list_any is_interim_status section.now.lines.items }
+{
+    section.lines.iter().any(|line| is_interim_status(line))
+}
+
+/// Returns whether a line is the status of an interim response: its first digit is 1 (RFC 9110,
+/// section 15.2).
+fn is_interim_status(line: &Line) -> bool
+    ensures { result ≡ is_interim_status line.now }
+{
+    is_named(line, b":status") && starts_with_one(line.value.as_slice())
+}
+
+/// Returns whether the first byte is the digit 1.
+fn starts_with_one(value: &[u8]) -> bool
+    ensures { result ≡ starts_with_one value.now }
+{
+    match value.first() {
+        Some(&first) => first == b'1',
+        None => false,
+    }
 }
 
 /// Returns whether the DATA frames after a header section contain capsules: a request has
-/// `:protocol` (RFC 9297, section 3.1), a response one of the fields of sessions. A CONNECT whose
-/// section cannot be read to its end counts as one with `:protocol`.
-fn opens_session(purpose: Purpose, section: &FieldSection) -> bool {
-    if purpose == Purpose::Response {
-        return has_field(section, "capsule-protocol")
-            || has_field(section, "sec-webtransport-http3-draft")
-            || has_field(section, "wt-protocol");
+/// `:protocol` (RFC 8441, section 4; RFC 9220, section 3), a response one of the fields of sessions.
+/// A CONNECT whose section cannot be read to its end counts as one with `:protocol`.
+fn opens_session(role: StreamRole, section: &FieldSection) -> bool
+    ensures { result ≡ opens_session role section.now }
+{
+    match role {
+        StreamRole::BiLocal => response_opens(section),
+        StreamRole::BiRemote | StreamRole::UniRemote | StreamRole::Session => {
+            request_opens(section)
+        }
     }
-    let connects = section.lines.iter().any(|line| is_named(line, ":method")
-        && line.value.as_slice() == "CONNECT".as_bytes());
-    has_field(section, ":protocol") || connects && section.fault.is_some()
+}
+
+/// Returns whether a response has one of the fields of sessions.
+fn response_opens(section: &FieldSection) -> bool
+    ensures { result ≡ response_opens section.now.lines.items }
+{
+    has_field(section, b"capsule-protocol")
+        || has_field(section, b"sec-webtransport-http3-draft")
+        || has_field(section, b"wt-protocol")
+}
+
+/// Returns whether a request has `:protocol`, or is a CONNECT whose section cannot be read to its
+/// end.
+fn request_opens(section: &FieldSection) -> bool
+    ensures { result ≡ request_opens section.now.fault section.now.lines.items }
+{
+    match section.fault {
+        None => has_field(section, b":protocol"),
+        Some(_) => has_field(section, b":protocol") || connects(section),
+    }
+}
+
+/// Returns whether a request has the method CONNECT.
+fn connects(section: &FieldSection) -> bool
+    ensures { result ≡ list_any is_connect section.now.lines.items }
+{
+    section.lines.iter().any(|line| is_connect(line))
+}
+
+/// Returns whether a line is the method CONNECT.
+fn is_connect(line: &Line) -> bool
+    ensures { result ≡ is_connect line.now }
+{
+    is_named(line, b":method") && line.value.as_slice() == b"CONNECT".as_slice()
 }
 
 /// Returns whether a section has a line of this name.
-fn has_field(section: &FieldSection, name: &str) -> bool {
+fn has_field(section: &FieldSection, name: &[u8]) -> bool
+    ensures { result ≡ has_field name.now section.now.lines.items }
+{
     section.lines.iter().any(|line| is_named(line, name))
+}
+
+/// Returns whether a line has this name.
+fn is_named(line: &Line, name: &[u8]) -> bool
+    ensures { result ≡ bytes_eq line.now.name.items name.now }
+{
+    line.name.as_slice() == name
 }

@@ -80,7 +80,6 @@ pub(crate) enum Phase {
 #[derive(Drop)]
 pub(crate) struct Reading {
     pub(crate) alloc: Global,
-    pub(crate) kind: Recorded,
     /// Whether a frame of a control stream was read.
     pub(crate) begun: bool,
     pub(crate) phase: Phase,
@@ -97,12 +96,11 @@ pub(crate) struct Step {
 
 impl Reading {
     /// Creates a reading of the first byte.
-    pub(crate) fn new(alloc: Global, kind: Recorded) -> Self
+    pub(crate) fn new(alloc: Global) -> Self
         ensures { result.phase ≡ Phase.Opening }
     {
         Reading {
             alloc,
-            kind,
             begun: false,
             phase: Phase::Opening,
             warnings: Vec::new(alloc),

@@ -7,4 +7,4 @@ use Rattle.wt_inspection.proofs.frames.cut_parts.Goals as goal
 pub returns-clause-stage : goal.returns-clause-stage
 returns-clause-stage c =
     let other : is_data (frame_name_of c.args.number) ≡ false = sym c.is_data.ensures ∙ c.if-is_data.false in
-    opaque_leads (frame_name_of c.args.number) c.args.reading.now.phase c.args.present.now (Err c.args.end) (Err c.args.end) other
+    opaque_leads c.args.role (frame_name_of c.args.number) c.args.reading.now.phase c.args.present.now (Err c.args.end) (Err c.args.end) other

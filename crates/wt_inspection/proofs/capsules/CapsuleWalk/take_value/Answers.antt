@@ -1,4 +1,3 @@
-use Rattle.wt_inspection.specs.Walks.{Holds, Keeps, Turned}
 use Rattle.wt_inspection.proofs.WalkLemmas.{goes_on, ok_map}
 use Rattle.wt_inspection.proofs.capsules.CapsuleWalk.take_value.Goals as goal
 
