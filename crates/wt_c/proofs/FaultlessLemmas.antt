@@ -1,5 +1,5 @@
 -- Settings without a fault are read again once they are written.
-use Rattle.std.proofs.Common.{◌≡◌, ℕ, ◌⊎◌, inl, inr, true, false, List, [], ◌∷◌, ◌++◌, map, Option, Some, None, Result, Ok, Err, refl, sym, ap, subst, ◌∙◌, append_assoc, append-nil}
+use Rattle.std.proofs.Common.{◌≡◌, ℕ, inl, inr, true, false, List, [], ◌∷◌, ◌++◌, map, Some, None, Result, Ok, Err, refl, sym, ap, subst, ◌∙◌, append_assoc, append-nil}
 use Rattle.std.specs.Prelude.{Contains}
 use Rattle.std.specs.Map.{keys_of}
 use Rattle.std.specs.List.{AllByRecursion}
@@ -12,12 +12,12 @@ use Rattle.wtp_wire.specs.declared.settings.SettingId.{SettingId}
 use Rattle.wtp_wire.specs.SettingId.{IsReserved, IsSetting, is_reserved, is_setting, setting_id_of}
 use Rattle.wtp_wire.proofs.SettingIdLemmas.{is_setting-true, setting-is_setting, is_reserved-true, reserved-is_reserved}
 use Rattle.wtp_wire.specs.Settings.{ArePairs, AreFaultless, settings_in, settings_wire}
-use Rattle.wtp_wire.specs.SettingPairs.{numbers_of, HasPairs, pair_items, setting_items, Repeats}
+use Rattle.wtp_wire.specs.SettingPairs.{numbers_of, HasPairs, pair_items, setting_items}
 use Rattle.wtp_wire.proofs.ValueLemmas.{contains_cases, contains_head, contains_tail, contains_none}
 use Rattle.wtp_wire.proofs.PayloadLemmas.{payload_judged, settings_in-payload, settings_in-fault}
 use Rattle.wtp_wire.proofs.SettingPairsLemmas.{has_pairs-items, fault-has_pairs}
 use Rattle.wt_c.specs.declared.settings.WtSetting.{WtSetting}
-use Rattle.wt_c.specs.Settings.{pairs_of, AreNumbers, AreWritable, IsFaultlessBefore}
+use Rattle.wt_c.specs.Settings.{pairs_of, AreNumbers, IsFaultlessBefore}
 
 -- ---- the pairs that are written
 

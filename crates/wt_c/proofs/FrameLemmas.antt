@@ -1,12 +1,11 @@
 -- Kinds of frames with a payload, by their types.
 use Rattle.std.proofs.Common.{◌≡◌, ◌≢◌, ℕ, ◌<◌, ◌≤◌, ◌^◌, List, [], ◌∷◌, ◌++◌, length, Some, None}
-use Rattle.std.proofs.Common.{refl, sym, ap, ◌∙◌, arith, append_assoc}
+use Rattle.std.proofs.Common.{refl, sym, ap, arith, append_assoc}
 use Rattle.wtp_core.specs.Varint.{shortest}
 use Rattle.wtp_wire.specs.declared.frame.kind.FrameKind.{FrameKind}
-use Rattle.wtp_wire.specs.declared.frame.kind.FrameKind.TheVariants.{Data, Headers, Settings}
-use Rattle.wtp_wire.specs.declared.frame.kind.FrameKind.TheVariants.{WebTransport, Exercise}
+use Rattle.wtp_wire.specs.declared.frame.kind.FrameKind.TheVariants.{WebTransport}
 use Rattle.wtp_wire.specs.Content.{PlainOf}
-use Rattle.wtp_wire.specs.Kind.{IsKind, IsKnown, frame_type_of, kind_of}
+use Rattle.wtp_wire.specs.Kind.{IsKnown, frame_type_of, kind_of}
 use Rattle.wtp_wire.specs.Wire.{wire}
 use Rattle.wtp_wire.proofs.KindLemmas.{kind_of-is, is-kind_of, is_kind-known}
 use Rattle.wt_c.specs.Frames.{IsPayloadKind, frame_head}

@@ -3,8 +3,7 @@ use Rattle.std.proofs.Common.{◌≡◌, ◌≢◌, ℕ, ◌<◌, ◌≤◌, ◌
 use Rattle.std.proofs.Common.{None, refl, sym, ap, ◌∙◌, arith}
 use Rattle.wtp_core.specs.Varint.{shortest}
 use Rattle.wtp_wire.specs.declared.stream_header.StreamKind.{StreamKind}
-use Rattle.wtp_wire.specs.declared.stream_header.StreamKind.TheVariants.{Control, QPackEncoder}
-use Rattle.wtp_wire.specs.declared.stream_header.StreamKind.TheVariants.{QPackDecoder, WebTransport}
+use Rattle.wtp_wire.specs.declared.stream_header.StreamKind.TheVariants.{WebTransport}
 use Rattle.wtp_wire.specs.declared.stream_header.StreamKind.TheVariants.{Exercise}
 use Rattle.wtp_wire.specs.Kind.{is_exercise}
 use Rattle.wtp_wire.specs.StreamKind.{IsStreamKind, IsKnownStream, has_session, stream_number_of}
@@ -15,7 +14,7 @@ use Rattle.wtp_wire.proofs.StreamKindLemmas.{stream_kind_of-is, is-stream_kind_o
 use Rattle.wtp_wire.proofs.KindLemmas.{test_exercise, exercise_test}
 use Rattle.wt_c.specs.declared.stream_headers.WtStreamHeader.{WtStreamHeader}
 use Rattle.wt_c.specs.Numbers.{IsSessionNumber}
-use Rattle.wt_c.specs.StreamHeaders.{c_header, IsHeaderIn}
+use Rattle.wt_c.specs.StreamHeaders.{IsHeaderIn}
 
 kind_is : (kind : StreamKind) → IsKnownStream kind → IsStreamKind kind (stream_number_of kind)
 kind_is (Exercise number) h = (refl, test_exercise number h)

@@ -1,8 +1,7 @@
 -- A frame that a cursor takes is taken by its reader, and what is left to skip stays a number.
-use Rattle.std.proofs.Common.{◌≡◌, ℕ, ◌-◌, ◌<◌, ◌≤◌, ◌^◌, false, inl, inr, List, Option, Some, None, length, get_or, refl, ap, ◌∙◌, arith}
-use Rattle.std.specs.Int.{w8, w16, w32, w64}
+use Rattle.std.proofs.Common.{◌≡◌, ℕ, ◌-◌, ◌<◌, ◌^◌, false, inl, inr, List, Option, Some, None, length, get_or, refl, ap, ◌∙◌, arith}
 use Rattle.std.proofs.lemmas.Bool.{cases_lt, lt-ltb, le-ltb}
-use Rattle.wtp_core.specs.Varint.{Encodes, width_of, value_of, number_at}
+use Rattle.wtp_core.specs.Varint.{width_of, value_of, number_at}
 use Rattle.wtp_core.proofs.EncodingLemmas.{number_at-encodes}
 use Rattle.wtp_wire.specs.declared.frame.kind.FrameKind.{FrameKind}
 use Rattle.wtp_wire.specs.Kind.{kind_of}

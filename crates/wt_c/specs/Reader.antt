@@ -1,5 +1,5 @@
 -- Reading frames as C does it: the reader, a frame's place, and what one call did.
-use Rattle.std.specs.Prelude.{◌≡◌, ℕ, ◌-◌, ◌<◌, ◌≤◌, ◌^◌, ◌==◌, if◌then◌else◌, not, Bool, List, unwrap_or}
+use Rattle.std.specs.Prelude.{ℕ, ◌-◌, ◌<◌, ◌≤◌, ◌^◌, ◌==◌, if◌then◌else◌, not, Bool, List, unwrap_or}
 use Rattle.wtp_wire.specs.Kind.{frame_type_of}
 use Rattle.wtransport_proto.specs.FrameCursor.{StepIs, RunGoesOn}
 use Rattle.wtp_wire.specs.declared.rules.StreamRole.{StreamRole}

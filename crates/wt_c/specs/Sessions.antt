@@ -1,6 +1,6 @@
 -- Requests and responses as C has them (RFC 9114, sections 4.1.2, 4.2 and 4.3).
 use Rattle.std.specs.Prelude.{◌≡◌, ℕ, ◌≤◌, ◌^◌, ◌⊎◌, List, [], ◌∷◌, ◌++◌, length, codes, IsUtf8}
-use Rattle.std.specs.Prelude.{Some, None, Ok, Err}
+use Rattle.std.specs.Prelude.{Some, None, Err}
 use Rattle.url.specs.Parser.{parse_url}
 use Rattle.wtp_fields.specs.declared.session.request.UrlParseError.{UrlParseError}
 use Rattle.wtp_fields.specs.declared.session.HeadersParseError.{HeadersParseError}

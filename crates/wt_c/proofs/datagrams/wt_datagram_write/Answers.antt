@@ -1,4 +1,4 @@
-use Rattle.std.proofs.Common.{◌<◌, ◌≤◌, ◌^◌, length, rules, arith}
+use Rattle.std.proofs.Common.{◌<◌, ◌^◌, length, rules, arith}
 use Rattle.wtp_core.proofs.LeastLemmas.{at_most_8}
 use Rattle.wt_c.proofs.datagrams.wt_datagram_write.Goals as goal
 

@@ -1,4 +1,4 @@
-use Rattle.std.proofs.Common.{◌≡◌, refl, rules, take, drop, length, ◌+◌}
+use Rattle.std.proofs.Common.{◌≡◌, rules, take, drop, length}
 use Rattle.wt_c.proofs.FieldLemmas.{line_put, put_is}
 use Rattle.wt_c.proofs.fields.put_line.Goals as goal
 

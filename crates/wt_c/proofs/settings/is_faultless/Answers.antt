@@ -1,4 +1,4 @@
-use Rattle.std.proofs.Common.{sym, ◌∙◌, refl}
+use Rattle.std.proofs.Common.{sym, ◌∙◌}
 use Rattle.wt_c.proofs.FaultlessLemmas.{before_unknown, before_again}
 use Rattle.wt_c.proofs.settings.is_faultless.Goals as goal
 
