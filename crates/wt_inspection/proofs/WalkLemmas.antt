@@ -16,7 +16,6 @@ use Rattle.wtp_wire.specs.CapsuleFront.{Found, Unknown, Cut as CutFront, capsule
 use Rattle.wtp_wire.specs.FrameNeed.{frame_need, frame_need_is, frame_need_grows, frame_need_most, frame_need_least}
 use Rattle.wtp_wire.proofs.CapsuleFrontLemmas.{front_end, front_none, front_one, front_two}
 use Rattle.wtp_wire.proofs.CapsuleReadingLemmas.{no_more}
-use Rattle.wtp_wire.specs.CloseSession.{close_in}
 use Rattle.wt_items.specs.declared.item.capsule.CapsuleItem.{CapsuleItem}
 use Rattle.wt_items.specs.declared.item.capsule.CloseReason.{CloseReason}
 use Rattle.wt_items.specs.declared.item.ending.Fault.{Fault}
@@ -45,7 +44,7 @@ use Rattle.wt_inspection.specs.declared.numbers.Pair.{Pair}
 use Rattle.wt_inspection.specs.DataCapsules.{Stage, Opening, Plain, Session, IsFirst, StartsCapsule, StartsCapsules, EndsWith}
 use Rattle.wt_inspection.specs.Pair.{pair_at}
 use Rattle.wt_inspection.specs.Recording.{Then, IsCutPart, EndsStage, HasNoFrame, HasParts, Moves, MovesFrames, MovesNext, Takes, TakesData, TakesFrame, TakesWhole, is_data, is_cut, name_fault, still_first}
-use Rattle.wt_inspection.specs.Walks.{Keeps, HoldsPair, Holds, IsBad, JudgesClose, IsStage, IsStageAt, IsWhole, Judges, Leads, LeadsAt, TakesPiece, Turned, is_too_long}
+use Rattle.wt_inspection.specs.Walks.{Keeps, HoldsPair, Holds, IsBad, JudgesBy, IsStage, IsStageAt, IsWhole, Judges, Leads, LeadsAt, TakesPiece, Turned, is_too_long}
 use Rattle.wt_inspection.proofs.PairLemmas.{pair_numbers, some_is}
 
 -- ---- two numbers, as far as the bytes go
@@ -173,7 +172,7 @@ few_bytes came value n len e =
 
 abbrev pub JudgedTo : Option CapsuleKind → List ℕ → Closing → Type 0
 JudgedTo None value closing = closing ≡ closing-is.Other
-JudgedTo (Some kind) value closing = JudgesClose (close_in value) closing
+JudgedTo (Some kind) value closing = JudgesBy kind value closing
 
 judged : (came value held : List ℕ) (n len : ℕ) (kind : Option CapsuleKind) (closing : Closing) → capsule_kind_of n ≡ kind → pair_at came ≡ Some (n, len, value) → length value ≡ len → Keeps kind len held came → (kind ≡ None → closing ≡ closing-is.Other) → (IsSome kind → length held < 2 ^ 62 → Judges (capsule_in held) closing) → JudgedTo kind value closing
 judged came value held n len None closing k e size keeps none some = none refl
@@ -193,14 +192,14 @@ unknown_front came value more n len k e size =
 first_by : (came value more held : List ℕ) (n len : ℕ) (kind : Option CapsuleKind) (closing : Closing) (close : Option CloseReason) → capsule_kind_of n ≡ kind → pair_at came ≡ Some (n, len, value) → length value ≡ len → Keeps kind len held came → JudgedTo kind value closing → (closing ≡ closing-is.Other) × (close ≡ None) ⊎ ((reason : CloseReason) × (closing ≡ closing-is.Close reason) × (close ≡ Some reason)) → IsFirst (capsule_front (came ++ more)) close more
 first_by came value more held n len None closing close k e size keeps is (inl (other, none)) = rw (unknown_front came value more n len k e size) (none, refl)
 first_by came value more held n len None closing close k e size keeps is (inr (reason, closed, some)) = absurd (cc (is, closed))
-first_by came value more held n len (Some kind) closing close k e size (small, same) is (inl (other, none)) = absurd (rw other at is)
-first_by came value more held n len (Some kind) closing close k e size (small, same) is (inr (reason, closed, some)) =
-    rw (found_front came value more n len kind k e size small, some) (rw closed at is, refl)
+first_by came value more held n len (Some CloseWebTransportSession) closing close k e size (small, same) is (inl (other, none)) = absurd (rw other at is)
+first_by came value more held n len (Some CloseWebTransportSession) closing close k e size (small, same) is (inr (reason, closed, some)) =
+    rw (found_front came value more n len CloseWebTransportSession k e size small, some) (rw closed at is, refl)
 
 bad_by : (came value more held : List ℕ) (n len : ℕ) (kind : Option CapsuleKind) (code : ErrorCode) → capsule_kind_of n ≡ kind → pair_at came ≡ Some (n, len, value) → length value ≡ len → Keeps kind len held came → JudgedTo kind value (closing-is.Bad code) → EndsWith (capsule_front (came ++ more)) (Some code)
 bad_by came value more held n len None code k e size keeps is = absurd (cc is)
-bad_by came value more held n len (Some kind) code k e size (small, same) (none, datagram) =
-    rw (found_front came value more n len kind k e size small) (none, ap (λ (c : ErrorCode). Some c) datagram)
+bad_by came value more held n len (Some CloseWebTransportSession) code k e size (small, same) (none, datagram) =
+    rw (found_front came value more n len CloseWebTransportSession k e size small) (none, ap (λ (c : ErrorCode). Some c) datagram)
 
 -- ---- a capsule all of whose value came
 

@@ -3,6 +3,8 @@
 use Rattle.std.specs.Prelude.{◌≡◌, ℕ, List, [], ◌∷◌, string_bytes, Option, Some, None}
 use Rattle.wtp_core.specs.declared.error.ErrorCode.{ErrorCode}
 use Rattle.wtp_core.specs.declared.error.ErrorCode.TheVariants as code-is
+use Rattle.wtp_wire.specs.declared.capsule.CapsuleKind.{CapsuleKind}
+use Rattle.wtp_wire.specs.declared.capsule.CapsuleKind.TheVariants.{CloseWebTransportSession}
 use Rattle.wtp_wire.specs.CapsuleFront.{CapsuleFront, Found, Unknown, TooLong, Cut, End, capsule_front}
 use Rattle.wtp_wire.specs.CloseSession.{close_in}
 use Rattle.wt_items.specs.declared.item.capsule.CapsuleItem.{CapsuleItem}
@@ -15,9 +17,17 @@ Says (Some close) (Some found) = (found.code ≡ close.0) × (string_bytes found
 Says (Some close) None = ⊥
 Says None found = ⊥
 
+-- what a capsule of this kind with this value says of its session
+abbrev pub SaysBy : CapsuleKind → List ℕ → Option CloseReason → Type 0
+SaysBy CloseWebTransportSession value close = Says (close_in value) close
+
+-- a capsule of this kind with this value has a fault
+abbrev pub IsFaulty : CapsuleKind → List ℕ → Type 0
+IsFaulty CloseWebTransportSession value = close_in value ≡ None
+
 -- the first capsule has this close, if it has one, and these bytes are after it
 abbrev pub IsFirst : CapsuleFront → Option CloseReason → List ℕ → Type 0
-IsFirst (Found kind value rest) close behind = Says (close_in value) close × (rest ≡ behind)
+IsFirst (Found kind value rest) close behind = SaysBy kind value close × (rest ≡ behind)
 IsFirst (Unknown rest) close behind = (close ≡ None) × (rest ≡ behind)
 IsFirst other close behind = ⊥
 
@@ -38,7 +48,8 @@ abbrev pub EndsWith : CapsuleFront → Option ErrorCode → Type 0
 EndsWith Cut fault = fault ≡ None
 EndsWith End fault = fault ≡ None
 EndsWith (TooLong rest) fault = fault ≡ Some code-is.Datagram
-EndsWith (Found kind value rest) fault = (close_in value ≡ None) × (fault ≡ Some code-is.Datagram)
+EndsWith (Found kind value rest) fault =
+    IsFaulty kind value × (fault ≡ Some code-is.Datagram)
 EndsWith (Unknown rest) fault = ⊥
 
 -- How far the message of a stream went: before its header section; after that of a message whose

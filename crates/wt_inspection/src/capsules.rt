@@ -381,7 +381,7 @@ fn closing_of(alloc: Global, bytes: &[u8]) -> Result<Closing, AllocError>
     ensures { IfOk result (λ closing. length bytes.now < 2 ^ 62
         → Judges (capsule_in bytes.now) closing) }
 {
-    if bytes.len() >= 1 << 62 {
+    if bytes.len() as u64 > VarInt::MAX.into_inner() {
         return Ok(Closing::Other);
     }
     let frame = Frame::new_data(CowSlice::Borrowed(bytes));

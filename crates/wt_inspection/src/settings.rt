@@ -12,6 +12,7 @@ use std::borrow::CowSlice;
 use std::collections::BTreeSet;
 use wt_items::item::{End, SettingFlag, SettingLine};
 use wtp_core::error::{ErrorCode, Refused};
+use wtp_core::varint::VarInt;
 use wtp_wire::frame::Frame;
 use wtp_wire::settings::{SettingId, Settings};
 
@@ -84,7 +85,7 @@ fn refusal(alloc: Global, bytes: &[u8]) -> Result<Option<ErrorCode>, AllocError>
     ensures { IfOk result (λ found. length bytes.now < 2 ^ 62
         → HasFault (settings_in bytes.now) found) }
 {
-    if bytes.len() >= 1 << 62 {
+    if bytes.len() as u64 > VarInt::MAX.into_inner() {
         return Ok(Some(ErrorCode::ExcessiveLoad));
     }
     match settings_of(alloc, bytes) {
