@@ -17,7 +17,7 @@ type Row = (
     &'static str,
 );
 
-static STREAMS: [Row; 20] = [
+static STREAMS: [Row; 22] = [
     (
         Recorded::Bi,
         b"\x01\x40\x55\x00\x00\xd7\xcf\x50\x8a\x08\x9d\x5c\x0b\x81\x70\xdc\x69\xa6\x59\x51\x84\x62\x42\xd5\xeb\x2f\x00\xb9\x5d\x87\x49\xc8\x7a\x3f\x89\xf0\x58\xd3\x60\xea\x45\x67\xb1\x3f\x2f\x0e\x41\x48\xb7\x82\xc6\x9b\x07\x52\x2b\x3d\x89\x5a\x74\xa6\xb6\x56\x92\xc1\xca\x90\x0b\x01\x31\x5f\x4b\x90\x9d\x29\xae\xe3\x0c\x04\x4e\xae\x05\xc0\xb8\x6e\x34\xd3\x2d\x7f\x00\x1b\xca\xe5\xd2\x4c\x4c\xb7\xcf\xfb\x12\x72\xf4\x7e\xf4\x67\x8e\x73\xa1\x6c\x16\xec\x42\x85\xb2\x11\x8e\x9f\x5a",
@@ -33,6 +33,22 @@ static STREAMS: [Row; 20] = [
         &[(0, 12, "HEADERS"), (12, 54, "DATA"), (66, 20, "DATA")],
         ("whole", 0),
         "a section that needs the dynamic table, and what follows it",
+    ),
+    (
+        Recorded::Bi,
+        b"\x01\x05\x00\x00\xd1\xd7\xc1\x00\x06\x68\x43\x03abc",
+        false,
+        &[(0, 7, "HEADERS"), (7, 8, "DATA")],
+        ("whole", 0),
+        "a GET whose content would be an invalid capsule in a session",
+    ),
+    (
+        Recorded::Bi,
+        b"\x01\x06\x00\x00\xcf\x50\x01a\x00\x06\x68\x43\x03abc",
+        false,
+        &[(0, 8, "HEADERS"), (8, 8, "DATA")],
+        ("whole", 0),
+        "a CONNECT without :protocol, and such content",
     ),
     (
         Recorded::Bi,
@@ -245,7 +261,7 @@ fn capsules_in(found: &Inspection) -> (usize, Option<u64>) {
 
 /// The capsules that end in the last item of each of the first recordings: how many, and the code
 /// of a close.
-static CAPSULES: [(usize, Option<u64>); 2] = [(1, None), (1, Some(4660))];
+static CAPSULES: [(usize, Option<u64>); 4] = [(1, None), (1, Some(4660)), (0, None), (0, None)];
 
 /// Asserts the capsules in the last item of a row.
 fn check_capsules<R: Abort>(rt: &R, alloc: Global, row: &Row, wanted: (usize, Option<u64>)) {
