@@ -1,8 +1,10 @@
 -- What reading a frame determines about the first known frame, and about the run.
-use Rattle.std.proofs.Common.{◌≡◌, ◌≢◌, [], ◌∷◌, ℕ, Bool, false, List, length, Option, Some, None, Ok, Err, refl, sym, ap, ◌∙◌, inl, inr}
+use Rattle.std.proofs.Common.{◌≡◌, ◌≢◌, [], ◌∷◌, ℕ, Bool, false, List, length, Option, Some, None, Ok, Err, refl, sym, ap, subst, ◌∙◌, inl, inr}
 use Rattle.wtp_core.specs.declared.error.ErrorCode.{ErrorCode}
 use Rattle.wtp_core.specs.declared.error.ErrorCode.TheVariants.{Id, ExcessiveLoad}
-use Rattle.wtp_wire.specs.declared.frame.ParseError.TheVariants.{InvalidSessionId, PayloadTooBig}
+use Rattle.wtp_wire.specs.declared.frame.ParseError.{ParseError}
+use Rattle.wtp_wire.specs.declared.frame.ParseError.TheVariants.{UnknownFrame, InvalidSessionId, PayloadTooBig}
+use Rattle.wtp_wire.specs.Codes.{frame_code}
 use Rattle.wtp_wire.specs.Content.{Content, kind_in}
 use Rattle.wtp_wire.specs.Front.{Front, Framed, Unknown, BadId, TooBig, Short, front}
 use Rattle.wtp_wire.specs.FrameReading.{Answers}
@@ -28,11 +30,25 @@ pub known-ok : (old cur new : List ℕ) (o : Option Content) → past_unknown ol
 known-ok old cur new None p h = rw (p, past_unknown-short cur h) h
 known-ok old cur new (Some f) p h = rw (p, past_unknown-framed cur new f h) h
 
-pub known-bad : (old cur new : List ℕ) → past_unknown old ≡ past_unknown cur → Answers (front cur) (Err InvalidSessionId) new → AnswersKnown (front (past_unknown old)) (Err Id) new
+known-bad : (old cur new : List ℕ) → past_unknown old ≡ past_unknown cur → Answers (front cur) (Err InvalidSessionId) new → AnswersKnown (front (past_unknown old)) (Err Id) new
 known-bad old cur new p h = inl (refl, rw (p, past_unknown-bad cur new h) h)
 
-pub known-big : (old cur new : List ℕ) → past_unknown old ≡ past_unknown cur → Answers (front cur) (Err PayloadTooBig) new → AnswersKnown (front (past_unknown old)) (Err ExcessiveLoad) new
+known-big : (old cur new : List ℕ) → past_unknown old ≡ past_unknown cur → Answers (front cur) (Err PayloadTooBig) new → AnswersKnown (front (past_unknown old)) (Err ExcessiveLoad) new
 known-big old cur new p h = inr (refl, rw (p, past_unknown-big cur new h) h)
+
+pub known-code : (fault : ParseError) (c : ErrorCode) (old cur new : List ℕ) → frame_code fault ≡ Some c → past_unknown old ≡ past_unknown cur → Answers (front cur) (Err fault) new → AnswersKnown (front (past_unknown old)) (Err c) new
+known-code UnknownFrame c old cur new e p h = absurd cc
+known-code InvalidSessionId c old cur new e p h =
+    let code : Id ≡ c = cc in
+    subst (λ (x : ErrorCode). AnswersKnown (front (past_unknown old)) (Err x) new) code (known-bad old cur new p h)
+known-code PayloadTooBig c old cur new e p h =
+    let code : ExcessiveLoad ≡ c = cc in
+    subst (λ (x : ErrorCode). AnswersKnown (front (past_unknown old)) (Err x) new) code (known-big old cur new p h)
+
+pub unknown-code : (fault : ParseError) (cur new : List ℕ) → frame_code fault ≡ None → Answers (front cur) (Err fault) new → front cur ≡ Unknown new
+unknown-code UnknownFrame cur new e h = h
+unknown-code InvalidSessionId cur new e h = absurd cc
+unknown-code PayloadTooBig cur new e h = absurd cc
 
 -- ---- the run
 

@@ -1,5 +1,5 @@
 -- The result of a stream, for the result of its reading.
-use Rattle.std.proofs.Common.{◌≡◌, ℕ, Bool, false, [], ◌++◌, refl, ap, arith, Some, Result, Ok, Err, inl, inr}
+use Rattle.std.proofs.Common.{◌≡◌, ℕ, Bool, false, [], ◌++◌, refl, ap, arith, Option, Some, None, Result, Ok, Err, inl, inr}
 use Rattle.std.proofs.lemmas.Bool.{cases_lt, ne_eqb}
 use Rattle.wtp_core.specs.declared.error.ErrorCode.{ErrorCode}
 use Rattle.wtp_core.specs.declared.error.ErrorCode.TheVariants.{Id, ExcessiveLoad}
@@ -9,20 +9,22 @@ use Rattle.wtp_core.specs.declared.bytes.polled.IoReadError as bytes
 use Rattle.wtp_core.specs.declared.bytes.polled.IoReadError.TheVariants as io
 use Rattle.wtp_core.specs.Source.{Source, AtEnd, AtReset, AtDisconnection, Telling}
 use Rattle.wtp_core.specs.Source as source
-use Rattle.wtp_core.specs.Polled.{stop}
+use Rattle.wtp_core.specs.Polled.{stop, polled_waits}
 use Rattle.wtp_core.proofs.TellingLemmas.{telling_map}
+use Rattle.wtp_wire.specs.declared.frame.ParseError.{ParseError}
 use Rattle.wtp_wire.specs.declared.frame.ParseError.TheVariants as parse
+use Rattle.wtp_wire.specs.Codes.{frame_code}
 use Rattle.wtp_wire.specs.declared.frame.reading.IoReadError.{IoReadError}
 use Rattle.wtp_wire.specs.declared.frame.reading.IoReadError.TheVariants as reading
 use Rattle.wtp_wire.specs.Content.{Content, kind_in}
-use Rattle.wtp_wire.specs.Front.{Framed, BadId, TooBig, Short}
-use Rattle.wtp_wire.specs.Held.{Held}
+use Rattle.wtp_wire.specs.Front.{Framed, Unknown, BadId, TooBig, Short}
+use Rattle.wtp_wire.specs.Held.{Held, Skips}
 use Rattle.wtp_wire.specs.FramePolling.{Decided, Stopped, FramePolled}
 use Rattle.wtransport_proto.specs.declared.stream.polled.IoReadError.TheVariants as stream
 use Rattle.wtp_wire.specs.Rule.{Role, rule}
 use Rattle.wtp_wire.specs.Run.{Run, H3, ends}
 use Rattle.wtransport_proto.specs.HeldRun.{tail_of, stop_of, count_held, run_of}
-use Rattle.wtransport_proto.specs.StreamPolling.{IsStreamFault, IsDry, stream_fault, EndsSo, Faults, PassesUnknown, StreamPolled, JudgesPolled}
+use Rattle.wtransport_proto.specs.StreamPolling.{IsStreamFault, IsDry, stream_fault, EndsSo, Faults, PassesUnknown, StreamPolled, JudgesPolled, JudgesGiven, without_frame}
 use Rattle.wtransport_proto.proofs.HeldRunLemmas.{read_front, framed_size, bad_size, big_size, size_new, leaves_size, run_refused, run_case}
 
 -- ---- faults
@@ -87,11 +89,11 @@ pub refused_judges : (role : Role) (r : Polled (Result Content IoReadError)) (f 
 refused_judges role r f c first next e is n = λ s t old new p. telling_map s t (λ a b. Decided old new a b (Framed f)) (StreamPolled role (Ready (Err (stream.H3 c))) first next old new)
     (λ a b d. refused_ends role first next old new f c a b is n d) (rw e at p)
 
-pub bad_judges : (role : Role) (r : Polled (Result Content IoReadError)) (first : Bool) → r ≡ Ready (Err (reading.Parse parse.InvalidSessionId)) → JudgesPolled role r (Ready (Err (stream.H3 Id))) first first
+bad_judges : (role : Role) (r : Polled (Result Content IoReadError)) (first : Bool) → r ≡ Ready (Err (reading.Parse parse.InvalidSessionId)) → JudgesPolled role r (Ready (Err (stream.H3 Id))) first first
 bad_judges role r first e = λ s t old new p. telling_map s t (λ a b. Decided old new a b BadId) (StreamPolled role (Ready (Err (stream.H3 Id))) first first old new)
     (λ a b d. bad_ends role first old new a b d) (rw e at p)
 
-pub big_judges : (role : Role) (r : Polled (Result Content IoReadError)) (first : Bool) → r ≡ Ready (Err (reading.Parse parse.PayloadTooBig)) → JudgesPolled role r (Ready (Err (stream.H3 ExcessiveLoad))) first first
+big_judges : (role : Role) (r : Polled (Result Content IoReadError)) (first : Bool) → r ≡ Ready (Err (reading.Parse parse.PayloadTooBig)) → JudgesPolled role r (Ready (Err (stream.H3 ExcessiveLoad))) first first
 big_judges role r first e = λ s t old new p. telling_map s t (λ a b. Decided old new a b TooBig) (StreamPolled role (Ready (Err (stream.H3 ExcessiveLoad))) first first old new)
     (λ a b d. big_ends role first old new a b d) (rw e at p)
 
@@ -102,3 +104,22 @@ io_judges role r x first e = λ s t old new p. telling_map s t (FramePolled (Rea
 pub again_judges : (role : Role) (r : Polled (Result Content IoReadError)) (first : Bool) → r ≡ Again → JudgesPolled role r Again first first
 again_judges role r first e = λ s t old new p. telling_map s t (FramePolled Again old new) (PassesUnknown first first old new)
     (λ a b d. record { skips = d.skips; whole = λ z. let some = d.due in absurd (omega arith); part = λ _. (d.same, d.most); flag = refl }) (rw e at p)
+
+unknown_judges : (role : Role) (r : Polled (Result Content IoReadError)) (first : Bool) → r ≡ Ready (Err (reading.Parse parse.UnknownFrame)) → JudgesPolled role r Again first first
+unknown_judges role r first e = λ s t old new p. telling_map s t (λ a b. Decided old new a b Unknown × Skips old new a b) (PassesUnknown first first old new)
+    (λ a b d. record { skips = d.1; whole = λ z. d.0; part = λ some. let none : new.due ≡ 0 = ap (λ (h : Held). h.due) d.0.empty in absurd (omega arith); flag = refl }) (rw e at p)
+
+-- by the code of bytes that are no frame
+pub code_judges : (role : Role) (r : Polled (Result Content IoReadError)) (fault : ParseError) (first : Bool) → r ≡ Ready (Err (reading.Parse fault)) → JudgesPolled role r (without_frame (frame_code fault)) first first
+code_judges role r parse.UnknownFrame first e = unknown_judges role r first e
+code_judges role r parse.InvalidSessionId first e = bad_judges role r first e
+code_judges role r parse.PayloadTooBig first e = big_judges role r first e
+
+pub code_given : (role : Role) (r : Polled (Result Content IoReadError)) (fault : ParseError) (first : Bool) → r ≡ Ready (Err (reading.Parse fault)) → JudgesGiven role r (without_frame (frame_code fault)) first first
+code_given role r parse.UnknownFrame first e = λ old new g. (inl (rw e at g), refl)
+code_given role r parse.InvalidSessionId first e = λ old new g. inr (inl (refl, rw e at g, refl))
+code_given role r parse.PayloadTooBig first e = λ old new g. inr (inr (inl (refl, rw e at g, refl)))
+
+pub code_waits : (code : Option ErrorCode) → polled_waits (without_frame code) ≡ 0
+code_waits None = refl
+code_waits (Some c) = refl

@@ -133,6 +133,11 @@ StreamGiven role NoMemory first next old new =
 
 -- ---- the result of a stream for the result of its reading
 
+-- for bytes that are no frame, by their code; those without one are an unknown frame
+abbrev pub without_frame : Option ErrorCode → Polled (Result Content IoReadError)
+without_frame None = Again
+without_frame (Some code) = Ready (Err (stream.H3 code))
+
 -- Whatever was held, and whatever the source: what the reading's result says of them, the stream's
 -- result says by its rule.
 abbrev pub JudgesPolled :

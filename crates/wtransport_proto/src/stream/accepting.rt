@@ -9,7 +9,7 @@ use wtp_core::bytes::{AsyncRead, Polled, Stepped};
 use wtp_core::error::ErrorCode;
 use wtp_wire::frame::{FrameKind, FrameOwned, FrameReading};
 use wtp_wire::stream_header;
-use wtp_wire::stream_header::{HeaderReading, ParseError};
+use wtp_wire::stream_header::HeaderReading;
 
 /// Converts a stream to one of HTTP/3 by the header that is read from it, poll by poll. Not in the
 /// Rust crate.
@@ -54,11 +54,8 @@ impl UniAccepting {
                     first_frame_done: false,
                 },
             }),
-            Polled::Ready(Err(stream_header::IoReadError::Parse(ParseError::UnknownStream))) => {
-                Stepped::Failed(self, IoReadError::H3(ErrorCode::StreamCreation))
-            }
-            Polled::Ready(Err(stream_header::IoReadError::Parse(ParseError::InvalidSessionId))) => {
-                Stepped::Failed(self, IoReadError::H3(ErrorCode::Id))
+            Polled::Ready(Err(stream_header::IoReadError::Parse(fault))) => {
+                Stepped::Failed(self, IoReadError::H3(ErrorCode::from(fault)))
             }
             Polled::Ready(Err(stream_header::IoReadError::IO(fault))) => {
                 Stepped::Failed(self, stream_fault(fault))

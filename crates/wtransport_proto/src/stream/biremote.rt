@@ -11,6 +11,7 @@ ghost use Rattle.wtp_wire.specs.Front.{front};
 ghost use Rattle.wtp_wire.specs.Held.{IsUnfinished};
 ghost use Rattle.wtp_wire.specs.Wire.{parts_of, wire};
 ghost use Rattle.wtp_wire.specs.Rule.{RemoteBi};
+ghost use Rattle.wtransport_proto.specs.Driving.{ChangesFirst};
 ghost use Rattle.wtp_wire.specs.Run.{past_unknown};
 ghost use Rattle.wtransport_proto.specs.Reading.{AnswersFrame, AnswersRun, ReaderIsAfter};
 ghost use Rattle.wtransport_proto.specs.StreamPolling.{StreamPolled, StreamGiven};
@@ -125,6 +126,7 @@ impl StreamBiRemoteH3 {
         reading: &mut FrameReading,
         source: &mut S,
     ) -> Polled<Result<FrameOwned, IoReadError>>
+        ensures changes { ChangesFirst first_of self.old self.new }
         ensures was_unfinished { IsUnfinished reading.old }
         ensures unfinished { IsUnfinished reading.new }
         ensures given { StreamGiven RemoteBi result (first_of self.old) (first_of self.new)

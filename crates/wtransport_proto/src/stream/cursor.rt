@@ -10,7 +10,7 @@ ghost use Rattle.wtransport_proto.specs.Reading.{AnswersKnown};
 use wtp_core::bytes::BytesReader;
 use wtp_core::error::ErrorCode;
 use wtp_core::ids::SessionId;
-use wtp_wire::frame::{Frame, FrameKind, ParseError};
+use wtp_wire::frame::{Frame, FrameKind};
 use wtp_wire::rules::{StreamRole, fault_of};
 
 /// The state of reading the frames of a stream, between two calls. Not in the Rust crate.
@@ -120,7 +120,7 @@ impl FrameCursor {
             return CursorStep::More(len);
         }
         let (_, mut rest) = bytes.split_at(self.due as usize);
-        match read_known(&mut rest) {
+        match take_known(&mut rest) {
             Ok(Some(frame)) => match fault_of(self.role, self.first, frame.kind()) {
                 None => {
                     self.first = false;
@@ -163,7 +163,7 @@ impl FrameCursor {
 
 /// Reads the first frame of a known or exercise kind. Unknown frames before it are passed, and the
 /// bytes after them are left if they are too few for a frame.
-fn read_known<'a>(rest: &mut &'a [u8]) -> Result<Option<Frame<'a>>, ErrorCode>
+fn take_known<'a>(rest: &mut &'a [u8]) -> Result<Option<Frame<'a>>, ErrorCode>
     ensures answer { AnswersKnown (front (past_unknown rest.old.now)) result rest.new.now }
     ensures short { result ≡ Ok None → rest.new.now ≡ past_unknown rest.old.now }
     ensures rest { IsRest rest.new.now rest.old.now }
@@ -176,9 +176,10 @@ fn read_known<'a>(rest: &mut &'a [u8]) -> Result<Option<Frame<'a>>, ErrorCode>
                 *rest = before;
                 return Ok(None);
             }
-            Err(ParseError::UnknownFrame) => {}
-            Err(ParseError::InvalidSessionId) => return Err(ErrorCode::Id),
-            Err(ParseError::PayloadTooBig) => return Err(ErrorCode::ExcessiveLoad),
+            Err(fault) => match fault.code() {
+                None => {}
+                Some(code) => return Err(code),
+            },
         }
     }
 }

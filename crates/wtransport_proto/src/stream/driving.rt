@@ -11,7 +11,6 @@ ghost use Rattle.wtransport_proto.specs.Driving.{ChangesFirst, DriveDid};
 use crate::stream::IoReadError;
 use crate::stream::bilocal::StreamBiLocalH3;
 use crate::stream::biremote::StreamBiRemoteH3;
-use crate::stream::polled::judge;
 use crate::stream::session::StreamSession;
 use crate::stream::uniremote::StreamUniRemoteH3;
 use wtp_core::bytes::{AsyncRead, Polled};
@@ -69,7 +68,7 @@ impl ReadsFrames for StreamBiRemoteH3 {
         reading: &mut FrameReading,
         source: &mut S,
     ) -> Polled<Result<FrameOwned, IoReadError>> {
-        judge::<Self>(reading.poll(source), &mut self.stage.first_frame_done)
+        StreamBiRemoteH3::read_frame_async(self, reading, source)
     }
 }
 
@@ -90,7 +89,7 @@ impl ReadsFrames for StreamBiLocalH3 {
         reading: &mut FrameReading,
         source: &mut S,
     ) -> Polled<Result<FrameOwned, IoReadError>> {
-        judge::<Self>(reading.poll(source), &mut true)
+        StreamBiLocalH3::read_frame_async(self, reading, source)
     }
 }
 
@@ -111,7 +110,7 @@ impl ReadsFrames for StreamUniRemoteH3 {
         reading: &mut FrameReading,
         source: &mut S,
     ) -> Polled<Result<FrameOwned, IoReadError>> {
-        judge::<Self>(reading.poll(source), &mut true)
+        StreamUniRemoteH3::read_frame_async(self, reading, source)
     }
 }
 
@@ -132,7 +131,7 @@ impl ReadsFrames for StreamSession {
         reading: &mut FrameReading,
         source: &mut S,
     ) -> Polled<Result<FrameOwned, IoReadError>> {
-        judge::<Self>(reading.poll(source), &mut true)
+        StreamSession::read_frame_async(self, reading, source)
     }
 }
 

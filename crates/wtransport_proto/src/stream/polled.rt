@@ -2,7 +2,8 @@
 //! differ in their rule.
 ghost use Rattle.std.specs.Prelude.{◌≡◌, true, not};
 ghost use Rattle.wtp_core.specs.Polled.{polled_waits};
-ghost use Rattle.wtransport_proto.specs.StreamPolling.{JudgesGiven, JudgesPolled, stream_fault};
+ghost use Rattle.wtransport_proto.specs.StreamPolling.{JudgesGiven, JudgesPolled, stream_fault, without_frame};
+ghost use Rattle.wtp_wire.specs.Codes.{frame_code};
 
 use crate::stream::reading::Rule;
 use std::mem;
@@ -49,13 +50,7 @@ pub(crate) fn judge<K: Rule>(
                 Some(code) => Polled::Ready(Err(IoReadError::H3(code))),
             }
         }
-        Polled::Ready(Err(frame::IoReadError::Parse(ParseError::UnknownFrame))) => Polled::Again,
-        Polled::Ready(Err(frame::IoReadError::Parse(ParseError::InvalidSessionId))) => {
-            Polled::Ready(Err(IoReadError::H3(ErrorCode::Id)))
-        }
-        Polled::Ready(Err(frame::IoReadError::Parse(ParseError::PayloadTooBig))) => {
-            Polled::Ready(Err(IoReadError::H3(ErrorCode::ExcessiveLoad)))
-        }
+        Polled::Ready(Err(frame::IoReadError::Parse(fault))) => without_frame(&fault),
         Polled::Ready(Err(frame::IoReadError::IO(fault))) => {
             Polled::Ready(Err(stream_fault(fault)))
         }
@@ -63,6 +58,16 @@ pub(crate) fn judge<K: Rule>(
         Polled::NoMemory => Polled::NoMemory,
         Polled::Again => Polled::Again,
     }
+}
+
+/// Returns the result of a stream for bytes that are no frame: an unknown one was skipped.
+fn without_frame(fault: &ParseError) -> Polled<Result<FrameOwned, IoReadError>>
+    ensures { result ≡ without_frame (frame_code fault.now) }
+{
+    let Some(code) = fault.code() else {
+        return Polled::Again;
+    };
+    Polled::Ready(Err(IoReadError::H3(code)))
 }
 
 /// Converts a fault of the source: an end inside a frame is a fault of the frame.

@@ -9,7 +9,7 @@ ghost use Rattle.wtransport_proto.specs.Reading.{AnswersFrame, AnswersKnown, Ans
 
 use wtp_core::bytes::{BufferReader, BytesReader};
 use wtp_core::error::ErrorCode;
-use wtp_wire::frame::{Frame, FrameKind, ParseError};
+use wtp_wire::frame::{Frame, FrameKind};
 
 /// A stream in a reading state.
 pub(crate) trait Rule {
@@ -32,9 +32,10 @@ fn read_known<'a, R: BytesReader<'a>>(reader: &mut R) -> Result<Option<Frame<'a>
     'frames: loop {
         match Frame::read(reader) {
             Ok(found) => return Ok(found),
-            Err(ParseError::UnknownFrame) => {}
-            Err(ParseError::InvalidSessionId) => return Err(ErrorCode::Id),
-            Err(ParseError::PayloadTooBig) => return Err(ErrorCode::ExcessiveLoad),
+            Err(fault) => match fault.code() {
+                None => {}
+                Some(code) => return Err(code),
+            },
         }
     }
 }

@@ -21,7 +21,7 @@ use wtp_core::bytes::{AsyncRead, BufferReader, BytesReader, Polled};
 use wtp_core::error::ErrorCode;
 use wtp_wire::frame::{Frame, FrameKind, FrameOwned, FrameReading};
 use wtp_wire::rules::{StreamRole, fault_of};
-use wtp_wire::stream_header::{ParseError, StreamHeader, StreamKind};
+use wtp_wire::stream_header::{StreamHeader, StreamKind};
 
 /// A stream of QUIC.
 pub type StreamUniRemoteQuic = Stream<UniRemote, Quic>;
@@ -76,8 +76,7 @@ impl StreamUniRemoteQuic {
                 },
             })),
             Ok(None) => Ok(MaybeUpgradeH3::Quic(self)),
-            Err(ParseError::UnknownStream) => Err(ErrorCode::StreamCreation),
-            Err(ParseError::InvalidSessionId) => Err(ErrorCode::Id),
+            Err(fault) => Err(ErrorCode::from(fault)),
         }
     }
 

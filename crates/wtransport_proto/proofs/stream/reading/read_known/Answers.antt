@@ -1,7 +1,7 @@
-use Rattle.std.proofs.Common.{refl, ◌∙◌}
+use Rattle.std.proofs.Common.{refl, sym, ◌∙◌}
 use Rattle.wtp_core.proofs.RestLemmas.{rest-rest}
 use Rattle.wtp_wire.proofs.FrontLemmas.{unknown-shorter}
-use Rattle.wtransport_proto.proofs.ReadingLemmas.{passes-none, passes-one, known-ok, known-bad, known-big}
+use Rattle.wtransport_proto.proofs.ReadingLemmas.{passes-none, passes-one, known-ok, known-code, unknown-code}
 use Rattle.wtransport_proto.proofs.stream.reading.read_known.Goals as goal
 
 pub returns-in-Ok : goal.returns-in-Ok
@@ -15,21 +15,14 @@ pub frames-init : goal.frames-init
 frames-init g c = (passes-none _, refl)
 
 pub frames-smaller : goal.frames-smaller
-frames-smaller g c = unknown-shorter _ _ (rw c.in-Err-UnknownFrame.field-0-is at c.in-Err-UnknownFrame.ensures.answer)
+frames-smaller g c = unknown-shorter _ _ (unknown-code c.in-Err.fault _ _ (sym c.code.ensures ∙ c.in-None.is) c.in-Err.ensures.answer)
 
 pub frames-preserved : goal.frames-preserved
-frames-preserved g c = (passes-one _ _ _ c.frames.invariant.0 (rw c.in-Err-UnknownFrame.field-0-is at c.in-Err-UnknownFrame.ensures.answer) c.in-Err-UnknownFrame.ensures.rest, c.in-Err-UnknownFrame.ensures.kept ∙ c.frames.invariant.1)
+frames-preserved g c = (passes-one _ _ _ c.frames.invariant.0 (unknown-code c.in-Err.fault _ _ (sym c.code.ensures ∙ c.in-None.is) c.in-Err.ensures.answer) c.in-Err.ensures.rest, c.in-Err.ensures.kept ∙ c.frames.invariant.1)
 
-pub returns-in-Err-InvalidSessionId : goal.returns-in-Err-InvalidSessionId
-returns-in-Err-InvalidSessionId g c = record {
-  answer = known-bad _ (g.R.BytesReader.left c.frames.reader) _ c.frames.invariant.0.known (rw c.in-Err-InvalidSessionId.field-0-is at c.in-Err-InvalidSessionId.ensures.answer);
-  rest = rest-rest _ _ _ c.in-Err-InvalidSessionId.ensures.rest c.frames.invariant.0.rest;
-  kept = c.in-Err-InvalidSessionId.ensures.kept ∙ c.frames.invariant.1;
-}
-
-pub returns-in-Err-PayloadTooBig : goal.returns-in-Err-PayloadTooBig
-returns-in-Err-PayloadTooBig g c = record {
-  answer = known-big _ (g.R.BytesReader.left c.frames.reader) _ c.frames.invariant.0.known (rw c.in-Err-PayloadTooBig.field-0-is at c.in-Err-PayloadTooBig.ensures.answer);
-  rest = rest-rest _ _ _ c.in-Err-PayloadTooBig.ensures.rest c.frames.invariant.0.rest;
-  kept = c.in-Err-PayloadTooBig.ensures.kept ∙ c.frames.invariant.1;
+pub returns-in-Some : goal.returns-in-Some
+returns-in-Some g c = record {
+  answer = known-code c.in-Err.fault c.in-Some.code _ (g.R.BytesReader.left c.frames.reader) _ (sym c.code.ensures ∙ c.in-Some.is) c.frames.invariant.0.known c.in-Err.ensures.answer;
+  rest = rest-rest _ _ _ c.in-Err.ensures.rest c.frames.invariant.0.rest;
+  kept = c.in-Err.ensures.kept ∙ c.frames.invariant.1;
 }

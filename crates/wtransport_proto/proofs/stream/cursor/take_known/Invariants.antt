@@ -1,6 +1,6 @@
 use Rattle.std.proofs.Common.{length}
 use Rattle.wtransport_proto.proofs.ReadingLemmas.{Passes}
-use Rattle.wtransport_proto.proofs.stream.cursor.read_known.Given as goal
+use Rattle.wtransport_proto.proofs.stream.cursor.take_known.Given as goal
 
 abbrev pub invariant-frames : goal.invariant-frames
 invariant-frames l = Passes l.fn.rest.now l.rest.now
