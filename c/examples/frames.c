@@ -1,11 +1,14 @@
 /* Lists the frames of a stream that the peer opened, from standard input:
      printf '\x40\x41\x04' | frames        prints "WEBTRANSPORT 4" and "rest 0"
      printf '\x00\x03abc\x05' | frames     prints "DATA 3" and "rest 1"
-   A stream in pieces is read with no more than 4111 bytes left over from one call to the next. */
+   A stream in pieces is read with no more than WT_MAX_FRAME_REST bytes left over from one call to the next. */
 #include <inttypes.h>
 #include <stdio.h>
 #include <string.h>
 #include <wtransport.h>
+
+/* So many bytes are read at a time. */
+enum { PIECE = 1024 };
 
 static void print_frame(const wt_frame *frame) {
   switch (frame->type) {
@@ -25,13 +28,13 @@ static int print_fault(uint64_t code) {
 }
 
 int main(void) {
-  uint8_t held[4111 + 1024];
+  uint8_t held[WT_MAX_FRAME_REST + PIECE];
   size_t size = 0, got, consumed;
   uint64_t code;
   wt_reader reader;
   wt_frame frame;
   if (wt_reader_new(WT_READ_BI_REMOTE, &reader) != WT_OK) return 1;
-  while ((got = fread(held + size, 1, 1024, stdin)) > 0) {
+  while ((got = fread(held + size, 1, PIECE, stdin)) > 0) {
     int answer;
     size_t at = 0;
     size += got;

@@ -72,7 +72,7 @@ static uint64_t walk(const uint8_t *d, size_t n, uint8_t kind, size_t step) {
     MUST(answer == WT_FAULT || consumed <= have);
     note((uint64_t)answer, answer == WT_OK ? frame.type : answer == WT_FAULT ? code : reader.due > 0);
     if (answer == WT_OK) {
-      MUST(frame.offset + frame.length == consumed && frame.length <= 4096);
+      MUST(frame.offset + frame.length == consumed && frame.length <= WT_MAX_FRAME_PAYLOAD);
       sum = sum * 31 + frame.type + frame.session + frame.length + (frame.length ? held[frame.offset] : 0);
     }
     free(held);
@@ -80,7 +80,7 @@ static uint64_t walk(const uint8_t *d, size_t n, uint8_t kind, size_t step) {
     at += consumed;
     have -= consumed;
     if (answer == WT_MORE) {
-      MUST(have <= 4111);
+      MUST(have <= WT_MAX_FRAME_REST);
       if (at + have == n) return sum * 31 + (uint64_t)wt_read_end(&reader, d + at, have, &code);
       have += step < n - at - have ? step : n - at - have;
     }
@@ -124,7 +124,7 @@ static uint64_t walk_capsules(const uint8_t *d, size_t n, size_t step) {
     MUST(consumed <= have);
     note((uint64_t)answer, answer == WT_OK ? capsule.length : reader.due > 0);
     if (answer == WT_OK) {
-      MUST(capsule.offset + capsule.length == consumed && capsule.length <= 1028);
+      MUST(capsule.offset + capsule.length == consumed && capsule.length <= WT_MAX_CAPSULE_VALUE);
       sum = sum * 31 + capsule.type + capsule.length + (capsule.length ? held[capsule.offset] : 0);
     }
     free(held);
@@ -132,7 +132,7 @@ static uint64_t walk_capsules(const uint8_t *d, size_t n, size_t step) {
     at += consumed;
     have -= consumed;
     if (answer == WT_MORE) {
-      MUST(have <= 1043);
+      MUST(have <= WT_MAX_CAPSULE_REST);
       if (at + have == n) return sum * 31 + (uint64_t)wt_capsule_end(&reader, d + at, have, &code);
       have += step < n - at - have ? step : n - at - have;
     }
@@ -235,7 +235,7 @@ static void close_value(const uint8_t *d, size_t n) {
   uint8_t out[2048];
   size_t used;
   int answer = wt_close_read(d, n, &reset, &code);
-  note((uint64_t)answer, n < 5 ? n : 5 + (n > 1028));
+  note((uint64_t)answer, n < 5 ? n : 5 + (n > WT_MAX_CAPSULE_VALUE));
   if (answer == WT_OK) {
     MUST(n >= 4 && wt_close_write(reset, d + 4, n - 4, out, sizeof out, &used) == WT_OK);
     MUST(used > n && memcmp(out + used - n, d, n) == 0);

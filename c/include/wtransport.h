@@ -36,6 +36,15 @@ enum {
    after that. `WT_OK`: *used bytes were written. `WT_ROOM`: `out` did not change, and *used is the
    room that is needed; so a call with no room at all is a way to ask for the size. */
 
+/* ---- Version ---- */
+
+/* The version of this header. In the number each of its three parts has a byte: 0x010203 is 1.2.3. */
+#define WT_VERSION "0.8.0"
+#define WT_VERSION_NUMBER 0x000800
+
+/* The version of the library, as in WT_VERSION_NUMBER. */
+uint32_t wt_version(void);
+
 /* ---- Error codes ---- */
 
 /* The error codes that are registered for HTTP/3, QPACK, HTTP Datagrams and WebTransport over HTTP/3:
@@ -139,6 +148,11 @@ enum {
                             response: DATA, HEADERS. The reader of these can go on instead */
 };
 
+enum {
+  WT_MAX_FRAME_PAYLOAD = 4096, /* the longest payload that wt_read_frame reads */
+  WT_MAX_FRAME_REST = 4111     /* the most bytes that wt_read_frame leaves to be given again */
+};
+
 /* Frame-reader state for one stream. Initialise it with wt_reader_new; wt_read_frame updates it. A value
    out of these ranges is rejected with WT_INVALID. */
 typedef struct wt_reader {
@@ -153,7 +167,7 @@ typedef struct wt_frame {
   uint64_t type;    /* one of WT_FRAME_.., or one reserved for exercise: 0x21 + 0x1f * n */
   uint64_t session; /* of a WebTransport frame, which has no payload; otherwise 0 */
   size_t offset;
-  size_t length; /* at most 4096 */
+  size_t length; /* at most WT_MAX_FRAME_PAYLOAD */
 } wt_frame;
 
 /* Makes the reader of a stream. WT_INVALID: the kind is none of WT_READ_... */
@@ -166,12 +180,12 @@ int wt_reader_new(uint8_t kind, wt_reader *reader);
    is for the caller to check, as that HEADERS come before DATA, but for a WebTransport frame, which has
    to be the first: a frame that is skipped does not count, and a reserved one does.
    WT_OK: *frame is the next frame. The next call begins after the first *consumed bytes.
-   WT_MORE: there is no complete frame. The bytes after the first *consumed, at most 4111, are to be given
-   again, with more bytes after them.
+   WT_MORE: there is no complete frame. The bytes after the first *consumed, at most WT_MAX_FRAME_REST, are
+   to be given again, with more bytes after them.
    WT_FAULT: *code is WT_H3_FRAME_UNEXPECTED for a frame that the stream does not allow, WT_H3_FRAME_ERROR
    for a WebTransport frame that is not the first of a stream that the peer opened, WT_H3_ID_ERROR for an
-   invalid session ID, or WT_H3_EXCESSIVE_LOAD for a payload above 4096 bytes; *consumed is 0, and *reader
-   is unchanged.
+   invalid session ID, or WT_H3_EXCESSIVE_LOAD for a payload above WT_MAX_FRAME_PAYLOAD bytes; *consumed is
+   0, and *reader is unchanged.
    WT_INVALID: *reader is not valid, as its comment says. However a stream is cut into pieces, its frames
    and its first fault are the same. After a WebTransport frame all bytes are the application's: do not
    call this for them. */
@@ -194,7 +208,7 @@ enum {
 };
 
 /* Writes a frame with a payload: DATA, HEADERS, SETTINGS, or of a type that is reserved for exercise
-   (0x21 + 0x1f * n). A payload may be longer than the 4096 bytes that wt_read_frame reads.
+   (0x21 + 0x1f * n). A payload may be longer than those that wt_read_frame reads.
    WT_OK, WT_ROOM: as above. WT_INVALID: the type is another, or the payload has 2^62 bytes. */
 int wt_frame_write(uint64_t type, const uint8_t *payload, size_t length, uint8_t *out, size_t room,
                    size_t *used);
@@ -342,7 +356,12 @@ int wt_response_read(const uint8_t *section, size_t length, uint16_t *status, ui
 
 /* ---- Capsules (RFC 9297, section 3.2) ---- */
 
-enum { WT_CAPSULE_CLOSE_SESSION = 0x2843 };
+enum {
+  WT_CAPSULE_CLOSE_SESSION = 0x2843,
+  WT_MAX_CAPSULE_VALUE = 1028, /* the longest value that wt_capsule_read reads */
+  WT_MAX_CAPSULE_REST = 1043,  /* the most bytes that wt_capsule_read leaves to be given again */
+  WT_MAX_CLOSE_REASON = 1024   /* the longest reason that wt_close_write takes */
+};
 
 /* Capsule-reader state for one stream. It begins as {0}; every value is valid. */
 typedef struct wt_capsule_reader {
@@ -353,17 +372,17 @@ typedef struct wt_capsule_reader {
 typedef struct wt_capsule {
   uint64_t type; /* WT_CAPSULE_CLOSE_SESSION */
   size_t offset;
-  size_t length; /* at most 1028 */
+  size_t length; /* at most WT_MAX_CAPSULE_VALUE */
 } wt_capsule;
 
 /* Reads the next capsule from the payloads of the DATA frames of a session's stream, joined: from the
    bytes after those that were consumed before. Capsules of unknown types are skipped, also piece by
    piece, whatever their length.
    WT_OK: *capsule is the next capsule. The next call begins after the first *consumed bytes.
-   WT_MORE: there is no complete capsule. The bytes after the first *consumed, at most 1043, are to be
-   given again, with those of the next payload after them.
-   WT_FAULT: *code is WT_H3_DATAGRAM_ERROR for a value above 1028 bytes; *consumed is 0, and *reader is
-   unchanged. However the bytes are cut into payloads and pieces, the capsules and the fault are the
+   WT_MORE: there is no complete capsule. The bytes after the first *consumed, at most WT_MAX_CAPSULE_REST,
+   are to be given again, with those of the next payload after them.
+   WT_FAULT: *code is WT_H3_DATAGRAM_ERROR for a value above WT_MAX_CAPSULE_VALUE bytes; *consumed is 0, and
+   *reader is unchanged. However the bytes are cut into payloads and pieces, the capsules and the fault are the
    same. */
 int wt_capsule_read(wt_capsule_reader *reader, const uint8_t *bytes, size_t length, size_t *consumed,
                     wt_capsule *capsule, uint64_t *code);
@@ -378,14 +397,14 @@ int wt_capsule_end(const wt_capsule_reader *reader, const uint8_t *rest, size_t 
 
 /* Reads the value of a capsule of type WT_CAPSULE_CLOSE_SESSION.
    WT_OK: *reset is the application's code, and the reason is all bytes from the fifth on.
-   WT_FAULT: *code is WT_H3_DATAGRAM_ERROR for a value of fewer than 4 or more than 1028 bytes, or a
-   reason that is not UTF-8. */
+   WT_FAULT: *code is WT_H3_DATAGRAM_ERROR for a value of fewer than 4 or more than WT_MAX_CAPSULE_VALUE
+   bytes, or a reason that is not UTF-8. */
 int wt_close_read(const uint8_t *value, size_t length, uint32_t *reset, uint64_t *code);
 
 /* Writes the capsule that closes a session: type, length and value. It is the last of the payloads of
    DATA frames on the session's stream. It allocates.
-   WT_OK, WT_ROOM: as above. WT_INVALID: the reason is not UTF-8 or has more than 1024 bytes.
-   WT_MEMORY. */
+   WT_OK, WT_ROOM: as above. WT_INVALID: the reason is not UTF-8 or has more than WT_MAX_CLOSE_REASON
+   bytes. WT_MEMORY. */
 int wt_close_write(uint32_t reset, const uint8_t *reason, size_t length, uint8_t *out, size_t room,
                    size_t *used);
 

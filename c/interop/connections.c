@@ -120,7 +120,8 @@ static void we_read(const exchange *e, unsigned long times) {
 enum { SIDE = 5 };
 
 static void write_side(stream *streams, const exchange *e, int is_server) {
-  const wt_setting settings[] = {{0x08, 1}, {0x33, 1}, {0x21 + 0x1f * 7, 9}};
+  const wt_setting settings[] = {
+      {WT_SETTING_ENABLE_CONNECT_PROTOCOL, 1}, {WT_SETTING_H3_DATAGRAM, 1}, {0x21 + 0x1f * 7, 9}};
   write_message(&streams[0], is_server ? &e->response : &e->request, e->url != NULL, is_server ? NULL : e->url);
   write_control(&streams[1], settings, 3);
   write_header(&streams[2], WT_STREAM_QPACK_ENCODER);

@@ -121,13 +121,15 @@ static const struct {
   size_t size;
   uint64_t code;
 } faults[] = {
-    {"SETTINGS on a request stream (7.2.4)", WT_READ_BI_REMOTE, "\x04\x00", 2, 0x105},
-    {"HEADERS on the control stream (7.2.2)", WT_READ_CONTROL, "\x04\x00\x01\x00", 4, 0x105},
-    {"DATA on the control stream (7.2.1)", WT_READ_CONTROL, "\x04\x00\x00\x00", 4, 0x105},
-    {"a setting of HTTP/2 (7.2.4.1)", WT_READ_CONTROL, "\x04\x02\x02\x00", 4, 0x109},
-    {"a setting that is cut (7.1)", WT_READ_CONTROL, "\x04\x01\x06", 3, 0x106},
-    {"a request with a field section that is cut (RFC 9204, 2.2)", WT_READ_BI_REMOTE, "\x01\x01\x00", 3, 0x200},
-    {"a static index out of range (RFC 9204, 3.1)", WT_READ_BI_REMOTE, "\x01\x04\x00\x00\xff\x24", 6, 0x200},
+    {"SETTINGS on a request stream (7.2.4)", WT_READ_BI_REMOTE, "\x04\x00", 2, WT_H3_FRAME_UNEXPECTED},
+    {"HEADERS on the control stream (7.2.2)", WT_READ_CONTROL, "\x04\x00\x01\x00", 4, WT_H3_FRAME_UNEXPECTED},
+    {"DATA on the control stream (7.2.1)", WT_READ_CONTROL, "\x04\x00\x00\x00", 4, WT_H3_FRAME_UNEXPECTED},
+    {"a setting of HTTP/2 (7.2.4.1)", WT_READ_CONTROL, "\x04\x02\x02\x00", 4, WT_H3_SETTINGS_ERROR},
+    {"a setting that is cut (7.1)", WT_READ_CONTROL, "\x04\x01\x06", 3, WT_H3_FRAME_ERROR},
+    {"a request with a field section that is cut (RFC 9204, 2.2)", WT_READ_BI_REMOTE, "\x01\x01\x00", 3,
+     WT_QPACK_DECOMPRESSION_FAILED},
+    {"a static index out of range (RFC 9204, 3.1)", WT_READ_BI_REMOTE, "\x01\x04\x00\x00\xff\x24", 6,
+     WT_QPACK_DECOMPRESSION_FAILED},
 };
 
 /* The first fault of a transcript, or 0. */

@@ -54,7 +54,7 @@ static int read_settings(void) {
 }
 
 static int write_settings(void) {
-  static const wt_setting settings[] = {{0x33, 1}};
+  static const wt_setting settings[] = {{WT_SETTING_H3_DATAGRAM, 1}};
   uint8_t out[8];
   size_t used;
   return wt_settings_write(settings, 1, out, sizeof out, &used);
@@ -63,7 +63,7 @@ static int write_settings(void) {
 static int name_setting(void) {
   char out[64];
   size_t used;
-  return wt_setting_name(0x33, out, sizeof out, &used);
+  return wt_setting_name(WT_SETTING_H3_DATAGRAM, out, sizeof out, &used);
 }
 
 static int write_request(void) {

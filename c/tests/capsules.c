@@ -6,26 +6,26 @@ static const char closing[] = "\x68\x43\x07\x00\x00\x12\x34" "bye";
 
 static void test_close(void) {
   wt_capsule_reader reader = {0};
-  wt_capsule capsule = {99, 99, 99};
-  size_t consumed = 99;
-  uint64_t code = 99;
+  wt_capsule capsule = {UNCHANGED, UNCHANGED, UNCHANGED};
+  size_t consumed = UNCHANGED;
+  uint64_t code = UNCHANGED;
   uint8_t *bytes = exactly(closing, 10);
   CHECK(wt_capsule_read(&reader, bytes, 10, &consumed, &capsule, &code) == WT_OK);
   CHECK(consumed == 10 && capsule.type == WT_CAPSULE_CLOSE_SESSION && capsule.offset == 3);
-  CHECK(capsule.length == 7 && reader.due == 0 && code == 99);
+  CHECK(capsule.length == 7 && reader.due == 0 && code == UNCHANGED);
   free(bytes);
   for (size_t size = 0; size < 10; size++) {
     bytes = exactly(closing, size);
-    capsule.type = consumed = 99;
+    capsule.type = consumed = UNCHANGED;
     CHECK(wt_capsule_read(&reader, bytes, size, &consumed, &capsule, &code) == WT_MORE);
-    CHECK(consumed == 0 && reader.due == 0 && capsule.type == 99 && code == 99);
+    CHECK(consumed == 0 && reader.due == 0 && capsule.type == UNCHANGED && code == UNCHANGED);
     CHECK(wt_capsule_end(&reader, bytes, size, &code) == (size == 0 ? WT_OK : WT_FAULT));
-    CHECK(code == (size == 0 ? 99 : 0x10e));
-    code = 99;
+    CHECK(code == (size == 0 ? UNCHANGED : WT_H3_MESSAGE_ERROR));
+    code = UNCHANGED;
     free(bytes);
   }
   CHECK(wt_capsule_read(&reader, NULL, 0, &consumed, &capsule, &code) == WT_MORE && consumed == 0);
-  CHECK(wt_capsule_end(&reader, NULL, 0, &code) == WT_OK && code == 99);
+  CHECK(wt_capsule_end(&reader, NULL, 0, &code) == WT_OK && code == UNCHANGED);
 }
 
 /* Unknown capsules are skipped, also where their value comes in pieces. */
@@ -33,8 +33,8 @@ static void test_skipped(void) {
   static uint8_t zeros[4900];
   wt_capsule_reader reader = {0};
   wt_capsule capsule;
-  size_t consumed = 99;
-  uint64_t code = 99;
+  size_t consumed = UNCHANGED;
+  uint64_t code = UNCHANGED;
   uint8_t *bytes = exactly("\x17\x03" "abc\x00\x01x\x68\x43\x07\x00\x00\x12\x34" "bye", 18);
   CHECK(wt_capsule_read(&reader, bytes, 18, &consumed, &capsule, &code) == WT_OK);
   CHECK(consumed == 18 && capsule.offset == 11 && capsule.length == 7);
@@ -42,8 +42,8 @@ static void test_skipped(void) {
   CHECK(consumed == 5 && reader.due == 0);
   CHECK(wt_capsule_read(&reader, bytes, 4, &consumed, &capsule, &code) == WT_MORE);
   CHECK(consumed == 4 && reader.due == 1);
-  CHECK(wt_capsule_end(&reader, NULL, 0, &code) == WT_FAULT && code == 0x10e);
-  code = 99;
+  CHECK(wt_capsule_end(&reader, NULL, 0, &code) == WT_FAULT && code == WT_H3_MESSAGE_ERROR);
+  code = UNCHANGED;
   CHECK(wt_capsule_read(&reader, bytes + 4, 14, &consumed, &capsule, &code) == WT_OK && consumed == 14);
   CHECK(reader.due == 0 && capsule.offset == 7);
   free(bytes);
@@ -54,27 +54,27 @@ static void test_skipped(void) {
   CHECK(wt_capsule_read(&reader, zeros, 100, &consumed, &capsule, &code) == WT_MORE);
   CHECK(consumed == 100 && reader.due == 4900);
   CHECK(wt_capsule_read(&reader, zeros, 4900, &consumed, &capsule, &code) == WT_MORE);
-  CHECK(consumed == 4900 && reader.due == 0 && code == 99);
+  CHECK(consumed == 4900 && reader.due == 0 && code == UNCHANGED);
   CHECK(wt_capsule_end(&reader, NULL, 0, &code) == WT_OK);
 }
 
 /* The value of a capsule that closes a session has at most 4 + 1024 bytes. */
 static void test_longest(void) {
-  static uint8_t bytes[16 + 1029];
+  static uint8_t bytes[16 + WT_MAX_CAPSULE_VALUE + 1];
   wt_capsule_reader reader = {0};
   wt_capsule capsule;
-  size_t consumed = 99;
-  uint64_t code = 99;
+  size_t consumed = UNCHANGED;
+  uint64_t code = UNCHANGED;
   memcpy(bytes, "\xc0\x00\x00\x00\x00\x00\x28\x43\xc0\x00\x00\x00\x00\x00\x04\x04", 16);
-  CHECK(wt_capsule_read(&reader, bytes, 1043, &consumed, &capsule, &code) == WT_MORE && consumed == 0);
+  CHECK(wt_capsule_read(&reader, bytes, WT_MAX_CAPSULE_REST, &consumed, &capsule, &code) == WT_MORE && consumed == 0);
   CHECK(wt_capsule_read(&reader, bytes, 1044, &consumed, &capsule, &code) == WT_OK && consumed == 1044);
-  CHECK(capsule.offset == 16 && capsule.length == 1028);
+  CHECK(capsule.offset == 16 && capsule.length == WT_MAX_CAPSULE_VALUE);
   bytes[15] = 5;
   CHECK(wt_capsule_read(&reader, bytes, 1045, &consumed, &capsule, &code) == WT_FAULT);
-  CHECK(code == 0x33 && consumed == 0 && reader.due == 0);
-  code = consumed = 99;
+  CHECK(code == WT_H3_DATAGRAM_ERROR && consumed == 0 && reader.due == 0);
+  code = consumed = UNCHANGED;
   CHECK(wt_capsule_read(&reader, bytes, 16, &consumed, &capsule, &code) == WT_FAULT);
-  CHECK(code == 0x33 && consumed == 0);
+  CHECK(code == WT_H3_DATAGRAM_ERROR && consumed == 0);
 }
 
 void test_capsules(void) {

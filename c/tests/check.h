@@ -6,6 +6,9 @@
 #include <stdlib.h>
 #include <string.h>
 
+/* The value of an output before a call. */
+#define UNCHANGED 99
+
 extern unsigned long passed, failed;
 
 #define CHECK(x)                                                  \
@@ -21,6 +24,7 @@ extern unsigned long passed, failed;
 /* The bytes in memory of exactly their size, so that valgrind sees a read past their end. */
 uint8_t *exactly(const void *bytes, size_t size);
 
+void test_version(void);
 void test_numbers(void);
 void test_stream_headers(void);
 void test_datagrams(void);

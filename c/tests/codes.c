@@ -5,7 +5,7 @@
 
 static void named(uint64_t code, const char *name, int scope) {
   char out[64];
-  size_t used = 99, size = strlen(name);
+  size_t used = UNCHANGED, size = strlen(name);
   memset(out, '!', sizeof out);
   CHECK(wt_code_name(code, out, sizeof out, &used) == WT_OK);
   CHECK(used == size && memcmp(out, name, size) == 0 && out[size] == '!');
@@ -15,8 +15,8 @@ static void named(uint64_t code, const char *name, int scope) {
 }
 
 static void unknown(uint64_t code) {
-  size_t used = 99;
-  CHECK(wt_code_name(code, NULL, 0, &used) == WT_INVALID && used == 99);
+  size_t used = UNCHANGED;
+  CHECK(wt_code_name(code, NULL, 0, &used) == WT_INVALID && used == UNCHANGED);
   CHECK(wt_code_scope(code) == WT_INVALID);
 }
 
@@ -58,7 +58,7 @@ static uint64_t http3_of(uint32_t n) { return 0x52e4a40fa8dbu + n + n / 0x1e; }
 
 void test_codes(void) {
   static const uint32_t codes[] = {0, 1, 29, 30, 31, 59, 60, 0x7fffffff, 0xffffffff};
-  uint32_t back = 99;
+  uint32_t back = UNCHANGED;
   for (size_t i = 0; i < sizeof registered / sizeof registered[0]; i++) {
     CHECK(registered[i].code == registered[i].number);
     named(registered[i].number, registered[i].name, registered[i].scope);
@@ -75,9 +75,9 @@ void test_codes(void) {
     CHECK(number == http3_of(codes[i]));
     CHECK(wt_application_code_from_http3(number, &back) == WT_OK && back == codes[i]);
   }
-  back = 99;
-  CHECK(wt_application_code_from_http3(0x52e4a40fa8da, &back) == WT_INVALID && back == 99);
-  CHECK(wt_application_code_from_http3(0x52e5ac983163, &back) == WT_INVALID && back == 99);
-  CHECK(wt_application_code_from_http3(UINT64_MAX, &back) == WT_INVALID && back == 99);
+  back = UNCHANGED;
+  CHECK(wt_application_code_from_http3(0x52e4a40fa8da, &back) == WT_INVALID && back == UNCHANGED);
+  CHECK(wt_application_code_from_http3(0x52e5ac983163, &back) == WT_INVALID && back == UNCHANGED);
+  CHECK(wt_application_code_from_http3(UINT64_MAX, &back) == WT_INVALID && back == UNCHANGED);
   CHECK(wt_application_code_from_http3(0x52e4a40fa8f9, &back) == WT_INVALID); /* reserved */
 }

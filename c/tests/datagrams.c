@@ -3,20 +3,20 @@
 #include "check.h"
 
 void test_datagrams(void) {
-  uint64_t session = 99, code = 99;
-  size_t offset = 99, used = 99;
+  uint64_t session = UNCHANGED, code = UNCHANGED;
+  size_t offset = UNCHANGED, used = UNCHANGED;
   uint8_t out[16];
   uint8_t *bytes = exactly("\x01hello", 6);
   CHECK(wt_datagram_read(bytes, 6, &session, &offset, &code) == WT_OK);
-  CHECK(session == 4 && offset == 1 && code == 99);
+  CHECK(session == 4 && offset == 1 && code == UNCHANGED);
   CHECK(wt_datagram_read(bytes, 1, &session, &offset, &code) == WT_OK && offset == 1);
   free(bytes);
   bytes = exactly("\xd0\x00\x00\x00\x00\x00\x00\x00", 8); /* 2^60 is no quarter stream ID */
-  session = offset = 99;
+  session = offset = UNCHANGED;
   CHECK(wt_datagram_read(bytes, 8, &session, &offset, &code) == WT_FAULT);
-  CHECK(session == 99 && offset == 99 && code == 0x33);
-  code = 99;
-  CHECK(wt_datagram_read(bytes, 7, &session, &offset, &code) == WT_FAULT && code == 0x33);
+  CHECK(session == UNCHANGED && offset == UNCHANGED && code == WT_H3_DATAGRAM_ERROR);
+  code = UNCHANGED;
+  CHECK(wt_datagram_read(bytes, 7, &session, &offset, &code) == WT_FAULT && code == WT_H3_DATAGRAM_ERROR);
   free(bytes);
   CHECK(wt_datagram_read(NULL, 0, &session, &offset, &code) == WT_FAULT);
 
@@ -29,8 +29,8 @@ void test_datagrams(void) {
   CHECK(used == 6 && out[0] == 0xee);
   CHECK(wt_datagram_write(4, NULL, 0, out, sizeof out, &used) == WT_OK && used == 1);
   CHECK(wt_datagram_write(4, NULL, 0, NULL, 0, &used) == WT_ROOM && used == 1);
-  used = 99;
-  CHECK(wt_datagram_write(5, NULL, 0, out, sizeof out, &used) == WT_INVALID && used == 99);
+  used = UNCHANGED;
+  CHECK(wt_datagram_write(5, NULL, 0, out, sizeof out, &used) == WT_INVALID && used == UNCHANGED);
   CHECK(wt_datagram_write(UINT64_MAX - 3, NULL, 0, out, sizeof out, &used) == WT_INVALID);
 
   CHECK(wt_datagram_write_head(256, out, sizeof out, &used) == WT_OK);

@@ -26,24 +26,24 @@ static const char section[] =
 static void faulty(const char *given, size_t size) {
   wt_field fields[4];
   uint8_t texts[256];
-  size_t count = 98, used = 99;
-  uint64_t code = 99;
+  size_t count = UNCHANGED, used = UNCHANGED;
+  uint64_t code = UNCHANGED;
   uint8_t *bytes = exactly(given, size);
   CHECK(wt_fields_read(bytes, size, fields, 4, texts, sizeof texts, &count, &used, &code) ==
         WT_FAULT);
-  CHECK(code == 0x200 && count == 98 && used == 99);
+  CHECK(code == WT_QPACK_DECOMPRESSION_FAILED && count == UNCHANGED && used == UNCHANGED);
   free(bytes);
 }
 
 static void test_read(void) {
   wt_field fields[LINES + 1];
   uint8_t texts[TEXTS + 1];
-  size_t size = sizeof section - 1, count = 98, used = 99;
-  uint64_t code = 99;
+  size_t size = sizeof section - 1, count = UNCHANGED, used = UNCHANGED;
+  uint64_t code = UNCHANGED;
   uint8_t *bytes = exactly(section, size);
   texts[TEXTS] = 0xee;
   CHECK(wt_fields_read(bytes, size, fields, LINES, texts, TEXTS, &count, &used, &code) == WT_OK);
-  CHECK(count == LINES && used == TEXTS && code == 99 && texts[TEXTS] == 0xee);
+  CHECK(count == LINES && used == TEXTS && code == UNCHANGED && texts[TEXTS] == 0xee);
   CHECK(is_line(&fields[0], texts, ":method", "GET"));
   CHECK(is_line(&fields[1], texts, ":path", "/index.html"));
   CHECK(is_line(&fields[2], texts, ":authority", "www.example.com"));
@@ -54,7 +54,7 @@ static void test_read(void) {
   CHECK(count == LINES && used == TEXTS);
   CHECK(wt_fields_read(bytes, size, fields, LINES, texts, TEXTS - 1, &count, &used, &code) ==
         WT_ROOM);
-  CHECK(count == LINES && used == TEXTS && code == 99);
+  CHECK(count == LINES && used == TEXTS && code == UNCHANGED);
   CHECK(wt_fields_read(bytes, size, NULL, 0, NULL, 0, &count, &used, &code) == WT_ROOM);
   CHECK(count == LINES && used == TEXTS);
   CHECK(wt_fields_read(bytes, 2, NULL, 0, NULL, 0, &count, &used, &code) == WT_OK);
@@ -78,7 +78,7 @@ static void test_write(void) {
   static const wt_field outside = {0, 7, 61, 2};
   static const wt_field far = {SIZE_MAX, SIZE_MAX, 0, 1};
   const uint8_t *given = (const uint8_t *)texts;
-  size_t room = sizeof texts - 1, size = sizeof written - 1, used = 99;
+  size_t room = sizeof texts - 1, size = sizeof written - 1, used = UNCHANGED;
   uint8_t out[128];
   memset(out, 0xee, sizeof out);
   CHECK(wt_fields_write(fields, 3, given, room, out, sizeof out, &used) == WT_OK && used == size);
@@ -88,10 +88,10 @@ static void test_write(void) {
   CHECK(out[0] == 0xee);
   CHECK(wt_fields_write(NULL, 0, NULL, 0, NULL, 0, &used) == WT_ROOM && used == 2);
   CHECK(wt_fields_write(NULL, 0, NULL, 0, out, 2, &used) == WT_OK && used == 2 && out[0] == 0);
-  used = 99;
+  used = UNCHANGED;
   CHECK(wt_fields_write(&not_text, 1, given, room, out, sizeof out, &used) == WT_INVALID);
   CHECK(wt_fields_write(&outside, 1, given, room, out, sizeof out, &used) == WT_INVALID);
-  CHECK(wt_fields_write(&far, 1, given, room, out, sizeof out, &used) == WT_INVALID && used == 99);
+  CHECK(wt_fields_write(&far, 1, given, room, out, sizeof out, &used) == WT_INVALID && used == UNCHANGED);
 }
 
 void test_fields(void) {

@@ -5,7 +5,7 @@
 static void write_row(uint64_t type, const char *payload, size_t size, const char *bytes,
                       size_t head) {
   uint8_t out[32];
-  size_t used = 99;
+  size_t used = UNCHANGED;
   const uint8_t *given = (const uint8_t *)payload;
   memset(out, 0xee, sizeof out);
   CHECK(wt_frame_write(type, given, size, out, sizeof out, &used) == WT_OK);
@@ -22,14 +22,14 @@ static void write_row(uint64_t type, const char *payload, size_t size, const cha
 
 static void refused(uint64_t type) {
   uint8_t out[32];
-  size_t used = 99;
-  CHECK(wt_frame_write(type, NULL, 0, out, sizeof out, &used) == WT_INVALID && used == 99);
-  CHECK(wt_frame_write_head(type, 0, out, sizeof out, &used) == WT_INVALID && used == 99);
+  size_t used = UNCHANGED;
+  CHECK(wt_frame_write(type, NULL, 0, out, sizeof out, &used) == WT_INVALID && used == UNCHANGED);
+  CHECK(wt_frame_write_head(type, 0, out, sizeof out, &used) == WT_INVALID && used == UNCHANGED);
 }
 
 void test_frames(void) {
   uint8_t out[32];
-  size_t used = 99;
+  size_t used = UNCHANGED;
   write_row(WT_FRAME_DATA, "hello", 5, "\x00\x05hello", 2);
   write_row(WT_FRAME_HEADERS, "\x00\x00", 2, "\x01\x02\x00\x00", 2);
   write_row(WT_FRAME_SETTINGS, "\x33\x01", 2, "\x04\x02\x33\x01", 2);

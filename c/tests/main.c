@@ -13,6 +13,7 @@ uint8_t *exactly(const void *bytes, size_t size) {
 }
 
 int main(void) {
+  test_version();
   test_numbers();
   test_stream_headers();
   test_datagrams();

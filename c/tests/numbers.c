@@ -24,20 +24,20 @@ static const struct {
 };
 
 static void read_row(size_t i) {
-  size_t consumed = 99;
-  uint64_t value = 99;
+  size_t consumed = UNCHANGED;
+  uint64_t value = UNCHANGED;
   uint8_t *bytes = exactly(rows[i].bytes, rows[i].size);
   CHECK(wt_varint_read(bytes, rows[i].size, &value, &consumed) == WT_OK);
   CHECK(value == rows[i].value && consumed == rows[i].size);
-  value = 99;
+  value = UNCHANGED;
   CHECK(wt_varint_read(bytes, rows[i].size - 1, &value, &consumed) == WT_MORE);
-  CHECK(value == 99 && consumed == 0);
+  CHECK(value == UNCHANGED && consumed == 0);
   free(bytes);
 }
 
 static void write_row(size_t i) {
   uint8_t out[16];
-  size_t used = 99;
+  size_t used = UNCHANGED;
   if (!rows[i].shortest) return;
   memset(out, 0xee, sizeof out);
   CHECK(wt_varint_size(rows[i].value) == rows[i].size);
@@ -50,16 +50,16 @@ static void write_row(size_t i) {
 }
 
 void test_numbers(void) {
-  size_t used = 99;
-  uint64_t value = 99;
+  size_t used = UNCHANGED;
+  uint64_t value = UNCHANGED;
   for (size_t i = 0; i < sizeof rows / sizeof rows[0]; i++) {
     read_row(i);
     write_row(i);
   }
-  CHECK(wt_varint_read(NULL, 0, &value, &used) == WT_MORE && used == 0 && value == 99);
-  used = 99;
-  CHECK(wt_varint_write(4611686018427387904u, NULL, 0, &used) == WT_INVALID && used == 99);
-  CHECK(wt_varint_write(UINT64_MAX, NULL, 0, &used) == WT_INVALID && used == 99);
+  CHECK(wt_varint_read(NULL, 0, &value, &used) == WT_MORE && used == 0 && value == UNCHANGED);
+  used = UNCHANGED;
+  CHECK(wt_varint_write(4611686018427387904u, NULL, 0, &used) == WT_INVALID && used == UNCHANGED);
+  CHECK(wt_varint_write(UINT64_MAX, NULL, 0, &used) == WT_INVALID && used == UNCHANGED);
   CHECK(wt_varint_write(5, NULL, 0, &used) == WT_ROOM && used == 1);
   CHECK(wt_varint_size(4611686018427387904u) == 0);
 }

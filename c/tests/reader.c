@@ -14,9 +14,9 @@ static size_t make_stream(uint8_t *s) {
 
 /* the frames of a stream that comes k bytes at a time, of which what is left is given again */
 static void piecewise(size_t k) {
-  static uint8_t s[5100], held[4111 + 5100];
+  static uint8_t s[5100], held[WT_MAX_FRAME_REST + 5100];
   size_t size = make_stream(s), have = 0, at = 0, frames = 0, most = 0;
-  uint64_t code = 99;
+  uint64_t code = UNCHANGED;
   wt_reader reader;
   CHECK(wt_reader_new(WT_READ_BI_REMOTE, &reader) == WT_OK);
   for (;;) {
@@ -45,15 +45,15 @@ static void piecewise(size_t k) {
       at += take;
     }
   }
-  CHECK(frames == 2 && have == 0 && reader.due == 0 && reader.first == 0 && code == 99);
+  CHECK(frames == 2 && have == 0 && reader.due == 0 && reader.first == 0 && code == UNCHANGED);
   CHECK(most <= 16);
   CHECK(wt_read_end(&reader, held, have, &code) == WT_OK);
 }
 
 static void faulty(uint8_t kind, uint8_t first, const char *given, size_t size, uint64_t expected) {
   wt_reader reader = {kind, first, 0};
-  size_t consumed = 99;
-  uint64_t code = 99;
+  size_t consumed = UNCHANGED;
+  uint64_t code = UNCHANGED;
   wt_frame frame = {97, 97, 97, 97};
   uint8_t *bytes = exactly(given, size);
   CHECK(wt_read_frame(&reader, bytes, size, &consumed, &frame, &code) == WT_FAULT);
@@ -64,30 +64,30 @@ static void faulty(uint8_t kind, uint8_t first, const char *given, size_t size, 
 
 static void refused(wt_reader reader) {
   wt_reader same = reader;
-  size_t consumed = 99;
-  uint64_t code = 99;
+  size_t consumed = UNCHANGED;
+  uint64_t code = UNCHANGED;
   wt_frame frame = {97, 97, 97, 97};
   CHECK(wt_read_frame(&reader, NULL, 0, &consumed, &frame, &code) == WT_INVALID);
-  CHECK(consumed == 99 && code == 99 && frame.type == 97);
+  CHECK(consumed == UNCHANGED && code == UNCHANGED && frame.type == 97);
   CHECK(reader.kind == same.kind && reader.first == same.first && reader.due == same.due);
-  CHECK(wt_read_end(&reader, NULL, 0, &code) == WT_INVALID && code == 99);
+  CHECK(wt_read_end(&reader, NULL, 0, &code) == WT_INVALID && code == UNCHANGED);
 }
 
 static void test_ends(void) {
   wt_reader reader;
   wt_frame frame;
-  size_t consumed = 99;
-  uint64_t code = 99;
+  size_t consumed = UNCHANGED;
+  uint64_t code = UNCHANGED;
   CHECK(wt_reader_new(WT_READ_CONTROL, &reader) == WT_OK);
   CHECK(wt_read_frame(&reader, NULL, 0, &consumed, &frame, &code) == WT_MORE && consumed == 0);
-  CHECK(wt_read_end(&reader, NULL, 0, &code) == WT_OK && code == 99);
+  CHECK(wt_read_end(&reader, NULL, 0, &code) == WT_OK && code == UNCHANGED);
   CHECK(wt_read_frame(&reader, (const uint8_t *)"\x04", 1, &consumed, &frame, &code) == WT_MORE);
   CHECK(consumed == 0 && wt_read_end(&reader, (const uint8_t *)"\x04", 1, &code) == WT_FAULT);
-  CHECK(code == 0x106);
+  CHECK(code == WT_H3_FRAME_ERROR);
   CHECK(wt_read_frame(&reader, (const uint8_t *)"\x0d\x05x", 3, &consumed, &frame, &code) == WT_MORE);
-  code = 99;
+  code = UNCHANGED;
   CHECK(consumed == 3 && reader.due == 4 && wt_read_end(&reader, NULL, 0, &code) == WT_FAULT);
-  CHECK(code == 0x106);
+  CHECK(code == WT_H3_FRAME_ERROR);
 }
 
 void test_reader(void) {
@@ -95,7 +95,7 @@ void test_reader(void) {
             above = {0, 0, 1ull << 62}, last = {0, 0, (1ull << 62) - 1};
   wt_frame frame;
   size_t consumed;
-  uint64_t code = 99;
+  uint64_t code = UNCHANGED;
   for (size_t k = 1; k < 5100; k = k * 2 + 1) piecewise(k);
   test_ends();
   CHECK(wt_reader_new(4, &first2) == WT_INVALID && first2.first == 2);
@@ -104,13 +104,13 @@ void test_reader(void) {
   refused(far);
   refused(above);
   /* DATA on a control stream, SETTINGS on a request's: table 1 of RFC 9114 */
-  faulty(WT_READ_CONTROL, 1, "\x00\x00", 2, 0x105);
-  faulty(WT_READ_BI_REMOTE, 1, "\x04\x00", 2, 0x105);
-  faulty(WT_READ_BI_LOCAL, 0, "\x40\x41\x00", 3, 0x105);
-  faulty(WT_READ_SESSION, 0, "\x40\x41\x00", 3, 0x105);
-  faulty(WT_READ_BI_REMOTE, 0, "\x40\x41\x00", 3, 0x106); /* not the first frame */
-  faulty(WT_READ_BI_REMOTE, 1, "\x40\x41\x01", 3, 0x108); /* no session ID */
-  faulty(WT_READ_BI_REMOTE, 1, "\x00\x50\x01", 3, 0x107); /* 4097 bytes */
+  faulty(WT_READ_CONTROL, 1, "\x00\x00", 2, WT_H3_FRAME_UNEXPECTED);
+  faulty(WT_READ_BI_REMOTE, 1, "\x04\x00", 2, WT_H3_FRAME_UNEXPECTED);
+  faulty(WT_READ_BI_LOCAL, 0, "\x40\x41\x00", 3, WT_H3_FRAME_UNEXPECTED);
+  faulty(WT_READ_SESSION, 0, "\x40\x41\x00", 3, WT_H3_FRAME_UNEXPECTED);
+  faulty(WT_READ_BI_REMOTE, 0, "\x40\x41\x00", 3, WT_H3_FRAME_ERROR); /* not the first frame */
+  faulty(WT_READ_BI_REMOTE, 1, "\x40\x41\x01", 3, WT_H3_ID_ERROR); /* no session ID */
+  faulty(WT_READ_BI_REMOTE, 1, "\x00\x50\x01", 3, WT_H3_EXCESSIVE_LOAD); /* 4097 bytes */
   {
     wt_reader reader;
     uint8_t *bytes = exactly("\x40\x41\x04...", 6);
@@ -120,5 +120,5 @@ void test_reader(void) {
     free(bytes);
   }
   CHECK(wt_read_frame(&last, (const uint8_t *)"abc", 3, &consumed, &frame, &code) == WT_MORE);
-  CHECK(consumed == 3 && last.due == (1ull << 62) - 4 && code == 99);
+  CHECK(consumed == 3 && last.due == (1ull << 62) - 4 && code == UNCHANGED);
 }

@@ -51,7 +51,7 @@ static const struct {
 
 static void test_name(int fault, const char *name) {
   char out[64];
-  size_t used = 99, size = strlen(name);
+  size_t used = UNCHANGED, size = strlen(name);
   memset(out, '!', sizeof out);
   CHECK(wt_request_fault_name(fault, out, sizeof out, &used) == WT_OK);
   CHECK(used == size && memcmp(out, name, size) == 0 && out[size] == '!');
@@ -62,27 +62,27 @@ static void test_name(int fault, const char *name) {
 static void test_row(size_t row) {
   uint8_t section[256], parts[64];
   size_t size = section_of(rows[row].lines, section, sizeof section), authority, used;
-  int fault = 99;
-  uint64_t code = 99;
+  int fault = UNCHANGED;
+  uint64_t code = UNCHANGED;
   uint8_t *copy = exactly(section, size);
   CHECK(wt_request_fault(copy, size, &fault, &code) == WT_OK);
-  CHECK(fault == rows[row].fault && code == 99);
+  CHECK(fault == rows[row].fault && code == UNCHANGED);
   CHECK(wt_request_read(copy, size, parts, sizeof parts, &authority, &used, &code) ==
         (fault == WT_REQUEST_OK ? WT_OK : WT_FAULT));
-  CHECK(code == (fault == WT_REQUEST_OK ? 99 : 0x10e));
+  CHECK(code == (fault == WT_REQUEST_OK ? UNCHANGED : WT_H3_MESSAGE_ERROR));
   if (fault != WT_REQUEST_OK) test_name(fault, rows[row].name);
   free(copy);
 }
 
 void test_request_faults(void) {
-  int fault = 99;
-  uint64_t code = 99;
-  size_t used = 99;
+  int fault = UNCHANGED;
+  uint64_t code = UNCHANGED;
+  size_t used = UNCHANGED;
   for (size_t row = 0; row < sizeof rows / sizeof rows[0]; row++) test_row(row);
   CHECK(wt_request_fault((const uint8_t *)"\x00\x00\xff", 3, &fault, &code) == WT_FAULT);
-  CHECK(fault == 99 && code == 0x200);
-  CHECK(wt_request_fault(NULL, 0, &fault, &code) == WT_FAULT && fault == 99);
-  CHECK(wt_request_fault_name(WT_REQUEST_OK, NULL, 0, &used) == WT_INVALID && used == 99);
-  CHECK(wt_request_fault_name(9, NULL, 0, &used) == WT_INVALID && used == 99);
-  CHECK(wt_request_fault_name(-1, NULL, 0, &used) == WT_INVALID && used == 99);
+  CHECK(fault == UNCHANGED && code == WT_QPACK_DECOMPRESSION_FAILED);
+  CHECK(wt_request_fault(NULL, 0, &fault, &code) == WT_FAULT && fault == UNCHANGED);
+  CHECK(wt_request_fault_name(WT_REQUEST_OK, NULL, 0, &used) == WT_INVALID && used == UNCHANGED);
+  CHECK(wt_request_fault_name(9, NULL, 0, &used) == WT_INVALID && used == UNCHANGED);
+  CHECK(wt_request_fault_name(-1, NULL, 0, &used) == WT_INVALID && used == UNCHANGED);
 }

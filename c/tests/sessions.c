@@ -57,8 +57,8 @@ static void test_request_lines(const uint8_t *frame, size_t size) {
 
 static void test_request(void) {
   uint8_t out[256], parts[64];
-  size_t size = sizeof url - 1, used = 99, authority = 99, both = 99, head;
-  uint64_t code = 99;
+  size_t size = sizeof url - 1, used = UNCHANGED, authority = UNCHANGED, both = UNCHANGED, head;
+  uint64_t code = UNCHANGED;
   uint8_t *copy;
   CHECK(request(url, size, &origin, 1, out, sizeof out, &used) == WT_OK);
   test_request_lines(out, used);
@@ -67,14 +67,14 @@ static void test_request(void) {
   CHECK(wt_request_read(copy, used - head, parts, 28, &authority, &both, &code) == WT_OK);
   CHECK(authority == 16 && both == 28 && memcmp(parts, "example.com:4433/chat?room=1", 28) == 0);
   CHECK(wt_request_read(copy, used - head, parts, 27, &authority, &both, &code) == WT_ROOM && both == 28);
-  CHECK(wt_request_read(copy, used - head, NULL, 0, &authority, &both, &code) == WT_ROOM && code == 99);
+  CHECK(wt_request_read(copy, used - head, NULL, 0, &authority, &both, &code) == WT_ROOM && code == UNCHANGED);
   CHECK(wt_request_read(copy, used - head - 1, parts, 64, &authority, &both, &code) == WT_FAULT && code == WT_QPACK_DECOMPRESSION_FAILED);
   free(copy);
   CHECK(wt_request_read((const uint8_t *)"\x00\x00\xd1", 3, parts, 64, &authority, &both, &code) ==
         WT_FAULT && code == WT_H3_MESSAGE_ERROR); /* a GET */
   CHECK(request(url, size, &origin, 1, out, used - 1, &both) == WT_ROOM && both == used);
   CHECK(request(url, size, NULL, 0, NULL, 0, &both) == WT_ROOM);
-  both = 99;
+  both = UNCHANGED;
   CHECK(request("http://example.com/", 19, NULL, 0, out, sizeof out, &both) == WT_INVALID);
   CHECK(request("https://", 8, NULL, 0, out, sizeof out, &both) == WT_INVALID);
   CHECK(request("\xff", 1, NULL, 0, out, sizeof out, &both) == WT_INVALID);
@@ -82,7 +82,7 @@ static void test_request(void) {
   for (size_t i = 0; i < sizeof rejected / sizeof rejected[0]; i++) {
     CHECK(request(url, size, &rejected[i], 1, out, sizeof out, &both) == WT_INVALID);
   }
-  CHECK(both == 99);
+  CHECK(both == UNCHANGED);
   /* a value that is not UTF-8 is written, and does not hide the request */
   CHECK(request(url, size, &latin1, 1, out, sizeof out, &used) == WT_OK);
   head = wt_varint_size(used - 3) + 1;
@@ -119,42 +119,42 @@ static uint64_t status_of(const char *text, uint16_t *status) {
 
 static void test_status(void) {
   static const char *const faulty[] = {"", "2", "20", "0200", "+200", "2000", "-20", " 20", "20x", "099", "600"};
-  uint16_t status = 99;
+  uint16_t status = UNCHANGED;
   CHECK(status_of("100", &status) == 0 && status == 100);
   CHECK(status_of("200", &status) == 0 && status == 200);
   CHECK(status_of("599", &status) == 0 && status == 599);
-  status = 99;
+  status = UNCHANGED;
   for (size_t i = 0; i < sizeof faulty / sizeof faulty[0]; i++) {
-    CHECK(status_of(faulty[i], &status) == WT_H3_MESSAGE_ERROR && status == 99);
+    CHECK(status_of(faulty[i], &status) == WT_H3_MESSAGE_ERROR && status == UNCHANGED);
   }
 }
 
 static void test_response(void) {
   uint8_t out[64];
-  size_t used = 99;
-  uint16_t read = 99;
-  uint64_t code = 99;
+  size_t used = UNCHANGED;
+  uint16_t read = UNCHANGED;
+  uint64_t code = UNCHANGED;
   CHECK(wt_response_write(200, NULL, 0, NULL, 0, out, sizeof out, &used) == WT_OK && used == 9);
   /* the name of static entry 24, and 200 in the Huffman code */
   CHECK(memcmp(out, "\x01\x07\x00\x00\x5f\x09\x82\x10\x01", 9) == 0);
   CHECK(wt_response_write(200, NULL, 0, NULL, 0, out, 8, &used) == WT_ROOM && used == 9);
   CHECK(wt_response_write(200, &origin, 1, (const uint8_t *)texts, sizeof texts, out, sizeof out,
                           &used) == WT_OK && used > 9);
-  CHECK(wt_response_read(out + 2, used - 2, &read, &code) == WT_OK && read == 200 && code == 99);
+  CHECK(wt_response_read(out + 2, used - 2, &read, &code) == WT_OK && read == 200 && code == UNCHANGED);
   CHECK(wt_response_write(200, &latin1, 1, (const uint8_t *)texts, sizeof texts, out, sizeof out,
                           &used) == WT_OK);
-  CHECK(wt_response_read(out + 2, used - 2, &read, &code) == WT_OK && read == 200 && code == 99);
+  CHECK(wt_response_read(out + 2, used - 2, &read, &code) == WT_OK && read == 200 && code == UNCHANGED);
   CHECK(wt_response_write(599, NULL, 0, NULL, 0, out, sizeof out, &used) == WT_OK);
   CHECK(wt_response_read(out + 2, used - 2, &read, &code) == WT_OK && read == 599);
-  used = read = 99;
+  used = read = UNCHANGED;
   CHECK(wt_response_write(99, NULL, 0, NULL, 0, out, sizeof out, &used) == WT_INVALID);
   CHECK(wt_response_write(600, NULL, 0, NULL, 0, out, sizeof out, &used) == WT_INVALID);
   for (size_t i = 0; i < sizeof rejected / sizeof rejected[0]; i++) {
     CHECK(wt_response_write(200, &rejected[i], 1, (const uint8_t *)texts, sizeof texts, out, sizeof out,
-                            &used) == WT_INVALID && used == 99);
+                            &used) == WT_INVALID && used == UNCHANGED);
   }
   CHECK(wt_response_read((const uint8_t *)"\x00\x00\xd1", 3, &read, &code) == WT_FAULT);
-  CHECK(read == 99 && code == WT_H3_MESSAGE_ERROR);
+  CHECK(read == UNCHANGED && code == WT_H3_MESSAGE_ERROR);
   CHECK(wt_response_read(NULL, 0, &read, &code) == WT_FAULT && code == WT_QPACK_DECOMPRESSION_FAILED);
 }
 

@@ -4,12 +4,12 @@
 #include "check.h"
 
 static void faulty(const char *payload, size_t size, uint64_t expected) {
-  wt_setting settings[4] = {{98, 99}, {0, 0}, {0, 0}, {0, 0}};
-  size_t count = 99;
-  uint64_t code = 99;
+  wt_setting settings[4] = {{UNCHANGED, UNCHANGED}, {0, 0}, {0, 0}, {0, 0}};
+  size_t count = UNCHANGED;
+  uint64_t code = UNCHANGED;
   uint8_t *bytes = exactly(payload, size);
   CHECK(wt_settings_read(bytes, size, settings, 4, &count, &code) == WT_FAULT);
-  CHECK(code == expected && count == 99 && settings[0].id == 98 && settings[0].value == 99);
+  CHECK(code == expected && count == UNCHANGED && settings[0].id == UNCHANGED && settings[0].value == UNCHANGED);
   free(bytes);
 }
 
@@ -22,19 +22,19 @@ static void test_read(void) {
   static const char payload[] = "\x33\x01\x0d\x00\x08\x01\x0d\x05\x21\x40\x40";
   static const wt_setting expected[] = {
       {WT_SETTING_H3_DATAGRAM, 1}, {0x0d, 0}, {WT_SETTING_ENABLE_CONNECT_PROTOCOL, 1}, {0x0d, 5}, {0x21, 64}};
-  wt_setting settings[6] = {{0, 0}, {0, 0}, {0, 0}, {0, 0}, {0, 0}, {98, 99}};
-  size_t count = 99, size = sizeof payload - 1;
-  uint64_t code = 99;
+  wt_setting settings[6] = {{0, 0}, {0, 0}, {0, 0}, {0, 0}, {0, 0}, {UNCHANGED, UNCHANGED}};
+  size_t count = UNCHANGED, size = sizeof payload - 1;
+  uint64_t code = UNCHANGED;
   uint8_t *bytes = exactly(payload, size);
   CHECK(wt_settings_read(bytes, size, settings, 6, &count, &code) == WT_OK && count == 5);
-  CHECK(are(settings, expected, 5) && settings[5].id == 98 && settings[5].value == 99 && code == 99);
+  CHECK(are(settings, expected, 5) && settings[5].id == UNCHANGED && settings[5].value == UNCHANGED && code == UNCHANGED);
   memset(settings, 0, sizeof settings);
   CHECK(wt_settings_read(bytes, size, settings, 5, &count, &code) == WT_OK && count == 5);
   CHECK(are(settings, expected, 5));
-  settings[0].id = 98;
+  settings[0].id = UNCHANGED;
   CHECK(wt_settings_read(bytes, size, settings, 4, &count, &code) == WT_ROOM && count == 5);
-  CHECK(settings[0].id == 98);
-  CHECK(wt_settings_read(bytes, size, NULL, 0, &count, &code) == WT_ROOM && count == 5 && code == 99);
+  CHECK(settings[0].id == UNCHANGED);
+  CHECK(wt_settings_read(bytes, size, NULL, 0, &count, &code) == WT_ROOM && count == 5 && code == UNCHANGED);
   free(bytes);
   CHECK(wt_settings_read(NULL, 0, NULL, 0, &count, &code) == WT_OK && count == 0);
   faulty("\x33", 1, WT_H3_FRAME_ERROR);
@@ -49,13 +49,15 @@ static void test_read(void) {
 }
 
 static void test_write(void) {
-  static const wt_setting good[] = {{0x33, 1}, {0x08, 1}, {0xc671706a, 64}};
-  static const wt_setting twice[] = {{0x33, 1}, {0x33, 1}};
+  static const wt_setting good[] = {{WT_SETTING_H3_DATAGRAM, 1},
+                                    {WT_SETTING_ENABLE_CONNECT_PROTOCOL, 1},
+                                    {WT_SETTING_WEBTRANSPORT_MAX_SESSIONS, 64}};
+  static const wt_setting twice[] = {{WT_SETTING_H3_DATAGRAM, 1}, {WT_SETTING_H3_DATAGRAM, 1}};
   static const wt_setting http2[] = {{0x04, 1}};
-  static const wt_setting large[] = {{0x33, UINT64_MAX}};
+  static const wt_setting large[] = {{WT_SETTING_H3_DATAGRAM, UINT64_MAX}};
   static const wt_setting unknown[] = {{0x0d, 0}, {0x0d, 5}};
   uint8_t out[32];
-  size_t used = 99;
+  size_t used = UNCHANGED;
   memset(out, 0xee, sizeof out);
   CHECK(wt_settings_write(good, 3, out, sizeof out, &used) == WT_OK && used == 14);
   CHECK(memcmp(out, "\x33\x01\x08\x01\xc0\x00\x00\x00\xc6\x71\x70\x6a\x40\x40", 14) == 0);
@@ -65,22 +67,22 @@ static void test_write(void) {
   CHECK(wt_settings_write(NULL, 0, NULL, 0, &used) == WT_OK && used == 0);
   CHECK(wt_settings_write(unknown, 2, out, sizeof out, &used) == WT_OK && used == 4);
   CHECK(memcmp(out, "\x0d\x00\x0d\x05", 4) == 0);
-  used = 99;
-  CHECK(wt_settings_write(twice, 2, out, sizeof out, &used) == WT_INVALID && used == 99);
-  CHECK(wt_settings_write(http2, 1, out, sizeof out, &used) == WT_INVALID && used == 99);
-  CHECK(wt_settings_write(large, 1, out, sizeof out, &used) == WT_INVALID && used == 99);
+  used = UNCHANGED;
+  CHECK(wt_settings_write(twice, 2, out, sizeof out, &used) == WT_INVALID && used == UNCHANGED);
+  CHECK(wt_settings_write(http2, 1, out, sizeof out, &used) == WT_INVALID && used == UNCHANGED);
+  CHECK(wt_settings_write(large, 1, out, sizeof out, &used) == WT_INVALID && used == UNCHANGED);
 }
 
 static void named(uint64_t id, uint64_t constant, const char *name) {
   char out[64];
-  size_t used = 99, size = strlen(name);
+  size_t used = UNCHANGED, size = strlen(name);
   CHECK(id == constant && wt_setting_name(id, out, sizeof out, &used) == WT_OK);
   CHECK(used == size && memcmp(out, name, size) == 0);
   CHECK(wt_setting_name(id, out, size - 1, &used) == WT_ROOM && used == size);
 }
 
 void test_settings(void) {
-  size_t used = 99;
+  size_t used = UNCHANGED;
   test_read();
   test_write();
   named(0x01, WT_SETTING_QPACK_MAX_TABLE_CAPACITY, "SETTINGS_QPACK_MAX_TABLE_CAPACITY");
@@ -92,6 +94,6 @@ void test_settings(void) {
   named(0xc671706a, WT_SETTING_WEBTRANSPORT_MAX_SESSIONS, "SETTINGS_WEBTRANSPORT_MAX_SESSIONS");
   named(0x21, 0x21, "0x21");
   named(0x3ffffffffffffffe, 0x3ffffffffffffffe, "0x3ffffffffffffffe");
-  CHECK(wt_setting_name(0x02, NULL, 0, &used) == WT_INVALID && used == 99);
-  CHECK(wt_setting_name(UINT64_MAX, NULL, 0, &used) == WT_INVALID && used == 99);
+  CHECK(wt_setting_name(0x02, NULL, 0, &used) == WT_INVALID && used == UNCHANGED);
+  CHECK(wt_setting_name(UINT64_MAX, NULL, 0, &used) == WT_INVALID && used == UNCHANGED);
 }

@@ -19,22 +19,22 @@ static const struct {
   {"", 0, WT_MORE, 0, 0, 0},
   {"\x40", 1, WT_MORE, 0, 0, 0},
   {"\x40\x54", 2, WT_MORE, 0, 0, 0},
-  {"\x40\x54\x05", 3, WT_FAULT, 0, 0, 0x108}, /* a session ID is divisible by 4 */
-  {"\x01", 1, WT_FAULT, 0, 0, 0x103},         /* push streams are not for WebTransport */
+  {"\x40\x54\x05", 3, WT_FAULT, 0, 0, WT_H3_ID_ERROR}, /* a session ID is divisible by 4 */
+  {"\x01", 1, WT_FAULT, 0, 0, WT_H3_STREAM_CREATION_ERROR},         /* push streams are not for WebTransport */
 };
 
 static void read_row(size_t i) {
-  wt_stream_header header = {98, 99};
-  size_t consumed = 99;
-  uint64_t code = 99;
+  wt_stream_header header = {UNCHANGED, UNCHANGED};
+  size_t consumed = UNCHANGED;
+  uint64_t code = UNCHANGED;
   uint8_t *bytes = exactly(rows[i].bytes, rows[i].size);
   CHECK(wt_stream_header_read(bytes, rows[i].size, &consumed, &header, &code) == rows[i].answer);
   if (rows[i].answer == WT_OK) {
     CHECK(consumed == rows[i].size && header.type == rows[i].type);
-    CHECK(header.session == rows[i].session && code == 99);
+    CHECK(header.session == rows[i].session && code == UNCHANGED);
   } else {
-    CHECK(consumed == 0 && header.type == 98 && header.session == 99);
-    CHECK(code == (rows[i].answer == WT_FAULT ? rows[i].code : 99));
+    CHECK(consumed == 0 && header.type == UNCHANGED && header.session == UNCHANGED);
+    CHECK(code == (rows[i].answer == WT_FAULT ? rows[i].code : UNCHANGED));
   }
   free(bytes);
 }
@@ -42,7 +42,7 @@ static void read_row(size_t i) {
 static void write_row(size_t i) {
   wt_stream_header header = {rows[i].type, rows[i].session};
   uint8_t out[16];
-  size_t used = 99;
+  size_t used = UNCHANGED;
   if (rows[i].answer != WT_OK) return;
   memset(out, 0xee, sizeof out);
   CHECK(wt_stream_header_write(&header, out, sizeof out, &used) == WT_OK);
@@ -54,14 +54,14 @@ static void write_row(size_t i) {
 
 static void refused(uint64_t type, uint64_t session) {
   wt_stream_header header = {type, session};
-  size_t used = 99;
-  CHECK(wt_stream_header_write(&header, NULL, 0, &used) == WT_INVALID && used == 99);
+  size_t used = UNCHANGED;
+  CHECK(wt_stream_header_write(&header, NULL, 0, &used) == WT_INVALID && used == UNCHANGED);
 }
 
 void test_stream_headers(void) {
-  wt_stream_header header = {98, 99};
-  size_t consumed = 99;
-  uint64_t code = 99;
+  wt_stream_header header = {UNCHANGED, UNCHANGED};
+  size_t consumed = UNCHANGED;
+  uint64_t code = UNCHANGED;
   for (size_t i = 0; i < sizeof rows / sizeof rows[0]; i++) {
     read_row(i);
     write_row(i);

@@ -11,3 +11,4 @@ pub mod Sessions
 pub mod Reader
 pub mod CapsuleReader
 pub mod RequestFaults
+pub mod Version

@@ -21,3 +21,4 @@ pub mod sessions;
 pub mod settings;
 pub mod stream_headers;
 mod texts;
+pub mod version;

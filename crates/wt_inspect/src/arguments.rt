@@ -4,6 +4,9 @@ use clap::{Arg, ArgAction, ArgMatches, Command, Error};
 use std::alloc::Global;
 use wt_inspection::Recorded;
 
+/// The version that the program names.
+const VERSION: &str = "0.8.0";
+
 /// What the help says after the arguments.
 const MORE: &str = "\
 KIND says what the bytes are, from the first one on, in one direction of one stream:
@@ -87,7 +90,7 @@ pub fn command<'a>(alloc: Global) -> Result<Command<'a>, Error> {
         "The recording, of at most 64 MiB; standard input if there is none",
     );
     let command = Command::new(alloc, "wt_inspect")
-        .version("0.1.0")
+        .version(VERSION)
         .about("Shows what a recorded stream or datagram of HTTP/3 or WebTransport contains")
         .after_help(MORE)
         .arg(kind)?
