@@ -1,85 +1,57 @@
-"""The shared library from Python, by ctypes. Arguments: the folder of the library, and perhaps a
-folder of recordings with an index.tsv, which are read and compared with their index."""
-import ctypes as C
+"""Tests the shared library from Python, by ctypes.
+
+    c/python/test.py FOLDER [RECORDINGS]
+
+FOLDER is that of the library. RECORDINGS is a folder with an index.tsv: what is in it is read, and
+compared with the index. The declarations of wtransport_c.py are compared with the header, and the
+version of the header with those of the library, its files and the file VERSION. Ends with
+'N passed, M failed'.
+"""
 import json
-import os
+import re
+import subprocess
 import sys
+from ctypes import c_size_t, c_uint16, c_uint64, create_string_buffer
+from pathlib import Path
 
-OK, MORE, FAULT, ROOM, INVALID = 0, 1, -1, -2, -3
-DATA, HEADERS, SETTINGS, WEBTRANSPORT = 0x00, 0x01, 0x04, 0x41
-BI_REMOTE, BI_LOCAL, CONTROL = 0, 1, 2
+import wtransport_c as c
+from wtransport_c import FAULT, INVALID, MORE, OK
 
-
-class Header(C.Structure):
-    _fields_ = [("type", C.c_uint64), ("session", C.c_uint64)]
-
-
-class Reader(C.Structure):
-    _fields_ = [("kind", C.c_uint8), ("first", C.c_uint8), ("due", C.c_uint64)]
+TOP = Path(__file__).resolve().parents[2]
+FOLDER = Path(sys.argv[1])
+lib = c.load(str(FOLDER / "libwtransport.so"))
 
 
-class Frame(C.Structure):
-    _fields_ = [("type", C.c_uint64), ("session", C.c_uint64)] + [
-        (name, C.c_size_t) for name in ("offset", "length")
-    ]
+class Checks:
+    """Counts the comparisons that passed and that failed."""
+
+    def __init__(self):
+        self.passed = self.failed = 0
+
+    def same(self, what, got, wanted):
+        if got == wanted:
+            self.passed += 1
+        else:
+            self.failed += 1
+            print(f"{what}: {got!r} and not {wanted!r}")
 
 
-class Field(C.Structure):
-    _fields_ = [
-        (name, C.c_size_t)
-        for name in ("name_offset", "name_length", "value_offset", "value_length")
-    ]
+checks = Checks()
 
 
-class Setting(C.Structure):
-    _fields_ = [("id", C.c_uint64), ("value", C.c_uint64)]
-
-
-class CapsuleReader(C.Structure):
-    _fields_ = [("due", C.c_uint64)]
-
-
-class Capsule(C.Structure):
-    _fields_ = [("type", C.c_uint64), ("offset", C.c_size_t), ("length", C.c_size_t)]
-
-
-lib = C.CDLL(os.path.join(sys.argv[1], "libwtransport.so"))
-size_ref, u64_ref = C.POINTER(C.c_size_t), C.POINTER(C.c_uint64)
-lib.wt_varint_read.argtypes = [C.c_char_p, C.c_size_t, u64_ref, size_ref]
-lib.wt_stream_header_read.argtypes = [C.c_char_p, C.c_size_t, size_ref, C.POINTER(Header), u64_ref]
-lib.wt_datagram_read.argtypes = [C.c_char_p, C.c_size_t, u64_ref, size_ref, u64_ref]
-lib.wt_reader_new.argtypes = [C.c_uint8, C.POINTER(Reader)]
-lib.wt_read_frame.argtypes = [C.POINTER(Reader), C.c_char_p, C.c_size_t, size_ref, C.POINTER(Frame), u64_ref]
-lib.wt_read_end.argtypes = [C.POINTER(Reader), C.c_char_p, C.c_size_t, u64_ref]
-lib.wt_capsule_read.argtypes = [C.POINTER(CapsuleReader), C.c_char_p, C.c_size_t, size_ref, C.POINTER(Capsule), u64_ref]
-lib.wt_capsule_end.argtypes = [C.POINTER(CapsuleReader), C.c_char_p, C.c_size_t, u64_ref]
-lib.wt_code_name.argtypes = [C.c_uint64, C.c_char_p, C.c_size_t, size_ref]
-lib.wt_code_scope.argtypes = [C.c_uint64]
-lib.wt_response_read.argtypes = [C.c_char_p, C.c_size_t, C.POINTER(C.c_uint16), u64_ref]
-lib.wt_settings_read.argtypes = [C.c_char_p, C.c_size_t, C.POINTER(Setting), C.c_size_t, size_ref, u64_ref]
-lib.wt_fields_read.argtypes = [C.c_char_p, C.c_size_t, C.POINTER(Field), C.c_size_t, C.c_char_p, C.c_size_t, size_ref, size_ref, u64_ref]
-
-passed = failed = 0
-
-
-def check(what, got, wanted):
-    global passed, failed
-    if got == wanted:
-        passed += 1
-    else:
-        failed += 1
-        print(f"{what}: {got!r} and not {wanted!r}")
+# ---- The calls ----
 
 
 def stream_header(data):
-    consumed, header, code = C.c_size_t(), Header(), C.c_uint64()
+    consumed, header, code = c_size_t(), c.StreamHeader(), c_uint64()
     answer = lib.wt_stream_header_read(data, len(data), consumed, header, code)
     return answer, consumed.value, header.type, header.session, code.value
 
 
 def frames(kind, data, step):
-    """The frames of a stream that comes in pieces of `step` bytes, the bytes left over, and a code."""
-    reader, consumed, frame, code = Reader(), C.c_size_t(), Frame(), C.c_uint64()
+    """Returns the frames of a stream that comes in pieces of `step` bytes, the bytes left over, and
+    the code of a fault."""
+    reader, consumed, frame, code = c.Reader(), c_size_t(), c.Frame(), c_uint64()
     assert lib.wt_reader_new(kind, reader) == OK
     found, held, at = [], b"", 0
     while True:
@@ -92,18 +64,19 @@ def frames(kind, data, step):
             found.append((frame.type, frame.session, held[frame.offset : end]))
         held = held[consumed.value :]
         if answer == MORE:
-            assert len(held) <= 4111
+            assert len(held) <= c.MAX_FRAME_REST
             if at == len(data):
                 return found, held, None
             held += data[at : at + step]
             at = min(at + step, len(data))
-        if found and found[-1][0] == WEBTRANSPORT:
+        if found and found[-1][0] == c.FRAME_WEBTRANSPORT:
             return found, held + data[at:], None
 
 
 def closes(pieces):
-    """The values of the capsules that close a session, in data that comes in these pieces, and a code."""
-    reader, consumed, capsule, code = CapsuleReader(0), C.c_size_t(), Capsule(), C.c_uint64()
+    """Returns the values of the capsules that close a session, in data that comes in these pieces,
+    and the code of a fault."""
+    reader, consumed, capsule, code = c.CapsuleReader(), c_size_t(), c.Capsule(), c_uint64()
     found, held, coming = [], b"", iter(pieces)
     while True:
         answer = lib.wt_capsule_read(reader, held, len(held), consumed, capsule, code)
@@ -113,82 +86,99 @@ def closes(pieces):
             found.append(held[capsule.offset :][: capsule.length])
         held = held[consumed.value :]
         if answer == MORE:
-            assert len(held) <= 1043
-            piece = next(coming, None)
-            if piece is None:
+            assert len(held) <= c.MAX_CAPSULE_REST
+            if (piece := next(coming, None)) is None:
                 answer = lib.wt_capsule_end(reader, held, len(held), code)
                 return found, code.value if answer == FAULT else None
             held += piece
 
 
 def lines(section):
-    fields, texts = (Field * 256)(), C.create_string_buffer(65536)
-    count, used, code = C.c_size_t(), C.c_size_t(), C.c_uint64()
-    answer = lib.wt_fields_read(section, len(section), fields, 256, texts, 65536, count, used, code)
+    """Returns OK and the lines of a field section, or another answer and its code."""
+    fields, texts = (c.Field * 256)(), create_string_buffer(65536)
+    count, used, code = c_size_t(), c_size_t(), c_uint64()
+    answer = lib.wt_fields_read(
+        section, len(section), fields, len(fields), texts, len(texts), count, used, code
+    )
     if answer != OK:
         return answer, code.value
     text = texts.raw[: used.value]
     return OK, [
-        [text[f.name_offset :][: f.name_length], text[f.value_offset :][: f.value_length]]
-        for f in fields[: count.value]
+        [
+            text[field.name_offset :][: field.name_length],
+            text[field.value_offset :][: field.value_length],
+        ]
+        for field in fields[: count.value]
     ]
 
 
+def settings(payload):
+    """Returns OK and the settings of a payload, or another answer and its code."""
+    array, count, code = (c.Setting * 64)(), c_size_t(), c_uint64()
+    answer = lib.wt_settings_read(payload, len(payload), array, len(array), count, code)
+    if answer != OK:
+        return answer, code.value
+    return OK, [(setting.id, setting.value) for setting in array[: count.value]]
+
+
+# ---- Recordings ----
+
+# What the index calls the frames that the library reads. It skips those of other types.
+NAMES = {c.FRAME_DATA: "DATA", c.FRAME_HEADERS: "HEADERS", c.FRAME_SETTINGS: "SETTINGS"}
+
+
 def is_text(data, text):
-    """The bytes are those of a text of the index, in which some stacks have a character for each byte."""
+    """Returns whether bytes are those of a text of the index, in which some stacks have a character
+    for each byte."""
     return data == text.encode() or data == text.encode("latin-1", "replace")
 
 
 def are_pairs(read, pairs):
+    """Returns whether lines are those of the index."""
     return len(read) == len(pairs) and all(
-        is_text(name, pair[0]) and is_text(value, pair[1]) for (name, value), pair in zip(read, pairs)
+        is_text(name, pair[0]) and is_text(value, pair[1])
+        for (name, value), pair in zip(read, pairs)
     )
 
 
-def settings(payload):
-    array, count, code = (Setting * 64)(), C.c_size_t(), C.c_uint64()
-    answer = lib.wt_settings_read(payload, len(payload), array, 64, count, code)
-    return (answer, code.value) if answer != OK else (OK, [(s.id, s.value) for s in array[: count.value]])
-
-
-SKIPPED = ("GOAWAY", "MAX_PUSH_ID", "PRIORITY_UPDATE", "PUSH_PROMISE")
-
-
 def sizes(index):
-    """The frames of the index that are not skipped, as (name, size)."""
-    out = []
-    for item in index:
-        name = next(iter(item))
-        if name in ("DATA", "HEADERS", "SETTINGS") or name.startswith("reserved"):
-            out.append((name.split()[0], item[name]))
-    return out
+    """Returns the frames of the index that are not skipped, as (name, size)."""
+    found = [next(iter(item.items())) for item in index]
+    return [
+        (name.split()[0], size)
+        for name, size in found
+        if name in NAMES.values() or name.startswith("reserved")
+    ]
 
 
-def name_of(kind):
-    return {DATA: "DATA", HEADERS: "HEADERS", SETTINGS: "SETTINGS"}.get(kind, "reserved")
-
-
-def recorded_stream(name, data, kind, said, index):
-    expected = sizes(index)
-    large = [i for i, (_, size) in enumerate(expected) if size > 4096]  # such a payload is refused
-    expected, fault = (expected[: large[0]], 0x107) if large else (expected, None)
+def check_stream(name, data, kind, said, index):
+    """Checks the frames of a recorded stream. Returns them."""
+    expected, fault = sizes(index), None
+    large = [at for at, (_, size) in enumerate(expected) if size > c.MAX_FRAME_PAYLOAD]
+    if large:
+        expected, fault = expected[: large[0]], c.H3_EXCESSIVE_LOAD
     for step in (1, 7, 4096, max(1, len(data))):
-        found, held, code = frames(kind, data, step)
-        check(f"{name} by {step}: fault", code, fault)
-        check(f"{name} by {step}", [(name_of(f[0]), len(f[2])) for f in found if f[0] != WEBTRANSPORT], expected)
+        found, _, code = frames(kind, data, step)
+        checks.same(f"{name} by {step}: fault", code, fault)
+        read = [
+            (NAMES.get(frame, "reserved"), len(payload))
+            for frame, _, payload in found
+            if frame != c.FRAME_WEBTRANSPORT
+        ]
+        checks.same(f"{name} by {step}", read, expected)
     wanted = [item["HEADERS"] for item in said if isinstance(item.get("HEADERS"), list)]
-    sections = [f[2] for f in found if f[0] == HEADERS]
+    sections = [payload for frame, _, payload in found if frame == c.FRAME_HEADERS]
     for section, pairs in zip(sections, wanted):
         answer, read = lines(section)
         if answer == FAULT:  # it needs the dynamic table
-            check(f"{name}: code", read, 0x200)
+            checks.same(f"{name}: code", read, c.QPACK_DECOMPRESSION_FAILED)
         else:
-            check(f"{name}: fields {pairs}", are_pairs(read, pairs), True)
-    return found, held
+            checks.same(f"{name}: fields {pairs}", are_pairs(read, pairs), True)
+    return found
 
 
 def cuts(payloads):
-    """The data of these payloads: in these, byte by byte, and cut in two at each place."""
+    """Yields the data of these payloads: in these, byte by byte, and cut in two at each place."""
     data = b"".join(payloads)
     yield payloads
     yield [data[at : at + 1] for at in range(len(data))]
@@ -196,75 +186,155 @@ def cuts(payloads):
         yield [data[:at], data[at:]]
 
 
-def recorded_capsules(name, payloads, index):
+def check_capsules(name, payloads, index):
+    """Checks the capsules in the payloads of a session's DATA frames."""
     for item in index:
         if "capsules" not in item:
             continue
-        is_cut = any(isinstance(it, str) for it in item["capsules"])
-        wanted = [it[1:] for it in item["capsules"] if it[0] == "CLOSE_WEBTRANSPORT_SESSION"]
+        is_cut = any(isinstance(capsule, str) for capsule in item["capsules"])
+        wanted = [
+            capsule[1:]
+            for capsule in item["capsules"]
+            if capsule[0] == "CLOSE_WEBTRANSPORT_SESSION"
+        ]
         for pieces in cuts(payloads):
             shows = f"{name}: capsules of {[len(piece) for piece in pieces]}"
             found, code = closes(pieces)
-            check(f"{shows}: code", code, 0x10E if is_cut else None)
-            check(shows, len(found), len(wanted))
+            checks.same(f"{shows}: code", code, c.H3_MESSAGE_ERROR if is_cut else None)
+            checks.same(shows, len(found), len(wanted))
             for value, (number, reason) in zip(found, wanted):
-                check(shows, (int.from_bytes(value[:4], "big"), is_text(value[4:], reason)), (number, True))
+                read = int.from_bytes(value[:4], "big"), is_text(value[4:], reason)
+                checks.same(shows, read, (number, True))
 
 
-def recorded(folder, row):
+def check_datagram(name, data, index):
+    session, offset, code = c_uint64(), c_size_t(), c_uint64()
+    checks.same(name, lib.wt_datagram_read(data, len(data), session, offset, code), OK)
+    read = session.value // 4, len(data) - offset.value
+    checks.same(name, read, (index[0]["quarter stream id"], index[0]["bytes"]))
+
+
+def check_one_way(name, data, said, index):
+    """Checks a unidirectional stream: its header, and the frames of a control stream."""
+    answer, consumed, number, session, code = stream_header(data)
+    what = index[0]["stream"]
+    if what == "push" or what.startswith("unknown"):
+        checks.same(name, (answer, code), (FAULT, c.H3_STREAM_CREATION_ERROR))
+    else:
+        checks.same(name, answer, OK)
+    if what == "WebTransport":
+        wanted = c.STREAM_WEBTRANSPORT, index[0]["session"], index[0]["bytes"]
+        checks.same(name, (number, session, len(data) - consumed), wanted)
+    if what == "control":
+        found = check_stream(name, data[consumed:], c.READ_CONTROL, said, index[1:])
+        wanted = [(int(number, 16), value) for number, value in index[1]["is"]]
+        checks.same(name, settings(found[0][2]), (OK, wanted))
+
+
+def check_session_stream(name, data, index):
+    """Checks a bidirectional stream of a session: after its first frame come no others."""
+    found, held, code = frames(c.READ_BI_REMOTE, data, 1)
+    frame, session, _ = found[0]
+    wanted = index[0]["WEBTRANSPORT"], index[0]["application bytes"], None
+    checks.same(name, frame, c.FRAME_WEBTRANSPORT)
+    checks.same(name, (session, len(held), code), wanted)
+
+
+def check_recording(folder, row):
+    """Checks a recording, by its row of the index."""
     name, _, _, _, kind, _, _, said, index = row
-    data = open(os.path.join(folder, name), "rb").read()
+    data = (folder / name).read_bytes()
     said, index = json.loads(said or "[]"), json.loads(index or "[]")
     if kind == "datagram":
-        session, offset, code = C.c_uint64(), C.c_size_t(), C.c_uint64()
-        check(name, lib.wt_datagram_read(data, len(data), session, offset, code), OK)
-        check(name, (session.value // 4, len(data) - offset.value), (index[0]["quarter stream id"], index[0]["bytes"]))
+        check_datagram(name, data, index)
     elif kind.startswith("unidirectional"):
-        answer, consumed, number, session, code = stream_header(data)
-        what = index[0]["stream"]
-        if what == "push" or what.startswith("unknown"):
-            check(name, (answer, code), (FAULT, 0x103))
-        else:
-            check(name, answer, OK)
-        if what == "WebTransport":
-            check(name, (number, session, len(data) - consumed), (0x54, index[0]["session"], index[0]["bytes"]))
-        if what == "control":
-            found, _ = recorded_stream(name, data[consumed:], CONTROL, said, index[1:])
-            ids = [(int(i, 16), v) for i, v in index[1]["is"]]
-            check(name, settings(found[0][2]), (OK, ids))
+        check_one_way(name, data, said, index)
     elif kind.startswith("WebTransport stream, opened by this"):
-        found, held, code = frames(BI_REMOTE, data, 1)
-        check(name, (found[0][0], found[0][1], len(held), code), (WEBTRANSPORT, index[0]["WEBTRANSPORT"], index[0]["application bytes"], None))
+        check_session_stream(name, data, index)
     elif kind.startswith(("session", "request")):
-        found, _ = recorded_stream(name, data, BI_REMOTE, said, index)
-        recorded_capsules(name, [f[2] for f in found if f[0] == DATA], index)
+        found = check_stream(name, data, c.READ_BI_REMOTE, said, index)
+        payloads = [payload for frame, _, payload in found if frame == c.FRAME_DATA]
+        check_capsules(name, payloads, index)
     elif kind.startswith("response"):
-        recorded_stream(name, data, BI_LOCAL, said, index)
+        check_stream(name, data, c.READ_BI_LOCAL, said, index)
+
+
+# ---- By hand, and declarations ----
 
 
 def by_hand():
-    value, consumed = C.c_uint64(), C.c_size_t()
-    check("number", (lib.wt_varint_read(b"\x7b\xbd", 2, value, consumed), value.value), (OK, 15293))
-    check("no bytes", lib.wt_varint_read(None, 0, value, consumed), MORE)
-    check("stream header", stream_header(b"\x40\x54\x04"), (OK, 3, 0x54, 4, 0))
-    check("frames", frames(BI_REMOTE, b"\x02\x01x\x00\x03abc", 3), ([(DATA, 0, b"abc")], b"", None))
-    out, used = C.create_string_buffer(64), C.c_size_t()
-    check("code", (lib.wt_code_name(0x10C, out, 64, used), out.raw[: used.value]), (OK, b"H3_REQUEST_CANCELLED"))
-    check("scope", lib.wt_code_scope(0x10C), 0)
-    check("no code", lib.wt_code_name(0x21, out, 64, used), INVALID)
-    status, code = C.c_uint16(), C.c_uint64()
+    value, consumed, none = c_uint64(), c_size_t(), 0
+    answer = lib.wt_varint_read(b"\x7b\xbd", 2, value, consumed)
+    checks.same("number", (answer, value.value), (OK, 15293))
+    checks.same("no bytes", lib.wt_varint_read(None, 0, value, consumed), MORE)
+    wanted = OK, 3, c.STREAM_WEBTRANSPORT, 4, none
+    checks.same("stream header", stream_header(b"\x40\x54\x04"), wanted)
+    read = frames(c.READ_BI_REMOTE, b"\x02\x01x\x00\x03abc", 3)
+    checks.same("frames", read, ([(c.FRAME_DATA, 0, b"abc")], b"", None))
+    out, used = create_string_buffer(64), c_size_t()
+    answer = lib.wt_code_name(c.H3_REQUEST_CANCELLED, out, len(out), used)
+    checks.same("code", (answer, out.raw[: used.value]), (OK, b"H3_REQUEST_CANCELLED"))
+    checks.same("scope", lib.wt_code_scope(c.H3_REQUEST_CANCELLED), c.SCOPE_STREAM)
+    checks.same("no code", lib.wt_code_name(0x21, out, len(out), used), INVALID)
+    status, code = c_uint16(), c_uint64()
     # :status 200 as static entry 25, and a field whose value is not UTF-8
     latin = b"\x00\x00\xd9\x21x\x01\xe9"
-    check("response", (lib.wt_response_read(latin, len(latin), status, code), status.value), (OK, 200))
-    check("settings", settings(b"\x0d\x00\x33\x01\x0d\x05"), (OK, [(0x0D, 0), (0x33, 1), (0x0D, 5)]))
-    check("fields", lines(b"\x00\x00\xd1"), (OK, [[b":method", b"GET"]]))
+    answer = lib.wt_response_read(latin, len(latin), status, code)
+    checks.same("response", (answer, status.value), (OK, 200))
+    wanted = [(0x0D, 0), (c.SETTING_H3_DATAGRAM, 1), (0x0D, 5)]
+    checks.same("settings", settings(b"\x0d\x00\x33\x01\x0d\x05"), (OK, wanted))
+    checks.same("fields", lines(b"\x00\x00\xd1"), (OK, [[b":method", b"GET"]]))
 
 
-by_hand()
-if len(sys.argv) > 2:
-    with open(os.path.join(sys.argv[2], "index.tsv"), encoding="utf-8") as index_file:
-        for line in index_file.read().split("\n")[1:]:
+def declarations(header):
+    """Checks the constants, the structs and the calls of wtransport_c.py by those of the header."""
+    constants = re.findall(r"\bWT_(\w+) = (-?\w+)", header)
+    constants += re.findall(r"#define WT_(\w+) +UINT64_C\((\w+)\)", header)
+    for name, number in constants:
+        checks.same(f"WT_{name}", getattr(c, name, None), int(number, 0))
+    structs = re.findall(r"typedef struct (\w+) {(.*?)} \1;", header, re.DOTALL)
+    checks.same("structs", sorted(name for name, _ in structs), sorted(c.STRUCTS))
+    for name, body in structs:
+        body = re.sub(r"/\*.*?\*/|\b(uint\d+_t|size_t)\b", "", body, flags=re.DOTALL)
+        fields = [field for field, _ in c.STRUCTS[name]._fields_]
+        checks.same(name, fields, re.findall(r"\w+", body))
+    calls = re.findall(r"^(?:int|size_t|uint\d+_t) (wt_\w+)\((.*?)\);", header, re.DOTALL | re.M)
+    checks.same("calls", sorted(name for name, _ in calls), sorted(c.ARGUMENTS))
+    for name, arguments in calls:
+        count = 0 if arguments == "void" else len(arguments.split(","))
+        checks.same(f"arguments of {name}", len(c.ARGUMENTS[name]), count)
+
+
+def version(header):
+    """Checks the versions of the header, the library and its files by the file VERSION."""
+    text = (TOP / "VERSION").read_text(encoding="utf-8").strip()
+    number = int.from_bytes(map(int, text.split(".")), "big")
+    found = dict(re.findall(r"#define WT_(VERSION\w*) (\S+)", header))
+    checks.same("WT_VERSION", found["VERSION"], f'"{text}"')
+    checks.same("WT_VERSION_NUMBER", int(found["VERSION_NUMBER"], 0), number)
+    checks.same("wt_version", lib.wt_version(), number)
+    described = (FOLDER / "wtransport.pc").read_text(encoding="utf-8")
+    checks.same("wtransport.pc", re.findall(r"^Version: (.*)$", described, re.M), [text])
+    file = FOLDER / f"libwtransport.so.{text}"
+    soname = f"libwtransport.so.{text.split('.')[0]}"
+    checks.same("file", (FOLDER / "libwtransport.so").resolve(), file.resolve())
+    checks.same("file of the soname", (FOLDER / soname).resolve(), file.resolve())
+    dynamic = subprocess.run(["objdump", "-p", file], capture_output=True, text=True, check=True)
+    checks.same("soname", re.findall(r"SONAME +(\S+)", dynamic.stdout), [soname])
+
+
+def main():
+    header = (TOP / "c/include/wtransport.h").read_text(encoding="utf-8")
+    by_hand()
+    declarations(header)
+    version(header)
+    if len(sys.argv) > 2:
+        folder = Path(sys.argv[2])
+        for line in (folder / "index.tsv").read_text(encoding="utf-8").split("\n")[1:]:
             if line:
-                recorded(sys.argv[2], line.split("\t"))
-print(f"{passed} passed, {failed} failed")
-sys.exit(failed > 0)
+                check_recording(folder, line.split("\t"))
+    print(f"{checks.passed} passed, {checks.failed} failed")
+    return 1 if checks.failed or not checks.passed else 0
+
+
+sys.exit(main())

@@ -19,8 +19,10 @@ WHOLE = [[size, True] for size in SIZES]
 EMPTY = WHOLE[:1]
 PATIENCE = 60  # seconds for a browser
 NO_CODE = "Firefox tells the page no code of a reset"
-NOT_EMPTY = ("Firefox closes the connection with H3_GENERAL_PROTOCOL_ERROR when a stream of the "
-             "server ends together with its header")
+NOT_EMPTY = (
+    "Firefox closes the connection with H3_GENERAL_PROTOCOL_ERROR when a stream of the "
+    "server ends together with its header"
+)
 LEFT_OUT = {  # by the name of the row: why
     "chromium": {},
     "firefox": {
@@ -65,11 +67,15 @@ def page_rows(page):
 def server_rows(log):
     """(name, what the server saw, what it has to see) while the browser was there."""
     rows = log["rows"]
-    values = lambda path, what: [row[2:] for row in rows if row[:2] == [path, what]]
+
+    def values(path, what):
+        return [row[2:] for row in rows if row[:2] == [path, what]]
+
     yield "codes of resets that came", values("/echo", "reset"), [[code] for code in PAGE_CODES]
     yield "codes of stops that came", values("/echo", "stopped"), [[code] for code in PAGE_CODES]
     yield "codes by which the page resets what is stopped", values("/commands", "reset"), [
-        [code] for code in CODES]
+        [code] for code in CODES
+    ]
     yield "streams that the page sent back", sorted(values("/push", "pushed")), WHOLE[1:]
     yield "empty streams that the page sent back", values("/push?empty", "pushed"), EMPTY
     yield "sizes of datagrams that came", values("/echo", "datagram"), [[1], [1000]]
@@ -84,8 +90,9 @@ def server_rows(log):
 @contextlib.contextmanager
 def opened(browser, port, out):
     """A browser on the test page, with a profile of its own. It is ended by its process ID."""
-    with tempfile.TemporaryDirectory(ignore_cleanup_errors=True) as profile, \
-            open(os.path.join(out, browser + ".log"), "wb") as log:
+    with tempfile.TemporaryDirectory(ignore_cleanup_errors=True) as profile, open(
+        os.path.join(out, browser + ".log"), "wb"
+    ) as log:
         command = [os.path.join(HERE, "browse"), browser, str(port), out, profile, "/test"]
         with subprocess.Popen(command, stdout=log, stderr=log, stdin=subprocess.DEVNULL) as process:
             try:

@@ -46,14 +46,23 @@ async def check_load(report, port, pid):
     report.check("load: datagrams echoed", datagrams, sessions)
     counts = log_of(port)["counts"]
     report.check("load: sessions that the server saw close", counts.get("load, closed"), sessions)
-    report.check("load: streams that the server saw end", counts.get("load, end of stream"),
-                 sessions * load.STREAMS)
-    report.check("load: sessions, streams and readers that are left of each connection", left,
-                 [[0, 0, 1]] * load.CONNECTIONS)  # a reader of the control stream
+    report.check(
+        "load: streams that the server saw end",
+        counts.get("load, end of stream"),
+        sessions * load.STREAMS,
+    )
+    report.check(
+        "load: sessions, streams and readers that are left of each connection",
+        left,
+        [[0, 0, 1]] * load.CONNECTIONS,
+    )  # a reader of the control stream
     heap = [size // 1024 for size in heap]
     for name, sizes, most in (("memory", memory, GROWTH), ("heap", heap, HEAP_GROWTH)):
-        report.expect(f"load: the {name} is flat", sizes[-1] - min(sizes) <= most,
-                      f"KiB after each 100 sessions: {sizes}")
+        report.expect(
+            f"load: the {name} is flat",
+            sizes[-1] - min(sizes) <= most,
+            f"KiB after each 100 sessions: {sizes}",
+        )
     print(f"      {seconds:.1f} s, datagrams sent again: {again}")
 
 
@@ -102,8 +111,11 @@ async def check_sessions(report, port):
 def check_rest(report, port, log_file):
     """What the server still holds when all clients are gone."""
     log = settle(port)
-    report.check("end: sessions, streams and readers that are left",
-                 [log["sessions"], log["streams"], log["readers"]], [0, 0, 0])
+    report.check(
+        "end: sessions, streams and readers that are left",
+        [log["sessions"], log["streams"], log["readers"]],
+        [0, 0, 0],
+    )
     with open(log_file, encoding="utf-8") as file:
         report.check("end: lines of errors in the server's log", file.read().count("\n") - 1, 0)
     report.check("end: most undecided bytes of a frame", log["undecided"], limits.FRAME)

@@ -65,9 +65,14 @@ def section(*lines):
 
 def session_lines(path):
     """The field lines of the request for a session."""
-    return [(b":method", b"CONNECT"), (b":scheme", b"https"), (b":authority", b"127.0.0.1"),
-            (b":path", path), (b":protocol", b"webtransport"),
-            (b"sec-webtransport-http3-draft02", b"1")]
+    return [
+        (b":method", b"CONNECT"),
+        (b":scheme", b"https"),
+        (b":authority", b"127.0.0.1"),
+        (b":path", path),
+        (b":protocol", b"webtransport"),
+        (b"sec-webtransport-http3-draft02", b"1"),
+    ]
 
 
 def session_request(path):
@@ -159,8 +164,11 @@ class Client(QuicConnectionProtocol):
     async def open_session(self, path):
         """Requests a session; returns its number once it is accepted."""
         session = self.open(session_request(path))
-        answered = lambda: any(line in self.stream(session).data for line in STATUS_200)
-        if not await self.until(answered):
+
+        def is_answered():
+            return any(line in self.stream(session).data for line in STATUS_200)
+
+        if not await self.until(is_answered):
             raise ConnectionError(f"no session: {self.stream(session).data!r}, {self.closed_by}")
         return session
 
@@ -168,15 +176,22 @@ class Client(QuicConnectionProtocol):
         """Whether the session echoes this text on a new stream."""
         stream = self.open(number(0x41) + number(session) + text, end=True)
         return await self.until(lambda: self.stream(stream).is_ended) and (
-            self.incoming.pop(stream).data == text)
+            self.incoming.pop(stream).data == text
+        )
 
 
 def client_of(port, settings=SETTINGS):
     """A connection to the server, with a control stream unless `settings` is empty."""
+
     class Opened:
         async def __aenter__(self):
-            quic = QuicConfiguration(is_client=True, alpn_protocols=["h3"], server_name="localhost",
-                                     max_datagram_frame_size=65536, verify_mode=ssl.CERT_NONE)
+            quic = QuicConfiguration(
+                is_client=True,
+                alpn_protocols=["h3"],
+                server_name="localhost",
+                max_datagram_frame_size=65536,
+                verify_mode=ssl.CERT_NONE,
+            )
             self.inner = connect("127.0.0.1", port, configuration=quic, create_protocol=Client)
             client = await self.inner.__aenter__()
             if settings:

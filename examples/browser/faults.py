@@ -17,6 +17,7 @@ REQUEST = session_request(b"/echo")
 @dataclass
 class Row:
     """`data` on a stream of this kind; `ends_stream` if it is the stream alone that has to end."""
+
     name: str
     kind: str
     data: bytes
@@ -63,17 +64,42 @@ ROWS = [
     Row("a request without a path", BI, without(b":path"), 0x10E, ends_stream=True),
     Row("a request without a scheme", BI, without(b":scheme"), 0x10E, ends_stream=True),
     Row("a stream that ends before its request", BI, b"", 0x10D, end=True, ends_stream=True),
-    Row("a close capsule of 3 bytes", SESSION, frame(0x00, b"\x68\x43\x03abc"), 0x33,
-        ends_stream=True),
-    Row("a close capsule of 1029 bytes", SESSION, frame(0x00, b"\x68\x43\x44\x05"), 0x33,
-        ends_stream=True),
-    Row("DATA after the close capsule", SESSION,
-        frame(0x00, b"\x68\x43\x04\0\0\0\0") + frame(0x00, b"x"), 0x10E, ends_stream=True),
-    Row("a stream before its session, of 4112 bytes", BI,
-        number(0x41) + number(400) + bytes(4112), 0x3994BD84, ends_stream=True),
+    Row(
+        "a close capsule of 3 bytes",
+        SESSION,
+        frame(0x00, b"\x68\x43\x03abc"),
+        0x33,
+        ends_stream=True,
+    ),
+    Row(
+        "a close capsule of 1029 bytes",
+        SESSION,
+        frame(0x00, b"\x68\x43\x44\x05"),
+        0x33,
+        ends_stream=True,
+    ),
+    Row(
+        "DATA after the close capsule",
+        SESSION,
+        frame(0x00, b"\x68\x43\x04\0\0\0\0") + frame(0x00, b"x"),
+        0x10E,
+        ends_stream=True,
+    ),
+    Row(
+        "a stream before its session, of 4112 bytes",
+        BI,
+        number(0x41) + number(400) + bytes(4112),
+        0x3994BD84,
+        ends_stream=True,
+    ),
     Row("an unknown type of stream", UNI, number(0x1F) + b"x", 0x103, ends_stream=True),
-    Row("a stream of a session that is over", SESSION,
-        frame(0x00, b"\x68\x43\x04\0\0\0\0"), 0x170D7B68, ends_stream=True),
+    Row(
+        "a stream of a session that is over",
+        SESSION,
+        frame(0x00, b"\x68\x43\x04\0\0\0\0"),
+        0x170D7B68,
+        ends_stream=True,
+    ),
 ]
 
 
@@ -107,8 +133,11 @@ async def answer(port, row):
         neighbour = await client.open_session(b"/echo") if row.ends_stream else None
         stream_id = await provoke(client, row)
         stream = client.stream(stream_id)
-        ended = lambda: stream.reset is not None or stream.stopped is not None
-        await client.until(lambda: client.closed_by is not None or ended())
+
+        def has_ended():
+            return {client.closed_by, stream.reset, stream.stopped} != {None}
+
+        await client.until(has_ended)
         if client.closed_by is not None:
             return "connection", client.closed_by
         codes = {code for code in (stream.reset, stream.stopped) if code is not None}

@@ -6,12 +6,13 @@ An application is told of requests and sessions by the methods of `Application`.
 from aioquic.quic import events, stream as quic_stream
 
 import wtransport as wt
+import wtransport_c as c
 from wtransport import Fault, FrameReader
 
 SETTINGS = [
-    (0x08, 1),  # ENABLE_CONNECT_PROTOCOL
-    (0x33, 1),  # H3_DATAGRAM
-    (0x2B603742, 1),  # ENABLE_WEBTRANSPORT, draft 02
+    (c.SETTING_ENABLE_CONNECT_PROTOCOL, 1),
+    (c.SETTING_H3_DATAGRAM, 1),
+    (c.SETTING_ENABLE_WEBTRANSPORT, 1),
     (0x21 + 0x1F * 1000, 7),  # reserved for exercise
 ]
 WAITING_STREAMS = 16  # streams of sessions whose request has not come yet
@@ -53,13 +54,26 @@ class Application:
         """Answers the request of a session: its status. 200 accepts it."""
         return 200
 
-    def opened(self, session): ...
-    def received(self, stream, data, end): ...
-    def was_reset(self, stream, code): ...
-    def was_stopped(self, stream, code): ...
-    def datagram(self, session, payload): ...
-    def closed(self, session, code, reason): ...
-    def reserved(self, what): ...
+    def opened(self, session):
+        ...
+
+    def received(self, stream, data, end):
+        ...
+
+    def was_reset(self, stream, code):
+        ...
+
+    def was_stopped(self, stream, code):
+        ...
+
+    def datagram(self, session, payload):
+        ...
+
+    def closed(self, session, code, reason):
+        ...
+
+    def reserved(self, what):
+        ...
 
 
 class Ignored:
@@ -69,8 +83,11 @@ class Ignored:
         """How many bytes of the stream wait for more."""
         return 0
 
-    def receive(self, data, end): ...
-    def was_reset(self, code): ...
+    def receive(self, data, end):
+        ...
+
+    def was_reset(self, code):
+        ...
 
 
 class Stream:
@@ -119,8 +136,8 @@ class Stream:
     def receive(self, data, end):
         if self.session is None:
             self.early, self.early_end = self.early + data, end
-            if len(self.early) > wt.UNDECIDED:
-                self.abort(wt.BUFFERED_STREAM_REJECTED)
+            if len(self.early) > c.MAX_FRAME_REST:
+                self.abort(c.WEBTRANSPORT_BUFFERED_STREAM_REJECTED)
             return
         self.can_receive = not end
         self.connection.application.received(self, data, end)
@@ -167,7 +184,7 @@ class Session:
             self.connection.readers[number] = stream
             stream.send(wt.write_session_frame(self.id))
         else:
-            stream.send(wt.write_stream_header(wt.STREAM_WEBTRANSPORT, self.id))
+            stream.send(wt.write_stream_header(c.STREAM_WEBTRANSPORT, self.id))
         return stream
 
     def send_datagram(self, payload):
@@ -185,7 +202,7 @@ class Session:
             self.is_open = False
             del self.connection.sessions[self.id]
             for stream in list(self.streams.values()):
-                stream.abort(wt.SESSION_GONE)
+                stream.abort(c.WEBTRANSPORT_SESSION_GONE)
             self.connection.application.closed(self, code, reason)
 
 
@@ -203,11 +220,11 @@ class UniStream:
         try:
             header = wt.read_stream_header(self.rest)
         except Fault as fault:  # an unknown type is no fault of the connection
-            raise Fault(fault.code, everything=fault.code != wt.STREAM_CREATION_ERROR)
+            raise Fault(fault.code, everything=fault.code != c.H3_STREAM_CREATION_ERROR)
         if header is None:
             return
         kind, session, size = header
-        if kind == wt.STREAM_WEBTRANSPORT:
+        if kind == c.STREAM_WEBTRANSPORT:
             self.connection.adopt(self.id, session, self.rest[size:], end)
             return
         if is_reserved(kind):
@@ -218,7 +235,8 @@ class UniStream:
         self.connection.readers[self.id] = reader
         reader.receive(self.rest[size:], end)
 
-    def was_reset(self, code): ...
+    def was_reset(self, code):
+        ...
 
 
 class CriticalStream:
@@ -226,34 +244,35 @@ class CriticalStream:
 
     def __init__(self, connection, kind):
         self.connection, self.kind = connection, kind
-        self.frames, self.settings = FrameReader(wt.CONTROL), None
+        self.frames, self.settings = FrameReader(c.READ_CONTROL), None
 
     def held(self):
         return len(self.frames.rest)
 
     def receive(self, data, end):
-        if self.kind == wt.STREAM_CONTROL:
+        if self.kind == c.STREAM_CONTROL:
             for kind, _, payload in self.frames.read(data):
                 self._frame(kind, payload)
-        elif self.kind == wt.STREAM_ENCODER and data.strip(b"\x20"):
-            raise Fault(wt.ENCODER_STREAM_ERROR, True)  # the table's capacity may only be set to 0
+        elif self.kind == c.STREAM_QPACK_ENCODER and data.strip(b"\x20"):
+            # (the table's capacity may only be set to 0)
+            raise Fault(c.QPACK_ENCODER_STREAM_ERROR, True)
         if end:
-            raise Fault(wt.CLOSED_CRITICAL_STREAM)
+            raise Fault(c.H3_CLOSED_CRITICAL_STREAM)
 
     def _frame(self, kind, payload):
-        if kind == wt.SETTINGS and self.settings is None:
+        if kind == c.FRAME_SETTINGS and self.settings is None:
             self.settings = wt.read_settings(payload)
             if any(is_reserved(identifier) for identifier in self.settings):
                 self.connection.application.reserved("setting")
         elif self.settings is None:
-            raise Fault(wt.MISSING_SETTINGS)
-        elif kind == wt.SETTINGS:
-            raise Fault(wt.FRAME_UNEXPECTED)
+            raise Fault(c.H3_MISSING_SETTINGS)
+        elif kind == c.FRAME_SETTINGS:
+            raise Fault(c.H3_FRAME_UNEXPECTED)
         elif is_reserved(kind):
             self.connection.application.reserved("frame")
 
     def was_reset(self, code):
-        raise Fault(wt.CLOSED_CRITICAL_STREAM)
+        raise Fault(c.H3_CLOSED_CRITICAL_STREAM)
 
 
 class BiStream:
@@ -261,7 +280,7 @@ class BiStream:
 
     def __init__(self, connection, number):
         self.connection, self.id = connection, number
-        self.frames, self.capsules = FrameReader(wt.BI_REMOTE), wt.CapsuleReader()
+        self.frames, self.capsules = FrameReader(c.READ_BI_REMOTE), wt.CapsuleReader()
         self.fields = self.session = None
 
     def held(self):
@@ -269,7 +288,7 @@ class BiStream:
 
     def receive(self, data, end):
         for kind, session, payload in self.frames.read(data):
-            if kind == wt.WEBTRANSPORT:
+            if kind == c.FRAME_WEBTRANSPORT:
                 self.connection.adopt(self.id, session, self.frames.rest, end)
                 return
             self._frame(kind, payload)
@@ -280,12 +299,12 @@ class BiStream:
         if is_reserved(kind):
             self.connection.application.reserved("frame")
         elif self.fields is None:
-            if kind != wt.HEADERS:  # RFC 9114, section 4.1
-                raise Fault(wt.FRAME_UNEXPECTED)
+            if kind != c.FRAME_HEADERS:  # RFC 9114, section 4.1
+                raise Fault(c.H3_FRAME_UNEXPECTED)
             self.fields = wt.read_fields(payload)
             if dict(self.fields).get(b":method") == b"CONNECT":
                 self._open(payload)
-        elif kind == wt.DATA and self.session:
+        elif kind == c.FRAME_DATA and self.session:
             self._capsules(payload)
 
     def _open(self, section):
@@ -305,7 +324,7 @@ class BiStream:
     def _capsules(self, payload):
         before = self.capsules.unknown
         if payload and not self.session.is_open:  # nothing comes after the close capsule
-            raise Fault(wt.MESSAGE_ERROR)
+            raise Fault(c.H3_MESSAGE_ERROR)
         try:
             for value in self.capsules.read(payload):
                 self._finish(*wt.read_close(value))
@@ -317,13 +336,13 @@ class BiStream:
     def _end(self):
         self.frames.end()
         if self.fields is None:
-            raise Fault(wt.REQUEST_INCOMPLETE, everything=False)
+            raise Fault(c.H3_REQUEST_INCOMPLETE, everything=False)
         if self.session:
             self.capsules.end()
             self._finish(0, "")
         elif dict(self.fields).get(b":method") != b"CONNECT":
             status, fields, body = self.connection.application.request(self.fields)
-            frames = wt.write_response(status, fields) + wt.write_frame(wt.DATA, body)
+            frames = wt.write_response(status, fields) + wt.write_frame(c.FRAME_DATA, body)
             self.connection.quic.send_stream_data(self.id, frames, True)
 
     def _finish(self, code, reason):
@@ -356,7 +375,7 @@ class Connection:
     def start(self):
         """Opens the control stream: its header, the settings, and a frame of a reserved type."""
         number = self.quic.get_next_available_stream_id(is_unidirectional=True)
-        head = wt.write_stream_header(wt.STREAM_CONTROL) + wt.write_settings(SETTINGS)
+        head = wt.write_stream_header(c.STREAM_CONTROL) + wt.write_settings(SETTINGS)
         self.quic.send_stream_data(number, head + wt.write_frame(0x21, b"grease"))
 
     def held(self):
@@ -397,7 +416,7 @@ class Connection:
     def critical(self, kind):
         """The reader of a critical stream, of which there is one of each kind."""
         if kind in self.critical_kinds:
-            raise Fault(wt.STREAM_CREATION_ERROR, everything=True)
+            raise Fault(c.H3_STREAM_CREATION_ERROR, everything=True)
         self.critical_kinds.add(kind)
         return CriticalStream(self, kind)
 
@@ -407,10 +426,10 @@ class Connection:
         if stream.session:
             stream.session.streams[number] = stream
         elif session_id <= self.last_request:
-            stream.abort(wt.SESSION_GONE)
+            stream.abort(c.WEBTRANSPORT_SESSION_GONE)
             return
         elif len(self.waiting) == WAITING_STREAMS:
-            stream.abort(wt.BUFFERED_STREAM_REJECTED)
+            stream.abort(c.WEBTRANSPORT_BUFFERED_STREAM_REJECTED)
             return
         else:
             self.waiting.append((session_id, stream))

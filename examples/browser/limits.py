@@ -65,7 +65,10 @@ async def long_settings(port):
     unknown = [n for n in range(0x10000, 0x10200) if (n - 0x21) % 0x1F != 0]
     names = [0x21 + 0x1F * 500, *unknown][: PAYLOAD // 16]
     settings = wide_frame(0x04, b"".join(wide(name) + wide(1) for name in names))
-    count = lambda: log_of(port)["counts"].get("reserved setting", 0)
+
+    def count():
+        return log_of(port)["counts"].get("reserved setting", 0)
+
     before = count()
     async with client_of(port, b"") as client:
         control = client.open(b"\x00", one_way=True)

@@ -35,9 +35,22 @@ SIZES = (1, 4096, 100_000)
 
 class MallInfo(ctypes.Structure):
     """What glibc says of its heap (mallinfo2)."""
-    _fields_ = [(name, ctypes.c_size_t) for name in (
-        "arena", "ordblks", "smblks", "hblks", "hblkhd", "usmblks", "fsmblks", "uordblks",
-        "fordblks", "keepcost")]
+
+    _fields_ = [
+        (name, ctypes.c_size_t)
+        for name in (
+            "arena",
+            "ordblks",
+            "smblks",
+            "hblks",
+            "hblkhd",
+            "usmblks",
+            "fsmblks",
+            "uordblks",
+            "fordblks",
+            "keepcost",
+        )
+    ]
 
 
 def heap():
@@ -89,8 +102,11 @@ class Log:
 class Pages:
     """The files of this folder that a browser may have."""
 
-    files = {"/": ("page.html",), "/test": ("test.html",),
-             "/picture": ("page.html", "picture.html")}
+    files = {
+        "/": ("page.html",),
+        "/test": ("test.html",),
+        "/picture": ("page.html", "picture.html"),
+    }
 
     def __init__(self, port, digest):
         self.port, self.digest = port, digest
@@ -243,16 +259,19 @@ async def exchange(reader, writer, log, live, pages):
         return
     lines = head.decode("latin-1").split("\r\n")
     method, path, _ = lines[0].split(" ")
-    lengths = [int(line.split(":")[1]) for line in lines
-               if line.lower().startswith("content-length:")]
+    lengths = [
+        int(line.split(":")[1]) for line in lines if line.lower().startswith("content-length:")
+    ]
     body = await reader.readexactly(lengths[0]) if lengths else b""
     if path == "/late":  # what a picture waits for
         await asyncio.sleep(4)
     found = respond(method, path, body, log, live, pages)
     kind, answer = found or ("text/plain", b"not found\n")
     status = "200 OK" if found else "404 Not Found"
-    writer.write(f"HTTP/1.1 {status}\r\nContent-Type: {kind}\r\nContent-Length: {len(answer)}\r\n"
-                 "Cache-Control: no-store\r\nConnection: close\r\n\r\n".encode() + answer)
+    writer.write(
+        f"HTTP/1.1 {status}\r\nContent-Type: {kind}\r\nContent-Length: {len(answer)}\r\n"
+        "Cache-Control: no-store\r\nConnection: close\r\n\r\n".encode() + answer
+    )
     await writer.drain()
     writer.close()
 
@@ -266,7 +285,8 @@ async def main():
     create = functools.partial(Protocol, site=Site(log, pages), live=live)
     await serve("127.0.0.1", port, configuration=quic, create_protocol=create)
     web = await asyncio.start_server(
-        functools.partial(exchange, log=log, live=live, pages=pages), "127.0.0.1", port + 1)
+        functools.partial(exchange, log=log, live=live, pages=pages), "127.0.0.1", port + 1
+    )
     ended = asyncio.Event()
     asyncio.get_running_loop().add_signal_handler(signal.SIGTERM, ended.set)
     print(f"ready: https://127.0.0.1:{port}/ by HTTP/3, http://127.0.0.1:{port + 1}/", flush=True)

@@ -1,0 +1,180 @@
+"""c/include/wtransport.h for ctypes: its constants, its structs, and the arguments of its calls.
+
+    library = load("c/out/libwtransport.so")
+
+The names are those of the header without `WT_` or `wt_`. c/python/test.py compares constants and
+structs with the header, and sees that each call is here.
+"""
+import ctypes
+from ctypes import POINTER, c_char_p, c_int, c_size_t, c_uint8, c_uint16, c_uint32, c_uint64
+
+OK, MORE, FAULT, ROOM, INVALID, MEMORY = 0, 1, -1, -2, -3, -4
+
+VERSION, VERSION_NUMBER = "0.8.0", 0x000800
+
+# Error codes (RFC 9114, section 8.1; RFC 9297, section 5.2; RFC 9204, section 6; WebTransport).
+H3_DATAGRAM_ERROR = 0x33
+H3_NO_ERROR = 0x0100
+H3_GENERAL_PROTOCOL_ERROR = 0x0101
+H3_INTERNAL_ERROR = 0x0102
+H3_STREAM_CREATION_ERROR = 0x0103
+H3_CLOSED_CRITICAL_STREAM = 0x0104
+H3_FRAME_UNEXPECTED = 0x0105
+H3_FRAME_ERROR = 0x0106
+H3_EXCESSIVE_LOAD = 0x0107
+H3_ID_ERROR = 0x0108
+H3_SETTINGS_ERROR = 0x0109
+H3_MISSING_SETTINGS = 0x010A
+H3_REQUEST_REJECTED = 0x010B
+H3_REQUEST_CANCELLED = 0x010C
+H3_REQUEST_INCOMPLETE = 0x010D
+H3_MESSAGE_ERROR = 0x010E
+H3_CONNECT_ERROR = 0x010F
+H3_VERSION_FALLBACK = 0x0110
+QPACK_DECOMPRESSION_FAILED = 0x0200
+QPACK_ENCODER_STREAM_ERROR = 0x0201
+QPACK_DECODER_STREAM_ERROR = 0x0202
+WEBTRANSPORT_BUFFERED_STREAM_REJECTED = 0x3994BD84
+WEBTRANSPORT_SESSION_GONE = 0x170D7B68
+WT_FLOW_CONTROL_ERROR = 0x045D4487
+WT_ALPN_ERROR = 0x0817B3DD
+
+SCOPE_STREAM, SCOPE_CONNECTION, SCOPE_EITHER = 0, 1, 2
+
+STREAM_CONTROL, STREAM_WEBTRANSPORT = 0x00, 0x54
+STREAM_QPACK_ENCODER, STREAM_QPACK_DECODER = 0x02, 0x03
+
+READ_BI_REMOTE, READ_BI_LOCAL, READ_CONTROL, READ_SESSION = 0, 1, 2, 3
+MAX_FRAME_PAYLOAD, MAX_FRAME_REST = 4096, 4111
+
+FRAME_DATA, FRAME_HEADERS, FRAME_SETTINGS, FRAME_WEBTRANSPORT = 0x00, 0x01, 0x04, 0x41
+
+SETTING_QPACK_MAX_TABLE_CAPACITY = 0x01
+SETTING_MAX_FIELD_SECTION_SIZE = 0x06
+SETTING_QPACK_BLOCKED_STREAMS = 0x07
+SETTING_ENABLE_CONNECT_PROTOCOL = 0x08
+SETTING_H3_DATAGRAM = 0x33
+SETTING_ENABLE_WEBTRANSPORT = 0x2B603742
+SETTING_WEBTRANSPORT_MAX_SESSIONS = 0xC671706A
+
+REQUEST_OK = 0
+REQUEST_MISSING_METHOD, REQUEST_METHOD_NOT_CONNECT = 1, 2
+REQUEST_MISSING_SCHEME, REQUEST_SCHEME_NOT_HTTPS = 3, 4
+REQUEST_MISSING_PROTOCOL, REQUEST_PROTOCOL_NOT_WEBTRANSPORT = 5, 6
+REQUEST_MISSING_AUTHORITY, REQUEST_MISSING_PATH = 7, 8
+
+CAPSULE_CLOSE_SESSION = 0x2843
+MAX_CAPSULE_VALUE, MAX_CAPSULE_REST, MAX_CLOSE_REASON = 1028, 1043, 1024
+
+
+class StreamHeader(ctypes.Structure):
+    _fields_ = [("type", c_uint64), ("session", c_uint64)]
+
+
+class Reader(ctypes.Structure):
+    _fields_ = [("kind", c_uint8), ("first", c_uint8), ("due", c_uint64)]
+
+
+class Frame(ctypes.Structure):
+    _fields_ = [
+        ("type", c_uint64),
+        ("session", c_uint64),
+        ("offset", c_size_t),
+        ("length", c_size_t),
+    ]
+
+
+class Setting(ctypes.Structure):
+    _fields_ = [("id", c_uint64), ("value", c_uint64)]
+
+
+class Field(ctypes.Structure):
+    _fields_ = [
+        ("name_offset", c_size_t),
+        ("name_length", c_size_t),
+        ("value_offset", c_size_t),
+        ("value_length", c_size_t),
+    ]
+
+
+class CapsuleReader(ctypes.Structure):
+    _fields_ = [("due", c_uint64)]
+
+
+class Capsule(ctypes.Structure):
+    _fields_ = [("type", c_uint64), ("offset", c_size_t), ("length", c_size_t)]
+
+
+# The structs of the header by their names there.
+STRUCTS = {
+    "wt_stream_header": StreamHeader,
+    "wt_reader": Reader,
+    "wt_frame": Frame,
+    "wt_setting": Setting,
+    "wt_field": Field,
+    "wt_capsule_reader": CapsuleReader,
+    "wt_capsule": Capsule,
+}
+
+SIZE, U32, U64 = POINTER(c_size_t), POINTER(c_uint32), POINTER(c_uint64)
+# Bytes and their length, and an array and its length.
+BYTES, FIELDS, SETTINGS = (
+    [c_char_p, c_size_t],
+    [POINTER(Field), c_size_t],
+    [POINTER(Setting), c_size_t],
+)
+# What a call writes: the bytes, their room, and how many are used.
+OUT = [c_char_p, c_size_t, SIZE]
+
+# The arguments of each call.
+ARGUMENTS = {
+    "wt_version": [],
+    "wt_varint_read": [*BYTES, U64, SIZE],
+    "wt_varint_write": [c_uint64, *OUT],
+    "wt_varint_size": [c_uint64],
+    "wt_stream_header_read": [*BYTES, SIZE, POINTER(StreamHeader), U64],
+    "wt_stream_header_write": [POINTER(StreamHeader), *OUT],
+    "wt_datagram_read": [*BYTES, U64, SIZE, U64],
+    "wt_datagram_write": [c_uint64, *BYTES, *OUT],
+    "wt_datagram_write_head": [c_uint64, *OUT],
+    "wt_reader_new": [c_uint8, POINTER(Reader)],
+    "wt_read_frame": [POINTER(Reader), *BYTES, SIZE, POINTER(Frame), U64],
+    "wt_read_end": [POINTER(Reader), *BYTES, U64],
+    "wt_frame_write": [c_uint64, *BYTES, *OUT],
+    "wt_frame_write_head": [c_uint64, c_uint64, *OUT],
+    "wt_session_frame_write": [c_uint64, *OUT],
+    "wt_settings_read": [*BYTES, *SETTINGS, SIZE, U64],
+    "wt_settings_write": [*SETTINGS, *OUT],
+    "wt_setting_name": [c_uint64, *OUT],
+    "wt_fields_read": [*BYTES, *FIELDS, *BYTES, SIZE, SIZE, U64],
+    "wt_fields_write": [*FIELDS, *BYTES, *OUT],
+    "wt_request_write": [*BYTES, *FIELDS, *BYTES, *OUT],
+    "wt_request_read": [*BYTES, c_char_p, c_size_t, SIZE, SIZE, U64],
+    "wt_request_fault": [*BYTES, POINTER(c_int), U64],
+    "wt_request_fault_name": [c_int, *OUT],
+    "wt_response_write": [c_uint32, *FIELDS, *BYTES, *OUT],
+    "wt_response_read": [*BYTES, POINTER(c_uint16), U64],
+    "wt_capsule_read": [POINTER(CapsuleReader), *BYTES, SIZE, POINTER(Capsule), U64],
+    "wt_capsule_end": [POINTER(CapsuleReader), *BYTES, U64],
+    "wt_close_read": [*BYTES, U32, U64],
+    "wt_close_write": [c_uint32, *BYTES, *OUT],
+    "wt_code_name": [c_uint64, *OUT],
+    "wt_code_scope": [c_uint64],
+    "wt_application_code_to_http3": [c_uint32],
+    "wt_application_code_from_http3": [c_uint64, U32],
+}
+# What a call returns that does not return an int.
+RESULTS = {
+    "wt_version": c_uint32,
+    "wt_varint_size": c_size_t,
+    "wt_application_code_to_http3": c_uint64,
+}
+
+
+def load(path):
+    """Returns the shared library at a path, with its calls declared."""
+    library = ctypes.CDLL(path)
+    for name, arguments in ARGUMENTS.items():
+        call = getattr(library, name)
+        call.argtypes, call.restype = arguments, RESULTS.get(name, c_int)
+    return library
