@@ -5,31 +5,32 @@ ghost use Rattle.wt_inspection_views.specs.Html.{BeginsPage, IsPage, html_byte, 
 use std::alloc::{AllocError, Global};
 use std::marker::Model;
 
-/// The page up to the rows of bytes. The script marks what has the same number as what is pointed at.
+/// The page up to the rows of bytes, which `tools/html-page` makes.
 pub(super) const HEAD: &str =
-    "<!doctype html><html lang=\"en\"><head><meta charset=\"utf-8\"><meta http-equiv=\"Content-Se\
-    curity-Policy\" content=\"default-src 'none'; style-src 'unsafe-inline'; script-src 'sha256-\
-    aWoMiY3HOUe1MUTcbX3YP4Rn+c0qmJQrjohPstznJj8='\"><meta name=\"viewport\" content=\"width=devi\
-    ce-width\"><title>wt_inspect</title><style>:root{color-scheme:light dark;font:14px/1.4 ui-mo\
-    nospace,monospace}body{margin:1rem}main{display:grid;grid-template-columns:max-content minma\
-    x(0,1fr);gap:2rem}pre{margin:0;font:inherit}.bytes{max-height:94vh;overflow:auto;position:st\
-    icky;top:1rem}.items pre{white-space:pre-wrap;overflow-wrap:anywhere;border-left:3px solid t\
-    ransparent;padding-left:.5rem}.on{background:light-dark(#ffe08a,#5c4a00)}.bytes>span{display\
-    :block}.items b{color:light-dark(#8a4b00,#ffb454)}.items .fault{color:light-dark(#b00020,#ff\
-    7b88);border-color:currentColor;font-weight:bold}@media print{.bytes{max-height:none;overflo\
-    w:visible;position:static}}@media(max-width:60rem){main{grid-template-columns:minmax(0,1fr)}\
-    .bytes{position:static}}</style></head><body><main>\
-    <pre class=\"bytes\">";
+    "<!doctype html><html lang=\"en\"><head><meta charset=\"utf-8\"><meta http-equiv=\"Content-Sec\
+    urity-Policy\" content=\"default-src 'none'; style-src 'unsafe-inline'; script-src 'sha256-qBm\
+    nL+Izqi7Oc93yT9CFu+6A/g4dwRAjMplQ1HfiBfA='\"><meta name=\"viewport\" content=\"width=device-wi\
+    dth\"><title>wt_inspect</title><style>:root{color-scheme:light dark;font:14px/1.4 ui-monospace\
+    ,monospace}body{margin:1rem}main{display:grid;grid-template-columns:max-content minmax(0,1fr);\
+    gap:2rem}pre{margin:0;font:inherit}.bytes{max-height:94vh;overflow:auto;position:sticky;top:1r\
+    em}.items pre{white-space:pre-wrap;overflow-wrap:anywhere;border-left:3px solid transparent;pa\
+    dding-left:.5rem}.on{background:light-dark(#ffe08a,#5c4a00)}.bytes>span{display:block}.items b\
+    {color:light-dark(#8a4b00,#ffb454)}.items .fault{color:light-dark(#b00020,#ff7b88);border-colo\
+    r:currentColor;font-weight:bold}@media print{.bytes{max-height:none;overflow:visible;position:\
+    static}}@media(max-width:60rem){main{grid-template-columns:minmax(0,1fr)}.bytes{position:stati\
+    c}}</style></head><body><main><pre class=\"bytes\">";
 
-/// The page after the line of its end.
+/// The page after the line of its end, which `tools/html-page` makes. The script marks what has the
+/// same number as what is pointed at.
 pub(super) const TAIL: &str =
-    "</pre></div></main><script>const mark=(e,on)=>{const m=e.target.closest('[data-item]');if(m)docume\
-    nt.querySelectorAll('[data-item=\"'+m.dataset.item+'\"]').forEach(x=>x.classList.toggle('on'\
-    ,on))};for(const k of['mouseover','focusin'])addEventListener(k,e=>mark(e,true));for(const \
-    k of['mouseout','focusout'])addEventListener(k,e=>mark(e,false));addEventListener('click',e=\
-    >{const m=e.target.closest('[data-item]');if(m)for(const x of document.querySelectorAll('[da\
-    ta-item=\"'+m.dataset.item+'\"]'))if(x!==m)x.scrollIntoView({block:'nearest'})})</script></b\
-    ody></html>\n";
+    "</pre></div></main><script>const mark=(event,on)=>{const target=event.target.closest('[data-i\
+    tem]');if(target)document.querySelectorAll('[data-item=\"'+target.dataset.item+'\"]').forEach(\
+    element=>element.classList.toggle('on',on))};for(const name of['mouseover','focusin'])addEvent\
+    Listener(name,event=>mark(event,true));for(const name of['mouseout','focusout'])addEventListen\
+    er(name,event=>mark(event,false));addEventListener('click',event=>{const target=event.target.c\
+    losest('[data-item]');if(target)for(const element of document.querySelectorAll('[data-item=\"'\
+    +target.dataset.item+'\"]'))if(element!==target)element.scrollIntoView({block:'nearest'})})</s\
+    cript></body></html>\n";
 
 /// Markup of a page. A page has no other: what a peer sent is text.
 #[derive(Clone, Copy)]
