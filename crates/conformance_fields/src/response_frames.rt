@@ -54,6 +54,7 @@ static RESPONSES: [ResponseRow; 4] = [
     ),
     (
         "other fields, one of them twice",
+        // recorded: nghttp3static-s2c-8.bin, bytes 2 to 24
         b"\x00\x00\xd9\x5f\x4d\x84\xae\xc3\xc6\x5f\xf4\x5e\x82\x1c\x01\x5e\x03\x62\x3d\x32\xff\x14",
         200,
         &[

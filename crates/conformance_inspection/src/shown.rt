@@ -110,6 +110,7 @@ static ROWS: [Row; 9] = [
     ),
     (
         (
+            // recorded: chr07-0-c2s-0.bin, bytes 207 to 225
             b"\x68\x43\x0f\x00\x00\x12\x34bye, w\xc3\xb6rld",
             Recorded::Capsules,
             false,

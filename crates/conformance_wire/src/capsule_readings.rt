@@ -112,6 +112,7 @@ fn check_cuts<R: Abort + AllocGlobal>(rt: &R, row: &Row) {
 }
 
 /// The value of the close capsule that Chromium 156 and aioquic 1.2.0 sent.
+// recorded: chr07-0-c2s-0.bin, bytes 210 to 225
 const BYE: &[u8] = b"\x00\x00\x12\x34bye, w\xc3\xb6rld";
 
 const END: &[u8] = b"\x00\x00\x00\x07end";
