@@ -1,5 +1,6 @@
 #!/usr/bin/env python3
-"""Writes two recordings of small frames, 1 MiB each and the same at each run, into the folder that is named."""
+"""Writes two recordings of small frames, 1 MiB each and the same at each run, into the folder that
+is named."""
 import os
 import random
 import sys
@@ -12,7 +13,8 @@ def varint(value):
 
 
 def frames(total, sizes, seed):
-    """Frames that fill total bytes: seven of ten DATA, the others of exercise kinds; the last fills what is left."""
+    """Frames that fill total bytes: seven of ten DATA, the others of exercise kinds; the last fills
+    what is left."""
     rng = random.Random(seed)
     parts, size = [], 0
     while True:

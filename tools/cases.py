@@ -7,24 +7,30 @@ import os
 import re
 import subprocess
 import tempfile
+from dataclasses import dataclass
+from pathlib import Path
 
 # How long a case may take.
 SECONDS = 60
-TOP = os.path.dirname(os.path.dirname(os.path.abspath(__file__)))
+TOP = Path(__file__).resolve().parent.parent
 
 
+@dataclass
 class Case:
     """An input, the arguments of the program, and, once it ran, its status and what it wrote."""
 
-    def __init__(self, name, content, arguments):
-        self.name, self.content, self.arguments = name, content, arguments
-        self.status, self.output, self.errors = None, b"", b""
+    name: str
+    content: bytes
+    arguments: list
+    status: int = None
+    output: bytes = b""
+    errors: bytes = b""
 
 
 def run_cases(crate, cases):
     """Runs the program of a crate on each case, whose input is its standard input."""
-    if "PROGRAM" in os.environ:
-        run_built(os.path.abspath(os.environ["PROGRAM"]), cases)
+    if program := os.environ.get("PROGRAM"):
+        run_built(os.path.abspath(program), cases)
     else:
         build_and_run(crate, cases)
 
@@ -33,8 +39,14 @@ def run_built(program, cases):
     """Runs a program that is built already."""
     with tempfile.TemporaryDirectory() as folder:
         for case in cases:
-            ran = subprocess.run([program, *case.arguments], input=case.content, cwd=folder,
-                                 capture_output=True, timeout=SECONDS, check=False)
+            ran = subprocess.run(
+                [program, *case.arguments],
+                input=case.content,
+                cwd=folder,
+                capture_output=True,
+                timeout=SECONDS,
+                check=False,
+            )
             case.status, case.output, case.errors = ran.returncode, ran.stdout, ran.stderr
 
 
@@ -42,13 +54,15 @@ def build_and_run(crate, cases):
     """Builds the program of a crate, and runs it."""
     with tempfile.TemporaryDirectory() as folder:
         for case in cases:
-            path = os.path.join(folder, case.name)
-            with open(path, "wb") as file:
-                file.write(case.content)
-            with open(path + ".args", "w", encoding="utf-8") as file:
-                file.write("".join(word + "\n" for word in case.arguments))
-        ran = subprocess.run(["rt", "try", "--cases", folder], capture_output=True, check=False,
-                             cwd=os.path.join(TOP, "crates", crate))
+            Path(folder, case.name).write_bytes(case.content)
+            arguments = "".join(word + "\n" for word in case.arguments)
+            Path(folder, f"{case.name}.args").write_text(arguments, encoding="utf-8")
+        ran = subprocess.run(
+            ["rt", "try", "--cases", folder],
+            capture_output=True,
+            check=False,
+            cwd=TOP / "crates" / crate,
+        )
     by_name = {case.name: case for case in cases}
     take_outputs(by_name, ran.stdout)
     if not take_ends(by_name, ran.stderr):
@@ -56,7 +70,7 @@ def build_and_run(crate, cases):
 
 
 def take_outputs(by_name, output):
-    """Takes what each case wrote, which is behind a line with its name."""
+    """Takes what each case wrote, which is after a line with its name."""
     case = None
     for line in output.splitlines(keepends=True):
         if line.startswith(b"== ") and line[3:-1].decode() in by_name:
@@ -70,6 +84,6 @@ def take_ends(by_name, errors):
     place = 0
     for end in re.finditer(rb"^case=(\S+) run=ended status=([0-9]+) .*\n", errors, re.M):
         case = by_name[end[1].decode()]
-        case.status, case.errors = int(end[2]), errors[place:end.start()]
+        case.status, case.errors = int(end[2]), errors[place : end.start()]
         place = end.end()
     return place > 0

@@ -1,15 +1,14 @@
-"""The edits in `crates/NAME/wrong-bodies/`, each of which gives a function of that crate a wrong body, and copies of
-the crate in which some of them are made.
+"""The edits in `crates/NAME/wrong-bodies/`, each of which gives a function of that crate a wrong
+body, and copies of the crate in which some of them are made.
 
-An edit is a file of lines: `file: PATH`, then pairs `old: TEXT` and `new: TEXT`, where the old text is in the file
-exactly once.
+An edit is a file of lines: `file: PATH`, then pairs `old: TEXT` and `new: TEXT`, where the old text
+is in the file exactly once.
 """
 
 import os
 import re
 import shutil
 from dataclasses import dataclass
-from pathlib import Path
 
 from rattle_source import bodies_of
 
@@ -33,8 +32,8 @@ class Change:
 
 @dataclass(frozen=True)
 class Edit:
-    """An edit. It has no bodies if it has to be tried alone, since it changes more than the bodies of functions, and no
-    changes if it cannot be made."""
+    """An edit. It has no bodies if it has to be tried alone, since it changes more than the bodies
+    of functions, and no changes if it cannot be made."""
 
     name: str
     changes: tuple
@@ -94,7 +93,10 @@ def make(folder, edits):
     for path in {change.path for change in changes}:
         file = folder / path
         text = file.read_text(encoding="utf-8")
-        file.write_text(with_changes(text, [change for change in changes if change.path == path]), encoding="utf-8")
+        file.write_text(
+            with_changes(text, [change for change in changes if change.path == path]),
+            encoding="utf-8",
+        )
 
 
 def copied(folder, name):
@@ -106,8 +108,8 @@ def copied(folder, name):
 
 
 def leave_out(copy, crate, body, text):
-    """Puts a hole in place of the proof of a function, and returns the change that leaves its body out, with as many
-    lines as before."""
+    """Puts a hole in place of the proof of a function, and returns the change that leaves its body
+    out, with as many lines as before."""
     proof = copy / body.proof
     shutil.rmtree(proof, ignore_errors=True)
     proof.mkdir(parents=True)
@@ -119,8 +121,8 @@ def leave_out(copy, crate, body, text):
 
 
 def copy_without_others(folder, crate, edits, made):
-    """Copies a crate without the bodies of the functions that these edits do not change, and with some of the edits
-    made. Returns the copy's folder."""
+    """Copies a crate without the bodies of the functions that these edits do not change, and with
+    some of the edits made. Returns the copy's folder."""
     copy = copied(folder, f"{folder.name}-without")
     kept = [body for edit in edits for body in edit.bodies]
     for file in sorted((folder / "src").rglob("*.rt")):
@@ -130,7 +132,9 @@ def copy_without_others(folder, crate, edits, made):
         end = 0
         # (a body may contain functions of its own)
         for body in bodies_of(path, text):
-            is_kept = any(body.path == other.path and body.start <= other.start < body.end for other in kept)
+            is_kept = any(
+                body.path == other.path and body.start <= other.start < body.end for other in kept
+            )
             if body.can_be_left_out and body.start >= end and not is_kept:
                 changes.append(leave_out(copy, crate, body, text))
                 end = body.end
@@ -139,11 +143,14 @@ def copy_without_others(folder, crate, edits, made):
 
 
 def drop_answers(folder, body, names):
-    """Takes the answers of these names out of the proof of a function. Returns whether all of them were there."""
+    """Takes the answers of these names out of the proof of a function. Returns whether all of them
+    were there."""
     file = folder / body.proof / "Answers.antt"
     text = file.read_text(encoding="utf-8") if file.exists() else ""
     starts = [found.start() for found in DECLARED.finditer(text)] + [len(text)]
-    declared = {DECLARED.match(text[start:])[1]: (start, end) for start, end in zip(starts, starts[1:])}
+    declared = {
+        DECLARED.match(text[start:])[1]: (start, end) for start, end in zip(starts, starts[1:])
+    }
     for start, end in sorted((declared[name] for name in names if name in declared), reverse=True):
         text = text[:start] + text[end:]
     if names and file.exists():
@@ -154,7 +161,10 @@ def drop_answers(folder, body, names):
 def names_of(top, crate, is_gate):
     """Returns the names of a crate's edits: of those in `gate/`, or of all."""
     folder = top / "crates" / crate / "wrong-bodies"
-    return sorted(file.name for file in [*folder.glob("gate/*.edit"), *([] if is_gate else folder.glob("*.edit"))])
+    return sorted(
+        file.name
+        for file in [*folder.glob("gate/*.edit"), *([] if is_gate else folder.glob("*.edit"))]
+    )
 
 
 def copy_crate(top, crate, folder):
@@ -167,12 +177,16 @@ def copy_crate(top, crate, folder):
 
 
 def together(edits):
-    """Returns edits of different functions, the first of each function, to be made in one copy. A function that calls
-    one which is refused is not judged, so neither of two calls the other, as far as names tell."""
+    """Returns edits of different functions, the first of each function, to be made in one copy. A
+    function that calls one which is refused is not judged, so neither of two calls the other, as
+    far as names tell."""
     bodies, batch = set(), []
     for edit in edits:
         others = [(one, other) for one in edit.bodies for other in bodies]
-        if not any(one == other or one.name in other.words or other.name in one.words for one, other in others):
+        if not any(
+            one == other or one.name in other.words or other.name in one.words
+            for one, other in others
+        ):
             bodies |= edit.bodies
             batch.append(edit)
     return batch

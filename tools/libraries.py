@@ -1,12 +1,14 @@
-"""The crates of crates.txt, and the words by which `rattle` checks one of them over the libraries that `rt ci` leaves.
+"""The crates of crates.txt, and the arguments by which `rattle` checks one of them over the
+libraries that `rt ci` leaves.
 
     python3 tools/libraries.py NAME FILE [LINES]
 
-builds the static library NAME so, and writes it to FILE. With LINES, a file to which an `rt ci` is writing its lines, it
-waits until that has proved NAME.
+builds the static library NAME over them, and writes it to FILE. With LINES, a file to which an
+`rt ci` is writing its lines, it waits until that has proved NAME.
 
-`rt ci` leaves each library in `crates/NAME/out/rlib`, and `rt lib` does not take these up: it would prove all of them once
-more. They match the sources only until one changes, so nothing but `.ci/run` uses them.
+`rt ci` leaves each library in `crates/NAME/out/rlib`, and `rt lib` does not take these up: it would
+prove all of them once more. They match the sources only until one changes, so nothing but `.ci/run`
+uses them.
 """
 
 import os
@@ -16,53 +18,64 @@ import subprocess
 import sys
 import tempfile
 import time
+from pathlib import Path
 
-TOP = os.path.dirname(os.path.dirname(os.path.realpath(__file__)))
-KIT = os.path.dirname(os.path.dirname(os.path.realpath(shutil.which("rattle") or "rattle")))
+TOP = Path(__file__).resolve().parent.parent
+KIT = Path(shutil.which("rattle") or "rattle").resolve().parent.parent
 
 
 def rows():
-    """Returns the crates of crates.txt, lowest first: what each is said to be, and the libraries that it stands on."""
-    with open(f"{TOP}/crates.txt", encoding="utf-8") as it:
-        lines = [line.split(":") for line in it.read().split("\n") if line and not line.startswith("#")]
-    return {left.split()[0]: (left.split()[1:], right.split()) for left, right in lines}
+    """Returns the crates of crates.txt, lowest first: the flags of each, and the libraries that it
+    stands on."""
+    lines = (TOP / "crates.txt").read_text(encoding="utf-8").splitlines()
+    pairs = [line.split(":") for line in lines if line and not line.startswith("#")]
+    return {left.split()[0]: (left.split()[1:], right.split()) for left, right in pairs}
 
 
 def libraries_below(crates):
     """Returns the repository's libraries that these crates stand on, lowest first."""
-    below, wanted = rows(), set()
-    left = [it for crate in crates for it in below[crate][1]]
+    below, found = rows(), set()
+    left = [library for crate in crates for library in below[crate][1]]
     while left:
         crate = left.pop()
-        if crate in below and crate not in wanted:
-            wanted.add(crate)
+        if crate in below and crate not in found:
+            found.add(crate)
             left += below[crate][1]
-    return [it for it in below if it in wanted]
+    return [crate for crate in below if crate in found]
 
 
-def words_of(folder, crate, elsewhere=None):
-    """Returns the words by which rattle checks a crate whose sources are in a folder, over the libraries of the kit and
-    those in `out/rlib`, or elsewhere for some."""
-    said, needs = rows()[crate]
-    rlib = {it: (elsewhere or {}).get(it, f"{TOP}/crates/{it}/out/rlib") for it in libraries_below([crate])}
-    words = ["--crate-name", crate, "src/main.rt" if os.path.exists(f"{folder}/src/main.rt") else "src/lib.rt"]
-    for it in ["std", *needs]:
-        words += ["--extern", f"{it}={rlib[it]}/{it}.rlib" if it in rlib else f"{it}={KIT}/rlibs/{it}.rlib"]
-    for it in [f"{KIT}/rlibs", *rlib.values()]:
-        words += ["-L", f"dependency={it}"]
-    words += ["--crate-type", "staticlib"] * ("staticlib" in said)
-    return [*words, "--antt-project", f"{KIT}/rattle/logic/antt-project.json", "--logic-built", f"{KIT}/logic_built"]
+def arguments_of(folder, crate, elsewhere=None):
+    """Returns the arguments by which rattle checks a crate whose sources are in a folder, over the
+    libraries of the kit and those in `out/rlib`, or elsewhere for some."""
+    flags, needs = rows()[crate]
+    folders = {
+        library: (elsewhere or {}).get(library, TOP / "crates" / library / "out/rlib")
+        for library in libraries_below([crate])
+    }
+    root = "main" if (Path(folder) / "src/main.rt").exists() else "lib"
+    arguments = ["--crate-name", crate, f"src/{root}.rt"]
+    for library in ["std", *needs]:
+        rlib = folders.get(library, KIT / "rlibs") / f"{library}.rlib"
+        arguments += ["--extern", f"{library}={rlib}"]
+    for rlibs in [KIT / "rlibs", *folders.values()]:
+        arguments += ["-L", f"dependency={rlibs}"]
+    if "staticlib" in flags:
+        arguments += ["--crate-type", "staticlib"]
+    project = KIT / "rattle/logic/antt-project.json"
+    return [*arguments, "--antt-project", str(project), "--logic-built", str(KIT / "logic_built")]
 
 
 class Beside:
-    """An `rt ci` whose lines are being written to a file, or none, and a folder for copies of its libraries."""
+    """An `rt ci` whose lines are being written to a file, or none, and a folder for copies of its
+    libraries."""
 
     def __init__(self, path, room):
-        self.path, self.room, self.caller, self.taken = path, room, os.getppid(), {}
+        self.path, self.room, self.caller, self.taken = path, Path(room), os.getppid(), {}
 
     def has_said(self, pattern):
-        with open(self.path, encoding="utf-8", errors="replace") as it:
-            return re.search(pattern, it.read(), re.M)
+        """Returns whether a line of the `rt ci` matches a pattern."""
+        said = Path(self.path).read_text(encoding="utf-8", errors="replace")
+        return re.search(pattern, said, re.MULTILINE)
 
     def has_ended(self):
         """Returns whether nothing more comes, as when the script that called both was killed."""
@@ -80,26 +93,29 @@ class Beside:
             time.sleep(1)
 
     def take(self, crate):
-        """Copies a library that `rt ci` has proved, since it may put another in its place when it ends."""
+        """Copies a library that `rt ci` has proved, since it may put another in its place when it
+        ends."""
         if crate not in self.taken:
-            shutil.copytree(f"{TOP}/crates/{crate}/out/rlib", f"{self.room}/libraries/{crate}")
-            self.taken[crate] = f"{self.room}/libraries/{crate}"
+            copy = self.room / "libraries" / crate
+            shutil.copytree(TOP / "crates" / crate / "out/rlib", copy)
+            self.taken[crate] = copy
 
 
 def main(words):
     if len(words) not in (2, 3) or words[0] not in rows():
         sys.exit("usage: python3 tools/libraries.py NAME FILE [LINES], with a crate of crates.txt")
     crate, file, *lines = words
-    folder = f"{TOP}/crates/{crate}"
-    to = ["--toolchain", f"{KIT}/toolchain", "-o", os.path.abspath(file)]
+    folder = TOP / "crates" / crate
     with tempfile.TemporaryDirectory() as room:
         beside = Beside(lines[0] if lines else "", room)
         if lines and not beside.proves(crate):
             sys.exit(f"{crate} is not built, since rt ci has not proved it")
-        for it in libraries_below([crate]) if lines else []:
-            beside.take(it)
+        for library in libraries_below([crate]) if lines else []:
+            beside.take(library)
         jobs = ["--jobs", str(max(1, os.cpu_count() // 2))]
-        return subprocess.run(["rattle", "build", *words_of(folder, crate, beside.taken), *jobs, *to], cwd=folder).returncode
+        to = ["--toolchain", str(KIT / "toolchain"), "-o", os.path.abspath(file)]
+        arguments = [*arguments_of(folder, crate, beside.taken), *jobs, *to]
+        return subprocess.run(["rattle", "build", *arguments], cwd=folder).returncode
 
 
 if __name__ == "__main__":

@@ -1,5 +1,5 @@
-"""Reads Rattle source as far as the tools need it: what is code and what is text, where a brace closes, and where the
-body of each function is. It parses no expressions.
+"""Reads Rattle source as far as the tools need it: what is code and what is text, where a brace
+closes, and where the body of each function is. It parses no expressions.
 
     bodies_of("src/frame.rt", text)     # -> [Body, ..]
 
@@ -22,21 +22,25 @@ TEXT = re.compile(
     re.DOTALL | re.VERBOSE,
 )
 # What begins an impl, a trait or a macro, up to its brace.
-BLOCK = re.compile(r"^[ ]*(?:pub(?:\([a-z]+\))? )?(impl\b|trait\b|macro_rules!)([^{;]*){", re.MULTILINE)
+BLOCK = re.compile(
+    r"^[ ]*(?:pub(?:\([a-z]+\))? )?(impl\b|trait\b|macro_rules!)([^{;]*){", re.MULTILINE
+)
 # An impl's parameters, its type, and that type's arguments.
 OF_TYPE = re.compile(r"\s*(?:<([^<>]*)>)?\s*([\w:]+)\s*(?:<(.*)>)?\s*", re.DOTALL)
 FUNCTION = re.compile(r"\bfn\s+(\w+)")
 # A function's attributes, each on a line of its own, and what precedes `fn` on its line.
 ATTRIBUTES = re.compile(r"(?:^[ ]*#\[[^\n]*\n)*[^\n]*\Z", re.MULTILINE)
-# A brace, or the semicolon that ends a function without a body. That of an array's type ends nothing.
+# A brace, or the semicolon that ends a function without a body. That of an array's type ends
+# nothing.
 BRACE_OR_END = re.compile(r"\{|;(?![^\[\]{}]*\])")
 CLAUSE = re.compile(r"\b(requires|ensures|ghost)\b")
 
 
 @dataclass(frozen=True)
 class Block:
-    """An impl, a trait or a macro: its first byte, the one after its last, and the name by which the prover knows it.
-    `is_plain` if it is an impl without a trait, for a type of the same file, whatever the type's parameters are."""
+    """An impl, a trait or a macro: its first byte, the one after its last, and the name by which
+    the prover knows it. `is_plain` if it is an impl without a trait, for a type of the same file,
+    whatever the type's parameters are."""
 
     start: int
     end: int
@@ -46,11 +50,12 @@ class Block:
 
 @dataclass(frozen=True)
 class Body:
-    """A function's body: its file, the byte of its opening brace and the one after its closing brace, the function's
-    first line (that of its attributes) and last line, and its name.
+    """A function's body: its file, the byte of its opening brace and the one after its closing
+    brace, the function's first line (that of its attributes) and last line, and its name.
 
-    `place` is the function's path below the crate, as the prover has it: `module::Type::name`. `words` are the names in
-    the body. `can_be_left_out` if the place is certain, and neither a constant nor a cycle of calls needs the body."""
+    `place` is the function's path below the crate, as the prover has it: `module::Type::name`.
+    `words` are the names in the body. `can_be_left_out` if the place is certain, and neither a
+    constant nor a cycle of calls needs the body."""
 
     path: str
     start: int
@@ -69,12 +74,14 @@ class Body:
 
 
 def masked(text):
-    """Returns the text with spaces in place of comments, strings and characters. Each line feed stays."""
+    """Returns the text with spaces in place of comments, strings and characters. Each line feed
+    stays."""
     return TEXT.sub(lambda found: re.sub(r"[^\n]", " ", found[0]), text)
 
 
 def end_of_braces(code, start):
-    """Returns the position after the brace that closes the one at `start`, or None. `code` is masked."""
+    """Returns the position after the brace that closes the one at `start`, or None. `code` is
+    masked."""
     depth = 0
     for brace in re.compile(r"[{}]").finditer(code, start):
         depth += 1 if brace[0] == "{" else -1
@@ -102,8 +109,8 @@ def names_in(code):
 
 
 def name_of_block(keyword, head):
-    """Returns the name by which the prover knows a block: `Type`, `TraitType`, or the trait's own name. `head` is what
-    is between the keyword and the brace."""
+    """Returns the name by which the prover knows a block: `Type`, `TraitType`, or the trait's own
+    name. `head` is what is between the keyword and the brace."""
     parts = [part.strip() for part in re.split(r"\bfor\b", without_where(without_generics(head)))]
     if keyword == "trait":
         parts = [part.split(":")[0].strip() for part in parts]
@@ -111,8 +118,8 @@ def name_of_block(keyword, head):
 
 
 def arguments_of_type(head):
-    """Returns the names among the arguments of an impl's type, if some are no parameters of the impl, as `WT` of
-    `<K> Stream<K, WT>`: then the prover has all of them in the block's name."""
+    """Returns the names among the arguments of an impl's type, if some are no parameters of the
+    impl, as `WT` of `<K> Stream<K, WT>`: then the prover has all of them in the block's name."""
     if not (parts := OF_TYPE.fullmatch(without_where(head))):
         return []
     arguments = names_in(parts[3] or "")
@@ -126,7 +133,11 @@ def blocks_of(code):
         keyword, head = found[1], found[2]
         name = name_of_block(keyword, head)
         is_declared_here = re.search(rf"\b(?:struct|enum)\s+{re.escape(name)}\b", code)
-        is_plain = keyword == "impl" and not re.search(r"\bfor\b", without_generics(head)) and bool(is_declared_here)
+        is_plain = (
+            keyword == "impl"
+            and not re.search(r"\bfor\b", without_generics(head))
+            and bool(is_declared_here)
+        )
         if is_plain and (arguments := arguments_of_type(head)):
             name, is_plain = "+".join([name, *arguments]), False
         if end := end_of_braces(code, found.end() - 1):
@@ -135,8 +146,8 @@ def blocks_of(code):
 
 
 def place_of(path, blocks, name):
-    """Returns a function's path below its crate, as the prover has it, or that of its module where it has no such path,
-    as within a macro. The blocks are those around it, the innermost last."""
+    """Returns a function's path below its crate, as the prover has it, or that of its module where
+    it has no such path, as within a macro. The blocks are those around it, the innermost last."""
     parts = path.removeprefix("src/").removesuffix(".rt").split("/")
     module = [part for part in parts if part not in ("lib", "main", "mod")]
     owner = [blocks[-1].name] if blocks else []
@@ -146,8 +157,8 @@ def place_of(path, blocks, name):
 
 
 def braces_of_body(code, start):
-    """Returns the bounds of the body of the function whose parameters begin at `start`, or None if it has none. Before
-    the body's brace are its clauses, each with braces of its own."""
+    """Returns the bounds of the body of the function whose parameters begin at `start`, or None if
+    it has none. Before the body's brace are its clauses, each with braces of its own."""
     while (opening := BRACE_OR_END.search(code, start)) and opening[0] == "{":
         if not (end := end_of_braces(code, opening.start())):
             return None
@@ -158,8 +169,8 @@ def braces_of_body(code, start):
 
 
 def bodies_of(path, text):
-    """Returns the bodies of the functions of a source, in the order in which the functions begin, so a function that is
-    inside another comes after it."""
+    """Returns the bodies of the functions of a source, in the order in which the functions begin,
+    so a function that is inside another comes after it."""
     code = masked(text)
     blocks = blocks_of(code)
     line_feeds = [found.start() for found in re.finditer("\n", text)]

@@ -17,13 +17,15 @@ class Refusals(unittest.TestCase):
         self.assertEqual(self.only(said).is_by_goal, is_by_goal)
 
     def differ(self, expected, found):
-        words = "error: `returns`: computed as far as they go, the two types differ only where one has"
+        words = (
+            "error: `returns`: computed as far as they go, the two types differ only where one has"
+        )
         return f"{ANSWERS}{words} `{expected}` (expected) and the other has `{found}`\n  (found)\n"
 
     def test_a_goal_that_the_search_leaves(self):
         said = (
-            "note: src/frame.rt:170:13: it is not proved that what the function ensures holds when it returns "
-            "(`returns-in_default-clause-rest`)\n"
+            "note: src/frame.rt:170:13: it is not proved that what the function ensures holds when "
+            "it returns (`returns-in_default-clause-rest`)\n"
         )
         refusal = self.only(said)
         self.assertTrue(refusal.is_by_goal)
@@ -32,8 +34,9 @@ class Refusals(unittest.TestCase):
 
     def test_a_goal_that_is_false(self):
         said = (
-            "note: src/codes.rt:14:5: it is not proved that what the function ensures holds when it returns "
-            "(`returns-in-UnknownFrame`); the facts known there allow values at which this goal is false\n"
+            "note: src/codes.rt:14:5: it is not proved that what the function ensures holds when "
+            "it returns (`returns-in-UnknownFrame`); the facts known there allow values at which "
+            "this goal is false\n"
         )
         self.check(said, True)
         self.assertEqual(self.only(said).goal, "returns-in-UnknownFrame")
@@ -51,21 +54,40 @@ class Refusals(unittest.TestCase):
 
     def test_the_last_difference_decides(self):
         said = self.differ("record {text = x}", "…").rstrip("\n")
-        again = "\n  computed as far as they go, the two types differ only where one has `c.len.result` (expected)"
+        again = (
+            "\n  computed as far as they go, the two types differ only where one has "
+            "`c.len.result` (expected)"
+        )
         self.check(said + again + " and the other has `(c.len.result % 1)` (found)\n", True)
         self.check(said + again + " and the other has `c.max.result` (found)\n", False)
 
     def test_types_that_are_printed_whole(self):
-        words = "error: `returns`: as printed, the two types are identical apart from the names of bound variables"
-        types = "\n  expected type `Path c.a.result (List 0 [])`\n  but this has type `Path c.{}.result (List {} [])`\n"
+        words = (
+            "error: `returns`: as printed, the two types are identical apart from the names of "
+            "bound variables"
+        )
+        types = (
+            "\n  expected type `Path c.a.result (List 0 [])`"
+            "\n  but this has type `Path c.{}.result (List {} [])`\n"
+        )
         self.check(ANSWERS + words + types.format("a", "2"), True)
         self.check(ANSWERS + words + types.format("b", "0"), False)
 
     def test_a_table_that_does_not_compute(self):
-        words = "error: `all_short`: expected type `all 254 ≡ true`, but this has type `all 254 ≡ all 254`"
-        types = "\n  computed as far as they go, the two types are `{}` (expected) and `{}` (found)\n"
-        self.check(ANSWERS + words + types.format("Path Bool false true", "Path Bool false false"), True)
-        self.check(ANSWERS + words + types.format("IsPart [] (c.be…[2243 bytes]….now)", "IsPart [] (c.a)"), False)
+        words = (
+            "error: `all_short`: expected type `all 254 ≡ true`, but this has type "
+            "`all 254 ≡ all 254`"
+        )
+        types = (
+            "\n  computed as far as they go, the two types are `{}` (expected) and `{}` (found)\n"
+        )
+        self.check(
+            ANSWERS + words + types.format("Path Bool false true", "Path Bool false false"), True
+        )
+        self.check(
+            ANSWERS + words + types.format("IsPart [] (c.be…[2243 bytes]….now)", "IsPart [] (c.a)"),
+            False,
+        )
 
     def test_a_term_that_is_cut_short(self):
         self.check(self.differ("{T = Content} …[276 bytes]… c.before.len.result", "0"), False)
@@ -73,7 +95,8 @@ class Refusals(unittest.TestCase):
     def test_a_goal_that_is_gone(self):
         said = (
             f"{ANSWERS}error: `returns-then-self-gt0`: `goal.returns-then-self-gt0`: module "
-            "`Rattle.wtp_wire.proofs.frame.Frame.read.Goals` has no `returns-then-self-gt0` that can be named\n"
+            "`Rattle.wtp_wire.proofs.frame.Frame.read.Goals` has no `returns-then-self-gt0` "
+            "that can be named\n"
         )
         self.check(said, False)
         self.assertEqual(self.only(said).gone, "returns-then-self-gt0")
@@ -86,21 +109,36 @@ class Refusals(unittest.TestCase):
         self.assertFalse(may_be("returns-in-Err", set()))
 
     def test_a_field_that_is_gone(self):
-        self.check(f"{ANSWERS}error: `returns`: record `View.In-Start` has no field `find`\n", False)
+        self.check(
+            f"{ANSWERS}error: `returns`: record `View.In-Start` has no field `find`\n", False
+        )
 
     def test_numbers_at_which_it_is_false(self):
-        words = "`omega`: the goal does not follow. All of that holds, and the goal fails, at `c.due` = 1."
+        words = (
+            "`omega`: the goal does not follow. All of that holds, and the goal fails, at "
+            "`c.due` = 1."
+        )
         self.check(f"{ANSWERS}error: `returns`: {words}\n", True)
 
     def test_a_tactic_that_stops(self):
-        self.check(f"{ANSWERS}error: `returns`: `rw`: no occurrence of the path's left endpoint\n", False)
+        self.check(
+            f"{ANSWERS}error: `returns`: `rw`: no occurrence of the path's left endpoint\n", False
+        )
 
     def test_notes_and_holes_refuse_nothing(self):
-        self.assertEqual(refusals(f"{ANSWERS}note: `rw` rewrote the goal, of a type `error.Code`\n"), [])
-        self.assertEqual(refusals(f"{ANSWERS}`unreachable-requires` is not admitted: has-holes\n"), [])
+        self.assertEqual(
+            refusals(f"{ANSWERS}note: `rw` rewrote the goal, of a type `error.Code`\n"), []
+        )
+        self.assertEqual(
+            refusals(f"{ANSWERS}`unreachable-requires` is not admitted: has-holes\n"), []
+        )
 
     def test_those_by_a_goal_come_first(self):
-        said = self.differ("c.a", "c.b") + self.differ("0", "1") + "note: src/a.rt:3:1: it is not proved that x (`g`)\n"
+        said = (
+            self.differ("c.a", "c.b")
+            + self.differ("0", "1")
+            + "note: src/a.rt:3:1: it is not proved that x (`g`)\n"
+        )
         found = refusals(said)
         self.assertEqual([refusal.is_by_goal for refusal in found], [True, True, False])
         self.assertEqual(found[0].path, "src/a.rt")
