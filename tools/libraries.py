@@ -103,7 +103,7 @@ class Beside:
 
 def main(words):
     if len(words) not in (2, 3) or words[0] not in rows():
-        sys.exit("usage: python3 tools/libraries.py NAME FILE [LINES], with a crate of crates.txt")
+        sys.exit("usage: python3 tools/libraries.py NAME FILE [LINES], NAME in crates.txt")
     crate, file, *lines = words
     folder = TOP / "crates" / crate
     with tempfile.TemporaryDirectory() as room:
