@@ -6,5 +6,6 @@
 
 mod codes;
 pub mod laws;
+pub mod parts;
 pub mod qpack;
 pub mod section;

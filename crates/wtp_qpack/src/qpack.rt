@@ -15,9 +15,9 @@ ghost use Rattle.wtp_qpack.specs.FieldSection.{ReachesLine, map_at, section_of};
 pub(crate) mod field_line;
 mod field_lines;
 pub(crate) mod field_section;
-mod integer;
-mod static_table;
-mod string_literal;
+pub(crate) mod integer;
+pub(crate) mod static_table;
+pub(crate) mod string_literal;
 
 pub use field_lines::{FieldLine, FieldLines, FieldRoom};
 use std::alloc::{AllocError, AllocFailed, Global};

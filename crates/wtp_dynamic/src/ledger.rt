@@ -1,0 +1,125 @@
+//! What an encoder keeps of the sections that it sent (RFC 9204, sections 2.1 and 4.4).
+
+ghost use Rattle.std.specs.Prelude.{◌≡◌, ℕ, List, length, slice_index_or, ◌+◌, ◌<◌, ◌≤◌, ◌==◌, max, Some, None, IfSome, IfNone, MatchOption, MatchResult, nat_le, ◌&&◌};
+ghost use Rattle.std.specs.List.{remove};
+ghost use Rattle.wtp_dynamic.specs.EncoderState.{taken, unsent, all_above, increment_fault};
+ghost use Rattle.wtp_dynamic.specs.declared.ledger.Sent.{Sent};
+
+use crate::error::DecoderStreamError;
+use std::collections::VecDeque;
+use std::marker::Model;
+
+/// A section that is not acknowledged. Entries are evicted from the lowest on, so no other index
+/// has to be known.
+#[derive(Clone, Copy)]
+pub struct Sent {
+    /// Its stream.
+    pub stream: u64,
+    /// Its Required Insert Count.
+    pub required: u64,
+    /// The lowest absolute index to which it refers.
+    pub lowest: u64,
+}
+
+/// The Known Received Count, and the sections that are not acknowledged, the oldest first.
+#[derive(Drop)]
+pub struct Ledger {
+    known: u64,
+    sections: VecDeque<Sent>,
+}
+
+// Contracts treat the ledger as the count and the sections.
+impl Model for Ledger {
+    ghost use Rattle.std.specs.Prelude.{ℕ, List};
+    ghost use Rattle.wtp_dynamic.specs.declared.ledger.Sent.{Sent};
+
+    ghost Value = { ℕ × List Sent };
+
+    ghost view = { λ ledger. (ledger.known, ledger.sections.items) };
+}
+
+/// Returns the place of the first section of a stream.
+fn place_of(sections: &VecDeque<Sent>, stream: u64) -> Option<usize>
+    ensures found { IfSome result (λ i. (i < length sections.now.items)
+        × (taken stream sections.now.items ≡ Some (slice_index_or sections.now.items i (unsent stream), remove sections.now.items i))) }
+    ensures none { IfNone result (taken stream sections.now.items ≡ None) }
+{
+    for i in 0..sections.len() {
+        if sections[i].stream == stream {
+            return Some(i);
+        }
+    }
+    None
+}
+
+/// Takes the first section of a stream.
+fn take_section(sections: &mut VecDeque<Sent>, stream: u64) -> Option<Sent>
+    ensures { MatchOption result
+        ((taken stream sections.old.items ≡ None) × (sections.new ≡ sections.old))
+        (λ sent. taken stream sections.old.items ≡ Some (sent, sections.new.items)) }
+{
+    match place_of(sections, stream) {
+        Some(i) => sections.remove(i),
+        None => None,
+    }
+}
+
+/// Returns whether no section refers to an entry below a place.
+fn are_above(sections: &VecDeque<Sent>, place: u64) -> bool
+    ensures { result ≡ all_above place sections.now.items }
+{
+    for i in 0..sections.len() {
+        if sections[i].lowest < place {
+            return false;
+        }
+    }
+    true
+}
+
+impl Ledger {
+    /// Returns whether all entries below a place may be evicted.
+    pub fn may_evict(&self, place: u64) -> bool
+        ensures { result ≡ (nat_le place self.now.0 && all_above place self.now.1) }
+    {
+        place <= self.known && are_above(&self.sections, place)
+    }
+
+    /// A section of a stream was acknowledged: the oldest one. An error changes nothing.
+    pub fn acknowledge(&mut self, stream: u64) -> Result<(), DecoderStreamError>
+        ensures { MatchResult result
+            (λ _. (x : Sent × List Sent) × (taken stream self.old.1 ≡ Some x)
+            × (self.new ≡ (max self.old.0 x.0.required, x.1)))
+            (λ e. (e ≡ DecoderStreamError.UnknownSection) × (taken stream self.old.1 ≡ None)
+            × (self.new ≡ self.old)) }
+    {
+        match take_section(&mut self.sections, stream) {
+            Some(sent) => {
+                self.known = self.known.max(sent.required);
+                Ok(())
+            }
+            None => Err(DecoderStreamError::UnknownSection),
+        }
+    }
+
+    /// So many more of the entries that were inserted were received. An error changes nothing.
+    pub fn increment(&mut self, count: u64, inserted: u64) -> Result<(), DecoderStreamError>
+        ensures { MatchResult result
+            (λ _. (0 < count) × (self.old.0 + count ≤ inserted)
+            × (self.new ≡ (self.old.0 + count, self.old.1)))
+            (λ e. (self.new ≡ self.old) × increment_fault e count self.old.0 inserted) }
+    {
+        if count == 0 {
+            return Err(DecoderStreamError::ZeroIncrement);
+        }
+        match self.known.checked_add(count) {
+            Some(known) => {
+                if known > inserted {
+                    return Err(DecoderStreamError::IncrementTooLarge);
+                }
+                self.known = known;
+                Ok(())
+            }
+            None => Err(DecoderStreamError::IncrementTooLarge),
+        }
+    }
+}
