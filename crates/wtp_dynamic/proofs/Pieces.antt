@@ -5,8 +5,8 @@ use Rattle.std.specs.List.{flat_map}
 use Rattle.std.proofs.lemmas.List.{take_more, take-append-drop, flat_map_more}
 use Rattle.wtp_dynamic.specs.declared.error.EncoderStreamError.{EncoderStreamError}
 use Rattle.wtp_dynamic.specs.Table.{Table}
-use Rattle.wtp_dynamic.specs.Stream.{Stands, Breaks}
-use Rattle.wtp_dynamic.proofs.Streams.{stands_join, breaks_join, breaks_more}
+use Rattle.wtp_dynamic.specs.Stream.{Stands, Reaches, Breaks}
+use Rattle.wtp_dynamic.proofs.Streams.{stands_join, reaches_join, reaches_more, breaks_join, breaks_more}
 
 abbrev joined : List (Bor (List ℕ)) → List ℕ
 joined = flat_map (λ (piece : Bor (List ℕ)). piece.now)
@@ -36,3 +36,11 @@ breaks_piece s front ps i d t held u e lt first second =
     let here = breaks_join s (front ++ joined (take i ps)) t held (get_or ps i d).now u e first second in
     let there : Breaks s (front ++ joined (take (i + 1) ps)) u e = subst P (joined_more front ps i d lt) here in
     subst P (joined_all front ps (i + 1)) (breaks_more s (front ++ joined (take (i + 1) ps)) (joined (drop (i + 1) ps)) u e there)
+
+pub reaches_piece : (s : Table) (front : List ℕ) (ps : List (Bor (List ℕ))) (i : ℕ) (d : Bor (List ℕ)) (t : Table) (held : List ℕ) (u : Table)
+    → i < length ps → Stands s (front ++ joined (take i ps)) t held → Reaches t (held ++ (get_or ps i d).now) u → Reaches s (front ++ joined ps) u
+reaches_piece s front ps i d t held u lt first second =
+    let P : List ℕ → Type 0 = λ z. Reaches s z u in
+    let here = reaches_join s (front ++ joined (take i ps)) t held (get_or ps i d).now u first second in
+    let there : Reaches s (front ++ joined (take (i + 1) ps)) u = subst P (joined_more front ps i d lt) here in
+    subst P (joined_all front ps (i + 1)) (reaches_more s (front ++ joined (take (i + 1) ps)) (joined (drop (i + 1) ps)) u there)

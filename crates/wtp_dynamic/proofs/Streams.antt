@@ -6,7 +6,7 @@ use Rattle.wtp_dynamic.specs.Table.{Table}
 use Rattle.wtp_dynamic.specs.Instruction.{Instruction}
 use Rattle.wtp_dynamic.specs.Front.{Whole, Faulty, most_bytes}
 use Rattle.wtp_dynamic.specs.Steps.{step}
-use Rattle.wtp_dynamic.specs.Stream.{first_of, Leads, IsCut, HasFault, reading_fault, Stands, Breaks}
+use Rattle.wtp_dynamic.specs.Stream.{first_of, Leads, IsCut, HasFault, reading_fault, Stands, Reaches, Breaks}
 use Rattle.wtp_dynamic.proofs.Fronts as fronts
 
 -- ---- more bytes
@@ -44,6 +44,16 @@ breaks_join s bytes t held piece u e first second = record {
   leads = leads_join first.instructions second.instructions s (bytes ++ piece) t (held ++ piece) u second.rest (leads_more first.instructions s bytes t held piece first.leads) second.leads;
   fault = second.fault;
 }
+
+pub reaches_join : (s : Table) (bytes : List ℕ) (t : Table) (held piece : List ℕ) (u : Table) → Stands s bytes t held → Reaches t (held ++ piece) u → Reaches s (bytes ++ piece) u
+reaches_join s bytes t held piece u first (is, rest, leads) = (
+  first.instructions ++ is,
+  rest,
+  leads_join first.instructions is s (bytes ++ piece) t (held ++ piece) u rest (leads_more first.instructions s bytes t held piece first.leads) leads,
+)
+
+pub reaches_more : (s : Table) (bytes more : List ℕ) (u : Table) → Reaches s bytes u → Reaches s (bytes ++ more) u
+reaches_more s bytes more u (is, rest, leads) = (is, rest ++ more, leads_more is s bytes u rest more leads)
 
 -- what comes after a fault changes nothing
 pub breaks_more : (s : Table) (bytes more : List ℕ) (u : Table) (e : EncoderStreamError) → Breaks s bytes u e → Breaks s (bytes ++ more) u e

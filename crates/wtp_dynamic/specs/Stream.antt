@@ -50,7 +50,14 @@ pub record Breaks (start : Table) (bytes : List ℕ) (table : Table) (e : Encode
   pub leads : Leads instructions start bytes table rest
   pub fault : HasFault table rest e
 
--- What reading bytes of the stream did to a table, unless allocation failed.
+-- Instructions at the start of bytes led from one table to another.
+abbrev pub Reaches : Table → List ℕ → Table → Type 0
+Reaches start bytes table =
+    (instructions : List Instruction) × (rest : List ℕ) × Leads instructions start bytes table rest
+
+-- What reading bytes of the stream did to a table: on an error, which is the fault unless allocation
+-- failed, the table is what the instructions before it made.
 abbrev pub StreamRead : {X : Type 0} → (X → List ℕ) → Table → List ℕ → Table → Result X EncoderStreamError → Type 0
 StreamRead held old bytes new result =
-    MatchResult result (λ x. Stands old bytes new (held x)) (λ e. e ≢ fault.Memory → Breaks old bytes new e)
+    MatchResult result (λ x. Stands old bytes new (held x))
+    (λ e. Reaches old bytes new × (e ≢ fault.Memory → Breaks old bytes new e))

@@ -143,6 +143,13 @@ impl DynamicTable {
         self.dropped + self.entries.len() as u64
     }
 
+    /// Returns the size of the entries that are left.
+    pub fn size(&self) -> u64
+        ensures { result ≡ table_size self.now.live }
+    {
+        self.size
+    }
+
     /// Returns the capacity.
     pub fn capacity(&self) -> u64
         ensures { result ≡ self.now.capacity }
