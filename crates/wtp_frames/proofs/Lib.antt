@@ -1,0 +1,5 @@
+pub mod HeadLemmas
+pub mod NumberLemmas
+pub mod RunLemmas
+pub mod MoveLemmas
+pub mod StepLemmas

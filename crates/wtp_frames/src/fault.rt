@@ -1,0 +1,55 @@
+//! Errors of streams, with their codes and their scope (RFC 9114, section 8).
+ghost use Rattle.std.specs.Prelude.{◌≡◌};
+ghost use Rattle.wtp_frames.specs.Fault.{code_of, scope_of};
+
+use wtp_core::error::{Code, ErrorScope};
+
+/// An error of a stream, by the rule that the peer violated.
+#[derive(Clone, Copy, Debug, PartialEq, Eq)]
+pub enum Fault {
+    /// The control stream ended (RFC 9114, section 6.2.1).
+    ClosedCriticalStream,
+    /// The frame may not come here (RFC 9114, section 7.2).
+    FrameUnexpected,
+    /// The frame has an invalid layout or size, or ends early (RFC 9114, section 7.1).
+    Frame,
+    /// SETTINGS are too long, or too many frames without content follow one another (RFC 9114,
+    /// section 10.5).
+    ExcessiveLoad,
+    /// An ID is invalid here (RFC 9114, sections 5.2, 7.2.3, 7.2.5 and 7.2.7).
+    Id,
+    /// The first frame of the control stream is not SETTINGS (RFC 9114, section 6.2.1).
+    MissingSettings,
+    /// The stream ended before the HEADERS of a request (RFC 9114, section 4.1).
+    RequestIncomplete,
+    /// The stream ended before the HEADERS of a response (RFC 9114, sections 4.1 and 4.1.2).
+    Message,
+}
+
+impl Fault {
+    /// Returns the error code.
+    pub fn code(self) -> Code
+        ensures { result ≡ code_of self }
+    {
+        match self {
+            Fault::ClosedCriticalStream => Code::H3_CLOSED_CRITICAL_STREAM,
+            Fault::FrameUnexpected => Code::H3_FRAME_UNEXPECTED,
+            Fault::Frame => Code::H3_FRAME_ERROR,
+            Fault::ExcessiveLoad => Code::H3_EXCESSIVE_LOAD,
+            Fault::Id => Code::H3_ID_ERROR,
+            Fault::MissingSettings => Code::H3_MISSING_SETTINGS,
+            Fault::RequestIncomplete => Code::H3_REQUEST_INCOMPLETE,
+            Fault::Message => Code::H3_MESSAGE_ERROR,
+        }
+    }
+
+    /// Returns what the error ends: the connection, or the stream alone.
+    pub fn scope(self) -> ErrorScope
+        ensures { result ≡ scope_of self }
+    {
+        match self {
+            Fault::RequestIncomplete | Fault::Message => ErrorScope::Stream,
+            _ => ErrorScope::Connection,
+        }
+    }
+}
