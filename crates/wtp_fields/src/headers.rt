@@ -102,6 +102,7 @@ impl Headers {
     }
 
     /// Sets the value of a name, in place of its previous value. On an error nothing changes.
+    #[tactic(auto, using(wtp_qpack::proofs::SectionReading::put_entry))]
     pub fn insert(&mut self, name: &str, value: &str) -> Result<(), AllocError>
         ensures ok { OnOk result (self.new ≡ put self.old (name.now, value.now)) }
         ensures err { OnErr result (self.new ≡ self.old) }
@@ -147,6 +148,7 @@ impl Clone for Headers {
     ghost is_clone = { λ map copy. copy ≡ map };
 
     /// Returns a copy of the map, or [`AllocError`] if allocation fails.
+    #[tactic(auto, using(crate::proofs::HeaderLemmas::held_clone))]
     fn clone(&self) -> Result<Headers, AllocError> {
         let fields = self.fields.clone()?;
         Ok(Headers {

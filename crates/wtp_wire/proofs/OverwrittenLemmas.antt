@@ -18,8 +18,11 @@ overwritten-append (part ∷ whole) rest place fits =
     let next : length (joined whole) ≤ length (drop (length part) place) = omega (arith, length-drop (length part) place) in
     rw (le-ltb (length place) (length part) here, overwritten-append whole rest (drop (length part) place) next, size, drop-drop (length (joined whole)) (length part) place, append_assoc) refl
 
-overwritten-fits : (parts : List (List ℕ)) (place : List ℕ) → length (joined parts) ≤ length place → overwritten parts place ≡ joined parts ++ drop (length (joined parts)) place
+pub overwritten-fits : (parts : List (List ℕ)) (place : List ℕ) → length (joined parts) ≤ length place → overwritten parts place ≡ joined parts ++ drop (length (joined parts)) place
 overwritten-fits parts place fits = ap (λ (x : List (List ℕ)). overwritten x place) (sym (append-nil parts)) ∙ overwritten-append parts [] place fits
+
+-- all parts were written into a slice
+pub ruleset whole_slices = (overwritten-fits, take-append-drop)
 
 overwritten-cut : (part : List ℕ) (behind : List (List ℕ)) (place : List ℕ) → length place < length part → overwritten (part ∷ behind) place ≡ place
 overwritten-cut part behind place lacks = rw (lt-ltb (length place) (length part) lacks) refl
@@ -30,10 +33,6 @@ some_is x y e = cc
 -- a slice whose start and rest are known
 slice_is : (offset : ℕ) (slice last front rest : List ℕ) → last ≡ slice → take offset slice ≡ front → Some (drop offset slice) ≡ Some rest → last ≡ front ++ rest
 slice_is offset slice last front rest same before behind = same ∙ sym (take-append-drop offset slice) ∙ ap (λ (x : List ℕ). x ++ drop offset slice) before ∙ ap (λ (x : List ℕ). front ++ x) (some_is (drop offset slice) rest behind)
-
--- all parts were written into a slice
-pub slice-whole : (parts : List (List ℕ)) (u : Unit {0}) (offset : ℕ) (slice place last : List ℕ) → last ≡ slice → PutsParts false parts (Ok u) [] (Some place) (take offset slice) (Some (drop offset slice)) → last ≡ overwritten parts place
-slice-whole parts u offset slice place last same (front, behind, fits) = slice_is offset slice last (joined parts) (drop (length (joined parts)) place) same front behind ∙ sym (overwritten-fits parts place fits)
 
 -- those before the first that did not fit
 pub slice-cut : (parts : List (List ℕ)) (e : PutError) (offset : ℕ) (slice place last : List ℕ) → last ≡ slice → length last ≡ length place → PutsParts false parts (Err e) [] (Some place) (take offset slice) (Some (drop offset slice)) → last ≡ overwritten parts place

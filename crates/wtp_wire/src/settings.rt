@@ -291,6 +291,7 @@ impl Settings {
     /// not change.
     ///
     /// Source: RFC 9114, section 7.2.4.
+    #[tactic(auto, using(crate::proofs::OverwrittenLemmas::whole_slices))]
     pub fn write_to(&self, buffer: &mut [u8]) -> Result<usize, EndOfBuffer>
         ensures room { IsOk result ↔ (length (settings_wire self.now) ≤ length buffer.old) }
         ensures size { IfOk result (λ n. n ≡ length (settings_wire self.now)) }

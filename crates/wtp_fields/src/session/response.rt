@@ -124,6 +124,7 @@ impl SessionResponse {
     }
 
     /// Returns the response of a header map that has a status code, with all of its fields.
+    #[tactic(auto, using(crate::proofs::ResponseLemmas::no_status))]
     fn of_map(headers: Headers) -> Option<Self>
         ensures { MatchOption result (¬ HasStatus headers)
             (λ response. HasStatus headers × (response ≡ headers)) }

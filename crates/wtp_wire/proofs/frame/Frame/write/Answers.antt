@@ -7,7 +7,7 @@ use Rattle.wtp_core.specs.Writer.{PutsParts}
 use Rattle.wtp_core.specs.declared.bytes.writer.PutError.{PutError}
 use Rattle.wtp_core.proofs.WriterLemmas.{put-none, put-more, put-last, LacksRoom-parts}
 use Rattle.wtp_wire.specs.Wire.{parts_of}
-use Rattle.wtp_wire.proofs.ContentLemmas.{parts_of-first, parts_of-plain, parts_of-session}
+use Rattle.wtp_wire.proofs.ContentLemmas.{parts_of-first, parts_of-plain, parts_of-session, puts-plain}
 use Rattle.wtp_wire.proofs.frame.Frame.write.Goals as goal
 
 pub returns-in_err-put_varint-clause-parts : goal.returns-in_err-put_varint-clause-parts
@@ -33,11 +33,7 @@ returns-in-Some-clause-parts g c =
 
 pub returns-in_ok-put_varint-in-None-clause-parts : goal.returns-in_ok-put_varint-in-None-clause-parts
 returns-in_ok-put_varint-in-None-clause-parts g c =
-    let parts = parts_of-plain c.self.inside.kind (payload_of c.self.inside.body) (session_of c.self.inside.body) (sym c.session.ensures ∙ c.in-None.is) in
-    let first = rw c.id.ensures at c.in_ok-put_varint.ensures.puts in
-    let second = rw (c.from_u64_unchecked.ensures, c.payload-payload.ensures) at c.in_ok-put_varint-in-None.ensures.puts in
-    let third = rw c.payload-payload.ensures at c.put_bytes.ensures.puts in
-    rw (← c.self.view_is, parts) (put-more g.W.BytesWriter.grows (shortest (frame_type_of c.self.inside.kind)) ((shortest (length (payload_of c.self.inside.body))) ∷ (payload_of c.self.inside.body) ∷ []) c.put_bytes.result tt (g.W.BytesWriter.written c.args.writer.now) (g.W.BytesWriter.written c.put_varint.new.self) (g.W.BytesWriter.written c.put_bytes.new.self) (g.W.BytesWriter.room c.args.writer.now) (g.W.BytesWriter.room c.put_varint.new.self) (g.W.BytesWriter.room c.put_bytes.new.self) first (put-more g.W.BytesWriter.grows (shortest (length (payload_of c.self.inside.body))) ((payload_of c.self.inside.body) ∷ []) c.put_bytes.result tt (g.W.BytesWriter.written c.put_varint.new.self) (g.W.BytesWriter.written c.put_varint-in-None.new.self) (g.W.BytesWriter.written c.put_bytes.new.self) (g.W.BytesWriter.room c.put_varint.new.self) (g.W.BytesWriter.room c.put_varint-in-None.new.self) (g.W.BytesWriter.room c.put_bytes.new.self) second (put-last g.W.BytesWriter.grows (payload_of c.self.inside.body) c.put_bytes.result (g.W.BytesWriter.written c.put_varint-in-None.new.self) (g.W.BytesWriter.room c.put_varint-in-None.new.self) (g.W.BytesWriter.written c.put_bytes.new.self) (g.W.BytesWriter.room c.put_bytes.new.self) third)))
+    puts-plain _ _ _ _ _ _ _ _ _ _ _ _ _ _ _ _ _ _ _ _ c.in_ok-put_varint.ensures.puts c.in_ok-put_varint-in-None.ensures.puts c.put_bytes.ensures.puts c.self.view_is c.session.ensures c.in-None.is c.id.ensures c.from_u64_unchecked.ensures c.payload-payload.ensures
 
 pub returns-in_err-put_varint-clause-full : goal.returns-in_err-put_varint-clause-full
 returns-in_err-put_varint-clause-full g c = λ e. LacksRoom-parts g.W.BytesWriter.grows (parts_of c.args.self.now) _ _ _ _

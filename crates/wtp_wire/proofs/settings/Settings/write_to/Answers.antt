@@ -1,11 +1,6 @@
 use Rattle.std.proofs.Common.{rules, arith, []}
-use Rattle.wtp_wire.proofs.OverwrittenLemmas.{slice-whole, slice-cut, parts-above}
+use Rattle.wtp_wire.proofs.OverwrittenLemmas.{slice-cut, parts-above}
 use Rattle.wtp_wire.proofs.settings.Settings.write_to.Goals as goal
-
-pub returns-in-Ok-clause-bytes : goal.returns-in-Ok-clause-bytes
-returns-in-Ok-clause-bytes c =
-    let parts = rw (c.new-writer.ensures.written, c.new-writer.ensures.room, c.in-Ok.is) at c.write_payload.ensures.parts in
-    slice-whole _ _ _ c.write_payload.new.writer.buffer.now _ _ (search rules) parts
 
 pub returns-in-Err-clause-room : goal.returns-in-Err-clause-room
 returns-in-Err-clause-room c =

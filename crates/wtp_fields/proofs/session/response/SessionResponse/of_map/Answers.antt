@@ -1,9 +1,6 @@
 use Rattle.std.proofs.Common.{◌∙◌, refl, sym}
-use Rattle.wtp_fields.proofs.ResponseLemmas.{no_status, bad_status, has_status, parsed_good, parsed_bad}
+use Rattle.wtp_fields.proofs.ResponseLemmas.{bad_status, has_status, parsed_good, parsed_bad}
 use Rattle.wtp_fields.proofs.session.response.SessionResponse.of_map.Goals as goal
-
-pub returns-in_err-text : goal.returns-in_err-text
-returns-in_err-text c = rw c.from_residual.ensures (no_status c.args.headers (sym c.in_err-text.ensures))
 
 pub returns-then-is_err : goal.returns-then-is_err
 returns-then-is_err c =
