@@ -66,7 +66,10 @@ class Paths(unittest.TestCase):
             return [(word, good) for _, word, good in PATHS.named(document)]
 
     def test_paths_in_spans(self):
-        self.assertEqual(self.named("`tools/test`, `tools/none`, `a/b`"), [("tools/test", True), ("tools/none", False)])
+        self.assertEqual(
+            self.named("`tools/test`, `tools/none`, `a/b`"),
+            [("tools/test", True), ("tools/none", False)],
+        )
         self.assertEqual(self.named("`wtp_core/src/lib.rt`"), [("wtp_core/src/lib.rt", True)])
 
     def test_paths_below_a_crate_of_the_line(self):
@@ -78,8 +81,10 @@ class Paths(unittest.TestCase):
 
     def test_commands_and_links(self):
         self.assertEqual(self.named("```sh\ntools/test   # all\n```\n"), [("tools/test", True)])
-        self.assertEqual(self.named("# A head\n[x](#a-head) [y](#none) [z](b.md)"),
-                         [("#a-head", True), ("#none", False), ("b.md", False)])
+        self.assertEqual(
+            self.named("# A head\n[x](#a-head) [y](#none) [z](b.md)"),
+            [("#a-head", True), ("#none", False), ("b.md", False)],
+        )
         self.assertEqual(self.named("[x](https://example.com/a.md)"), [])
 
 
