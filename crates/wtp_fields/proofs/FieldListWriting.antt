@@ -7,10 +7,10 @@ use Rattle.std.specs.List.{flat_map}
 use Rattle.std.proofs.lemmas.Bool.{and_parts, cases_eq, eqb-true}
 use Rattle.wtp_core.specs.Ids.{IsStatus}
 use Rattle.wtp_qpack.specs.declared.qpack.DecodingError.{DecodingError}
-use Rattle.wtp_qpack.specs.FieldLine.{encoded_line}
+use Rattle.wtp_qpack.specs.FieldLine.{line_in, encoded_line}
 use Rattle.wtp_qpack.specs.FieldSection.{section_of}
 use Rattle.wtp_qpack.specs.FieldLines.{octet_line_at, AreOctetLines}
-use Rattle.wtp_qpack.proofs.OctetWriting.{octet_lines_again, prefix_again}
+use Rattle.wtp_qpack.proofs.RoundTrip.{octet_lines_again, prefix_again}
 use Rattle.wtp_fields.specs.declared.session.HeadersParseError.{HeadersParseError}
 use Rattle.wtp_fields.specs.SessionResponse.{status_alone}
 use Rattle.wtp_fields.specs.FieldList.{Reaches, list_size}
@@ -80,7 +80,7 @@ pub list_again : (limit : ℕ) (fields : List Field) → AreOctets fields → li
 list_again limit fields are fits = record { start = flat_map encoded_line fields; prefix = prefix_again fields; are = octet_lines_again fields are; fits = fits }
 
 no_line : (field : Field) (behind : List ℕ) → octet_line_at [] ≡ Ok (field, behind) → ⊥
-unfolding octet_line_at
+unfolding line_in
 no_line field behind e = cc e
 
 same_lines : (bytes : List ℕ) (fields others : List Field) → AreOctetLines bytes fields [] → AreOctetLines bytes others [] → fields ≡ others

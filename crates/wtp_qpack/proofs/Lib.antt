@@ -11,7 +11,6 @@ pub mod LineTexts
 pub mod SectionReading
 pub mod SectionWriting
 pub mod FieldMaps
-pub mod OctetWriting
 pub mod RoundTrip
 pub mod StringLaws
 pub mod SectionLaws

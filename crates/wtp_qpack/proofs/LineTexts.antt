@@ -1,31 +1,28 @@
 -- Lines as bytes and lines of texts.
-use Rattle.std.proofs.Common.{◌≡◌, ◌⊎◌, inl, inr, ℕ, zero, suc, ◌<◌, Bool, true, false, ◌&&◌, cond, nat_lt, List, [], ◌∷◌, length, take, drop, refl, sym, ◌∙◌, ap, Option, Some, None, Result, Ok, Err, slice_get, slice_index, arith}
+use Rattle.std.proofs.Common.{◌≡◌, ◌⊎◌, inl, inr, ℕ, zero, suc, ◌<◌, Bool, true, false, ◌&&◌, cond, nat_lt, List, [], ◌∷◌, length, take, drop, refl, sym, ◌∙◌, ap, Option, Some, None, Result, Ok, Err, slice_get, slice_index, arith, subst, IsUtf8}
 use Rattle.std.proofs.lemmas.Bool.{ltb-true}
-use Rattle.std.proofs.lemmas.Str.{IsUtf8-from_ascii, is_utf8-from_IsUtf8}
+use Rattle.std.proofs.lemmas.Str.{IsUtf8-from_ascii, IsUtf8-from_is_utf8, is_utf8-from_IsUtf8}
 use Rattle.std.specs.Str.{is_utf8}
 use Rattle.wtp_qpack.specs.declared.qpack.DecodingError.{DecodingError}
 use Rattle.wtp_qpack.specs.declared.qpack.DecodingError.TheVariants.{UnexpectedFin, InvalidString}
 use Rattle.wtp_qpack.specs.declared.qpack.field_line.Table.TheVariants.{Static, Dynamic}
 use Rattle.wtp_qpack.specs.declared.qpack.field_line.Representation.{Representation}
 use Rattle.wtp_qpack.specs.declared.qpack.field_line.Representation.TheVariants.{Indexed, IndexedPostBase, NameReference, PostBaseNameReference, LiteralName}
+use Rattle.wtp_qpack.specs.declared.qpack.string_literal.Texts.TheVariants.{Octets, Utf8}
 use Rattle.wtp_qpack.specs.Field.{Field, field_map}
 use Rattle.wtp_qpack.specs.Qpack.{◌>>=◌}
 use Rattle.wtp_qpack.specs.Integer.{integer_at}
-use Rattle.wtp_qpack.specs.StaticTable.{static_table, entry_at}
-use Rattle.wtp_qpack.specs.StringLiteral.{utf8_text, body_text, flag_above, string_at}
-use Rattle.wtp_qpack.specs.FieldLine.{representation_of, or_not_found, indexed_at, name_reference_at, literal_name_at, line_by, line_at}
+use Rattle.wtp_qpack.specs.StaticTable.{static_table, entry_at, first_entry}
+use Rattle.wtp_qpack.specs.StringLiteral.{utf8_text, octets, checked, text_of, flag_above, string_in, string_at, octets_at}
+use Rattle.wtp_qpack.specs.FieldLine.{representation_of, or_not_found, indexed_at, name_reference_in, literal_name_in, line_by, line_in, line_at}
 use Rattle.wtp_qpack.specs.FieldSection.{after_prefix, AreLines, section_at, map_at}
-use Rattle.wtp_qpack.specs.FieldLines.{octets, octets_at, octet_reference_at, octet_name_at, octet_line_by, octet_line_at, AreOctetLines, is_utf8_field, AreUtf8Fields, as_texts}
+use Rattle.wtp_qpack.specs.FieldLines.{octet_line_at, AreOctetLines, is_utf8_field, AreUtf8Fields, as_texts}
 use Rattle.wtp_qpack.proofs.Chosen.{bind_ok}
+use Rattle.wtp_qpack.proofs.StaticLemmas.{first_found}
 use Rattle.wtp_qpack.proofs.SectionLaws.{section_found}
 use Rattle.wtp_qpack.proofs.SectionReading.{map_found, map_fault}
 
 -- ---- strings
-
-content_octets : (b : Bool) (body : List ℕ) → body_text b body ≡ (octets b body >>= utf8_text)
-unfolding body_text
-content_octets true body = refl
-content_octets false body = refl
 
 -- a text, and the bytes after its string
 abbrev with_rest : List ℕ → List ℕ → Result (List ℕ × List ℕ) DecodingError
@@ -39,24 +36,24 @@ with_name name v = Ok ((name, v.0), v.1)
 utf8_string : List ℕ × List ℕ → Result (List ℕ × List ℕ) DecodingError
 utf8_string s = utf8_text s.0 >>= with_rest s.1
 
-pairs_checked : (r : Result (List ℕ) DecodingError) (rest : List ℕ) → ((r >>= utf8_text) >>= with_rest rest) ≡ ((r >>= with_rest rest) >>= utf8_string)
+pairs_checked : (r : Result (List ℕ) DecodingError) (rest : List ℕ) → ((r >>= checked Utf8) >>= with_rest rest) ≡ (((r >>= checked Octets) >>= with_rest rest) >>= utf8_string)
 unfolding utf8_string
 pairs_checked (Ok t) rest = refl
 pairs_checked (Err e) rest = refl
 
-body_checked : (few b : Bool) (body rest : List ℕ)
-    → cond few (Err UnexpectedFin) (body_text b body >>= with_rest rest) ≡ (cond few (Err UnexpectedFin) (octets b body >>= with_rest rest) >>= utf8_string)
-body_checked true b body rest = refl
-body_checked false b body rest = rw (content_octets b body) (pairs_checked (octets b body) rest)
+text_checked : (few b : Bool) (body rest : List ℕ)
+    → cond few (Err UnexpectedFin) (text_of Utf8 b body >>= with_rest rest) ≡ (cond few (Err UnexpectedFin) (text_of Octets b body >>= with_rest rest) >>= utf8_string)
+text_checked true b body rest = refl
+text_checked false b body rest = pairs_checked (octets b body) rest
 
 size_checked : (b : Bool) (r : Result (ℕ × List ℕ) DecodingError)
-    → (r >>= λ size. cond (nat_lt (length size.1) size.0) (Err UnexpectedFin) (body_text b (take size.0 size.1) >>= with_rest (drop size.0 size.1)))
-    ≡ ((r >>= λ size. cond (nat_lt (length size.1) size.0) (Err UnexpectedFin) (octets b (take size.0 size.1) >>= with_rest (drop size.0 size.1))) >>= utf8_string)
+    → (r >>= λ size. cond (nat_lt (length size.1) size.0) (Err UnexpectedFin) (text_of Utf8 b (take size.0 size.1) >>= with_rest (drop size.0 size.1)))
+    ≡ ((r >>= λ size. cond (nat_lt (length size.1) size.0) (Err UnexpectedFin) (text_of Octets b (take size.0 size.1) >>= with_rest (drop size.0 size.1))) >>= utf8_string)
 size_checked b (Err e) = refl
-size_checked b (Ok size) = body_checked (nat_lt (length size.1) size.0) b (take size.0 size.1) (drop size.0 size.1)
+size_checked b (Ok size) = text_checked (nat_lt (length size.1) size.0) b (take size.0 size.1) (drop size.0 size.1)
 
 string_octets : (n : ℕ) (bytes : List ℕ) → string_at n bytes ≡ (octets_at n bytes >>= utf8_string)
-unfolding string_at octets_at
+unfolding string_in
 string_octets n bytes = size_checked (flag_above n bytes) (integer_at n bytes)
 
 -- ---- the entries of the static table are texts
@@ -108,6 +105,16 @@ entry_utf8 k entry e =
     let both = all_at static_table k entry entries_ascii e in
     (ascii_utf8 entry.0 (and_left (below_128 entry.0) (below_128 entry.1) both), ascii_utf8 entry.1 (and_right (below_128 entry.0) (below_128 entry.1) both))
 
+-- a name that is no text is none of the static table
+pub no_text_absent : (name : List ℕ) → (IsUtf8 name → ⊥) → None ≡ first_entry name
+no_text_absent name bad = by_first (first_entry name) refl
+  where
+    by_first : (o : Option ℕ) → first_entry name ≡ o → None ≡ o
+    by_first None e = refl
+    by_first (Some k) e =
+        let found = first_found name k e in
+        absurd (bad (subst IsUtf8 found.2 (IsUtf8-from_is_utf8 found.0.0 (entry_utf8 k found.0 found.1).0)))
+
 -- ---- lines
 
 -- what is read as a line of bytes, and as a line of texts: a name that is no text is a fault before one of the value
@@ -143,8 +150,8 @@ unfolding Matches
 index_matches (Err e) = inl refl
 index_matches (Ok index) = entry_matches index.0 (entry_at index.0) refl index.1
 
-reference_matches : (bytes : List ℕ) → Matches (octet_reference_at bytes) (name_reference_at bytes)
-unfolding octet_reference_at name_reference_at
+reference_matches : (bytes : List ℕ) → Matches (name_reference_in Octets bytes) (name_reference_in Utf8 bytes)
+unfolding name_reference_in
 reference_matches bytes = index_matches (integer_at 4 bytes)
 
 -- a name that is no text
@@ -167,8 +174,8 @@ unfolding Matches utf8_string utf8_text
 name_read (Err e) = inl refl
 name_read (Ok n) = name_tested (is_utf8 n.0) n.0 refl n.1
 
-name_matches : (bytes : List ℕ) → Matches (octet_name_at bytes) (literal_name_at bytes)
-unfolding octet_name_at literal_name_at
+name_matches : (bytes : List ℕ) → Matches (literal_name_in Octets bytes) (literal_name_in Utf8 bytes)
+unfolding literal_name_in
 name_matches bytes = rw (string_octets 3 bytes) (name_read (octets_at 3 bytes))
 
 field_matches : (k : ℕ) (o : Option Field) → entry_at k ≡ o → (rest : List ℕ)
@@ -187,7 +194,7 @@ indexed_matches : (bytes : List ℕ) → Matches (indexed_at bytes) (indexed_at 
 unfolding indexed_at
 indexed_matches bytes = whole_matches (integer_at 6 bytes)
 
-form_matches : (representation : Representation) (bytes : List ℕ) → Matches (octet_line_by representation bytes) (line_by representation bytes)
+form_matches : (representation : Representation) (bytes : List ℕ) → Matches (line_by Octets representation bytes) (line_by Utf8 representation bytes)
 unfolding Matches
 form_matches (Indexed Static) bytes = indexed_matches bytes
 form_matches (Indexed Dynamic) bytes = inl refl
@@ -198,7 +205,7 @@ form_matches PostBaseNameReference bytes = inl refl
 form_matches LiteralName bytes = name_matches bytes
 
 line_matches : (bytes : List ℕ) → Matches (octet_line_at bytes) (line_at bytes)
-unfolding Matches octet_line_at line_at
+unfolding Matches line_in
 line_matches [] = inl refl
 line_matches (b ∷ bs) = form_matches (representation_of b) (b ∷ bs)
 
@@ -231,6 +238,12 @@ read_back (Err f) texts (inr m) line e = cc (m, e)
 
 pub line_octets : (bytes rest : List ℕ) (line : Field) → line_at bytes ≡ Ok (line, rest) → Read (octet_line_at bytes) line rest
 line_octets bytes rest line e = read_back (octet_line_at bytes) (line_at bytes) (line_matches bytes) (line, rest) e
+
+pub line_utf8 : (bytes rest : List ℕ) (line : Field) → line_at bytes ≡ Ok (line, rest) → IsUtf8 line.0 × IsUtf8 line.1
+line_utf8 bytes rest line e =
+    let read = line_octets bytes rest line e in
+    let both : (is_utf8 line.0 && is_utf8 line.1) ≡ true = read.texts in
+    (IsUtf8-from_is_utf8 line.0 (and_left (is_utf8 line.0) (is_utf8 line.1) both), IsUtf8-from_is_utf8 line.1 (and_right (is_utf8 line.0) (is_utf8 line.1) both))
 
 -- ---- the laws of sections
 
@@ -279,7 +292,7 @@ map_line_fault section lines rest fields f prefix are good some e =
     ]
 
 some_line : (rest behind : List ℕ) (line : Field) → octet_line_at rest ≡ Ok (line, behind) → 0 < length rest
-unfolding octet_line_at
+unfolding line_in
 some_line [] behind line e = cc e
 some_line (b ∷ bs) behind line e = omega arith
 

@@ -1,5 +1,5 @@
 -- What was written is read again.
-use Rattle.std.proofs.Common.{◌≡◌, ℕ, ◌+◌, ◌-◌, ◌*◌, ◌/◌, ◌%◌, ◌^◌, ◌==◌, ◌<◌, inl, inr, Bool, true, false, cond, nat_lt, List, [], ◌∷◌, ◌++◌, length, refl, sym, ◌∙◌, ap, arith, append_assoc, Option, Some, None, Ok, IsUtf8, eq-eqb, ne_eqb}
+use Rattle.std.proofs.Common.{◌≡◌, ℕ, ◌+◌, ◌-◌, ◌*◌, ◌/◌, ◌%◌, ◌^◌, ◌==◌, ◌<◌, inl, inr, Bool, true, false, cond, nat_lt, List, [], ◌∷◌, ◌++◌, length, refl, sym, ◌∙◌, ap, arith, append_assoc, Option, Some, None, Ok, Result, eq-eqb, ne_eqb}
 use Rattle.std.specs.Str.{bytes_eq}
 use Rattle.std.specs.List.{flat_map}
 use Rattle.std.proofs.lemmas.Bool.{cases_lt, lt-ltb, le-ltb}
@@ -11,11 +11,15 @@ use Rattle.wtp_huffman.specs.Huffman.{IsBytes}
 use Rattle.wtp_qpack.specs.declared.qpack.field_line.Table.TheVariants.{Static}
 use Rattle.wtp_qpack.specs.declared.qpack.field_line.Representation.{Representation}
 use Rattle.wtp_qpack.specs.declared.qpack.field_line.Representation.TheVariants.{Indexed, NameReference, LiteralName}
-use Rattle.wtp_qpack.specs.Field.{Field, IsText, AreTexts, field_map}
+use Rattle.wtp_qpack.specs.declared.qpack.DecodingError.{DecodingError}
+use Rattle.wtp_qpack.specs.declared.qpack.string_literal.Texts.{Texts}
+use Rattle.wtp_qpack.specs.declared.qpack.string_literal.Texts.TheVariants.{Octets, Utf8}
+use Rattle.wtp_qpack.specs.Field.{Field, IsText, AreTexts, IsOctets, AreOctets, field_map}
 use Rattle.wtp_qpack.specs.Integer.{integer_at, shortest_groups, shortest_int}
 use Rattle.wtp_qpack.specs.StaticTable.{entry_at, first_entry}
-use Rattle.wtp_qpack.specs.StringLiteral.{flag_above, body_text, utf8_text, string_at, huffman_bytes, encoded_string}
-use Rattle.wtp_qpack.specs.FieldLine.{representation_of, indexed_at, name_reference_at, literal_name_at, line_by, line_at, encoded_line}
+use Rattle.wtp_qpack.specs.StringLiteral.{flag_above, utf8_text, checked, text_of, string_by, string_in, huffman_bytes, encoded_string}
+use Rattle.wtp_qpack.specs.FieldLine.{representation_of, indexed_at, name_reference_in, literal_name_in, line_by, line_in, line_at, encoded_line}
+use Rattle.wtp_qpack.specs.FieldLines.{octet_line_at, AreOctetLines}
 use Rattle.wtp_qpack.specs.FieldSection.{after_prefix, AreLines, section_at, map_at, section_of}
 use Rattle.wtp_qpack.proofs.IntegerLaws.{int_read, short_int}
 use Rattle.wtp_qpack.proofs.StaticLemmas.{same_bytes, first_found}
@@ -24,7 +28,7 @@ use Rattle.wtp_qpack.proofs.StringWriting.{text_bytes, huffman_is}
 use Rattle.wtp_qpack.proofs.SectionReading.{lines_read}
 
 -- the first byte
-pub short_head : (n flags v : ℕ) (more : List ℕ) → (low : ℕ) × (low < 2 ^ n) × (rest : List ℕ) × (shortest_int n flags v ++ more ≡ (flags * 2 ^ n + low) ∷ rest)
+short_head : (n flags v : ℕ) (more : List ℕ) → (low : ℕ) × (low < 2 ^ n) × (rest : List ℕ) × (shortest_int n flags v ++ more ≡ (flags * 2 ^ n + low) ∷ rest)
 unfolding shortest_int
 short_head n flags v more = elim (cases_lt v (2 ^ n - 1)) [
   | inl below ↦ (v, omega arith, more, rw (lt-ltb v (2 ^ n - 1) below) refl)
@@ -42,68 +46,77 @@ flag_of n f h v more small =
     let bit : (f * 2 + h) % 2 ≡ h = omega arith in
     rw (head.3, top, bit) refl
 
-string_again : (n f h : ℕ) (body t rest : List ℕ) → h < 2 → length body < 2 ^ 64 → body_text (h == 1) body ≡ Ok t → string_at n ((shortest_int n (f * 2 + h) (length body) ++ body) ++ rest) ≡ Ok (t, rest)
-unfolding string_at
-string_again n f h body t rest small fits given =
+-- however the bytes of the string are read
+string_again : {X : Type 0} (contents : Bool → List ℕ → Result X DecodingError) (n f h : ℕ) (body : List ℕ) (x : X) (rest : List ℕ) → h < 2 → length body < 2 ^ 64 → contents (h == 1) body ≡ Ok x
+    → string_by contents n ((shortest_int n (f * 2 + h) (length body) ++ body) ++ rest) ≡ Ok (x, rest)
+string_again contents n f h body x rest small fits given =
     let s : List ℕ = shortest_int n (f * 2 + h) (length body) in
     let grouped : (s ++ body) ++ rest ≡ s ++ (body ++ rest) = append_assoc s body rest in
     let size : integer_at n (s ++ (body ++ rest)) ≡ Ok (length body, body ++ rest) = int_read n (length body) s (body ++ rest) (short_int n (f * 2 + h) (length body) fits) in
     let enough : nat_lt (length (body ++ rest)) (length body) ≡ false = le-ltb (length (body ++ rest)) (length body) (omega (arith, length-append body rest)) in
     rw (grouped, size, enough, flag_of n f h (length body) (body ++ rest) small, take-append_seam body rest, given, drop-append_seam body rest) refl
 
-raw_again : (t : List ℕ) → IsUtf8 t → body_text false t ≡ Ok t
-unfolding body_text utf8_text
-raw_again t h = rw (is_utf8-from_IsUtf8 t h) refl
+-- bytes that are read again as one of these texts
+pub record IsReadable (texts : Texts) (t : List ℕ) : Type 0 where
+  pub bytes : IsBytes t
+  pub few : length t < 2 ^ 64
+  pub is : checked texts t ≡ Ok t
 
-coded_again : (t : List ℕ) → IsBytes t → IsUtf8 t → body_text true (huffman_bytes t) ≡ Ok t
-unfolding body_text utf8_text
-coded_again t are h = rw (huffman_only t (huffman_bytes t) (huffman_is t are), is_utf8-from_IsUtf8 t h) refl
+pub text_readable : (t : List ℕ) → IsText t → IsReadable Utf8 t
+unfolding utf8_text
+text_readable t text = record { bytes = text_bytes t text.utf8; few = text.few; is = rw (is_utf8-from_IsUtf8 t text.utf8) refl }
 
-pub text_again : (n f : ℕ) (t rest : List ℕ) → IsText t → string_at n (encoded_string n f t ++ rest) ≡ Ok (t, rest)
-unfolding encoded_string
-text_again n f t rest text = elim (cases_lt (length (huffman_bytes t)) (length t)) [
-  | inl less ↦ rw (lt-ltb (length (huffman_bytes t)) (length t) less) (string_again n f 1 (huffman_bytes t) t rest (omega arith) (omega (arith, text.few)) (coded_again t (text_bytes t text.utf8) text.utf8))
+pub octets_readable : (t : List ℕ) → IsOctets t → IsReadable Octets t
+octets_readable t are = record { bytes = are.bytes; few = are.few; is = refl }
+
+coded_again : (texts : Texts) (t : List ℕ) → IsReadable texts t → text_of texts true (huffman_bytes t) ≡ Ok t
+coded_again texts t readable = rw (huffman_only t (huffman_bytes t) (huffman_is t readable.bytes)) readable.is
+
+text_again : (texts : Texts) (n f : ℕ) (t rest : List ℕ) → IsReadable texts t → string_in texts n (encoded_string n f t ++ rest) ≡ Ok (t, rest)
+unfolding encoded_string string_in
+text_again texts n f t rest readable = elim (cases_lt (length (huffman_bytes t)) (length t)) [
+  | inl less ↦ rw (lt-ltb (length (huffman_bytes t)) (length t) less) (string_again (text_of texts) n f 1 (huffman_bytes t) t rest (omega arith) (omega (arith, readable.few)) (coded_again texts t readable))
   | inr more ↦
       let zeros : f * 2 ≡ f * 2 + 0 = omega arith in
-      rw (le-ltb (length (huffman_bytes t)) (length t) more, zeros) (string_again n f 0 t t rest (omega arith) text.few (raw_again t text.utf8))
+      rw (le-ltb (length (huffman_bytes t)) (length t) more, zeros) (string_again (text_of texts) n f 0 t t rest (omega arith) readable.few readable.is)
 ]
 
 -- ---- lines
 
 -- a line by its first byte
-line_as : (text rest : List ℕ) (b : ℕ) (r : Representation) → text ≡ b ∷ rest → representation_of b ≡ r → line_at text ≡ line_by r text
-unfolding line_at
-line_as text rest b r e form = ap line_at e ∙ ap (λ z. line_by z (b ∷ rest)) form ∙ ap (line_by r) (sym e)
+line_as : (texts : Texts) (text rest : List ℕ) (b : ℕ) (r : Representation) → text ≡ b ∷ rest → representation_of b ≡ r → line_in texts text ≡ line_by texts r text
+unfolding line_in
+line_as texts text rest b r e form = ap (line_in texts) e ∙ ap (λ z. line_by texts z (b ∷ rest)) form ∙ ap (line_by texts r) (sym e)
 
-pub indexed_form : (low b : ℕ) → low < 2 ^ 6 → b ≡ 3 * 2 ^ 6 + low → representation_of b ≡ Indexed Static
+indexed_form : (low b : ℕ) → low < 2 ^ 6 → b ≡ 3 * 2 ^ 6 + low → representation_of b ≡ Indexed Static
 indexed_form low b small e = rw (eq-eqb (b / 2 ^ 7 % 2) 1 (omega arith), eq-eqb (b / 2 ^ 6 % 2) 1 (omega arith)) refl
 
-pub name_form : (low b : ℕ) → low < 2 ^ 4 → b ≡ 5 * 2 ^ 4 + low → representation_of b ≡ NameReference Static
+name_form : (low b : ℕ) → low < 2 ^ 4 → b ≡ 5 * 2 ^ 4 + low → representation_of b ≡ NameReference Static
 name_form low b small e = rw (ne_eqb (b / 2 ^ 7 % 2) 1 (omega arith), eq-eqb (b / 2 ^ 6 % 2) 1 (omega arith), eq-eqb (b / 2 ^ 4 % 2) 1 (omega arith)) refl
 
-pub literal_form : (h low b : ℕ) → h < 2 → low < 2 ^ 3 → b ≡ (2 * 2 + h) * 2 ^ 3 + low → representation_of b ≡ LiteralName
+literal_form : (h low b : ℕ) → h < 2 → low < 2 ^ 3 → b ≡ (2 * 2 + h) * 2 ^ 3 + low → representation_of b ≡ LiteralName
 literal_form h low b bit small e = rw (ne_eqb (b / 2 ^ 7 % 2) 1 (omega arith), ne_eqb (b / 2 ^ 6 % 2) 1 (omega arith), eq-eqb (b / 2 ^ 5 % 2) 1 (omega arith)) refl
 
-indexed_again : (k : ℕ) (e : Field) (rest : List ℕ) → entry_at k ≡ Some e → k < 99 → line_at (shortest_int 6 3 k ++ rest) ≡ Ok (e, rest)
+indexed_again : (texts : Texts) (k : ℕ) (e : Field) (rest : List ℕ) → entry_at k ≡ Some e → k < 99 → line_in texts (shortest_int 6 3 k ++ rest) ≡ Ok (e, rest)
 unfolding indexed_at
-indexed_again k e rest there small =
+indexed_again texts k e rest there small =
     let head = short_head 6 3 k rest in
     let text : List ℕ = shortest_int 6 3 k ++ rest in
     let size : integer_at 6 text ≡ Ok (k, rest) = int_read 6 k (shortest_int 6 3 k) rest (short_int 6 3 k (omega arith)) in
-    line_as text head.2 (3 * 2 ^ 6 + head.0) (Indexed Static) head.3 (indexed_form head.0 (3 * 2 ^ 6 + head.0) head.1 refl) ∙ rw (size, there) refl
+    line_as texts text head.2 (3 * 2 ^ 6 + head.0) (Indexed Static) head.3 (indexed_form head.0 (3 * 2 ^ 6 + head.0) head.1 refl) ∙ rw (size, there) refl
 
-name_again : (k : ℕ) (e : Field) (v rest : List ℕ) → entry_at k ≡ Some e → k < 99 → IsText v → line_at ((shortest_int 4 5 k ++ encoded_string 7 0 v) ++ rest) ≡ Ok ((e.0, v), rest)
-unfolding name_reference_at
-name_again k e v rest there small text_v =
+name_again : (texts : Texts) (k : ℕ) (e : Field) (v rest : List ℕ) → entry_at k ≡ Some e → k < 99 → IsReadable texts v → line_in texts ((shortest_int 4 5 k ++ encoded_string 7 0 v) ++ rest) ≡ Ok ((e.0, v), rest)
+unfolding name_reference_in
+name_again texts k e v rest there small readable =
     let behind : List ℕ = encoded_string 7 0 v ++ rest in
     let head = short_head 4 5 k behind in
     let text : List ℕ = shortest_int 4 5 k ++ behind in
     let size : integer_at 4 text ≡ Ok (k, behind) = int_read 4 k (shortest_int 4 5 k) behind (short_int 4 5 k (omega arith)) in
-    ap line_at (append_assoc (shortest_int 4 5 k) (encoded_string 7 0 v) rest)
-    ∙ line_as text head.2 (5 * 2 ^ 4 + head.0) (NameReference Static) head.3 (name_form head.0 (5 * 2 ^ 4 + head.0) head.1 refl)
-    ∙ rw (size, there, text_again 7 0 v rest text_v) refl
+    ap (line_in texts) (append_assoc (shortest_int 4 5 k) (encoded_string 7 0 v) rest)
+    ∙ line_as texts text head.2 (5 * 2 ^ 4 + head.0) (NameReference Static) head.3 (name_form head.0 (5 * 2 ^ 4 + head.0) head.1 refl)
+    ∙ rw (size, there, text_again texts 7 0 v rest readable) refl
 
-pub text_head : (n f : ℕ) (t more : List ℕ) → (h : ℕ) × (h < 2) × (low : ℕ) × (low < 2 ^ n) × (rest : List ℕ) × (encoded_string n f t ++ more ≡ ((f * 2 + h) * 2 ^ n + low) ∷ rest)
+text_head : (n f : ℕ) (t more : List ℕ) → (h : ℕ) × (h < 2) × (low : ℕ) × (low < 2 ^ n) × (rest : List ℕ) × (encoded_string n f t ++ more ≡ ((f * 2 + h) * 2 ^ n + low) ∷ rest)
 unfolding encoded_string
 text_head n f t more = elim (cases_lt (length (huffman_bytes t)) (length t)) [
   | inl less ↦
@@ -115,37 +128,44 @@ text_head n f t more = elim (cases_lt (length (huffman_bytes t)) (length t)) [
       (0, omega arith, head.0, head.1, head.2, rw (le-ltb (length (huffman_bytes t)) (length t) many, zeros) (append_assoc (shortest_int n (f * 2) (length t)) t more ∙ head.3))
 ]
 
-literal_again : (field : Field) (rest : List ℕ) → IsText field.0 → IsText field.1 → line_at ((encoded_string 3 2 field.0 ++ encoded_string 7 0 field.1) ++ rest) ≡ Ok (field, rest)
-unfolding literal_name_at
-literal_again field rest text_n text_v =
+literal_again : (texts : Texts) (field : Field) (rest : List ℕ) → IsReadable texts field.0 → IsReadable texts field.1 → line_in texts ((encoded_string 3 2 field.0 ++ encoded_string 7 0 field.1) ++ rest) ≡ Ok (field, rest)
+unfolding literal_name_in
+literal_again texts field rest name value =
     let behind : List ℕ = encoded_string 7 0 field.1 ++ rest in
     let head = text_head 3 2 field.0 behind in
     let text : List ℕ = encoded_string 3 2 field.0 ++ behind in
-    ap line_at (append_assoc (encoded_string 3 2 field.0) (encoded_string 7 0 field.1) rest)
-    ∙ line_as text head.4 ((2 * 2 + head.0) * 2 ^ 3 + head.2) LiteralName head.5 (literal_form head.0 head.2 ((2 * 2 + head.0) * 2 ^ 3 + head.2) head.1 head.3 refl)
-    ∙ rw (text_again 3 2 field.0 behind text_n, text_again 7 0 field.1 rest text_v) refl
+    ap (line_in texts) (append_assoc (encoded_string 3 2 field.0) (encoded_string 7 0 field.1) rest)
+    ∙ line_as texts text head.4 ((2 * 2 + head.0) * 2 ^ 3 + head.2) LiteralName head.5 (literal_form head.0 head.2 ((2 * 2 + head.0) * 2 ^ 3 + head.2) head.1 head.3 refl)
+    ∙ rw (text_again texts 3 2 field.0 behind name, text_again texts 7 0 field.1 rest value) refl
 
-pub line_again : (field : Field) (rest : List ℕ) → IsText field.0 → IsText field.1 → line_at (encoded_line field ++ rest) ≡ Ok (field, rest)
+line_again : (texts : Texts) (field : Field) (rest : List ℕ) → IsReadable texts field.0 → IsReadable texts field.1 → line_in texts (encoded_line field ++ rest) ≡ Ok (field, rest)
 unfolding encoded_line
-line_again field rest text_n text_v = by_first (first_entry field.0) refl
+line_again texts field rest name value = by_first (first_entry field.0) refl
   where
-    by_value : (k : ℕ) (e : Field) → entry_at k ≡ Some e → e.0 ≡ field.0 → k < 99 → (b : Bool) → bytes_eq e.1 field.1 ≡ b → line_at (cond b (shortest_int 6 3 k) (shortest_int 4 5 k ++ encoded_string 7 0 field.1) ++ rest) ≡ Ok (field, rest)
-    by_value k e there name small true same =
-        let value : e.1 ≡ field.1 = same_bytes e.1 field.1 same in
-        indexed_again k e rest there small ∙ ap (λ (z : Field). Ok (z, rest)) (ap (λ n. (n, e.1)) name ∙ ap (λ v. (field.0, v)) value)
-    by_value k e there name small false other = name_again k e field.1 rest there small text_v ∙ ap (λ n. Ok ((n, field.1), rest)) name
+    by_value : (k : ℕ) (e : Field) → entry_at k ≡ Some e → e.0 ≡ field.0 → k < 99 → (b : Bool) → bytes_eq e.1 field.1 ≡ b
+        → line_in texts (cond b (shortest_int 6 3 k) (shortest_int 4 5 k ++ encoded_string 7 0 field.1) ++ rest) ≡ Ok (field, rest)
+    by_value k e there named small true same =
+        let equal : e.1 ≡ field.1 = same_bytes e.1 field.1 same in
+        indexed_again texts k e rest there small ∙ ap (λ (z : Field). Ok (z, rest)) (ap (λ n. (n, e.1)) named ∙ ap (λ v. (field.0, v)) equal)
+    by_value k e there named small false other = name_again texts k e field.1 rest there small value ∙ ap (λ n. Ok ((n, field.1), rest)) named
 
-    by_first : (o : Option ℕ) → first_entry field.0 ≡ o → line_at (encoded_line field ++ rest) ≡ Ok (field, rest)
-    by_first None none = rw none (literal_again field rest text_n text_v)
+    by_first : (o : Option ℕ) → first_entry field.0 ≡ o → line_in texts (encoded_line field ++ rest) ≡ Ok (field, rest)
+    by_first None none = rw none (literal_again texts field rest name value)
     by_first (Some k) some =
         let e = first_found field.0 k some in
         rw (some, e.1) (by_value k e.0 e.1 e.2 e.3 (bytes_eq e.0.1 field.1) refl)
+
+pub text_line_again : (field : Field) (rest : List ℕ) → IsText field.0 → IsText field.1 → line_at (encoded_line field ++ rest) ≡ Ok (field, rest)
+text_line_again field rest name value = line_again Utf8 field rest (text_readable field.0 name) (text_readable field.1 value)
+
+pub octet_line_again : (field : Field) (rest : List ℕ) → IsOctets field.0 → IsOctets field.1 → octet_line_at (encoded_line field ++ rest) ≡ Ok (field, rest)
+octet_line_again field rest name value = line_again Octets field rest (octets_readable field.0 name) (octets_readable field.1 value)
 
 -- ---- sections
 
 lines_again : (fields : List Field) → AreTexts fields → AreLines (flat_map encoded_line fields) fields []
 lines_again [] h = refl
-lines_again (field ∷ fields) (name, value, others) = (flat_map encoded_line fields, line_again field (flat_map encoded_line fields) name value, lines_again fields others)
+lines_again (field ∷ fields) (name, value, others) = (flat_map encoded_line fields, text_line_again field (flat_map encoded_line fields) name value, lines_again fields others)
 
 pub section_again : (fields : List Field) → AreTexts fields → section_at (section_of fields) ≡ Ok fields
 unfolding section_at section_of after_prefix integer_at
@@ -154,3 +174,11 @@ section_again fields h = lines_read fields (length (flat_map encoded_line fields
 pub map_again : (fields : List Field) → AreTexts fields → map_at (section_of fields) ≡ Ok (field_map fields)
 unfolding map_at
 map_again fields h = rw (section_again fields h) refl
+
+pub octet_lines_again : (fields : List Field) → AreOctets fields → AreOctetLines (flat_map encoded_line fields) fields []
+octet_lines_again [] are = refl
+octet_lines_again (field ∷ fields) (name, value, others) = (flat_map encoded_line fields, octet_line_again field (flat_map encoded_line fields) name value, octet_lines_again fields others)
+
+pub prefix_again : (fields : List Field) → after_prefix (section_of fields) ≡ Ok (flat_map encoded_line fields)
+unfolding section_of after_prefix integer_at
+prefix_again fields = refl

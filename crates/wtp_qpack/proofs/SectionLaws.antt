@@ -1,6 +1,7 @@
 -- The result of reading a section, and the lines one after the other.
 use Rattle.std.proofs.Common.{◌≡◌, ℕ, zero, suc, ◌<◌, ◌≤◌, ◌⊎◌, inl, inr, List, [], ◌∷◌, length, refl, subst, arith, Ok, Err}
 use Rattle.wtp_qpack.specs.declared.qpack.DecodingError.{DecodingError}
+use Rattle.wtp_qpack.specs.declared.qpack.string_literal.Texts.TheVariants.{Utf8}
 use Rattle.wtp_qpack.specs.Field.{Field}
 use Rattle.wtp_qpack.specs.Qpack.{◌>>=◌}
 use Rattle.wtp_qpack.specs.FieldLine.{line_at}
@@ -17,7 +18,7 @@ are_lines zero (b ∷ bs) lines few e = absurd (omega arith)
 are_lines (suc n) (b ∷ bs) lines few e =
     let first = bind_ok (line_at (b ∷ bs)) (λ (line : Field × List ℕ). lines_at n line.1 >>= λ lines. Ok (line.0 ∷ lines)) lines e in
     let later = bind_ok (lines_at n first.0.1) (λ (lines : List Field). Ok (first.0.0 ∷ lines)) lines first.2 in
-    let less : length first.0.1 < length (b ∷ bs) = line_shorter (b ∷ bs) first.0.0 first.0.1 first.1 in
+    let less : length first.0.1 < length (b ∷ bs) = line_shorter Utf8 (b ∷ bs) first.0.0 first.0.1 first.1 in
     let same : first.0.0 ∷ later.0 ≡ lines = cc later.2 in
     subst (λ z. AreLines (b ∷ bs) z []) same (first.0.1, first.1, are_lines n first.0.1 later.0 (omega arith) later.1)
 
@@ -37,7 +38,7 @@ faulty (suc n) (b ∷ bs) f few e = elim (bind_err (line_at (b ∷ bs)) (λ (lin
   | inl here ↦ record { lines = []; rest = b ∷ bs; are = refl; some = omega arith; fault = here }
   | inr first ↦ elim (bind_err (lines_at n first.0.1) (λ (lines : List Field). Ok (first.0.0 ∷ lines)) f first.2) [
     | inl later ↦
-        let less : length first.0.1 < length (b ∷ bs) = line_shorter (b ∷ bs) first.0.0 first.0.1 first.1 in
+        let less : length first.0.1 < length (b ∷ bs) = line_shorter Utf8 (b ∷ bs) first.0.0 first.0.1 first.1 in
         let there = faulty n first.0.1 f (omega arith) later in
         record { lines = first.0.0 ∷ there.lines; rest = there.rest; are = (first.0.1, first.1, there.are); some = there.some; fault = there.fault }
     | inr good ↦ cc good.2

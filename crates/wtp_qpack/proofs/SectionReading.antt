@@ -11,16 +11,17 @@ use Rattle.wtp_qpack.specs.declared.qpack.DecodingError.TheVariants.{Memory}
 use Rattle.wtp_qpack.specs.declared.qpack.field_line.Table.TheVariants.{Static, Dynamic}
 use Rattle.wtp_qpack.specs.declared.qpack.field_line.Representation.{Representation}
 use Rattle.wtp_qpack.specs.declared.qpack.field_line.Representation.TheVariants.{Indexed, IndexedPostBase, NameReference, PostBaseNameReference, LiteralName}
+use Rattle.wtp_qpack.specs.declared.qpack.string_literal.Texts.{Texts}
+use Rattle.wtp_qpack.specs.declared.qpack.string_literal.Texts.TheVariants.{Utf8}
 use Rattle.wtp_qpack.specs.Field.{Field, field_of, put, field_map}
 use Rattle.wtp_qpack.specs.Qpack.{GivesUnlessMemory, ◌>>=◌}
 use Rattle.wtp_qpack.specs.Integer.{integer_at}
 use Rattle.wtp_qpack.specs.StaticTable.{entry_at}
-use Rattle.wtp_qpack.specs.StringLiteral.{string_at}
-use Rattle.wtp_qpack.specs.FieldLine.{Strings, Lines, representation_of, or_not_found, indexed_at, name_reference_by, name_reference_at, literal_name_by, literal_name_at, line_from, line_at}
-use Rattle.wtp_qpack.specs.FieldLines.{octets_at, octet_reference_at, octet_name_at, octet_line_at}
+use Rattle.wtp_qpack.specs.StringLiteral.{string_in}
+use Rattle.wtp_qpack.specs.FieldLine.{representation_of, or_not_found, indexed_at, name_reference_in, literal_name_in, line_by, line_in, line_at}
 use Rattle.wtp_qpack.specs.FieldSection.{after_prefix, AreLines, lines_at, section_at, map_at}
 use Rattle.wtp_qpack.proofs.Chosen.{bind_ok, bind_err, same_rest}
-use Rattle.wtp_qpack.proofs.StringReading.{int_shorter, string_shorter, octets_shorter, int_not_memory}
+use Rattle.wtp_qpack.proofs.StringReading.{int_shorter, string_shorter, int_not_memory}
 
 -- ---- a map's entries as fields
 
@@ -46,62 +47,36 @@ indexed_shorter bytes l rest e =
     let behind : k.0.1 ≡ rest = same_rest x.0 l k.0.1 rest x.2 in
     omega (arith, ap length behind, int_shorter 6 bytes k.0.0 k.0.1 k.1)
 
--- however a string is read
-abbrev ShortensStrings : Strings → Type 0
-ShortensStrings string = (n : ℕ) (bytes t rest : List ℕ) → string n bytes ≡ Ok (t, rest) → length rest < length bytes
-
-abbrev ShortensLines : Lines → Type 0
-ShortensLines line = (bytes : List ℕ) (l : Field) (rest : List ℕ) → line bytes ≡ Ok (l, rest) → length rest < length bytes
-
-named_by_shorter : (string : Strings) → ShortensStrings string → (bytes : List ℕ) (l : Field) (rest : List ℕ) → name_reference_by string bytes ≡ Ok (l, rest) → length rest < length bytes
-named_by_shorter string shorter bytes l rest e =
-    let k = bind_ok (integer_at 4 bytes) (λ (k : ℕ × List ℕ). or_not_found (entry_at k.0) >>= λ e. string 7 k.1 >>= λ v. Ok ((e.0, v.0), v.1)) (l, rest) e in
-    let x = bind_ok (or_not_found (entry_at k.0.0)) (λ e. string 7 k.0.1 >>= λ v. Ok ((e.0, v.0), v.1)) (l, rest) k.2 in
-    let v = bind_ok (string 7 k.0.1) (λ v. Ok ((x.0.0, v.0), v.1)) (l, rest) x.2 in
+named_shorter : (texts : Texts) (bytes : List ℕ) (l : Field) (rest : List ℕ) → name_reference_in texts bytes ≡ Ok (l, rest) → length rest < length bytes
+unfolding name_reference_in
+named_shorter texts bytes l rest e =
+    let k = bind_ok (integer_at 4 bytes) (λ (k : ℕ × List ℕ). or_not_found (entry_at k.0) >>= λ e. string_in texts 7 k.1 >>= λ v. Ok ((e.0, v.0), v.1)) (l, rest) e in
+    let x = bind_ok (or_not_found (entry_at k.0.0)) (λ e. string_in texts 7 k.0.1 >>= λ v. Ok ((e.0, v.0), v.1)) (l, rest) k.2 in
+    let v = bind_ok (string_in texts 7 k.0.1) (λ v. Ok ((x.0.0, v.0), v.1)) (l, rest) x.2 in
     let behind : v.0.1 ≡ rest = same_rest (x.0.0, v.0.0) l v.0.1 rest v.2 in
-    omega (arith, ap length behind, int_shorter 4 bytes k.0.0 k.0.1 k.1, shorter 7 k.0.1 v.0.0 v.0.1 v.1)
+    omega (arith, ap length behind, int_shorter 4 bytes k.0.0 k.0.1 k.1, string_shorter texts 7 k.0.1 v.0.0 v.0.1 v.1)
 
-literal_by_shorter : (string : Strings) → ShortensStrings string → (bytes : List ℕ) (l : Field) (rest : List ℕ) → literal_name_by string bytes ≡ Ok (l, rest) → length rest < length bytes
-literal_by_shorter string shorter bytes l rest e =
-    let n = bind_ok (string 3 bytes) (λ (n : List ℕ × List ℕ). string 7 n.1 >>= λ v. Ok ((n.0, v.0), v.1)) (l, rest) e in
-    let v = bind_ok (string 7 n.0.1) (λ v. Ok ((n.0.0, v.0), v.1)) (l, rest) n.2 in
+literal_shorter : (texts : Texts) (bytes : List ℕ) (l : Field) (rest : List ℕ) → literal_name_in texts bytes ≡ Ok (l, rest) → length rest < length bytes
+unfolding literal_name_in
+literal_shorter texts bytes l rest e =
+    let n = bind_ok (string_in texts 3 bytes) (λ (n : List ℕ × List ℕ). string_in texts 7 n.1 >>= λ v. Ok ((n.0, v.0), v.1)) (l, rest) e in
+    let v = bind_ok (string_in texts 7 n.0.1) (λ v. Ok ((n.0.0, v.0), v.1)) (l, rest) n.2 in
     let behind : v.0.1 ≡ rest = same_rest (n.0.0, v.0.0) l v.0.1 rest v.2 in
-    omega (arith, ap length behind, shorter 3 bytes n.0.0 n.0.1 n.1, shorter 7 n.0.1 v.0.0 v.0.1 v.1)
+    omega (arith, ap length behind, string_shorter texts 3 bytes n.0.0 n.0.1 n.1, string_shorter texts 7 n.0.1 v.0.0 v.0.1 v.1)
 
-from_shorter : (reference name : Lines) → ShortensLines reference → ShortensLines name → (representation : Representation) (bytes : List ℕ) (line : Field) (rest : List ℕ) → line_from reference name representation bytes ≡ Ok (line, rest) → length rest < length bytes
-from_shorter reference name r n (Indexed Static) bytes line rest e = indexed_shorter bytes line rest e
-from_shorter reference name r n (Indexed Dynamic) bytes line rest e = cc e
-from_shorter reference name r n IndexedPostBase bytes line rest e = cc e
-from_shorter reference name r n (NameReference Static) bytes line rest e = r bytes line rest e
-from_shorter reference name r n (NameReference Dynamic) bytes line rest e = cc e
-from_shorter reference name r n PostBaseNameReference bytes line rest e = cc e
-from_shorter reference name r n LiteralName bytes line rest e = n bytes line rest e
+by_shorter : (texts : Texts) (representation : Representation) (bytes : List ℕ) (line : Field) (rest : List ℕ) → line_by texts representation bytes ≡ Ok (line, rest) → length rest < length bytes
+by_shorter texts (Indexed Static) bytes line rest e = indexed_shorter bytes line rest e
+by_shorter texts (Indexed Dynamic) bytes line rest e = cc e
+by_shorter texts IndexedPostBase bytes line rest e = cc e
+by_shorter texts (NameReference Static) bytes line rest e = named_shorter texts bytes line rest e
+by_shorter texts (NameReference Dynamic) bytes line rest e = cc e
+by_shorter texts PostBaseNameReference bytes line rest e = cc e
+by_shorter texts LiteralName bytes line rest e = literal_shorter texts bytes line rest e
 
-named_shorter : ShortensLines name_reference_at
-unfolding name_reference_at
-named_shorter bytes l rest e = named_by_shorter string_at string_shorter bytes l rest e
-
-literal_shorter : ShortensLines literal_name_at
-unfolding literal_name_at
-literal_shorter bytes l rest e = literal_by_shorter string_at string_shorter bytes l rest e
-
-pub line_shorter : (bytes : List ℕ) (line : Field) (rest : List ℕ) → line_at bytes ≡ Ok (line, rest) → length rest < length bytes
-unfolding line_at
-line_shorter [] line rest e = cc
-line_shorter (b ∷ bs) line rest e = from_shorter name_reference_at literal_name_at named_shorter literal_shorter (representation_of b) (b ∷ bs) line rest e
-
-octet_named_shorter : ShortensLines octet_reference_at
-unfolding octet_reference_at
-octet_named_shorter bytes l rest e = named_by_shorter octets_at octets_shorter bytes l rest e
-
-octet_literal_shorter : ShortensLines octet_name_at
-unfolding octet_name_at
-octet_literal_shorter bytes l rest e = literal_by_shorter octets_at octets_shorter bytes l rest e
-
-pub octet_line_shorter : (bytes : List ℕ) (line : Field) (rest : List ℕ) → octet_line_at bytes ≡ Ok (line, rest) → length rest < length bytes
-unfolding octet_line_at
-octet_line_shorter [] line rest e = cc
-octet_line_shorter (b ∷ bs) line rest e = from_shorter octet_reference_at octet_name_at octet_named_shorter octet_literal_shorter (representation_of b) (b ∷ bs) line rest e
+pub line_shorter : (texts : Texts) (bytes : List ℕ) (line : Field) (rest : List ℕ) → line_in texts bytes ≡ Ok (line, rest) → length rest < length bytes
+unfolding line_in
+line_shorter texts [] line rest e = cc
+line_shorter texts (b ∷ bs) line rest e = by_shorter texts (representation_of b) (b ∷ bs) line rest e
 
 -- ---- lines, one after the other
 
@@ -114,14 +89,14 @@ unfolding field_map
 map_push ls l = fold-append put [] ls (l ∷ [])
 
 pub lines_read : (ls : List Field) (n : ℕ) (body : List ℕ) → length body ≤ n → AreLines body ls [] → lines_at n body ≡ Ok ls
-unfolding lines_at line_at
+unfolding lines_at line_in
 lines_read [] n body few e = rw e refl
 lines_read (l ∷ ls) n [] few (middle, e, more) = cc e
 lines_read (l ∷ ls) zero (b ∷ bs) few run = absurd (omega arith)
-lines_read (l ∷ ls) (suc n) (b ∷ bs) few (middle, e, more) = rw (e, lines_read ls n middle (omega (arith, line_shorter (b ∷ bs) l middle e)) more) refl
+lines_read (l ∷ ls) (suc n) (b ∷ bs) few (middle, e, more) = rw (e, lines_read ls n middle (omega (arith, line_shorter Utf8 (b ∷ bs) l middle e)) more) refl
 
 no_line : (ls : List Field) (rest : List ℕ) → AreLines [] ls rest → 0 < length rest → ⊥
-unfolding line_at
+unfolding line_in
 no_line [] rest same some = omega (arith, ap length same)
 no_line (l ∷ ls) rest (middle, first, more) some = cc first
 
@@ -133,7 +108,7 @@ lines_fault [] (suc n) (b ∷ bs) rest f few same some e =
     let first : line_at (b ∷ bs) ≡ Err f = rw same e in
     rw first refl
 lines_fault (l ∷ ls) (suc n) (b ∷ bs) rest f few (middle, first, more) some e =
-    rw (first, lines_fault ls n middle rest f (omega (arith, line_shorter (b ∷ bs) l middle first)) more some e) refl
+    rw (first, lines_fault ls n middle rest f (omega (arith, line_shorter Utf8 (b ∷ bs) l middle first)) more some e) refl
 
 pub map_found : (bytes body : List ℕ) (ls : List Field) → after_prefix bytes ≡ Ok body → AreLines body ls [] → map_at bytes ≡ Ok (field_map ls)
 unfolding map_at section_at

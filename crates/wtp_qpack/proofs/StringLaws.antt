@@ -8,11 +8,12 @@ use Rattle.std.proofs.lemmas.List.{length-append, take-append-drop}
 use Rattle.std.proofs.Math.Seq.{drop-append_seam, take-append_seam}
 use Rattle.wtp_qpack.specs.declared.qpack.DecodingError.{DecodingError}
 use Rattle.wtp_qpack.specs.declared.qpack.DecodingError.TheVariants.{UnexpectedFin, InvalidString}
+use Rattle.wtp_qpack.specs.declared.qpack.string_literal.Texts.TheVariants.{Utf8}
 use Rattle.wtp_huffman.specs.Huffman.{IsHuffman}
 use Rattle.wtp_qpack.specs.Field.{IsText}
 use Rattle.wtp_qpack.specs.Qpack.{◌>>=◌}
 use Rattle.wtp_qpack.specs.Integer.{IsInt, integer_at, shortest_int}
-use Rattle.wtp_qpack.specs.StringLiteral.{flag_above, IsString, or_invalid, huffman_text, utf8_text, body_text, string_at, huffman_bytes, encoded_string}
+use Rattle.wtp_qpack.specs.StringLiteral.{flag_above, IsString, or_invalid, huffman_text, utf8_text, checked, text_of, string_in, string_at, huffman_bytes, encoded_string}
 use Rattle.wtp_huffman.proofs.Chosen.{chosen}
 use Rattle.wtp_qpack.proofs.Chosen.{bind_ok, bind_err, same_value, same_rest}
 use Rattle.wtp_qpack.proofs.IntegerLaws.{int_read, int_found, short_int}
@@ -22,8 +23,8 @@ use Rattle.wtp_qpack.proofs.RoundTrip.{flag_of}
 
 -- ---- the text of the bytes
 
-content_is : (b : Bool) (t body : List ℕ) → MatchBool b (IsHuffman t body) (t ≡ body) → IsUtf8 t → body_text b body ≡ Ok t
-unfolding body_text utf8_text
+content_is : (b : Bool) (t body : List ℕ) → MatchBool b (IsHuffman t body) (t ≡ body) → IsUtf8 t → text_of Utf8 b body ≡ Ok t
+unfolding utf8_text
 content_is true t body h good = rw (huffman_only t body h, is_utf8-from_IsUtf8 t good) refl
 content_is false t body h good = rw (← h, is_utf8-from_IsUtf8 t good) refl
 
@@ -40,10 +41,9 @@ some_text : (o : Option (List ℕ)) (t : List ℕ) → or_invalid o ≡ Ok t →
 some_text None t e = cc e
 some_text (Some u) t e = cc e
 
-content_found : (b : Bool) (t body : List ℕ) → body_text b body ≡ Ok t → MatchBool b (IsHuffman t body) (t ≡ body) × IsUtf8 t
-unfolding body_text
+content_found : (b : Bool) (t body : List ℕ) → text_of Utf8 b body ≡ Ok t → MatchBool b (IsHuffman t body) (t ≡ body) × IsUtf8 t
 content_found true t body e =
-    let decoded = bind_ok (or_invalid (huffman_text body)) utf8_text t e in
+    let decoded = bind_ok (or_invalid (huffman_text body)) (checked Utf8) t e in
     let good = utf8_found decoded.0 t decoded.2 in
     (huffman_found t body (some_text (huffman_text body) t (decoded.1 ∙ ap Ok good.0)), good.1)
 content_found false t body e =
@@ -61,9 +61,8 @@ none_text : (o : Option (List ℕ)) (e : DecodingError) → or_invalid o ≡ Err
 none_text None e h = cc h
 none_text (Some u) e h = cc h
 
-content_fault : (b : Bool) (body : List ℕ) (e : DecodingError) → body_text b body ≡ Err e → e ≡ InvalidString
-unfolding body_text
-content_fault true body f e = elim (bind_err (or_invalid (huffman_text body)) utf8_text f e) [
+content_fault : (b : Bool) (body : List ℕ) (e : DecodingError) → text_of Utf8 b body ≡ Err e → e ≡ InvalidString
+content_fault true body f e = elim (bind_err (or_invalid (huffman_text body)) (checked Utf8) f e) [
   | inl bad ↦ none_text (huffman_text body) f bad
   | inr decoded ↦ utf8_fault decoded.0 f decoded.2
 ]
@@ -78,8 +77,8 @@ flag_front n v (b ∷ bs) more h = refl
 
 -- a complete string is read by its content
 whole_read : (n : ℕ) (size body rest : List ℕ) → IsInt n (length body) size
-    → string_at n ((size ++ body) ++ rest) ≡ (body_text (flag_above n size) body >>= λ text. Ok (text, rest))
-unfolding string_at
+    → string_at n ((size ++ body) ++ rest) ≡ (text_of Utf8 (flag_above n size) body >>= λ text. Ok (text, rest))
+unfolding string_in
 whole_read n size body rest is =
     let grouped : (size ++ body) ++ rest ≡ size ++ (body ++ rest) = append_assoc size body rest in
     let read : integer_at n (size ++ (body ++ rest)) ≡ Ok (length body, body ++ rest) = int_read n (length body) size (body ++ rest) is in
@@ -96,18 +95,18 @@ record Parts (n : ℕ) (bytes t rest : List ℕ) : Type 0 where
   behind : List ℕ
   size : integer_at n bytes ≡ Ok (count, behind)
   enough : count ≤ length behind
-  text : body_text (flag_above n bytes) (take count behind) ≡ Ok t
+  text : text_of Utf8 (flag_above n bytes) (take count behind) ≡ Ok t
   left : drop count behind ≡ rest
 
 parts_of : (n : ℕ) (bytes t rest : List ℕ) → string_at n bytes ≡ Ok (t, rest) → Parts n bytes t rest
-unfolding string_at
+unfolding string_in
 parts_of n bytes t rest e =
-    let size = bind_ok (integer_at n bytes) (λ (m : ℕ × List ℕ). cond (nat_lt (length m.1) m.0) (Err UnexpectedFin) (body_text (flag_above n bytes) (take m.0 m.1) >>= λ t. Ok (t, drop m.0 m.1))) (t, rest) e in
+    let size = bind_ok (integer_at n bytes) (λ (m : ℕ × List ℕ). cond (nat_lt (length m.1) m.0) (Err UnexpectedFin) (text_of Utf8 (flag_above n bytes) (take m.0 m.1) >>= λ t. Ok (t, drop m.0 m.1))) (t, rest) e in
     let m : ℕ × List ℕ = size.0 in
-    elim (chosen (nat_lt (length m.1) m.0) (Err UnexpectedFin) (body_text (flag_above n bytes) (take m.0 m.1) >>= λ t. Ok (t, drop m.0 m.1)) (Ok (t, rest)) size.2) [
+    elim (chosen (nat_lt (length m.1) m.0) (Err UnexpectedFin) (text_of Utf8 (flag_above n bytes) (take m.0 m.1) >>= λ t. Ok (t, drop m.0 m.1)) (Ok (t, rest)) size.2) [
       | inl few ↦ cc few.1
       | inr enough ↦
-          let text = bind_ok (body_text (flag_above n bytes) (take m.0 m.1)) (λ t. Ok (t, drop m.0 m.1)) (t, rest) enough.1 in
+          let text = bind_ok (text_of Utf8 (flag_above n bytes) (take m.0 m.1)) (λ t. Ok (t, drop m.0 m.1)) (t, rest) enough.1 in
           record {
             count = m.0;
             behind = m.1;
@@ -125,7 +124,7 @@ string_found n t bytes rest few e =
     let body : List ℕ = take p.count p.behind in
     let long : length body ≡ p.count = length-take-le p.count p.behind p.enough in
     let flag : flag_above n bytes ≡ flag_above n size.0 = ap (flag_above n) size.2 ∙ flag_front n p.count size.0 p.behind size.1 in
-    let text = content_found (flag_above n size.0) t body (ap (λ b. body_text b body) (sym flag) ∙ p.text) in (
+    let text = content_found (flag_above n size.0) t body (ap (λ b. text_of Utf8 b body) (sym flag) ∙ p.text) in (
       size.0 ++ body,
       record {
         size = size.0;
@@ -141,20 +140,20 @@ string_found n t bytes rest few e =
 -- ---- faults
 
 pub string_size_fault : (n : ℕ) (bytes : List ℕ) (e : DecodingError) → integer_at n bytes ≡ Err e → string_at n bytes ≡ Err e
-unfolding string_at
+unfolding string_in
 string_size_fault n bytes e fault = rw fault refl
 
 pub string_short : (n count : ℕ) (size behind : List ℕ) → IsInt n count size → length behind < count → string_at n (size ++ behind) ≡ Err UnexpectedFin
-unfolding string_at
+unfolding string_in
 string_short n count size behind is short = rw (int_read n count size behind is, lt-ltb (length behind) count short) refl
 
 pub string_invalid : (n : ℕ) (size body rest : List ℕ) → IsInt n (length body) size → ((t : List ℕ) → IsString n t (size ++ body) → ⊥) → string_at n ((size ++ body) ++ rest) ≡ Err InvalidString
-string_invalid n size body rest is none = whole_read n size body rest is ∙ by_content (body_text (flag_above n size) body) refl
+string_invalid n size body rest is none = whole_read n size body rest is ∙ by_content (text_of Utf8 (flag_above n size) body) refl
   where
     behind : List ℕ → Result (List ℕ × List ℕ) DecodingError
     behind text = Ok (text, rest)
 
-    by_content : (r : Result (List ℕ) DecodingError) → body_text (flag_above n size) body ≡ r → (r >>= λ text. behind text) ≡ Err InvalidString
+    by_content : (r : Result (List ℕ) DecodingError) → text_of Utf8 (flag_above n size) body ≡ r → (r >>= λ text. behind text) ≡ Err InvalidString
     by_content (Ok t) e =
         let text = content_found (flag_above n size) t body e in
         absurd (none t (record { size = size; body = body; parts = refl; is_size = is; is_text = text.0; utf8 = text.1 }))

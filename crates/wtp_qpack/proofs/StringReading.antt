@@ -1,14 +1,18 @@
 -- The texts of strings.
-use Rattle.std.proofs.Common.{◌≡◌, ℕ, ◌+◌, ◌<◌, ◌≤◌, ◌==◌, nat_lt, nat_le, ◌^◌, ◌/◌, ◌%◌, ◌*◌, ◌-◌, suc, Bool, true, false, cond, inl, inr, List, [], ◌∷◌, length, take, drop, get_or, length-drop, refl, sym, ◌∙◌, ap, arith, pow_mono, Result, Ok, Err, IsUtf8}
-use Rattle.std.proofs.lemmas.Str.{IsUtf8-from_is_utf8, is_utf8-from_IsUtf8}
-use Rattle.std.specs.Str.{is_utf8}
+use Rattle.std.proofs.Common.{◌≡◌, ℕ, ◌+◌, ◌<◌, ◌≤◌, ◌==◌, nat_lt, nat_le, ◌^◌, ◌/◌, ◌%◌, ◌*◌, ◌-◌, suc, Bool, true, false, cond, inl, inr, List, [], ◌∷◌, ◌++◌, length, take, drop, get_or, length-drop, refl, sym, ◌∙◌, ap, arith, pow_mono, Result, Ok, Err, IsUtf8}
+use Rattle.std.proofs.lemmas.Str.{IsUtf8-from_is_utf8, IsUtf8-from_ascii, is_utf8-from_IsUtf8}
+use Rattle.std.specs.Str.{is_utf8, IsAscii}
 use Rattle.wtp_qpack.specs.declared.qpack.DecodingError.{DecodingError}
 use Rattle.wtp_qpack.specs.declared.qpack.DecodingError.TheVariants.{UnexpectedFin, IntegerOverflow, InvalidString, Memory}
-use Rattle.wtp_qpack.specs.Qpack.{◌>>=◌}
+use Rattle.wtp_huffman.specs.Huffman.{IsHuffman}
+use Rattle.wtp_qpack.specs.Qpack.{Gives, GivesUnlessMemory, ◌>>=◌}
 use Rattle.wtp_qpack.specs.Integer.{groups_at, integer_at}
-use Rattle.wtp_qpack.specs.FieldLines.{octets, octets_at}
-use Rattle.wtp_qpack.specs.StringLiteral.{utf8_text, body_text, flag_above, string_by, string_at}
+use Rattle.wtp_qpack.specs.declared.qpack.string_literal.Texts.{Texts}
+use Rattle.wtp_qpack.specs.declared.qpack.string_literal.Texts.TheVariants.{Octets, Utf8}
+use Rattle.wtp_qpack.specs.StringLiteral.{utf8_text, checked, text_of, flag_above, string_by, string_in}
+use Rattle.std.proofs.Transfers.{drop-appended}
 use Rattle.wtp_huffman.proofs.Chosen.{chosen}
+use Rattle.wtp_qpack.proofs.StringBits.{huffman_only}
 use Rattle.wtp_qpack.proofs.Chosen.{bind_ok, same_rest}
 
 not_test : (bs : List ℕ) → (IsUtf8 bs → ⊥) → is_utf8 bs ≡ false
@@ -25,6 +29,23 @@ text_good bs t e good = rw (is_utf8-from_IsUtf8 bs good) (ap Ok (sym e))
 pub text_bad : (bs : List ℕ) → (IsUtf8 bs → ⊥) → utf8_text bs ≡ Err InvalidString
 unfolding utf8_text
 text_bad bs bad = rw (not_test bs bad) refl
+
+pub ascii_good : (texts : Texts) (t : List ℕ) → IsAscii t → checked texts t ≡ Ok t
+ascii_good Octets t all = refl
+ascii_good Utf8 t all = text_good t t refl (IsUtf8-from_ascii t all)
+
+-- ---- a decoded text, which was appended
+
+pub ascii_decoded : (texts : Texts) (body old new text : List ℕ) → IsHuffman text body → new ≡ old ++ text → IsAscii text → text_of texts true body ≡ Ok (drop (length old) new)
+ascii_decoded texts body old new text is e all = rw (huffman_only text body is) (ascii_good texts text all ∙ ap Ok (sym (drop-appended _ _ _ e)))
+
+pub checked_decoded : {A : Type 0} (texts : Texts) (body old new text part : List ℕ) (r : Result A DecodingError) → IsHuffman text body → new ≡ old ++ text → part ≡ drop (length old) new
+    → Gives (λ _. part) r (checked texts part) → GivesUnlessMemory (λ _. drop (length old) new) r (text_of texts true body)
+checked_decoded {A} texts body old new text part r is e same read = rw (huffman_only text body is, ← drop-appended old new text e, ← same) (by_result r read)
+  where
+    by_result : (r : Result A DecodingError) → Gives (λ _. part) r (checked texts part) → GivesUnlessMemory (λ _. part) r (checked texts part)
+    by_result (Ok x) given = given
+    by_result (Err f) given = λ other. given
 
 -- ---- the flag above a prefix
 
@@ -60,7 +81,7 @@ int_shorter n (b ∷ bs) v rest e =
     ]
 
 -- however the bytes of the string are read
-pub string_by_shorter : (contents : Bool → List ℕ → Result (List ℕ) DecodingError) (n : ℕ) (bytes t rest : List ℕ) → string_by contents n bytes ≡ Ok (t, rest) → length rest < length bytes
+string_by_shorter : {X : Type 0} (contents : Bool → List ℕ → Result X DecodingError) (n : ℕ) (bytes : List ℕ) (t : X) (rest : List ℕ) → string_by contents n bytes ≡ Ok (t, rest) → length rest < length bytes
 string_by_shorter contents n bytes t rest e =
     let size = bind_ok (integer_at n bytes) (λ (m : ℕ × List ℕ). cond (nat_lt (length m.1) m.0) (Err UnexpectedFin) (contents (flag_above n bytes) (take m.0 m.1) >>= λ t. Ok (t, drop m.0 m.1))) (t, rest) e in
     let m : ℕ × List ℕ = size.0 in
@@ -73,13 +94,9 @@ string_by_shorter contents n bytes t rest e =
           omega (arith, ap length behind, length-drop m.0 m.1)
     ]
 
-pub string_shorter : (n : ℕ) (bytes t rest : List ℕ) → string_at n bytes ≡ Ok (t, rest) → length rest < length bytes
-unfolding string_at
-string_shorter n bytes t rest e = string_by_shorter body_text n bytes t rest e
-
-pub octets_shorter : (n : ℕ) (bytes t rest : List ℕ) → octets_at n bytes ≡ Ok (t, rest) → length rest < length bytes
-unfolding octets_at
-octets_shorter n bytes t rest e = string_by_shorter octets n bytes t rest e
+pub string_shorter : (texts : Texts) (n : ℕ) (bytes t rest : List ℕ) → string_in texts n bytes ≡ Ok (t, rest) → length rest < length bytes
+unfolding string_in
+string_shorter texts n bytes t rest e = string_by_shorter (text_of texts) n bytes t rest e
 
 -- ---- an integer's fault is not a failed allocation
 

@@ -1,12 +1,14 @@
 -- Field lines (RFC 9204, sections 4.5.2 to 4.5.6).
 use Rattle.std.specs.Prelude.{ℕ, ◌/◌, ◌%◌, ◌^◌, ◌==◌, if◌then◌else◌, Bool, true, false, List, []}
-use Rattle.std.specs.Prelude.{◌∷◌, ◌++◌, Option, Some, None, Result, Ok, Err, string_bytes}
+use Rattle.std.specs.Prelude.{◌∷◌, ◌++◌, ◌||◌, take, drop, Option, Some, None, Result, Ok, Err}
+use Rattle.std.specs.Prelude.{string_bytes}
 use Rattle.std.specs.Str.{bytes_eq}
 use Rattle.wtp_qpack.specs.declared.qpack.DecodingError.{DecodingError}
 use Rattle.wtp_qpack.specs.declared.qpack.DecodingError.TheVariants.{UnexpectedFin}
 use Rattle.wtp_qpack.specs.declared.qpack.DecodingError.TheVariants.{DynamicNotSupported}
 use Rattle.wtp_qpack.specs.declared.qpack.DecodingError.TheVariants.{IndexNotfound}
 use Rattle.wtp_qpack.specs.declared.qpack.field_line.Line.{Line}
+use Rattle.wtp_qpack.specs.declared.qpack.field_line.Parts.{Parts}
 use Rattle.wtp_qpack.specs.declared.qpack.field_line.Table.{Table}
 use Rattle.wtp_qpack.specs.declared.qpack.field_line.Table.TheVariants.{Static, Dynamic}
 use Rattle.wtp_qpack.specs.declared.qpack.field_line.Representation.{Representation}
@@ -15,11 +17,13 @@ use Rattle.wtp_qpack.specs.declared.qpack.field_line.Representation.TheVariants.
 use Rattle.wtp_qpack.specs.declared.qpack.field_line.Representation.TheVariants.{NameReference}
 use Rattle.wtp_qpack.specs.declared.qpack.field_line.Representation.TheVariants.{PostBaseNameReference}
 use Rattle.wtp_qpack.specs.declared.qpack.field_line.Representation.TheVariants.{LiteralName}
+use Rattle.wtp_qpack.specs.declared.qpack.string_literal.Texts.{Texts}
+use Rattle.wtp_qpack.specs.declared.qpack.string_literal.Texts.TheVariants.{Utf8}
 use Rattle.wtp_qpack.specs.Field.{Field}
-use Rattle.wtp_qpack.specs.Qpack.{◌>>=◌}
+use Rattle.wtp_qpack.specs.Qpack.{GivesUnlessMemory, ◌>>=◌}
 use Rattle.wtp_qpack.specs.Integer.{integer_at, shortest_int}
 use Rattle.wtp_qpack.specs.StaticTable.{entry_at, first_entry}
-use Rattle.wtp_qpack.specs.StringLiteral.{string_at, encoded_string}
+use Rattle.wtp_qpack.specs.StringLiteral.{string_in, is_coded, text_in, encoded_string}
 
 -- the bit at a position of a byte, the lowest at 0
 abbrev pub bit : ℕ → ℕ → Bool
@@ -41,10 +45,6 @@ by_bits false false true n = LiteralName  -- 001N, section 4.5.6
 abbrev pub representation_of : ℕ → Representation
 representation_of first = by_bits (bit 7 first) (bit 6 first) (bit 5 first) (bit 4 first)
 
--- what was read of a line: the field and the bytes after it
-abbrev pub line_view : Line → Field × List ℕ
-line_view line = ((string_bytes line.name, string_bytes line.value), line.rest.now)
-
 -- ---- reading: the field and the bytes after it, or the first fault
 
 -- the entry of the static table, if there is one
@@ -59,52 +59,84 @@ indexed_at bytes = do
   entry ← or_not_found (entry_at index.0)
   Ok (entry, index.1)
 
--- the string at the start of bytes, with its length in n bits
-abbrev pub Strings : Type 0
-Strings = ℕ → List ℕ → Result (List ℕ × List ℕ) DecodingError
-
 -- the line at the start of bytes
 abbrev pub Lines : Type 0
 Lines = List ℕ → Result (Field × List ℕ) DecodingError
 
 -- an index with prefix 4, the name of the entry; and a value
-abbrev pub name_reference_by : Strings → Lines
-name_reference_by string bytes = do
+unfoldable pub name_reference_in : Texts → Lines
+name_reference_in texts bytes = do
   index ← integer_at 4 bytes
   entry ← or_not_found (entry_at index.0)
-  value ← string 7 index.1
+  value ← string_in texts 7 index.1
   Ok ((entry.0, value.0), value.1)
 
-unfoldable pub name_reference_at : Lines
-name_reference_at bytes = name_reference_by string_at bytes
-
 -- a name and a value
-abbrev pub literal_name_by : Strings → Lines
-literal_name_by string bytes = do
-  name ← string 3 bytes
-  value ← string 7 name.1
+unfoldable pub literal_name_in : Texts → Lines
+literal_name_in texts bytes = do
+  name ← string_in texts 3 bytes
+  value ← string_in texts 7 name.1
   Ok ((name.0, value.0), value.1)
 
-unfoldable pub literal_name_at : Lines
-literal_name_at bytes = literal_name_by string_at bytes
-
 -- a line that needs the dynamic table is refused before more of it is read
-abbrev pub line_from : Lines → Lines → Representation → Lines
-line_from reference name (Indexed Static) bytes = indexed_at bytes
-line_from reference name (Indexed Dynamic) bytes = Err DynamicNotSupported
-line_from reference name IndexedPostBase bytes = Err DynamicNotSupported
-line_from reference name (NameReference Static) bytes = reference bytes
-line_from reference name (NameReference Dynamic) bytes = Err DynamicNotSupported
-line_from reference name PostBaseNameReference bytes = Err DynamicNotSupported
-line_from reference name LiteralName bytes = name bytes
+abbrev pub line_by : Texts → Representation → Lines
+line_by texts (Indexed Static) bytes = indexed_at bytes
+line_by texts (Indexed Dynamic) bytes = Err DynamicNotSupported
+line_by texts IndexedPostBase bytes = Err DynamicNotSupported
+line_by texts (NameReference Static) bytes = name_reference_in texts bytes
+line_by texts (NameReference Dynamic) bytes = Err DynamicNotSupported
+line_by texts PostBaseNameReference bytes = Err DynamicNotSupported
+line_by texts LiteralName bytes = literal_name_in texts bytes
 
-abbrev pub line_by : Representation → Lines
-line_by representation bytes = line_from name_reference_at literal_name_at representation bytes
+-- the line at the start, whose strings are such texts
+unfoldable pub line_in : Texts → Lines
+line_in texts [] = Err UnexpectedFin
+line_in texts (first ∷ bytes) = line_by texts (representation_of first) (first ∷ bytes)
 
 -- the line at the start
-unfoldable pub line_at : List ℕ → Result (Field × List ℕ) DecodingError
-line_at [] = Err UnexpectedFin
-line_at (first ∷ bytes) = line_by (representation_of first) (first ∷ bytes)
+abbrev pub line_at : Lines
+line_at = line_in Utf8
+
+-- ---- lines with Huffman text
+
+-- the value begins after what was read of the line, and is Huffman text
+abbrev pub value_is_coded : {X : Type 0} → Result (X × List ℕ) DecodingError → Bool
+value_is_coded (Ok before) = is_coded 7 before.1
+value_is_coded (Err fault) = false
+
+-- the entry of an index with prefix 4
+abbrev pub named_entry_at : Lines
+named_entry_at bytes = do
+  index ← integer_at 4 bytes
+  entry ← or_not_found (entry_at index.0)
+  Ok (entry, index.1)
+
+-- a line of this representation has Huffman text, before which it has no fault
+abbrev pub has_coded : Texts → Representation → List ℕ → Bool
+has_coded texts (NameReference Static) bytes = value_is_coded (named_entry_at bytes)
+has_coded texts LiteralName bytes = is_coded 3 bytes || value_is_coded (string_in texts 3 bytes)
+has_coded texts _ bytes = false
+
+-- the line at the start has Huffman text, before which it has no fault
+unfoldable pub is_coded_in : Texts → List ℕ → Bool
+is_coded_in texts [] = false
+is_coded_in texts (first ∷ bytes) = has_coded texts (representation_of first) (first ∷ bytes)
+
+-- ---- what was read of a line: the field and the bytes after it
+
+abbrev pub line_view : Line → Field × List ℕ
+line_view line = ((string_bytes line.name, string_bytes line.value), line.rest.now)
+
+-- the same, with the texts that were decoded in this room
+abbrev pub parts_view : List ℕ → Parts → Field × List ℕ
+parts_view room parts = (
+  (text_in (take parts.middle room) parts.name, text_in (drop parts.middle room) parts.value),
+  parts.rest.now,
+)
+
+abbrev pub GivesParts :
+    List ℕ → Result Parts DecodingError → Result (Field × List ℕ) DecodingError → Type 0
+GivesParts room result line = GivesUnlessMemory (parts_view room) result line
 
 -- ---- writing
 

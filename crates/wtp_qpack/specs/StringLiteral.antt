@@ -1,12 +1,16 @@
 -- String literals (RFC 7541, section 5.2; RFC 9204, section 4.1.2).
-use Rattle.std.specs.Prelude.{◌≡◌, ℕ, zero, suc, ◌+◌, ◌*◌, ◌/◌, ◌%◌, ◌^◌, ◌==◌, nat_lt}
+use Rattle.std.specs.Prelude.{◌≡◌, ℕ, zero, suc, ◌+◌, ◌*◌, ◌/◌, ◌%◌, ◌^◌, ◌==◌, ◌<◌, ◌≤◌, nat_lt}
+use Rattle.std.specs.Prelude.{nat_le, IsTrue}
 use Rattle.std.specs.Prelude.{if◌then◌else◌, Bool, true, false, ◌&&◌, List, [], ◌∷◌, ◌++◌, length}
 use Rattle.std.specs.Prelude.{take, drop, slice_index, Option, Some, None, option_map, Result, Ok}
 use Rattle.std.specs.Prelude.{Err, IsUtf8}
 use Rattle.std.specs.Bool.{MatchBool}
+use Rattle.std.specs.Borrow.{Bor}
 use Rattle.std.specs.Str.{is_utf8}
 use Rattle.wtp_qpack.specs.declared.qpack.DecodingError.{DecodingError}
 use Rattle.wtp_qpack.specs.declared.qpack.DecodingError.TheVariants.{UnexpectedFin, InvalidString}
+use Rattle.wtp_qpack.specs.declared.qpack.string_literal.Texts.{Texts}
+use Rattle.wtp_qpack.specs.declared.qpack.string_literal.Texts.TheVariants.{Octets, Utf8}
 use Rattle.wtp_huffman.specs.Huffman.{code, text_code, coded_len, bits_of, IsHuffman}
 use Rattle.wtp_huffman.specs.HuffmanDecoding.{window_of}
 use Rattle.wtp_qpack.specs.Qpack.{◌>>=◌}
@@ -74,23 +78,65 @@ or_invalid (Some t) = Ok t
 unfoldable pub utf8_text : List ℕ → Result (List ℕ) DecodingError
 utf8_text bytes = if is_utf8 bytes then Ok bytes else Err InvalidString
 
+-- the bytes of a string, decoded if they are Huffman text
+abbrev pub octets : Bool → List ℕ → Result (List ℕ) DecodingError
+octets is_huffman body = if is_huffman then or_invalid (huffman_text body) else Ok body
+
+-- the bytes, if they are one of these texts
+abbrev pub checked : Texts → List ℕ → Result (List ℕ) DecodingError
+checked Octets bytes = Ok bytes
+checked Utf8 bytes = utf8_text bytes
+
 -- the text of a string's bytes
-unfoldable pub body_text : Bool → List ℕ → Result (List ℕ) DecodingError
-body_text is_huffman body =
-    if is_huffman then or_invalid (huffman_text body) >>= utf8_text else utf8_text body
+abbrev pub text_of : Texts → Bool → List ℕ → Result (List ℕ) DecodingError
+text_of texts is_huffman body = octets is_huffman body >>= checked texts
 
 -- the string at the start, with its length in n bits, whose bytes are read by their flag H
 abbrev pub string_by :
-    (Bool → List ℕ → Result (List ℕ) DecodingError) → ℕ → List ℕ
-    → Result (List ℕ × List ℕ) DecodingError
+    {X : Type 0} → (Bool → List ℕ → Result X DecodingError) → ℕ → List ℕ
+    → Result (X × List ℕ) DecodingError
 string_by contents n bytes = do
   size ← integer_at n bytes
   if nat_lt (length size.1) size.0 then Err UnexpectedFin else do
     text ← contents (flag_above n bytes) (take size.0 size.1)
     Ok (text, drop size.0 size.1)
 
-unfoldable pub string_at : ℕ → List ℕ → Result (List ℕ × List ℕ) DecodingError
-string_at n bytes = string_by body_text n bytes
+-- the string of one of these texts at the start
+unfoldable pub string_in : Texts → ℕ → List ℕ → Result (List ℕ × List ℕ) DecodingError
+string_in texts n bytes = string_by (text_of texts) n bytes
+
+abbrev pub string_at : ℕ → List ℕ → Result (List ℕ × List ℕ) DecodingError
+string_at = string_in Utf8
+
+-- the same, whose text need not be UTF-8
+abbrev pub octets_at : ℕ → List ℕ → Result (List ℕ × List ℕ) DecodingError
+octets_at = string_in Octets
+
+-- ---- reading into a room: Huffman text is decoded there, any other is where it is
+
+-- what was read of a string's length is a length, and all the bytes that it announces follow
+abbrev pub is_whole : Result (ℕ × List ℕ) DecodingError → Bool
+is_whole (Ok size) = nat_le size.0 (length size.1)
+is_whole (Err fault) = false
+
+-- Huffman text is at the start, with its length in n bits: the flag H is set, and all of it is there
+abbrev pub is_coded : ℕ → List ℕ → Bool
+is_coded n bytes = flag_above n bytes && is_whole (integer_at n bytes)
+
+-- How the memory of a room changes, in bytes: not at all; or, if a text is decoded and the room has
+-- less than `most` bytes, to at least these.
+abbrev pub Grows : Bool → ℕ → ℕ → ℕ → Type 0
+Grows is_coded most before after =
+    (before ≤ after)
+    × (before < after → IsTrue is_coded × (before < most) × (most ≤ after))
+
+-- a text that is where it is, or else the text in the room
+abbrev pub text_in : List ℕ → Option (Bor (List ℕ)) → List ℕ
+text_in room None = room
+text_in room (Some text) = text.now
+
+abbrev pub seen_string : List ℕ → Option (Bor (List ℕ)) × Bor (List ℕ) → List ℕ × List ℕ
+seen_string room string = (text_in room string.0, string.1.now)
 
 -- ---- writing
 

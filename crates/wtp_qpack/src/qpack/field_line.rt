@@ -1,14 +1,21 @@
 //! Field lines (RFC 9204, sections 4.5.2 to 4.5.6).
 
-ghost use Rattle.std.specs.Prelude.{◌≡◌, ◌++◌, ◌<◌, OnOk};
+ghost use Rattle.std.specs.Prelude.{◌≡◌, ℕ, List, length, ◌*◌, ◌≤◌, ◌++◌, ◌<◌, IfOk, OnOk, IsTrue};
+ghost use Rattle.std.specs.Prelude.{Err, IsUtf8, string_bytes};
+ghost use Rattle.std.specs.Vec.{vec_len, vec_capacity};
+ghost use Rattle.wtp_qpack.specs.declared.qpack.DecodingError.TheVariants.{Memory};
 ghost use Rattle.wtp_qpack.specs.Field.{IsText};
 ghost use Rattle.wtp_qpack.specs.Qpack.{Gives, GivesUnlessMemory};
 ghost use Rattle.wtp_qpack.specs.StaticTable.{entry_at};
-ghost use Rattle.wtp_qpack.specs.FieldLine.{bit, table_of, representation_of, line_view};
-ghost use Rattle.wtp_qpack.specs.FieldLine.{or_not_found, indexed_at, name_reference_at};
-ghost use Rattle.wtp_qpack.specs.FieldLine.{literal_name_at, line_by, line_at, has_value};
-ghost use Rattle.wtp_qpack.specs.FieldLine.{encoded_line, line_of};
+ghost use Rattle.wtp_qpack.specs.StringLiteral.{Grows};
+ghost use Rattle.wtp_qpack.specs.FieldLine.{bit, table_of, representation_of, or_not_found};
+ghost use Rattle.wtp_qpack.specs.FieldLine.{indexed_at, name_reference_in, literal_name_in};
+ghost use Rattle.wtp_qpack.specs.FieldLine.{line_by, line_in, line_at, named_entry_at};
+ghost use Rattle.wtp_qpack.specs.FieldLine.{value_is_coded, has_coded, is_coded_in};
+ghost use Rattle.wtp_qpack.specs.FieldLine.{line_view, parts_view, GivesParts};
+ghost use Rattle.wtp_qpack.specs.FieldLine.{has_value, encoded_line, line_of};
 
+use super::string_literal::Texts;
 use super::{DecodingError, integer, static_table, string_literal};
 use std::alloc::{AllocError, Global};
 
@@ -34,6 +41,33 @@ pub enum Representation {
     PostBaseNameReference,
     /// `001N`: a name and a value.
     LiteralName,
+}
+
+/// A line that was read: its texts that are where they are, and the bytes after the line. A text
+/// that is `None` was decoded in a room.
+#[derive(Clone, Copy)]
+pub struct Parts<'a> {
+    /// The name, if it is not in the room.
+    pub name: Option<&'a [u8]>,
+    /// The value, if it is not in the room.
+    pub value: Option<&'a [u8]>,
+    /// Where in the room the value begins, after the name.
+    pub middle: usize,
+    /// The bytes after the line.
+    pub rest: &'a [u8],
+}
+
+impl<'a> Parts<'a> {
+    /// Returns the name and the value, given what was decoded.
+    pub fn texts<'r>(self, room: &'r [u8]) -> (&'r [u8], &'r [u8])
+    where
+        'a: 'r,
+        requires { self.middle ≤ length room.now }
+        ensures { (result.0.now, result.1.now) ≡ (parts_view room.now self.entry).0 }
+    {
+        let (name, value) = room.split_at(self.middle);
+        (self.name.unwrap_or(name), self.value.unwrap_or(value))
+    }
 }
 
 /// A field and the bytes after its line.
@@ -86,7 +120,7 @@ pub fn representation_of(first: u8) -> Representation
 }
 
 /// Returns the static entry of an index.
-pub fn entry(index: u64) -> Result<(&'static str, &'static str), DecodingError>
+fn entry(index: u64) -> Result<(&'static str, &'static str), DecodingError>
     ensures { Gives (λ e. (e.0.now, e.1.now)) result (or_not_found (entry_at index)) }
 {
     match static_table::entry(index) {
@@ -96,63 +130,101 @@ pub fn entry(index: u64) -> Result<(&'static str, &'static str), DecodingError>
 }
 
 /// Reads the field of a static entry.
+#[inline(always)]
 #[tactic(auto, unfolding(crate::specs::FieldLine::indexed_at))]
-fn read_indexed(alloc: Global, bytes: &[u8]) -> Result<Line<'_>, DecodingError>
-    ensures { GivesUnlessMemory line_view result (indexed_at bytes.now) }
+fn read_indexed(bytes: &[u8]) -> Result<Parts<'_>, DecodingError>
+    ensures read { (room : List ℕ) → GivesParts room result (indexed_at bytes.now) }
+    ensures middle { IfOk result (λ parts. parts.middle ≡ 0) }
+    ensures memory { ¬ (result ≡ Err Memory) }
 {
     let (index, rest) = integer::read::<6>(bytes)?;
     let (name, value) = entry(index)?;
-    Ok(Line {
-        name: String::from_str(alloc, name)?,
-        value: String::from_str(alloc, value)?,
+    Ok(Parts {
+        name: Some(name.as_bytes()),
+        value: Some(value.as_bytes()),
+        middle: 0,
         rest,
     })
 }
 
 /// Reads the name of a static entry, and a value.
-#[tactic(auto, unfolding(crate::specs::FieldLine::name_reference_at))]
+#[inline(always)]
+#[tactic(auto, unfolding(crate::specs::FieldLine::name_reference_in))]
 fn read_name_reference<'a>(
-    alloc: Global,
-    scratch: &mut Vec<u8>,
+    room: &mut Vec<u8>,
+    texts: Texts,
     bytes: &'a [u8],
-) -> Result<Line<'a>, DecodingError>
-    ensures { GivesUnlessMemory line_view result (name_reference_at bytes.now) }
+) -> Result<Parts<'a>, DecodingError>
+    requires none { vec_len room.old ≡ 0 }
+    ensures read { GivesParts room.new.items result (name_reference_in texts bytes.now) }
+    ensures middle { IfOk result (λ parts. parts.middle ≡ 0) }
+    ensures once { Grows (value_is_coded (named_entry_at bytes.now)) (length bytes.now * 2)
+        (vec_capacity room.old) (vec_capacity room.new) }
+    ensures memory { result ≡ Err Memory → IsTrue (value_is_coded (named_entry_at bytes.now))
+        × (vec_capacity room.old < length bytes.now * 2) }
 {
     let (index, rest) = integer::read::<4>(bytes)?;
     let (name, _) = entry(index)?;
-    let (value, rest) = string_literal::read::<7>(alloc, scratch, rest)?;
-    let name = String::from_str(alloc, name)?;
-    Ok(Line { name, value, rest })
+    let (value, rest) = string_literal::read::<7>(room, bytes.len() * 2, texts, rest)?;
+    let name = Some(name.as_bytes());
+    Ok(Parts {
+        name,
+        value,
+        middle: 0,
+        rest,
+    })
 }
 
 /// Reads a name and a value.
-#[tactic(auto, unfolding(crate::specs::FieldLine::literal_name_at))]
+#[inline(always)]
+#[tactic(auto, unfolding(crate::specs::FieldLine::literal_name_in))]
 fn read_literal_name<'a>(
-    alloc: Global,
-    scratch: &mut Vec<u8>,
+    room: &mut Vec<u8>,
+    texts: Texts,
     bytes: &'a [u8],
-) -> Result<Line<'a>, DecodingError>
-    ensures { GivesUnlessMemory line_view result (literal_name_at bytes.now) }
+) -> Result<Parts<'a>, DecodingError>
+    requires none { vec_len room.old ≡ 0 }
+    ensures read { GivesParts room.new.items result (literal_name_in texts bytes.now) }
+    ensures middle { IfOk result (λ parts. parts.middle ≤ vec_len room.new) }
+    ensures once { Grows (has_coded texts Representation.LiteralName bytes.now)
+        (length bytes.now * 2) (vec_capacity room.old) (vec_capacity room.new) }
+    ensures memory { result ≡ Err Memory
+        → IsTrue (has_coded texts Representation.LiteralName bytes.now)
+        × (vec_capacity room.old < length bytes.now * 2) }
 {
-    let (name, rest) = string_literal::read::<3>(alloc, scratch, bytes)?;
-    let (value, rest) = string_literal::read::<7>(alloc, scratch, rest)?;
-    Ok(Line { name, value, rest })
+    let most = bytes.len() * 2;
+    let (name, rest) = string_literal::read::<3>(room, most, texts, bytes)?;
+    let middle = room.len();
+    let (value, rest) = string_literal::read::<7>(room, most, texts, rest)?;
+    Ok(Parts {
+        name,
+        value,
+        middle,
+        rest,
+    })
 }
 
 /// Reads the line at the start, of this representation. A line that needs the dynamic table is
 /// refused before more of it is read.
+#[inline(always)]
 fn read_as<'a>(
-    alloc: Global,
-    scratch: &mut Vec<u8>,
+    room: &mut Vec<u8>,
+    texts: Texts,
     representation: Representation,
     bytes: &'a [u8],
-) -> Result<Line<'a>, DecodingError>
-    ensures { GivesUnlessMemory line_view result (line_by representation bytes.now) }
+) -> Result<Parts<'a>, DecodingError>
+    requires none { vec_len room.old ≡ 0 }
+    ensures read { GivesParts room.new.items result (line_by texts representation bytes.now) }
+    ensures middle { IfOk result (λ parts. parts.middle ≤ vec_len room.new) }
+    ensures once { Grows (has_coded texts representation bytes.now) (length bytes.now * 2)
+        (vec_capacity room.old) (vec_capacity room.new) }
+    ensures memory { result ≡ Err Memory → IsTrue (has_coded texts representation bytes.now)
+        × (vec_capacity room.old < length bytes.now * 2) }
 {
     match representation {
-        Representation::Indexed(Table::Static) => read_indexed(alloc, bytes),
-        Representation::NameReference(Table::Static) => read_name_reference(alloc, scratch, bytes),
-        Representation::LiteralName => read_literal_name(alloc, scratch, bytes),
+        Representation::Indexed(Table::Static) => read_indexed(bytes),
+        Representation::NameReference(Table::Static) => read_name_reference(room, texts, bytes),
+        Representation::LiteralName => read_literal_name(room, texts, bytes),
         Representation::Indexed(Table::Dynamic)
         | Representation::NameReference(Table::Dynamic)
         | Representation::IndexedPostBase
@@ -160,18 +232,51 @@ fn read_as<'a>(
     }
 }
 
-/// Reads the line at the start. Huffman text is decoded in `scratch`.
+/// Reads the line at the start. Its Huffman texts are all that `room` contains afterwards.
+// Inlined with all that it calls, so that each caller's code knows its `texts`.
+#[inline(always)]
 pub fn read<'a>(
+    room: &mut Vec<u8>,
+    texts: Texts,
+    bytes: &'a [u8],
+) -> Result<Parts<'a>, DecodingError>
+    ensures read { GivesParts room.new.items result (line_in texts bytes.now) }
+    ensures middle { IfOk result (λ parts. parts.middle ≤ vec_len room.new) }
+    ensures once { Grows (is_coded_in texts bytes.now) (length bytes.now * 2)
+        (vec_capacity room.old) (vec_capacity room.new) }
+    ensures memory { result ≡ Err Memory → IsTrue (is_coded_in texts bytes.now)
+        × (vec_capacity room.old < length bytes.now * 2) }
+{
+    room.clear();
+    match bytes {
+        [] => Err(DecodingError::UnexpectedFin),
+        [first, ..] => read_as(room, texts, representation_of(*first), bytes),
+    }
+}
+
+/// Returns the text as a string of its size.
+fn string_of(alloc: Global, text: &[u8]) -> Result<String, AllocError>
+    requires { IsUtf8 text.now }
+    ensures { IfOk result (λ string. string_bytes string ≡ text.now) }
+{
+    String::from_str(alloc, unsafe { str::from_utf8_unchecked(text) })
+}
+
+/// Reads the line at the start, as strings. Huffman texts are decoded in `room`.
+pub fn read_strings<'a>(
     alloc: Global,
-    scratch: &mut Vec<u8>,
+    room: &mut Vec<u8>,
     bytes: &'a [u8],
 ) -> Result<Line<'a>, DecodingError>
     ensures { GivesUnlessMemory line_view result (line_at bytes.now) }
 {
-    match bytes {
-        [] => Err(DecodingError::UnexpectedFin),
-        [first, ..] => read_as(alloc, scratch, representation_of(*first), bytes),
-    }
+    let parts = read(room, Texts::Utf8, bytes)?;
+    let (name, value) = parts.texts(room.as_slice());
+    Ok(Line {
+        name: string_of(alloc, name)?,
+        value: string_of(alloc, value)?,
+        rest: parts.rest,
+    })
 }
 
 /// Returns whether the static entry of an index has this value.

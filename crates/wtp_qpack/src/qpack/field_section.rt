@@ -43,10 +43,10 @@ pub fn read_lines(alloc: Global, lines: &[u8]) -> Result<BTreeMap<String, String
         × (0 < length rest) × (e ≢ Memory → line_at rest ≡ Err e)) }
 {
     let mut fields = BTreeMap::new(alloc);
-    let mut scratch = Vec::new(alloc);
+    let mut room = Vec::new(alloc);
     let mut rest = lines;
     while !rest.is_empty() {
-        let line = field_line::read(alloc, &mut scratch, rest)?;
+        let line = field_line::read_strings(alloc, &mut room, rest)?;
         fields.insert(line.name, line.value)?;
         rest = line.rest;
     }

@@ -1,82 +1,97 @@
 //! String literals (RFC 7541, section 5.2; RFC 9204, section 4.1.2).
 
-ghost use Rattle.std.specs.Prelude.{◌≡◌, ◌+◌, ◌-◌, ◌*◌, ◌^◌, ◌<◌, ◌≤◌, ◌++◌, length, string_bytes};
-ghost use Rattle.std.specs.Prelude.{IfOk, OnOk, SomeIff};
+ghost use Rattle.std.specs.Prelude.{◌≡◌, ◌+◌, ◌-◌, ◌*◌, ◌^◌, ◌<◌, ◌≤◌, ◌++◌, length, take, drop};
+ghost use Rattle.std.specs.Prelude.{IfOk, IfErr, OnOk, OnErr, SomeIff, IsTrue, true, Err};
+ghost use Rattle.std.specs.Vec.{vec_len, vec_capacity};
 ghost use Rattle.wtp_huffman.specs.Huffman.{coded_len};
-ghost use Rattle.wtp_huffman.specs.HuffmanDecoding.{TellsAscii};
-ghost use Rattle.wtp_qpack.specs.Integer.{shortest_int};
+ghost use Rattle.wtp_qpack.specs.declared.qpack.DecodingError.TheVariants.{InvalidString, Memory};
+ghost use Rattle.wtp_qpack.specs.Integer.{shortest_int, integer_at};
 ghost use Rattle.wtp_qpack.specs.Qpack.{Gives, GivesUnlessMemory};
-ghost use Rattle.wtp_qpack.specs.StringLiteral.{flag_above, or_invalid, huffman_text, utf8_text};
-ghost use Rattle.wtp_qpack.specs.StringLiteral.{body_text, string_at, encoded_string};
+ghost use Rattle.wtp_qpack.specs.StringLiteral.{flag_above, utf8_text, checked, text_of};
+ghost use Rattle.wtp_qpack.specs.StringLiteral.{string_in, is_coded};
+ghost use Rattle.wtp_qpack.specs.StringLiteral.{Grows, seen_string, encoded_string};
 
 use super::{DecodingError, integer};
-use std::alloc::{AllocError, Global};
+use std::alloc::AllocError;
 use wtp_huffman::huffman::{self, HuffmanError};
 
-/// The initial capacity for Huffman text; it grows for a longer text.
-const ROOM: usize = 256;
+/// The texts that a string may have.
+#[derive(Clone, Copy)]
+pub enum Texts {
+    /// Any bytes.
+    Octets,
+    /// UTF-8.
+    Utf8,
+}
 
-/// Returns the bytes as a text, if they are UTF-8.
+/// Checks that the bytes are UTF-8.
 #[cold]
 #[inline(never)]
-fn validate(bytes: &[u8]) -> Result<&str, DecodingError>
-    ensures { Gives (λ t. t.now) result (utf8_text bytes.now) }
+fn validate(bytes: &[u8]) -> Result<(), DecodingError>
+    ensures read { Gives (λ _. bytes.now) result (utf8_text bytes.now) }
+    ensures fault { IfErr result (λ e. e ≡ InvalidString) }
 {
     match str::from_utf8(bytes) {
-        Ok(text) => Ok(text),
+        Ok(_) => Ok(()),
         Err(_) => Err(DecodingError::InvalidString),
     }
 }
 
-/// The same, given whether the bytes are ASCII, as nearly every text is.
+/// Checks that the bytes of a string are such a text. Nearly every text is ASCII.
 #[inline(always)]
-fn text_by(bytes: &[u8], is_ascii: bool) -> Result<&str, DecodingError>
-    requires { TellsAscii is_ascii bytes.now }
-    ensures { Gives (λ t. t.now) result (utf8_text bytes.now) }
+fn check(texts: Texts, bytes: &[u8]) -> Result<(), DecodingError>
+    ensures read { Gives (λ _. bytes.now) result (checked texts bytes.now) }
+    ensures fault { IfErr result (λ e. e ≡ InvalidString) }
 {
-    if is_ascii {
-        Ok(unsafe { str::from_utf8_unchecked(bytes) })
-    } else {
-        validate(bytes)
+    match texts {
+        Texts::Octets => Ok(()),
+        Texts::Utf8 => {
+            if bytes.is_ascii() {
+                Ok(())
+            } else {
+                validate(bytes)
+            }
+        }
     }
 }
 
-/// Replaces the contents of `scratch` by the decoded bytes of a Huffman text, and returns whether
-/// they are ASCII.
-pub fn decode(scratch: &mut Vec<u8>, bytes: &[u8]) -> Result<bool, DecodingError>
-    ensures bytes { GivesUnlessMemory (λ _. scratch.new.items) result
-        (or_invalid (huffman_text bytes.now)) }
-    ensures ascii { IfOk result (λ is_ascii. TellsAscii is_ascii scratch.new.items) }
+/// Allocates `most` bytes for a room that has fewer.
+fn make_room(room: &mut Vec<u8>, most: usize) -> Result<(), AllocError>
+    requires few { vec_len room.old ≤ most }
+    ensures items { room.new.items ≡ room.old.items }
+    ensures len { vec_len room.new ≡ vec_len room.old }
+    ensures once { Grows true most (vec_capacity room.old) (vec_capacity room.new) }
+    ensures ok { OnOk result (most ≤ vec_capacity room.new) }
+    ensures full { OnErr result (vec_capacity room.old < most) }
 {
-    if scratch.capacity() == 0 {
-        scratch.reserve(ROOM)?;
+    if most <= room.capacity() {
+        return Ok(());
     }
-    match huffman::decode_into(scratch, bytes) {
-        Ok(is_ascii) => Ok(is_ascii),
+    room.reserve(most - room.len())
+}
+
+/// Appends the decoded text to a room, which has `most` bytes afterwards.
+fn decode(room: &mut Vec<u8>, most: usize, texts: Texts, body: &[u8]) -> Result<(), DecodingError>
+    requires fits { vec_len room.old + 2 * length body.now ≤ most }
+    ensures read { GivesUnlessMemory (λ _. drop (length room.old.items) room.new.items) result
+        (text_of texts true body.now) }
+    ensures front { OnOk result (take (length room.old.items) room.new.items ≡ room.old.items) }
+    ensures size { OnOk result (vec_len room.new ≤ vec_len room.old + 2 * length body.now) }
+    ensures once { Grows true most (vec_capacity room.old) (vec_capacity room.new) }
+    ensures memory { result ≡ Err Memory → vec_capacity room.old < most }
+{
+    let start = room.len();
+    make_room(room, most)?;
+    match huffman::append_decoded(room, body) {
+        Ok(true) => Ok(()),
+        Ok(false) => check(texts, &room[start..]),
         Err(HuffmanError::Invalid) => Err(DecodingError::InvalidString),
         Err(HuffmanError::Memory) => Err(DecodingError::Memory),
     }
 }
 
-/// Returns the text of a string's bytes. Huffman text is decoded in `scratch`.
-#[inline(always)]
-#[tactic(auto, unfolding(crate::specs::StringLiteral::body_text))]
-fn body_text<'a>(
-    scratch: &'a mut Vec<u8>,
-    is_huffman: bool,
-    body: &'a [u8],
-) -> Result<&'a str, DecodingError>
-    ensures { GivesUnlessMemory (λ t. t.now) result (body_text is_huffman body.now) }
-{
-    if !is_huffman {
-        return text_by(body, body.is_ascii());
-    }
-    let is_ascii = decode(scratch, body)?;
-    text_by(scratch.as_slice(), is_ascii)
-}
-
 /// Returns the flag H, the bit above the prefix.
-pub fn has_flag<const N: u32>(bytes: &[u8]) -> bool
+fn has_flag<const N: u32>(bytes: &[u8]) -> bool
     requires some { 1 ≤ N }
     requires few { N ≤ 7 }
     requires byte { 0 < length bytes.now }
@@ -85,26 +100,41 @@ pub fn has_flag<const N: u32>(bytes: &[u8]) -> bool
     u64::from(bytes[0]) / (1u64 << N) % 2 == 1
 }
 
-/// Reads the string at the start, with its length in the low `N` bits of the first byte. Returns it
-/// and the bytes after it. Its text is allocated once, at its size.
+/// Reads the string at the start, with its length in the low `N` bits of the first byte. Returns
+/// its text, or `None` if it was appended to `room`, and the bytes after it. The room allocates
+/// `most` bytes at once.
 #[inline(always)]
-#[tactic(auto, unfolding(crate::specs::StringLiteral::string_at))]
+#[tactic(auto, unfolding(crate::specs::StringLiteral::string_in))]
 pub fn read<'a, const N: u32>(
-    alloc: Global,
-    scratch: &mut Vec<u8>,
+    room: &mut Vec<u8>,
+    most: usize,
+    texts: Texts,
     bytes: &'a [u8],
-) -> Result<(String, &'a [u8]), DecodingError>
+) -> Result<(Option<&'a [u8]>, &'a [u8]), DecodingError>
     requires some { 1 ≤ N }
     requires few { N ≤ 7 }
-    ensures { GivesUnlessMemory (λ x. (string_bytes x.0, x.1.now)) result (string_at N bytes.now) }
+    requires fits { vec_len room.old + 2 * length bytes.now ≤ most }
+    ensures read { GivesUnlessMemory (seen_string (drop (length room.old.items) room.new.items))
+        result (string_in texts N bytes.now) }
+    ensures front { OnOk result (take (length room.old.items) room.new.items ≡ room.old.items) }
+    ensures size { IfOk result (λ x. vec_len room.new + 2 * length x.1.now
+        ≤ vec_len room.old + 2 * length bytes.now) }
+    ensures once { Grows (is_coded N bytes.now) most
+        (vec_capacity room.old) (vec_capacity room.new) }
+    ensures memory { result ≡ Err Memory
+        → IsTrue (is_coded N bytes.now) × (vec_capacity room.old < most) }
 {
     let (size, rest) = integer::read::<N>(bytes)?;
     if size > rest.len() as u64 {
         return Err(DecodingError::UnexpectedFin);
     }
-    let (body, others) = rest.split_at(size as usize);
-    let text = body_text(scratch, has_flag::<N>(bytes), body)?;
-    Ok((String::from_str(alloc, text)?, others))
+    let (body, behind) = rest.split_at(size as usize);
+    if !has_flag::<N>(bytes) {
+        check(texts, body)?;
+        return Ok((Some(body), behind));
+    }
+    decode(room, most, texts, body)?;
+    Ok((None, behind))
 }
 
 /// Returns the length of the text in the Huffman code, if that is strictly shorter.

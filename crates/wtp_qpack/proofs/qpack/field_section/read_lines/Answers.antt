@@ -8,7 +8,7 @@ unfolding field_map
 loop-rest-init c = ([], refl, ap (map field_of) c.new-fields.ensures.empty)
 
 pub loop-rest-smaller : goal.loop-rest-smaller
-loop-rest-smaller c = line_shorter _ _ _ c.in_ok-line.ensures
+loop-rest-smaller c = line_shorter _ _ _ _ c.in_ok-line.ensures
 
 pub loop-rest-preserved : goal.loop-rest-preserved
 loop-rest-preserved c =

@@ -1,4 +1,4 @@
-use Rattle.wtp_qpack.proofs.OctetWriting.{no_text_absent}
+use Rattle.wtp_qpack.proofs.LineTexts.{no_text_absent}
 use Rattle.wtp_qpack.proofs.qpack.static_table.first_entry_of.Goals as goal
 
 pub returns-in-Err : goal.returns-in-Err

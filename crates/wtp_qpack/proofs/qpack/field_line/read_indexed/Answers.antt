@@ -2,7 +2,7 @@ use Rattle.std.proofs.Common.{rules}
 use Rattle.std.proofs.lemmas.Result.{err_from_is_err_and}
 use Rattle.wtp_qpack.specs.FieldLine.{indexed_at}
 use Rattle.wtp_qpack.proofs.StringReading.{int_not_memory}
-use Rattle.wtp_qpack.proofs.qpack.field_lines.indexed.Goals as goal
+use Rattle.wtp_qpack.proofs.qpack.field_line.read_indexed.Goals as goal
 
 pub returns-in_err-index-clause-read : goal.returns-in_err-index-clause-read
 unfolding indexed_at
