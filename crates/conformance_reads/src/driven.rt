@@ -5,7 +5,7 @@ use crate::same::same;
 use std::alloc::Global;
 use std::process::Abort;
 use test_io::{End, Trickle};
-use wtransport_proto::bytes::{AsyncRead, IoReadError as Fault};
+use wtransport_proto::bytes::{AsyncRead, BufferReader, IoReadError as Fault};
 use wtransport_proto::error::ErrorCode;
 use wtransport_proto::frame::{Frame, FrameOwned, FrameReading};
 use wtransport_proto::stream::biremote::StreamBiRemoteH3;
@@ -241,6 +241,18 @@ fn check_driven<R: Abort + AllocGlobal, K: ReadsFrames>(rt: &R, stream: &mut K, 
     check_frames(rt, &out, frames);
 }
 
+/// Read from a buffer, the stream gives the first of the row's frames, or none.
+fn check_buffered<R: Abort, K: ReadsFrames>(rt: &R, stream: &mut K, row: &Row) {
+    let (bytes, frames, _, word) = row;
+    assert!(rt; stream.can_read());
+    let first = match stream.read_frame_from_buffer(&mut BufferReader::new(bytes)) {
+        Ok(Some(frame)) => Some(frame),
+        Ok(None) | Err(_) => None,
+    };
+    let came = first.as_ref().map(number_and_payload);
+    same(rt, came, frames.first().copied(), word);
+}
+
 /// A frame came that may not.
 const UNEXPECTED: Driven = Driven::Ended(IoReadError::H3(ErrorCode::FrameUnexpected));
 
@@ -271,4 +283,12 @@ fn each_reading_state_is_driven(rt: HostRuntime) {
     check_driven(&rt, &mut opened_here(), &HERE);
     check_driven(&rt, &mut of_session(&rt, rt.alloc()), &SESSION);
     check_driven(&rt, &mut control(&rt), &CONTROL);
+}
+
+#[test]
+fn each_reading_state_is_read_from_a_buffer(rt: HostRuntime) {
+    check_buffered(&rt, &mut opened_there(), &THERE);
+    check_buffered(&rt, &mut opened_here(), &HERE);
+    check_buffered(&rt, &mut of_session(&rt, rt.alloc()), &SESSION);
+    check_buffered(&rt, &mut control(&rt), &CONTROL);
 }

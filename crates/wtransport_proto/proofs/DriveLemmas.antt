@@ -15,7 +15,7 @@ use Rattle.wtp_wire.specs.Run.{Run}
 use Rattle.wtransport_proto.specs.HeldRun.{run_of, size_of}
 use Rattle.wtransport_proto.specs.StreamPolling.{EndsSo, Faults, StreamTakesFrame, PassesUnknown, StreamPolled}
 use Rattle.wtransport_proto.specs.Place.{place_of}
-use Rattle.wtransport_proto.specs.Polls.{TakesSome, Series}
+use Rattle.wtransport_proto.specs.Polls.{TakesSome}
 use Rattle.wtransport_proto.proofs.PollsLemmas.{series_start, series_end, series_on}
 use Rattle.wtransport_proto.specs.Driving.{ChangesFirst, after, RunsOn, KeepsPlace, DriveKeeps, DriveDid, Drove}
 use Rattle.wtransport_proto.proofs.PlaceLemmas.{same_refl, same_then, leaves_place, unknown_place, frame_place, fault_place}

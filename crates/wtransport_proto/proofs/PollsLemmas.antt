@@ -1,6 +1,5 @@
 -- One more poll after a series of them.
-use Rattle.std.proofs.Common.{◌≡◌, ℕ, ◌+◌, Bool, List, [], ◌∷◌, ◌++◌, length, refl, sym, ap, ◌∙◌, arith, subst, append-nil, length-append, Result, Ok, Err}
-use Rattle.std.specs.List.{All}
+use Rattle.std.proofs.Common.{◌≡◌, ℕ, ◌+◌, Bool, List, [], ◌∷◌, ◌++◌, refl, sym, ap, ◌∙◌, subst, append-nil, length-append, Result, Ok, Err}
 use Rattle.std.proofs.lemmas.List.Elements.{All-append, All-nil, All-cons}
 use Rattle.wtp_core.specs.declared.bytes.polled.Polled.{Polled}
 use Rattle.wtp_core.specs.declared.bytes.polled.Polled.TheVariants.{Ready, Pending, Again, NoMemory}

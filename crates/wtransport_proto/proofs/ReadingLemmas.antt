@@ -1,5 +1,5 @@
 -- What reading a frame determines about the first known frame, and about the run.
-use Rattle.std.proofs.Common.{◌≡◌, ◌≢◌, [], ◌∷◌, ℕ, Bool, false, List, length, Option, Some, None, Ok, Err, refl, sym, ap, subst, ◌∙◌, inl, inr}
+use Rattle.std.proofs.Common.{◌≡◌, ◌≢◌, [], ◌∷◌, ℕ, Bool, false, List, length, Option, Some, None, Result, Ok, Err, refl, sym, ap, subst, ◌∙◌, inl, inr}
 use Rattle.wtp_core.specs.declared.error.ErrorCode.{ErrorCode}
 use Rattle.wtp_core.specs.declared.error.ErrorCode.TheVariants.{Id, ExcessiveLoad}
 use Rattle.wtp_wire.specs.declared.frame.ParseError.{ParseError}
@@ -12,7 +12,7 @@ use Rattle.wtp_core.specs.Reader.{IsRest}
 use Rattle.wtp_core.proofs.RestLemmas.{rest-same, rest-rest}
 use Rattle.wtp_wire.specs.Run.{past_unknown, run, Run, next_run, follows, ends, run_stop, Tail, MayGoOn, Ended, WasReset, Lost, Open, H3}
 use Rattle.wtp_wire.specs.Rule.{Role, rule}
-use Rattle.wtransport_proto.specs.Reading.{AnswersKnown, AnswersFrame, FirstAfter, ReaderIsAfter, verdict}
+use Rattle.wtransport_proto.specs.Reading.{AnswersKnown, AnswersFrame, AnswersRun, FirstAfter, MovesPast, ReaderIsAfter, permitted, verdict}
 use Rattle.wtp_wire.proofs.RunLemmas.{past_unknown-unknown, past_unknown-framed, past_unknown-bad, past_unknown-big, past_unknown-short, run-step}
 
 -- only unknown frames were skipped between old and cur
@@ -49,6 +49,22 @@ pub unknown-code : (fault : ParseError) (cur new : List ℕ) → frame_code faul
 unknown-code UnknownFrame cur new e h = h
 unknown-code InvalidSessionId cur new e h = absurd cc
 unknown-code PayloadTooBig cur new e h = absurd cc
+
+-- ---- the rule of a frame that was read
+
+permitted_ok : (o : Option ErrorCode) (f g : Content) → Ok g ≡ permitted o f → Ok (Some g) ≡ verdict o f
+permitted_ok None f g e = cc
+permitted_ok (Some c) f g e = absurd cc
+
+permitted_err : (o : Option ErrorCode) (f : Content) (c : ErrorCode) → Err c ≡ permitted o f → Err c ≡ verdict o f
+permitted_err None f c e = absurd cc
+permitted_err (Some d) f c e = cc
+
+pub answers_ok : (role : Role) (first next : Bool) (known : Front) (left : List ℕ) (o : Option Content) (f g : Content) → AnswersKnown known (Ok o) left → o ≡ Some f → Ok g ≡ permitted (rule role first (kind_in f)) f → next ≡ false → AnswersFrame role first known (Ok (Some g)) next left
+answers_ok role first next known left o f g h is e n = let front : known ≡ Framed f left = rw is at h in rw front (permitted_ok (rule role first (kind_in f)) f g e, n, refl)
+
+pub answers_err : (role : Role) (first next : Bool) (known : Front) (left : List ℕ) (o : Option Content) (f : Content) (c : ErrorCode) → AnswersKnown known (Ok o) left → o ≡ Some f → Err c ≡ permitted (rule role first (kind_in f)) f → next ≡ false → AnswersFrame role first known (Err c) next left
+answers_err role first next known left o f c h is e n = let front : known ≡ Framed f left = rw is at h in rw front (permitted_err (rule role first (kind_in f)) f c e, n, refl)
 
 -- ---- the run
 
@@ -100,16 +116,6 @@ err_case role first next old left d Short e (answer, later) = absurd cc
 pub run-err : (role : Role) (first next : Bool) (old left : List ℕ) (d : ErrorCode) → AnswersFrame role first (front (past_unknown old)) (Err d) next left → run role first old MayGoOn ≡ ends (H3 d)
 run-err role first next old left d h = err_case role first next old left d (front (past_unknown old)) refl h
 
--- the same for each result of a reader ahead, whose bytes and whose end are those of the reader
-pub run_some : (role : Role) (first next : Bool) (old ahead left new : List ℕ) (o : Option Content) (f : Content) → ahead ≡ old → o ≡ Some f → new ≡ left → AnswersFrame role first (front (past_unknown ahead)) (Ok o) next left → run role first old MayGoOn ≡ follows f (run role next new MayGoOn)
-run_some role first next old ahead left new o f e is n h = rw (← e, n) (run-some role first next ahead left f (rw is at h))
-
-pub run_none : (role : Role) (first next : Bool) (old ahead left : List ℕ) (o : Option Content) → ahead ≡ old → o ≡ None → AnswersFrame role first (front (past_unknown ahead)) (Ok o) next left → run role first old MayGoOn ≡ ends (Open (length old))
-run_none role first next old ahead left o e is h = rw (← e) (run-none role first next ahead left (rw is at h))
-
-pub run_err : (role : Role) (first next : Bool) (old ahead left : List ℕ) (d : ErrorCode) → ahead ≡ old → AnswersFrame role first (front (past_unknown ahead)) (Err d) next left → run role first old MayGoOn ≡ ends (H3 d)
-run_err role first next old ahead left d e h = rw (← e) (run-err role first next ahead left d h)
-
 some_place : (role : Role) (first next : Bool) (left : List ℕ) (f : Content) (c : Front) → AnswersFrame role first c (Ok (Some f)) next left → (c ≡ Framed f left) × (rule role first (kind_in f) ≡ None) × (next ≡ false)
 some_place role first next left f (Framed g rest) (answer, later, there) =
     let (allowed, same) = verdict_ok (rule role first (kind_in g)) g f answer in
@@ -118,9 +124,6 @@ some_place role first next left f (Unknown rest) h = absurd h
 some_place role first next left f (BadId rest) (answer, later, there) = absurd cc
 some_place role first next left f (TooBig rest) (answer, later, there) = absurd cc
 some_place role first next left f Short (answer, later) = absurd cc
-
-pub place_some : (role : Role) (first next : Bool) (old ahead left new : List ℕ) (o : Option Content) (f : Content) → ahead ≡ old → o ≡ Some f → new ≡ left → AnswersFrame role first (front (past_unknown ahead)) (Ok o) next left → ReaderIsAfter role first old (Ok (Some f)) next new
-place_some role first next old ahead left new o f e is n h = rw (← e, n) (some_place role first next left f (front (past_unknown ahead)) (rw is at h))
 
 none_place : (role : Role) (first next : Bool) (left : List ℕ) (c : Front) → AnswersFrame role first c (Ok None) next left → (c ≡ Short) × (next ≡ first)
 none_place role first next left (Framed g rest) (answer, later, there) = absurd (no_frame (rule role first (kind_in g)) answer)
@@ -133,11 +136,6 @@ none_place role first next left (BadId rest) (answer, later, there) = absurd cc
 none_place role first next left (TooBig rest) (answer, later, there) = absurd cc
 none_place role first next left Short (answer, later) = (refl, later)
 
-pub place_none : (role : Role) (first next : Bool) (old ahead left new : List ℕ) (o : Option Content) → ahead ≡ old → o ≡ None → new ≡ old → AnswersFrame role first (front (past_unknown ahead)) (Ok o) next left → ReaderIsAfter role first old (Ok None) next new
-place_none role first next old ahead left new o e is n h =
-    let (short, same) = none_place role first next left (front (past_unknown ahead)) (rw is at h) in
-    (rw (← e) short, same, n)
-
 err_place : (role : Role) (first next : Bool) (left : List ℕ) (d : ErrorCode) (c : Front) → AnswersFrame role first c (Err d) next left → FirstAfter role first c next
 err_place role first next left d (Framed g rest) (answer, later, there) = later
 err_place role first next left d (Unknown rest) h = absurd h
@@ -145,8 +143,23 @@ err_place role first next left d (BadId rest) (answer, later, there) = later
 err_place role first next left d (TooBig rest) (answer, later, there) = later
 err_place role first next left d Short (answer, later) = later
 
-pub place_err : (role : Role) (first next : Bool) (old ahead left new : List ℕ) (d : ErrorCode) → ahead ≡ old → new ≡ old → AnswersFrame role first (front (past_unknown ahead)) (Err d) next left → ReaderIsAfter role first old (Err d) next new
-place_err role first next old ahead left new d e n h = (rw (← e) (err_place role first next left d (front (past_unknown ahead)) h), n)
+-- ---- a reader that moves past a frame that was read ahead, where the bytes are the same
+
+ahead_run : (role : Role) (first next : Bool) (old left new : List ℕ) (r : Result (Option Content) ErrorCode) → MovesPast r old left new → AnswersFrame role first (front (past_unknown old)) r next left → AnswersRun role first old r next new
+ahead_run role first next old left new (Ok (Some f)) m h = rw m (run-some role first next old left f h)
+ahead_run role first next old left new (Ok None) m h = (run-none role first next old left h, m)
+ahead_run role first next old left new (Err d) m h = (run-err role first next old left d h, m)
+
+ahead_place : (role : Role) (first next : Bool) (old left new : List ℕ) (r : Result (Option Content) ErrorCode) → MovesPast r old left new → AnswersFrame role first (front (past_unknown old)) r next left → ReaderIsAfter role first old r next new
+ahead_place role first next old left new (Ok (Some f)) m h = rw m (some_place role first next left f (front (past_unknown old)) h)
+ahead_place role first next old left new (Ok None) m h = let (short, same) = none_place role first next left (front (past_unknown old)) h in (short, same, m)
+ahead_place role first next old left new (Err d) m h = (err_place role first next left d (front (past_unknown old)) h, m)
+
+pub moved_run : (role : Role) (first next : Bool) (old ahead still left new : List ℕ) (r : Result (Option Content) ErrorCode) → ahead ≡ old → still ≡ old → MovesPast r still left new → AnswersFrame role first (front (past_unknown ahead)) r next left → AnswersRun role first old r next new
+moved_run role first next old ahead still left new r e s m h = ahead_run role first next old left new r (rw s at m) (rw e at h)
+
+pub moved_place : (role : Role) (first next : Bool) (old ahead still left new : List ℕ) (r : Result (Option Content) ErrorCode) → ahead ≡ old → still ≡ old → MovesPast r still left new → AnswersFrame role first (front (past_unknown ahead)) r next left → ReaderIsAfter role first old r next new
+moved_place role first next old ahead still left new r e s m h = ahead_place role first next old left new r (rw s at m) (rw e at h)
 
 -- unknown frames are skipped, if the bytes end
 same_stop : (bytes other rest : List ℕ) (tail : Tail) → tail ≢ MayGoOn → run_stop bytes rest tail ≡ run_stop other rest tail

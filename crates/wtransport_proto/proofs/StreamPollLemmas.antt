@@ -1,5 +1,5 @@
 -- The result of a stream, for the result of its reading.
-use Rattle.std.proofs.Common.{◌≡◌, ℕ, Bool, false, [], ◌++◌, refl, ap, arith, Option, Some, None, Result, Ok, Err, inl, inr}
+use Rattle.std.proofs.Common.{◌≡◌, ℕ, Bool, false, [], ◌++◌, refl, ap, arith, Option, Some, None, Result, Ok, Err, MatchResult, IsErrAnd, inl, inr}
 use Rattle.std.proofs.lemmas.Bool.{cases_lt, ne_eqb}
 use Rattle.wtp_core.specs.declared.error.ErrorCode.{ErrorCode}
 use Rattle.wtp_core.specs.declared.error.ErrorCode.TheVariants.{Id, ExcessiveLoad}
@@ -20,11 +20,13 @@ use Rattle.wtp_wire.specs.Content.{Content, kind_in}
 use Rattle.wtp_wire.specs.Front.{Framed, Unknown, BadId, TooBig, Short}
 use Rattle.wtp_wire.specs.Held.{Held, Skips}
 use Rattle.wtp_wire.specs.FramePolling.{Decided, Stopped, FramePolled}
+use Rattle.wtransport_proto.specs.declared.stream.polled.IoReadError as fault
 use Rattle.wtransport_proto.specs.declared.stream.polled.IoReadError.TheVariants as stream
 use Rattle.wtp_wire.specs.Rule.{Role, rule}
 use Rattle.wtp_wire.specs.Run.{Run, H3, ends}
 use Rattle.wtransport_proto.specs.HeldRun.{tail_of, stop_of, count_held, run_of}
-use Rattle.wtransport_proto.specs.StreamPolling.{IsStreamFault, IsDry, stream_fault, EndsSo, Faults, PassesUnknown, StreamPolled, JudgesPolled, JudgesGiven, without_frame}
+use Rattle.wtransport_proto.specs.StreamPolling.{IsStreamFault, IsDry, stream_fault, EndsSo, Faults, PassesUnknown, StreamTakesFrame, StreamPolled, JudgesPolled, first_after, without_frame}
+use Rattle.wtransport_proto.specs.Reading.{permitted}
 use Rattle.wtransport_proto.proofs.HeldRunLemmas.{read_front, framed_size, bad_size, big_size, size_new, leaves_size, run_refused, run_case}
 
 -- ---- faults
@@ -84,10 +86,27 @@ io_ends role first old new e a b s =
 
 -- ---- the result of a stream for the result of its reading
 
-pub refused_judges : (role : Role) (r : Polled (Result Content IoReadError)) (f : Content) (c : ErrorCode) (first next : Bool) → r ≡ Ready (Ok f) → rule role first (kind_in f) ≡ Some c → next ≡ false
-    → JudgesPolled role r (Ready (Err (stream.H3 c))) first next
-refused_judges role r f c first next e is n = λ s t old new p. telling_map s t (λ a b. Decided old new a b (Framed f)) (StreamPolled role (Ready (Err (stream.H3 c))) first next old new)
-    (λ a b d. refused_ends role first next old new f c a b is n d) (rw e at p)
+allowed_judges : (role : Role) (f : Content) (first : Bool) → rule role first (kind_in f) ≡ None → JudgesPolled role (Ready (Ok f)) (Ready (Ok f)) first false
+allowed_judges role f first is = λ s t old new p. telling_map s t (λ a b. Decided old new a b (Framed f)) (StreamTakesFrame role first false old new f)
+    (λ a b d. record { decided = d; allowed = is; flag = refl }) p
+
+refused_judges : (role : Role) (f : Content) (c : ErrorCode) (first : Bool) → rule role first (kind_in f) ≡ Some c → JudgesPolled role (Ready (Ok f)) (Ready (Err (stream.H3 c))) first false
+refused_judges role f c first is = λ s t old new p. telling_map s t (λ a b. Decided old new a b (Framed f)) (StreamPolled role (Ready (Err (stream.H3 c))) first false old new)
+    (λ a b d. refused_ends role first false old new f c a b is refl d) p
+
+-- the code of the fault by which the rule refuses a frame is a fault of the stream
+is_fault : (m : Result Content fault.IoReadError) (c : ErrorCode) → IsErrAnd m (λ d. d ≡ stream.H3 c) → m ≡ Err (stream.H3 c)
+is_fault (Ok f) c h = absurd h
+is_fault (Err d) c h = ap Err h
+
+ruled : (role : Role) (f : Content) (first : Bool) (o : Option ErrorCode) (p : Result Content ErrorCode) (m : Result Content fault.IoReadError) → rule role first (kind_in f) ≡ o → p ≡ permitted o f
+    → MatchResult p (λ x. m ≡ Ok x) (λ c. IsErrAnd m (λ d. d ≡ stream.H3 c)) → JudgesPolled role (Ready (Ok f)) (Ready m) first false
+ruled role f first None p m is e h = let same : m ≡ Ok f = rw e at h in rw same (allowed_judges role f first is)
+ruled role f first (Some c) p m is e h = let same : m ≡ Err (stream.H3 c) = is_fault m c (rw e at h) in rw same (refused_judges role f c first is)
+
+pub ruled_judges : (role : Role) (r : Polled (Result Content IoReadError)) (f : Content) (first : Bool) (p : Result Content ErrorCode) (m : Result Content fault.IoReadError) → r ≡ Ready (Ok f) → p ≡ permitted (rule role first (kind_in f)) f
+    → MatchResult p (λ x. m ≡ Ok x) (λ c. IsErrAnd m (λ d. d ≡ stream.H3 c)) → JudgesPolled role r (Ready m) first (first_after first r)
+ruled_judges role r f first p m e is h = rw e (ruled role f first (rule role first (kind_in f)) p m refl is h)
 
 bad_judges : (role : Role) (r : Polled (Result Content IoReadError)) (first : Bool) → r ≡ Ready (Err (reading.Parse parse.InvalidSessionId)) → JudgesPolled role r (Ready (Err (stream.H3 Id))) first first
 bad_judges role r first e = λ s t old new p. telling_map s t (λ a b. Decided old new a b BadId) (StreamPolled role (Ready (Err (stream.H3 Id))) first first old new)
@@ -97,28 +116,26 @@ big_judges : (role : Role) (r : Polled (Result Content IoReadError)) (first : Bo
 big_judges role r first e = λ s t old new p. telling_map s t (λ a b. Decided old new a b TooBig) (StreamPolled role (Ready (Err (stream.H3 ExcessiveLoad))) first first old new)
     (λ a b d. big_ends role first old new a b d) (rw e at p)
 
-pub io_judges : (role : Role) (r : Polled (Result Content IoReadError)) (x : bytes.IoReadError) (first : Bool) → r ≡ Ready (Err (reading.IO x)) → JudgesPolled role r (Ready (Err (stream_fault x))) first first
-io_judges role r x first e = λ s t old new p. telling_map s t (FramePolled (Ready (Err (reading.IO x))) old new) (StreamPolled role (Ready (Err (stream_fault x))) first first old new)
-    (λ a b d. io_ends role first old new x a b d) (rw e at p)
+pub io_judges : (role : Role) (r : Polled (Result Content IoReadError)) (x : bytes.IoReadError) (first : Bool) → r ≡ Ready (Err (reading.IO x)) → JudgesPolled role r (Ready (Err (stream_fault x))) first (first_after first r)
+io_judges role r x first e = rw e (λ s t old new p. telling_map s t (FramePolled (Ready (Err (reading.IO x))) old new) (StreamPolled role (Ready (Err (stream_fault x))) first first old new)
+    (λ a b d. io_ends role first old new x a b d) p)
 
-pub again_judges : (role : Role) (r : Polled (Result Content IoReadError)) (first : Bool) → r ≡ Again → JudgesPolled role r Again first first
-again_judges role r first e = λ s t old new p. telling_map s t (FramePolled Again old new) (PassesUnknown first first old new)
-    (λ a b d. record { skips = d.skips; whole = λ z. let some = d.due in absurd (omega arith); part = λ _. (d.same, d.most); flag = refl }) (rw e at p)
+pub again_judges : (role : Role) (r : Polled (Result Content IoReadError)) (first : Bool) → r ≡ Again → JudgesPolled role r Again first (first_after first r)
+again_judges role r first e = rw e (λ s t old new p. telling_map s t (FramePolled Again old new) (PassesUnknown first first old new)
+    (λ a b d. record { skips = d.skips; whole = λ z. let some = d.due in absurd (omega arith); part = λ _. (d.same, d.most); flag = refl }) p)
 
 unknown_judges : (role : Role) (r : Polled (Result Content IoReadError)) (first : Bool) → r ≡ Ready (Err (reading.Parse parse.UnknownFrame)) → JudgesPolled role r Again first first
 unknown_judges role r first e = λ s t old new p. telling_map s t (λ a b. Decided old new a b Unknown × Skips old new a b) (PassesUnknown first first old new)
     (λ a b d. record { skips = d.1; whole = λ z. d.0; part = λ some. let none : new.due ≡ 0 = ap (λ (h : Held). h.due) d.0.empty in absurd (omega arith); flag = refl }) (rw e at p)
 
 -- by the code of bytes that are no frame
-pub code_judges : (role : Role) (r : Polled (Result Content IoReadError)) (fault : ParseError) (first : Bool) → r ≡ Ready (Err (reading.Parse fault)) → JudgesPolled role r (without_frame (frame_code fault)) first first
-code_judges role r parse.UnknownFrame first e = unknown_judges role r first e
-code_judges role r parse.InvalidSessionId first e = bad_judges role r first e
-code_judges role r parse.PayloadTooBig first e = big_judges role r first e
+code_same : (role : Role) (r : Polled (Result Content IoReadError)) (fault : ParseError) (first : Bool) → r ≡ Ready (Err (reading.Parse fault)) → JudgesPolled role r (without_frame (frame_code fault)) first first
+code_same role r parse.UnknownFrame first e = unknown_judges role r first e
+code_same role r parse.InvalidSessionId first e = bad_judges role r first e
+code_same role r parse.PayloadTooBig first e = big_judges role r first e
 
-pub code_given : (role : Role) (r : Polled (Result Content IoReadError)) (fault : ParseError) (first : Bool) → r ≡ Ready (Err (reading.Parse fault)) → JudgesGiven role r (without_frame (frame_code fault)) first first
-code_given role r parse.UnknownFrame first e = λ old new g. (inl (rw e at g), refl)
-code_given role r parse.InvalidSessionId first e = λ old new g. inr (inl (refl, rw e at g, refl))
-code_given role r parse.PayloadTooBig first e = λ old new g. inr (inr (inl (refl, rw e at g, refl)))
+pub code_judges : (role : Role) (r : Polled (Result Content IoReadError)) (fault : ParseError) (first : Bool) → r ≡ Ready (Err (reading.Parse fault)) → JudgesPolled role r (without_frame (frame_code fault)) first (first_after first r)
+code_judges role r fault first e = let same : first_after first r ≡ first = rw e refl in rw same (code_same role r fault first e)
 
 pub code_waits : (code : Option ErrorCode) → polled_waits (without_frame code) ≡ 0
 code_waits None = refl

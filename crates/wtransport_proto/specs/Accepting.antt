@@ -10,7 +10,6 @@ use Rattle.wtp_core.specs.declared.bytes.polled.IoReadError.TheVariants as io
 use Rattle.wtp_core.specs.declared.error.ErrorCode.{ErrorCode}
 use Rattle.wtp_core.specs.declared.error.ErrorCode.TheVariants.{Frame, FrameUnexpected}
 use Rattle.wtp_core.specs.Source.{Source}
-use Rattle.wtp_wire.specs.declared.frame.kind.FrameKind.{FrameKind}
 use Rattle.wtp_wire.specs.declared.frame.kind.FrameKind.TheVariants.{Data, Headers, Settings, WebTransport, Exercise}
 use Rattle.wtp_wire.specs.Content.{Content, PlainOf, WebTransportOf, DataOf, HeadersOf, ExerciseOf, payload_in}
 use Rattle.wtp_wire.specs.Front.{Front, Framed, Unknown, BadId, TooBig, Short, front}

@@ -8,6 +8,11 @@ use Rattle.wtp_wire.specs.Rule.{Role, rule}
 use Rattle.wtp_wire.specs.Run.{MayGoOn, Open, H3, ends, follows, past_unknown, run}
 
 -- a frame, or the fault that refuses it
+abbrev pub permitted : Option ErrorCode → Content → Result Content ErrorCode
+permitted None f = Ok f
+permitted (Some c) f = Err c
+
+-- the same as the result of reading the next frame
 abbrev pub verdict : Option ErrorCode → Content → Result (Option Content) ErrorCode
 verdict None f = Ok (Some f)
 verdict (Some c) f = Err c
@@ -39,6 +44,12 @@ FirstAfter role first (Unknown rest) next = next ≡ first
 FirstAfter role first (BadId rest) next = next ≡ first
 FirstAfter role first (TooBig rest) next = next ≡ first
 FirstAfter role first Short next = next ≡ first
+
+-- a reader moves to the bytes left after a frame, and without a frame it does not move
+abbrev pub MovesPast : Result (Option Content) ErrorCode → List ℕ → List ℕ → List ℕ → Type 0
+MovesPast (Ok (Some f)) old left new = new ≡ left
+MovesPast (Ok None) old left new = new ≡ old
+MovesPast (Err c) old left new = new ≡ old
 
 -- the same by the run of what is left, for a reader that moves past a frame only
 abbrev pub AnswersRun :

@@ -138,6 +138,15 @@ abbrev pub without_frame : Option ErrorCode → Polled (Result Content IoReadErr
 without_frame None = Again
 without_frame (Some code) = Ready (Err (stream.H3 code))
 
+-- whether a next frame would be the first, after this result of a poll: a complete frame was
+-- returned, which the rule may refuse
+abbrev pub first_after : Bool → Polled (Result Content wire.IoReadError) → Bool
+first_after first (Ready (Ok f)) = false
+first_after first (Ready (Err e)) = first
+first_after first Pending = first
+first_after first Again = first
+first_after first NoMemory = first
+
 -- Whatever was held, and whatever the source: what the reading's result says of them, the stream's
 -- result says by its rule.
 abbrev pub JudgesPolled :

@@ -80,6 +80,7 @@ impl StreamBiRemoteH3 {
         &mut self,
         reader: &mut R,
     ) -> Result<Option<Frame<'a>>, ErrorCode>
+        ensures changes { ChangesFirst first_of self.old self.new }
         ensures answer { AnswersFrame RemoteBi (first_of self.old)
             (front (past_unknown (R.left reader.old))) result (first_of self.new)
             (R.left reader.new) }
@@ -100,6 +101,7 @@ impl StreamBiRemoteH3 {
         &mut self,
         reader: &mut BufferReader<'a>,
     ) -> Result<Option<Frame<'a>>, ErrorCode>
+        ensures changes { ChangesFirst first_of self.old self.new }
         ensures run { AnswersRun RemoteBi (first_of self.old) (left_of reader.old) result
             (first_of self.new) (left_of reader.new) }
         ensures place { ReaderIsAfter RemoteBi (first_of self.old) (left_of reader.old) result
@@ -137,7 +139,12 @@ impl StreamBiRemoteH3 {
         ensures waits { Telling (S.tells source.old) (S.tells source.new) (WaitsAs result) }
         ensures asks { Telling (S.tells source.old) (S.tells source.new) (Asks 4112) }
     {
-        polled::judge::<Self>(reading.poll(source), &mut self.stage.first_frame_done)
+        let first = !self.stage.first_frame_done;
+        let answer = reading.poll(source);
+        if let Polled::Ready(Ok(_)) = answer {
+            self.stage.first_frame_done = true;
+        }
+        polled::apply_rule::<Self>(first, answer)
     }
 
     /// Returns a state that reads the first frame, poll by poll, by the rules of `read_frame`: of a

@@ -1,10 +1,12 @@
 //! Driving a stream: reading its frames poll by poll, as far as its source goes.
 ghost use Rattle.std.specs.Prelude.{◌≡◌, ◌≤◌, Bool, IsTrue, ◌↔◌, ◌++◌, length, drop, false};
+ghost use Rattle.wtp_core.specs.Cursor.{left_of, whole_of};
 ghost use Rattle.wtp_core.specs.Source.{Telling};
 ghost use Rattle.wtp_core.specs.Polled.{Asks, WaitsAs};
 ghost use Rattle.wtp_wire.specs.Held.{IsUnfinished};
 ghost use Rattle.wtp_wire.specs.Rule.{Role, RemoteBi, LocalBi, RemoteUni, InSession};
 ghost use Rattle.wtransport_proto.specs.Streams.{first_of, CanRead};
+ghost use Rattle.wtransport_proto.specs.Reading.{AnswersRun, ReaderIsAfter};
 ghost use Rattle.wtransport_proto.specs.StreamPolling.{StreamPolled, StreamGiven};
 ghost use Rattle.wtransport_proto.specs.Driving.{ChangesFirst, DriveDid};
 
@@ -13,8 +15,9 @@ use crate::stream::bilocal::StreamBiLocalH3;
 use crate::stream::biremote::StreamBiRemoteH3;
 use crate::stream::session::StreamSession;
 use crate::stream::uniremote::StreamUniRemoteH3;
-use wtp_core::bytes::{AsyncRead, Polled};
-use wtp_wire::frame::{FrameOwned, FrameReading};
+use wtp_core::bytes::{AsyncRead, BufferReader, Polled};
+use wtp_core::error::ErrorCode;
+use wtp_wire::frame::{Frame, FrameOwned, FrameReading};
 
 /// A stream from which frames are read. Not in the Rust crate.
 pub trait ReadsFrames {
@@ -30,6 +33,21 @@ pub trait ReadsFrames {
     /// Returns whether frames may be read.
     fn can_read(&self) -> bool
         ensures { IsTrue result ↔ can self.now };
+
+    /// Reads the next frame, and moves past it, as the stream's own `read_frame_from_buffer` does.
+    /// Requires that frames may be read, as `can_read` reports.
+    fn read_frame_from_buffer<'a>(
+        &mut self,
+        reader: &mut BufferReader<'a>,
+    ) -> Result<Option<Frame<'a>>, ErrorCode>
+        requires { can self.old }
+        ensures can { can self.new }
+        ensures changes { ChangesFirst first self.old self.new }
+        ensures run { AnswersRun role (first self.old) (left_of reader.old) result
+            (first self.new) (left_of reader.new) }
+        ensures place { ReaderIsAfter role (first self.old) (left_of reader.old) result
+            (first self.new) (left_of reader.new) }
+        ensures whole { whole_of reader.new ≡ whole_of reader.old };
 
     /// Reads the next frame, poll by poll, as the stream's own `read_frame_async` does. Requires
     /// that frames may be read, as `can_read` reports.
@@ -63,6 +81,14 @@ impl ReadsFrames for StreamBiRemoteH3 {
     }
 
     #[inline(always)]
+    fn read_frame_from_buffer<'a>(
+        &mut self,
+        reader: &mut BufferReader<'a>,
+    ) -> Result<Option<Frame<'a>>, ErrorCode> {
+        StreamBiRemoteH3::read_frame_from_buffer(self, reader)
+    }
+
+    #[inline(always)]
     fn read_frame_async<S: AsyncRead>(
         &mut self,
         reading: &mut FrameReading,
@@ -81,6 +107,14 @@ impl ReadsFrames for StreamBiLocalH3 {
 
     fn can_read(&self) -> bool {
         true
+    }
+
+    #[inline(always)]
+    fn read_frame_from_buffer<'a>(
+        &mut self,
+        reader: &mut BufferReader<'a>,
+    ) -> Result<Option<Frame<'a>>, ErrorCode> {
+        StreamBiLocalH3::read_frame_from_buffer(self, reader)
     }
 
     #[inline(always)]
@@ -105,6 +139,14 @@ impl ReadsFrames for StreamUniRemoteH3 {
     }
 
     #[inline(always)]
+    fn read_frame_from_buffer<'a>(
+        &mut self,
+        reader: &mut BufferReader<'a>,
+    ) -> Result<Option<Frame<'a>>, ErrorCode> {
+        StreamUniRemoteH3::read_frame_from_buffer(self, reader)
+    }
+
+    #[inline(always)]
     fn read_frame_async<S: AsyncRead>(
         &mut self,
         reading: &mut FrameReading,
@@ -123,6 +165,14 @@ impl ReadsFrames for StreamSession {
 
     fn can_read(&self) -> bool {
         true
+    }
+
+    #[inline(always)]
+    fn read_frame_from_buffer<'a>(
+        &mut self,
+        reader: &mut BufferReader<'a>,
+    ) -> Result<Option<Frame<'a>>, ErrorCode> {
+        StreamSession::read_frame_from_buffer(self, reader)
     }
 
     #[inline(always)]

@@ -1,12 +1,11 @@
 //! The result of a stream for the result of its reading: one implementation for all kinds, which
 //! differ in their rule.
-ghost use Rattle.std.specs.Prelude.{◌≡◌, true, not};
+ghost use Rattle.std.specs.Prelude.{◌≡◌};
 ghost use Rattle.wtp_core.specs.Polled.{polled_waits};
-ghost use Rattle.wtransport_proto.specs.StreamPolling.{JudgesGiven, JudgesPolled, stream_fault, without_frame};
+ghost use Rattle.wtransport_proto.specs.StreamPolling.{JudgesGiven, JudgesPolled, first_after, stream_fault, without_frame};
 ghost use Rattle.wtp_wire.specs.Codes.{frame_code};
 
-use crate::stream::reading::Rule;
-use std::mem;
+use crate::stream::reading::{Rule, permit};
 use wtp_core::bytes;
 use wtp_core::bytes::Polled;
 use wtp_core::error::ErrorCode;
@@ -28,27 +27,21 @@ pub enum IoReadError {
     IO(bytes::IoReadError),
 }
 
-/// Converts the result of a poll of a reading to that of its stream, by the rule of `K`, and
-/// records that a complete frame was read.
+/// Converts the result of a poll of a reading to that of its stream, by the rule of `K`. A complete
+/// frame would be the first of the stream if `first` says so.
 #[inline(always)]
-pub(crate) fn judge<K: Rule>(
+pub(crate) fn apply_rule<K: Rule>(
+    first: bool,
     answer: Polled<Result<FrameOwned, frame::IoReadError>>,
-    first_frame_done: &mut bool,
 ) -> Polled<Result<FrameOwned, IoReadError>>
-    ensures given { JudgesGiven K.role answer.entry result
-        (not first_frame_done.old) (not first_frame_done.new) }
-    ensures polled { JudgesPolled K.role answer.entry result
-        (not first_frame_done.old) (not first_frame_done.new) }
+    ensures given { JudgesGiven K.role answer.entry result first (first_after first answer.entry) }
+    ensures polled { JudgesPolled K.role answer.entry result first
+        (first_after first answer.entry) }
     ensures waits { polled_waits result ≡ polled_waits answer.entry }
-    ensures stays { first_frame_done.old ≡ true → first_frame_done.new ≡ true }
 {
     match answer {
         Polled::Ready(Ok(frame)) => {
-            let first = !mem::replace(first_frame_done, true);
-            match K::fault(first, frame.kind()) {
-                None => Polled::Ready(Ok(frame)),
-                Some(code) => Polled::Ready(Err(IoReadError::H3(code))),
-            }
+            Polled::Ready(permit::<K>(first, frame).map_err(IoReadError::H3))
         }
         Polled::Ready(Err(frame::IoReadError::Parse(fault))) => without_frame(&fault),
         Polled::Ready(Err(frame::IoReadError::IO(fault))) => {

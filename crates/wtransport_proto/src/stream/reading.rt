@@ -1,12 +1,14 @@
 //! Reading frames from a stream: one implementation for all kinds, which differ in their rule.
-ghost use Rattle.std.specs.Prelude.{◌≡◌, true, not};
+ghost use Rattle.std.specs.Prelude.{◌≡◌, true, false, not};
 ghost use Rattle.wtp_core.specs.Cursor.{left_of, whole_of};
 ghost use Rattle.wtp_core.specs.Reader.{IsRest};
+ghost use Rattle.wtp_wire.specs.Content.{kind_in};
 ghost use Rattle.wtp_wire.specs.Front.{front};
 ghost use Rattle.wtp_wire.specs.Rule.{Role, rule};
 ghost use Rattle.wtp_wire.specs.Run.{past_unknown};
-ghost use Rattle.wtransport_proto.specs.Reading.{AnswersFrame, AnswersKnown, AnswersRun, ReaderIsAfter};
+ghost use Rattle.wtransport_proto.specs.Reading.{AnswersFrame, AnswersKnown, AnswersRun, MovesPast, ReaderIsAfter, permitted};
 
+use std::mem;
 use wtp_core::bytes::{BufferReader, BytesReader};
 use wtp_core::error::ErrorCode;
 use wtp_wire::frame::{Frame, FrameKind};
@@ -40,6 +42,17 @@ fn read_known<'a, R: BytesReader<'a>>(reader: &mut R) -> Result<Option<Frame<'a>
     }
 }
 
+/// Returns a frame that the rule of `K` permits, or the code of the fault that refuses it.
+#[inline(always)]
+pub(crate) fn permit<'a, K: Rule>(first: bool, frame: Frame<'a>) -> Result<Frame<'a>, ErrorCode>
+    ensures { result ≡ permitted (rule K.role first (kind_in frame.entry)) frame.entry }
+{
+    match K::fault(first, frame.kind()) {
+        None => Ok(frame),
+        Some(code) => Err(code),
+    }
+}
+
 /// Reads the next frame by the rule of `K`, and records that a complete frame was read.
 #[inline(always)]
 pub(crate) fn read_frame<'a, K: Rule, R: BytesReader<'a>>(
@@ -56,11 +69,24 @@ pub(crate) fn read_frame<'a, K: Rule, R: BytesReader<'a>>(
     let Some(frame) = read_known(reader)? else {
         return Ok(None);
     };
-    let first = !std::mem::replace(first_frame_done, true);
-    match K::fault(first, frame.kind()) {
-        None => Ok(Some(frame)),
-        Some(code) => Err(code),
-    }
+    let first = !mem::replace(first_frame_done, true);
+    Ok(Some(permit::<K>(first, frame)?))
+}
+
+/// Reads the next frame by the rule of `K`, as one that is not the first of its stream.
+#[inline(always)]
+pub(crate) fn read_later_frame<'a, K: Rule, R: BytesReader<'a>>(
+    reader: &mut R,
+) -> Result<Option<Frame<'a>>, ErrorCode>
+    ensures answer { AnswersFrame K.role false (front (past_unknown (R.left reader.old))) result
+        false (R.left reader.new) }
+    ensures rest { IsRest (R.left reader.new) (R.left reader.old) }
+    ensures kept { R.kept reader.new ≡ R.kept reader.old }
+{
+    let Some(frame) = read_known(reader)? else {
+        return Ok(None);
+    };
+    Ok(Some(permit::<K>(false, frame)?))
 }
 
 /// Reads the next frame as `read_frame` does, and moves past it only.
@@ -77,12 +103,40 @@ pub(crate) fn read_frame_from_buffer<'a, K: Rule>(
     ensures whole { whole_of reader.new ≡ whole_of reader.old }
 {
     let mut ahead = BufferReader::new(reader.buffer_remaining());
-    match read_frame::<K, BufferReader<'a>>(first_frame_done, &mut ahead) {
-        Ok(Some(frame)) => {
-            reader.move_to(&ahead);
-            Ok(Some(frame))
-        }
-        Ok(None) => Ok(None),
-        Err(code) => Err(code),
+    let found = read_frame::<K, BufferReader<'a>>(first_frame_done, &mut ahead);
+    move_past(reader, &ahead, &found);
+    found
+}
+
+/// Reads the next frame as `read_later_frame` does, and moves past it only.
+#[inline(always)]
+pub(crate) fn read_later_frame_from_buffer<'a, K: Rule>(
+    reader: &mut BufferReader<'a>,
+) -> Result<Option<Frame<'a>>, ErrorCode>
+    ensures run { AnswersRun K.role false (left_of reader.old) result false (left_of reader.new) }
+    ensures place { ReaderIsAfter K.role false (left_of reader.old) result false
+        (left_of reader.new) }
+    ensures whole { whole_of reader.new ≡ whole_of reader.old }
+{
+    let mut ahead = BufferReader::new(reader.buffer_remaining());
+    let found = read_later_frame::<K, BufferReader<'a>>(&mut ahead);
+    move_past(reader, &ahead, &found);
+    found
+}
+
+/// Moves to the position of `ahead` if a frame was read there, and stays where it is otherwise.
+#[inline(always)]
+fn move_past<'a>(
+    reader: &mut BufferReader<'a>,
+    ahead: &BufferReader<'a>,
+    found: &Result<Option<Frame<'a>>, ErrorCode>,
+)
+    requires { whole_of ahead.now ≡ left_of reader.old }
+    ensures place { MovesPast found.now (left_of reader.old) (left_of ahead.now)
+        (left_of reader.new) }
+    ensures whole { whole_of reader.new ≡ whole_of reader.old }
+{
+    if let Ok(Some(_)) = found {
+        reader.move_to(ahead);
     }
 }

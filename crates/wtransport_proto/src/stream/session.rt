@@ -50,7 +50,7 @@ impl StreamSession {
         ensures rest { IsRest (R.left reader.new) (R.left reader.old) }
         ensures kept { R.kept reader.new ≡ R.kept reader.old }
     {
-        reading::read_frame::<Self, R>(&mut true, reader)
+        reading::read_later_frame::<Self, R>(reader)
     }
 
     /// Reads the next frame as `read_frame` does, and moves past it. The reader does not move if
@@ -66,7 +66,7 @@ impl StreamSession {
             (left_of reader.new) }
         ensures whole { whole_of reader.new ≡ whole_of reader.old }
     {
-        reading::read_frame_from_buffer::<Self>(&mut true, reader)
+        reading::read_later_frame_from_buffer::<Self>(reader)
     }
 
     /// Reads the next frame, poll by poll, by the rules of `read_frame`.
@@ -93,7 +93,7 @@ impl StreamSession {
         ensures waits { Telling (S.tells source.old) (S.tells source.new) (WaitsAs result) }
         ensures asks { Telling (S.tells source.old) (S.tells source.new) (Asks 4112) }
     {
-        polled::judge::<Self>(reading.poll(source), &mut true)
+        polled::apply_rule::<Self>(false, reading.poll(source))
     }
 
     /// Writes a frame as `Frame::write` does, and consumes it.

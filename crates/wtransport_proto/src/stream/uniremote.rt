@@ -67,16 +67,15 @@ impl StreamUniRemoteQuic {
         ensures rest { IsRest (R.left reader.new) (R.left reader.old) }
         ensures kept { R.kept reader.new ≡ R.kept reader.old }
     {
-        match StreamHeader::read(reader) {
-            Ok(Some(header)) => Ok(MaybeUpgradeH3::H3(Stream {
+        match StreamHeader::read(reader)? {
+            Some(header) => Ok(MaybeUpgradeH3::H3(Stream {
                 kind: self.kind,
                 stage: H3 {
                     header,
                     first_frame_done: false,
                 },
             })),
-            Ok(None) => Ok(MaybeUpgradeH3::Quic(self)),
-            Err(fault) => Err(ErrorCode::from(fault)),
+            None => Ok(MaybeUpgradeH3::Quic(self)),
         }
     }
 
@@ -123,7 +122,7 @@ impl StreamUniRemoteH3 {
         ensures same { self.new ≡ self.old }
         ensures readable { CanRead self.new }
     {
-        reading::read_frame::<Self, R>(&mut true, reader)
+        reading::read_later_frame::<Self, R>(reader)
     }
 
     /// Reads the next frame as `read_frame` does, and moves past it. The reader does not move if
@@ -142,7 +141,7 @@ impl StreamUniRemoteH3 {
         ensures same { self.new ≡ self.old }
         ensures readable { CanRead self.new }
     {
-        reading::read_frame_from_buffer::<Self>(&mut true, reader)
+        reading::read_later_frame_from_buffer::<Self>(reader)
     }
 
     /// Reads the next frame, poll by poll, by the rules of `read_frame`.
@@ -172,7 +171,7 @@ impl StreamUniRemoteH3 {
         ensures same { self.new ≡ self.old }
         ensures readable { CanRead self.new }
     {
-        polled::judge::<Self>(reading.poll(source), &mut true)
+        polled::apply_rule::<Self>(false, reading.poll(source))
     }
 }
 
