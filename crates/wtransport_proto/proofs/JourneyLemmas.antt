@@ -27,10 +27,12 @@ use Rattle.wtp_wire.specs.Run.{Run, Tail, past_unknown, run, follows}
 use Rattle.wtransport_proto.specs.HeldRun.{tail_of, run_of}
 use Rattle.wtransport_proto.specs.Reading.{FirstAfter}
 use Rattle.wtransport_proto.specs.StreamPolling.{SourceIsAfter, StreamTakesFrame, Faults, PassesUnknown, LacksMemory, StreamPolled}
-use Rattle.wtransport_proto.specs.Journey.{past_front, KeptPlace, Turned, Takes, LeftIsAfter, Breaks, FrameDid, MapDid, CameBack, ReadsBack}
+use Rattle.wtransport_proto.specs.Journey.{past_front, KeptPlace, Turned, Lacked, Takes, LeftIsAfter, Breaks, FrameDid, MapDid, CameBack, ReadsBack}
 use Rattle.wtp_wire.proofs.RunLemmas.{past_unknown-unknown, past_unknown-framed, past_unknown-bad, past_unknown-big, past_unknown-short}
 use Rattle.wtp_wire.proofs.RunLaws.{run-allowed}
 use Rattle.wtransport_proto.proofs.HeldRunLemmas.{skip_not_read, leaves_run, leaves_size, unknown_run, unknown_size, run_new}
+use Rattle.wtransport_proto.specs.Polls.{GivesNone}
+use Rattle.wtransport_proto.proofs.PollsLemmas.{series_start, series_end, series_on}
 use Rattle.wtransport_proto.proofs.DriveLemmas.{asks_more, asks_last}
 
 -- ---- the frame of a header map
@@ -81,6 +83,7 @@ kept_unknown role f0 f1 f2 mid new a b c g p ending = record {
 turned_start : (role : Role) (first : Bool) (h : Held) (a : Source) → h ≡ new_held → Turned role first first 0 h a a
 turned_start role first h a e = record {
   kept = kept_start role first h a e;
+  series = rw e (series_start GivesNone role first new_held [] a refl);
   moved = rw e (omega arith);
   waited = λ f rest is. (rw e (front_none [] 0 a.ahead refl ∙ is), omega arith);
 }
@@ -88,6 +91,7 @@ turned_start role first h a e = record {
 turned_waiting : (role : Role) (f0 f1 f2 : Bool) (n : ℕ) (mid new : Held) (a b c : Source) → Turned role f0 f1 n mid a b → Leaves mid new b c → f2 ≡ f1 → b.waits < c.waits → Asks 4112 b c → Turned role f0 f2 (n + 1) new a c
 turned_waiting role f0 f1 f2 n mid new a b c g v e w k = record {
   kept = kept_still role f0 f1 f2 mid new a b c g.kept v e k.ending;
+  series = series_on GivesNone role [] [] n Pending f0 f1 f2 new_held mid new a b c refl tt g.series (v, e, w);
   moved = let one = g.moved in omega (arith, leaves_size mid new b c v);
   waited = λ f rest is. let one = g.waited f rest is in let more = one.1 in (v.same ∙ one.0, omega arith);
 }
@@ -101,6 +105,7 @@ no_unknown f1 f2 mid new b c f rest p is = elim (cases_lt 0 new.due) [
 turned_unknown : (role : Role) (f0 f1 f2 : Bool) (n : ℕ) (mid new : Held) (a b c : Source) → Turned role f0 f1 n mid a b → PassesUnknown f1 f2 mid new b c → Asks 4112 b c → Turned role f0 f2 (n + 1) new a c
 turned_unknown role f0 f1 f2 n mid new a b c g p k = record {
   kept = kept_unknown role f0 f1 f2 mid new a b c g.kept p k.ending;
+  series = series_on GivesNone role [] [] n Again f0 f1 f2 new_held mid new a b c refl tt g.series p;
   moved = let one = g.moved in let two = k.waits in omega (arith, unknown_size f1 f2 mid new b c p);
   waited = λ f rest is. let one = g.waited f rest is in absurd (no_unknown f1 f2 mid new b c f rest p one.0);
 }
@@ -124,11 +129,19 @@ told_unknown s t u role f0 f1 f2 n mid new p q k =
     (λ a b c g h. turned_unknown role f0 f1 f2 n mid new a b c g h.0 h.1)
     p (telling_both t u (PassesUnknown f1 f2 mid new) (Asks 4112) q k)
 
+lacked : (role : Role) (f0 f1 f2 : Bool) (n turns : ℕ) (mid new : Held) (a b c : Source) → n < turns → Turned role f0 f1 n mid a b → LacksMemory f1 f2 mid new b c → c.ending ≡ b.ending → Lacked role f0 f2 turns new a c
+lacked role f0 f1 f2 n turns mid new a b c fewer g h ending = record {
+  kept = kept_still role f0 f1 f2 mid new a b c g.kept h.leaves h.flag ending;
+  before = n;
+  fewer = fewer;
+  series = series_end GivesNone role [] n NoMemory f0 f1 f2 new_held mid new a b c g.series h;
+}
+
 pub told_memory : (s t u : Option Source) (role : Role) (f0 f1 f2 : Bool) (n turns : ℕ) (mid new : Held)
-    → IsUnfinished new → Telling s t (Turned role f0 f1 n mid) → Telling t u (StreamPolled role NoMemory f1 f2 mid new) → Telling t u (Asks 4112) → Telling s u (FrameDid role f0 f2 turns (Err receive.Memory))
-told_memory s t u role f0 f1 f2 n turns mid new unfinished p q k =
+    → n < turns → IsUnfinished new → Telling s t (Turned role f0 f1 n mid) → Telling t u (StreamPolled role NoMemory f1 f2 mid new) → Telling t u (Asks 4112) → Telling s u (FrameDid role f0 f2 turns (Err receive.Memory))
+told_memory s t u role f0 f1 f2 n turns mid new fewer unfinished p q k =
     telling_then s t u (Turned role f0 f1 n mid) (λ b c. LacksMemory f1 f2 mid new b c × Asks 4112 b c) (FrameDid role f0 f2 turns (Err receive.Memory))
-    (λ a b c g h. (new, unfinished, kept_still role f0 f1 f2 mid new a b c g.kept h.0.leaves h.0.flag h.1.ending))
+    (λ a b c g h. (new, unfinished, lacked role f0 f1 f2 n turns mid new a b c fewer g h.0 h.1.ending))
     p (telling_both t u (LacksMemory f1 f2 mid new) (Asks 4112) q k)
 
 taken : (role : Role) (f0 f1 f2 : Bool) (mid new : Held) (f : Content) (a b c : Source) → KeptPlace role f0 f1 mid a b → StreamTakesFrame role f1 f2 mid new f b c → Takes role f0 f2 f a c

@@ -1,14 +1,15 @@
 -- The journey of a header map over a stream: sent completely by one end, and read back by the
 -- other.
-use Rattle.std.specs.Prelude.{◌≡◌, ◌≢◌, ℕ, ◌+◌, ◌<◌, ◌≤◌, Bool, false, List, [], ◌++◌, length, take, None, Result, Ok, Err}
+use Rattle.std.specs.Prelude.{◌≡◌, ◌≢◌, ℕ, ◌+◌, ◌<◌, ◌≤◌, Bool, false, List, [], ◌∷◌, ◌++◌, length, take, None, Result, Ok, Err}
 use Rattle.wtp_core.specs.declared.bytes.polled.IoWriteError.TheVariants as fault
+use Rattle.wtp_core.specs.declared.bytes.polled.Polled.TheVariants.{NoMemory}
 use Rattle.wtp_core.specs.declared.error.Refused.TheVariants as refused
 use Rattle.wtp_core.specs.Source.{Source}
 use Rattle.wtp_core.specs.Sink.{Sink, Took}
 use Rattle.wtp_wire.specs.declared.frame.kind.FrameKind.TheVariants.{Headers}
 use Rattle.wtp_wire.specs.Content.{Content, HeadersOf, kind_in}
 use Rattle.wtp_wire.specs.Front.{Front, Framed, Unknown, BadId, TooBig, Short, front}
-use Rattle.wtp_wire.specs.Held.{Held, front_held, IsUnfinished}
+use Rattle.wtp_wire.specs.Held.{Held, new_held, front_held, IsUnfinished}
 use Rattle.wtp_wire.specs.Wire.{wire}
 use Rattle.wtp_fields.specs.Field.{Field}
 use Rattle.wtp_fields.specs.Headers.{payload, headers_at, BeginsLine}
@@ -22,6 +23,7 @@ use Rattle.wtransport_proto.specs.declared.journey.JourneyError.TheVariants as j
 use Rattle.wtp_wire.specs.Rule.{Role, RemoteUni, rule}
 use Rattle.wtp_wire.specs.Run.{past_unknown, run}
 use Rattle.wtransport_proto.specs.HeldRun.{tail_of, run_of, size_of}
+use Rattle.wtransport_proto.specs.Polls.{GivesNone, Series}
 use Rattle.wtransport_proto.specs.StreamPolling.{EndsSo, IsDry}
 use Rattle.wtransport_proto.specs.Reading.{FirstAfter}
 
@@ -72,15 +74,25 @@ pub record KeptPlace (role : Role) (first next : Bool) (held : Held) (a b : Sour
   pub known : past_front (front_held held b.ahead) ≡ front (past_unknown a.ahead)
   pub flag : next ≡ first
 
--- Each of this many turns waited or took some of an unknown frame; if the input starts with a
--- frame, it still does, and each waited.
+-- Each of this many turns waited or passed an unknown frame or 4096 bytes of it; if the input starts
+-- with a frame, it still does, and each waited.
 pub record Turned (role : Role) (first next : Bool) (turns : ℕ) (held : Held) (a b : Source) : Type
     0 where
   pub kept : KeptPlace role first next held a b
+  pub series : Series GivesNone role [] turns [] first next new_held held a b
   pub moved : size_of held b + a.waits + turns ≤ length a.ahead + b.waits
   pub waited :
       (f : Content) (rest : List ℕ) → front a.ahead ≡ Framed f rest
       → (front_held held b.ahead ≡ Framed f rest) × (a.waits + turns ≤ b.waits)
+
+-- Fewer than this many turns waited or passed some of an unknown frame, and then allocation failed
+-- for the payload of a frame.
+pub record Lacked (role : Role) (first next : Bool) (turns : ℕ) (held : Held) (a b : Source) : Type
+    0 where
+  pub kept : KeptPlace role first next held a b
+  pub before : ℕ
+  pub fewer : before < turns
+  pub series : Series GivesNone role [] before (NoMemory ∷ []) first next new_held held a b
 
 -- This frame follows the unknown frames at the start, the stream allows it, and it was taken, and
 -- no byte after it.
@@ -115,7 +127,7 @@ FrameDid role first next turns (Err (receive.Stream x)) a b = Breaks role first 
 FrameDid role first next turns (Err (receive.OtherKind kind)) a b = ⊥
 FrameDid role first next turns (Err (receive.Section e)) a b = ⊥
 FrameDid role first next turns (Err receive.Memory) a b =
-    (held : Held) × IsUnfinished held × KeptPlace role first next held a b
+    (held : Held) × IsUnfinished held × Lacked role first next turns held a b
 
 -- what reading the map of a frame did
 abbrev pub MapDid :

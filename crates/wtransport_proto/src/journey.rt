@@ -180,13 +180,8 @@ pub fn send_and_receive<W: AsyncWrite, K: ReadsFrames, S: AsyncRead>(
 {
     // Each name is in the map once, and all are texts.
     let _fields = headers.as_ref();
-    let frame = match headers.generate_frame(alloc) {
-        Ok(frame) => frame,
-        Err(error) => return Err(JourneyError::Frame(error)),
-    };
-    if let Err(error) = send(&frame, sink, turns) {
-        return Err(JourneyError::Send(error));
-    }
+    let frame = headers.generate_frame(alloc).map_err(JourneyError::Frame)?;
+    send(&frame, sink, turns).map_err(JourneyError::Send)?;
     match receive(alloc, stream, source, turns) {
         Ok(headers) => Ok(headers),
         Err(error) => Err(JourneyError::Receive(error)),
