@@ -1,4 +1,4 @@
-pub mod RecordedLemmas
+pub mod ControlLemmas
 pub mod ListingLemmas
 pub mod RequestLemmas
 pub mod ProgramLemmas

@@ -3,7 +3,6 @@
 mod cut_source;
 pub mod frames;
 pub mod lines;
-pub mod recorded;
 pub mod request;
 pub mod stepped;
 

@@ -6,9 +6,9 @@ use Rattle.wt_listings.proofs.listing.frames.list_stream.Given as goal
 
 abbrev pub invariant-frames : goal.invariant-frames
 invariant-frames g l = record {
-  begun : IsBegun l.lines (run g.S.RecordedStream.role (g.S.RecordedStream.first l.stream) (left_of l.reader) MayGoOn) (run g.S.RecordedStream.role (g.S.RecordedStream.first l.initial.stream) l.input MayGoOn);
-  can_read : g.S.RecordedStream.can_read l.stream;
+  begun : IsBegun l.lines (run g.S.ReadsFrames.role (g.S.ReadsFrames.first l.stream) (left_of l.reader) MayGoOn) (run g.S.ReadsFrames.role (g.S.ReadsFrames.first l.initial.stream) l.input MayGoOn);
+  can : g.S.ReadsFrames.can l.stream;
 }
 
 abbrev pub decreases-frames : goal.decreases-frames
-decreases-frames g l = length (run g.S.RecordedStream.role (g.S.RecordedStream.first l.stream) (left_of l.reader) MayGoOn).frames
+decreases-frames g l = length (run g.S.ReadsFrames.role (g.S.ReadsFrames.first l.stream) (left_of l.reader) MayGoOn).frames

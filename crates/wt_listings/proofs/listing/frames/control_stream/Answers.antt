@@ -1,5 +1,5 @@
-use Rattle.wt_listings.proofs.RecordedLemmas.{control_header, control_whole, control_good}
-use Rattle.wt_listings.proofs.listing.recorded.control_stream.Goals as goal
+use Rattle.wt_listings.proofs.ControlLemmas.{control_header, control_whole, control_good}
+use Rattle.wt_listings.proofs.listing.frames.control_stream.Goals as goal
 
 pub returns : goal.returns
 returns c = control_header _ _ _ _ _ c.as_slice-type_number.ensures c.in-Ok-H3.field-0-is c.in-Ok-H3.ensures.answer
