@@ -1,5 +1,5 @@
 -- The arguments of the program, its faults and statuses, and what it writes.
-use Rattle.std.specs.Prelude.{◌≡◌, ◌⊎◌, ℕ, ◌≤◌, List, [], ◌∷◌, length, map, Option, IfSome, codes}
+use Rattle.std.specs.Prelude.{◌≡◌, ◌⊎◌, ℕ, ◌≤◌, ◌<◌, List, [], ◌∷◌, ◌++◌, length, map, Option, IfSome, codes}
 use Rattle.std.specs.Prelude.{String, string_bytes}
 use Rattle.std.specs.Global.{Global}
 use Rattle.std.specs.Io.KnownBytes.{Appends, IsAtEnd}
@@ -32,6 +32,10 @@ fault_text InputTooLong = codes "wt_frames: input too long"
 fault_text ReadFault = codes "wt_frames: read fault"
 fault_text WriteFault = codes "wt_frames: write fault"
 fault_text NoMemory = codes "wt_frames: no memory"
+
+-- the line of a fault
+abbrev pub fault_line : Fault → List ℕ
+fault_line fault = fault_text fault ++ codes "\n"
 
 -- the arguments as texts
 abbrev pub texts_of : List (String Global) → List (List ℕ)
@@ -98,3 +102,23 @@ ReadsWhole arguments input left =
     (command : Command) × Names arguments command
     × IfSome input (λ bytes. length bytes ≤ 1048576)
     × IsAtEnd left
+
+-- as far as the bytes written are known, these were appended, or only the first of them
+abbrev pub AppendsStart : List ℕ → Known → Known → Type 0
+AppendsStart text old new =
+    (start : List ℕ) × (rest : List ℕ) × (text ≡ start ++ rest) × Appends old new start
+
+-- A run of the program ended with this fault. Its line was appended to the errors and nothing else,
+-- or only its start.
+pub record FailsWith (fault : Fault) (arguments : List (List ℕ)) (input left errors reported : Known) : Type 0 where
+  pub line : AppendsStart (fault_line fault) errors reported
+  pub usage : fault ≡ Usage → NamesNone arguments
+  pub too_long : fault ≡ InputTooLong → IfSome input (λ bytes. 1048576 < length bytes)
+  pub unwritten : fault ≡ WriteFault → ReadsWhole arguments input left
+
+-- the same by the status that the program ended with, which is not that of a listing
+abbrev pub EndsFailed : List (List ℕ) → Known → Known → Known → Known → ℕ → Type 0
+EndsFailed arguments input left errors reported status =
+    (fault : Fault)
+    × (status ≡ fault_status fault)
+    × FailsWith fault arguments input left errors reported

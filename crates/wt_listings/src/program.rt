@@ -1,10 +1,10 @@
 //! The program: its arguments, its input and output, and its statuses.
 ghost use Rattle.std.specs.Prelude.{◌≡◌, ◌≢◌, ◌≤◌, ◌<◌, ◌⊎◌, length, Err};
-ghost use Rattle.std.specs.Prelude.{◌++◌, IfOk, IfErr, IfSome, OnOk, codes, vec_len};
+ghost use Rattle.std.specs.Prelude.{IfOk, IfErr, IfSome, OnOk, vec_len};
 ghost use Rattle.std.specs.Io.KnownBytes.{Appends, IsAtEnd};
 ghost use Rattle.wt_listings.specs.Listing.{Says};
-ghost use Rattle.wt_listings.specs.Program.{fault_status, fault_text, texts_of, listing_of, CanList};
-ghost use Rattle.wt_listings.specs.Program.{NamesNone, ListsArguments, ReadsWhole};
+ghost use Rattle.wt_listings.specs.Program.{fault_line, fault_status, fault_text, texts_of, listing_of, CanList};
+ghost use Rattle.wt_listings.specs.Program.{AppendsStart, EndsFailed, NamesNone, ListsArguments, ReadsWhole};
 
 mod arguments;
 
@@ -16,7 +16,7 @@ pub use arguments::Command;
 use arguments::named_command;
 use std::alloc::{AllocError, Global};
 use std::fmt;
-use std::io::{Read, Write};
+use std::io::{self, Read, Write};
 
 /// The greatest number of bytes of input that are listed.
 const MAX_INPUT: usize = 1_048_576;
@@ -80,10 +80,10 @@ impl Fault {
 ///
 /// The status is that of the listing; 1 for other arguments, before anything is read or written; 3
 /// for more than 1048576 bytes of input, a failed read and a failed write; 4 if allocation fails.
-/// With 1, 3 and 4 one line is written to `errors`, and a fault of that line is ignored; with every
-/// other status `errors` is unchanged. Nothing is written to `output` before the whole listing is
-/// made: with 1 and 4 `output` is unchanged, and with 3 too unless the listing could not be written,
-/// of which it may then contain a part.
+/// With 1, 3 and 4 the line of the fault is written to `errors`, or only its start if a write of it
+/// fails; with every other status `errors` is unchanged. Nothing is written to `output` before the
+/// whole listing is made: with 1 and 4 `output` is unchanged, and with 3 too unless the listing
+/// could not be written, of which it may then contain a part.
 pub fn run_program<R: Read, W: Write, E: Write>(
     alloc: Global,
     arguments: &[String],
@@ -107,6 +107,11 @@ pub fn run_program<R: Read, W: Write, E: Write>(
         ⊎ ReadsWhole (texts_of arguments.now) (R.remaining input.old) (R.remaining input.new) }
     // Status 0 and 2 come with no line of an error.
     ensures silent { (result ≡ 0) ⊎ (result ≡ 2) → errors.new ≡ errors.old }
+    // Every other status is that of a fault. Its line was written, or the start of it if a write
+    // failed.
+    ensures reported { ((result ≡ 0) ⊎ (result ≡ 2))
+        ⊎ EndsFailed (texts_of arguments.now) (R.remaining input.old) (R.remaining input.new)
+        (E.contents errors.old) (E.contents errors.new) result }
     ensures statuses { result ≤ 4 }
 {
     match try_run(alloc, arguments, input, output) {
@@ -118,12 +123,32 @@ pub fn run_program<R: Read, W: Write, E: Write>(
     }
 }
 
-/// Writes the line of a fault.
-fn report<E: Write>(errors: &mut E, fault: Fault) -> std::io::Result<()>
-    ensures { OnOk result (Appends (E.contents errors.old) (E.contents errors.new)
-        (fault_text fault ++ codes "\n")) }
+/// Writes the line of a fault, or the start of it if a write fails.
+fn report<E: Write>(errors: &mut E, fault: Fault) -> io::Result<()>
+    ensures whole { OnOk result (Appends (E.contents errors.old) (E.contents errors.new)
+        (fault_line fault)) }
+    ensures start { AppendsStart (fault_line fault) (E.contents errors.old)
+        (E.contents errors.new) }
 {
-    writeln!(errors, "{}", fault.as_str())
+    write_start(errors, fault.as_str().as_bytes())?;
+    write_start(errors, b"\n")
+}
+
+/// Writes bytes until a write fails.
+fn write_start<E: Write>(errors: &mut E, bytes: &[u8]) -> io::Result<()>
+    ensures whole { OnOk result (Appends (E.contents errors.old) (E.contents errors.new)
+        bytes.now) }
+    ensures start { AppendsStart bytes.now (E.contents errors.old) (E.contents errors.new) }
+{
+    let mut rest = bytes;
+    'writes: while !rest.is_empty() {
+        let count = errors.write(rest)?;
+        if count == 0 {
+            return Err(io::Error::from(io::ErrorKind::WriteZero));
+        }
+        rest = &rest[count..];
+    }
+    Ok(())
 }
 
 /// The same, but returns a fault in place of its line and status.
@@ -136,6 +161,8 @@ fn try_run<R: Read, W: Write>(
     ensures usage { NamesNone (texts_of arguments.now)
         → (result ≡ Err Fault.Usage) × (input.new ≡ input.old) }
     ensures no_usage { result ≡ Err Fault.Usage → NamesNone (texts_of arguments.now) }
+    ensures too_long { result ≡ Err Fault.InputTooLong
+        → IfSome (R.remaining input.old) (λ bytes. 1048576 < length bytes) }
     ensures lists { IfOk result (ListsArguments (texts_of arguments.now) (R.remaining input.old)
         (W.contents output.old) (W.contents output.new)) }
     ensures status { IfOk result (λ s. (s ≡ 0) ⊎ (s ≡ 2)) }

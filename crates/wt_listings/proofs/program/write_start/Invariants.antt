@@ -1,0 +1,10 @@
+use Rattle.std.proofs.Common.{◌≡◌, ℕ, List, ◌++◌, length}
+use Rattle.std.specs.Io.KnownBytes.{Appends}
+use Rattle.wt_listings.proofs.program.write_start.Given as goal
+
+-- the bytes written so far, and those that are left
+abbrev pub invariant-writes : goal.invariant-writes
+invariant-writes g l = (start : List ℕ) × (l.bytes ≡ start ++ l.rest) × Appends (g.E.Write.contents l.fn.errors) (g.E.Write.contents l.errors) start
+
+abbrev pub decreases-writes : goal.decreases-writes
+decreases-writes g l = length l.rest
