@@ -91,7 +91,7 @@ two_numbers bytes r rest id n e f =
       parts = parts ∙ ap (λ (x : List ℕ). first ++ x) behind ∙ sym (append_assoc first second rest);
     }
 
-none_number : (id : ℕ) → capsule_kind_of id ≡ None → (kind : CapsuleKind) → id ≢ capsule_number_of kind
+pub none_number : (id : ℕ) → capsule_kind_of id ≡ None → (kind : CapsuleKind) → id ≢ capsule_number_of kind
 none_number id e kind is = let some : capsule_kind_of id ≡ Some kind = ap capsule_kind_of is ∙ capsule_kind_of-number kind in let bad : None ≡ Some kind = sym e ∙ some in absurd (cc)
 
 pub same_number : (id n : ℕ) (kind : CapsuleKind) (head : List ℕ) → capsule_kind_of id ≡ Some kind → EncodesPair id n head → EncodesPair (capsule_number_of kind) n head

@@ -91,7 +91,7 @@ pub ruleset capsule_steps = (says-pair, says-no_pair)
 
 -- ---- how many bytes are missing
 
-pair_at-part : (h : List ℕ) → length h < frame_need h → pair_at h ≡ None
+pub pair_at-part : (h : List ℕ) → length h < frame_need h → pair_at h ≡ None
 pair_at-part h l = elim (cases_lt (length h) (varint_need h)) [
   | inl part ↦ pair_at-no_number h (number_at-cut h part)
   | inr full ↦
@@ -100,7 +100,7 @@ pair_at-part h l = elim (cases_lt (length h) (varint_need h)) [
       pair_at-no_value h r one.0 one.1 (number_at-cut r (omega (arith, frame_need_is h, length-drop (varint_need h) h)))
 ]
 
-pair_at-full : (h : List ℕ) → frame_need h ≤ length h → pair_at h ≡ None → ⊥
+pub pair_at-full : (h : List ℕ) → frame_need h ≤ length h → pair_at h ≡ None → ⊥
 pair_at-full h l none =
     let full : varint_need h ≤ length h = omega (arith, frame_need_least h) in
     let r = drop (varint_need h) h in

@@ -30,6 +30,7 @@ pub mod CapsuleStreamLemmas
 pub mod CapsuleReadingLemmas
 pub mod HeadPairLemmas
 pub mod CapsuleCursorLemmas
+pub mod AnyCapsuleLemmas
 pub mod WritingLemmas
 pub mod HeaderPollLemmas
 pub mod DatagramLemmas

@@ -5,14 +5,12 @@ use Rattle.wtp_wire.specs.declared.capsule.cursor.CapsuleCursor.{CapsuleCursor}
 use Rattle.wtp_wire.specs.declared.capsule.cursor.CapsulePlace.{CapsulePlace}
 use Rattle.wtp_wire.specs.declared.capsule.cursor.CapsuleStep.{CapsuleStep}
 use Rattle.wtp_wire.specs.declared.capsule.cursor.CapsuleStep.TheVariants.{Capsule, More, TooLong}
-use Rattle.wtp_wire.specs.declared.capsule.cursor.Start.{Start}
-use Rattle.wtp_wire.specs.declared.capsule.cursor.Start.TheVariants as start-is
 use Rattle.wtp_wire.specs.declared.capsule.reading.CutCapsule.{CutCapsule}
-use Rattle.wtp_wire.specs.CapsuleFront.{Found, longest_value}
+use Rattle.wtp_wire.specs.CapsuleFront.{longest_value}
 use Rattle.wtp_wire.specs.CapsuleFront.{TooLong as TooLongFront}
 use Rattle.wtp_wire.specs.CapsuleStream.{Capsules, CapsuleEnding, Between, Within, AtTooLong, Joins, MissesValue, TakesCapsule, capsules_held, ends, follows, next_held}
 use Rattle.wtp_wire.specs.FrameNeed.{frame_need}
-use Rattle.wtp_wire.specs.Held.{Held, new_held}
+use Rattle.wtp_wire.specs.Held.{Held}
 
 -- what a cursor holds: no bytes, and in their place the bytes of an unknown capsule's value that
 -- are still to be skipped
@@ -139,32 +137,3 @@ found_in (Stepped step ∷ events) bytes =
 abbrev pub ending_of : Result (Unit {0}) CutCapsule → CapsuleEnding
 ending_of (Ok u) = Between
 ending_of (Err e) = Within
-
--- ---- what bytes start with, for the private function that reads it
-
--- an unknown type and a length, of h bytes together; n bytes of a value are to be skipped after
--- them
-pub record IsUnknownStart (h n : ℕ) (bytes : List ℕ) : Type 0 where
-  pub some : 0 < h
-  pub within : h ≤ length bytes
-  pub joins : Joins new_held bytes (record { taken = []; due = n }) (drop h bytes)
-
--- a capsule, whose value is from offset a to b
-pub record IsValueStart (kind : CapsuleKind) (a b : ℕ) (bytes : List ℕ) : Type 0 where
-  pub ordered : a ≤ b
-  pub small : b - a ≤ longest_value kind
-  pub within : b ≤ length bytes
-  pub found :
-      (more : List ℕ)
-      → next_held new_held (bytes ++ more)
-      ≡ Found kind (take (b - a) (drop a bytes)) (drop b bytes ++ more)
-
-pub record IsLongStart (bytes : List ℕ) : Type 0 where
-  pub rest : List ℕ
-  pub found : (more : List ℕ) → next_held new_held (bytes ++ more) ≡ TooLongFront (rest ++ more)
-
-abbrev pub StartIs : Start → List ℕ → Type 0
-StartIs (start-is.Unknown h n) bytes = IsUnknownStart h n bytes
-StartIs (start-is.Value kind a b) bytes = IsValueStart kind a b bytes
-StartIs start-is.TooLong bytes = IsLongStart bytes
-StartIs start-is.Cut bytes = IsCapsulePart bytes

@@ -31,6 +31,7 @@ pub mod CapsuleFront
 pub mod CapsuleStream
 pub mod CapsuleSteps
 pub mod CapsuleCursor
+pub mod AnyCapsule
 pub mod HeaderNeed
 pub mod HeaderPolling
 pub mod Rule

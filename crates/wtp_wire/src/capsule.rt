@@ -5,7 +5,9 @@ pub mod capsules;
 mod cursor;
 mod reading;
 
-pub use crate::capsule::cursor::{CapsuleCursor, CapsulePlace, CapsuleStep};
+pub use crate::capsule::cursor::{
+    AnyCapsule, CapsuleCursor, CapsulePlace, CapsuleStep, UnknownCapsule,
+};
 pub use crate::capsule::reading::{CapsuleReading, CutCapsule};
 use crate::frame::{Frame, FrameKind};
 use std::borrow::CowSlice;

@@ -1,9 +1,10 @@
 //! Reading capsules from bytes that the caller holds, with no memory. Not in the Rust crate.
 ghost use Rattle.std.specs.Prelude.{◌≡◌, ◌≤◌, ◌-◌, ◌↔◌, length, IsOk};
 
-use crate::capsule::reading::{CapsuleHead, read_head};
+use crate::capsule::reading::value_len;
 use crate::capsule::{CapsuleKind, CutCapsule};
-use crate::head::pair_size;
+use crate::head::{first_pair, missing_bytes};
+use wtp_core::varint::VarInt;
 
 /// All that reading the capsules of a stream's data remembers between two calls. Not in the Rust
 /// crate.
@@ -16,7 +17,8 @@ pub struct CapsuleCursor {
     pub due: u64,
 }
 
-/// A capsule by its place in the bytes given to `CapsuleCursor::next`. Not in the Rust crate.
+/// A capsule by its place in the bytes given to `CapsuleCursor::next` or `next_any`. Not in the Rust
+/// crate.
 #[derive(Clone, Copy, Debug, PartialEq, Eq)]
 pub struct CapsulePlace {
     /// The kind.
@@ -39,6 +41,31 @@ pub enum CapsuleStep {
     TooLong,
 }
 
+/// A capsule of an unknown type, by its type, its length and the place of its value in the bytes
+/// given to `CapsuleCursor::next_any`. Not in the Rust crate.
+#[derive(Clone, Copy, Debug, PartialEq, Eq)]
+pub struct UnknownCapsule {
+    /// The type.
+    pub number: VarInt,
+    /// The length of the value in bytes, however many of them have come.
+    pub announced: VarInt,
+    /// The offset of the value, which is the number of bytes consumed.
+    pub start: usize,
+}
+
+/// What a cursor finds next, if capsules of unknown types count. Not in the Rust crate.
+#[derive(Clone, Copy, Debug, PartialEq, Eq)]
+pub enum AnyCapsule {
+    /// A capsule of a known kind. The bytes up to its end are consumed.
+    Known(CapsulePlace),
+    /// A capsule of an unknown type. The bytes up to its value are consumed.
+    Unknown(UnknownCapsule),
+    /// More bytes are needed, after this many that are consumed.
+    More(usize),
+    /// A value that is too long. No byte is consumed.
+    TooLong,
+}
+
 impl CapsulePlace {
     ghost use Rattle.wtp_wire.specs.CapsuleCursor.{capsule_value};
 
@@ -53,6 +80,7 @@ impl CapsulePlace {
 }
 
 impl CapsuleCursor {
+    ghost use Rattle.wtp_wire.specs.AnyCapsule.{AnyIs, CapsulesOfAny, missing_from};
     ghost use Rattle.wtp_wire.specs.CapsuleCursor.{StepIs, CapsulesGoOn, IsLeftOver};
     ghost use Rattle.wtp_wire.specs.CapsuleCursor.{capsules_from, ending_of};
     ghost use Rattle.wtp_wire.specs.CapsuleStream.{ends};
@@ -88,33 +116,102 @@ impl CapsuleCursor {
     fn find(&mut self, bytes: &[u8]) -> CapsuleStep
         ensures { StepIs result self.old bytes.now self.new }
     {
-        let mut due = self.due;
+        let before = *self;
         let mut at: usize = 0;
         'capsules: loop {
-            let left = (bytes.len() - at) as u64;
-            if due > left {
-                self.due = due - left;
-                return CapsuleStep::More(bytes.len());
-            }
-            at += due as usize;
-            match Start::read(bytes.split_at(at).1) {
-                Start::Unknown(head, size) => {
-                    at += head;
-                    due = size;
-                }
-                Start::Value(kind, start, end) => {
-                    self.due = 0;
+            match self.first(bytes.split_at(at).1) {
+                AnyCapsule::Unknown(unknown) => at += unknown.start,
+                AnyCapsule::Known(place) => {
                     return CapsuleStep::Capsule(CapsulePlace {
-                        kind,
-                        start: at + start,
-                        end: at + end,
+                        kind: place.kind,
+                        start: at + place.start,
+                        end: at + place.end,
                     });
                 }
-                Start::TooLong => return CapsuleStep::TooLong,
-                Start::Cut => {
-                    self.due = 0;
-                    return CapsuleStep::More(at);
+                AnyCapsule::More(n) => return CapsuleStep::More(at + n),
+                AnyCapsule::TooLong => {
+                    *self = before;
+                    return CapsuleStep::TooLong;
                 }
+            }
+        }
+    }
+
+    /// Finds the next capsule of any type in the bytes that follow those consumed before. It does
+    /// not allocate.
+    ///
+    /// The bytes are the payloads of DATA frames, joined. The first `due` of them are skipped: they
+    /// are the rest of an unknown capsule's value.
+    ///
+    /// - `Known(place)`: the next capsule, of a known kind. The bytes up to `place.end` are
+    ///   consumed.
+    /// - `Unknown(capsule)`: the next capsule, of an unknown type. The bytes up to `capsule.start`
+    ///   are consumed, and `due` is the length of its value, which later calls skip, also piece by
+    ///   piece (RFC 9297, section 3.2). Whoever takes bytes of the value instead subtracts their
+    ///   number from `due`.
+    /// - `More(n)`: there is no complete type and length, or they are those of a known kind and its
+    ///   value is not complete. The first `n` bytes are consumed: those that were to be skipped, as
+    ///   far as they came. At most 1043 are left, which have to be given again with more bytes after
+    ///   them.
+    /// - `TooLong`: the value of the next capsule is longer than `CapsuleKind::longest_value`. The
+    ///   cursor does not change.
+    pub fn next_any(&mut self, bytes: &[u8]) -> AnyCapsule
+        ensures first { AnyIs result self.old bytes.now self.new }
+        ensures capsules { CapsulesOfAny result self.old bytes.now self.new }
+    {
+        self.first(bytes)
+    }
+
+    /// Finds the next capsule of any type.
+    fn first(&mut self, bytes: &[u8]) -> AnyCapsule
+        ensures { AnyIs result self.old bytes.now self.new }
+    {
+        let due = self.due;
+        let left = bytes.len() as u64;
+        if due > left {
+            self.due = due - left;
+            return AnyCapsule::More(bytes.len());
+        }
+        let at = due as usize;
+        match Start::read(bytes.split_at(at).1) {
+            Start::Unknown(number, announced, start) => {
+                self.due = announced.into_inner();
+                AnyCapsule::Unknown(UnknownCapsule {
+                    number,
+                    announced,
+                    start: at + start,
+                })
+            }
+            Start::Value(kind, start, end) => {
+                self.due = 0;
+                AnyCapsule::Known(CapsulePlace {
+                    kind,
+                    start: at + start,
+                    end: at + end,
+                })
+            }
+            Start::TooLong => AnyCapsule::TooLong,
+            Start::Cut => {
+                self.due = 0;
+                AnyCapsule::More(at)
+            }
+        }
+    }
+
+    /// Returns how many bytes are missing, with `rest` left over: those to be skipped; of a type and
+    /// a length that are not complete, the least number; or else those of a value. The rest are the
+    /// bytes after the first `n`, after `More(n)`.
+    pub fn missing(&self, rest: &[u8]) -> u64
+        ensures { result ≡ missing_from self.now rest.now }
+    {
+        if self.due > 0 {
+            return self.due;
+        }
+        match first_pair(rest) {
+            None => missing_bytes(rest) as u64,
+            Some(head) => {
+                let come = rest.len() - head.size;
+                head.second.into_inner().saturating_sub(come as u64)
             }
         }
     }
@@ -140,8 +237,8 @@ impl CapsuleCursor {
 /// What bytes start with.
 #[derive(Clone, Copy)]
 enum Start {
-    /// The type and the length of an unknown capsule, which have this size; the length.
-    Unknown(usize, u64),
+    /// An unknown type, the length of its value, and the size of both.
+    Unknown(VarInt, VarInt, usize),
     /// A capsule of this kind; the offset of its value, and that of the byte after it.
     Value(CapsuleKind, usize, usize),
     /// The type and the length of a value that is too long.
@@ -151,23 +248,24 @@ enum Start {
 }
 
 impl Start {
-    ghost use Rattle.wtp_wire.specs.CapsuleCursor.{StartIs};
+    ghost use Rattle.wtp_wire.specs.AnyCapsule.{StartIs};
 
     /// Returns what the bytes start with.
     fn read(bytes: &[u8]) -> Start
         ensures { StartIs result bytes.now }
     {
-        let start = pair_size(bytes);
-        match read_head(bytes) {
-            CapsuleHead::Unfinished => Start::Cut,
-            CapsuleHead::TooLong => Start::TooLong,
-            CapsuleHead::Skip(size) => Start::Unknown(start, size),
-            CapsuleHead::Keep(kind, size) => {
-                if size > bytes.len() - start {
-                    return Start::Cut;
-                }
-                Start::Value(kind, start, start + size)
-            }
+        let Some(head) = first_pair(bytes) else {
+            return Start::Cut;
+        };
+        let Some(kind) = CapsuleKind::parse(head.first) else {
+            return Start::Unknown(head.first, head.second, head.size);
+        };
+        let Some(len) = value_len(kind, head.second) else {
+            return Start::TooLong;
+        };
+        if len > bytes.len() - head.size {
+            return Start::Cut;
         }
+        Start::Value(kind, head.size, head.size + len)
     }
 }

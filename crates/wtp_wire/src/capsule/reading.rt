@@ -1,6 +1,6 @@
 //! Reading the capsules of a stream's data, piece by piece. Not in the Rust crate.
-ghost use Rattle.std.specs.Prelude.{◌≡◌, ◌-◌, ◌<◌, ◌≤◌, ◌++◌, ◌↔◌, List, ℕ, [], length, take, drop, true, false, vec_len, vec_capacity, IsTrue, IsOk, Ok, OnErr};
-ghost use Rattle.wtp_wire.specs.CapsuleFront.{End};
+ghost use Rattle.std.specs.Prelude.{◌≡◌, ◌-◌, ◌<◌, ◌≤◌, ◌++◌, ◌↔◌, List, ℕ, [], length, take, drop, true, false, vec_len, vec_capacity, IsTrue, IsOk, Ok, OnErr, MatchOption, nat_lt};
+ghost use Rattle.wtp_wire.specs.CapsuleFront.{End, longest_value};
 ghost use Rattle.wtp_wire.specs.CapsuleStream.{NextGiven, capsules_held, next_held, with_result};
 ghost use Rattle.wtp_wire.specs.CapsuleSteps.{Advanced, HasRoom, IsPart, Stepped, head_says, holding};
 ghost use Rattle.wtp_wire.specs.FrameNeed.{frame_need};
@@ -14,6 +14,7 @@ use std::borrow::CowSlice;
 use std::marker::Model;
 use std::{fmt, mem};
 use wtp_core::polling::head::fill_head;
+use wtp_core::varint::VarInt;
 
 /// The data ended within a capsule.
 #[derive(Debug, Drop, PartialEq, Eq, thiserror::Error)]
@@ -228,7 +229,7 @@ fn take_head(bytes: &mut &[u8], head: &mut [u8; 16], len: &mut usize) -> bool
 
 /// What the type and the length of a capsule say about the value after them.
 #[derive(Clone, Copy)]
-pub(crate) enum CapsuleHead {
+enum CapsuleHead {
     /// They are not both complete.
     Unfinished,
     /// It has this length, and the capsule is of this kind.
@@ -241,7 +242,7 @@ pub(crate) enum CapsuleHead {
 
 /// Returns what the type and the length say.
 #[tactic(auto, using(crate::proofs::HeadPairLemmas::capsule_steps))]
-pub(crate) fn read_head(held: &[u8]) -> CapsuleHead
+fn read_head(held: &[u8]) -> CapsuleHead
     ensures { result ≡ head_says held.now }
 {
     let Some(head) = first_pair(held) else {
@@ -250,12 +251,22 @@ pub(crate) fn read_head(held: &[u8]) -> CapsuleHead
     let Some(kind) = CapsuleKind::parse(head.first) else {
         return CapsuleHead::Skip(head.second.into_inner());
     };
-    let len = head.second.into_inner() as usize;
-    if len > kind.longest_value() {
-        CapsuleHead::TooLong
-    } else {
-        CapsuleHead::Keep(kind, len)
+    match value_len(kind, head.second) {
+        Some(len) => CapsuleHead::Keep(kind, len),
+        None => CapsuleHead::TooLong,
     }
+}
+
+/// Returns the length of a value of this kind, or `None` if it is too long.
+pub(crate) fn value_len(kind: CapsuleKind, announced: VarInt) -> Option<usize>
+    ensures { MatchOption result (nat_lt (longest_value kind) announced ≡ true)
+        (λ len. (len ≡ announced) × (nat_lt (longest_value kind) announced ≡ false)) }
+{
+    let len = announced.into_inner() as usize;
+    if len > kind.longest_value() {
+        return None;
+    }
+    Some(len)
 }
 
 /// Takes bytes until the value has `size` bytes. Returns whether it has. Its room is allocated
