@@ -8,7 +8,7 @@ use Rattle.std.specs.Ordering.{nat_cmp}
 use Rattle.wtp_wire.proofs.SettingsLemmas.{equal-nat_cmp, less-nat_cmp, greater-nat_cmp}
 use Rattle.wtp_wire.specs.SettingId.{is_reserved}
 use Rattle.wt_inspection.proofs.SettingLemmas.{settings_with}
-use Rattle.wt_inspection.specs.Pair.{pair_at}
+use Rattle.wtp_wire.specs.Settings.{pair_at}
 use Rattle.wt_inspection.specs.SettingLines.{StartsSettings, AreFlagged, flag_of}
 use Rattle.wt_items.specs.declared.item.settings.SettingLine.{SettingLine}
 
@@ -59,9 +59,9 @@ ids_with : (lines : List SettingLine) (before : List ℕ) (line : SettingLine) �
 ids_with [] before line = refl
 ids_with (first ∷ lines) before line = ids_with lines (first.id ∷ before) line
 
-pub so_far_with : (bytes rest behind : List ℕ) (lines more : List SettingLine) (seen next : BTreeSet ℕ) (line : SettingLine) (number value : ℕ) (added : Bool) → SoFar bytes lines rest seen → pair_at rest ≡ Some (number, value, behind) → line.id ≡ number → line.value ≡ value → line.flag ≡ flag_of (is_reserved number) (not added) → added ≡ not (contains nat_cmp seen number) → Updates nat_cmp seen next number true → more ≡ lines ++ line ∷ [] → SoFar bytes more behind next
+pub so_far_with : (bytes rest behind : List ℕ) (lines more : List SettingLine) (seen next : BTreeSet ℕ) (line : SettingLine) (number value : ℕ) (added : Bool) → SoFar bytes lines rest seen → pair_at rest ≡ Some ((number, value), behind) → line.id ≡ number → line.value ≡ value → line.flag ≡ flag_of (is_reserved number) (not added) → added ≡ not (contains nat_cmp seen number) → Updates nat_cmp seen next number true → more ≡ lines ++ line ∷ [] → SoFar bytes more behind next
 so_far_with bytes rest behind lines more seen next line number value added (are, flagged, has) pair id is flag new updates all =
-    let one : pair_at rest ≡ Some (line.id, line.value, behind) = rw (id, is) pair in
+    let one : pair_at rest ≡ Some ((line.id, line.value), behind) = rw (id, is) pair in
     let seen_it : not added ≡ list_any (nat_eq number) (ids_of [] lines) = ap not new ∙ not_not (contains nat_cmp seen number) ∙ has number in
     let says : line.flag ≡ flag_of (is_reserved line.id) (list_any (nat_eq line.id) (ids_of [] lines)) = rw id (flag ∙ ap (λ (b : Bool). flag_of (is_reserved number) b) seen_it) in
     rw all (

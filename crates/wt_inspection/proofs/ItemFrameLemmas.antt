@@ -9,7 +9,8 @@ use Rattle.wtp_wire.specs.Front.{Front, Framed, Unknown, BadId, TooBig, Short, f
 use Rattle.wtp_wire.specs.FrameHead.{announcement_of}
 use Rattle.wtp_wire.specs.declared.frame.kind.FrameKind.{FrameKind}
 use Rattle.wtp_wire.specs.declared.frame.kind.FrameKind.TheVariants as kind-is
-use Rattle.wtp_wire.proofs.FrontLemmas.{head_at-numbers, front-head}
+use Rattle.wtp_wire.proofs.FrontLemmas.{front-head}
+use Rattle.wtp_wire.proofs.HeadPairLemmas.{head_at-pair}
 use Rattle.wtp_wire.specs.Content.{Content as Frame, PlainOf}
 use Rattle.wtp_wire.specs.Kind.{kind_of}
 use Rattle.wtp_wire.specs.Role.{role_of}
@@ -35,9 +36,8 @@ use Rattle.wt_inspection.specs.declared.reading.Next.TheVariants as next-is
 use Rattle.wt_inspection.specs.DataCapsules.{Stage}
 use Rattle.wt_inspection.specs.ItemFrames.{frame_of, frames_at, frames_in, IsWithin, IsReadable, AreReadable}
 use Rattle.wt_items.specs.Names.{frame_name_of, named, other_name, is_http2}
-use Rattle.wt_inspection.specs.Pair.{pair_at}
+use Rattle.wtp_wire.specs.Settings.{pair_at}
 use Rattle.wt_inspection.specs.Recording.{Then, AfterSection, AfterSettings, HasParts, IsCut, IsCutPart, Judged, IsFrameAt, IsNext, IsNoFrame, IsRefused, Reads, is_session, name_fault, still_first}
-use Rattle.wt_inspection.proofs.PairLemmas.{pair_numbers}
 
 -- ---- where the reading goes on, it goes on as after a frame that is allowed
 
@@ -132,10 +132,9 @@ plain_front (kind-is.Exercise number) n rest plain h there = rw (le-ltb 4096 n h
 skipped_front : (n : ℕ) (rest : List ℕ) → n ≤ length rest → front_after (announcement_of None n) rest ≡ Unknown (drop n rest)
 skipped_front n rest there = rw (bytes_there n rest there) refl
 
-pub front_of_pair : (bytes rest : List ℕ) (number n : ℕ) → pair_at bytes ≡ Some (number, n, rest) → front bytes ≡ front_after (announcement_of (kind_of number) n) rest
+pub front_of_pair : (bytes rest : List ℕ) (number n : ℕ) → pair_at bytes ≡ Some ((number, n), rest) → front bytes ≡ front_after (announcement_of (kind_of number) n) rest
 front_of_pair bytes rest number n e =
-    let p = pair_numbers bytes rest number n e in
-    front-head bytes rest (announcement_of (kind_of number) n) (head_at-numbers bytes p.mid rest number n p.first p.second)
+    front-head bytes rest (announcement_of (kind_of number) n) (head_at-pair bytes rest number n e)
 
 -- ---- the frames of the run
 
@@ -232,9 +231,9 @@ refused_on false fault next h = h
 refused_on true None next h = h
 refused_on true (Some c) next h = h
 
-no_frame_on : (role : StreamRole) (first : Bool) (pair : Option (ℕ × ℕ × List ℕ)) (next : Next) → IsNoFrame role first pair (Ok next) → ⊥
+no_frame_on : (role : StreamRole) (first : Bool) (pair : Option ((ℕ × ℕ) × List ℕ)) (next : Next) → IsNoFrame role first pair (Ok next) → ⊥
 no_frame_on role first None next h = h
-no_frame_on role first (Some (number, id, rest)) next h = refused_on (id % 4 == 0) (rule (role_of role) first kind-is.WebTransport) next h.1
+no_frame_on role first (Some ((number, id), rest)) next h = refused_on (id % 4 == 0) (rule (role_of role) first kind-is.WebTransport) next h.1
 
 one_item : (content : Content) (role : StreamRole) (first : Bool) (bytes : List ℕ) (len : ℕ) (next : Next) (tail : Tail) → len ≤ length bytes → IsNext (next-is.Frames role first) bytes len content (Ok next) → IsReadable content → (next ≡ next-is.Payload) ⊎ Goes role first bytes len content next tail
 one_item (content-is.Frame f) role first bytes len next tail within r readable = elim (cases_lt f.present f.announced) [

@@ -1,14 +1,14 @@
 -- Where bytes are not read as a frame, the run ends.
 use Rattle.std.proofs.Common.{◌≡◌, ℕ, ◌%◌, Bool, true, false, List, Option, Some, None, refl, ap, ◌∙◌, inl, inr, ◌⊎◌}
 use Rattle.std.specs.Prelude.{◌==◌}
-use Rattle.wtp_core.specs.Varint.{number_at}
 use Rattle.wtp_core.specs.declared.error.ErrorCode.{ErrorCode}
 use Rattle.wtp_core.specs.declared.error.ErrorCode.TheVariants as code-is
 use Rattle.wtp_wire.specs.Front.{Framed, BadId, Short, front_after, front}
-use Rattle.wtp_wire.specs.FrameHead.{announcement_of, and_then}
+use Rattle.wtp_wire.specs.FrameHead.{announcement_of}
 use Rattle.wtp_wire.specs.declared.frame.kind.FrameKind.{FrameKind}
 use Rattle.wtp_wire.specs.declared.frame.kind.FrameKind.TheVariants as kind-is
-use Rattle.wtp_wire.proofs.FrontLemmas.{front-none, front-cut}
+use Rattle.wtp_wire.proofs.FrontLemmas.{front-headless}
+use Rattle.wtp_wire.proofs.HeadPairLemmas.{head_at-no_pair}
 use Rattle.wtp_wire.specs.Content.{WebTransportOf}
 use Rattle.wtp_wire.specs.Role.{role_of}
 use Rattle.wtp_wire.specs.Rule.{rule}
@@ -17,24 +17,15 @@ use Rattle.wtp_wire.specs.declared.rules.StreamRole.{StreamRole}
 use Rattle.wtp_wire.proofs.RunLaws.{run-refused, run-bad_id, run-short}
 use Rattle.wt_items.specs.declared.item.Content.TheVariants.{Unread}
 use Rattle.wt_inspection.specs.declared.reading.Next.TheVariants.{Frames}
-use Rattle.wt_inspection.specs.Pair.{pair_at}
+use Rattle.wtp_wire.specs.Settings.{pair_at}
 use Rattle.wt_inspection.specs.Recording.{Then, IsNext, IsNoFrame, IsRefused, StopsWith}
 use Rattle.wt_inspection.proofs.ItemFrameLemmas.{front_of_pair}
 use Rattle.wt_inspection.proofs.RecordingLemmas.{session_kind}
 
 -- ---- too few bytes
 
-second_short : (bytes mid : List ℕ) (id : ℕ) (o : Option (ℕ × List ℕ)) → number_at bytes ≡ Some (id, mid) → number_at mid ≡ o → and_then {B = ℕ × ℕ × List ℕ} o (λ s. Some (id, s.0, s.1)) ≡ None → front bytes ≡ Short
-second_short bytes mid id None first second e = front-cut bytes mid id first second
-second_short bytes mid id (Some s) first second e = absurd (cc e)
-
-first_short : (bytes : List ℕ) (o : Option (ℕ × List ℕ)) → number_at bytes ≡ o → and_then {B = ℕ × ℕ × List ℕ} o (λ f. and_then {B = ℕ × ℕ × List ℕ} (number_at f.1) (λ s. Some (f.0, s.0, s.1))) ≡ None → front bytes ≡ Short
-first_short bytes None first e = front-none bytes first
-first_short bytes (Some (id, mid)) first e = second_short bytes mid id (number_at mid) first refl e
-
 front_short : (bytes : List ℕ) → pair_at bytes ≡ None → front bytes ≡ Short
-unfolding pair_at
-front_short bytes e = first_short bytes (number_at bytes) refl e
+front_short bytes e = front-headless bytes (head_at-no_pair bytes e)
 
 -- ---- the head of a WebTransport stream that is refused
 
@@ -57,9 +48,9 @@ refused true (Some c) role first bytes rest id after tail e is begins stops =
     inr (c, run-refused (role_of role) first bytes rest tail (WebTransportOf id) c (begins ∙ even_front id rest e) is, stops)
 refused true None role first bytes rest id after tail e is begins stops = absurd stops
 
-no_frame : (pair : Option (ℕ × ℕ × List ℕ)) (role : StreamRole) (first : Bool) (bytes : List ℕ) (after : Then) (tail : Tail) → pair_at bytes ≡ pair → IsNoFrame role first pair after → HasNone role first bytes tail after
+no_frame : (pair : Option ((ℕ × ℕ) × List ℕ)) (role : StreamRole) (first : Bool) (bytes : List ℕ) (after : Then) (tail : Tail) → pair_at bytes ≡ pair → IsNoFrame role first pair after → HasNone role first bytes tail after
 no_frame None role first bytes after tail e stops = inl (run-short (role_of role) first bytes tail (front_short bytes e))
-no_frame (Some (number, id, rest)) role first bytes after tail e (session, stops) =
+no_frame (Some ((number, id), rest)) role first bytes after tail e (session, stops) =
     let begins : front bytes ≡ front_after (announcement_of (Some kind-is.WebTransport) id) rest =
     front_of_pair bytes rest number id e
     ∙ ap (λ (k : Option FrameKind). front_after (announcement_of k id) rest) (session_kind number session) in

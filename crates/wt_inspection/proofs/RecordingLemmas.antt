@@ -17,9 +17,10 @@ use Rattle.wt_items.specs.declared.item.Content.TheVariants as content-is
 use Rattle.wt_items.specs.declared.item.Item.{Item}
 use Rattle.wt_inspection.specs.declared.reading.Next.{Next}
 use Rattle.wt_inspection.specs.declared.reading.Next.TheVariants as next-is
-use Rattle.wt_inspection.proofs.PairLemmas.{pair_numbers, some_is}
+use Rattle.wtp_wire.proofs.HeadPairLemmas.{two_at}
+use Rattle.wt_inspection.proofs.PairLemmas.{some_is}
 use Rattle.wt_inspection.specs.DataCapsules.{Stage}
-use Rattle.wt_inspection.specs.Pair.{pair_at}
+use Rattle.wtp_wire.specs.Settings.{pair_at}
 use Rattle.wt_inspection.specs.Recording.{Then, IsPart, IsCut, IsStep, IsNext, IsNoFrame, IsNoHead, IsNoSession, IsRefused, IsSessionHead, Moves, Reads, after_head, has_session, is_session}
 
 -- no item yet
@@ -46,7 +47,7 @@ reads_more items more before mid after stage now next bytes held rest at end ite
 pub no_frame_cut : (role : StreamRole) (first : Bool) (bytes : List ℕ) (after : Then) → pair_at bytes ≡ None → IsCut after → IsNoFrame role first (pair_at bytes) after
 no_frame_cut role first bytes after e s = rw e s
 
-pub no_frame_refused : (role : StreamRole) (first : Bool) (bytes rest : List ℕ) (number id : ℕ) (after : Then) → pair_at bytes ≡ Some (number, id, rest) → is_session (kind_of number) ≡ true → IsRefused (id % 4 == 0) (rule (role_of role) first kind-is.WebTransport) after → IsNoFrame role first (pair_at bytes) after
+pub no_frame_refused : (role : StreamRole) (first : Bool) (bytes rest : List ℕ) (number id : ℕ) (after : Then) → pair_at bytes ≡ Some ((number, id), rest) → is_session (kind_of number) ≡ true → IsRefused (id % 4 == 0) (rule (role_of role) first kind-is.WebTransport) after → IsNoFrame role first (pair_at bytes) after
 no_frame_refused role first bytes rest number id after e k r = rw e (k, r)
 
 session_is : (k : Option FrameKind) → is_session k ≡ true → k ≡ Some kind-is.WebTransport
@@ -65,7 +66,7 @@ session_kind number e = session_is (kind_of number) e
 pub no_session_cut : (bytes : List ℕ) (after : Then) → pair_at bytes ≡ None → IsCut after → IsNoSession (pair_at bytes) after
 no_session_cut bytes after e s = rw e s
 
-pub no_session_id : (bytes rest : List ℕ) (number id : ℕ) (after : Then) → pair_at bytes ≡ Some (number, id, rest) → IsNoSession (Some (number, id, rest)) after → IsNoSession (pair_at bytes) after
+pub no_session_id : (bytes rest : List ℕ) (number id : ℕ) (after : Then) → pair_at bytes ≡ Some ((number, id), rest) → IsNoSession (Some ((number, id), rest)) after → IsNoSession (pair_at bytes) after
 no_session_id bytes rest number id after e s = rw e s
 
 pub no_head_cut : (bytes : List ℕ) (after : Then) → number_at bytes ≡ None → IsCut after → IsNoHead (number_at bytes) bytes after
@@ -86,7 +87,7 @@ same_number bytes mid other a b e f =
 -- a head with a session ID is the head of a unidirectional stream whose type has one
 pub head_session : (bytes mid : List ℕ) (len number : ℕ) (content : Content) (after : Then) → number_at bytes ≡ Some (number, mid) → has_session (stream_kind_of number) ≡ true → IsSessionHead bytes len content after → IsNext next-is.Head bytes len content after
 head_session bytes mid len number (content-is.Stream head) after e k ((id, p, m, s, named), a) =
-    let n = pair_numbers bytes (drop len bytes) head.number id p in
+    let n = two_at bytes (drop len bytes) head.number id p in
     let same : head.number ≡ number = same_number bytes n.mid mid head.number number n.first e in
     let kind : has_session (stream_kind_of head.number) ≡ true = rw same k in
     (rw kind (id, p, m, s, named), a ∙ ap (λ (x : Next). Ok x) (sym (payload_after (stream_kind_of head.number) kind)))

@@ -4,10 +4,10 @@ use Rattle.wtp_core.specs.declared.error.ErrorCode.{ErrorCode}
 use Rattle.wtp_wire.specs.Settings.{settings_in}
 use Rattle.wt_inspection.specs.Recording.{Then, StopsWith, AfterSettings, HasFault}
 use Rattle.wt_items.specs.declared.item.settings.SettingLine.{SettingLine}
-use Rattle.wt_inspection.specs.Pair.{pair_at}
+use Rattle.wtp_wire.specs.Settings.{pair_at}
 use Rattle.wt_inspection.specs.SettingLines.{StartsSettings}
 
-pub settings_with : (lines : List SettingLine) (bytes behind rest : List ℕ) (line : SettingLine) → StartsSettings bytes lines behind → pair_at behind ≡ Some (line.id, line.value, rest) → StartsSettings bytes (lines ++ line ∷ []) rest
+pub settings_with : (lines : List SettingLine) (bytes behind rest : List ℕ) (line : SettingLine) → StartsSettings bytes lines behind → pair_at behind ≡ Some ((line.id, line.value), rest) → StartsSettings bytes (lines ++ line ∷ []) rest
 settings_with [] bytes behind rest line are one = (rest, rw are one, refl)
 settings_with (first ∷ lines) bytes behind rest line (next, e, are) one =
     (next, e, settings_with lines next behind rest line are one)

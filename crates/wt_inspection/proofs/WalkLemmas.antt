@@ -1,21 +1,30 @@
 -- Capsules of data that is cut anywhere, turn by turn.
-use Rattle.std.proofs.Common.{◌≡◌, ◌≢◌, ℕ, ◌+◌, ◌-◌, ◌<◌, ◌≤◌, ◌^◌, ◌⊎◌, Bool, true, false, List, [], ◌∷◌, ◌++◌, length, take, drop, Option, Some, None, Result, Ok, Err, refl, sym, ap, ◌∙◌, append_assoc, arith, inl, inr, length-drop, length-append}
+use Rattle.std.proofs.Common.{◌≡◌, ◌≢◌, ℕ, ◌+◌, ◌-◌, ◌<◌, ◌≤◌, ◌^◌, Bool, true, false, List, [], ◌∷◌, ◌++◌, length, take, drop, Option, Some, None, Result, Ok, Err, refl, sym, ap, subst, ◌∙◌, append_assoc, append-nil, arith, inl, length-append}
 use Rattle.std.specs.Prelude.{IsSome, IfOk}
-use Rattle.std.proofs.lemmas.Bool.{cases_lt, le-ltb, ltb-false}
-use Rattle.std.proofs.lemmas.List.{drop-drop, drop_all, append-nil, take_all}
+use Rattle.std.proofs.lemmas.List.{take_all, take-append-drop}
 use Rattle.wtp_core.specs.declared.error.ErrorCode.{ErrorCode}
 use Rattle.wtp_core.specs.declared.error.ErrorCode.TheVariants.{Datagram}
-use Rattle.wtp_core.specs.Varint.{number_at, bytes_at}
-use Rattle.wtp_core.specs.VarintNeed.{varint_need}
-use Rattle.wtp_core.proofs.EncodingLemmas.{number_at-more, bytes_at-append}
-use Rattle.wtp_core.proofs.NeedLemmas.{number_at-cut, number_at-full}
+use Rattle.wtp_core.specs.Varint.{number_at}
+use Rattle.wtp_core.proofs.EncodingLemmas.{bytes_at-append}
 use Rattle.wtp_wire.specs.declared.capsule.CapsuleKind.{CapsuleKind}
 use Rattle.wtp_wire.specs.declared.capsule.CapsuleKind.TheVariants.{CloseWebTransportSession}
-use Rattle.wtp_wire.specs.Capsule.{capsule_in, capsule_kind_of, payload_after}
-use Rattle.wtp_wire.specs.CapsuleFront.{Found, Unknown, Cut as CutFront, capsule_front, longest_value, value_front}
-use Rattle.wtp_wire.specs.FrameNeed.{frame_need, frame_need_is, frame_need_grows, frame_need_most, frame_need_least}
-use Rattle.wtp_wire.proofs.CapsuleFrontLemmas.{front_end, front_none, front_one, front_two}
+use Rattle.wtp_wire.specs.declared.capsule.cursor.AnyCapsule.{AnyCapsule}
+use Rattle.wtp_wire.specs.declared.capsule.cursor.CapsuleCursor.{CapsuleCursor}
+use Rattle.wtp_wire.specs.declared.capsule.cursor.CapsulePlace.{CapsulePlace}
+use Rattle.wtp_wire.specs.declared.capsule.cursor.UnknownCapsule.{UnknownCapsule}
+use Rattle.wtp_wire.specs.AnyCapsule.{AnyIs, FindsKnown, FindsLongHead, FindsUnknown, IsUnknownHead, LeavesPart, between, missing_from}
+use Rattle.wtp_wire.specs.Capsule.{capsule_in, capsule_kind_of, capsule_number_of}
+use Rattle.wtp_wire.specs.CapsuleCursor.{IsCapsulePart, capsule_value}
+use Rattle.wtp_wire.specs.CapsuleFront.{Found, IsCapsule, IsLongHead, TooLong, Unknown, capsule_front, value_front}
+use Rattle.wtp_wire.specs.FrameNeed.{frame_need_some}
+use Rattle.wtp_wire.specs.Settings.{pair_at}
+use Rattle.wtp_wire.proofs.AnyCapsuleLemmas.{ends_known, ends_unknown, missing_due, part_missing, skips_all}
+use Rattle.wtp_wire.proofs.CapsuleCursorLemmas.{capsule_few, part_cut}
+use Rattle.wtp_wire.proofs.CapsuleFrontLemmas.{front_end, front_two, starts-front}
+use Rattle.wtp_wire.proofs.CapsuleLemmas.{capsule_in-begins, no_kind_none}
 use Rattle.wtp_wire.proofs.CapsuleReadingLemmas.{no_more}
+use Rattle.wtp_wire.proofs.HeadPairLemmas.{two_at}
+use Rattle.wtp_wire.proofs.PairLemmas.{pair_at-encoded, pair_at-more}
 use Rattle.wt_items.specs.declared.item.capsule.CapsuleItem.{CapsuleItem}
 use Rattle.wt_items.specs.declared.item.capsule.CloseReason.{CloseReason}
 use Rattle.wt_items.specs.declared.item.ending.Fault.{Fault}
@@ -36,246 +45,213 @@ use Rattle.wt_inspection.specs.declared.reading.Next.TheVariants as next-is
 use Rattle.wt_inspection.specs.declared.reading.Phase.{Phase}
 use Rattle.wt_inspection.specs.declared.reading.Phase.TheVariants as phase-is
 use Rattle.wt_inspection.specs.declared.capsules.Taken.{Taken}
-use Rattle.wt_inspection.specs.declared.capsules.Turn.{Turn}
 use Rattle.wt_inspection.specs.declared.capsules.Closing.{Closing}
 use Rattle.wt_inspection.specs.declared.capsules.Closing.TheVariants as closing-is
 use Rattle.wt_inspection.specs.declared.capsules.CapsuleWalk.{CapsuleWalk}
-use Rattle.wt_inspection.specs.declared.numbers.Pair.{Pair}
-use Rattle.wt_inspection.specs.DataCapsules.{Stage, Opening, Plain, Session, IsFirst, StartsCapsule, StartsCapsules, EndsWith}
-use Rattle.wt_inspection.specs.Pair.{pair_at}
+use Rattle.wt_inspection.specs.DataCapsules.{Stage, Opening, Plain, Session, IsFaulty, SaysBy, StartsCapsule, StartsCapsules, EndsWith}
 use Rattle.wt_inspection.specs.Recording.{Then, IsCutPart, EndsStage, HasNoFrame, HasParts, Moves, MovesFrames, MovesNext, Takes, TakesData, TakesFrame, TakesWhole, is_data, is_cut, name_fault, still_first}
-use Rattle.wt_inspection.specs.Walks.{Keeps, HoldsPair, Holds, IsBad, JudgesBy, IsStage, IsStageAt, IsWhole, Judges, Leads, LeadsAt, TakesPiece, Turned, is_too_long}
-use Rattle.wt_inspection.proofs.PairLemmas.{pair_numbers, some_is}
+use Rattle.wt_inspection.specs.Walks.{Fits, Holds, HoldsOf, IsBad, IsStage, IsStageAt, IsWhole, Judges, JudgesBy, LacksOf, Leads, LeadsAt, TakesPiece}
 
--- ---- two numbers, as far as the bytes go
+-- ---- a capsule of an unknown type
 
-two_numbers : (bytes mid rest : List ℕ) (a b : ℕ) → number_at bytes ≡ Some (a, mid) → number_at mid ≡ Some (b, rest) → pair_at bytes ≡ Some (a, b, rest)
-unfolding pair_at
-two_numbers bytes mid rest a b e f = rw (e, f) refl
+front_of_pair : (bytes rest : List ℕ) (n len : ℕ) → pair_at bytes ≡ Some ((n, len), rest) → capsule_front bytes ≡ value_front (capsule_kind_of n) len rest
+front_of_pair bytes rest n len e = let t = two_at bytes rest n len e in front_two bytes t.mid rest n len t.first t.second
 
-pub pair_more : (bytes rest more : List ℕ) (a b : ℕ) → pair_at bytes ≡ Some (a, b, rest) → pair_at (bytes ++ more) ≡ Some (a, b, rest ++ more)
-pair_more bytes rest more a b e =
-    let n = pair_numbers bytes rest a b e in
-    two_numbers (bytes ++ more) (n.mid ++ more) (rest ++ more) a b (number_at-more a bytes n.mid more n.first) (number_at-more b n.mid rest more n.second)
-
-number_rest : (bytes rest : List ℕ) (v : ℕ) → number_at bytes ≡ Some (v, rest) → (varint_need bytes ≤ length bytes) × (rest ≡ drop (varint_need bytes) bytes)
-number_rest bytes rest v e = elim (cases_lt (length bytes) (varint_need bytes)) [
-  | inl cut ↦ absurd (cc (number_at-cut bytes cut, e))
-  | inr full ↦
-      let (w, is) = number_at-full bytes full in
-      (full, ap (λ (t : ℕ × List ℕ). t.1) (some_is {A = ℕ × List ℕ} (v, rest) (w, drop (varint_need bytes) bytes) (sym e ∙ is)))
-]
-
--- the bytes after both numbers
-pub pair_rest : (bytes rest : List ℕ) (a b : ℕ) → pair_at bytes ≡ Some (a, b, rest) → (frame_need bytes ≤ length bytes) × (rest ≡ drop (frame_need bytes) bytes)
-pair_rest bytes rest a b e =
-    let n = pair_numbers bytes rest a b e in
-    let (one, mid) = number_rest bytes n.mid a n.first in
-    let (two, last) = number_rest n.mid rest b n.second in
-    let sum : frame_need bytes ≡ varint_need bytes + varint_need n.mid = frame_need_is bytes ∙ ap (λ (x : List ℕ). varint_need bytes + varint_need x) (sym mid) in
-    let size : length n.mid ≡ length (drop (varint_need bytes) bytes) = ap length mid in (
-      omega (arith, sum, one, two, size, length-drop (varint_need bytes) bytes),
-      last ∙ ap (drop (varint_need n.mid)) mid ∙ drop-drop (varint_need n.mid) (varint_need bytes) bytes ∙ ap (λ (k : ℕ). drop k bytes) (omega (arith, sum)),
-    )
-
--- too few bytes for two numbers
-pub pair_few : (bytes : List ℕ) → pair_at bytes ≡ None → length bytes < frame_need bytes
-pair_few bytes e = elim (cases_lt (length bytes) (frame_need bytes)) [
-  | inl few ↦ few
-  | inr full ↦
-      let least = frame_need_least bytes in
-      let (a, first) = number_at-full bytes (omega arith) in
-      let there : varint_need (drop (varint_need bytes) bytes) ≤ length (drop (varint_need bytes) bytes) = omega (arith, frame_need_is bytes, length-drop (varint_need bytes) bytes) in
-      let (b, second) = number_at-full (drop (varint_need bytes) bytes) there in
-      absurd (cc (e, two_numbers bytes (drop (varint_need bytes) bytes) _ a b first second))
-]
-
--- one more byte completes both numbers, and nothing comes after them
-pub pair_exact : (bytes front rest : List ℕ) (a b : ℕ) → pair_at bytes ≡ None → length front ≡ 1 → pair_at (bytes ++ front) ≡ Some (a, b, rest) → rest ≡ []
-pair_exact bytes front rest a b few one e =
-    let (there, is) = pair_rest (bytes ++ front) rest a b e in
-    let less = pair_few bytes few in
-    is ∙ drop_all (frame_need (bytes ++ front)) (bytes ++ front) (omega (arith, length-append bytes front, frame_need_grows bytes front))
-
--- ---- the first capsule of the bytes
-
-pub front_of_pair : (bytes rest : List ℕ) (n len : ℕ) → pair_at bytes ≡ Some (n, len, rest) → capsule_front bytes ≡ value_front (capsule_kind_of n) len rest
-front_of_pair bytes rest n len e =
-    let p = pair_numbers bytes rest n len e in
-    front_two bytes p.mid rest n len p.first p.second
-
-no_second : (bytes mid : List ℕ) (a : ℕ) (o : Option (ℕ × List ℕ)) → number_at bytes ≡ Some (a, mid) → number_at mid ≡ o → pair_at bytes ≡ None → capsule_front bytes ≡ CutFront
-no_second bytes mid a None first second e = front_one bytes mid a first second
-no_second bytes mid a (Some (b, rest)) first second e = absurd (cc (e, two_numbers bytes mid rest a b first second))
-
-no_first : (bytes : List ℕ) (o : Option (ℕ × List ℕ)) → 0 < length bytes → number_at bytes ≡ o → pair_at bytes ≡ None → capsule_front bytes ≡ CutFront
-no_first bytes None some first e = front_none bytes some first
-no_first bytes (Some (a, mid)) some first e = no_second bytes mid a (number_at mid) first refl e
-
-part_ends : (bytes : List ℕ) → pair_at bytes ≡ None → EndsWith (capsule_front bytes) None
-part_ends [] e = rw front_end refl
-part_ends (b ∷ bytes) e = rw (no_first (b ∷ bytes) (number_at (b ∷ bytes)) (omega arith) refl e) refl
-
-value_ends : (kind : Option CapsuleKind) (len : ℕ) (held came value : List ℕ) → length value < len → Keeps kind len held came → EndsWith (value_front kind len value) None
-value_ends None len held came value less keeps = rw (no_more len value less) refl
-value_ends (Some kind) len held came value less (small, same) = rw (le-ltb (longest_value kind) len small, no_more len value less) refl
-
-pair_ends : (pair : Option Pair) (due : ℕ) (held came : List ℕ) → HoldsPair pair due held came → EndsWith (capsule_front came) None
-pair_ends None due held came (few, same) = part_ends came few
-pair_ends (Some pair) due held came (value, e, sum, some, keeps) =
-    rw (front_of_pair came value pair.number pair.second e) (value_ends (capsule_kind_of pair.number) pair.second held came value (omega (arith, sum, some)) keeps)
-
--- what is held has no complete capsule
-pub holds_ends : (walk : CapsuleWalk) (came : List ℕ) → Holds walk came → EndsWith (capsule_front came) None
-holds_ends walk came h = pair_ends walk.pair walk.due walk.held.items came h
-
--- ---- turns
-
-open_front : (came value more : List ℕ) (n len : ℕ) (kind : Option CapsuleKind) → capsule_kind_of n ≡ kind → pair_at came ≡ Some (n, len, value) → capsule_front (came ++ more) ≡ value_front kind len (value ++ more)
-open_front came value more n len kind k e =
-    front_of_pair (came ++ more) (value ++ more) n len (pair_more came value more n len e) ∙ ap (λ (o : Option CapsuleKind). value_front o len (value ++ more)) k
-
-bad_length : (came value more : List ℕ) (n len : ℕ) (kind : Option CapsuleKind) (code : ErrorCode) → capsule_kind_of n ≡ kind → pair_at came ≡ Some (n, len, value) → is_too_long kind len ≡ true → code ≡ Datagram → EndsWith (capsule_front (came ++ more)) (Some code)
-bad_length came value more n len None code k e long same = absurd (cc long)
-bad_length came value more n len (Some kind) code k e long same = rw (open_front came value more n len (Some kind) k e, long, same) refl
-
--- a length is too long, whatever follows
-pub long_is_bad : (came value : List ℕ) (n len : ℕ) (fault : Fault) → pair_at came ≡ Some (n, len, value) → is_too_long (capsule_kind_of n) len ≡ true → fault.code ≡ Datagram → IsBad came fault
-long_is_bad came value n len fault e long same = λ more. bad_length came value more n len (capsule_kind_of n) fault.code refl e long same
-
-pub keeps_all : (kind : Option CapsuleKind) (len : ℕ) (held came : List ℕ) → is_too_long kind len ≡ false → held ≡ came → Keeps kind len held came
-keeps_all None len held came short same = tt
-keeps_all (Some kind) len held came short same = (ltb-false (longest_value kind) len short, same)
-
-keeps_more : (kind : Option CapsuleKind) (len : ℕ) (held came front kept next : List ℕ) → Keeps kind len held came → next ≡ held ++ kept → (IsSome kind → kept ≡ front) → Keeps kind len next (came ++ front)
-keeps_more None len held came front kept next keeps is some = tt
-keeps_more (Some kind) len held came front kept next (small, same) is some = (small, is ∙ ap (λ (x : List ℕ). held ++ x) (some refl) ∙ ap (λ (x : List ℕ). x ++ front) same)
-
--- a capsule of a known kind is read
-bytes_all : (value : List ℕ) (len : ℕ) → length value ≡ len → bytes_at len value ≡ Some (value, [])
-bytes_all value len size = rw (← size) (ap (λ (x : List ℕ). bytes_at (length value) x) (sym (append-nil value)) ∙ bytes_at-append value [])
-
-in_after : (kind : CapsuleKind) (bytes value : List ℕ) (len : ℕ) → number_at bytes ≡ Some (len, value) → length value ≡ len → payload_after kind bytes ≡ Some (kind, value)
-unfolding payload_after
-in_after kind bytes value len e size = rw (e, bytes_all value len size) refl
-
-in_whole : (came value : List ℕ) (n len : ℕ) (kind : CapsuleKind) → capsule_kind_of n ≡ Some kind → pair_at came ≡ Some (n, len, value) → length value ≡ len → capsule_in came ≡ Some (kind, value)
-unfolding capsule_in
-in_whole came value n len kind k e size =
-    let p = pair_numbers came value n len e in
-    rw (p.first, k) (in_after kind p.mid value len p.second size)
-
-few_bytes : (came value : List ℕ) (n len : ℕ) → pair_at came ≡ Some (n, len, value) → length came ≤ length value + 16
-few_bytes came value n len e =
-    let (there, is) = pair_rest came value n len e in
-    omega (arith, ap length is, length-drop (frame_need came) came, frame_need_most came)
-
-abbrev pub JudgedTo : Option CapsuleKind → List ℕ → Closing → Type 0
-JudgedTo None value closing = closing ≡ closing-is.Other
-JudgedTo (Some kind) value closing = JudgesBy kind value closing
-
-judged : (came value held : List ℕ) (n len : ℕ) (kind : Option CapsuleKind) (closing : Closing) → capsule_kind_of n ≡ kind → pair_at came ≡ Some (n, len, value) → length value ≡ len → Keeps kind len held came → (kind ≡ None → closing ≡ closing-is.Other) → (IsSome kind → length held < 2 ^ 62 → Judges (capsule_in held) closing) → JudgedTo kind value closing
-judged came value held n len None closing k e size keeps none some = none refl
-judged came value held n len (Some CloseWebTransportSession) closing k e size (small, same) none some =
-    let few : length held < 2 ^ 62 = omega (arith, few_bytes came value n len e, ap length same, size, small) in
-    let is : capsule_in held ≡ Some (CloseWebTransportSession, value) = ap capsule_in same ∙ in_whole came value n len CloseWebTransportSession k e size in
-    rw is at some refl few
-
-found_front : (came value more : List ℕ) (n len : ℕ) (kind : CapsuleKind) → capsule_kind_of n ≡ Some kind → pair_at came ≡ Some (n, len, value) → length value ≡ len → len ≤ longest_value kind → capsule_front (came ++ more) ≡ Found kind value more
-found_front came value more n len kind k e size small =
-    rw (open_front came value more n len (Some kind) k e, le-ltb (longest_value kind) len small, ← size, bytes_at-append value more) refl
-
-unknown_front : (came value more : List ℕ) (n len : ℕ) → capsule_kind_of n ≡ None → pair_at came ≡ Some (n, len, value) → length value ≡ len → capsule_front (came ++ more) ≡ Unknown more
+unknown_front : (came value more : List ℕ) (n len : ℕ) → capsule_kind_of n ≡ None → pair_at came ≡ Some ((n, len), value) → length value ≡ len → capsule_front (came ++ more) ≡ Unknown more
 unknown_front came value more n len k e size =
-    rw (open_front came value more n len None k e, ← size, bytes_at-append value more) refl
+    front_of_pair (came ++ more) (value ++ more) n len (pair_at-more came value more n len e)
+    ∙ rw (k, ← size, bytes_at-append value more) refl
 
-first_by : (came value more held : List ℕ) (n len : ℕ) (kind : Option CapsuleKind) (closing : Closing) (close : Option CloseReason) → capsule_kind_of n ≡ kind → pair_at came ≡ Some (n, len, value) → length value ≡ len → Keeps kind len held came → JudgedTo kind value closing → (closing ≡ closing-is.Other) × (close ≡ None) ⊎ ((reason : CloseReason) × (closing ≡ closing-is.Close reason) × (close ≡ Some reason)) → IsFirst (capsule_front (came ++ more)) close more
-first_by came value more held n len None closing close k e size keeps is (inl (other, none)) = rw (unknown_front came value more n len k e size) (none, refl)
-first_by came value more held n len None closing close k e size keeps is (inr (reason, closed, some)) = absurd (cc (is, closed))
-first_by came value more held n len (Some CloseWebTransportSession) closing close k e size (small, same) is (inl (other, none)) = absurd (rw other at is)
-first_by came value more held n len (Some CloseWebTransportSession) closing close k e size (small, same) is (inr (reason, closed, some)) =
-    rw (found_front came value more n len CloseWebTransportSession k e size small, some) (rw closed at is, refl)
+unknown_ends : (came value : List ℕ) (n len : ℕ) → capsule_kind_of n ≡ None → pair_at came ≡ Some ((n, len), value) → length value < len → EndsWith (capsule_front came) None
+unknown_ends came value n len k e less = rw (front_of_pair came value n len e, k, no_more len value less) refl
 
-bad_by : (came value more held : List ℕ) (n len : ℕ) (kind : Option CapsuleKind) (code : ErrorCode) → capsule_kind_of n ≡ kind → pair_at came ≡ Some (n, len, value) → length value ≡ len → Keeps kind len held came → JudgedTo kind value (closing-is.Bad code) → EndsWith (capsule_front (came ++ more)) (Some code)
-bad_by came value more held n len None code k e size keeps is = absurd (cc is)
-bad_by came value more held n len (Some CloseWebTransportSession) code k e size (small, same) (none, datagram) =
-    rw (found_front came value more n len CloseWebTransportSession k e size small) (none, ap (λ (c : ErrorCode). Some c) datagram)
+lacks_ends : (u : UnknownCapsule) (n : ℕ) (came : List ℕ) → 0 < n → LacksOf u n came → EndsWith (capsule_front came) None
+lacks_ends u n came some (none, (value, e, sum)) = unknown_ends came value u.number u.announced none e (omega (arith, some, sum))
 
--- ---- a capsule all of whose value came
+lacks_more : (u : UnknownCapsule) (n m : ℕ) (came front : List ℕ) → LacksOf u n came → length front ≤ n → m ≡ n - length front → LacksOf u m (came ++ front)
+lacks_more u n m came front (none, (value, e, sum)) fits is = (none, (value ++ front, pair_at-more came value front u.number u.announced e, omega (arith, length-append value front, sum, fits, is)))
 
-whole_by : (came value held : List ℕ) (closing : Closing) (item : CapsuleItem) → pair_at came ≡ Some (item.number, item.announced, value) → length value ≡ item.announced → Keeps (capsule_kind_of item.number) item.announced held came → JudgedTo (capsule_kind_of item.number) value closing → (closing ≡ closing-is.Other) × (item.close ≡ None) ⊎ ((reason : CloseReason) × (closing ≡ closing-is.Close reason) × (item.close ≡ Some reason)) → IsWhole came item
-whole_by came value held closing item e size keeps is shown = λ more. record {
+lacks_whole : (u : UnknownCapsule) (n : ℕ) (came : List ℕ) (item : CapsuleItem) → n ≡ 0 → item.number ≡ u.number → item.announced ≡ u.announced → item.close ≡ None → LacksOf u n came → IsWhole came item
+lacks_whole u n came item zero number announced close (none, (value, e, sum)) = λ more. record {
   value = value ++ more;
-  numbers = pair_more came value more item.number item.announced e;
-  first = first_by came value more held item.number item.announced (capsule_kind_of item.number) closing item.close refl e size keeps is shown;
+  numbers = rw (number, announced) (pair_at-more came value more u.number u.announced e);
+  first = rw (unknown_front came value more u.number u.announced none e (omega (arith, sum, zero))) (close, refl);
 }
 
--- the item shows this
-abbrev pub Shows : Closing → CapsuleItem → Type 0
-Shows closing-is.Other item = item.close ≡ None
-Shows (closing-is.Close reason) item = item.close ≡ Some reason
-Shows (closing-is.Bad code) item = ⊥
+-- ---- a capsule of a known kind
 
-shown_by : (closing : Closing) (item : CapsuleItem) → Shows closing item → (closing ≡ closing-is.Other) × (item.close ≡ None) ⊎ ((reason : CloseReason) × (closing ≡ closing-is.Close reason) × (item.close ≡ Some reason))
-shown_by closing-is.Other item s = inl (refl, s)
-shown_by (closing-is.Close reason) item s = inr (reason, refl, s)
-shown_by (closing-is.Bad code) item s = absurd s
+known_front : (kind : CapsuleKind) (value held more : List ℕ) → IsCapsule kind value held → capsule_front (held ++ more) ≡ Found kind value more
+known_front kind value held more k = starts-front (held ++ more) (Found kind value more) (held, k, refl)
 
-pub done : (came value held : List ℕ) (n len : ℕ) (closing : Closing) (item : CapsuleItem) → item.number ≡ n → item.announced ≡ len → Shows closing item → pair_at came ≡ Some (n, len, value) → length value ≡ len → Keeps (capsule_kind_of n) len held came → (capsule_kind_of n ≡ None → closing ≡ closing-is.Other) → (IsSome (capsule_kind_of n) → length held < 2 ^ 62 → Judges (capsule_in held) closing) → IsWhole came item
-done came value held n len closing item number announced shows e size keeps none some =
-    let j = judged came value held n len (capsule_kind_of n) closing refl e size keeps none some in
-    whole_by came value held closing item (rw (number, announced) e) (rw announced size) (rw (number, announced) keeps) (rw number j) (shown_by closing item shows)
+known_in : (kind : CapsuleKind) (value held : List ℕ) → IsCapsule kind value held → capsule_in held ≡ Some (kind, value)
+known_in kind value held k = capsule_in-begins held kind value (record {
+  head = k.head;
+  rest = [];
+  encoded = k.encoded;
+  parts = k.parts ∙ ap (λ (x : List ℕ). k.head ++ x) (sym (append-nil value));
+})
 
-pub spoiled : (came value held : List ℕ) (n len : ℕ) (code : ErrorCode) (fault : Fault) → fault.code ≡ code → pair_at came ≡ Some (n, len, value) → length value ≡ len → Keeps (capsule_kind_of n) len held came → (capsule_kind_of n ≡ None → closing-is.Bad code ≡ closing-is.Other) → (IsSome (capsule_kind_of n) → length held < 2 ^ 62 → Judges (capsule_in held) (closing-is.Bad code)) → IsBad came fault
-spoiled came value held n len code fault same e size keeps none some =
-    let j = judged came value held n len (capsule_kind_of n) (closing-is.Bad code) refl e size keeps none some in
-    λ more. rw same (bad_by came value more held n len (capsule_kind_of n) code refl e size keeps j)
+known_judged : (kind : CapsuleKind) (value held : List ℕ) (closing : Closing) → IsCapsule kind value held → (length held < 2 ^ 62 → Judges (capsule_in held) closing) → JudgesBy kind value closing
+known_judged kind value held closing k judges =
+    let few : length held < 2 ^ 62 = omega (arith, capsule_few kind value held k) in
+    rw (known_in kind value held k) at judges few
 
-pub no_pair : pair_at [] ≡ None
+says : (kind : CapsuleKind) (value : List ℕ) (reason : CloseReason) → JudgesBy kind value (closing-is.Close reason) → SaysBy kind value (Some reason)
+says CloseWebTransportSession value reason j = j
+
+faulty : (kind : CapsuleKind) (value : List ℕ) (code : ErrorCode) → JudgesBy kind value (closing-is.Bad code) → IsFaulty kind value × (code ≡ Datagram)
+faulty CloseWebTransportSession value code j = j
+
+not_other : (kind : CapsuleKind) (value : List ℕ) → JudgesBy kind value closing-is.Other → ⊥
+not_other CloseWebTransportSession value j = j
+
+pub other_known : (kind : CapsuleKind) (value held : List ℕ) → IsCapsule kind value held → (length held < 2 ^ 62 → Judges (capsule_in held) closing-is.Other) → ⊥
+other_known kind value held k judges = not_other kind value (known_judged kind value held closing-is.Other k judges)
+
+pub close_known : (kind : CapsuleKind) (value held : List ℕ) (reason : CloseReason) (item : CapsuleItem) → item.number ≡ capsule_number_of kind → item.announced ≡ length value → item.close ≡ Some reason → IsCapsule kind value held → (length held < 2 ^ 62 → Judges (capsule_in held) (closing-is.Close reason)) → IsWhole held item
+close_known kind value held reason item number announced close k judges = λ more. record {
+  value = value ++ more;
+  numbers = rw (number, announced) (ap (λ (x : List ℕ). pair_at (x ++ more)) k.parts ∙ ap pair_at (append_assoc k.head value more) ∙ pair_at-encoded (capsule_number_of kind) (length value) k.head (value ++ more) k.encoded);
+  first = rw (known_front kind value held more k, close) (says kind value reason (known_judged kind value held (closing-is.Close reason) k judges), refl);
+}
+
+pub bad_known : (kind : CapsuleKind) (value held : List ℕ) (code : ErrorCode) (fault : Fault) → fault.code ≡ code → IsCapsule kind value held → (length held < 2 ^ 62 → Judges (capsule_in held) (closing-is.Bad code)) → IsBad held fault
+bad_known kind value held code fault same k judges = λ more.
+    let (bad, datagram) = faulty kind value code (known_judged kind value held (closing-is.Bad code) k judges) in
+    rw (known_front kind value held more k) (bad, ap (λ (c : ErrorCode). Some c) (same ∙ datagram))
+
+long_bad : (bytes : List ℕ) (end : ℕ) (fault : Fault) → IsLongHead (take end bytes) → fault.code ≡ Datagram → IsBad bytes fault
+long_bad bytes end fault h same = λ more.
+    let parts : bytes ++ more ≡ take end bytes ++ (drop end bytes ++ more) = ap (λ (x : List ℕ). x ++ more) (sym (take-append-drop end bytes)) ∙ append_assoc (take end bytes) (drop end bytes) more in
+    rw (starts-front (bytes ++ more) (TooLong (drop end bytes ++ more)) (take end bytes, h, parts)) (ap (λ (c : ErrorCode). Some c) same)
+
+-- ---- what is held
+
+holds_part : (unknown : Option UnknownCapsule) (due : ℕ) (held came : List ℕ) → unknown ≡ None → HoldsOf unknown due held came → (due ≡ 0) × (held ≡ came) × IsCapsulePart came
+holds_part None due held came none h = h
+holds_part (Some u) due held came none h = absurd (cc none)
+
+holds_lacks : (unknown : Option UnknownCapsule) (u : UnknownCapsule) (due : ℕ) (held came : List ℕ) → unknown ≡ Some u → HoldsOf unknown due held came → (0 < due) × (held ≡ []) × LacksOf u due came
+holds_lacks unknown u due held came is h = rw is at h
+
+part_ends : (came : List ℕ) → IsCapsulePart came → EndsWith (capsule_front came) None
+part_ends [] part = rw front_end refl
+part_ends (b ∷ came) part = rw (part_cut (b ∷ came) (omega arith) part) refl
+
+of_ends : (unknown : Option UnknownCapsule) (due : ℕ) (held came : List ℕ) → HoldsOf unknown due held came → EndsWith (capsule_front came) None
+of_ends None due held came (none, same, part) = part_ends came part
+of_ends (Some u) due held came (some, none, lacks) = lacks_ends u due came some lacks
+
+-- it has no complete capsule
+pub holds_ends : (walk : CapsuleWalk) (came : List ℕ) → Holds walk came → EndsWith (capsule_front came) None
+holds_ends walk came h = of_ends walk.unknown walk.cursor.due walk.held.items came h.0
+
+-- nothing
+pub holds_none : (unknown : Option UnknownCapsule) (due : ℕ) (held : List ℕ) → unknown ≡ None → due ≡ 0 → held ≡ [] → HoldsOf unknown due held [] × (length held ≤ 1043)
+holds_none unknown due held none zero empty = (rw none (zero, empty, inl (frame_need_some [])), omega (arith, ap length empty))
+
+no_pair : pair_at [] ≡ None
 unfolding pair_at number_at
 no_pair = refl
 
-some_bytes : (came value : List ℕ) (n len : ℕ) → pair_at came ≡ Some (n, len, value) → came ≢ []
-some_bytes came value n len e empty = cc (rw empty at e, no_pair)
+some_came : (came : List ℕ) (p : (ℕ × ℕ) × List ℕ) → pair_at came ≡ Some p → came ≢ []
+some_came came p e empty = cc (rw empty at e, no_pair)
 
--- bytes of a value are held
-pub holds_value : (pair : Option Pair) (due : ℕ) (held came : List ℕ) → HoldsPair pair due held came → IsSome pair → came ≢ []
-holds_value None due held came h some = absurd (cc some)
-holds_value (Some pair) due held came (value, e, sum, more, keeps) some = some_bytes came value pair.number pair.second e
+pub pending_none : (walk : CapsuleWalk) (came : List ℕ) → walk.held.items ≡ [] → walk.unknown ≡ None → Holds walk came → came ≡ []
+pending_none walk came empty none h =
+    let (due, same, part) = holds_part walk.unknown walk.cursor.due walk.held.items came none h.0 in
+    sym same ∙ empty
 
--- bytes of a type and a length are held
-pub holds_head : (pair : Option Pair) (due : ℕ) (held came : List ℕ) → HoldsPair pair due held came → pair ≡ None → held ≢ [] → came ≢ []
-holds_head None due held came (few, same) none some = λ empty. some (same ∙ empty)
-holds_head (Some pair) due held came h none some = absurd (cc none)
+pub pending_held : (walk : CapsuleWalk) (came : List ℕ) → walk.held.items ≢ [] → Holds walk came → came ≢ []
+pending_held walk came some h = by walk.unknown walk.cursor.due walk.held.items some h.0
+  where
+    by : (unknown : Option UnknownCapsule) (due : ℕ) (held : List ℕ) → held ≢ [] → HoldsOf unknown due held came → came ≢ []
+    by None due held some (none, same, part) = λ empty. some (same ∙ empty)
+    by (Some u) due held some (more, none, lacks) = absurd (some none)
 
--- what came of a type and a length is held
-pub held_head : (pair : Option Pair) (due : ℕ) (held came : List ℕ) → HoldsPair pair due held came → pair ≡ None → (pair_at came ≡ None) × (held ≡ came)
-held_head None due held came h none = h
-held_head (Some pair) due held came h none = absurd (cc none)
+pub pending_unknown : (walk : CapsuleWalk) (came : List ℕ) → IsSome walk.unknown → Holds walk came → came ≢ []
+pending_unknown walk came some h = by walk.unknown walk.cursor.due walk.held.items some h.0
+  where
+    by : (unknown : Option UnknownCapsule) (due : ℕ) (held : List ℕ) → IsSome unknown → HoldsOf unknown due held came → came ≢ []
+    by None due held some h = absurd (cc some)
+    by (Some u) due held some (more, none, (kind, (value, e, sum))) = some_came came ((u.number, u.announced), value) e
 
--- ---- one byte of a type and a length
+-- ---- an unknown capsule goes on
 
-pub begins : (walk : Pair) (held front : List ℕ) (rest : List ℕ) → pair_at held ≡ None → length front ≡ 1 → pair_at (held ++ front) ≡ Some (walk.number, walk.second, rest) → pair_at (held ++ front) ≡ Some (walk.number, walk.second, [])
-begins walk held front rest few one e =
-    e ∙ ap (λ (x : List ℕ). Some (walk.number, walk.second, x)) (pair_exact held front rest walk.number walk.second few one e)
+pub still_lacks : (u : UnknownCapsule) (due : ℕ) (held came : List ℕ) → 0 < due → held ≡ [] → LacksOf u due came → HoldsOf (Some u) due held came × (length held ≤ 1043)
+still_lacks u due held came some none lacks = ((some, none, lacks), omega (arith, ap length none))
+
+pub lacks_none : (u : UnknownCapsule) (due : ℕ) (held came : List ℕ) (item : CapsuleItem) → due ≤ 0 → held ≡ [] → item.number ≡ u.number → item.announced ≡ u.announced → item.close ≡ None → LacksOf u due came → IsWhole came item × (HoldsOf None due held [] × (length held ≤ 1043))
+lacks_none u due held came item zero none number announced close lacks =
+    let none_due : due ≡ 0 = omega (arith, zero) in
+    (lacks_whole u due came item none_due number announced close lacks, holds_none None due held refl none_due none)
+
+-- ---- a turn
+
+-- bytes of a value are skipped
+pub skips : (old : CapsuleWalk) (u : UnknownCapsule) (cursor : CapsuleCursor) (found : AnyCapsule) (came front : List ℕ) → old.unknown ≡ Some u → Fits old (length front) → AnyIs found old.cursor front cursor → Holds old came → (old.held.items ≡ []) × LacksOf u cursor.due (came ++ front)
+skips old u cursor found came front is fits any h =
+    let (some, none, lacks) = holds_lacks old.unknown u old.cursor.due old.held.items came is h.0 in
+    let missing = missing_due old.cursor old.held.items some in
+    let most : length front ≤ old.cursor.due = omega (arith, missing, some, fits (omega (arith, missing, some))) in
+    (none, lacks_more u old.cursor.due cursor.due came front lacks most (skips_all found old.cursor cursor front most any))
+
+-- the start of a capsule is held, and no more comes than is missing
+record HoldsPart (old : CapsuleWalk) (came front : List ℕ) : Type 0 where
+  due : old.cursor.due ≡ 0
+  same : old.held.items ≡ came
+  part : IsCapsulePart came
+  most : length front ≤ missing_from old.cursor came
+
+holds_front : (old : CapsuleWalk) (came front : List ℕ) → old.unknown ≡ None → Fits old (length front) → Holds old came → HoldsPart old came front
+holds_front old came front none fits h =
+    let (due, same, part) = holds_part old.unknown old.cursor.due old.held.items came none h.0 in
+    record {
+      due = due;
+      same = same;
+      part = part;
+      most = subst (λ (x : List ℕ). 0 < missing_from old.cursor x → length front ≤ missing_from old.cursor x) same fits (part_missing old.cursor came due part);
+    }
+
+from_none : (due end : ℕ) (bytes : List ℕ) → due ≡ 0 → between due end bytes ≡ take end bytes
+from_none due end bytes zero = let size : end - 0 ≡ end = omega arith in rw zero (ap (λ (k : ℕ). take k bytes) size)
+
+pub holds_more : (old : CapsuleWalk) (unknown : Option UnknownCapsule) (cursor : CapsuleCursor) (held came front : List ℕ) (n : ℕ) → old.unknown ≡ None → Fits old (length front) → unknown ≡ None → held ≡ old.held.items ++ front → LeavesPart n old.cursor (old.held.items ++ front) cursor → Holds old came → HoldsOf unknown cursor.due held (came ++ front) × (length held ≤ 1043)
+holds_more old unknown cursor held came front n none fits still is f h =
+    let p = holds_front old came front none fits h in
+    let zero : n ≡ 0 = omega (arith, p.due, f.due) in
+    let all : old.held.items ++ front ≡ came ++ front = ap (λ (x : List ℕ). x ++ front) p.same in
+    let part : IsCapsulePart (came ++ front) = rw (← all) (rw zero at f.part) in
+    let few : length (old.held.items ++ front) ≤ 1043 = rw zero at f.few in
+    (rw still (omega (arith, p.due, f.due), is ∙ all, part), omega (arith, ap length is, few))
+
+pub holds_long : (old : CapsuleWalk) (cursor : CapsuleCursor) (came front : List ℕ) (fault : Fault) → old.unknown ≡ None → Fits old (length front) → fault.code ≡ Datagram → FindsLongHead old.cursor (old.held.items ++ front) cursor → Holds old came → IsBad (came ++ front) fault
+holds_long old cursor came front fault none fits same f h =
+    let p = holds_front old came front none fits h in
+    let all : old.held.items ++ front ≡ came ++ front = ap (λ (x : List ℕ). x ++ front) p.same in
+    rw (← all) (long_bad (old.held.items ++ front) f.end fault (rw (from_none old.cursor.due f.end (old.held.items ++ front) p.due) at f.head) same)
+
+pub holds_unknown : (old : CapsuleWalk) (cursor : CapsuleCursor) (came front : List ℕ) (u : UnknownCapsule) → old.unknown ≡ None → Fits old (length front) → FindsUnknown u old.cursor (old.held.items ++ front) cursor → Holds old came → LacksOf u cursor.due (came ++ front)
+holds_unknown old cursor came front u none fits f h =
+    let p = holds_front old came front none fits h in
+    let all : old.held.items ++ front ≡ came ++ front = ap (λ (x : List ℕ). x ++ front) p.same in
+    let head : IsUnknownHead u.number u.announced (take u.start (came ++ front)) = rw all at (rw (from_none old.cursor.due u.start (old.held.items ++ front) p.due) at f.head) in
+    let pair : pair_at (came ++ front) ≡ Some ((u.number, u.announced), []) = ends_unknown old.cursor came front u.number u.announced u.start p.due p.part p.most (rw all at f.within) head in
+    (no_kind_none u.number f.head.no_kind, ([], pair, omega (arith, f.due)))
+
+pub holds_known : (old : CapsuleWalk) (cursor : CapsuleCursor) (came front : List ℕ) (place : CapsulePlace) → old.unknown ≡ None → Fits old (length front) → FindsKnown place old.cursor (old.held.items ++ front) cursor → Holds old came → (old.held.items ++ front ≡ came ++ front) × (cursor.due ≡ 0) × IsCapsule place.kind (capsule_value place (old.held.items ++ front)) (old.held.items ++ front)
+holds_known old cursor came front place none fits f h =
+    let p = holds_front old came front none fits h in
+    let bytes = old.held.items ++ front in
+    let all : bytes ≡ came ++ front = ap (λ (x : List ℕ). x ++ front) p.same in
+    let k : IsCapsule place.kind (capsule_value place bytes) (take place.end bytes) = rw (from_none old.cursor.due place.end bytes p.due) at f.capsule in
+    let end : place.end ≡ length (came ++ front) = ends_known old.cursor came front (capsule_value place bytes) place.kind place.end p.due p.part p.most (rw all at f.within) (subst (λ (x : List ℕ). IsCapsule place.kind (capsule_value place bytes) (take place.end x)) all k) in
+    (all, f.due, subst (λ (x : List ℕ). IsCapsule place.kind (capsule_value place bytes) x) (take_all place.end bytes (omega (arith, end, ap length all))) k)
 
 -- a fact of what a call returned gives another
 pub ok_map : {T E : Type 0} (P Q : T → Type 0) (r : Result T E) → ((x : T) → P x → Q x) → IfOk r P → IfOk r Q
 ok_map P Q (Ok x) f h = f x h
 ok_map P Q (Err e) f h = h
-
--- some bytes of a value
-pub goes_on : (old new : CapsuleWalk) (pair : Pair) (due : ℕ) (came front kept next : List ℕ) (turn : Turn) → ((came value : List ℕ) → pair_at came ≡ Some (pair.number, pair.second, value) → length value + due ≡ pair.second → Keeps (capsule_kind_of pair.number) pair.second next came → Turned turn new came) → old.pair ≡ Some pair → (0 < old.due → length front ≤ old.due) → due ≡ old.due - length front → next ≡ old.held.items ++ kept → (IsSome (capsule_kind_of pair.number) → kept ≡ front) → Holds old came → Turned turn new (came ++ front)
-goes_on old new pair due came front kept next turn turns some_pair fits is all some h =
-    let (value, e, sum, more, keeps) = held_pair h in
-    let within : length front ≤ old.due = fits more in
-    turns (came ++ front) (value ++ front)
-    (pair_more came value front pair.number pair.second e)
-    (omega (arith, length-append value front, sum, within, is))
-    (keeps_more (capsule_kind_of pair.number) pair.second old.held.items came front kept next keeps all some)
-  where
-    held_pair : Holds old came → HoldsPair (Some pair) old.due old.held.items came
-    held_pair h = rw some_pair at h
 
 -- ---- a piece of data
 

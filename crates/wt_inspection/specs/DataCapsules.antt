@@ -9,7 +9,7 @@ use Rattle.wtp_wire.specs.CapsuleFront.{CapsuleFront, Found, Unknown, TooLong, C
 use Rattle.wtp_wire.specs.CloseSession.{close_in}
 use Rattle.wt_items.specs.declared.item.capsule.CapsuleItem.{CapsuleItem}
 use Rattle.wt_items.specs.declared.item.capsule.CloseReason.{CloseReason}
-use Rattle.wt_inspection.specs.Pair.{pair_at}
+use Rattle.wtp_wire.specs.Settings.{pair_at}
 
 -- the code and the reason of a close
 abbrev pub Says : Option (ℕ × List ℕ) → Option CloseReason → Type 0
@@ -34,7 +34,7 @@ IsFirst other close behind = ⊥
 -- the bytes start with this capsule, and these bytes are after it
 pub record StartsCapsule (bytes : List ℕ) (c : CapsuleItem) (behind : List ℕ) : Type 0 where
   pub value : List ℕ
-  pub numbers : pair_at bytes ≡ Some (c.number, c.announced, value)
+  pub numbers : pair_at bytes ≡ Some ((c.number, c.announced), value)
   pub first : IsFirst (capsule_front bytes) c.close behind
 
 -- the bytes start with these capsules, one after the other, followed by the rest

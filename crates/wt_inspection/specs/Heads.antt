@@ -5,12 +5,12 @@ use Rattle.wtp_wire.specs.Kind.{kind_of}
 use Rattle.wtp_wire.specs.Datagram.{datagram_in}
 use Rattle.wtp_wire.specs.declared.frame.kind.FrameKind.TheVariants.{WebTransport}
 use Rattle.wt_items.specs.declared.item.DatagramHead.{DatagramHead}
-use Rattle.wt_inspection.specs.Pair.{pair_at}
+use Rattle.wtp_wire.specs.Settings.{pair_at}
 
 -- the bytes begin with the type of a WebTransport stream and this session ID
 pub record IsSessionItem (bytes : List ℕ) (len id : ℕ) : Type 0 where
   pub number : ℕ
-  pub numbers : pair_at bytes ≡ Some (number, id, drop len bytes)
+  pub numbers : pair_at bytes ≡ Some ((number, id), drop len bytes)
   pub kind : kind_of number ≡ Some WebTransport
   pub session : id % 4 ≡ 0
 

@@ -1,7 +1,6 @@
 pub mod SettingLines
 pub mod Sections
 pub mod Heads
-pub mod Pair
 pub mod Tiles
 pub mod DataCapsules
 pub mod SessionSections

@@ -44,7 +44,7 @@ use Rattle.wt_inspection.specs.declared.reading.Recorded.TheVariants as recorded
 use Rattle.wt_inspection.specs.DataCapsules.{Stage, Opening, Plain, Session, StartsCapsules, EndsWith}
 use Rattle.wt_inspection.specs.Heads.{IsSessionItem, IsDatagramItem}
 use Rattle.wt_items.specs.Names.{frame_name_of, stream_name_of}
-use Rattle.wt_inspection.specs.Pair.{pair_at}
+use Rattle.wtp_wire.specs.Settings.{pair_at}
 use Rattle.wt_inspection.specs.Sections.{IsSection}
 use Rattle.wt_inspection.specs.SessionSections.{stage_after}
 use Rattle.wt_inspection.specs.SettingLines.{AreSettings}
@@ -146,7 +146,7 @@ IsCutPart name other on after = ⊥
 -- a frame, of which len bytes are there
 pub record IsFrameAt (role : StreamRole) (first : Bool) (bytes : List ℕ) (len : ℕ) (f : FrameItem)
     (after : Then) : Type 0 where
-  pub numbers : pair_at bytes ≡ Some (f.number, f.announced, drop f.head bytes)
+  pub numbers : pair_at bytes ≡ Some ((f.number, f.announced), drop f.head bytes)
   pub name : f.name ≡ frame_name_of f.number
   pub plain : is_session (kind_of f.number) ≡ false
   pub size : f.head + f.present ≡ len
@@ -164,9 +164,9 @@ IsRefused true (Some c) after = StopsWith c after
 IsRefused true None after = ⊥
 
 -- no frame can be read from these two numbers, or from too few bytes
-abbrev pub IsNoFrame : StreamRole → Bool → Option (ℕ × ℕ × List ℕ) → Then → Type 0
+abbrev pub IsNoFrame : StreamRole → Bool → Option ((ℕ × ℕ) × List ℕ) → Then → Type 0
 IsNoFrame role first None after = IsCut after
-IsNoFrame role first (Some (number, id, rest)) after =
+IsNoFrame role first (Some ((number, id), rest)) after =
     (is_session (kind_of number) ≡ true)
     × IsRefused (id % 4 == 0) (rule (role_of role) first kind-is.WebTransport) after
 
@@ -184,16 +184,16 @@ has_session other = false
 -- the type, and the session ID if one follows
 abbrev pub IsHead : Bool → List ℕ → ℕ → StreamHead → Type 0
 IsHead true bytes len head =
-    (id : ℕ) × (pair_at bytes ≡ Some (head.number, id, drop len bytes)) × (id % 4 ≡ 0)
+    (id : ℕ) × (pair_at bytes ≡ Some ((head.number, id), drop len bytes)) × (id % 4 ≡ 0)
     × (head.session ≡ Some id) × (head.name ≡ stream_name_of head.number)
 IsHead false bytes len head =
     (number_at bytes ≡ Some (head.number, drop len bytes)) × (head.session ≡ None)
     × (head.name ≡ stream_name_of head.number)
 
 -- no session ID can be read from these two numbers, or from too few bytes
-abbrev pub IsNoSession : Option (ℕ × ℕ × List ℕ) → Then → Type 0
+abbrev pub IsNoSession : Option ((ℕ × ℕ) × List ℕ) → Then → Type 0
 IsNoSession None after = IsCut after
-IsNoSession (Some (number, id, rest)) after = ((id % 4 == 0) ≡ false) × StopsWith code-is.Id after
+IsNoSession (Some ((number, id), rest)) after = ((id % 4 == 0) ≡ false) × StopsWith code-is.Id after
 
 -- no head can be read from this type, or from too few bytes
 abbrev pub IsNoHead : Option (ℕ × List ℕ) → List ℕ → Then → Type 0
@@ -231,7 +231,7 @@ Closes None found after = (found ≡ None) × (after ≡ Ok next-is.Capsules)
 pub record IsCapsuleAt (bytes : List ℕ) (len : ℕ) (c : CapsuleItem) (after : Then) : Type 0 where
   pub head : ℕ
   pub there : head ≤ length bytes
-  pub numbers : pair_at bytes ≡ Some (c.number, c.announced, drop head bytes)
+  pub numbers : pair_at bytes ≡ Some ((c.number, c.announced), drop head bytes)
   pub most : len ≤ head + c.announced
   pub cut : len < head + c.announced → (len ≡ length bytes) × (c.close ≡ None) × IsCut after
   pub whole : len ≡ head + c.announced → len < 2 ^ 62

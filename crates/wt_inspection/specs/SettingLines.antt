@@ -5,14 +5,14 @@ use Rattle.wtp_wire.specs.SettingId.{is_reserved}
 use Rattle.wt_items.specs.declared.item.settings.SettingFlag.{SettingFlag}
 use Rattle.wt_items.specs.declared.item.settings.SettingFlag.TheVariants.{Reserved, Repeated}
 use Rattle.wt_items.specs.declared.item.settings.SettingLine.{SettingLine}
-use Rattle.wt_inspection.specs.Pair.{pair_at}
+use Rattle.wtp_wire.specs.Settings.{pair_at}
 
 -- the bytes start with these settings, one after the other, followed by the rest
 abbrev pub StartsSettings : List ℕ → List SettingLine → List ℕ → Type 0
 StartsSettings bytes [] rest = bytes ≡ rest
 StartsSettings bytes (line ∷ lines) rest =
     (behind : List ℕ)
-    × (pair_at bytes ≡ Some (line.id, line.value, behind))
+    × (pair_at bytes ≡ Some ((line.id, line.value), behind))
     × StartsSettings behind lines rest
 
 -- what is wrong with a setting whose identifier is reserved, or repeated

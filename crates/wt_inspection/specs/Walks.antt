@@ -1,13 +1,16 @@
 -- What the reading of a message remembers, and what the bytes of a capsule lead to.
-use Rattle.std.specs.Prelude.{◌≡◌, ℕ, ◌+◌, ◌<◌, ◌≤◌, List, [], ◌++◌, length, nat_lt, Bool, false, Option, Some, None, Ok, Err}
+use Rattle.std.specs.Prelude.{◌≡◌, ℕ, ◌+◌, ◌<◌, ◌≤◌, List, [], ◌++◌, length, Option, Some, None, Ok, Err}
 use Rattle.wtp_core.specs.declared.error.ErrorCode.TheVariants.{Datagram}
 use Rattle.wtp_wire.specs.declared.capsule.CapsuleKind.{CapsuleKind}
+use Rattle.wtp_wire.specs.declared.capsule.cursor.UnknownCapsule.{UnknownCapsule}
 use Rattle.wtp_wire.specs.declared.capsule.CapsuleKind.TheVariants.{CloseWebTransportSession}
-use Rattle.wtp_wire.specs.CapsuleFront.{capsule_front, longest_value}
+use Rattle.wtp_wire.specs.AnyCapsule.{missing_from}
+use Rattle.wtp_wire.specs.CapsuleCursor.{IsCapsulePart}
+use Rattle.wtp_wire.specs.CapsuleFront.{capsule_front}
 use Rattle.wtp_wire.specs.Capsule.{capsule_kind_of}
 use Rattle.wtp_wire.specs.CloseSession.{close_in}
 use Rattle.wt_inspection.specs.DataCapsules.{Stage, Opening, Plain, Session, Says, StartsCapsule, StartsCapsules, EndsWith}
-use Rattle.wt_inspection.specs.Pair.{pair_at}
+use Rattle.wtp_wire.specs.Settings.{pair_at}
 use Rattle.wt_inspection.specs.Recording.{Then}
 use Rattle.wt_inspection.specs.declared.capsules.CapsuleWalk.{CapsuleWalk}
 use Rattle.wt_inspection.specs.declared.capsules.Closing.{Closing}
@@ -17,39 +20,35 @@ use Rattle.wt_inspection.specs.declared.capsules.Turn.{Turn}
 use Rattle.wt_inspection.specs.declared.capsules.Turn.TheVariants as turn-is
 use Rattle.wt_items.specs.declared.item.capsule.CapsuleItem.{CapsuleItem}
 use Rattle.wt_items.specs.declared.item.ending.Fault.{Fault}
-use Rattle.wt_inspection.specs.declared.numbers.Pair.{Pair}
 use Rattle.wt_inspection.specs.declared.reading.Phase.{Phase}
 use Rattle.wt_inspection.specs.declared.reading.Phase.TheVariants as phase-is
 
 -- ---- what is held
 
--- the bytes of a capsule of a known kind are kept, and its length is not too long
-abbrev pub Keeps : Option CapsuleKind → ℕ → List ℕ → List ℕ → Type 0
-Keeps None len held came = Unit {0}
-Keeps (Some kind) len held came = (len ≤ longest_value kind) × (held ≡ came)
+-- of this capsule of an unknown type the type and the length came, and its value but for n bytes
+abbrev pub LacksOf : UnknownCapsule → ℕ → List ℕ → Type 0
+LacksOf u n came =
+    (capsule_kind_of u.number ≡ None)
+    × ((value : List ℕ) × (pair_at came ≡ Some ((u.number, u.announced), value))
+    × (length value + n ≡ u.announced))
 
--- these bytes of a capsule came: less than a type and a length, or less than a value
-abbrev pub HoldsPair : Option Pair → ℕ → List ℕ → List ℕ → Type 0
-HoldsPair None due held came = (pair_at came ≡ None) × (held ≡ came)
-HoldsPair (Some pair) due held came =
-    (value : List ℕ) × (pair_at came ≡ Some (pair.number, pair.second, value))
-    × (length value + due ≡ pair.second) × (0 < due)
-    × Keeps (capsule_kind_of pair.number) pair.second held came
+-- these bytes of a capsule came: the start of one, all of which is held; or one whose value is
+-- skipped, of which nothing is held
+abbrev pub HoldsOf : Option UnknownCapsule → ℕ → List ℕ → List ℕ → Type 0
+HoldsOf None due held came = (due ≡ 0) × (held ≡ came) × IsCapsulePart came
+HoldsOf (Some u) due held came = (0 < due) × (held ≡ []) × LacksOf u due came
 
+-- what is held is short, however long the capsule is
 abbrev pub Holds : CapsuleWalk → List ℕ → Type 0
-Holds walk came = HoldsPair walk.pair walk.due walk.held.items came
-
--- a capsule of this length is longer than its kind may be
-abbrev pub is_too_long : Option CapsuleKind → ℕ → Bool
-is_too_long None len = false
-is_too_long (Some kind) len = nat_lt (longest_value kind) len
+Holds walk came =
+    HoldsOf walk.unknown walk.cursor.due walk.held.items came × (length walk.held.items ≤ 1043)
 
 -- ---- one turn
 
--- a turn takes one byte of a type and a length, or at most what is missing of a value
-abbrev pub Fits : Option Pair → ℕ → ℕ → Type 0
-Fits None due n = n ≡ 1
-Fits (Some pair) due n = 0 < due → n ≤ due
+-- a turn takes no more bytes than are missing
+abbrev pub Fits : CapsuleWalk → ℕ → Type 0
+Fits walk n =
+    0 < missing_from walk.cursor walk.held.items → n ≤ missing_from walk.cursor walk.held.items
 
 -- the bytes are this capsule, whatever follows
 abbrev pub IsWhole : List ℕ → CapsuleItem → Type 0

@@ -1,12 +1,12 @@
 //! Capsules (RFC 9297, section 3.2).
-ghost use Rattle.std.specs.Prelude.{◌≡◌, ◌≢◌, ◌+◌, ◌%◌, ◌==◌, ◌≤◌, ◌<◌, ◌^◌, ◌++◌, ℕ, List, [], IsSome, true, false, Some, None, IfOk, MatchOption, length, string_bytes};
-ghost use Rattle.wtp_wire.specs.Capsule.{capsule_in, capsule_kind_of};
+ghost use Rattle.std.specs.Prelude.{◌≡◌, ◌≢◌, ◌+◌, ◌%◌, ◌==◌, ◌≤◌, ◌<◌, ◌^◌, ◌++◌, ℕ, List, [], IsSome, Some, None, IfOk, length, string_bytes};
+ghost use Rattle.wtp_wire.specs.Capsule.{capsule_in};
+ghost use Rattle.wtp_wire.specs.CapsuleCursor.{capsule_value};
+ghost use Rattle.wtp_wire.specs.CapsuleFront.{IsCapsule};
 ghost use Rattle.wtp_wire.specs.CloseSession.{close_in};
-ghost use Rattle.wt_inspection.specs.Pair.{pair_at};
 ghost use Rattle.wt_inspection.specs.Recording.{Closes, IsNext};
-ghost use Rattle.wt_inspection.specs.Walks.{Fits, Holds, JudgesBy, JudgesClose, Judges, Keeps, TakesPiece, Turned, is_too_long};
+ghost use Rattle.wt_inspection.specs.Walks.{Fits, Holds, JudgesBy, JudgesClose, Judges, LacksOf, TakesPiece, Turned};
 
-use crate::numbers::{Pair, first_pair, missing_of_pair};
 use crate::reading::{Next, Reading, Step, cut, fault, fault_at};
 use std::alloc::{AllocError, Global};
 use std::borrow::CowSlice;
@@ -14,22 +14,23 @@ use wt_items::item::{CapsuleItem, CloseReason, Content, Cut, End, Fault};
 use wtp_core::error::{ErrorCode, Refused};
 use wtp_core::varint::VarInt;
 use wtp_wire::capsule::capsules::CloseWebTransportSession;
-use wtp_wire::capsule::{Capsule, CapsuleKind};
+use wtp_wire::capsule::{
+    AnyCapsule, Capsule, CapsuleCursor, CapsuleKind, CapsulePlace, UnknownCapsule,
+};
 use wtp_wire::frame::Frame;
+use wtp_wire::head::{first_pair, missing_bytes};
 
 /// Reads the capsules of pieces of data, cut anywhere.
 #[derive(Drop)]
 pub(crate) struct CapsuleWalk {
     alloc: Global,
-    /// The first bytes of a capsule: all that came, as long as its type and its length are not
-    /// complete, or if its value is read.
+    cursor: CapsuleCursor,
+    /// The bytes that the cursor left over: the start of a capsule, at most 1043 of them.
     held: Vec<u8>,
-    /// The type and the length, once they are complete.
-    pair: Option<Pair>,
-    /// The place of its first byte.
+    /// The capsule of an unknown type whose value the cursor skips.
+    unknown: Option<UnknownCapsule>,
+    /// The place of the first byte of the capsule that has begun.
     at: usize,
-    /// How many bytes of its value are missing.
-    due: u64,
 }
 
 /// The capsules that end in a piece of data, and the first fault.
@@ -68,10 +69,10 @@ impl CapsuleWalk {
     {
         CapsuleWalk {
             alloc,
+            cursor: CapsuleCursor::new(),
             held: Vec::new(alloc),
-            pair: None,
+            unknown: None,
             at: 0,
-            due: 0,
         }
     }
 
@@ -104,45 +105,58 @@ impl CapsuleWalk {
         }
     }
 
-    /// Returns how many of the next bytes are taken at once: one of a head, or all of a value.
+    /// Returns how many of the next bytes are taken at once: as many as are missing.
     fn next_len(&self, left: usize) -> usize
         requires { 1 ≤ left }
         ensures some { 0 < result }
         ensures within { result ≤ left }
-        ensures fits { Fits self.now.pair self.now.due result }
+        ensures fits { Fits self.now result }
     {
-        match self.pair {
-            Some(_) => self.due.min(left as u64).max(1) as usize,
-            None => 1,
-        }
+        let missing = self.cursor.missing(self.held.as_slice());
+        missing.min(left as u64).max(1) as usize
     }
 
-    /// Takes these bytes, which are one of a head, or some of a value.
+    /// Takes these bytes, which are no more than are missing.
     fn turn(&mut self, place: usize, front: &[u8]) -> Result<Turn, AllocError>
-        requires { Fits self.old.pair self.old.due (length front.now) }
+        requires { Fits self.old (length front.now) }
         ensures { IfOk result (λ turn. (came : List ℕ) → Holds self.old came
             → Turned turn self.new (came ++ front.now)) }
     {
-        match self.pair {
-            Some(pair) => self.take_value(pair, front),
-            None => self.take_head(place, front),
+        match self.unknown {
+            Some(unknown) => Ok(self.skip(unknown, front)),
+            None => self.hold(place, front),
         }
     }
 
-    /// Takes the next byte of a head.
-    fn take_head(&mut self, place: usize, front: &[u8]) -> Result<Turn, AllocError>
-        requires none { self.old.pair ≡ None }
-        requires one { length front.now ≡ 1 }
-        ensures { IfOk result (λ turn. pair_at self.old.held.items ≡ None
-            → Turned turn self.new (self.old.held.items ++ front.now)) }
+    /// Takes bytes of an unknown capsule's value, which the cursor skips.
+    fn skip(&mut self, unknown: UnknownCapsule, front: &[u8]) -> Turn
+        requires unknown { self.old.unknown ≡ Some unknown }
+        requires fits { Fits self.old (length front.now) }
+        ensures { (came : List ℕ) → Holds self.old came
+            → Turned result self.new (came ++ front.now) }
+    {
+        self.cursor.next_any(front);
+        self.go_on(unknown)
+    }
+
+    /// Takes bytes of a capsule that are held until it is complete.
+    fn hold(&mut self, place: usize, front: &[u8]) -> Result<Turn, AllocError>
+        requires none { self.old.unknown ≡ None }
+        requires fits { Fits self.old (length front.now) }
+        ensures { IfOk result (λ turn. (came : List ℕ) → Holds self.old came
+            → Turned turn self.new (came ++ front.now)) }
     {
         self.at = self.start_at(place);
         self.held.extend_from_slice(front)?;
-        let found = first_pair(self.held.as_slice());
-        let Some(pair) = found else {
-            return Ok(Turn::More);
-        };
-        self.begin(pair)
+        match self.cursor.next_any(self.held.as_slice()) {
+            AnyCapsule::More(_) => Ok(Turn::More),
+            AnyCapsule::TooLong => Ok(Turn::Fault(too_long(self.at))),
+            AnyCapsule::Unknown(unknown) => {
+                self.held.clear();
+                Ok(self.go_on(unknown))
+            }
+            AnyCapsule::Known(found) => self.complete(found),
+        }
     }
 
     /// Returns the place of the first byte of a capsule whose next byte is at this place.
@@ -150,117 +164,64 @@ impl CapsuleWalk {
         if self.held.is_empty() { place } else { self.at }
     }
 
-    /// Begins the value of a capsule.
-    #[tactic(auto, using(crate::proofs::WalkLemmas::long_is_bad, crate::proofs::WalkLemmas::keeps_all))]
-    fn begin(&mut self, pair: Pair) -> Result<Turn, AllocError>
-        ensures { IfOk result (λ turn. (came : List ℕ)
-            → pair_at came ≡ Some (pair.number, pair.second, [])
-            → self.old.held.items ≡ came → Turned turn self.new came) }
+    /// Returns the unknown capsule, if none of its value is missing.
+    fn go_on(&mut self, unknown: UnknownCapsule) -> Turn
+        ensures { (came : List ℕ) → self.old.held.items ≡ []
+            → LacksOf unknown self.old.cursor.due came → Turned result self.new came }
     {
-        let Some(due) = due_of(pair.number, pair.second) else {
-            return Ok(Turn::Fault(too_long(self.at)));
-        };
-        self.due = due;
-        self.go_on(pair)
-    }
-
-    /// Takes some bytes of a value.
-    fn take_value(&mut self, pair: Pair, front: &[u8]) -> Result<Turn, AllocError>
-        requires pair { self.old.pair ≡ Some pair }
-        requires fits { 0 < self.old.due → length front.now ≤ self.old.due }
-        ensures { IfOk result (λ turn. (came : List ℕ) → Holds self.old came
-            → Turned turn self.new (came ++ front.now)) }
-    {
-        self.held.extend_from_slice(kept_of(pair.number, front))?;
-        self.due = self.due.saturating_sub(front.len() as u64);
-        self.go_on(pair)
-    }
-
-    /// Returns the capsule, if all of its value came.
-    fn go_on(&mut self, pair: Pair) -> Result<Turn, AllocError>
-        ensures { IfOk result (λ turn. (came value : List ℕ)
-            → pair_at came ≡ Some (pair.number, pair.second, value)
-            → length value + self.old.due ≡ pair.second
-            → Keeps (capsule_kind_of pair.number) pair.second self.old.held.items came
-            → Turned turn self.new came) }
-    {
-        if self.due > 0 {
-            self.pair = Some(pair);
-            return Ok(Turn::More);
+        if self.cursor.due > 0 {
+            self.unknown = Some(unknown);
+            return Turn::More;
         }
-        self.complete(pair)
+        self.unknown = None;
+        Turn::Done(capsule_of(
+            self.at,
+            unknown.number,
+            unknown.announced.into_inner(),
+            None,
+        ))
     }
 
-    /// Returns the capsule, all of whose value came.
-    fn complete(&mut self, pair: Pair) -> Result<Turn, AllocError>
-        ensures { IfOk result (λ turn. (came value : List ℕ)
-            → pair_at came ≡ Some (pair.number, pair.second, value)
-            → length value ≡ pair.second
-            → Keeps (capsule_kind_of pair.number) pair.second self.old.held.items came
-            → Turned turn self.new came) }
+    /// Returns the capsule of a known kind that is held.
+    fn complete(&mut self, found: CapsulePlace) -> Result<Turn, AllocError>
+        requires { found.end ≤ length self.old.held.items }
+        ensures { IfOk result (λ turn. self.old.unknown ≡ None → self.old.cursor.due ≡ 0
+            → IsCapsule found.kind (capsule_value found self.old.held.items) self.old.held.items
+            → Turned turn self.new self.old.held.items) }
     {
-        let closing = closing_if(self.alloc, pair.number, self.held.as_slice())?;
+        let closing = closing_of(self.alloc, self.held.as_slice())?;
         self.held.clear();
-        self.pair = None;
+        let number = found.kind.id();
+        let announced = (found.end - found.start) as u64;
         match closing {
-            Closing::Other => Ok(Turn::Done(capsule_of(self.at, pair, None))),
-            Closing::Close(close) => Ok(Turn::Done(capsule_of(self.at, pair, Some(close)))),
+            Closing::Other => Ok(Turn::Done(capsule_of(self.at, number, announced, None))),
+            Closing::Close(close) => {
+                let item = capsule_of(self.at, number, announced, Some(close));
+                Ok(Turn::Done(item))
+            }
             Closing::Bad(code) => Ok(Turn::Fault(fault_at(self.at, code, BAD_CLOSE))),
         }
     }
 
     /// Returns the capsule that the data cuts, if it ends within one.
-    #[tactic(auto, using(crate::proofs::WalkLemmas::holds_value, crate::proofs::WalkLemmas::holds_head))]
+    #[tactic(auto, using(crate::proofs::WalkLemmas::pending_held, crate::proofs::WalkLemmas::pending_unknown))]
     pub(crate) fn pending(&self) -> Option<Cut>
         ensures none { (came : List ℕ) → Holds self.now came → result ≡ None → came ≡ [] }
         ensures some { (came : List ℕ) → Holds self.now came → IsSome result → came ≢ [] }
     {
-        match self.pair {
-            Some(_) => Some(self.cut(self.due)),
-            None => {
-                if self.held.is_empty() {
-                    return None;
-                }
-                Some(self.cut(missing_of_pair(self.held.as_slice())))
-            }
+        if self.held.is_empty() && self.unknown.is_none() {
+            return None;
         }
-    }
-
-    /// Returns the capsule that is cut, of which so many bytes are missing.
-    fn cut(&self, missing: u64) -> Cut {
-        Cut {
+        Some(Cut {
             at: self.at,
             item: "capsule",
-            missing,
-        }
+            missing: self.cursor.missing(self.held.as_slice()),
+        })
     }
 }
 
 const BAD_CLOSE: &str = "a close capsule is a code and a text of at most 1024 bytes \
                          (draft-ietf-webtrans-http3-02, section 5)";
-
-/// Returns the length of the value of a capsule, or `None` if it is too long.
-fn due_of(number: VarInt, length: VarInt) -> Option<u64>
-    ensures { MatchOption result (is_too_long (capsule_kind_of number) length ≡ true)
-        (λ due. (due ≡ length) × (is_too_long (capsule_kind_of number) length ≡ false)) }
-{
-    match CapsuleKind::parse(number) {
-        Some(kind) if length.into_inner() > kind.longest_value() as u64 => None,
-        Some(_) => Some(length.into_inner()),
-        None => Some(length.into_inner()),
-    }
-}
-
-/// Returns those of these bytes of a value that are kept: all if it is read, otherwise none.
-fn kept_of(number: VarInt, front: &[u8]) -> &[u8]
-    ensures all { IsSome (capsule_kind_of number) → result.now ≡ front.now }
-    ensures none { capsule_kind_of number ≡ None → result.now ≡ [] }
-{
-    match CapsuleKind::parse(number) {
-        Some(_) => front,
-        None => &[],
-    }
-}
 
 /// Returns the fault of a capsule at this place that is too long.
 fn too_long(at: usize) -> Fault
@@ -271,16 +232,16 @@ fn too_long(at: usize) -> Fault
 }
 
 /// Returns a capsule.
-fn capsule_of(at: usize, pair: Pair, close: Option<CloseReason>) -> CapsuleItem
-    ensures number { result.number ≡ pair.number }
-    ensures announced { result.announced ≡ pair.second }
+fn capsule_of(at: usize, id: VarInt, announced: u64, close: Option<CloseReason>) -> CapsuleItem
+    ensures number { result.number ≡ id }
+    ensures announced { result.announced ≡ announced }
     ensures close { result.close ≡ close }
 {
     CapsuleItem {
         at,
-        number: pair.number.into_inner(),
-        name: name_of(pair.number),
-        announced: pair.second.into_inner(),
+        number: id.into_inner(),
+        name: name_of(id),
+        announced,
         close,
     }
 }
@@ -322,7 +283,7 @@ pub(crate) fn next_capsule(reading: &Reading, at: usize, rest: &[u8]) -> Result<
     ensures read { IfOk result (λ s. IsNext Next.Capsules rest.now s.length s.content s.after) }
 {
     let Some(pair) = first_pair(rest) else {
-        let end = cut(at, "capsule", missing_of_pair(rest));
+        let end = cut(at, "capsule", missing_bytes(rest) as u64);
         return Ok(Step::last(rest.len(), Content::Unread, end));
     };
     let left = rest.len() - pair.size;
@@ -331,7 +292,7 @@ pub(crate) fn next_capsule(reading: &Reading, at: usize, rest: &[u8]) -> Result<
         let end = cut(at, "capsule", announced - left as u64);
         return Ok(Step::last(
             rest.len(),
-            Content::Capsule(capsule_of(at, pair, None)),
+            Content::Capsule(capsule_of(at, pair.first, announced, None)),
             end,
         ));
     }
@@ -339,7 +300,7 @@ pub(crate) fn next_capsule(reading: &Reading, at: usize, rest: &[u8]) -> Result<
     let (close, after) = read_close(reading.alloc, at, rest.split_at(len).0)?;
     Ok(Step {
         length: len,
-        content: Content::Capsule(capsule_of(at, pair, close)),
+        content: Content::Capsule(capsule_of(at, pair.first, announced, close)),
         after,
     })
 }
@@ -360,19 +321,6 @@ fn read_close(
         Closing::Close(found) => Ok((Some(found), Ok(Next::Capsules))),
         Closing::Bad(code) => Ok((None, Err(fault(at, code, BAD_CLOSE)))),
     }
-}
-
-/// Returns what a capsule of this type says of its session.
-fn closing_if(alloc: Global, number: VarInt, bytes: &[u8]) -> Result<Closing, AllocError>
-    ensures other { IfOk result (λ closing. capsule_kind_of number ≡ None
-        → closing ≡ Closing.Other) }
-    ensures known { IfOk result (λ closing. IsSome (capsule_kind_of number)
-        → length bytes.now < 2 ^ 62 → Judges (capsule_in bytes.now) closing) }
-{
-    if CapsuleKind::parse(number).is_none() {
-        return Ok(Closing::Other);
-    }
-    closing_of(alloc, bytes)
 }
 
 /// Returns what the capsule that these bytes are says of its session.

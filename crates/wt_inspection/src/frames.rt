@@ -3,7 +3,7 @@ ghost use Rattle.std.specs.Prelude.{◌≡◌, ◌≤◌, ◌<◌, ◌+◌, ◌^
 ghost use Rattle.wtp_wire.specs.Kind.{kind_of};
 ghost use Rattle.wt_items.specs.Names.{frame_name_of};
 ghost use Rattle.wt_inspection.specs.Walks.{Leads};
-ghost use Rattle.wt_inspection.specs.Pair.{pair_at};
+ghost use Rattle.wtp_wire.specs.Settings.{pair_at};
 ghost use Rattle.wt_inspection.specs.Recording.{IsCutPart, HasNoFrame, HasParts, IsNext, Judged, Moves, Takes, TakesDataFrame, TakesWhole, is_cut, is_data, is_session, name_fault, still_first};
 
 mod warnings;
@@ -12,7 +12,6 @@ use crate::capsules::Taken;
 use crate::fields::{read_section, section_then};
 use crate::frames::warnings::warn_of_frame;
 use crate::message::take_section;
-use crate::numbers::{Pair, first_pair, missing_of_pair};
 use crate::reading::{Next, Phase, Reading, Step, cut, fault};
 use crate::settings::{read_settings, settings_then};
 use std::alloc::AllocError;
@@ -21,6 +20,7 @@ use wtp_core::error::ErrorCode;
 use wtp_core::ids::SessionId;
 use wtp_core::varint::VarInt;
 use wtp_wire::frame::FrameKind;
+use wtp_wire::head::{FirstPair, first_pair, missing_bytes};
 use wtp_wire::rules::{StreamRole, fault_of};
 
 /// What the payload of a frame contains, and what follows the frame.
@@ -55,10 +55,10 @@ pub(crate) fn next_frame(
         (Moves (Ok (Next.Frames role first)) rest.now s.content s.after) s.after) }
 {
     let Some(pair) = first_pair(rest) else {
-        let end = cut(at, "frame", missing_of_pair(rest));
+        let end = cut(at, "frame", missing_bytes(rest) as u64);
         return Ok(Step::last(rest.len(), Content::Unread, end));
     };
-    if is_session(pair.number) {
+    if is_session(pair.first) {
         return Ok(session_frame(role, first, at, pair, rest));
     }
     let left = rest.len() - pair.size;
@@ -84,12 +84,12 @@ fn is_session(number: VarInt) -> bool
 
 /// Returns the head of a WebTransport stream (draft-ietf-webtrans-http3-02, section 4.2).
 #[tactic(auto, using(crate::proofs::RecordingLemmas::no_frame_refused, crate::proofs::RecordingLemmas::session_kind))]
-fn session_frame(role: StreamRole, first: bool, at: usize, pair: Pair, rest: &[u8]) -> Step
+fn session_frame(role: StreamRole, first: bool, at: usize, pair: FirstPair, rest: &[u8]) -> Step
     requires nonempty { 0 < length rest.now }
     requires within { pair.size ≤ length rest.now }
     requires some { 0 < pair.size }
-    requires pair { pair_at rest.now ≡ Some (pair.number, pair.second, drop pair.size rest.now) }
-    requires kind { is_session (kind_of pair.number) ≡ true }
+    requires pair { pair_at rest.now ≡ Some ((pair.first, pair.second), drop pair.size rest.now) }
+    requires kind { is_session (kind_of pair.first) ≡ true }
     ensures within { result.length ≤ length rest.now }
     ensures some { 0 < result.length }
     ensures read { IsNext (Next.Frames role first) rest.now result.length result.content
@@ -118,13 +118,13 @@ fn cut_frame(
     role: StreamRole,
     first: bool,
     at: usize,
-    pair: Pair,
+    pair: FirstPair,
     rest: &[u8],
 ) -> Result<Step, AllocError>
     requires within { pair.size ≤ length rest.now }
     requires some { 0 < pair.size }
-    requires pair { pair_at rest.now ≡ Some (pair.number, pair.second, drop pair.size rest.now) }
-    requires kind { is_session (kind_of pair.number) ≡ false }
+    requires pair { pair_at rest.now ≡ Some ((pair.first, pair.second), drop pair.size rest.now) }
+    requires kind { is_session (kind_of pair.first) ≡ false }
     requires cut { length rest.now < pair.size + pair.second }
     ensures within { IfOk result (λ s. s.length ≤ length rest.now) }
     ensures some { IfOk result (λ s. 0 < s.length) }
@@ -133,8 +133,8 @@ fn cut_frame(
     ensures stage { IfOk result (λ s. Leads reading.old.phase reading.new.phase
         (Moves (Ok (Next.Frames role first)) rest.now s.content s.after) s.after) }
 {
-    let Pair {
-        number,
+    let FirstPair {
+        first: number,
         second,
         size,
     } = pair;
@@ -170,13 +170,13 @@ fn whole_frame(
     role: StreamRole,
     first: bool,
     at: usize,
-    pair: Pair,
+    pair: FirstPair,
     rest: &[u8],
 ) -> Result<Step, AllocError>
     requires within { pair.size + pair.second ≤ length rest.now }
     requires some { 0 < pair.size }
-    requires pair { pair_at rest.now ≡ Some (pair.number, pair.second, drop pair.size rest.now) }
-    requires kind { is_session (kind_of pair.number) ≡ false }
+    requires pair { pair_at rest.now ≡ Some ((pair.first, pair.second), drop pair.size rest.now) }
+    requires kind { is_session (kind_of pair.first) ≡ false }
     ensures within { IfOk result (λ s. s.length ≤ length rest.now) }
     ensures some { IfOk result (λ s. 0 < s.length) }
     ensures read { IfOk result (λ s. IsNext (Next.Frames role first) rest.now s.length s.content
@@ -184,8 +184,8 @@ fn whole_frame(
     ensures stage { IfOk result (λ s. Leads reading.old.phase reading.new.phase
         (Moves (Ok (Next.Frames role first)) rest.now s.content s.after) s.after) }
 {
-    let Pair {
-        number,
+    let FirstPair {
+        first: number,
         second,
         size,
     } = pair;

@@ -10,7 +10,6 @@ use crate::capsules::next_capsule;
 use crate::fields::{read_section, section_then};
 use crate::frames::next_frame;
 use crate::message::warn_of_section;
-use crate::numbers::{first_pair, missing_of_pair};
 use crate::reading::{Next, Reading, Recorded, Step, cut, end_at, end_of_nothing, fault, start_of};
 use crate::settings::{read_settings, settings_then};
 use crate::tiling::Tiling;
@@ -20,6 +19,7 @@ use wtp_core::error::ErrorCode;
 use wtp_core::ids::SessionId;
 use wtp_core::varint::{VarInt, first_varint};
 use wtp_wire::datagram::Datagram;
+use wtp_wire::head::{first_pair, missing_bytes};
 use wtp_wire::rules::StreamRole;
 use wtp_wire::stream_header::StreamKind;
 
@@ -202,8 +202,8 @@ fn session_head(rest: &[u8]) -> Step
         return Step::last(rest.len(), Content::Unread, fault(0, ErrorCode::Id, why));
     };
     let head = StreamHead {
-        number: pair.number.into_inner(),
-        name: StreamName::of(pair.number),
+        number: pair.first.into_inner(),
+        name: StreamName::of(pair.first),
         session: Some(session.into_u64()),
     };
     Step::go_on(pair.size, Content::Stream(head), Next::Payload)
@@ -214,7 +214,7 @@ fn session_head(rest: &[u8]) -> Step
 fn cut_head(rest: &[u8]) -> End
     ensures { is_cut result ≡ true }
 {
-    cut(0, "stream type", missing_of_pair(rest))
+    cut(0, "stream type", missing_bytes(rest) as u64)
 }
 
 /// Returns the only item of a datagram (RFC 9297, section 2.1).

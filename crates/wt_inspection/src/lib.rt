@@ -14,7 +14,6 @@ mod frames;
 mod kinds;
 pub mod laws;
 mod message;
-mod numbers;
 mod reading;
 mod settings;
 mod tiling;

@@ -5,7 +5,6 @@ ghost use Rattle.wtp_wire.specs.Settings.{AnswersSettings, settings_in};
 ghost use Rattle.wt_inspection.specs.Recording.{AfterSettings, HasFault};
 ghost use Rattle.wt_inspection.specs.SettingLines.{AreSettings, flag_of};
 
-use crate::numbers::{Pair, first_pair};
 use crate::reading::{Next, fault};
 use std::alloc::{AllocError, Global};
 use std::borrow::CowSlice;
@@ -14,6 +13,7 @@ use wt_items::item::{End, SettingFlag, SettingLine};
 use wtp_core::error::{ErrorCode, Refused};
 use wtp_core::varint::VarInt;
 use wtp_wire::frame::Frame;
+use wtp_wire::head::{FirstPair, first_pair};
 use wtp_wire::settings::{SettingId, Settings};
 
 /// Returns the settings of a payload in their order, up to one that is cut.
@@ -28,19 +28,19 @@ pub(crate) fn read_settings(alloc: Global, bytes: &[u8]) -> Result<Vec<SettingLi
             return Ok(lines);
         };
         let (_, others) = rest.split_at(pair.size);
-        let is_new = seen.insert(pair.number.into_inner())?;
+        let is_new = seen.insert(pair.first.into_inner())?;
         lines.push(line_of(pair, is_new))?;
         rest = others;
     }
 }
 
 /// Returns the line of a setting, whose identifier is new if no earlier one has it.
-fn line_of(pair: Pair, is_new: bool) -> SettingLine
-    ensures id { result.id ≡ pair.number }
+fn line_of(pair: FirstPair, is_new: bool) -> SettingLine
+    ensures id { result.id ≡ pair.first }
     ensures value { result.value ≡ pair.second }
-    ensures flag { result.flag ≡ flag_of (is_reserved pair.number) (not is_new) }
+    ensures flag { result.flag ≡ flag_of (is_reserved pair.first) (not is_new) }
 {
-    let flag = if SettingId::is_reserved(pair.number) {
+    let flag = if SettingId::is_reserved(pair.first) {
         Some(SettingFlag::Reserved)
     } else if is_new {
         None
@@ -48,7 +48,7 @@ fn line_of(pair: Pair, is_new: bool) -> SettingLine
         Some(SettingFlag::Repeated)
     };
     SettingLine {
-        id: pair.number.into_inner(),
+        id: pair.first.into_inner(),
         value: pair.second.into_inner(),
         flag,
     }

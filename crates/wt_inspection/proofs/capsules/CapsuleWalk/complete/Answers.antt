@@ -1,23 +1,21 @@
-use Rattle.wtp_wire.specs.Capsule.{capsule_kind_of}
-use Rattle.wt_inspection.specs.Walks.{Keeps}
-use Rattle.wt_inspection.proofs.WalkLemmas.{Shows, done, spoiled, no_pair}
+use Rattle.std.proofs.Common.{◌≡◌, ◌-◌, ◌∙◌, length, arith, length-drop, length-take, drop}
+use Rattle.wtp_wire.specs.CapsuleCursor.{capsule_value}
+use Rattle.wt_inspection.proofs.WalkLemmas.{bad_known, close_known, holds_none, other_known}
 use Rattle.wt_inspection.proofs.capsules.CapsuleWalk.complete.Goals as goal
 
 pub returns-in-Other : goal.returns-in-Other
-returns-in-Other c = λ came value e size keeps.
-    let k : Keeps (capsule_kind_of c.args.pair.number) c.args.pair.second c.as_slice.result.now came = rw c.as_slice.ensures.value keeps in
-    let item = c.capsule_of.result in
-    let shows : Shows c.in_ok-closing.closing item = rw c.in-Other.is c.capsule_of.ensures.close in
-    (done came value c.as_slice.result.now c.args.pair.number c.args.pair.second c.in_ok-closing.closing item c.capsule_of.ensures.number c.capsule_of.ensures.announced shows e size k c.in_ok-closing.ensures.other c.in_ok-closing.ensures.known, (no_pair, c.clear.ensures.items))
+returns-in-Other c = λ unknown due k.
+    absurd (other_known c.args.found.kind _ _ k (rw (c.in-Other.is, c.as_slice.ensures.value) at c.in_ok-closing.ensures))
 
 pub returns-in-Close : goal.returns-in-Close
-returns-in-Close c = λ came value e size keeps.
-    let k : Keeps (capsule_kind_of c.args.pair.number) c.args.pair.second c.as_slice.result.now came = rw c.as_slice.ensures.value keeps in
-    let item = c.capsule_of-in-Close.result in
-    let shows : Shows c.in_ok-closing.closing item = rw c.in-Close.is c.capsule_of-in-Close.ensures.close in
-    (done came value c.as_slice.result.now c.args.pair.number c.args.pair.second c.in_ok-closing.closing item c.capsule_of-in-Close.ensures.number c.capsule_of-in-Close.ensures.announced shows e size k c.in_ok-closing.ensures.other c.in_ok-closing.ensures.known, (no_pair, c.clear.ensures.items))
+returns-in-Close c = λ unknown due k.
+    let held = c.args.self.now.held.items in
+    let size : c.args.found.end - c.args.found.start ≡ length (capsule_value c.args.found held) = omega (arith, c.requires, length-take (c.args.found.end - c.args.found.start) (drop c.args.found.start held), length-drop c.args.found.start held) in (
+      close_known c.args.found.kind _ held c.in-Close.close c.capsule_of-item.result (c.capsule_of-item.ensures.number ∙ c.id-number.ensures) (c.capsule_of-item.ensures.announced ∙ size) c.capsule_of-item.ensures.close k
+          (rw (c.in-Close.is, c.as_slice.ensures.value) at c.in_ok-closing.ensures),
+      holds_none _ _ _ unknown due c.clear.ensures.items,
+    )
 
 pub returns-in-Bad : goal.returns-in-Bad
-returns-in-Bad c = λ came value e size keeps.
-    let k : Keeps (capsule_kind_of c.args.pair.number) c.args.pair.second c.as_slice.result.now came = rw c.as_slice.ensures.value keeps in
-    spoiled came value c.as_slice.result.now c.args.pair.number c.args.pair.second c.in-Bad.code c.fault_at.result c.fault_at.ensures e size k (rw c.in-Bad.is at c.in_ok-closing.ensures.other) (rw c.in-Bad.is at c.in_ok-closing.ensures.known)
+returns-in-Bad c = λ unknown due k.
+    bad_known c.args.found.kind _ _ c.in-Bad.code c.fault_at.result c.fault_at.ensures k (rw (c.in-Bad.is, c.as_slice.ensures.value) at c.in_ok-closing.ensures)

@@ -1,5 +1,7 @@
-use Rattle.wt_inspection.proofs.WalkLemmas.{no_pair}
+use Rattle.std.proofs.Common.{None, refl, ap}
+use Rattle.wtp_wire.specs.declared.capsule.cursor.CapsuleCursor.{CapsuleCursor}
+use Rattle.wt_inspection.proofs.WalkLemmas.{holds_none}
 use Rattle.wt_inspection.proofs.capsules.CapsuleWalk.new.Goals as goal
 
 pub returns : goal.returns
-returns c = (no_pair, cc)
+returns c = holds_none None _ _ refl (ap (λ (x : CapsuleCursor). x.due) c.new.ensures) cc
