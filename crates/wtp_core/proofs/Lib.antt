@@ -11,3 +11,4 @@ pub mod NeedLemmas
 pub mod GetLemmas
 pub mod DrainLemmas
 pub mod CodeLemmas
+pub mod RegistryLemmas

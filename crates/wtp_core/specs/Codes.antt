@@ -4,7 +4,7 @@ use Rattle.std.specs.Prelude.{ℕ, List, [], ◌∷◌, ◌++◌, ◌==◌, if�
 use Rattle.std.specs.Fmt.{digits}
 use Rattle.wtp_core.specs.declared.error.scope.ErrorScope.{ErrorScope}
 use Rattle.wtp_core.specs.declared.error.scope.ErrorScope.TheVariants.{Stream, Connection, Either}
-use Rattle.wtp_core.specs.declared.error.code.Registered as declared
+use Rattle.wtp_core.specs.declared.error.code.registry.Registered as declared
 
 -- a code's name and its description in the registry of HTTP/3 error codes, and what it ends
 pub record Registration : Type 0 where

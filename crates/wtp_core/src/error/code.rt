@@ -1,20 +1,15 @@
 //! Any error code of HTTP/3, by its number (RFC 9114, section 8.1). Not in the Rust crate.
 
-ghost use Rattle.std.specs.Prelude.{◌≡◌, None, Some, MatchOption, option_map};
-ghost use Rattle.wtp_core.specs.Codes.{registration, shown, code_name, code_description, code_scope};
+ghost use Rattle.std.specs.Prelude.{◌≡◌, None, Some, MatchOption};
+ghost use Rattle.wtp_core.specs.Codes.{code_name, code_description, code_scope};
+
+mod registry;
 
 use super::{ErrorCode, ErrorScope, h3_error_codes, qpack_error_codes, wt_error_codes};
 use crate::varint::VarInt;
+use registry::find;
 use std::fmt;
 use std::marker::Model;
-
-/// The registration of a code.
-#[derive(Clone, Copy)]
-struct Registered {
-    name: &'static str,
-    description: &'static str,
-    scope: ErrorScope,
-}
 
 /// An error code of HTTP/3: any number, whether it is registered or not (RFC 9114, section 8.1).
 ///
@@ -185,8 +180,8 @@ impl Code {
         ensures { MatchOption result (code_name self ≡ None)
             (λ name. code_name self ≡ Some name.now) }
     {
-        match self.registered() {
-            Some(code) => Some(code.name),
+        match find(self) {
+            Some(row) => Some(row.name),
             None => None,
         }
     }
@@ -197,8 +192,8 @@ impl Code {
         ensures { MatchOption result (code_description self ≡ None)
             (λ text. code_description self ≡ Some text.now) }
     {
-        match self.registered() {
-            Some(code) => Some(code.description),
+        match find(self) {
+            Some(row) => Some(row.description),
             None => None,
         }
     }
@@ -217,144 +212,9 @@ impl Code {
     pub fn scope(self) -> ErrorScope
         ensures { result ≡ code_scope self }
     {
-        match self.registered() {
-            Some(code) => code.scope,
+        match find(self) {
+            Some(row) => row.scope,
             None => ErrorScope::Either,
-        }
-    }
-
-    // Returns the registration of this number.
-    #[tactic(auto, unfolding(crate::specs::Codes::registration, crate::specs::Codes::registered))]
-    fn registered(self) -> Option<Registered>
-        ensures { option_map shown result ≡ registration self }
-    {
-        match self {
-            Code::H3_DATAGRAM_ERROR => Some(Registered {
-                name: "H3_DATAGRAM_ERROR",
-                description: "Datagram or Capsule Protocol parse error",
-                scope: ErrorScope::Either,
-            }),
-            Code::H3_NO_ERROR => Some(Registered {
-                name: "H3_NO_ERROR",
-                description: "No error",
-                scope: ErrorScope::Either,
-            }),
-            Code::H3_GENERAL_PROTOCOL_ERROR => Some(Registered {
-                name: "H3_GENERAL_PROTOCOL_ERROR",
-                description: "General protocol error",
-                scope: ErrorScope::Either,
-            }),
-            Code::H3_INTERNAL_ERROR => Some(Registered {
-                name: "H3_INTERNAL_ERROR",
-                description: "Internal error",
-                scope: ErrorScope::Either,
-            }),
-            Code::H3_STREAM_CREATION_ERROR => Some(Registered {
-                name: "H3_STREAM_CREATION_ERROR",
-                description: "Stream creation error",
-                scope: ErrorScope::Either,
-            }),
-            Code::H3_CLOSED_CRITICAL_STREAM => Some(Registered {
-                name: "H3_CLOSED_CRITICAL_STREAM",
-                description: "Critical stream was closed",
-                scope: ErrorScope::Connection,
-            }),
-            Code::H3_FRAME_UNEXPECTED => Some(Registered {
-                name: "H3_FRAME_UNEXPECTED",
-                description: "Frame not permitted in the current state",
-                scope: ErrorScope::Connection,
-            }),
-            Code::H3_FRAME_ERROR => Some(Registered {
-                name: "H3_FRAME_ERROR",
-                description: "Frame violated layout or size rules",
-                scope: ErrorScope::Connection,
-            }),
-            Code::H3_EXCESSIVE_LOAD => Some(Registered {
-                name: "H3_EXCESSIVE_LOAD",
-                description: "Peer generating excessive load",
-                scope: ErrorScope::Connection,
-            }),
-            Code::H3_ID_ERROR => Some(Registered {
-                name: "H3_ID_ERROR",
-                description: "An identifier was used incorrectly",
-                scope: ErrorScope::Connection,
-            }),
-            Code::H3_SETTINGS_ERROR => Some(Registered {
-                name: "H3_SETTINGS_ERROR",
-                description: "SETTINGS frame contained invalid values",
-                scope: ErrorScope::Connection,
-            }),
-            Code::H3_MISSING_SETTINGS => Some(Registered {
-                name: "H3_MISSING_SETTINGS",
-                description: "No SETTINGS frame received",
-                scope: ErrorScope::Connection,
-            }),
-            Code::H3_REQUEST_REJECTED => Some(Registered {
-                name: "H3_REQUEST_REJECTED",
-                description: "Request not processed",
-                scope: ErrorScope::Stream,
-            }),
-            Code::H3_REQUEST_CANCELLED => Some(Registered {
-                name: "H3_REQUEST_CANCELLED",
-                description: "Data no longer needed",
-                scope: ErrorScope::Stream,
-            }),
-            Code::H3_REQUEST_INCOMPLETE => Some(Registered {
-                name: "H3_REQUEST_INCOMPLETE",
-                description: "Stream terminated early",
-                scope: ErrorScope::Stream,
-            }),
-            Code::H3_MESSAGE_ERROR => Some(Registered {
-                name: "H3_MESSAGE_ERROR",
-                description: "Malformed message",
-                scope: ErrorScope::Stream,
-            }),
-            Code::H3_CONNECT_ERROR => Some(Registered {
-                name: "H3_CONNECT_ERROR",
-                description: "TCP reset or error on CONNECT request",
-                scope: ErrorScope::Stream,
-            }),
-            Code::H3_VERSION_FALLBACK => Some(Registered {
-                name: "H3_VERSION_FALLBACK",
-                description: "Retry over HTTP/1.1",
-                scope: ErrorScope::Either,
-            }),
-            Code::QPACK_DECOMPRESSION_FAILED => Some(Registered {
-                name: "QPACK_DECOMPRESSION_FAILED",
-                description: "Decompression of a field section failed",
-                scope: ErrorScope::Connection,
-            }),
-            Code::QPACK_ENCODER_STREAM_ERROR => Some(Registered {
-                name: "QPACK_ENCODER_STREAM_ERROR",
-                description: "Error on the encoder stream",
-                scope: ErrorScope::Connection,
-            }),
-            Code::QPACK_DECODER_STREAM_ERROR => Some(Registered {
-                name: "QPACK_DECODER_STREAM_ERROR",
-                description: "Error on the decoder stream",
-                scope: ErrorScope::Connection,
-            }),
-            Code::WEBTRANSPORT_BUFFERED_STREAM_REJECTED => Some(Registered {
-                name: "WEBTRANSPORT_BUFFERED_STREAM_REJECTED",
-                description: "WebTransport data stream rejected due to lack of associated session",
-                scope: ErrorScope::Stream,
-            }),
-            Code::WEBTRANSPORT_SESSION_GONE => Some(Registered {
-                name: "WEBTRANSPORT_SESSION_GONE",
-                description: "WebTransport data stream aborted because the associated WebTransport session has been closed",
-                scope: ErrorScope::Stream,
-            }),
-            Code::WT_FLOW_CONTROL_ERROR => Some(Registered {
-                name: "WT_FLOW_CONTROL_ERROR",
-                description: "WebTransport session aborted due to a flow control error",
-                scope: ErrorScope::Stream,
-            }),
-            Code::WT_ALPN_ERROR => Some(Registered {
-                name: "WT_ALPN_ERROR",
-                description: "WebTransport session aborted because application protocol negotiation failed",
-                scope: ErrorScope::Stream,
-            }),
-            _ => None,
         }
     }
 }
