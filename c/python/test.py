@@ -263,11 +263,11 @@ def check_recording(folder, row):
 
 
 def by_hand():
-    value, consumed, none = c_uint64(), c_size_t(), 0
+    value, consumed = c_uint64(), c_size_t()
     answer = lib.wt_varint_read(b"\x7b\xbd", 2, value, consumed)
     checks.same("number", (answer, value.value), (OK, 15293))
     checks.same("no bytes", lib.wt_varint_read(None, 0, value, consumed), MORE)
-    wanted = OK, 3, c.STREAM_WEBTRANSPORT, 4, none
+    wanted = OK, 3, c.STREAM_WEBTRANSPORT, 4, 0
     checks.same("stream header", stream_header(b"\x40\x54\x04"), wanted)
     read = frames(c.READ_BI_REMOTE, b"\x02\x01x\x00\x03abc", 3)
     checks.same("frames", read, ([(c.FRAME_DATA, 0, b"abc")], b"", None))
