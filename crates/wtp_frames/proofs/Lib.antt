@@ -3,3 +3,9 @@ pub mod NumberLemmas
 pub mod RunLemmas
 pub mod MoveLemmas
 pub mod StepLemmas
+pub mod OrderLemmas
+pub mod CutLemmas
+pub mod PieceLemmas
+pub mod WrittenLemmas
+pub mod GrammarLemmas
+pub mod RowLemmas

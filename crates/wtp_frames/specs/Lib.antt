@@ -4,3 +4,8 @@ pub mod Rules
 pub mod Item
 pub mod Run
 pub mod Reading
+pub mod Grammar
+pub mod Start
+pub mod Pieces
+pub mod Order
+pub mod Codes

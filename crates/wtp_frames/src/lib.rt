@@ -5,5 +5,6 @@
 pub mod endpoint;
 pub mod fault;
 pub mod frame_type;
+pub mod laws;
 pub mod reader;
 mod rules;

@@ -3,6 +3,7 @@ ghost use Rattle.std.specs.Prelude.{◌≡◌, ◌+◌, ◌<◌, ◌≤◌, leng
 ghost use Rattle.wtp_frames.specs.FrameType.{type_of};
 ghost use Rattle.wtp_frames.specs.Run.{head_at, action_at, is_failed, counted as counted_is, after_data as after_data_is};
 ghost use Rattle.wtp_frames.specs.Reading.{MoveIs, StepIs, payload_move as payload_move_is, all_passed, by_end};
+ghost use Rattle.wtp_frames.specs.Start.{message_reader, control_reader};
 
 use crate::endpoint::{Endpoint, Side};
 use crate::fault::Fault;
@@ -79,7 +80,7 @@ pub(crate) enum Move {
 impl Reader {
     /// Creates the reader of a message: of a request at a server, of its response at a client.
     pub fn message(endpoint: Endpoint) -> Self
-        ensures { result ≡ record { endpoint = endpoint; place = Place.BeforeHeaders; remaining = 0; streamed = false; idle = 0 } }
+        ensures { result ≡ message_reader endpoint }
     {
         Reader {
             endpoint,
@@ -92,7 +93,7 @@ impl Reader {
 
     /// Creates the reader of the peer's control stream, from the byte after its stream type.
     pub fn control(endpoint: Endpoint) -> Self
-        ensures { result ≡ record { endpoint = endpoint; place = Place.BeforeSettings; remaining = 0; streamed = false; idle = 0 } }
+        ensures { result ≡ control_reader endpoint }
     {
         Reader {
             endpoint,

@@ -1,0 +1,186 @@
+//! Laws of the definitions that the contracts cite. Each function does nothing: its contract is the
+//! law.
+ghost use Rattle.std.specs.Prelude.{◌≡◌, ℕ, ◌+◌, ◌%◌, ◌<◌, ◌≤◌, Bool, true, List, [], ◌∷◌, ◌++◌, length, Option, Some, None, Ok};
+ghost use Rattle.wtp_frames.specs.declared.endpoint.Endpoint.{Endpoint};
+ghost use Rattle.wtp_frames.specs.declared.reader.Reader.{Reader};
+ghost use Rattle.wtp_core.specs.declared.error.scope.ErrorScope.TheVariants.{Stream, Connection};
+ghost use Rattle.wtp_core.specs.Varint.{Encodes};
+ghost use Rattle.wtp_frames.specs.declared.endpoint.Side.{Side};
+ghost use Rattle.wtp_frames.specs.declared.endpoint.Side.TheVariants.{Client, Server};
+ghost use Rattle.wtp_frames.specs.declared.frame_type.FrameType.TheVariants as kind;
+ghost use Rattle.wtp_frames.specs.declared.reader.Place.TheVariants.{BeforeHeaders, Body, AfterTrailers, BeforeSettings, AfterSettings};
+ghost use Rattle.wtp_frames.specs.Item.{Whole};
+ghost use Rattle.wtp_frames.specs.Grammar.{Frame, written, IsFrame, IsUnknown, Message, message_bytes, message_items, ValidMessage, Stage, NoHeaders, InContent, HasTrailers, stage, count, Ids, ids_bytes, ids_items, last_goaway, last_push};
+ghost use Rattle.wtp_frames.specs.Codes.{Reports, InMessage, IsSettled, AfterIds, OnControl, TooLong, NoNumber, Fails};
+ghost use Rattle.wtp_frames.specs.Run.{run, preceded, next_run};
+ghost use Rattle.wtp_frames.specs.Reading.{Waits, by_end, ending_of};
+ghost use Rattle.wtp_frames.specs.Pieces.{Event, Leads, bytes_in, given_in, Table, IsStill, Arrivals, taken, items_due, items_on, bytes_of};
+ghost use Rattle.wtp_frames.specs.Order.{IsMessage, IsControl};
+ghost use Rattle.wtp_frames.specs.Start.{message_reader, control_reader, between, place_of};
+
+/// A run goes by the head of the first frame, or by the payload that is still to come.
+pub fn run_goes_by_head()
+    ensures { (r : Reader) (bytes : List ℕ) → run r bytes ≡ next_run (λ s rest. run s rest) r bytes }
+{}
+
+/// A stream may be cut anywhere: the items of the first part come first, and then those of what it
+/// leaves and the second part.
+pub fn cuts_make_no_difference()
+    ensures { (r : Reader) (a b : List ℕ) → run r (a ++ b)
+        ≡ preceded (run r a).items (run (run r a).reader ((run r a).left ++ b)) }
+{}
+
+/// Whatever pieces came and whatever calls were made, the items that the calls gave are the first
+/// of all bytes, and those of what is left and of what follows come after them. Once a call needs
+/// more bytes, they are all the items of the bytes that came.
+pub fn calls_give_the_items()
+    ensures so_far { (events : List Event) (old new : Reader) (rest more : List ℕ)
+        → Leads events old [] new rest
+        → run old (bytes_in events ++ more) ≡ preceded (given_in events []) (run new (rest ++ more)) }
+    ensures all { (events : List Event) (old new : Reader) (rest : List ℕ)
+        → Leads events old [] new rest → Waits new rest
+        → run old (bytes_in events) ≡ record { items = given_in events []; reader = new; left = rest } }
+{}
+
+/// The end of a stream means what it means after all of its bytes, joined.
+pub fn ends_are_those_of_the_bytes()
+    ensures { (events : List Event) (old new : Reader) (rest : List ℕ)
+        → Leads events old [] new rest → Waits new rest
+        → ending_of (run old (bytes_in events))
+        ≡ by_end new.endpoint.side new.place (new.remaining + length rest) }
+{}
+
+/// However the pieces of many streams are interleaved, the items of each stream are those of its
+/// bytes, joined.
+pub fn streams_are_independent()
+    ensures { (n : ℕ) (arrivals : Arrivals) (t : Table) → IsStill (t n)
+        → items_on n (items_due t arrivals) ≡ (taken (t n) (bytes_of n arrivals)).items }
+{}
+
+/// Whatever the bytes are, a message is HEADERS, DATA and trailers, and a control stream is SETTINGS
+/// once and then IDs, of which those of GOAWAY never rise. A fault comes once, and nothing after it.
+pub fn items_are_in_order()
+    ensures message { (e : Endpoint) (bytes : List ℕ)
+        → IsMessage (run (message_reader e) bytes).items }
+    ensures control { (e : Endpoint) (bytes : List ℕ)
+        → IsControl e.side (run (control_reader e) bytes).items }
+{}
+
+/// Every message that the grammar has is read, whatever encodings its numbers have, with unknown
+/// frames between: it gives exactly its sections and its bytes of DATA, and no fault, and then what
+/// follows is read from there on.
+pub fn valid_messages_are_read()
+    ensures start { (e : Endpoint) (m : Message) (more : List ℕ) → ValidMessage e.webtransport 0 m
+        → (streamed : Bool) × (run (message_reader e) (message_bytes m ++ more)
+        ≡ preceded (message_items e.max_section m)
+        (run (between e (place_of (stage m)) streamed (count 0 m)) more)) }
+    ensures whole { (e : Endpoint) (m : Message) → ValidMessage e.webtransport 0 m
+        → (streamed : Bool) × (run (message_reader e) (message_bytes m) ≡ record {
+          items = message_items e.max_section m;
+          reader = between e (place_of (stage m)) streamed (count 0 m);
+          left = [];
+        }) }
+{}
+
+/// Every control stream that the grammar has is read, in the same way.
+pub fn valid_control_streams_are_read()
+    ensures { (e : Endpoint) (f : Frame) (ids : Ids) (more : List ℕ) → IsSettled e f ids
+        → (streamed : Bool) × (idle : ℕ)
+        × (run (control_reader e) (written f ++ (ids_bytes ids ++ more))
+        ≡ preceded (Whole kind.Settings f.payload ∷ ids_items ids)
+        (run (between e (AfterSettings (last_goaway None ids) (last_push None ids)) streamed idle) more)) }
+{}
+
+/// The first frame of a message's stream that the grammar does not have is reported with its code,
+/// after everything before it.
+pub fn invalid_messages_are_reported()
+    ensures data_before_headers { (e : Endpoint) → InMessage e NoHeaders 0x00 0x0105 Connection }
+    ensures data_after_trailers { (e : Endpoint) → InMessage e HasTrailers 0x00 0x0105 Connection }
+    ensures headers_after_trailers { (e : Endpoint)
+        → InMessage e HasTrailers 0x01 0x0105 Connection }
+    ensures cancel_push { (e : Endpoint) (s : Stage) → InMessage e s 0x03 0x0105 Connection }
+    ensures settings { (e : Endpoint) (s : Stage) → InMessage e s 0x04 0x0105 Connection }
+    ensures goaway { (e : Endpoint) (s : Stage) → InMessage e s 0x07 0x0105 Connection }
+    ensures max_push_id { (e : Endpoint) (s : Stage) → InMessage e s 0x0d 0x0105 Connection }
+    ensures priority { (e : Endpoint) (s : Stage) → InMessage e s 0x02 0x0105 Connection }
+    ensures ping { (e : Endpoint) (s : Stage) → InMessage e s 0x06 0x0105 Connection }
+    ensures window_update { (e : Endpoint) (s : Stage) → InMessage e s 0x08 0x0105 Connection }
+    ensures continuation { (e : Endpoint) (s : Stage) → InMessage e s 0x09 0x0105 Connection }
+    ensures promise_to_a_server { (e : Endpoint) (s : Stage) → e.side ≡ Server
+        → InMessage e s 0x05 0x0105 Connection }
+    ensures promise_to_a_client { (e : Endpoint) (s : Stage) → e.side ≡ Client
+        → InMessage e s 0x05 0x0108 Connection }
+    ensures webtransport { (e : Endpoint) (s : Stage) → e.webtransport ≡ true
+        → InMessage e s 0x41 0x0106 Connection }
+    ensures too_many_unknown { (e : Endpoint) (m : Message) (id n : ℕ) (t u more : List ℕ)
+        → ValidMessage e.webtransport 0 m → 1024 ≤ count 0 m → IsUnknown e.webtransport id
+        → Encodes id t → Encodes n u
+        → Reports (run (message_reader e) (message_bytes m ++ (t ++ (u ++ more))))
+        (message_items e.max_section m) 0x0107 Connection }
+    ensures too_many_empty { (e : Endpoint) (m : Message) (t u more : List ℕ)
+        → ValidMessage e.webtransport 0 m → stage m ≡ InContent → 1024 ≤ count 0 m
+        → Encodes 0x00 t → Encodes 0 u
+        → Reports (run (message_reader e) (message_bytes m ++ (t ++ (u ++ more))))
+        (message_items e.max_section m) 0x0107 Connection }
+{}
+
+/// The first frame of a control stream that the grammar does not have is reported with its code,
+/// after everything before it.
+pub fn invalid_control_streams_are_reported()
+    ensures first { (e : Endpoint) (id n : ℕ) (t u more : List ℕ) → (id ≡ 0x04 → ⊥)
+        → Encodes id t → Encodes n u
+        → Reports (run (control_reader e) (t ++ (u ++ more))) [] 0x010a Connection }
+    ensures long_settings { (e : Endpoint) (n : ℕ) (t u more : List ℕ) → 4096 < n
+        → Encodes 0x04 t → Encodes n u
+        → Reports (run (control_reader e) (t ++ (u ++ more))) [] 0x0107 Connection }
+    ensures data_frame { (e : Endpoint) → OnControl e 0x00 0x0105 Connection }
+    ensures headers { (e : Endpoint) → OnControl e 0x01 0x0105 Connection }
+    ensures settings { (e : Endpoint) → OnControl e 0x04 0x0105 Connection }
+    ensures push_promise { (e : Endpoint) → OnControl e 0x05 0x0105 Connection }
+    ensures priority { (e : Endpoint) → OnControl e 0x02 0x0105 Connection }
+    ensures ping { (e : Endpoint) → OnControl e 0x06 0x0105 Connection }
+    ensures window_update { (e : Endpoint) → OnControl e 0x08 0x0105 Connection }
+    ensures continuation { (e : Endpoint) → OnControl e 0x09 0x0105 Connection }
+    ensures webtransport { (e : Endpoint) → e.webtransport ≡ true
+        → OnControl e 0x41 0x0106 Connection }
+    ensures max_push_id { (e : Endpoint) → e.side ≡ Client → OnControl e 0x0d 0x0105 Connection }
+    ensures long_cancel_push { (e : Endpoint) → TooLong e 0x03 0x0106 Connection }
+    ensures long_goaway { (e : Endpoint) → TooLong e 0x07 0x0106 Connection }
+    ensures long_max_push_id { (e : Endpoint) → e.side ≡ Server → TooLong e 0x0d 0x0106 Connection }
+    ensures short_cancel_push { (e : Endpoint) → NoNumber e 0x03 0x0106 Connection }
+    ensures short_goaway { (e : Endpoint) → NoNumber e 0x07 0x0106 Connection }
+    ensures short_max_push_id { (e : Endpoint) → e.side ≡ Server
+        → NoNumber e 0x0d 0x0106 Connection }
+{}
+
+/// IDs that may not come are reported with their code.
+pub fn invalid_ids_are_reported()
+    ensures cancelled { (e : Endpoint) (settings f : Frame) (ids : Ids) (n : ℕ)
+        → IsSettled e settings ids → IsFrame 0x03 f → Encodes n f.payload
+        → AfterIds e settings ids (written f) 0x0108 Connection }
+    ensures goaway_of_no_request { (e : Endpoint) (settings f : Frame) (ids : Ids) (n : ℕ)
+        → IsSettled e settings ids → IsFrame 0x07 f → Encodes n f.payload → e.side ≡ Client
+        → (n % 4 ≡ 0 → ⊥) → AfterIds e settings ids (written f) 0x0108 Connection }
+    ensures goaway_rises { (e : Endpoint) (settings f : Frame) (ids : Ids) (n last : ℕ)
+        → IsSettled e settings ids → IsFrame 0x07 f → Encodes n f.payload
+        → last_goaway None ids ≡ Some last → last < n
+        → AfterIds e settings ids (written f) 0x0108 Connection }
+    ensures max_push_id_falls { (e : Endpoint) (settings f : Frame) (ids : Ids) (n last : ℕ)
+        → IsSettled e settings ids → IsFrame 0x0d f → Encodes n f.payload → e.side ≡ Server
+        → last_push None ids ≡ Some last → n < last
+        → AfterIds e settings ids (written f) 0x0108 Connection }
+{}
+
+/// What the end of a stream means, after any valid frames and with so many bytes of the next one.
+pub fn ends_have_codes()
+    ensures critical { (side : Side) (goaway push : Option ℕ) (n : ℕ)
+        → Fails (by_end side (AfterSettings goaway push) n) 0x0104 Connection }
+    ensures critical_before_settings { (side : Side) (n : ℕ)
+        → Fails (by_end side BeforeSettings n) 0x0104 Connection }
+    ensures cut { (side : Side) (s : Stage) (n : ℕ) → 0 < n
+        → Fails (by_end side (place_of s) n) 0x0106 Connection }
+    ensures no_request { Fails (by_end Server BeforeHeaders 0) 0x010d Stream }
+    ensures no_response { Fails (by_end Client BeforeHeaders 0) 0x010e Stream }
+    ensures complete { (side : Side) → by_end side Body 0 ≡ Ok tt }
+    ensures complete_with_trailers { (side : Side) → by_end side AfterTrailers 0 ≡ Ok tt }
+{}
