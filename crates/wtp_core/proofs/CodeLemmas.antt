@@ -1,4 +1,4 @@
--- Error codes and their numbers, and those of applications.
+-- Error codes and application error codes, and their numbers.
 use Rattle.std.proofs.Common.{◌≡◌, ℕ, ◌+◌, ◌-◌, ◌*◌, ◌/◌, ◌%◌, ◌^◌, ◌<◌, ◌≤◌, ◌==◌, if◌then◌else◌, refl, sym, ap, ◌∙◌, get_or, length, inl, inr, arith}
 use Rattle.std.proofs.lemmas.Bool.{cases_lt}
 use Rattle.wtp_core.specs.declared.error.ErrorCode.{ErrorCode}
@@ -10,7 +10,7 @@ use Rattle.wtp_core.specs.Codes.{registration, registered, code_scope}
 use Rattle.wtp_core.specs.Numbers.{IsReserved}
 use Rattle.wtp_core.specs.ApplicationCodes.{http3_number}
 
--- the code of a number
+-- the code with this number
 code_at : ℕ → ErrorCode
 code_at n =
     if n == 0x33 then Datagram
@@ -85,7 +85,7 @@ scope-agrees Decompression = refl
 scope-agrees BufferedStreamRejected = refl
 scope-agrees SessionGone = refl
 
--- where a code is in the list of all codes
+-- the index of a code in the list of all codes
 place_of : ErrorCode → ℕ
 place_of Datagram = 0
 place_of NoError = 1
@@ -103,7 +103,7 @@ place_of Decompression = 12
 place_of BufferedStreamRejected = 13
 place_of SessionGone = 14
 
--- a code and its place
+-- a code and its index
 record Placed (x : ErrorCode) : Type 0 where
   at : get_or CODES (place_of x) Datagram ≡ x
   below : place_of x < length CODES
@@ -126,7 +126,7 @@ placed Decompression = record { at = refl; below = omega arith }
 placed BufferedStreamRejected = record { at = refl; below = omega arith }
 placed SessionGone = record { at = refl; below = omega arith }
 
--- a number that is that of no code in the list is that of none
+-- if no code in the list has this number, no code has it
 pub no_code : (n : ℕ) → ((j : ℕ) → j < length CODES → ¬ (n ≡ code_number (get_or CODES j Datagram))) → (x : ErrorCode) → ¬ (n ≡ code_number x)
 no_code n none x e =
     let p = placed x in
@@ -134,7 +134,7 @@ no_code n none x e =
 
 -- ---- applications' error codes
 
--- the quotient and the remainder of the number, by which its distance from the first is 31 q + r
+-- the number's distance from the first code is 31 q + r
 record Split (n : ℕ) : Type 0 where
   q : ℕ
   r : ℕ

@@ -1,4 +1,4 @@
--- Steps of one writing add up.
+-- The steps of a write add up.
 use Rattle.std.proofs.Common.{◌≡◌, ℕ, ◌+◌, ◌≤◌, List, [], ◌++◌, length, take, drop, Result, Ok, Err, ap, ◌∙◌, arith, append_assoc, append-nil, take-add, length-take}
 use Rattle.std.proofs.lemmas.List.{drop-append-le}
 use Rattle.wtp_core.specs.declared.bytes.polled.Polled.{Polled}
@@ -19,7 +19,7 @@ took_then xs ys w s l a b c g t = record {
   losses_is = let one = g.losses_is in let two = t.losses_is in omega arith;
 }
 
--- a sink took these bytes, and then what this result says
+-- a sink took these bytes, and then those of a poll with this result
 pub sink_then : {U : Type 0} (r : Polled (Result U IoWriteError)) (xs ys : List ℕ) (a b c : Sink) → Took a b xs 0 0 0 → SinkTook r ys b c → SinkTook r (xs ++ ys) a c
 sink_then (Ready (Ok _)) xs ys a b c g t = took_then xs ys 0 0 0 a b c g t
 sink_then (Ready (Err fault.Stopped)) xs ys a b c g t = took_then xs ys 0 1 0 a b c g t

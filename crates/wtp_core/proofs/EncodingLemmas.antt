@@ -1,4 +1,4 @@
--- What is read at the start is an encoding, and an encoding at the start is read.
+-- The bytes read at the start are an encoding, and an encoding at the start is read.
 use Rattle.std.proofs.Common.{◌≡◌, ℕ, ◌<◌, ◌≤◌, Bool, true, false, cond, ltb, List, ◌++◌, length, get_or, take, drop, Some, None, refl, sym, ap, subst, append_assoc, arith, lit<}
 use Rattle.std.specs.Int.{Width, w8, w16, w32, w64, w128, byte_len}
 use Rattle.std.proofs.lemmas.Bool.{le-ltb, ltb-false}
@@ -14,7 +14,7 @@ byte_len_pos w32 = lit< tt
 byte_len_pos w64 = lit< tt
 byte_len_pos w128 = lit< tt
 
--- a test that has a result
+-- a conditional that has a value
 chosen : {A : Type 0} (b : Bool) (x y : A) → cond b None (Some x) ≡ Some y → (b ≡ false) × (x ≡ y)
 chosen true x y e = absurd cc
 chosen false x y e = (refl, cc)
@@ -50,7 +50,7 @@ number_at-encodes v bytes rest e =
       subst (λ (r : List ℕ). bytes ≡ take (byte_len (width_of (get_or bytes 0 0))) bytes ++ r) same_rest (sym (take-append-drop (byte_len (width_of (get_or bytes 0 0))) bytes)),
     )
 
--- what is read stays the same when bytes follow
+-- appending bytes does not change what is read
 pub number_at-more : (v : ℕ) (bytes rest more : List ℕ) → number_at bytes ≡ Some (v, rest) → number_at (bytes ++ more) ≡ Some (v, rest ++ more)
 number_at-more v bytes rest more e =
     let (s, encoded, parts) = number_at-encodes v bytes rest e in

@@ -1,4 +1,4 @@
--- Steps of one fill add up.
+-- The steps of a fill add up.
 use Rattle.std.proofs.Common.{◌≡◌, ℕ, ◌+◌, ◌<◌, ◌≤◌, List, ◌++◌, length, take, drop, sym, ap, ◌∙◌, arith, append_assoc, length-append, take-add, length-take, Option, Some, None, Result, Err}
 use Rattle.std.proofs.lemmas.List.{take-take, take-append-le, take-append-drop, take_at, drop_at}
 use Rattle.wtp_core.specs.Source.{Source, AsksOnce}
@@ -21,11 +21,11 @@ gains_more held xs ys a b c g asks moved waits some = record {
   waits = let before = g.waits in omega arith;
 }
 
--- the bytes held stay at the start of a buffer whose bytes after them are read anew
+-- writing after the bytes held does not change them
 pub front_stays : (at : ℕ) (buf rest : List ℕ) → at ≤ length buf → take at (take at buf ++ rest) ≡ take at buf
 front_stays at buf rest l = take_at (take at buf) rest at (omega (arith, length-take at buf))
 
--- a call moved n bytes to after the first `at` bytes of a buffer
+-- a call appended n bytes to the first `at` bytes of a buffer
 pub gains_bytes : (held buf part rest : List ℕ) (at n : ℕ) (a b c : Source) → Gains held (take at buf) a b 0 → at ≤ length buf → n ≤ length part → 0 < n → AsksOnce b c → b.ahead ≡ take n part ++ c.ahead → c.waits ≡ b.waits → Gains held (take (at + n) (take at buf ++ (part ++ rest))) a c 0
 gains_bytes held buf part rest at n a b c g within fits some asks moved waits =
     let new = take at buf ++ (part ++ rest) in
@@ -33,7 +33,7 @@ gains_bytes held buf part rest at n a b c g within fits some asks moved waits =
     let shape : take (at + n) new ≡ take at buf ++ take n part = take-add at n new ∙ ap (λ l. l ++ take n (drop at new)) (front_stays at buf (part ++ rest) within) ∙ ap (λ l. take at buf ++ l) behind in
     rw shape (gains_more held (take at buf) (take n part) a b c g asks moved (omega arith) (omega (arith, length-take n part)))
 
--- a call moved nothing, and what the buffer holds after the first `at` bytes does not matter
+-- a call moved no byte, whatever it wrote after the first `at` bytes of the buffer
 pub gains_none : (held buf part rest : List ℕ) (at : ℕ) (a b c : Source) → Gains held (take at buf) a b 0 → at ≤ length buf → AsksOnce b c → c.ahead ≡ b.ahead → b.waits ≤ c.waits → Gains held (take at (take at buf ++ (part ++ rest))) a c 1
 gains_none held buf part rest at a b c g within asks same waits =
     rw (front_stays at buf (part ++ rest) within) (record {
@@ -53,7 +53,7 @@ gains_then x y y' z z' a b c extra p q same shown = record {
   waits = let one = p.waits in let two = q.waits in omega arith;
 }
 
--- bytes that start with the old bytes are the old bytes and more
+-- bytes that start with the old bytes are the old bytes and others
 pub begins : (n : ℕ) (old new : List ℕ) → take n new ≡ old → (more : List ℕ) × (new ≡ old ++ more)
 begins n old new e = (drop n new, sym (take-append-drop n new) ∙ ap (λ l. l ++ drop n new) e)
 

@@ -1,4 +1,4 @@
--- The result of one poll of a number, or of a buffer.
+-- The result of one poll for a number or into a buffer.
 use Rattle.std.proofs.Common.{◌≡◌, ℕ, ◌<◌, List, [], ◌++◌, length, take, drop, Option, Some, Result, Ok, refl, sym, ap, ◌∙◌, append-nil}
 use Rattle.wtp_core.specs.declared.bytes.polled.Polled.TheVariants.{Ready}
 use Rattle.wtp_core.specs.declared.polling.fill.Halt.{Halt}
@@ -22,7 +22,7 @@ halted_at x n = halted_poll (λ f. f) (halt_fault x n)
 pub halted_plain : {T : Type 0} (x : Halt) (n : ℕ) (r : Polled (Result T IoReadError)) → HaltsAs (λ f e. e ≡ f) (halt_fault x n) r → r ≡ halted_at x n
 halted_plain x n r h = halted_as (λ f. f) (halt_fault x n) r h
 
--- nothing is ahead any more
+-- no byte is ahead any more
 pub dry : (old new : List ℕ) (a b : Source) (e : ℕ) → Gains old new a b e → b.ahead ≡ [] → new ≡ old ++ a.ahead
 dry old new a b e g none = sym (g.kept ∙ ap (λ l. new ++ l) none ∙ append-nil new)
 
@@ -41,7 +41,7 @@ halted_varint_given halt.Fin n m old new e = begins m old new e
 halted_varint_given halt.Reset n m old new e = begins m old new e
 halted_varint_given halt.NotConnected n m old new e = begins m old new e
 
--- a whole number is read, with nothing after it
+-- a complete encoding is read, and no byte is left
 read_whole : (v k : ℕ) (h : List ℕ) → varint_need h ≡ length h → number_at h ≡ Some (v, drop k h) → number_at h ≡ Some (v, [])
 read_whole v k h w e = let (u, is) = number_at-whole h w in is ∙ ap (λ (x : ℕ). Some (x, [])) (same_number (u, []) (v, drop k h) (sym is ∙ e))
   where

@@ -1,4 +1,4 @@
--- No encoding is shorter than the shortest one, and no other one is as short.
+-- No encoding is shorter than the shortest one, and no other is equally short.
 use Rattle.std.proofs.Common.{◌≡◌, ℕ, ◌+◌, ◌-◌, ◌*◌, ◌^◌, ◌<◌, ◌≤◌, List, [], ◌∷◌, length, get_or, refl, sym, ap, ◌∙◌, arith, inl, inr, ◌⊎◌}
 use Rattle.std.specs.Int.{Width, w8, w16, w32, w64, w128, byte_len, to_be_bytes}
 use Rattle.std.proofs.lemmas.Bool.{cases_lt, lt-ltb, le-ltb}
@@ -113,14 +113,14 @@ shortest8 : (v : ℕ) → v < 2 ^ 6 → shortest v ≡ v ∷ []
 unfolding shortest
 shortest8 v h = rw (lt-ltb v (2 ^ 6) h) refl
 
--- one byte is the number that it encodes
+-- a one-byte encoding is the number itself
 one_byte : (v : ℕ) (s : List ℕ) (h : As w8 v s) → get_or s 0 0 < 64 → s ≡ v ∷ []
 unfolding value_of
 one_byte v [] h b = absurd (omega (arith, h.size))
 one_byte v (x ∷ []) h b = let e = h.value in let same : x ≡ v = omega arith in rw same refl
 one_byte v (x ∷ y ∷ s) h b = absurd (omega (arith, h.size))
 
--- no other encoding is as short
+-- no other encoding is equally short
 pub shortest-only : (v : ℕ) (s : List ℕ) (h : Encodes v s) → ((i : ℕ) → get_or s i 0 < 256) → length s ≡ length (shortest v) → s ≡ shortest v
 shortest-only v s h bytes same = elim (width-cases (get_or s 0 0)) [
   | inl (e, b) ↦ let a = as_width w8 v s h e in one_byte v s a b ∙ sym (shortest8 v (below8 v s a))

@@ -19,7 +19,7 @@ drop_all n bytes l = empty (drop n bytes) (omega (arith, length-drop n bytes))
     empty [] z = refl
     empty (b ∷ s) z = absurd (omega arith)
 
--- as many bytes as the encoding has, and none after them
+-- a complete encoding with no bytes after it is read
 pub number_at-whole : (bytes : List ℕ) → varint_need bytes ≡ length bytes → (v : ℕ) × (number_at bytes ≡ Some (v, []))
 number_at-whole bytes e =
     let (v, is) = number_at-full bytes (omega arith) in

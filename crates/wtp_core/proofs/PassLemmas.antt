@@ -1,4 +1,4 @@
--- Steps of skipping add up.
+-- The steps of skipping add up.
 use Rattle.std.proofs.Common.{◌≡◌, ℕ, ◌+◌, ◌<◌, length, drop, sym, ap, ◌∙◌, arith, length-drop}
 use Rattle.std.proofs.lemmas.List.{drop-drop}
 use Rattle.wtp_core.specs.Source.{Source, AsksOnce}

@@ -4,7 +4,7 @@ use Rattle.wtp_core.specs.Varint.{number_at, bytes_at}
 use Rattle.wtp_core.specs.Reader.{IsRest}
 use Rattle.wtp_core.proofs.EncodingLemmas.{number_at-encodes, bytes_at-parts}
 
--- all of the bytes are a suffix of them
+-- bytes are a suffix of themselves
 pub rest-same : (new old : List ℕ) → new ≡ old → IsRest new old
 rest-same new old e = record { taken = []; parts = sym e }
 

@@ -17,7 +17,7 @@ width32 b l h = rw (le-ltb b 64 (omega arith), le-ltb b 128 l, lt-ltb b 192 h) r
 width64 : (b : ℕ) → 192 ≤ b → width_of b ≡ w64
 width64 b l = rw (le-ltb b 64 (omega arith), le-ltb b 128 (omega arith), le-ltb b 192 l) refl
 
--- bytes whose first one has this width, and whose length is that width, are an encoding
+-- bytes are an encoding if their number is the width that the first one gives
 encoded : (w : Width) (v : ℕ) (s : List ℕ) → width_of (get_or s 0 0) ≡ w → length s ≡ byte_len w → v ≡ value_of w s → Encodes v s
 encoded w v s first size value = record { size = rw first size; value = rw first value }
 

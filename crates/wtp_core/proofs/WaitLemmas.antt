@@ -10,7 +10,7 @@ use Rattle.wtp_core.specs.Polled.{WaitsAs}
 use Rattle.wtp_core.specs.Fill.{HaltWaits, halt_fault, halted_poll}
 use Rattle.wtp_core.proofs.TellingLemmas.{telling_map, telling_then}
 
--- a call that was made after others at which the source was always ready
+-- one call's count of waits
 pub step_waited : (step : ReadStep) (buf : List ℕ) (a b : Source) → StepMoves step buf a b → StepWaits step a b
 step_waited (Bytes n) buf a b m = omega (arith, m.1)
 step_waited NotReady buf a b m = m.1
@@ -26,7 +26,7 @@ none_waits x y p = telling_map x y _ (λ a b. b.waits ≡ a.waits) (λ a b e. om
 pub waits_none : (x y : Option Source) → Telling x y (λ a b. b.waits ≡ a.waits) → Telling x y (λ a b. b.waits ≡ a.waits + 0)
 waits_none x y p = telling_map x y _ (λ a b. b.waits ≡ a.waits + 0) (λ a b e. omega arith) p
 
--- the waits of a poll that stopped as a fill did
+-- a poll that stopped with a fill has the fill's waits
 pub halted_waits : (T E U : Type 0) (wrap : IoReadError → E) (h : Halt) (n : ℕ) (s t : Option Source) → Telling s t (HaltWaits {U = U} (Err h)) → Telling s t (WaitsAs {T = Result T E} (halted_poll wrap (halt_fault h n)))
 halted_waits T E U wrap halt.NotReady n s t e = e
 halted_waits T E U wrap halt.Fin n s t e = e

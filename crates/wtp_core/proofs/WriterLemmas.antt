@@ -1,4 +1,4 @@
--- Parts that are written one after the other.
+-- Writing parts in order.
 use Rattle.std.proofs.Common.{◌≡◌, ℕ, ◌+◌, ◌<◌, Bool, List, [], ◌∷◌, ◌++◌, length, drop, Option, Some, None, Result, Ok, Err, refl, sym, ap, ◌∙◌, append_assoc, append-nil, arith, length-append, length-drop}
 use Rattle.std.proofs.lemmas.List.{drop-drop}
 use Rattle.wtp_core.specs.declared.bytes.writer.PutError.{PutError}
@@ -17,12 +17,12 @@ HasRoom-more : (room : Option (List ℕ)) (m n : ℕ) → HasRoom room m → Has
 HasRoom-more None m n h k = tt
 HasRoom-more (Some place) m n h k = omega (arith, length-drop m place)
 
--- the first part was refused
+-- writing the first part failed
 pub put-none : (grows : Bool) (p : List ℕ) (ps : List (List ℕ)) (e : PutError) (old : List ℕ) (room : Option (List ℕ)) (new : List ℕ) (left : Option (List ℕ)) → Puts grows p (Err e) old room new left → PutsParts grows (p ∷ ps) (Err e) old room new left
 put-none grows p ps e old room new left (same, still, why) =
     ([], p, ps, refl, same ∙ sym (append-nil old), still ∙ sym (room_after-zero room), rw still why)
 
--- the first part was taken, and then the others or not all of them
+-- the first part was written, and then all or some of the others
 pub put-more : (grows : Bool) (p : List ℕ) (ps : List (List ℕ)) (r : Result (Unit {0}) PutError) (u : Unit {0}) (old mid new : List ℕ) (room place left : Option (List ℕ)) → Puts grows p (Ok u) old room mid place → PutsParts grows ps r mid place new left → PutsParts grows (p ∷ ps) r old room new left
 put-more grows p ps (Ok v) u old mid new room place left (taken, behind, fits) (others, end, fit) = (
   others ∙ ap (λ (x : List ℕ). x ++ joined ps) taken ∙ append_assoc old p (joined ps),
@@ -39,12 +39,12 @@ put-more grows p ps (Err e) u old mid new room place left (taken, behind, fits) 
   why,
 )
 
--- the only part was taken or not
+-- the only part was written, or failed
 pub put-last : (grows : Bool) (p : List ℕ) (r : Result (Unit {0}) PutError) (old : List ℕ) (room : Option (List ℕ)) (new : List ℕ) (left : Option (List ℕ)) → Puts grows p r old room new left → PutsParts grows (p ∷ []) r old room new left
 put-last grows p (Ok v) old room new left (taken, behind, fits) = rw (append-nil p) (taken, behind, fits)
 put-last grows p (Err e) old room new left h = put-none grows p [] e old room new left h
 
--- there was too little room for a part, and so for all of them
+-- if a part does not fit, neither do all of them together
 pub LacksRoom-parts : (grows : Bool) (parts : List (List ℕ)) (old : List ℕ) (room : Option (List ℕ)) (new : List ℕ) (left : Option (List ℕ)) → PutsParts grows parts (Err EndOfBuffer) old room new left → LacksRoom room (length (joined parts))
 LacksRoom-parts grows parts old None new left (whole, part, rest, are, others, end, why) = rw end at why
 LacksRoom-parts grows parts old (Some place) new left (whole, part, rest, are, others, end, why) =

@@ -1,14 +1,15 @@
--- The position of a reader in its bytes, and of a child in the bytes that its parent has left.
+-- The position of a reader in its slice, and of a child reader in the bytes that its parent has
+-- left.
 use Rattle.std.specs.Prelude.{◌≡◌, ◌+◌, ◌-◌, ℕ, List, drop, length}
 use Rattle.wtp_core.specs.Reader.{Kept}
 use Rattle.wtp_core.specs.declared.bytes.buffer_reader.BufferReader.{BufferReader}
 use Rattle.wtp_core.specs.declared.bytes.child.BufferReaderChild.{BufferReaderChild}
 
--- all of the bytes
+-- the whole slice
 abbrev pub whole_of : BufferReader → List ℕ
 whole_of r = r.buffer.now
 
--- the bytes left, after the position
+-- the bytes left: those after the position
 abbrev pub left_of : BufferReader → List ℕ
 left_of r = r.rest.now
 
@@ -27,20 +28,20 @@ module _ {P : Type 0} where
   abbrev pub whole_in : BufferReaderChild P → List ℕ
   whole_in c = c.buffer.now
 
-  -- how many of them the child has read
+  -- the position of the child: how many of these bytes it has read
   abbrev pub offset_in : BufferReaderChild P → ℕ
   offset_in c = c.offset
 
-  -- those after the child's position
+  -- the bytes that the child has left
   abbrev pub left_in : BufferReaderChild P → List ℕ
   left_in c = drop c.offset c.buffer.now
 
-  -- its position plus the number of bytes left: however far it reads, it comes to the same end
+  -- the position of the child plus the number of bytes it has left, which reading does not change
   abbrev pub end_in : BufferReaderChild P → ℕ
   end_in c = offset_in c + length (left_in c)
 
-  -- what the child's reading leaves unchanged, given all the bytes of a parent and those that it
-  -- has left
+  -- the part of a child that reading leaves unchanged; whole and behind return the slice of a
+  -- parent and the bytes that it has left
   abbrev pub kept_in : (P → List ℕ) → (P → List ℕ) → BufferReaderChild P → Kept
   kept_in whole behind c = record {
     whole = c.buffer.now;

@@ -5,7 +5,7 @@ use Rattle.std.specs.Fmt.{decimal}
 use Rattle.wtp_core.specs.declared.error.ErrorCode.{ErrorCode}
 use Rattle.wtp_core.specs.declared.error.ErrorCode.TheVariants.{Datagram, NoError, StreamCreation, ClosedCriticalStream, FrameUnexpected, Frame, ExcessiveLoad, Id, Settings, MissingSettings, RequestRejected, Message, Decompression, BufferedStreamRejected, SessionGone}
 
--- its number
+-- the number of an error code on the wire
 abbrev pub code_number : ErrorCode → ℕ
 code_number Datagram = 0x33
 code_number NoError = 0x0100
@@ -23,7 +23,7 @@ code_number Decompression = 0x0200
 code_number BufferedStreamRejected = 0x3994bd84
 code_number SessionGone = 0x170d7b68
 
--- what Display prints
+-- the name of an error code, as Display prints it
 abbrev pub name_of : ErrorCode → List ℕ
 name_of Datagram = codes "DatagramError"
 name_of NoError = codes "NoError"
@@ -41,6 +41,6 @@ name_of Decompression = codes "DecompressionError"
 name_of BufferedStreamRejected = codes "BufferedStreamRejected"
 name_of SessionGone = codes "SessionGone"
 
--- what Debug prints
+-- the name and number of an error code, as Debug prints them
 abbrev pub debug_text_of : ErrorCode → List ℕ
 debug_text_of code = name_of code ++ codes " (code: " ++ decimal (code_number code) ++ codes ")"

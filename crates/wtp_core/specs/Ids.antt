@@ -11,19 +11,19 @@ IsBidirectional id = id / 2 % 2 ≡ 0
 abbrev pub IsClientInitiated : ℕ → Type 0
 IsClientInitiated id = id % 2 ≡ 0
 
--- a session's stream: both bits are 0
+-- the stream is a session's: it is bidirectional and the client opened it, so both bits are 0
 abbrev pub IsSession : ℕ → Type 0
 IsSession id = id % 4 ≡ 0
 
--- a status code
+-- the number is an HTTP status code
 abbrev pub IsStatus : ℕ → Type 0
 IsStatus code = (100 ≤ code) × (code ≤ 599)
 
--- the number that a text of decimal digits denotes, after an optional plus
+-- the number that decimal digits after an optional plus sign denote
 abbrev pub status_in : List ℕ → ℕ
 status_in text = digits_value 10 (without_leading_plus text)
 
--- the text of a status code: an optional plus and at least one decimal digit, of a value in the
--- range
+-- the text is a status code: an optional plus sign and at least one decimal digit, with a value
+-- from 100 to 599
 abbrev pub IsStatusText : List ℕ → Type 0
 IsStatusText text = IsNumeral 10 (without_leading_plus text) × IsStatus (status_in text)

@@ -1,4 +1,4 @@
--- The results of polls, and how reading and writing stop.
+-- The results of polls, and the errors with which reading and writing stop.
 use Rattle.std.specs.Prelude.{◌≡◌, ℕ, ◌+◌, ◌≤◌, ◌==◌, if◌then◌else◌}
 use Rattle.std.specs.declared.io.ErrorKind.{ErrorKind}
 use Rattle.std.specs.declared.io.ErrorKind.TheVariants.{ConnectionReset}
@@ -10,35 +10,37 @@ use Rattle.wtp_core.specs.declared.bytes.polled.IoWriteError.{IoWriteError}
 use Rattle.wtp_core.specs.declared.bytes.polled.IoWriteError.TheVariants as write
 use Rattle.wtp_core.specs.Source.{Source, SourceEnding, AtEnd, AtReset, AtDisconnection}
 
--- the error of a reading at this ending, if this many bytes were taken of what is read
+-- the read error at this ending of the source, after this many bytes of the item
 abbrev pub stop : ℕ → SourceEnding → IoReadError
 stop taken AtEnd = if taken == 0 then read.ImmediateFin else read.UnexpectedFin
 stop taken AtReset = read.Reset
 stop taken AtDisconnection = read.NotConnected
 
--- the error that an error of the system is converted to
+-- the read error that an IO error is converted to
 abbrev pub read_fault : ErrorKind → IoReadError
 read_fault ConnectionReset = read.Reset
 read_fault _ = read.NotConnected
 
+-- the write error that an IO error is converted to
 abbrev pub write_fault : ErrorKind → IoWriteError
 write_fault ConnectionReset = write.Stopped
 write_fault _ = write.NotConnected
 
--- at most this many calls were counted; the ending stays, and no count falls
+-- at most this many calls were counted; the ending is unchanged, and no count decreased
 pub record Asks (calls : ℕ) (a b : Source) : Type 0 where
   pub asked : b.asked ≤ a.asked + calls
   pub no_less : a.asked ≤ b.asked
   pub ending : b.ending ≡ a.ending
   pub waits : a.waits ≤ b.waits
 
--- how often the source was not ready in one poll: once if the poll is pending, and otherwise never
+-- how often the source was not ready in one poll: once if the result is Pending, and otherwise
+-- never
 abbrev pub polled_waits : {T : Type 0} → Polled T → ℕ
 polled_waits (Ready _) = 0
 polled_waits Pending = 1
 polled_waits Again = 0
 polled_waits NoMemory = 0
 
--- the source was not ready as often as this result of a poll says, and no more
+-- the count of waits rose by one if the result is Pending, and otherwise not
 abbrev pub WaitsAs : {T : Type 0} → Polled T → Source → Source → Type 0
 WaitsAs result a b = b.waits ≡ a.waits + polled_waits result

@@ -1,24 +1,23 @@
--- The model of a polled sink, and what one call does to it.
+-- The model of a polled sink, and the effect of one call on it.
 use Rattle.std.specs.Prelude.{◌≡◌, ℕ, ◌+◌, ◌<◌, ◌≤◌, List, [], ◌++◌, take, Option}
 use Rattle.wtp_core.specs.declared.bytes.sink.WriteStep.{WriteStep}
 use Rattle.wtp_core.specs.declared.bytes.sink.WriteStep.TheVariants.{Bytes, NotReady, Stopped, NotConnected, NoMemory}
 use Rattle.wtp_core.specs.Source.{Telling}
 
--- the model of a sink: the bytes taken, and how often it was not ready, stopped and not connected
--- so far
+-- the model of a sink: the bytes taken so far, and how often it was not ready, stopped and not
+-- connected
 pub record Sink : Type 0 where
   pub taken : List ℕ
   pub waits : ℕ
   pub stops : ℕ
   pub losses : ℕ
 
--- a vector: these bytes, and none of these results
+-- the model of a vector: these bytes were taken, and all counts are 0
 abbrev pub all_taken : List ℕ → Sink
 all_taken bytes = record { taken = bytes; waits = 0; stops = 0; losses = 0 }
 
--- Every sink, with a model or without, keeps these lengths: at least one byte is taken from the
--- start of a buffer that is not empty; of an empty buffer no byte is taken, and there is no other
--- result.
+-- The count fits the buffer: from a buffer that is not empty at least one byte is taken, and for an
+-- empty buffer the result is Bytes 0. This holds for every sink, even without a model.
 abbrev pub SinkKeepsLengths : WriteStep → ℕ → Type 0
 SinkKeepsLengths (Bytes n) room = (n ≤ room) × (0 < room → 0 < n)
 SinkKeepsLengths NotReady room = 0 < room
@@ -26,13 +25,14 @@ SinkKeepsLengths Stopped room = 0 < room
 SinkKeepsLengths NotConnected room = 0 < room
 SinkKeepsLengths NoMemory room = 0 < room
 
--- the list grew by these bytes, and the counts by these
+-- the sink took these bytes, and its counts rose by these numbers
 pub record Took (a b : Sink) (bytes : List ℕ) (waits stops losses : ℕ) : Type 0 where
   pub taken : b.taken ≡ a.taken ++ bytes
   pub waits_is : b.waits ≡ a.waits + waits
   pub stops_is : b.stops ≡ a.stops + stops
   pub losses_is : b.losses ≡ a.losses + losses
 
+-- the effect of one call with this result on the model of a sink
 abbrev pub SinkMoves : WriteStep → List ℕ → Sink → Sink → Type 0
 SinkMoves (Bytes n) buf a b = Took a b (take n buf) 0 0 0
 SinkMoves NotReady buf a b = Took a b [] 1 0 0
@@ -40,6 +40,7 @@ SinkMoves Stopped buf a b = Took a b [] 0 1 0
 SinkMoves NotConnected buf a b = Took a b [] 0 0 1
 SinkMoves NoMemory buf a b = Took a b [] 0 0 0
 
+-- the same for a sink that may have no model
 abbrev pub SinkTells : WriteStep → List ℕ → Option Sink → Option Sink → Type 0
 SinkTells step buf old new = Telling old new (λ a b. SinkMoves step buf a b)
 

@@ -1,14 +1,14 @@
--- The size of a number's encoding, as far as the bytes held determine it (RFC 9000, section 16).
+-- The size of an encoding, as far as its first bytes determine it (RFC 9000, section 16).
 use Rattle.std.proofs.Common.{◌≡◌, ℕ, ◌<◌, ◌≤◌, List, [], ◌∷◌, ◌++◌, length, slice_index, refl, arith, inl, inr}
 use Rattle.std.proofs.lemmas.Bool.{cases_lt, lt-ltb, le-ltb}
 use Rattle.std.specs.Int.{byte_len}
 use Rattle.wtp_core.specs.Varint.{width_of}
 
--- the least size of an encoding that starts with these bytes
+-- the minimum size of an encoding that starts with these bytes
 abbrev pub varint_need : List ℕ → ℕ
 varint_need bytes = byte_len (width_of (slice_index bytes 0))
 
--- the bytes are a proper prefix of a number's encoding
+-- the bytes are a proper prefix of an encoding
 abbrev pub IsCutNumber : List ℕ → Type 0
 IsCutNumber bytes = length bytes < varint_need bytes
 

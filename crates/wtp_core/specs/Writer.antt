@@ -1,12 +1,12 @@
--- What writers of bytes took, and the room they have left.
+-- The bytes that writers have written, and the space they have left.
 use Rattle.std.specs.Prelude.{◌≡◌, ℕ, ◌<◌, ◌≤◌, List, [], ◌∷◌, ◌++◌, length, drop, Option, Some, None, Result, Ok, Err, Bool, IsTrue}
 use Rattle.wtp_core.specs.declared.bytes.writer.PutError.{PutError}
 use Rattle.wtp_core.specs.declared.bytes.writer.PutError.TheVariants.{EndOfBuffer, Memory}
 
--- Room is given by the bytes that occupy it now, which the next ones overwrite; None is room
--- without a limit.
+-- The space left is given by the bytes in it, which the next ones overwrite; None is unlimited
+-- space.
 
--- the room after n more bytes
+-- the space left after n more bytes
 abbrev pub room_after : Option (List ℕ) → ℕ → Option (List ℕ)
 room_after None n = None
 room_after (Some place) n = Some (drop n place)
@@ -16,17 +16,17 @@ abbrev pub HasRoom : Option (List ℕ) → ℕ → Type 0
 HasRoom None n = Unit {0}
 HasRoom (Some place) n = n ≤ length place
 
--- n bytes don't fit
+-- n bytes do not fit
 abbrev pub LacksRoom : Option (List ℕ) → ℕ → Type 0
 LacksRoom None n = ⊥
 LacksRoom (Some place) n = length place < n
 
--- why a writer, which allocates or not, refuses n bytes
+-- a writer may return this error for n bytes; `grows` says whether it allocates
 abbrev pub Refuses : Bool → Option (List ℕ) → ℕ → PutError → Type 0
 Refuses grows room n EndOfBuffer = LacksRoom room n
 Refuses grows room n Memory = HasRoom room n × IsTrue grows
 
--- the writer took all of the bytes, or none, and then nothing changed
+-- the writer wrote all of the bytes, or returned an error and changed nothing
 abbrev pub Puts :
     Bool → List ℕ → Result (Unit {0}) PutError → List ℕ → Option (List ℕ) → List ℕ → Option (List ℕ)
     → Type 0
@@ -35,13 +35,12 @@ Puts grows bytes (Ok u) old room new left =
 Puts grows bytes (Err e) old room new left =
     (new ≡ old) × (left ≡ room) × Refuses grows room (length bytes) e
 
--- the parts, joined
+-- the concatenation of the parts
 abbrev pub joined : List (List ℕ) → List ℕ
 joined [] = []
 joined (part ∷ parts) = part ++ joined parts
 
--- the writer took these parts one after the other; or those before the first one that it refused,
--- and nothing else changed
+-- the writer wrote these parts in order, or only those before the first one that failed
 abbrev pub PutsParts :
     Bool → List (List ℕ) → Result (Unit {0}) PutError → List ℕ → Option (List ℕ) → List ℕ
     → Option (List ℕ) → Type 0

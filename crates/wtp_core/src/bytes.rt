@@ -1,5 +1,5 @@
-//! Reading and writing bytes: whole, from slices and into slices or vectors; and polled, from any
-//! source and into any sink.
+//! Readers and writers of bytes: complete ones over slices and vectors, and polled ones over any
+//! source or sink.
 pub mod buffer_reader;
 pub mod buffer_writer;
 pub mod child;
@@ -22,7 +22,7 @@ pub use sink::{AsyncWrite, WriteStep};
 pub use source::{AsyncRead, ReadStep};
 pub use writer::{BytesWriter, PutError};
 
-/// A slice has too few bytes, or too little room.
+/// A slice has too few bytes left, or too little space.
 #[derive(Debug, Drop, PartialEq, Eq, thiserror::Error)]
 #[error("end of buffer has been reached")]
 pub struct EndOfBuffer;

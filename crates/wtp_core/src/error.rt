@@ -184,7 +184,7 @@ impl fmt::Debug for ErrorCode {
 
 impl std::error::Error for ErrorCode {}
 
-/// The reason a call fails: an error code, or a failed allocation.
+/// The reason why a call failed: an error code, or a failed allocation.
 #[derive(Debug, Drop, PartialEq, Eq, thiserror::Error)]
 pub enum Refused {
     /// The peer's bytes are invalid.

@@ -29,28 +29,28 @@ impl StreamId {
     /// The largest stream ID.
     pub const MAX: StreamId = StreamId { id: VarInt::MAX };
 
-    /// Creates the ID of this number.
+    /// Creates the stream ID with this number.
     pub fn new(varint: VarInt) -> Self
         ensures { result ≡ varint }
     {
         StreamId { id: varint }
     }
 
-    /// Returns whether both ends may send: the second lowest bit is 0.
+    /// Returns whether the stream is bidirectional: its second lowest bit is 0.
     pub fn is_bidirectional(self) -> bool
         ensures { IsTrue result ↔ IsBidirectional self }
     {
         self.id.into_inner() / 2 % 2 == 0
     }
 
-    /// Returns whether the client opened the stream: the lowest bit is 0.
+    /// Returns whether the client opened the stream: its lowest bit is 0.
     pub fn is_client_initiated(self) -> bool
         ensures { IsTrue result ↔ IsClientInitiated self }
     {
         self.id.into_inner() % 2 == 0
     }
 
-    /// Returns whether this end opened the stream. `is_server` says which end this is.
+    /// Returns whether this endpoint opened the stream. `is_server` says whether it is the server.
     pub fn is_local(self, is_server: bool) -> bool
         ensures { IsTrue result ↔ (self % 2 ≡ (if is_server then 1 else 0)) }
     {
@@ -73,7 +73,7 @@ impl StreamId {
     }
 }
 
-/// The number is an invalid session ID.
+/// The number is not a valid session ID: one of its two lowest bits is 1.
 #[derive(Debug, Drop, PartialEq, Eq, thiserror::Error)]
 #[error("invalid session ID")]
 pub struct InvalidSessionId;
@@ -124,7 +124,7 @@ impl SessionId {
         self.stream
     }
 
-    /// Returns the session of this stream, or an error if one of its two lowest bits is 1.
+    /// Returns the ID of this stream's session, or an error if one of its two lowest bits is 1.
     pub fn try_from_session_stream(stream_id: StreamId) -> Result<Self, InvalidSessionId>
         ensures { OkIff result (IsSession stream_id) stream_id }
     {
@@ -135,14 +135,14 @@ impl SessionId {
         }
     }
 
-    /// Returns the session of this number, or an error if one of its two lowest bits is 1.
+    /// Returns the session ID with this number, or an error if one of its two lowest bits is 1.
     pub fn try_from_varint(varint: VarInt) -> Result<Self, InvalidSessionId>
         ensures { OkIff result (IsSession varint) varint }
     {
         SessionId::try_from_session_stream(StreamId::new(varint))
     }
 
-    /// Returns the session of this stream. Requires that its two lowest bits are 0.
+    /// Returns the ID of this stream's session. Requires that its two lowest bits are 0.
     pub fn from_session_stream_unchecked(stream_id: StreamId) -> Self
         requires { IsSession stream_id }
         ensures { result ≡ stream_id }
@@ -151,7 +151,7 @@ impl SessionId {
     }
 }
 
-/// The number is an invalid quarter stream ID: it is 2^60 or more.
+/// The number is not a valid quarter stream ID: it is 2^60 or more.
 #[derive(Debug, Drop, PartialEq, Eq, thiserror::Error)]
 #[error("invalid QStream ID")]
 pub struct InvalidQStreamId;
@@ -229,7 +229,7 @@ impl QStreamId {
         self.id
     }
 
-    /// Returns the quarter stream ID of this number, or an error if it is 2^60 or more.
+    /// Returns the quarter stream ID with this number, or an error if it is 2^60 or more.
     pub fn try_from_varint(varint: VarInt) -> Result<Self, InvalidQStreamId>
         ensures { OkIff result (varint < 2 ^ 60) varint }
     {
@@ -284,7 +284,7 @@ impl StatusCode {
     /// 429 (Too Many Requests).
     pub const TOO_MANY_REQUESTS: StatusCode = StatusCode { code: 429 };
 
-    /// Returns the code of this number, or an error if it is not from 100 to 599.
+    /// Returns the status code with this number, or an error if it is not from 100 to 599.
     pub fn try_from_u32(value: u32) -> Result<Self, InvalidStatusCode>
         ensures { OkIff result (IsStatus value) value }
     {
@@ -360,10 +360,10 @@ impl FromStr for StatusCode {
 
     ghost from_str_gives = { λ text r. OkIff r (IsStatusText text) (status_in text) };
 
-    /// Parses a status code: an optional plus and at least one decimal digit.
+    /// Parses a status code: an optional plus sign and at least one decimal digit.
     ///
-    /// Returns `InvalidStatusCode` if the text is not such a number, or if the number is not from
-    /// 100 to 599.
+    /// Returns `InvalidStatusCode` if the text has another form, or if the number is not from 100
+    /// to 599.
     fn from_str(s: &str) -> Result<Self, InvalidStatusCode> {
         match s.parse::<u16>() {
             Ok(value) => StatusCode::try_from_u32(u32::from(value)),

@@ -1,4 +1,4 @@
-//! The base of WebTransport over HTTP/3: variable-length integers, readers and writers of bytes,
+//! Basic types of WebTransport over HTTP/3: variable-length integers, readers and writers of bytes,
 //! stream and session IDs, and error codes.
 #![tactic(auto)]
 

@@ -1,7 +1,7 @@
-//! Registered numbers of HTTP/3 and WebTransport, as variable-length integers.
+//! Registered numbers of HTTP/3 and WebTransport, as variable-length integer constants.
 //!
 //! The modules of the wire format re-export them under their own names. They are defined here
-//! because a `VarInt` constant is a struct literal, which needs the private field.
+//! because a `VarInt` constant is a struct literal, and its field is private to this crate.
 
 ghost use Rattle.std.specs.Prelude.{◌≡◌, ◌↔◌, IsTrue};
 ghost use Rattle.wtp_core.specs.Numbers.{IsReserved, is_reserved};
@@ -10,9 +10,9 @@ use crate::varint::VarInt;
 
 /// Returns whether the number is `0x1f * n + 0x21` for a number `n`.
 ///
-/// These types of frames and streams, identifiers of settings and error codes are reserved to
-/// exercise the requirement to ignore unknown ones (RFC 9114, sections 7.2.8, 6.2.3, 7.2.4.1 and
-/// 8.1). Not in the Rust crate.
+/// Frame types, stream types, setting identifiers and error codes of this form are reserved, to
+/// exercise the requirement that unknown ones are ignored (RFC 9114, sections 7.2.8, 6.2.3, 7.2.4.1
+/// and 8.1). Not in the Rust crate.
 #[inline(always)]
 pub fn is_reserved(number: VarInt) -> bool
     ensures value { result ≡ is_reserved number }
@@ -67,7 +67,7 @@ pub mod setting_ids {
     /// The maximum size of a field section, in bytes.
     pub const SETTINGS_MAX_FIELD_SECTION_SIZE: VarInt = VarInt { value: 0x06 };
 
-    /// The number of streams that QPACK may block.
+    /// The maximum number of streams that QPACK may block.
     pub const SETTINGS_QPACK_BLOCKED_STREAMS: VarInt = VarInt { value: 0x07 };
 
     /// Extended CONNECT is supported.

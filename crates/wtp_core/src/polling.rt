@@ -1,5 +1,5 @@
-//! The loops that the polled states of this crate and of the crates above share: calls of a source
-//! until a buffer, a head or a skipped part is complete, and calls of a sink until a buffer or one
+//! Loops shared by the polled states of this crate and its dependents. They call a source until a
+//! buffer is full, a head is complete or bytes are skipped, and call a sink until a buffer or one
 //! or two encoded numbers are sent. None of them allocates.
 //!
 //! Not in the Rust crate. `wtransport_proto` does not re-export these modules.

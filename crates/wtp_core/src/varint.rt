@@ -38,7 +38,7 @@ impl VarInt {
     /// The smallest value, 0.
     pub const MIN: VarInt = VarInt { value: 0 };
 
-    /// The largest size of an encoding, in bytes.
+    /// The maximum size of an encoding, in bytes.
     pub const MAX_SIZE: usize = 8;
 
     /// Creates the integer `value`.
@@ -107,8 +107,8 @@ impl VarInt {
     }
 }
 
-/// Decodes the integer at the start of `bytes`. Returns its value and the size of its encoding, at
-/// least 1, or `None` if there are too few bytes. Not in the Rust crate.
+/// Decodes the integer at the start of `bytes`. Returns its value and the size of its encoding in
+/// bytes, or `None` if there are too few bytes. Not in the Rust crate.
 #[tactic(auto, unfolding(crate::specs::Varint::number_at, crate::specs::Varint::value_of))]
 #[inline(always)]
 pub fn first_varint(bytes: &[u8]) -> Option<(VarInt, usize)>

@@ -7,12 +7,12 @@ use crate::bytes::reader::BytesReader;
 use crate::varint::{VarInt, first_varint};
 use std::fmt;
 
-/// A reader over a slice of bytes: the slice and a position in it.
+/// A reader over a slice of bytes: the slice and a read position.
 #[derive(Drop)]
 pub struct BufferReader<'a> {
     buffer: &'a [u8],
     rest: &'a [u8],
-    // The bytes left are the end of the slice.
+    // The bytes left are a suffix of the slice.
     ghost within: { length rest.now ≤ length buffer.now },
     ghost tail: { drop (length buffer.now - length rest.now) buffer.now ≡ rest.now },
 }
@@ -38,7 +38,7 @@ impl<'a> BufferReader<'a> {
         self.rest.len()
     }
 
-    /// Returns the position: the number of bytes before it.
+    /// Returns the position: the number of bytes read or skipped.
     pub fn offset(&self) -> usize
         ensures place { result ≡ offset_of self.now }
         ensures sum { result + length (left_of self.now) ≡ length (whole_of self.now) }
@@ -62,8 +62,7 @@ impl<'a> BufferReader<'a> {
         self.rest
     }
 
-    /// Moves the position by `len` bytes. Returns an error if fewer are left; then the reader does
-    /// not move.
+    /// Skips `len` bytes. Returns an error if fewer are left; the reader then does not move.
     pub fn skip(&mut self, len: usize) -> Result<(), EndOfBuffer>
         ensures ok { OnOk result (MovesBy len self.old self.new) }
         ensures err { OnErr result (self.new ≡ self.old) }
@@ -76,7 +75,7 @@ impl<'a> BufferReader<'a> {
         Ok(())
     }
 
-    /// Moves to the position of `ahead`, a reader that was created over the bytes left here.
+    /// Moves to the position of `ahead`, which must be a reader over the bytes left in this one.
     pub fn move_to(&mut self, ahead: &BufferReader<'a>)
         requires { whole_of ahead.now ≡ left_of self.old }
         ensures left { left_of self.new ≡ left_of ahead.now }
@@ -85,10 +84,10 @@ impl<'a> BufferReader<'a> {
         self.rest = ahead.rest;
     }
 
-    /// Creates a reader over the bytes left. Only its `commit` moves this reader.
+    /// Creates a child reader over the bytes left. Only its `commit` moves this reader.
     ///
-    /// A caller whose proof needs this reader's position afterwards is generic over
-    /// `P: ParentReader`.
+    /// A caller whose proof needs this reader's position afterwards should be generic over `P:
+    /// ParentReader`.
     pub fn child(&mut self) -> BufferReaderChild<'a, '_>
         ensures same_reference { result.parent.ghost_name ≡ self.entry.ghost_name }
         ensures same_parent { result.parent.now ≡ self.old }

@@ -23,7 +23,7 @@ impl<'a> BufferWriter<'a> {
         BufferWriter { buffer, offset: 0 }
     }
 
-    /// Returns the room left, in bytes.
+    /// Returns the number of bytes that can still be written.
     pub fn capacity(&self) -> usize
         ensures { result ≡ length (room_in self.now) }
     {

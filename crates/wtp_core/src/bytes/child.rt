@@ -1,4 +1,4 @@
-//! A reader over the bytes that another reader has left.
+//! Child readers: they look ahead, and move their parent only when committed.
 ghost use Rattle.std.specs.Prelude.{◌≡◌, ◌+◌, ◌≤◌, ◌↔◌, ℕ, List, drop, length, MatchOption, IfNone, IfSome, Some, None, OnOk, OnErr, IsOk};
 ghost use Rattle.wtp_core.specs.Varint.{number_at, bytes_at};
 
@@ -7,11 +7,10 @@ use crate::bytes::buffer_reader::BufferReader;
 use crate::bytes::reader::BytesReader;
 use crate::varint::{VarInt, first_varint};
 
-/// A reader that a child may move: `BufferReader`. Not in the Rust crate.
+/// A reader that a child may move, such as `BufferReader`. Not in the Rust crate.
 ///
-/// A function that uses a child is generic over `P: ParentReader<'a>`: then its proof knows what
-/// `commit` or a dropped child leaves of the parent. So does its caller, who may pass a
-/// `BufferReader`.
+/// Make a function that uses a child generic over `P: ParentReader<'a>`. Its contract can then say
+/// where `commit`, or dropping the child, leaves the parent. Callers may pass a `BufferReader`.
 pub trait ParentReader<'a> {
     // All of the bytes.
     ghost whole: { Self → List ℕ };
@@ -19,12 +18,12 @@ pub trait ParentReader<'a> {
     // The bytes after the position.
     ghost behind: { Self → List ℕ };
 
-    /// Moves past `len` bytes, or to the end if fewer are left.
+    /// Skips `len` bytes, or moves to the end if fewer are left.
     fn advance(&mut self, len: usize)
         ensures left { behind self.new ≡ drop len (behind self.old) }
         ensures whole { whole self.new ≡ whole self.old };
 
-    /// Creates a reader over the bytes left. Only its `commit` moves this reader.
+    /// Creates a child reader over the bytes left. Only its `commit` moves this reader.
     fn child(&mut self) -> BufferReaderChild<'a, '_, Self>
         ensures same_reference { result.parent.ghost_name ≡ self.entry.ghost_name }
         ensures same_parent { result.parent.now ≡ self.old }
@@ -32,16 +31,17 @@ pub trait ParentReader<'a> {
         ensures start { result.offset ≡ 0 };
 }
 
-/// Returns the bytes from `place` on: none if `place` is past the end.
+/// Returns the bytes from index `place` on, or no bytes if `place` is past the end.
 pub(crate) fn bytes_from<'a>(bytes: &'a [u8], place: usize) -> &'a [u8]
     ensures { result.now ≡ drop place bytes.now }
 {
     bytes.get(place..).unwrap_or(&[])
 }
 
-/// A reader over the bytes that its parent has left, starting at position 0.
+/// A reader over the bytes that its parent has left. It starts at position 0.
 ///
-/// `commit` moves the parent past what was read. Dropping the child leaves the parent unchanged.
+/// `commit` moves the parent past the bytes that were read. Dropping the child leaves the parent
+/// unchanged.
 #[derive(Debug, Drop)]
 pub struct BufferReaderChild<'a, 'b, P = BufferReader<'a>> {
     parent: &'b mut P,
@@ -50,7 +50,7 @@ pub struct BufferReaderChild<'a, 'b, P = BufferReader<'a>> {
 }
 
 impl<'a, 'b, P> BufferReaderChild<'a, 'b, P> {
-    /// Creates a child at the position of its parent, which has `buffer` left.
+    /// Creates a child of `parent` over `buffer`, the bytes that the parent has left.
     pub(crate) fn over(parent: &'b mut P, buffer: &'a [u8]) -> Self
         ensures same_reference { result.parent.ghost_name ≡ parent.entry.ghost_name }
         ensures same_parent { result.parent.now ≡ parent.old }
@@ -97,8 +97,7 @@ impl<'a, 'b, P: ParentReader<'a>> BufferReaderChild<'a, 'b, P> {
         bytes_from(self.buffer, self.offset)
     }
 
-    /// Moves the position by `len` bytes. Returns an error if fewer are left; then the child does
-    /// not move.
+    /// Skips `len` bytes. Returns an error if fewer are left; the child then does not move.
     pub fn skip(&mut self, len: usize) -> Result<(), EndOfBuffer>
         ensures ok { OnOk result (offset_in self.new ≡ offset_in self.old + len) }
         ensures err { OnErr result (offset_in self.new ≡ offset_in self.old) }

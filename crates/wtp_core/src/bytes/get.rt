@@ -1,4 +1,4 @@
-//! Reading a number, or into a buffer, poll by poll.
+//! Polled reading of a variable-length integer, or into a buffer.
 ghost use Rattle.std.specs.Prelude.{◌≡◌, ℕ, ◌<◌, ◌≤◌, List, [], None, length, take, Ok};
 ghost use Rattle.wtp_core.specs.Source.{Telling};
 ghost use Rattle.wtp_core.specs.Polled.{Asks, WaitsAs};
@@ -13,8 +13,8 @@ use crate::polling::head::{Head, fill_head};
 use crate::varint::{VarInt, first_varint};
 use std::marker::Model;
 
-/// Returns the least size of a number whose encoding starts with the bytes `held`. Not in the Rust
-/// crate.
+/// Returns how many bytes the encoding of a variable-length integer needs, given its first bytes
+/// `held`: 1 if none is held yet. Not in the Rust crate.
 #[inline(always)]
 pub fn varint_need(held: &[u8]) -> usize
     ensures { result ≡ varint_need held.now }
@@ -25,7 +25,7 @@ pub fn varint_need(held: &[u8]) -> usize
     }
 }
 
-/// The head of a number is all of it.
+/// A variable-length integer consists of its head only.
 struct VarintHead;
 
 impl Head for VarintHead {
@@ -42,9 +42,9 @@ impl Head for VarintHead {
     ghost need_grows = { varint_need_grows };
 }
 
-/// Reads one number (RFC 9000, section 16), poll by poll, and no byte after it.
+/// Reads one variable-length integer (RFC 9000, section 16), poll by poll, and no byte after it.
 ///
-/// It holds the bytes that it took, and loses none of them if a poll does not return the number.
+/// It buffers the bytes received. A poll that does not return the number loses none of them.
 #[derive(Debug, Drop)]
 pub struct GetVarint {
     bytes: [u8; 8],
@@ -70,10 +70,12 @@ impl GetVarint {
         }
     }
 
-    /// Reads as far as the source goes, in at most 8 calls, and does not allocate.
+    /// Reads until the number is complete or the source gives no more. Calls the source at most 8
+    /// times, and does not allocate.
     ///
-    /// Returns the number, and is then as new; `Pending` once the source was not ready, which is not
-    /// called again then; or why the source gave no more. After `Pending` or an error it may be polled again.
+    /// Returns the number, and is then reset; `Pending` if the source was not ready, after which
+    /// the source is not called again; or the reason why the source gave no more bytes. It may be
+    /// polled again after `Pending` or an error.
     pub fn poll<S: AsyncRead>(&mut self, source: &mut S) -> Polled<Result<VarInt, IoReadError>>
         ensures was_cut { number_at self.old ≡ None }
         ensures cut { number_at self.new ≡ None }
@@ -95,10 +97,10 @@ impl GetVarint {
     }
 }
 
-/// Fills a buffer, poll by poll, and takes no byte after it.
+/// Fills a buffer, poll by poll, and reads no more bytes than fit.
 ///
-/// The bytes that it took are at the start of the buffer. None of them is lost if a poll does not
-/// return that the buffer is full.
+/// The bytes received are at the start of the buffer. A poll that does not fill the buffer loses
+/// none of them.
 #[derive(Debug, Drop)]
 pub struct GetBuffer<'a> {
     buffer: &'a mut [u8],
@@ -118,12 +120,12 @@ impl<'a> GetBuffer<'a> {
         GetBuffer { buffer, filled: 0 }
     }
 
-    /// Reads as far as the source goes, in at most as many calls as the buffer has bytes, and does
-    /// not allocate.
+    /// Reads until the buffer is full or the source gives no more. Calls the source at most as many
+    /// times as the buffer has bytes, and does not allocate.
     ///
-    /// Returns `Ready(Ok(()))` once the buffer is full, and then stays finished and does not call
-    /// its source again; an empty buffer is full from the start. Otherwise returns `Pending` if the
-    /// source was not ready, or why the source gave no more, and may be polled again.
+    /// Returns `Ready(Ok(()))` once the buffer is full, and so does every later poll, without a
+    /// call of the source. An empty buffer is full from the start. Otherwise returns `Pending` if
+    /// the source was not ready, or the reason why it gave no more bytes, and may be polled again.
     pub fn poll<S: AsyncRead>(&mut self, source: &mut S) -> Polled<Result<(), IoReadError>>
         ensures lent { loan_in self.new ≡ loan_in self.old }
         ensures room { room_of self.new ≡ room_of self.old }
@@ -147,11 +149,11 @@ impl<'a> GetBuffer<'a> {
     }
 }
 
-/// Creates the reading states of any source. These calls do not change the source.
+/// Creates reading states for any source. These calls do not change the source.
 pub trait BytesReaderAsync: AsyncRead {
     ghost use Rattle.wtp_core.specs.GetBuffer.{buffer_of, taken_of, loan_in};
 
-    /// Returns a state that reads one number.
+    /// Returns a state that reads one variable-length integer.
     fn get_varint(&mut self) -> GetVarint
         ensures fresh { result ≡ [] }
         ensures same { self.new ≡ self.old };

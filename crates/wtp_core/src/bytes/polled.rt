@@ -1,4 +1,4 @@
-//! Results of polls, and why reading or writing stops.
+//! Results of polls, and the reasons why reading or writing stops.
 use std::io;
 use std::io::ErrorKind;
 
@@ -30,8 +30,8 @@ pub enum Stepped<P, T, E> {
 
 /// Why a source gave no more bytes.
 ///
-/// It says nothing of the bytes. `frame::IoReadError`, `stream_header::IoReadError` and
-/// `stream::IoReadError` contain it beside the faults of a frame, a header and a stream.
+/// It describes the source, not the bytes. `frame::IoReadError`, `stream_header::IoReadError` and
+/// `stream::IoReadError` add the parse errors of a frame, a header and a stream.
 #[derive(Debug, Drop, PartialEq, Eq, thiserror::Error)]
 pub enum IoReadError {
     /// The source ended before any byte was taken.

@@ -1,4 +1,4 @@
-//! Writing a number, or a buffer, poll by poll.
+//! Polled writing of a variable-length integer or a buffer.
 ghost use Rattle.std.specs.Prelude.{◌≡◌, ◌≤◌, length, Ok};
 ghost use Rattle.wtp_core.specs.Source.{Telling};
 ghost use Rattle.wtp_core.specs.Varint.{shortest};
@@ -11,7 +11,7 @@ use crate::polling::encoded::Encoded;
 use crate::varint::VarInt;
 use std::marker::Model;
 
-/// Writes the shortest encoding of a number (RFC 9000, section 16), poll by poll.
+/// Writes the shortest encoding of a variable-length integer (RFC 9000, section 16), poll by poll.
 ///
 /// It counts the bytes sent, and sends none of them twice.
 #[derive(Debug, Drop)]
@@ -35,11 +35,11 @@ impl PutVarint {
         }
     }
 
-    /// Writes as far as the sink goes.
+    /// Writes until all bytes are sent or the sink accepts no more.
     ///
-    /// Returns `Ready(Ok(()))` once all is sent, and then stays finished and does not call its sink
-    /// again. Otherwise returns what the sink reported: not ready (`Pending`), out of memory,
-    /// stopped or not connected. After each of these it may be polled again.
+    /// Returns `Ready(Ok(()))` once all bytes are sent, and so does every later poll, without a
+    /// call of the sink. Otherwise returns what the sink reported: not ready (`Pending`), out of
+    /// memory, stopped or not connected. It may be polled again after each of these.
     pub fn poll<W: AsyncWrite>(&mut self, sink: &mut W) -> Polled<Result<(), IoWriteError>>
         ensures on { GoesOn self.old self.new }
         ensures whole { IsSent result self.new }
@@ -77,11 +77,11 @@ impl<'a> PutBuffer<'a> {
         PutBuffer { bytes, sent: 0 }
     }
 
-    /// Writes as far as the sink goes.
+    /// Writes until all bytes are sent or the sink accepts no more.
     ///
-    /// Returns `Ready(Ok(()))` once all is sent, and then stays finished and does not call its sink
-    /// again; an empty buffer is sent from the start. Otherwise returns what the sink reported, as
-    /// `PutVarint` does, and may be polled again.
+    /// Returns `Ready(Ok(()))` once all bytes are sent, and so does every later poll, without a
+    /// call of the sink. An empty buffer is sent from the start. Otherwise returns what the sink
+    /// reported, as `PutVarint` does, and may be polled again.
     pub fn poll<W: AsyncWrite>(&mut self, sink: &mut W) -> Polled<Result<(), IoWriteError>>
         ensures on { GoesOn self.old self.new }
         ensures whole { IsSent result self.new }
@@ -94,9 +94,9 @@ impl<'a> PutBuffer<'a> {
     }
 }
 
-/// Creates the writing states of any sink. These calls do not change the sink.
+/// Creates writing states for any sink. These calls do not change the sink.
 pub trait BytesWriterAsync: AsyncWrite {
-    /// Returns a state that writes the number in its shortest encoding.
+    /// Returns a state that writes the shortest encoding of `varint`.
     fn put_varint(&mut self, varint: VarInt) -> PutVarint
         ensures fresh { result ≡ unsent (shortest varint) }
         ensures same { self.new ≡ self.old };

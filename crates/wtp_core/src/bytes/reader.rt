@@ -1,11 +1,11 @@
-//! The trait of readers of bytes, and slices as readers.
+//! The `BytesReader` trait, and its implementation for slices.
 ghost use Rattle.std.specs.Prelude.{◌≡◌, ℕ, List, length, MatchOption, IfNone, IfSome, Some, None};
 ghost use Rattle.wtp_core.specs.Reader.{Kept};
 ghost use Rattle.wtp_core.specs.Varint.{number_at, bytes_at};
 
 use crate::varint::{VarInt, first_varint};
 
-/// Reads numbers and bytes from the start of a list of bytes.
+/// Reads variable-length integers and bytes from the start of a list of bytes.
 pub trait BytesReader<'a> {
     // The bytes left.
     ghost left: { Self → List ℕ };
@@ -13,15 +13,16 @@ pub trait BytesReader<'a> {
     // What reading leaves unchanged.
     ghost kept: { Self → Kept };
 
-    /// Reads the number encoded at the start (RFC 9000, section 16); every encoding is read.
-    /// Returns `None` if too few bytes are left; then the reader does not move.
+    /// Reads the variable-length integer at the start (RFC 9000, section 16). Accepts every
+    /// encoding, not only the shortest. Returns `None` if too few bytes are left; the reader then
+    /// does not move.
     fn get_varint(&mut self) -> Option<VarInt>
         ensures found { MatchOption result (number_at (left self.old) ≡ None)
             (λ n. number_at (left self.old) ≡ Some (n, left self.new)) }
         ensures none { IfNone result (left self.new ≡ left self.old) }
         ensures kept { kept self.new ≡ kept self.old };
 
-    /// Reads `len` bytes. Returns `None` if fewer are left; then the reader does not move.
+    /// Reads `len` bytes. Returns `None` if fewer are left; the reader then does not move.
     fn get_bytes(&mut self, len: usize) -> Option<&'a [u8]>
         ensures found { MatchOption result (bytes_at len (left self.old) ≡ None)
             (λ b. bytes_at len (left self.old) ≡ Some (b.now, left self.new)) }

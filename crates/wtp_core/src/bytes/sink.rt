@@ -1,13 +1,13 @@
-//! Polled sinks of bytes, and vectors as sinks.
+//! The `AsyncWrite` trait of polled sinks, and its implementation for vectors.
 ghost use Rattle.std.specs.Prelude.{Option, Some, None, length};
 ghost use Rattle.wtp_core.specs.Sink.{Sink, SinkKeepsLengths, SinkTells, all_taken, TakesWhole};
 
 /// The result of one call of a sink.
 #[derive(Clone, Copy, Debug, PartialEq, Eq)]
 pub enum WriteStep {
-    /// The number of bytes taken from the start of the buffer; 0 only if the buffer is empty.
+    /// This many bytes were taken from the start of the buffer; 0 only if the buffer is empty.
     Bytes(usize),
-    /// The sink accepts no byte yet.
+    /// The sink accepts no bytes yet.
     NotReady,
     /// The peer accepts no more bytes.
     Stopped,
@@ -19,19 +19,19 @@ pub enum WriteStep {
 
 /// A sink of bytes that is polled and never blocks.
 ///
-/// Its promises are its contract: an `impl` outside of checked code has to keep them.
+/// Implementations must satisfy the contract. Nothing checks this for an `impl` in unchecked code.
 ///
-/// A sink may have a model, `tells`: the bytes that it took, and how often it was not ready,
-/// stopped, and not connected. Each of these results adds exactly one to its count, and changes no
-/// other. So a sink with a model that keeps a count in an integer adds with `checked_add`, and if
-/// that fails it does not return that result: it takes a byte, or returns `NoMemory`.
+/// A sink may have a model, `tells`: the bytes that it took, and how often it returned `NotReady`,
+/// `Stopped` and `NotConnected`. Each of these results raises its own count by exactly one, and no
+/// other count. A sink that keeps a modelled count in an integer must therefore use `checked_add`.
+/// If that fails, it must not return that result: it takes a byte, or returns `NoMemory`.
 pub trait AsyncWrite {
     // The model of the sink, if it has one: the bytes taken, and how often it was not ready,
-    // stopped and not connected. A sink with a model keeps having one.
+    // stopped and not connected. A sink with a model never loses it.
     ghost tells: { Self → Option Sink } = { λ _. None };
 
-    /// Takes at least one byte from the start of the buffer, or reports why it takes none. Returns
-    /// `Bytes(0)` if the buffer is empty.
+    /// Takes at least one byte from the start of the buffer, or returns the reason why it takes
+    /// none. Returns `Bytes(0)` if the buffer is empty.
     fn poll_write(&mut self, buf: &[u8]) -> WriteStep
         ensures lengths { SinkKeepsLengths result (length buf.now) }
         ensures tells { SinkTells result buf.now (tells self.old) (tells self.new) };

@@ -1,12 +1,12 @@
-//! Polled sources of bytes, and slices as sources.
+//! The `AsyncRead` trait of polled sources, and its implementation for slices.
 ghost use Rattle.std.specs.Prelude.{◌≡◌, Option, Some, None, ◌≤◌, ◌↔◌, length, min, false, IsTrue};
 ghost use Rattle.wtp_core.specs.Source.{Source, StepKeepsLengths, StepTells, Telling, Shows, TakesBuffered, all_ahead};
 
 /// The result of one call of a source.
 #[derive(Clone, Copy, Debug, PartialEq, Eq)]
 pub enum ReadStep {
-    /// The number of bytes moved to the start of the buffer; 0 at the end, and if the buffer is
-    /// empty.
+    /// This many bytes were moved to the start of the buffer; 0 at the end of the source, or if the
+    /// buffer is empty.
     Bytes(usize),
     /// No byte is available yet.
     NotReady,
@@ -18,35 +18,34 @@ pub enum ReadStep {
 
 /// A source of bytes that is polled and never blocks.
 ///
-/// Its promises are its contract: an `impl` outside of checked code has to keep them.
+/// Implementations must satisfy the contract. Nothing checks this for an `impl` in unchecked code.
 ///
-/// A source may have a model, `tells`: the bytes ahead, how they end, how often it was called, and
-/// how often it was not ready. Each `NotReady` adds exactly one to that last count. So a source
-/// with a model that keeps the count in an integer adds with `checked_add`, and if that fails it
-/// does not return `NotReady`: it gives the next bytes, or how it ends.
+/// A source may have a model, `tells`: the bytes ahead, how they end, a count that each call raises
+/// by at most one, and how often it was not ready. Each `NotReady` raises that last count by
+/// exactly one. A source that keeps it in an integer must therefore use `checked_add`. If that
+/// fails, it must not return `NotReady`: it gives the next bytes, or reports how it ends.
 pub trait AsyncRead {
-    // The model of the source, if it has one: the bytes ahead, how they end, how often it was
-    // called and how often it was not ready. A source with a model keeps having one.
+    // The model of the source, if it has one: the bytes ahead, how they end, a count of calls and
+    // how often it was not ready. A source with a model never loses it.
     ghost tells: { Self → Option Source } = { λ _. None };
 
-    /// Moves bytes to the start of the buffer, or reports why there are none. Returns `Bytes(0)` if
-    /// the buffer is empty.
+    /// Moves bytes to the start of the buffer, or returns the reason why there are none. Returns
+    /// `Bytes(0)` if the buffer is empty.
     fn poll_read(&mut self, buf: &mut [u8]) -> ReadStep
         ensures lengths { StepKeepsLengths result (length buf.new) }
         ensures tells { StepTells result buf.new (tells self.old) (tells self.new) };
 
-    /// Returns bytes that are buffered and can be read before they are taken: some of those ahead,
-    /// starting with the first. A source need not show any; then it gives all bytes by `poll_read`.
-    /// Not in the Rust crate.
+    /// Returns buffered bytes without taking them: a prefix of the bytes ahead. A source may return
+    /// none here; all bytes then come from `poll_read`. Not in the Rust crate.
     fn buffered(&self) -> &[u8]
         ensures shows { Shows result.now (tells self.now) }
     {
         &[]
     }
 
-    /// Takes `count` of the bytes ahead and returns `true`, or takes none and returns `false`. A
-    /// source may refuse any count, also one of bytes that `buffered` returns. Not in the Rust
-    /// crate.
+    /// Takes `count` of the bytes ahead and returns `true`, or changes nothing and returns `false`.
+    /// A source may return `false` for any `count`, even if `buffered` returns that many bytes. Not
+    /// in the Rust crate.
     fn take_buffered(&mut self, count: usize) -> bool
         ensures taken { IsTrue result
             → Telling (tells self.old) (tells self.new) (TakesBuffered count) }
@@ -60,7 +59,7 @@ pub trait AsyncRead {
 impl AsyncRead for &[u8] {
     ghost tells = { λ s. Some (all_ahead s.now) };
 
-    /// Gives as many of the bytes as fit into the buffer, and then the end. It is always ready.
+    /// Gives as many bytes as fit into the buffer, and `Bytes(0)` at the end. It is always ready.
     #[inline(always)]
     fn poll_read(&mut self, buf: &mut [u8]) -> ReadStep
         ensures lengths { StepKeepsLengths result (length buf.new) }

@@ -1,4 +1,4 @@
-//! The trait of writers of bytes, and vectors as writers.
+//! The `BytesWriter` trait, and its implementation for vectors.
 ghost use Rattle.std.specs.Prelude.{◌≡◌, ℕ, List, Option, None, Bool, true};
 ghost use Rattle.std.specs.Borrow.{GName};
 ghost use Rattle.wtp_core.specs.Varint.{shortest};
@@ -6,10 +6,10 @@ ghost use Rattle.wtp_core.specs.Writer.{Puts};
 
 use crate::varint::VarInt;
 
-/// The reason bytes were not written.
+/// The reason why bytes were not written.
 #[derive(Debug, Drop, PartialEq, Eq, thiserror::Error)]
 pub enum PutError {
-    /// There is too little room.
+    /// There is too little space left.
     #[error("end of buffer has been reached")]
     EndOfBuffer,
     /// Memory allocation failed.
@@ -17,32 +17,32 @@ pub enum PutError {
     Memory,
 }
 
-/// Writes numbers and bytes at the end of a list of bytes.
+/// Appends variable-length integers and bytes to a list of bytes.
 pub trait BytesWriter {
-    // Whether it allocates, so that an allocation may fail.
+    // Whether the writer allocates, so that it may run out of memory.
     ghost grows: { Bool };
 
     // The bytes written.
     ghost written: { Self → List ℕ };
 
-    // The bytes that occupy the room left, or `None` if the room has no limit.
+    // The bytes in the space left, which writing replaces, or `None` if the space is unlimited.
     ghost room: { Self → Option (List ℕ) };
 
-    // The name of the borrow of the slice that the bytes are written into, if there is one: whoever
-    // lent a slice finds the bytes in it afterwards.
+    // The name of the borrow of the slice written into, if there is one. By it, the owner of the
+    // slice knows that the bytes are in it afterwards.
     ghost target: { Self → Option GName };
 
     /// Writes all of the bytes, or changes nothing.
     ///
-    /// Returns `EndOfBuffer` exactly if the room is too small, and `Memory` only if memory
+    /// Returns `EndOfBuffer` exactly if too little space is left, and `Memory` only if memory
     /// allocation failed.
     fn put_bytes(&mut self, bytes: &[u8]) -> Result<(), PutError>
         ensures puts { Puts grows bytes.now result (written self.old) (room self.old)
             (written self.new) (room self.new) }
         ensures target { target self.new ≡ target self.old };
 
-    /// Writes the shortest encoding of a number (RFC 9000, section 16), or changes nothing. The
-    /// errors are those of `put_bytes`.
+    /// Writes the shortest encoding of a variable-length integer (RFC 9000, section 16), or changes
+    /// nothing. Returns the errors of `put_bytes`.
     #[tactic(auto, unfolding(crate::specs::Varint::shortest))]
     fn put_varint(&mut self, varint: VarInt) -> Result<(), PutError>
         ensures puts { Puts grows (shortest varint) result (written self.old) (room self.old)

@@ -1,4 +1,4 @@
-//! The error code of a number on the wire.
+//! Conversion of a number on the wire to an error code.
 
 ghost use Rattle.std.specs.Prelude.{◌≡◌, ◌≢◌, MatchResult};
 ghost use Rattle.wtp_core.specs.declared.error.ErrorCode.{ErrorCode};
@@ -7,13 +7,13 @@ ghost use Rattle.wtp_core.specs.ErrorCodes.{code_number};
 use super::ErrorCode;
 use crate::varint::VarInt;
 
-/// The number is not that of an [`ErrorCode`]. An unknown error code is treated as
-/// [`ErrorCode::NoError`] (RFC 9114, section 8).
+/// No [`ErrorCode`] has this number. Unknown error codes are treated as [`ErrorCode::NoError`] (RFC
+/// 9114, section 8).
 #[derive(Debug, Drop, PartialEq, Eq, thiserror::Error)]
 #[error("unknown error code")]
 pub struct UnknownErrorCode;
 
-/// Each error code.
+/// All error codes.
 static CODES: [ErrorCode; 15] = [
     ErrorCode::Datagram,
     ErrorCode::NoError,
@@ -38,7 +38,7 @@ impl TryFrom<VarInt> for ErrorCode {
     ghost try_from_gives = { λ number result. MatchResult result (λ code. number ≡ code_number code)
         (λ _. (code : ErrorCode) → number ≢ code_number code) };
 
-    /// Returns the code of this number, the inverse of [`ErrorCode::to_code`]. Not in the Rust
+    /// Returns the code with this number, the inverse of [`ErrorCode::to_code`]. Not in the Rust
     /// crate.
     ///
     /// Returns an error if no code has this number.

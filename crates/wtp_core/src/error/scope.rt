@@ -1,4 +1,4 @@
-//! What an error code ends: a stream or the connection.
+//! The scope of an error code: a stream or the connection.
 
 ghost use Rattle.std.specs.Prelude.{◌≡◌, None, Some};
 ghost use Rattle.wtp_core.specs.declared.error.ErrorCode.TheVariants.{Id, Datagram, Message, NoError};
@@ -10,12 +10,12 @@ use crate::ids::{InvalidQStreamId, InvalidSessionId, InvalidStatusCode};
 /// What an error code ends (RFC 9114, section 8). Not in the Rust crate.
 #[derive(Clone, Copy, Debug, PartialEq, Eq)]
 pub enum ErrorScope {
-    /// One stream, which is reset or is no longer read. The connection stays.
+    /// One stream, which is reset or no longer read. The connection stays open.
     Stream,
     /// The connection, which is closed.
     Connection,
-    /// The stream or the connection: the standards use the code for both, and the rule that is
-    /// violated says which; or no rule says what the code ends.
+    /// The stream or the connection. Either the standards use the code for both, and the violated
+    /// rule determines which; or no rule says what the code ends.
     Either,
 }
 
@@ -89,8 +89,8 @@ impl From<InvalidStatusCode> for ErrorCode {
 impl From<UnknownErrorCode> for ErrorCode {
     ghost from_gives = { λ _ code. code ≡ NoError };
 
-    /// Returns [`ErrorCode::NoError`], which an unknown error code is treated as (RFC 9114, section
-    /// 8). Not in the Rust crate.
+    /// Returns [`ErrorCode::NoError`]: unknown error codes are treated as this one (RFC 9114,
+    /// section 8). Not in the Rust crate.
     fn from(_error: UnknownErrorCode) -> ErrorCode {
         ErrorCode::NoError
     }

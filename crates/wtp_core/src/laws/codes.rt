@@ -11,25 +11,25 @@ use crate::error::application_codes::{NotAnApplicationCode, from_http3, to_http3
 use crate::error::{Code, ErrorCode, ErrorScope, UnknownErrorCode};
 use crate::varint::VarInt;
 
-/// Two error codes have two numbers, and none is reserved (RFC 9114, section 8.1).
+/// Distinct error codes have distinct numbers, and no number is reserved (RFC 9114, section 8.1).
 pub fn codes_have_numbers()
     ensures one { (x y : ErrorCode) → code_number x ≡ code_number y → x ≡ y }
     ensures not_reserved { (x : ErrorCode) → ¬ IsReserved (code_number x) }
 {}
 
-/// The number of an error code is read as that code.
+/// Converting an error code to its number and back returns the code.
 pub fn code_and_back(code: ErrorCode) -> Result<ErrorCode, UnknownErrorCode>
     ensures { result ≡ Ok code }
 {
     ErrorCode::try_from(code.to_code())
 }
 
-/// The scope of an error code is that of its number.
+/// An error code and its number have the same scope.
 pub fn scopes_agree()
     ensures { (x : ErrorCode) → code_scope (code_number x) ≡ scope_of x }
 {}
 
-/// An error code as a [`Code`] keeps its number and its scope.
+/// Converting an error code to a [`Code`] preserves its number and its scope.
 pub fn code_of_error(error: ErrorCode) -> (VarInt, ErrorScope)
     ensures number { result.0 ≡ code_number error }
     ensures scope { result.1 ≡ scope_of error }
@@ -38,8 +38,9 @@ pub fn code_of_error(error: ErrorCode) -> (VarInt, ErrorScope)
     (code.number(), code.scope())
 }
 
-/// The HTTP/3 error codes of applications, of numbers of 32 bits, are those of a range, from the
-/// first to the last, that are not reserved. Two applications' error codes have two of them.
+/// The HTTP/3 error codes of application error codes, which have 32 bits, are exactly the
+/// unreserved ones from the first to the last. Distinct application error codes have distinct
+/// HTTP/3 error codes.
 pub fn application_codes()
     ensures range { (n : ℕ) → n < 2 ^ 32
         → (http3_number 0 ≤ http3_number n) × (http3_number n ≤ http3_number (2 ^ 32 - 1)) }
@@ -50,7 +51,8 @@ pub fn application_codes()
     ensures one { (m n : ℕ) → http3_number m ≡ http3_number n → m ≡ n }
 {}
 
-/// The HTTP/3 error code of an application's error code is read as that error code.
+/// Converting an application error code to an HTTP/3 error code and back returns the application
+/// error code.
 pub fn application_and_back(code: u32) -> Result<u32, NotAnApplicationCode>
     ensures { result ≡ Ok code }
 {

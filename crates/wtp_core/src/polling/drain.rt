@@ -1,4 +1,4 @@
-//! Writing a buffer to a sink, as far as the sink goes.
+//! Writing a buffer to a sink until the sink accepts no more.
 ghost use Rattle.std.specs.Prelude.{◌≡◌, ◌≤◌, length, Ok};
 ghost use Rattle.wtp_core.specs.Source.{Telling};
 ghost use Rattle.wtp_core.specs.Put.{writing, GoesOn, IsSent, WritePolled};
@@ -6,15 +6,15 @@ ghost use Rattle.wtp_core.specs.Put.{writing, GoesOn, IsSent, WritePolled};
 use crate::bytes::polled::{IoWriteError, Polled};
 use crate::bytes::sink::{AsyncWrite, WriteStep};
 
-/// Writes `bytes` from the position `sent` on, until all is taken, and moves `sent` past what was
-/// taken.
+/// Writes `bytes` from index `sent` on until the sink has taken all of them, and moves `sent` past
+/// the bytes taken.
 ///
-/// Returns `Ready(Ok(()))` once all is taken, and does not call the sink if all was taken before.
+/// Returns `Ready(Ok(()))` once all bytes are taken, without calling the sink if none was left.
 /// Otherwise `sent` is less than the length of `bytes`, and a later call continues from there. The
-/// sink is not called again after a result other than bytes taken:
+/// sink is not called again after it returned anything but bytes taken:
 ///
-/// - `Pending`, `Ready(Err(Stopped))`, `Ready(Err(NotConnected))`: the sink returned that step. Its
-///   count of that step rose by one, and its other counts did not change.
+/// - `Pending`, `Ready(Err(Stopped))`, `Ready(Err(NotConnected))`: the sink returned that result.
+///   Its count of this result rose by one, and its other counts did not change.
 /// - `NoMemory`: allocation failed in the sink. None of its counts changed.
 pub fn drain<W: AsyncWrite>(
     sink: &mut W,

@@ -1,4 +1,4 @@
-//! Writing up to two encoded numbers, poll by poll.
+//! Polled writing of one or two variable-length integers.
 ghost use Rattle.std.specs.Prelude.{◌≡◌, ◌≤◌, ◌++◌, length, take, drop, Ok};
 ghost use Rattle.wtp_core.specs.Source.{Telling};
 ghost use Rattle.wtp_core.specs.Varint.{shortest};
@@ -12,8 +12,8 @@ use crate::polling::drain::drain;
 use crate::varint::VarInt;
 use std::marker::Model;
 
-/// The shortest encodings of one or two numbers (RFC 9000, section 16), and the number of their
-/// bytes sent. It sends none of them twice. Not in the Rust crate.
+/// The shortest encodings of one or two numbers (RFC 9000, section 16), and how many of their bytes
+/// are sent. It sends no byte twice. Not in the Rust crate.
 #[derive(Debug, Drop)]
 pub struct Encoded {
     bytes: [u8; 16],
@@ -30,7 +30,7 @@ impl Model for Encoded {
 }
 
 impl Encoded {
-    /// Encodes one number. Nothing is sent.
+    /// Encodes one number. Nothing is sent yet.
     pub fn one(number: VarInt) -> Self
         ensures { result ≡ unsent (shortest number) }
     {
@@ -43,7 +43,7 @@ impl Encoded {
         }
     }
 
-    /// Encodes two numbers, one after the other. Nothing is sent.
+    /// Encodes two numbers, one after the other. Nothing is sent yet.
     pub fn two(first: VarInt, second: VarInt) -> Self
         ensures { result ≡ unsent (shortest first ++ shortest second) }
     {
@@ -64,7 +64,8 @@ impl Encoded {
         self.sent
     }
 
-    /// Writes as far as the sink goes, as `drain` does.
+    /// Writes until all bytes are sent or the sink accepts no more. The results are those of
+    /// `drain`.
     pub fn poll<W: AsyncWrite>(&mut self, sink: &mut W) -> Polled<Result<(), IoWriteError>>
         ensures on { GoesOn self.old self.new }
         ensures whole { IsSent result self.new }

@@ -1,4 +1,4 @@
-//! Reading from a source into a buffer, as far as the source goes.
+//! Reading from a source into a buffer until it is full or the source gives no more.
 ghost use Rattle.std.specs.Prelude.{◌≡◌, ◌≤◌, length, take};
 ghost use Rattle.wtp_core.specs.Source.{Telling};
 ghost use Rattle.wtp_core.specs.Fill.{FillKeepsLengths, FillTells, HaltWaits, halt_fault, HaltsAs};
@@ -6,7 +6,7 @@ ghost use Rattle.wtp_core.specs.Fill.{FillKeepsLengths, FillTells, HaltWaits, ha
 use crate::bytes::polled::{IoReadError, Polled};
 use crate::bytes::source::{AsyncRead, ReadStep};
 
-/// The reason a buffer was not filled.
+/// The reason why a buffer was not filled.
 #[derive(Clone, Copy, Debug)]
 pub enum Halt {
     /// The source was not ready.
@@ -19,13 +19,13 @@ pub enum Halt {
     NotConnected,
 }
 
-/// Reads into `buf` from the position `at` on, until it is full, and moves `at` past the bytes
-/// received.
+/// Reads into `buf` from index `at` on until it is full, and moves `at` past the bytes received.
 ///
-/// The bytes before the old position do not change. On an error all received bytes are in
-/// `buf[..at]`, `at` is less than the length of `buf`, and a later call continues from there:
+/// The bytes before the old `at` do not change. On an error, all bytes received are in `buf[..at]`,
+/// `at` is less than the length of `buf`, and a later call continues from there:
 ///
-/// - `NotReady`: the source was not ready. Its count of waits rose by one; otherwise it is unchanged.
+/// - `NotReady`: the source was not ready. Its count of waits rose by one, and the bytes not yet
+///   received are still ahead.
 /// - `Fin`, `Reset`, `NotConnected`: the source ended in this way, and has no bytes ahead.
 #[inline(always)]
 pub fn fill<S: AsyncRead>(source: &mut S, buf: &mut [u8], at: &mut usize) -> Result<(), Halt>
@@ -50,9 +50,9 @@ pub fn fill<S: AsyncRead>(source: &mut S, buf: &mut [u8], at: &mut usize) -> Res
 }
 
 impl Halt {
-    /// Returns the error of a reading that stopped after `taken` bytes, or `None` if the source was
-    /// not ready: `Fin` is `ImmediateFin` if no byte was taken and `UnexpectedFin` otherwise, and
-    /// the others are the errors of the same names.
+    /// Converts the reason to a read error, or returns `None` if the source was not ready. `taken`
+    /// is the number of bytes received of the item: `Fin` becomes `ImmediateFin` if it is 0, and
+    /// `UnexpectedFin` otherwise. The others become the errors of the same names.
     pub fn fault(self, taken: usize) -> Option<IoReadError>
         ensures { result ≡ halt_fault self taken }
     {
@@ -66,8 +66,8 @@ impl Halt {
     }
 }
 
-/// Returns the result of a poll whose reading stopped after `taken` bytes: `Pending` if the source
-/// was not ready, and the error that `Halt::fault` returns otherwise.
+/// Returns the result of a poll that stopped after `taken` bytes: `Pending` if the source was not
+/// ready, and otherwise the error that `Halt::fault` returns.
 pub fn halt_result<T, E: From<IoReadError>>(halt: Halt, taken: usize) -> Polled<Result<T, E>>
     ensures { HaltsAs E.from_gives (halt_fault halt taken) result }
 {

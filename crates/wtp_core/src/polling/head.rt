@@ -1,4 +1,5 @@
-//! Reading a head: the first bytes of an item, which determine the length of the head.
+//! Reading the head of an item: the bytes in front of its payload. The first bytes of a head
+//! determine its length.
 ghost use Rattle.std.specs.Prelude.{◌≡◌, ℕ, ◌<◌, ◌≤◌, List, ◌++◌, length, take, OnOk, OnErr};
 ghost use Rattle.wtp_core.specs.Source.{Telling};
 ghost use Rattle.wtp_core.specs.Fill.{FillTells, HaltWaits};
@@ -6,31 +7,31 @@ ghost use Rattle.wtp_core.specs.Fill.{FillTells, HaltWaits};
 use crate::bytes::source::AsyncRead;
 use crate::polling::fill::{Halt, fill};
 
-/// The length of a head, as far as the bytes held determine it.
+/// A kind of head, given by the length that the bytes received so far determine.
 pub trait Head {
-    // The least length of a head that starts with these bytes.
+    // The minimum length of a head that starts with these bytes.
     ghost need: { List ℕ → ℕ };
 
     // An upper bound of `need`.
     ghost most: { ℕ };
 
-    /// Returns the least length of a head that starts with the bytes `held`.
+    /// Returns the minimum length of a head that starts with the bytes `held`.
     fn need(held: &[u8]) -> usize
         requires { length held.now ≤ need held.now }
         ensures { result ≡ need held.now };
 
     ghost need_most: { (h : List ℕ) → need h ≤ most };
 
-    // It does not fall when more bytes are held.
+    // It does not decrease when more bytes are received.
     ghost need_grows: { (h t : List ℕ) → need h ≤ need (h ++ t) };
 }
 
-/// Reads into `buf` from the position `len` on, until the head is complete, and takes no byte after
-/// it. A head that is already complete is left unchanged.
+/// Reads into `buf` from index `len` on until the head is complete, and takes no byte after it. A
+/// head that is already complete is left unchanged.
 ///
-/// On an error fewer bytes are held than the head needs. All received bytes are in `buf[..len]`,
-/// the bytes before the old position are unchanged, and a later call continues from there. The
-/// errors are those of `fill`.
+/// On an error, the head is incomplete: all bytes received are in `buf[..len]`, the bytes before
+/// the old `len` are unchanged, and a later call continues from there. The errors are those of
+/// `fill`.
 #[inline(always)]
 pub fn fill_head<H: Head, S: AsyncRead>(
     source: &mut S,

@@ -1,4 +1,4 @@
-//! Skipping bytes of a source.
+//! Skipping bytes from a source.
 ghost use Rattle.std.specs.Prelude.{◌≡◌, ◌+◌, ◌-◌, ◌<◌, ◌≤◌, OnOk, OnErr};
 ghost use Rattle.wtp_core.specs.Source.{Telling, StepWaits};
 ghost use Rattle.wtp_core.specs.Fill.{HaltWaits};
@@ -7,15 +7,14 @@ ghost use Rattle.wtp_core.specs.Passing.{max_passed, PassTells, CountFits, StepP
 use crate::bytes::source::{AsyncRead, ReadStep};
 use crate::polling::fill::Halt;
 
-// The most bytes that one call skips.
+// The maximum number of bytes that one call skips.
 const MAX_PASSED: u64 = 4096;
 
-/// Skips the `due` bytes that are still to be skipped, at most 4096 of them, and lowers `due` by as
-/// many. Returns `Ok` once none is left to skip, or once 4096 were skipped.
+/// Skips `due` bytes, but at most 4096 in one call, and lowers `due` by the number of bytes
+/// skipped. Returns `Ok` once none is left to skip, or once 4096 were skipped.
 ///
-/// On an error some bytes are still to be skipped: `due` fell by as many as were taken from the
-/// source, which are fewer than 4096, and a later call continues from there. The errors are those
-/// of `fill`.
+/// On an error, bytes are left to skip: `due` fell by the number of bytes taken from the source,
+/// which is less than 4096, and a later call continues from there. The errors are those of `fill`.
 pub fn pass<S: AsyncRead>(source: &mut S, due: &mut u64) -> Result<(), Halt>
     ensures fewer { due.new ≤ due.old }
     ensures most { due.old ≤ due.new + max_passed }
@@ -43,7 +42,7 @@ pub fn pass<S: AsyncRead>(source: &mut S, due: &mut u64) -> Result<(), Halt>
     Ok(())
 }
 
-// One call, into the first bytes of a buffer.
+// Calls the source once, with the first `want` bytes of a buffer.
 fn read_some<S: AsyncRead>(source: &mut S, buf: &mut [u8; 64], want: usize) -> ReadStep
     requires some { 0 < want }
     requires fits { want ≤ 64 }

@@ -6,7 +6,7 @@ use Rattle.wtp_core.proofs.WaitLemmas.{halted_waits}
 use Rattle.wtp_core.proofs.GetLemmas.{halted_plain, halted_varint_told, halted_varint_given, whole_varint_told, whole_varint_given}
 use Rattle.wtp_core.proofs.bytes.get.GetVarint.poll.Goals as goal
 
--- the bytes held now start with those held before
+-- the bytes held after the poll start with those held before
 held_front : (m n : ℕ) (buf new : List ℕ) → m ≤ n → take m new ≡ take m buf → take m (take n new) ≡ take m buf
 held_front m n buf new l e = take-take m n new l ∙ e
 

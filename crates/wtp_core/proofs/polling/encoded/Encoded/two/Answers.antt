@@ -3,7 +3,7 @@ use Rattle.std.proofs.Math.Seq.{take-append-add, take-append_seam}
 use Rattle.wtp_core.specs.Put.{unsent}
 use Rattle.wtp_core.proofs.polling.encoded.Encoded.two.Goals as goal
 
--- one encoding after the other, each written over the start of what was there
+-- two encodings, each written over the start of the remaining buffer
 two_encoded : (a b xs ys tail one two : List ℕ) (m n : ℕ) → one ≡ a ++ xs → m ≡ length a → two ≡ b ++ ys → n ≡ length b → take (m + n) (take m one ++ (two ++ tail)) ≡ a ++ b
 two_encoded a b xs ys tail one two m n e i f j =
     rw (e, i, f, j, take-append_seam a xs, append_assoc b ys tail, take-append-add a (b ++ (ys ++ tail)) (length b), take-append_seam b (ys ++ tail)) refl
