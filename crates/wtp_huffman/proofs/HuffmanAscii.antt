@@ -1,4 +1,4 @@
--- Which texts are ASCII, as they grow.
+-- Whether a growing text is ASCII.
 use Rattle.std.proofs.Common.{◌≡◌, ℕ, zero, suc, ◌/◌, ◌%◌, ◌<◌, ◌≤◌, Bool, true, false, List, [], ◌∷◌, ◌++◌, length, take, refl, arith, ◌&&◌, nat_lt, inl, inr}
 use Rattle.std.proofs.lemmas.Bool.{and_parts, cases_lt, le-ltb, lt-ltb, ltb-true}
 use Rattle.std.specs.Prelude.{slice_index}
@@ -25,7 +25,7 @@ other_after (x ∷ t) more high = let next = other_after t more high in (suc nex
 pub none_ascii : IsAscii []
 none_ascii = λ i. omega arith
 
--- ASCII bytes change nothing
+-- appending ASCII bytes does not change the flag
 pub stays : (is_ascii : Bool) (t more : List ℕ) → IsAscii more → TellsAscii is_ascii t → TellsAscii is_ascii (t ++ more)
 stays true t more ascii told = joined_ascii t more told ascii
 stays false t more ascii told = other_in_front t more told.0 told.1
@@ -34,7 +34,7 @@ one_byte : (x : ℕ) → x < 128 → (i : ℕ) → slice_index (x ∷ []) i < 12
 one_byte x small zero = small
 one_byte x small (suc i) = omega arith
 
--- one byte decides
+-- after an ASCII text, the appended byte decides
 pub pushed : (x : ℕ) (t : List ℕ) → IsAscii t → TellsAscii (nat_lt x 128) (t ++ x ∷ [])
 pushed x t told = elim (cases_lt x 128) [
   | inl small ↦ rw (lt-ltb x 128 small) (joined_ascii t (x ∷ []) told (one_byte x small))

@@ -47,7 +47,7 @@ top_bit l zero r w h e = omega arith
 top_bit l (suc zero) r w h e = omega arith
 top_bit l (suc (suc q)) r w h e = absurd (omega arith)
 
--- a number's bits, read again
+-- reading a number's bits gives the number
 pub window_low_bits : (l w : ℕ) (rest : List Bool) → w < 2 ^ l → window_of l (low_bits l w ++ rest) ≡ w
 unfolding window_of low_bits
 window_low_bits zero w rest h = omega arith
@@ -73,7 +73,7 @@ set_rest l f =
     let e : 2 ^ l + f ≡ 1 * 2 ^ l + f = omega arith in
     rw e (low_bits_cat 1 l f l (omega arith))
 
--- bits, and the number of the first of them
+-- the window of bits, written as bits, is their prefix
 pub low_bits_window : (l : ℕ) (bs : List Bool) → l ≤ length bs → low_bits l (window_of l bs) ++ drop l bs ≡ bs
 unfolding window_of low_bits
 low_bits_window zero bs h = refl
@@ -90,7 +90,7 @@ low_bits_append (suc a) b w u h =
     let e : a + b - b ≡ a = omega arith in
     rw (suc-add a b, bit_at_cat_high w b u (a + b) h (omega arith), e, low_bits_append a b w u h) refl
 
--- only the lowest bits count
+-- higher bits are ignored
 pub low_bits_mod : (j w : ℕ) → low_bits j w ≡ low_bits j (w % 2 ^ j)
 low_bits_mod j w = ap (low_bits j) (sym (shr_split w j)) ∙ low_bits_cat (w / 2 ^ j) j (w % 2 ^ j) j (omega arith)
 

@@ -1,4 +1,4 @@
--- The steps of the decoder over the bits that wait.
+-- The steps of the decoder over the waiting bits.
 use Rattle.std.proofs.Common.{Bool, List, [], ap, append-nil, append_assoc, arith, drop, length, refl, subst, suc, sym, zero, ℕ, ◌%◌, ◌*◌, ◌++◌, ◌+◌, ◌-◌, ◌/◌, ◌<◌, ◌^◌, ◌∙◌, ◌∷◌, ◌≡◌, ◌≤◌}
 use Rattle.std.proofs.Math.Nat.{suc-add, zero-add}
 use Rattle.std.proofs.lemmas.List.{length-append}
@@ -53,7 +53,7 @@ pub reads_none : (text : List ℕ) → Reads text [] (bits_of text)
 unfolding text_code
 reads_none text = record { bytes = tt; so_far = refl; each = λ t h. (t, refl, h) }
 
--- the same after other bytes: some more were decoded and appended
+-- the same after other bytes: more bytes were decoded and appended
 pub reads_on_after : {front text old new : List ℕ} {was_ascii is_ascii : Bool} {bits left : List Bool} (more : List ℕ) → new ≡ old ++ more
     → ((out : List ℕ) → Reads text out bits → Reads text (out ++ more) left)
     → ((out : List ℕ) → TellsAscii was_ascii out → TellsAscii is_ascii (out ++ more))
@@ -102,7 +102,7 @@ reads_end text out bits n symbol d w enough t h =
 
 -- ---- the bits that are left
 
--- the word at the start of the waiting bits is decoded
+-- decoding the word at the start of the waiting bits
 pub reads_on : (text out : List ℕ) (held w bits symbol : ℕ) (behind : List Bool) → Reads text out (waiting_bits held w ++ behind)
     → IsWord (window_of 30 (waiting_bits held w ++ behind)) bits symbol → bits ≤ held → held ≤ 64 → IsClear held w → symbol < 256
     → Reads text (out ++ symbol ∷ []) (waiting_bits (held - bits) (w * 2 ^ bits % 18446744073709551616) ++ behind)
@@ -116,7 +116,7 @@ reads_on text out held w bits symbol behind d word enough most clear small =
     let P : List Bool → Type 0 = λ b. Reads text (out ++ symbol ∷ []) b in
     subst P (place ∙ ap (λ b. b ++ behind) moved) next
 
--- the same, where no bits come after them
+-- the same, where no bits follow them
 pub reads_last : (text out : List ℕ) (held w bits symbol : ℕ) → Reads text out (waiting_bits held w)
     → IsWord (window_of 30 (waiting_bits held w)) bits symbol → bits ≤ held → held ≤ 64 → IsClear held w → symbol < 256
     → Reads text (out ++ symbol ∷ []) (waiting_bits (held - bits) (w * 2 ^ bits % 18446744073709551616))

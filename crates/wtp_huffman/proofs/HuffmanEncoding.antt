@@ -1,4 +1,4 @@
--- The steps of the encoder over the bits that wait.
+-- The steps of the encoder over the waiting bits.
 use Rattle.std.specs.Prelude.{OnErr}
 use Rattle.std.proofs.Common.{Bool, Result, Ok, Err, List, [], drop, length-append, ap, append-nil, append_assoc, arith, get_or, length, refl, subst, suc, sym, take, ℕ, ◌%◌, ◌*◌, ◌++◌, ◌+◌, ◌-◌, ◌/◌, ◌<◌, ◌^◌, ◌∙◌, ◌∷◌, ◌≡◌, ◌≤◌}
 use Rattle.std.proofs.Math.Nat.{mul-le-mul_right, mul-div_cancel, mul-mod_left}
@@ -15,7 +15,7 @@ use Rattle.wtp_huffman.proofs.HuffmanTable.{word_facts}
 
 -- ---- bits after bits
 
--- what a shift leaves
+-- a left shift keeps the low bits
 shl_cut : (x b : ℕ) → b ≤ 64 → x * 2 ^ b % 18446744073709551616 ≡ (x % 2 ^ (64 - b)) * 2 ^ b
 shl_cut x b h =
     let all : (64 - b) + b ≡ 64 = omega arith in
@@ -26,7 +26,7 @@ joined_fits a b x n h small =
     let p : (x + 1) * 2 ^ b ≤ 2 ^ a * 2 ^ b = mul-le-mul_right (2 ^ b) (omega arith) in
     rw (pow-add 2 a b) (omega arith)
 
--- the sum of what is shifted and what is joined holds in 64 bits
+-- the shifted bits plus the added ones fit in 64 bits
 pub joined_below : (b x n : ℕ) → b ≤ 64 → n < 2 ^ b → x * 2 ^ b % 18446744073709551616 + n < 18446744073709551616
 joined_below b x n h small =
     let all : (64 - b) + b ≡ 64 = omega arith in
@@ -46,7 +46,7 @@ joined_whole a b x n h fits small = rw (shl_whole x a b 64 fits h) (joined_fits 
 
 -- ---- whole bytes out of the bits that wait
 
--- the first whole bytes of a number that was shifted up, and what is left of it
+-- the whole bytes of a left-aligned number, and the bits left over
 whole_bits : (count x : ℕ) → count ≤ 64 → take (8 * (count / 8)) (bits_of (to_be_bytes w64 (x * 2 ^ (64 - count) % 18446744073709551616))) ++ low_bits (count % 8) x ≡ low_bits count x
 whole_bits count x h =
     let k : ℕ = count / 8 in
@@ -99,7 +99,7 @@ coded_four (a ∷ b ∷ c ∷ d ∷ []) h =
     ap (λ z. code a ++ (code b ++ (code c ++ z))) (append-nil (code d)) ∙ sym (append_assoc (code a) (code b) (code c ++ code d))
 coded_four (a ∷ b ∷ c ∷ d ∷ e ∷ s) h = absurd (omega arith)
 
--- eight elements in two parts, and those after them
+-- eight elements in two parts, and the remainder
 pub eight_parts : (s four rest next behind : List ℕ) → four ≡ take 4 s → rest ≡ drop 4 s → next ≡ take 4 rest → behind ≡ drop 4 rest → s ≡ (four ++ next) ++ behind
 eight_parts s four rest next behind ef er en eb =
     let front : s ≡ four ++ rest = rw (ef, er) (sym (take-append-drop 4 s)) in
@@ -126,7 +126,7 @@ pub adds_joined : (more : List Bool) (out new : List ℕ) (count waiting many nu
     → GivesOut out many number new left rest → Adds 8 more out count waiting new left rest
 adds_joined more out new count waiting many number left rest e kept = record { same = kept.same ∙ ap (λ z. bits_of out ++ z) e; few = kept.few }
 
--- what was there and what came, in one
+-- the old bits and the added ones together
 together : (more behind : List Bool) (out : List ℕ) (count waiting : ℕ)
     → bits_of out ++ (low_bits count waiting ++ (more ++ behind)) ≡ (bits_of out ++ (low_bits count waiting ++ more)) ++ behind
 together more behind out count waiting =
@@ -152,7 +152,7 @@ pub coded_none : (i : ℕ) (s : List ℕ) → length s ≤ i → text_code (drop
 unfolding text_code
 coded_none i s h = ap text_code (drop_all i s h)
 
--- no word is left, and the waiting bits are appended
+-- no word is left: the waiting bits are appended
 pub ended : (text : List Bool) (rest : List Bool) (pad : List Bool) (old out new : List ℕ) (count waiting : ℕ) → bits_of old ++ text ≡ bits_of out ++ (low_bits count waiting ++ rest) → rest ≡ []
     → bits_of new ≡ bits_of out ++ (low_bits count waiting ++ pad) → bits_of new ≡ bits_of old ++ (text ++ pad)
 ended text rest pad old out new count waiting e none last =
@@ -163,7 +163,7 @@ pub IsBytes_from : (s : List ℕ) → ((i : ℕ) → get_or s i 0 < 256) → IsB
 IsBytes_from [] h = tt
 IsBytes_from (x ∷ s) h = (h 0, IsBytes_from s (λ i. h (suc i)))
 
--- the last bits, and ones up to a byte
+-- the last bits, padded with ones to a byte
 pub last_out : (out new : List ℕ) (count waiting room ones many number left rest : ℕ) → count < 64 → room ≡ (64 - count) % 8 → ones ≡ 2 ^ room - 1
     → low_bits many number ≡ low_bits count waiting ++ low_bits room ones → many ≡ count + room → left ≡ many % 8 → GivesOut out many number new left rest
     → (pad : List Bool) × IsPadding pad × (bits_of new ≡ bits_of out ++ (low_bits count waiting ++ pad))
@@ -179,7 +179,7 @@ pub none_out : (out : List ℕ) (count waiting : ℕ) → count ≡ 0 → (pad :
 unfolding low_bits
 none_out out count waiting none = ([], (omega arith, tt), sym (append-nil (bits_of out)) ∙ ap (λ n. bits_of out ++ (low_bits n waiting ++ [])) (sym none))
 
--- bytes whose bits begin with those of others begin with these
+-- bytes whose bits begin with the bits of others begin with those bytes
 pub appended : (text old out : List ℕ) (pad : List Bool) → IsBytes text → IsBytes old → IsBytes out → IsPadding pad → bits_of out ≡ bits_of old ++ (text_code text ++ pad) → AppendsHuffman text old out
 unfolding bits_of
 appended text [] out pad bytes are all p e = record { string = out; bytes = all; is_coded = (bytes, pad, p, e); appended = refl }
@@ -200,7 +200,7 @@ pub begins_on : (old out new : List ℕ) → BeginsWith old out → BeginsWith o
 begins_on old out new first second =
     record { more = first.more ++ second.more; is = second.is ∙ ap (λ z. z ++ second.more) first.is ∙ append_assoc old first.more second.more }
 
--- bytes are appended, and cut off again down to no fewer than there were
+-- bytes are appended, then truncated to at least the old length
 pub begins_cut : (old bytes : List ℕ) (n : ℕ) → length old ≤ n → BeginsWith old (take n (old ++ bytes))
 begins_cut old bytes n h =
     let all : n ≡ length old + (n - length old) = omega arith in

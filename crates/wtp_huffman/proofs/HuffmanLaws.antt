@@ -78,7 +78,7 @@ one_text bits (x ∷ t) u a b =
 
 -- ---- a text and its string
 
--- as many ones are the same ones
+-- two lists of ones with equal length are equal
 ones_same : (a b : List Bool) → AllOnes a → AllOnes b → length a ≡ length b → a ≡ b
 ones_same [] [] h k e = refl
 ones_same [] (y ∷ b) h k e = absurd (omega arith)
@@ -87,7 +87,7 @@ ones_same (x ∷ a) (y ∷ b) h k e =
     let rest : a ≡ b = ones_same a b h.1 k.1 (omega arith) in
     rw (h.0, k.0, rest) refl
 
--- bytes by their bits
+-- bytes are determined by their bits
 bits_same : (s u : List ℕ) → IsBytes s → IsBytes u → bits_of s ≡ bits_of u → s ≡ u
 unfolding bits_of
 bits_same [] [] h k e = refl
@@ -105,7 +105,7 @@ one_string s t u hs hu (bytes, pad, p, e) (_, more, q, k) =
     let same : pad ≡ more = ones_same pad more p.1 q.1 long in
     bits_same s u hs hu (e ∙ ap (λ z. text_code t ++ z) same ∙ sym k)
 
--- bits as bytes
+-- bits in multiples of eight are those of bytes
 bytes_of : (n : ℕ) (bits : List Bool) → length bits ≡ 8 * n → (s : List ℕ) × IsBytes s × (bits_of s ≡ bits)
 unfolding bits_of
 bytes_of zero [] e = ([], tt, refl)

@@ -1,4 +1,4 @@
--- The one or two short words that twelve bits begin with.
+-- The one or two short words within twelve bits.
 use Rattle.std.proofs.Common.{Bool, List, [], ap, append-nil, append_assoc, arith, cond, drop, inl, inr, length, nat_le, nat_lt, refl, subst, suc, sym, take, true, zero, ℕ, ◌&&◌, ◌%◌, ◌*◌, ◌++◌, ◌+◌, ◌-◌, ◌/◌, ◌<◌, ◌==◌, ◌^◌, ◌∙◌, ◌∷◌, ◌≡◌, ◌≤◌, ◌⊎◌}
 use Rattle.std.proofs.Math.Nat.{div-div-eq-div-mul, mul-div_cancel, mul-le-mul_right, zero-add}
 use Rattle.std.proofs.lemmas.Bool.{and_parts, eqb-true, leb-true, ltb-true}
@@ -19,7 +19,7 @@ use Rattle.wtp_huffman.proofs.HuffmanWindows.{moved_on, short_found}
 
 -- ---- the table, entry by entry
 
--- the eight bits after a word of l bits, as far as twelve bits have them, and zeros after these
+-- the eight bits after a word of l bits within twelve bits, filled with zeros
 abbrev pub after_word : ℕ → ℕ → ℕ
 after_word i l = i % 2 ^ (12 - l) * 2 ^ l / 16
 
@@ -83,7 +83,7 @@ same_word u v m bits symbol w few most same =
 
 -- ---- what an entry says
 
--- the second word within twelve bits, after one of l bits
+-- the second word within twelve bits, after a first one of l bits
 pub record Second (i l bits second : ℕ) : Type 0 where
   pub place : after_word i l < 254
   pub both : bits ≡ l + short_bits_at (after_word i l)
@@ -232,7 +232,7 @@ reads_pair text out bits i d e h long small small2 =
           rw two.0 (subst (λ b. Reads text (out ++ x ∷ y ∷ []) b) place (subst (λ o. Reads text o (drop (short_bits_at j) (drop l bits))) both after))
     ]
 
--- the first twelve of the bits that wait
+-- the first twelve waiting bits
 pub pair_window : (held w : ℕ) (behind : List Bool) → 12 ≤ held → held ≤ 64 → w < 2 ^ 64 → window_of 12 (waiting_bits held w ++ behind) ≡ w / 4503599627370496
 pair_window held w behind h most small =
     let v : ℕ = w / 2 ^ (64 - held) in
@@ -273,7 +273,7 @@ takes_pair old is_ascii held w i enough few short clear e small small2 ascii =
 pub takes_both : {a b c : List ℕ} {f g k : Bool} {held w held2 w2 left rest : ℕ} → Decodes a f held w b g held2 w2 → Decodes b g held2 w2 c k left rest → Decodes a f held w c k left rest
 takes_both one two = record { reads = λ front text behind d. two.reads front text behind (one.reads front text behind d); clear = two.clear; fewer = omega (arith, one.fewer, two.fewer) }
 
--- the same, where no bits come after those that wait
+-- the same, where no bits follow the waiting ones
 pub takes_last : {old new : List ℕ} {was_ascii is_ascii : Bool} {held w left rest : ℕ} (front text : List ℕ) → Decodes old was_ascii held w new is_ascii left rest
     → ReadsAfter front text old was_ascii (waiting_bits held w) → ReadsAfter front text new is_ascii (waiting_bits left rest)
 takes_last {old} {new} {was_ascii} {is_ascii} {held} {w} {left} {rest} front text step d =

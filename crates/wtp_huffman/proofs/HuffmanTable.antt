@@ -1,4 +1,4 @@
--- The tables of the code, and the code by its definition, row by row.
+-- The code's tables agree with its definition, row by row.
 use Rattle.std.proofs.Common.{Bool, List, [], arith, cond, inl, inr, nat_le, nat_lt, refl, suc, true, ℕ, ◌&&◌, ◌*◌, ◌+◌, ◌-◌, ◌/◌, ◌<◌, ◌==◌, ◌^◌, ◌∷◌, ◌≡◌, ◌≤◌}
 use Rattle.std.proofs.lemmas.Bool.{and_parts, cases_order, eqb-true, leb-true, ltb-true}
 use Rattle.std.proofs.lemmas.Nat.{div_below, le-div, pow_pos}
@@ -83,7 +83,7 @@ row_facts k h =
     let q = and_parts (nat_le (row_at k).bits 30) ((row_at k).limit == top_of k * 2 ^ room k) p.1 in
     record { least = leb-true 5 (row_at k).bits p.0; most = leb-true (row_at k).bits 30 q.0; ends = eqb-true (row_at k).limit (top_of k * 2 ^ room k) q.1 }
 
--- the symbol at rank r of row k
+-- facts about the symbol at rank r of row k
 pub record PlaceFacts (k r : ℕ) : Type 0 where
   pub bits : (word_of (symbol_at ((row_at k).skipped + r))).bits ≡ (row_at k).bits
   pub number : (word_of (symbol_at ((row_at k).skipped + r))).number ≡ (row_at k).first + r
@@ -105,7 +105,7 @@ place_facts k r h lt =
       symbol = ltb-true x 257 s.1;
     }
 
--- what a window in row k finds there
+-- facts about the word that a window in row k finds
 pub record Found (v k : ℕ) : Type 0 where
   pub rank : (row_at k).first ≤ v / 2 ^ room k
   pub facts : PlaceFacts k (v / 2 ^ room k - (row_at k).first)
@@ -121,7 +121,7 @@ found v k h =
     let p : PlaceFacts k (v / 2 ^ room k - (row_at k).first) = place_facts k (v / 2 ^ room k - (row_at k).first) h.below (omega arith) in
     record { rank = ge; facts = p; bits = p.bits; number = omega (arith, p.number) }
 
--- the row of a symbol
+-- facts about the row k of symbol x
 pub record SymbolFacts (x k : ℕ) : Type 0 where
   pub below : k < 21
   pub bits : (word_of x).bits ≡ (row_at k).bits
@@ -193,7 +193,7 @@ pub number_at : (x : ℕ) → x < 256 → (slice_index_or CODES x no_code).1 ≡
 unfolding number_ok
 number_at x h = eqb-true ((slice_index_or CODES x no_code).1) (word_of x).number (all_below_at number_ok 256 x numbers_ok h)
 
--- a word's bits and number
+-- facts about the word of x
 pub record WordFacts (x : ℕ) : Type 0 where
   pub least : 5 ≤ (word_of x).bits
   pub most : (word_of x).bits ≤ 30
@@ -206,7 +206,7 @@ word_facts x h =
     let f = row_facts there.0 s.below in
     record { least = omega (arith, f.least, s.bits); most = omega (arith, f.most, s.bits); fits = s.fits }
 
--- the window of ones begins with the word that ends a string
+-- the window of ones begins with the word of EOS
 pub end_word : IsWord 1073741823 30 256
 unfolding row_at symbol_at
 end_word = record { row = 20; in_row = record { below = omega arith; low = omega arith; high = omega arith }; bits_are = refl; symbol_is = refl; least = omega arith; most = omega arith; known = omega arith }

@@ -1,4 +1,4 @@
--- Windows: their rows, and what the code computes of the bits that wait.
+-- Windows: their rows, and how they are computed from the waiting bits.
 use Rattle.std.proofs.Common.{Bool, List, [], ap, append-nil, append_assoc, arith, drop, false, length, mod-eq_of_lt, mul_assoc, nat_le, nat_lt, ◌&&◌, ◌==◌, refl, subst, suc, sym, true, zero, ℕ, ◌%◌, ◌*◌, ◌++◌, ◌+◌, ◌-◌, ◌/◌, ◌<◌, ◌^◌, ◌∙◌, ◌∷◌, ◌≡◌, ◌≤◌}
 use Rattle.std.proofs.Math.Nat.{div-div-eq-div-mul, mod-add-div', mul-div_cancel, mul-le-mul_right, mul-mod_left, two-pow-succ}
 use Rattle.std.proofs.lemmas.Bool.{and_parts, eqb-true, leb-true, ltb-true}
@@ -112,7 +112,7 @@ window_full held w behind h =
     let r : List Bool = low_bits m (w % 2 ^ m) ++ behind in
     rw (cut, append_assoc (low_bits 30 x) (low_bits m (w % 2 ^ m)) behind, low_bits_mod 30 x) (sym (window_low_bits 30 (x % 2 ^ 30) r (mod_below x (2 ^ 30) (pow_pos 30))))
 
--- the highest bits of a number of 64 are few enough
+-- the highest bits of a 64-bit number, as a number
 pub top_below : (held w : ℕ) → held ≤ 64 → w < 2 ^ 64 → w / 2 ^ (64 - held) < 2 ^ held
 top_below held w h small =
     let whole : 2 ^ held * 2 ^ (64 - held) ≡ 2 ^ 64 = sym (pow-add 2 held (64 - held)) ∙ ap (λ n. 2 ^ n) (let e : held + (64 - held) ≡ 64 = omega arith in e) in
@@ -146,7 +146,7 @@ filled_window held w h small clear =
     let filled : window_of 30 (low_bits held v) + 1 ≡ (v + 1) * q = few_window held v (omega arith) (top_below held w (omega arith) small) in
     omega (arith, top, filled)
 
--- bits added after those that wait
+-- bits added after the waiting ones
 taken_in : (held b w n : ℕ) → held + b ≤ 64 → w < 2 ^ 64 → w % 2 ^ (64 - held) ≡ 0 → n < 2 ^ b
     → (w + n * 2 ^ (64 - (held + b)) < 2 ^ 64) × ((w + n * 2 ^ (64 - (held + b))) % 2 ^ (64 - (held + b)) ≡ 0)
     × (waiting_bits (held + b) (w + n * 2 ^ (64 - (held + b))) ≡ waiting_bits held w ++ low_bits b n)
@@ -171,7 +171,7 @@ taken_in held b w n h small clear fits =
       ap (λ z. low_bits (held + b) z) top ∙ low_bits_append held b v n fits,
     )
 
--- the same, as the code shifts them
+-- the same in the form that the code computes
 pub shifted_in : (held b m w n : ℕ) → held + b + m ≡ 64 → w < 2 ^ 64 → w % 2 ^ (64 - held) ≡ 0 → n < 2 ^ b
     → (w + n * 2 ^ m % 18446744073709551616 < 2 ^ 64) × ((w + n * 2 ^ m % 18446744073709551616) % 2 ^ (64 - (held + b)) ≡ 0)
     × (waiting_bits (held + b) (w + n * 2 ^ m % 18446744073709551616) ≡ waiting_bits held w ++ low_bits b n)
@@ -184,7 +184,7 @@ shifted_in held b m w n total small clear fits =
     ap (λ j. n * 2 ^ j) e ∙ sym (mod-eq_of_lt (let z : n * 2 ^ m < 18446744073709551616 = omega (arith, ap (λ j. n * 2 ^ j) e, taken.0) in z)) in
     subst P y taken
 
--- bits that were decoded go
+-- decoded bits are removed
 pub moved_on : (bits held w : ℕ) → bits ≤ held → held ≤ 64 → w % 2 ^ (64 - held) ≡ 0
     → (waiting_bits (held - bits) (w * 2 ^ bits % 18446744073709551616) ≡ low_bits (held - bits) (w / 2 ^ (64 - held)))
     × ((w * 2 ^ bits % 18446744073709551616) % 2 ^ (64 - (held - bits)) ≡ 0)

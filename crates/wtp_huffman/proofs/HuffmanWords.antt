@@ -1,4 +1,4 @@
--- What the row of a window says of the code word at the start of bits.
+-- The row of a window determines the code word at the start of bits.
 use Rattle.std.proofs.Common.{lit<, lit≤, Bool, List, [], ap, append_assoc, arith, drop, false, length, refl, subst, suc, sym, true, zero, ℕ, ◌*◌, ◌++◌, ◌+◌, ◌/◌, ◌<◌, ◌^◌, ◌∙◌, ◌∷◌, ◌≡◌, ◌≤◌}
 use Rattle.std.proofs.Math.Nat.{mul-le-mul_right, two-pow-succ}
 use Rattle.std.proofs.Math.Seq.{drop-append_seam}
@@ -18,7 +18,7 @@ window bits = window_of 30 bits
 window_parts : (l m : ℕ) (bits : List Bool) → l + m ≡ 30 → window bits ≡ window_of l bits * 2 ^ m + window_of m (drop l bits)
 window_parts l m bits e = ap (λ n. window_of n bits) (sym e) ∙ window_split l m bits
 
--- If enough bits are left, they begin with the word of the window's row.
+-- If enough bits are left, they begin with the word that the window's row determines.
 pub word_in_front : (bits : List Bool) (k : ℕ) → InRow (window bits) k → (row_at k).bits ≤ length bits
     → bits ≡ code (symbol_in (window bits) k) ++ drop (row_at k).bits bits
 unfolding code
@@ -31,7 +31,7 @@ word_in_front bits k h enough =
     let there = found (window bits) k h in
     rw (there.bits, there.number, number) (sym (low_bits_window l bits enough))
 
--- A word that bits begin with is that of the window's row.
+-- The word that bits begin with is the one that the window's row determines.
 pub only_word : (bits more : List Bool) (k y : ℕ) → InRow (window bits) k → y < 257 → bits ≡ code y ++ more
     → (y ≡ symbol_in (window bits) k) × ((word_of y).bits ≡ (row_at k).bits)
 unfolding code
@@ -62,7 +62,7 @@ pub length_code : (x : ℕ) → length (code x) ≡ (word_of x).bits
 unfolding code
 length_code x = low_bits_length (word_of x).bits (word_of x).number
 
--- Fewer bits than the row has begin with no word.
+-- Fewer bits than the row's length begin with no word.
 pub no_word : (bits more : List Bool) (k y : ℕ) → InRow (window bits) k → y < 257 → length bits < (row_at k).bits → bits ≡ code y ++ more → ⊥
 no_word bits more k y h small few e =
     let only = only_word bits more k y h small e in
@@ -83,7 +83,7 @@ last_bits : (row_at 20).bits ≡ 30
 unfolding row_at
 last_bits = refl
 
--- A window of ones is that of the longest words.
+-- A window of ones is in the row of the longest words.
 pub ones_row : (bits : List Bool) (k : ℕ) → InRow (window bits) k → AllOnes bits → (row_at k).bits ≡ 30
 ones_row bits k h ones =
     let e : window bits ≡ 1073741823 = omega (arith, window_of_ones 30 bits ones) in

@@ -1,4 +1,4 @@
--- Tests over all numbers below a bound.
+-- Deciding a statement for all numbers below a bound.
 use Rattle.std.proofs.Common.{Bool, arith, inl, inr, suc, true, zero, ℕ, ◌&&◌, ◌<◌, ◌≡◌}
 use Rattle.std.proofs.lemmas.Bool.{and_parts, cases_lt}
 

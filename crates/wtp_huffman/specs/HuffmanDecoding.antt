@@ -1,4 +1,4 @@
--- How far a Huffman text was decoded, and the windows by which its words are found.
+-- The state of decoding a Huffman-encoded text, and the windows that look up its words.
 use Rattle.std.specs.Prelude.{◌≡◌, ℕ, zero, suc, ◌+◌, ◌-◌, ◌*◌, ◌/◌, ◌%◌, ◌^◌, ◌<◌, ◌≤◌}
 use Rattle.std.specs.Prelude.{Bool, cond, List, [], ◌∷◌, ◌++◌}
 use Rattle.std.specs.Bool.{MatchBool}
@@ -6,19 +6,19 @@ use Rattle.std.specs.Str.{IsAscii, IsNotAscii}
 use Rattle.wtp_huffman.specs.Huffman.{bits_of, low_bits, text_code, IsBytes, IsCoded, IsHuffman}
 use Rattle.wtp_huffman.specs.HuffmanRows.{row_at, symbol_at}
 
--- whether a text is ASCII
+-- the flag is whether the text is ASCII
 abbrev pub TellsAscii : Bool → List ℕ → Type 0
 TellsAscii is_ascii t = MatchBool is_ascii (IsAscii t) (IsNotAscii t)
 
 -- ---- windows
 
--- the first n bits as a number, filled with ones past the end
+-- the first n bits as a number, with ones for bits past the end
 unfoldable pub window_of : ℕ → List Bool → ℕ
 window_of zero bits = 0
 window_of (suc n) [] = 2 ^ n + window_of n []
 window_of (suc n) (b ∷ bits) = cond b (2 ^ n) 0 + window_of n bits
 
--- how many of a window's 30 bits come after a word of row k
+-- how many of a window's 30 bits follow a word of row k
 abbrev pub room : ℕ → ℕ
 room k = 30 - (row_at k).bits
 
@@ -28,11 +28,11 @@ pub record InRow (window k : ℕ) : Type 0 where
   pub low : (row_at k).first * 2 ^ room k ≤ window
   pub high : window < (row_at k).limit
 
--- the symbol whose word a window in row k begins with
+-- the symbol of the word that a window in row k begins with
 abbrev pub symbol_in : ℕ → ℕ → ℕ
 symbol_in window k = symbol_at ((row_at k).skipped + (window / 2 ^ room k - (row_at k).first))
 
--- the number of bits of the word that a window begins with, and its symbol
+-- the window begins with the word of this symbol, which has this many bits
 pub record IsWord (window bits symbol : ℕ) : Type 0 where
   pub row : ℕ
   pub in_row : InRow window row
@@ -44,32 +44,32 @@ pub record IsWord (window bits symbol : ℕ) : Type 0 where
 
 -- ---- steps
 
--- The text begins with the code words of out, and each text with this code begins with out: the
--- code of the remainder is these bits.
+-- The encoded text begins with the code words of out, and `bits` are its remainder. Each text with
+-- this encoding begins with out, and the remainder of that text has the code `bits`.
 pub record Reads (text out : List ℕ) (bits : List Bool) : Type 0 where
   pub bytes : IsBytes out
   pub so_far : bits_of text ≡ text_code out ++ bits
   pub each : (t : List ℕ) → IsHuffman t text
       → (u : List ℕ) × (t ≡ out ++ u) × IsCoded u bits
 
--- the bits that wait to be decoded: the highest of 64
+-- the bits waiting to be decoded: the highest `held` bits of a 64-bit number
 abbrev pub waiting_bits : ℕ → ℕ → List Bool
 waiting_bits held waiting = low_bits held (waiting / 2 ^ (64 - held))
 
--- zeros come after them
+-- the bits after the waiting ones are zero
 abbrev pub IsClear : ℕ → ℕ → Type 0
 IsClear held waiting = waiting % 2 ^ (64 - held) ≡ 0
 
--- out is front, followed by the bytes that were decoded so far from this Huffman text; the flag
--- tells whether they are ASCII
+-- out is front, followed by the bytes decoded so far from this encoded text; the flag is whether
+-- these are ASCII
 pub record ReadsAfter (front text out : List ℕ) (is_ascii : Bool) (bits : List Bool) : Type 0 where
   pub decoded : List ℕ
   pub appended : out ≡ front ++ decoded
   pub reads : Reads text decoded bits
   pub ascii : TellsAscii is_ascii decoded
 
--- Some of the waiting bits were decoded to the bytes that were appended, whatever bits come after
--- those that wait. The flags tell whether the text before and after is ASCII.
+-- Some of the waiting bits were decoded to the bytes appended, whatever bits follow the waiting
+-- ones. The flags are whether the decoded text before and after is ASCII.
 pub record Decodes (old : List ℕ) (was_ascii : Bool) (held waiting : ℕ)
     (new : List ℕ) (is_ascii : Bool) (left rest : ℕ) : Type 0 where
   pub reads : (front text : List ℕ) (behind : List Bool)
@@ -78,13 +78,13 @@ pub record Decodes (old : List ℕ) (was_ascii : Bool) (held waiting : ℕ)
   pub clear : IsClear left rest
   pub fewer : left < held
 
--- these bits wait, at some place within the code of a text
+-- these waiting bits follow whole code words within the encoding of some text
 abbrev pub IsCodedOn : ℕ → ℕ → Type 0
 IsCodedOn held waiting =
     (s : List ℕ) × (out : List ℕ) × (t : List ℕ) × (behind : List Bool)
     × Reads s out (waiting_bits held waiting ++ behind) × IsHuffman t s
 
--- new is old, followed by the text that these bytes encode; the flag tells whether it is ASCII
+-- new is old, followed by the text that these bytes encode; the flag is whether that text is ASCII
 pub record AppendsDecoded (bytes old : List ℕ) (is_ascii : Bool) (new : List ℕ) : Type 0 where
   pub text : List ℕ
   pub is_coded : IsHuffman text bytes

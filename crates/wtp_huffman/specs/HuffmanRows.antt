@@ -1,14 +1,15 @@
--- The table of the Huffman code of header text (RFC 7541, Appendix B), by the lengths of its words.
+-- The table of the Huffman code for header strings (RFC 7541, Appendix B), ordered by word length.
 use Rattle.std.specs.Prelude.{ℕ, List, [], ◌∷◌, slice_index, slice_index_or}
 use Rattle.wtp_huffman.specs.declared.huffman.rows.Row.{Row}
 use Rattle.wtp_huffman.specs.declared.huffman.rows.TheConstants.{ROWS, SYMBOLS}
 
--- A length in bits, and the symbols whose words have it, in rising order. A symbol below 256 is a
--- byte; 256 is the end of the string.
+-- A word length in bits, and the symbols whose words have it, in increasing order. A symbol below
+-- 256 is a byte; 256 is EOS.
 pub record TableRow : Type 0 where
   pub bits : ℕ
   pub symbols : List ℕ
 
+-- the table of Appendix B
 unfoldable pub rows : List TableRow
 rows =
     record { bits = 5; symbols = 48 ∷ 49 ∷ 50 ∷ 97 ∷ 99 ∷ 101 ∷ 105 ∷ 111 ∷ 115 ∷ 116 ∷ [] }
@@ -79,11 +80,14 @@ rows =
 
 -- ---- the same table as constants: a row, and the symbols in the order of their words
 
+-- the row returned past the end
 abbrev pub no_row : Row
 no_row = record { bits = 0; first = 0; skipped = 0; limit = 0 }
 
+-- row k of the constants
 unfoldable pub row_at : ℕ → Row
 row_at k = slice_index_or ROWS k no_row
 
+-- symbol i in the order of the words
 unfoldable pub symbol_at : ℕ → ℕ
 symbol_at i = slice_index SYMBOLS i

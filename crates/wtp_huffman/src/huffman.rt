@@ -1,8 +1,8 @@
-//! The Huffman code of header text (RFC 7541, section 5.2 and Appendix B).
+//! The Huffman code for header strings (RFC 7541, section 5.2 and Appendix B).
 //!
-//! A Huffman text is the code words of the text's bytes, joined, and ones up to a whole byte.
-//! [`decode`] refuses everything else: other padding, eight or more bits of padding, and the word
-//! of the end of the string.
+//! An encoded text is the concatenation of the code words of its bytes, padded with ones to a whole
+//! byte. [`decode`] rejects everything else: other padding, eight or more bits of padding, and the
+//! code word of EOS, the end of the string.
 ghost use Rattle.std.specs.Prelude.{◌≡◌};
 ghost use Rattle.wtp_huffman.specs.declared.huffman.HuffmanError.TheVariants.{Memory};
 
@@ -18,10 +18,10 @@ mod short;
 pub use decoding::{append_decoded, decode, decode_into};
 pub use encoding::{append, encode, encoded_len};
 
-/// The reason a text was not decoded.
+/// The reason why a text was not decoded.
 #[derive(Clone, Copy, Debug, PartialEq, Eq, thiserror::Error)]
 pub enum HuffmanError {
-    /// The bytes are not code words followed by fewer than eight ones.
+    /// The bytes are not code words followed by fewer than eight one bits.
     #[error("invalid Huffman text")]
     Invalid,
     /// Memory allocation failed.

@@ -3,7 +3,7 @@ ghost use Rattle.std.specs.Prelude.{◌≡◌, ◌<◌, ◌≤◌, ◌^◌};
 ghost use Rattle.wtp_huffman.specs.Huffman.{word_of};
 ghost use Rattle.wtp_huffman.specs.declared.huffman.rows.TheConstants.{LONGEST};
 
-/// A code word: how many bits it has, and their number.
+/// A code word: its length in bits, and the bits as a number.
 #[derive(Clone, Copy)]
 pub struct Code {
     pub bits: u32,
@@ -21,7 +21,7 @@ pub fn code_of(byte: u8) -> Code
     Code { bits, number }
 }
 
-/// The bits and the number of each byte's word.
+/// The length and the bits of the code word of each byte.
 pub static CODES: [(u32, u32); 256] = [
     (13, 0x1ff8),
     (23, 0x7fffd8),

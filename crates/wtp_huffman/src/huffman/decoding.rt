@@ -1,4 +1,4 @@
-//! Decoding: from code words to a text.
+//! Decoding of Huffman-encoded text.
 ghost use Rattle.std.specs.Prelude.{◌≡◌, ℕ, Bool, ◌+◌, ◌-◌, ◌*◌, ◌<◌, ◌≤◌, ◌^◌, List, [], ◌∷◌};
 ghost use Rattle.std.specs.Prelude.{◌++◌, length, take, IfOk, OnOk, OnErr, MatchResult, IsOk};
 ghost use Rattle.std.specs.Prelude.{IfErr, IsOkAnd, IsTrue, ◌↔◌, Err};
@@ -17,41 +17,41 @@ use super::short::{LONGEST_SHORT, SHORT_LIMIT, short_entry};
 use std::alloc::Global;
 use std::mem::replace;
 
-/// The symbol that ends a string (EOS in RFC 7541), which no text contains.
+/// The symbol EOS (RFC 7541, section 5.2), which no text contains.
 const END: u16 = 256;
 
-/// The number of bits after a window, of 64.
+/// The number of bits after a window in a 64-bit number.
 const AFTER_WINDOW: u32 = u64::BITS - WINDOW;
 
-/// The number of bits after those by which one or two short words are looked up, of 64.
+/// The number of bits after the ones that look up one or two short words, in a 64-bit number.
 const AFTER_PAIR: u32 = u64::BITS - PAIR_BITS;
 
-/// The number of bits after four bytes, of 64.
+/// The number of bits after four bytes in a 64-bit number.
 const AFTER_FOUR: u32 = u64::BITS - u32::BITS;
 
-/// The number of bits after a byte, of 64.
+/// The number of bits after a byte in a 64-bit number.
 const AFTER_BYTE: u32 = u64::BITS - u8::BITS;
 
-/// The number of bits of a window after its first eight, by which a short word is looked up.
+/// The number of bits of a window after the first eight, which look up a short word.
 const AFTER_SHORT: u32 = WINDOW - LONGEST_SHORT;
 
-/// Waiting bits below this begin with a short word.
+/// Waiting bits below this number begin with a short word.
 const SHORT_END: u64 = (SHORT_LIMIT as u64) << AFTER_WINDOW;
 
-/// The window of ones only: padding, or the word of the end of a string.
+/// The window of ones only: padding, or the word of EOS.
 const ONES: u32 = (1 << WINDOW) - 1;
 
-/// A symbol, and the number of bits of its word.
+/// A symbol, and the length of its word in bits.
 #[derive(Clone, Copy)]
 struct Found {
     bits: u32,
     symbol: u16,
 }
 
-/// Decodes a Huffman text.
+/// Decodes a Huffman-encoded text.
 ///
-/// Its bytes are code words, followed by fewer than eight ones (RFC 7541, section 5.2). Allocates
-/// once, a byte for every five bits, because no word is shorter.
+/// The bytes must be code words followed by fewer than eight one bits (RFC 7541, section 5.2).
+/// Allocates once: one byte for every five bits, because no word is shorter.
 ///
 /// Returns [`HuffmanError::Invalid`] for other bytes, and [`HuffmanError::Memory`] if allocation
 /// fails. An empty text allocates nothing and never fails.
@@ -66,7 +66,7 @@ pub fn decode(alloc: Global, text: &[u8]) -> Result<Vec<u8>, HuffmanError>
     Ok(out)
 }
 
-/// Returns the greatest number of bytes that a Huffman text may have: one for every five bits.
+/// Returns an upper bound of the decoded length in bytes: one byte for every five bits.
 fn most_bytes(text: &[u8]) -> usize
     ensures enough { 8 * length text.now < SHORTEST * result + SHORTEST }
     ensures none { length text.now ≡ 0 → result ≡ 0 }
@@ -74,21 +74,21 @@ fn most_bytes(text: &[u8]) -> usize
     text.len() / SHORTEST * 8 + text.len() % SHORTEST * 8 / SHORTEST
 }
 
-/// Replaces the contents of `out` by the decoded text, and returns whether the text is ASCII. Few
-/// bytes are tested for that, because every short word is that of an ASCII byte. If `out` has too
-/// little room, it allocates once, twice the length of the code: that is more than enough, and
-/// quickly computed.
+/// Replaces the contents of `out` with the decoded text, and returns whether the text is ASCII. Few
+/// bytes are tested for that, because every short word stands for an ASCII byte. If the capacity of
+/// `out` is less than twice the length of the encoded text, allocates once, twice that length: more
+/// than enough, and quickly computed.
 ///
 /// Returns [`HuffmanError::Invalid`] if the bytes are not code words followed by fewer than eight
-/// ones (RFC 7541, section 5.2), and [`HuffmanError::Memory`] if it allocates and that fails. `out`
-/// is then empty. An empty text never fails.
+/// one bits (RFC 7541, section 5.2), and [`HuffmanError::Memory`] if an allocation fails. After an
+/// error, `out` is empty. An empty text never fails.
 pub fn decode_into(out: &mut Vec<u8>, text: &[u8]) -> Result<bool, HuffmanError>
     ensures found { OnOk result (IsHuffman out.new.items text.now) }
     ensures only { (t : List ℕ) → IsHuffman t text.now
         → MatchResult result (λ _. out.new.items ≡ t) (λ e. e ≡ Memory) }
     ensures ascii { IfOk result (λ is_ascii. TellsAscii is_ascii out.new.items) }
     ensures err { OnErr result (out.new.items ≡ []) }
-    // With room for twice the length of the code it allocates nothing.
+    // With room for twice the length of the encoded text, nothing is allocated.
     ensures room { 2 * length text.now ≤ vec_capacity out.old
         → vec_capacity out.new ≡ vec_capacity out.old }
     ensures memory { result ≡ Err Memory → vec_capacity out.old < 2 * length text.now }
@@ -99,12 +99,12 @@ pub fn decode_into(out: &mut Vec<u8>, text: &[u8]) -> Result<bool, HuffmanError>
     append_decoded(out, text)
 }
 
-/// Appends the decoded text, and returns whether the text is ASCII, as [`decode_into`] does. If
-/// `out` has less room than twice the length of the code, it allocates once.
+/// Appends the decoded text to `out`, and returns whether the text is ASCII. If `out` has room for
+/// less than twice the length of the encoded text, allocates once.
 ///
 /// Returns [`HuffmanError::Invalid`] if the bytes are not code words followed by fewer than eight
-/// ones (RFC 7541, section 5.2), and [`HuffmanError::Memory`] if it allocates and that fails. The
-/// contents of `out` are then unchanged. An empty text never fails.
+/// one bits (RFC 7541, section 5.2), and [`HuffmanError::Memory`] if an allocation fails. After an
+/// error, the contents of `out` are unchanged. An empty text never fails.
 pub fn append_decoded(out: &mut Vec<u8>, text: &[u8]) -> Result<bool, HuffmanError>
     ensures found { IfOk result (λ is_ascii.
         AppendsDecoded text.now out.old.items is_ascii out.new.items) }
@@ -113,7 +113,7 @@ pub fn append_decoded(out: &mut Vec<u8>, text: &[u8]) -> Result<bool, HuffmanErr
     ensures err { OnErr result (out.new.items ≡ out.old.items) }
     ensures size { OnOk result (SHORTEST * vec_len out.new
         ≤ SHORTEST * vec_len out.old + 8 * length text.now) }
-    // With room for twice the length of the code it allocates nothing.
+    // With room for twice the length of the encoded text, nothing is allocated.
     ensures room { vec_len out.old + 2 * length text.now ≤ vec_capacity out.old
         → vec_capacity out.new ≡ vec_capacity out.old }
     ensures memory { result ≡ Err Memory
@@ -136,10 +136,12 @@ pub fn append_decoded(out: &mut Vec<u8>, text: &[u8]) -> Result<bool, HuffmanErr
     is_ascii
 }
 
-/// Appends the decoded text to a vector that has room for a byte for every five bits. Returns
-/// whether the text is ASCII. On an error `out` still begins with what it contained before.
+/// Appends the decoded text to a vector that has room for one byte for every five bits. Returns
+/// whether the text is ASCII, or `Invalid`. After an error, `out` still begins with its old
+/// contents.
 ///
-/// The vector is a variable of the caller, so that the compiler keeps its length in a register.
+/// The vector is a local variable of the caller, so that the compiler keeps its length in a
+/// register.
 #[inline(always)]
 fn decode_to(out: &mut Vec<u8>, text: &[u8]) -> Result<bool, HuffmanError>
     requires room { SHORTEST * vec_len out.old + 8 * length text.now
@@ -185,8 +187,9 @@ fn decode_to(out: &mut Vec<u8>, text: &[u8]) -> Result<bool, HuffmanError>
     }
 }
 
-/// Decodes one word or a few at the start of the waiting bits, and returns what still waits. There
-/// is room for a byte for every five of the bits.
+/// Decodes one or more words at the start of the waiting bits. Returns the bits still waiting,
+/// their number, and whether the text so far is ASCII. `out` must have room for one byte for every
+/// five waiting bits.
 #[inline(always)]
 fn take_words(
     out: &mut Vec<u8>,
@@ -218,7 +221,7 @@ fn take_words(
     Ok((waiting, held, is_ascii))
 }
 
-/// Decodes the word at the start of the waiting bits.
+/// Decodes the word at the start of the waiting bits. Returns the same as `take_words`.
 #[inline(always)]
 fn take_word(
     out: &mut Vec<u8>,
@@ -258,7 +261,8 @@ fn push_any(out: &mut Vec<u8>, byte: u8, is_ascii: bool) -> bool
     is_ascii && byte < 128
 }
 
-/// Decodes the one or two short words within the first twelve waiting bits, to ASCII bytes.
+/// Decodes the one or two short words within the first twelve waiting bits to ASCII bytes. Returns
+/// the bits still waiting and their number.
 #[inline(always)]
 fn take_short(out: &mut Vec<u8>, waiting: u64, held: u32) -> (u64, u32)
     requires enough { PAIR_BITS ≤ held }
@@ -277,8 +281,8 @@ fn take_short(out: &mut Vec<u8>, waiting: u64, held: u32) -> (u64, u32)
     (waiting << bits, held - u32::from(bits))
 }
 
-/// Appends two bytes without the last `spare`. The new length is computed by `saturating_sub`,
-/// because the compiler then needs no branch on the count.
+/// Appends the first `2 - spare` of two bytes. The new length is computed with `saturating_sub`,
+/// which compiles without a branch on the count.
 #[inline(always)]
 fn push_some(out: &mut Vec<u8>, first: u8, second: u8, spare: usize)
     requires few { spare ≤ 2 }
@@ -292,8 +296,8 @@ fn push_some(out: &mut Vec<u8>, first: u8, second: u8, spare: usize)
     out.truncate(out.len().saturating_sub(spare));
 }
 
-/// Takes bytes from the start of `rest` until a window waits or no byte is left. The highest `held`
-/// bits of `waiting` wait, and the others are zeros.
+/// Takes bytes from the start of `rest` until at least one window of bits is waiting or no byte is
+/// left. The waiting bits are the highest `held` bits of `waiting`; the other bits are zero.
 fn refill(mut rest: &[u8], mut waiting: u64, mut held: u32) -> (&[u8], u64, u32)
     requires few { held < 64 }
     requires clear { IsClear held waiting }
@@ -324,14 +328,14 @@ fn refill(mut rest: &[u8], mut waiting: u64, mut held: u32) -> (&[u8], u64, u32)
     (rest, waiting, held)
 }
 
-/// Returns the number of four bytes, the first of which is the highest.
+/// Returns the big-endian value of four bytes.
 fn number_of(four: &[u8; 4]) -> u32
     ensures { bits_of four.now ≡ low_bits 32 result }
 {
     u32::from_be_bytes(*four)
 }
 
-/// Returns the window of the last waiting bits, with ones after them.
+/// Returns the window of the last waiting bits, filled with ones.
 fn last_window(waiting: u64, held: u32) -> u32
     requires few { held < WINDOW }
     requires clear { IsClear held waiting }
@@ -341,7 +345,7 @@ fn last_window(waiting: u64, held: u32) -> u32
     (waiting >> AFTER_WINDOW) as u32 + ((1 << (WINDOW - held)) - 1)
 }
 
-/// Returns the byte of a word. The word of the end of a string is invalid.
+/// Returns the byte of a word, or `Invalid` for the word of EOS.
 fn byte_of(word: Found) -> Result<u8, HuffmanError>
     requires { word.symbol < 257 }
     ensures { MatchResult result
@@ -354,7 +358,7 @@ fn byte_of(word: Found) -> Result<u8, HuffmanError>
     Ok(word.symbol as u8)
 }
 
-/// Returns whether the bits that are left, fewer than a window, are padding.
+/// Returns whether the last bits, fewer than a window, are valid padding.
 fn is_padding(window: u32, held: u32) -> bool
     ensures { IsTrue result ↔ ((held < 8) × (window ≡ ONES)) }
 {
@@ -401,7 +405,7 @@ fn short_word(window: u32) -> Found
     }
 }
 
-/// Returns the row of a window: the first whose limit is above it.
+/// Returns the row of a window: the first one whose limit is above it.
 fn any_row(window: u32) -> usize
     requires { window < 2 ^ WINDOW }
     ensures { InRow window result }

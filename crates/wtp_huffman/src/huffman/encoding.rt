@@ -1,4 +1,4 @@
-//! Encoding: from a text to code words.
+//! Huffman encoding of text.
 ghost use Rattle.std.specs.Prelude.{◌≡◌, ℕ, ◌*◌, ◌+◌, ◌%◌, ◌<◌, ◌≤◌, ◌^◌, ◌++◌, Bool, List, length};
 ghost use Rattle.std.specs.Prelude.{IfOk, OnOk, OnErr, IsOk, MatchOption, SomeIff};
 ghost use Rattle.std.specs.Vec.{vec_len, vec_capacity};
@@ -11,25 +11,25 @@ ghost use Rattle.wtp_huffman.specs.HuffmanEncoding.{GivesOut};
 use super::codes::code_of;
 use std::alloc::{AllocError, Global};
 
-/// The number of bytes of a text that are counted at a time: a `u64` can count the bits of their
-/// words.
+/// The number of bytes whose code lengths are summed at a time, small enough that the sum fits in a
+/// `u64`.
 const PART: usize = 1 << 32;
 
-/// The greatest number of bits that can be joined to up to seven waiting ones: together fewer than
+/// The maximum number of bits that can be added to up to seven waiting ones: together fewer than
 /// 64.
 const MOST: u32 = u64::BITS - u8::BITS;
 
-/// This many bits: the lowest of a number. Its higher bits are ignored.
+/// The lowest `count` bits of a number. Its higher bits are ignored.
 #[derive(Clone, Copy)]
 struct Bits {
     count: u32,
     number: u64,
 }
 
-/// Encodes a text: its code words, followed by ones up to a whole byte (RFC 7541, section 5.2).
+/// Encodes a text: its code words, padded with ones to a whole byte (RFC 7541, section 5.2).
 ///
-/// Allocates once, eight bytes more than the text has, and again only for a text whose code is
-/// longer.
+/// Allocates once, eight bytes more than the length of the text, and again only if the encoded text
+/// is longer.
 ///
 /// Returns [`AllocError`] if allocation fails. An empty text allocates nothing and never fails.
 pub fn encode(alloc: Global, text: &[u8]) -> Result<Vec<u8>, AllocError>
@@ -41,8 +41,8 @@ pub fn encode(alloc: Global, text: &[u8]) -> Result<Vec<u8>, AllocError>
     Ok(out)
 }
 
-/// Returns the initial capacity for a text: eight bytes more than it has, because eight are written
-/// at a time.
+/// Returns the initial capacity for a text: eight bytes more than its length, because eight bytes
+/// are written at a time.
 fn room_for(text: &[u8]) -> usize
     ensures none { length text.now ≡ 0 → result ≡ 0 }
     ensures some { 0 < length text.now → result ≡ length text.now + 8 }
@@ -50,11 +50,11 @@ fn room_for(text: &[u8]) -> usize
     if text.is_empty() { 0 } else { text.len() + 8 }
 }
 
-/// Appends the code words of a text, followed by ones up to a whole byte (RFC 7541, section 5.2).
+/// Appends the code words of a text, padded with ones to a whole byte (RFC 7541, section 5.2).
 ///
-/// Returns [`AllocError`] if allocation fails, and only where `out` has less room than eight bytes
-/// more than the code. `out` then still begins with the bytes that it contained before, and may
-/// contain the code of part of the text after them. An empty text never fails.
+/// Returns [`AllocError`] if allocation fails. This cannot happen if `out` has room for the encoded
+/// text and eight more bytes. After an error, `out` still begins with its old contents, and may
+/// contain part of the encoded text after them. An empty text never fails.
 pub fn append(out: &mut Vec<u8>, text: &[u8]) -> Result<(), AllocError>
     ensures coded { OnOk result (AppendsHuffman text.now out.old.items out.new.items) }
     ensures front { BeginsWith out.old.items out.new.items }
@@ -81,12 +81,12 @@ pub fn append(out: &mut Vec<u8>, text: &[u8]) -> Result<(), AllocError>
     Ok(())
 }
 
-/// The fact that bytes are below 256.
+/// Ghost fact: every byte is below 256.
 fn are_bytes(bytes: &[u8])
     ensures { IsBytes bytes.now }
 {}
 
-/// Returns the number of bytes of a text's code, or `None` exactly if it exceeds `usize`.
+/// Returns the length of the encoded text in bytes, or `None` exactly if it exceeds `usize::MAX`.
 pub fn encoded_len(text: &[u8]) -> Option<usize>
     ensures value { SomeIff result (coded_len text.now < 2 ^ 64) (coded_len text.now) }
     ensures length { (s : List ℕ) → IsHuffman text.now s → length s ≡ coded_len text.now }
@@ -108,7 +108,7 @@ pub fn encoded_len(text: &[u8]) -> Option<usize>
     }
 }
 
-/// Returns the number of bits of a text's code words.
+/// Returns the total length of a text's code words in bits.
 fn word_bits(text: &[u8]) -> u64
     requires { length text.now ≤ PART }
     ensures value { result ≡ length (text_code text.now) }
@@ -121,7 +121,7 @@ fn word_bits(text: &[u8]) -> u64
     bits
 }
 
-/// Returns the word of a byte.
+/// Returns the code word of a byte.
 #[inline(always)]
 fn word(byte: u8) -> Bits
     ensures bits { low_bits result.count result.number ≡ code byte }
@@ -136,7 +136,8 @@ fn word(byte: u8) -> Bits
     }
 }
 
-/// Returns the words of four bytes, joined. They are meaningful only if they have at most 64 bits.
+/// Returns the concatenated code words of four bytes. The bits are meaningful only if there are at
+/// most 64.
 #[inline(always)]
 fn words_of(four: &[u8; 4]) -> Bits
     ensures words { result.count ≤ 64 → IsNumberOf (text_code four.now) result.count result.number }
@@ -147,7 +148,7 @@ fn words_of(four: &[u8; 4]) -> Bits
     join(join(word(a), word(b)), join(word(c), word(d)))
 }
 
-/// Returns bits, and others after them. They are meaningful only if they are at most 64.
+/// Appends `back` to `front`. The bits are meaningful only if there are at most 64.
 #[inline(always)]
 fn join(front: Bits, back: Bits) -> Bits
     requires few { front.count < 64 }
@@ -165,8 +166,8 @@ fn join(front: Bits, back: Bits) -> Bits
     }
 }
 
-/// Returns the first four bytes, the next four, and those after them; `None` if there are fewer
-/// than eight.
+/// Returns the first four bytes, the next four, and the remainder; `None` if there are fewer than
+/// eight bytes.
 #[inline(always)]
 fn split_eight(text: &[u8]) -> Option<(&[u8; 4], &[u8; 4], &[u8])>
     ensures { MatchOption result (length text.now < 8) (λ p.
@@ -178,7 +179,7 @@ fn split_eight(text: &[u8]) -> Option<(&[u8; 4], &[u8; 4], &[u8])>
     Some((four, next, others))
 }
 
-/// Appends the words of eight bytes, and returns what still waits.
+/// Appends the code words of eight bytes, and returns the bits still waiting.
 #[inline(always)]
 fn add_eight(
     out: &mut Vec<u8>,
@@ -204,7 +205,7 @@ fn add_eight(
     add_four(out, waiting, next, back)
 }
 
-/// Appends the words of four bytes, and returns what still waits.
+/// Appends the code words of four bytes, and returns the bits still waiting.
 #[inline(always)]
 fn add_four(
     out: &mut Vec<u8>,
@@ -229,7 +230,7 @@ fn add_four(
     add_each(out, waiting, four)
 }
 
-/// The same, word by word.
+/// Does the same as `add_four`, word by word.
 #[cold]
 #[inline(never)]
 fn add_each(out: &mut Vec<u8>, waiting: Bits, four: &[u8; 4]) -> Result<Bits, AllocError>
@@ -249,8 +250,8 @@ fn add_each(out: &mut Vec<u8>, waiting: Bits, four: &[u8; 4]) -> Result<Bits, Al
     Ok(waiting)
 }
 
-/// Joins the word of a byte to the waiting bits. If there is too little room for it, the whole
-/// bytes are appended first.
+/// Adds the code word of a byte to the waiting bits. If they cannot hold it, appends their whole
+/// bytes to `out` first.
 #[inline(always)]
 fn add_word(out: &mut Vec<u8>, waiting: Bits, byte: u8) -> Result<Bits, AllocError>
     requires few { waiting.count < 64 }
@@ -269,8 +270,8 @@ fn add_word(out: &mut Vec<u8>, waiting: Bits, byte: u8) -> Result<Bits, AllocErr
     Ok(join(waiting, word))
 }
 
-/// Appends the whole bytes of the waiting bits, and returns what still waits. Eight bytes are
-/// always written, and those that are not whole are cut off.
+/// Appends the whole bytes of the waiting bits, and returns the bits still waiting. Always writes
+/// eight bytes, and then truncates those that are not whole.
 #[inline(always)]
 fn give_whole(out: &mut Vec<u8>, waiting: Bits) -> Result<Bits, AllocError>
     requires some { 0 < waiting.count }
@@ -292,7 +293,7 @@ fn give_whole(out: &mut Vec<u8>, waiting: Bits) -> Result<Bits, AllocError>
     })
 }
 
-/// Appends all waiting bits, and ones up to a whole byte.
+/// Appends all waiting bits, padded with ones to a whole byte.
 #[inline(always)]
 fn give_last(out: &mut Vec<u8>, waiting: Bits) -> Result<(), AllocError>
     requires few { waiting.count < 64 }

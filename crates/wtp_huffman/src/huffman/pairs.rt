@@ -1,20 +1,20 @@
-//! The one or two short words within a window's first twelve bits. `tools/huffman-tables` makes the
-//! numbers of the table.
+//! The one or two short words within the first twelve bits of a window. `tools/huffman-tables`
+//! generates the table.
 ghost use Rattle.std.specs.Prelude.{◌≡◌, ◌-◌, ◌<◌};
 ghost use Rattle.wtp_huffman.specs.HuffmanPairs.{pair_bits_at, pair_count_at, pair_first_at};
 ghost use Rattle.wtp_huffman.specs.HuffmanPairs.{pair_second_at};
 
 use super::short::{LONGEST_SHORT, SHORT_FRONTS};
 
-/// The number of bits by which one or two short words are looked up at a time.
+/// The number of bits that look up one or two short words at a time.
 pub const PAIR_BITS: u32 = 12;
 
-/// The number of twelve-bit numbers that begin with a short word: those below this.
+/// The number of twelve-bit numbers that begin with a short word: all below this.
 pub const PAIR_FRONTS: usize = SHORT_FRONTS << (PAIR_BITS - LONGEST_SHORT);
 
-/// In four bytes, from the lowest on: the number of bits of the words together, the byte of the
-/// first, the byte of the second or 0, and 0 for two words or 1 for one. The number of bits is
-/// lowest because the next look-up waits for it.
+/// Each entry has four bytes, lowest first: the total length of the words in bits, the byte of the
+/// first word, the byte of the second or 0, and 0 for two words or 1 for one. The length is lowest
+/// because the next look-up depends on it.
 pub static PAIRS: [u32; PAIR_FRONTS] = [
     0x30300a, 0x30300a, 0x30300a, 0x30300a, 0x31300a, 0x31300a, 0x31300a, 0x31300a, 0x32300a,
     0x32300a, 0x32300a, 0x32300a, 0x61300a, 0x61300a, 0x61300a, 0x61300a, 0x63300a, 0x63300a,
@@ -484,7 +484,8 @@ pub static PAIRS: [u32; PAIR_FRONTS] = [
     0x1005a08, 0x1005a08,
 ];
 
-/// Returns the number of bits of one or two words, how many of two are missing, and the bytes.
+/// Returns the total length in bits of the one or two words, how many of the two are missing (0 or
+/// 1), and their bytes.
 #[tactic(auto, unfolding(crate::specs::HuffmanPairs::pair_bits_at, crate::specs::HuffmanPairs::pair_count_at, crate::specs::HuffmanPairs::pair_first_at, crate::specs::HuffmanPairs::pair_second_at))]
 #[inline(always)]
 pub fn pair_entry(front: usize) -> (u8, u8, u8, u8)

@@ -1,21 +1,21 @@
-//! The words of the code by their lengths (RFC 7541, Appendix B), for decoding.
+//! The code words by length (RFC 7541, Appendix B), for decoding.
 ghost use Rattle.std.specs.Prelude.{◌≡◌, ◌<◌};
 ghost use Rattle.wtp_huffman.specs.HuffmanRows.{row_at, symbol_at};
 
-/// The words of one length.
+/// The code words of one length.
 #[derive(Clone, Copy)]
 pub struct Row {
-    /// The number of bits of each.
+    /// The length of each word in bits.
     pub bits: u32,
-    /// The number of the first.
+    /// The first word as a number.
     pub first: u32,
     /// The number of symbols that have shorter words.
     pub skipped: usize,
-    /// One more than the number of the last, with zeros after it up to a window's bits.
+    /// The last word plus one, followed by zeros up to the length of a window.
     pub limit: u32,
 }
 
-/// The 21 lengths, shortest first; the limits rise.
+/// The 21 lengths, shortest first, so that the limits increase.
 pub static ROWS: [Row; 21] = [
     Row {
         bits: 5,
@@ -145,17 +145,17 @@ pub static ROWS: [Row; 21] = [
     },
 ];
 
-/// The number of bits of the shortest word.
+/// The length of the shortest word in bits.
 pub const SHORTEST: usize = ROWS[0].bits as usize;
 
-/// The number of bits of the longest word.
+/// The length of the longest word in bits.
 pub const LONGEST: u32 = ROWS[ROWS.len() - 1].bits;
 
-/// The number of bits of a window: those of the longest word, so that each window begins with a
+/// The length of a window in bits: that of the longest word, so that each window begins with a
 /// word.
 pub const WINDOW: u32 = LONGEST;
 
-/// The symbols in the order of their words; 256 is the end of the string.
+/// The symbols in the order of their words; 256 is EOS.
 pub static SYMBOLS: [u16; 257] = [
     48, 49, 50, 97, 99, 101, 105, 111, 115, 116, 32, 37, 45, 46, 47, 51, 52, 53, 54, 55, 56, 57,
     61, 65, 95, 98, 100, 102, 103, 104, 108, 109, 110, 112, 114, 117, 58, 66, 67, 68, 69, 70, 71,
@@ -172,7 +172,7 @@ pub static SYMBOLS: [u16; 257] = [
     29, 30, 31, 127, 220, 249, 10, 13, 22, 256,
 ];
 
-/// Returns the words of a length.
+/// Returns the row at an index.
 #[tactic(auto, unfolding(crate::specs::HuffmanRows::row_at))]
 pub fn row_number(k: usize) -> Row
     requires { k < 21 }
@@ -181,7 +181,7 @@ pub fn row_number(k: usize) -> Row
     ROWS[k]
 }
 
-/// Returns the symbol at a place.
+/// Returns the symbol at an index.
 #[tactic(auto, unfolding(crate::specs::HuffmanRows::symbol_at))]
 pub fn symbol_number(i: usize) -> u16
     requires { i < 257 }

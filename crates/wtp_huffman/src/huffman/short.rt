@@ -1,5 +1,5 @@
-//! The short words, which have at most eight bits, by a window's first eight.
-//! `tools/huffman-tables` makes the numbers of both tables.
+//! The short words, which have at most eight bits, indexed by the first eight bits of a window.
+//! `tools/huffman-tables` generates both tables.
 ghost use Rattle.std.specs.Prelude.{◌≡◌, ◌<◌};
 ghost use Rattle.wtp_huffman.specs.HuffmanShort.{short_bits_at, short_byte_at};
 
@@ -8,16 +8,16 @@ use super::rows::{ROWS, WINDOW};
 /// The row of the longest short words.
 const LAST_SHORT: usize = 3;
 
-/// The number of bits of these.
+/// The length of the longest short words in bits.
 pub const LONGEST_SHORT: u32 = ROWS[LAST_SHORT].bits;
 
 /// A window below this begins with a short word.
 pub const SHORT_LIMIT: u32 = ROWS[LAST_SHORT].limit;
 
-/// The number of eight-bit numbers that begin with a short word: those below this.
+/// The number of eight-bit numbers that begin with a short word: all below this.
 pub const SHORT_FRONTS: usize = (SHORT_LIMIT >> (WINDOW - LONGEST_SHORT)) as usize;
 
-/// The number of bits of the word.
+/// The length in bits of the word that eight bits begin with.
 pub static SHORT_BITS: [u8; SHORT_FRONTS] = [
     5, 5, 5, 5, 5, 5, 5, 5, 5, 5, 5, 5, 5, 5, 5, 5, 5, 5, 5, 5, 5, 5, 5, 5, 5, 5, 5, 5, 5, 5, 5, 5,
     5, 5, 5, 5, 5, 5, 5, 5, 5, 5, 5, 5, 5, 5, 5, 5, 5, 5, 5, 5, 5, 5, 5, 5, 5, 5, 5, 5, 5, 5, 5, 5,
@@ -29,7 +29,7 @@ pub static SHORT_BITS: [u8; SHORT_FRONTS] = [
     7, 7, 7, 7, 7, 7, 7, 7, 7, 7, 7, 7, 7, 7, 7, 7, 7, 7, 7, 7, 7, 7, 7, 7, 8, 8, 8, 8, 8, 8,
 ];
 
-/// The byte of the word.
+/// The byte of the word that eight bits begin with.
 pub static SHORT_BYTES: [u8; SHORT_FRONTS] = [
     48, 48, 48, 48, 48, 48, 48, 48, 49, 49, 49, 49, 49, 49, 49, 49, 50, 50, 50, 50, 50, 50, 50, 50,
     97, 97, 97, 97, 97, 97, 97, 97, 99, 99, 99, 99, 99, 99, 99, 99, 101, 101, 101, 101, 101, 101,
@@ -45,7 +45,7 @@ pub static SHORT_BYTES: [u8; SHORT_FRONTS] = [
     119, 119, 120, 120, 121, 121, 122, 122, 38, 42, 44, 59, 88, 90,
 ];
 
-/// Returns the length and the byte of the word that eight bits begin with.
+/// Returns the length in bits and the byte of the word that eight bits begin with.
 #[tactic(auto, unfolding(crate::specs::HuffmanShort::short_bits_at, crate::specs::HuffmanShort::short_byte_at))]
 pub fn short_entry(front: usize) -> (u8, u8)
     requires { front < SHORT_FRONTS }
