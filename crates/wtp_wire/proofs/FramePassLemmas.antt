@@ -1,4 +1,4 @@
--- The result of one poll of a reading of a frame that skips bytes of an unknown frame.
+-- The result of a poll that skips bytes of an unknown frame.
 use Rattle.std.proofs.Common.{◌≡◌, ℕ, ◌+◌, ◌-◌, ◌<◌, ◌≤◌, List, [], ◌++◌, length, take, drop, refl, sym, ap, subst, ◌∙◌, arith, append_assoc, append-nil, length-append, length-take, length-drop, inl, inr, Option, Result, Ok, Err}
 use Rattle.std.proofs.lemmas.Bool.{cases_lt, lt-ltb, le-ltb, ne_eqb}
 use Rattle.std.proofs.lemmas.List.{drop-drop, take-append-drop}
@@ -39,7 +39,7 @@ due_begins s t d l e = telling_same s (BeginsFrame (hold t d) (hold t d)) (λ a.
   asks = record { asked = omega arith; no_less = omega arith; ending = refl; waits = omega arith };
 })
 
--- the head of an unknown frame is all that is held
+-- only the head of an unknown frame is held
 bare : (m : ℕ) (p : Part) → IsComplete (announces.Skip m) p → bytes_in p ≡ p.head
 bare m p w = ap (λ (l : List ℕ). p.head ++ l) (no_items p.payload w.size) ∙ append-nil p.head
 
@@ -57,7 +57,7 @@ skip_begins s t m p old d z w q = telling_map s t _ (BeginsFrame (hold old d) (h
       asks = record { asked = let one = g.asked in let two = w.whole in omega (arith, frame_need_most p.head, ap length shape); no_less = g.no_less; ending = g.ending; waits = g.waits };
     }) q
 
--- n of the bytes still to be skipped are skipped
+-- skipping n of the bytes left to skip
 skip_step : (m d n : ℕ) (xs : List ℕ) → m ≡ n + d → n ≤ length xs → skip_front m xs ≡ skip_front d (drop n xs)
 unfolding bytes_at
 skip_step m d n xs is l = elim (cases_lt (length xs) m) [
@@ -69,7 +69,7 @@ skip_none : (d : ℕ) (xs : List ℕ) → d ≡ 0 → skip_front d xs ≡ Unknow
 unfolding bytes_at
 skip_none d xs z = rw (z, le-ltb (length xs) 0 (omega arith)) refl
 
--- what a begun poll starts with
+-- the case with which a poll begins
 begun_front : (old mid : Held) (a b : Source) → BeginsFrame old mid a b → front_held old a.ahead ≡ skip_front mid.due b.ahead
 begun_front old mid a b g = elim (cases_lt 0 old.due) [
   | inl l ↦ let w = g.going l in front_due old.taken old.due a.ahead l ∙ rw (w.1, w.2) refl
@@ -162,7 +162,7 @@ passed_asks s t u r old mid d p q = telling_then s t u (BeginsFrame old mid) (Pa
 
 -- ---- what holds of every source
 
--- a list of this many bytes
+-- a list of n bytes
 zeros : ℕ → List ℕ
 zeros n = replicate n 0
 
@@ -170,7 +170,7 @@ length-zeros : (n : ℕ) → length (zeros n) ≡ n
 unfolding zeros
 length-zeros n = length-replicate n 0
 
--- as many bytes as are still to be skipped
+-- exactly the bytes left to skip
 skip_all : (n : ℕ) (xs : List ℕ) → length xs ≡ n → skip_front n xs ≡ Unknown []
 unfolding bytes_at
 skip_all n xs e = rw (le-ltb (length xs) n (omega arith)) (ap (λ (l : List ℕ). Unknown l) (drop_all n xs (omega arith)))
@@ -212,11 +212,11 @@ passed_given Pending old mid t d e g p = keeps_due old mid t d p.0 p.1 g
 passed_given Again old mid t d e g p = (keeps_due old mid t d p.0 p.1 g, p.0)
 passed_given NoMemory old mid t d e g p = absurd p
 
--- bytes were still to be skipped before
+-- bytes were left to skip before
 due_plain : (t : List ℕ) (d : ℕ) → 0 < d → t ≡ [] → BeginsPlain (hold t d) (hold t d)
 due_plain t d l e = record { empty = e; begun = λ z. absurd (omega arith); going = λ _. refl }
 
--- the head of an unknown frame is taken
+-- the head of an unknown frame was taken
 skip_plain : (m : ℕ) (p : Part) (old : List ℕ) (d : ℕ) → d ≡ 0 → IsComplete (announces.Skip m) p → Grew old (bytes_in p) → BeginsPlain (hold old d) (hold [] m)
 skip_plain m p old d z w (given, is) = record {
   empty = refl;
@@ -226,7 +226,7 @@ skip_plain m p old d z w (given, is) = record {
 
 -- ---- all clauses of a poll
 
--- of one before which bytes were still to be skipped
+-- a poll before which bytes were left to skip
 pub due_polls : (s t : Option Source) (r : Polled (Result Content IoReadError)) (p : Part) (d d' : ℕ) → 0 < d → IsReading p → p.head ≡ [] → PassedPlain r d d' → Telling s t (PassedOn r d d')
     → Polls r (hold (bytes_in p) d) (hold (bytes_in p) d') s t
 due_polls s t r p d d' l i none plain q =
@@ -240,7 +240,7 @@ due_polls s t r p d d' l i none plain q =
       asks = passed_asks s s t r (hold (bytes_in p) d) (hold (bytes_in p) d) d' begins q;
     }
 
--- of one that read the head of an unknown frame
+-- a poll that read the head of an unknown frame
 pub skip_polls : (s t u : Option Source) (r : Polled (Result Content IoReadError)) (old new : Part) (m d d' : ℕ) → d ≡ 0 → IsReading old → IsComplete (announces.Skip m) new → Grew (bytes_in old) (bytes_in new)
     → Telling s t (λ a c. Gains (bytes_in old) (bytes_in new) a c 0) → PassedPlain r m d' → Telling t u (PassedOn r m d')
     → Polls r (hold (bytes_in old) d) (hold [] d') s u

@@ -1,4 +1,4 @@
--- The result of one poll of a reading of a frame, once it has gone as far as the source goes.
+-- The result of a poll for a frame, once the frame is complete or the source gives no more.
 use Rattle.std.proofs.Common.{◌≡◌, ℕ, ◌+◌, ◌<◌, ◌≤◌, List, [], ◌∷◌, ◌++◌, length, refl, sym, ap, subst, ◌∙◌, arith, append_assoc, append-nil, length-append, inl, inr, Option, Some, None, Result, Err}
 use Rattle.std.proofs.lemmas.Bool.{cases_lt, lt-ltb, ne_eqb}
 use Rattle.wtp_core.specs.declared.bytes.polled.Polled.{Polled}
@@ -48,7 +48,7 @@ front_due t d xs l = rw (ne_eqb d 0 (λ z. omega arith)) refl
 pub reading_new : IsReading new_part
 reading_new = let some = frame_need_some [] in record { within = omega arith; part = omega arith; nothing = λ l. refl; whole = λ l. absurd (omega arith) }
 
--- between polls no complete frame or fault is held
+-- between polls, no complete frame or error is held
 pub reading_short : (p : Part) → IsReading p → front (bytes_in p) ≡ Short
 unfolding bytes_at
 reading_short p r = elim (cases_lt (length p.head) (frame_need p.head)) [
@@ -85,7 +85,7 @@ reading_unfinished p d z r = record {
   alone = λ l. absurd (omega arith);
 }
 
--- without a byte of a head nothing is held
+-- if no byte of the head is held, no byte is held
 pub none_taken : (p : Part) → IsReading p → p.head ≡ [] → bytes_in p ≡ []
 none_taken p r e =
     let empty = r.nothing (omega (arith, ap length e, frame_need_some p.head)) in
@@ -121,7 +121,7 @@ front_bare : (h p xs : List ℕ) → frame_need h ≡ length h → length p ≡ 
 front_bare h [] xs is none = rw (append-nil h) (front_announcement h xs is)
 front_bare h (b ∷ p) xs is none = absurd (omega arith)
 
--- the case of a result
+-- the case, given what follows the head
 abbrev case_of : Announcement → List ℕ → List ℕ → Front
 case_of announces.Unfinished p = λ rest. Short
 case_of (announces.Payload k n) p = Framed (content k p None)
@@ -164,7 +164,7 @@ answer_given (announces.Skip n) r p old d d' e e' i w g = absurd i
 answer_given announces.BadSession r p old d d' e e' i w g = rw i (answered old p announces.BadSession d d' e e' w g)
 answer_given announces.TooLong r p old d d' e e' i w g = rw i (answered old p announces.TooLong d d' e e' w g)
 
--- the payload is one that may be read
+-- the payload is short enough to be read
 few_announcement : (s : Announcement) (p : Part) → IsComplete s p → length p.payload ≤ max_payload
 few_announcement announces.Unfinished p w = let size = w.size in omega arith
 few_announcement (announces.Payload k n) p w = let size = w.size in omega (arith, (announcement_payload p.head k n w.whole w.says).0)
@@ -231,7 +231,7 @@ halted_given halt.Fin n old new d z g = keeps_all old new d z g
 halted_given halt.Reset n old new d z g = keeps_all old new d z g
 halted_given halt.NotConnected n old new d z g = keeps_all old new d z g
 
--- nothing is ahead any more, and what is held is too little
+-- no byte is ahead any more, and the bytes held are too few
 stopped_short : (old new : List ℕ) (d : ℕ) (a c : Source) (f : bytes-is.IoReadError) → d ≡ 0 → front new ≡ Short → Gains old new a c 1 → c.ahead ≡ [] → f ≡ stop (length new) a.ending → Stopped (hold old d) (hold new d) a c (IO f)
 stopped_short old new d a c f z short g none is =
     let e = dry old new a c 1 g none in
@@ -304,7 +304,7 @@ no_memory_polls s t old new d z was now w grew p = record {
   asks = telling_map s t _ (Asks max_calls) (λ a c q. asks_left new (bytes_in old) 0 a c (omega arith) now q) p;
 }
 
--- the waits of a poll that stopped as its source did
+-- the waits of a poll that stopped with its source
 pub frame_halted_waits : (x : Halt) (n : ℕ) (s t : Option Source) (r : Polled (Result Content IoReadError)) → HaltsAs (λ f e. e ≡ IO f) (halt_fault x n) r → Telling s t (λ a b. b.waits ≡ a.waits + halt_waits {U = Unit {0}} (Err x)) → Telling s t (WaitsAs r)
 frame_halted_waits x n s t r h p =
     rw (halted_as (λ (f : bytes-is.IoReadError). IO f) (halt_fault x n) r h) (halted_waits Content IoReadError (Unit {0}) (λ f. IO f) x n s t p)

@@ -1,4 +1,4 @@
--- What a reading holds, poll by poll.
+-- The bytes held of a frame, poll by poll.
 use Rattle.std.proofs.Common.{◌≡◌, ℕ, ◌≤◌, ◌⊎◌, ◌<◌, List, [], ◌∷◌, ◌++◌, length, take, Option, refl, sym, ap, subst, ◌∙◌, arith, append_assoc, append-nil, length-append, length-take, inl, inr}
 use Rattle.std.proofs.lemmas.List.{append_cancel_left, take-take, take-append-le}
 use Rattle.wtp_core.specs.Source.{Source, Telling}
@@ -49,7 +49,7 @@ pub no_items : (xs : List ℕ) → length xs ≡ 0 → xs ≡ []
 no_items [] e = refl
 no_items (x ∷ xs) e = absurd (omega arith)
 
--- nothing of a payload is held, or the head stays
+-- no byte of a payload is held, or the head is unchanged
 pub which : (p : Part) (h : List ℕ) → IsReading p → (frame_need p.head ≡ length p.head → h ≡ p.head) → (p.payload ≡ []) ⊎ (h ≡ p.head)
 which p h r stays = elim (cases_lt (length p.head) (frame_need p.head)) [
   | inl l ↦ let empty = r.nothing l in let part = r.part in inl (no_items p.payload (omega arith))
@@ -63,7 +63,7 @@ pub halted_on : (U V : Type 0) (x : Stop) (hd hd' p p' : List ℕ) (a b c : Sour
 halted_on U V (stopped.Source h) hd hd' p p' a b c w g q = (read_on hd hd' p p' a b c 1 w g q.0, halt_then h a b c g.ending g.waits q.1)
 halted_on U V stopped.NoMemory hd hd' p p' a b c w g q = read_on hd hd' p p' a b c 0 w g q
 
--- what is held still starts with what was held
+-- the bytes held start with those held before
 pub grew_on : (hd hd' p p' : List ℕ) → ((p ≡ []) ⊎ (hd' ≡ hd)) → Grew hd hd' → Grew p p' → Grew (hd ++ p) (hd' ++ p')
 grew_on hd hd' p p' w (more, is) (rest, behind) = elim w [
   | inl none ↦ (more ++ p', rw (none, append-nil hd) (ap (λ l. l ++ p') is ∙ append_assoc hd more p'))
@@ -86,7 +86,7 @@ filled_grew held buf rest len filled at f l m e =
     let shape : take at (take len (buf ++ rest)) ≡ take at buf = take-take at len (buf ++ rest) m ∙ take-append-le at buf rest l in
     rw shape (begins filled held (take at buf) (take-take filled at buf f ∙ e))
 
--- ---- the head that a reading goes on with
+-- ---- the head in later polls
 
 pub record HeadGoesOn (p : Part) (h : List ℕ) : Type 0 where
   pub stays : frame_need p.head ≡ length p.head → h ≡ p.head
@@ -114,7 +114,8 @@ pub part_halts : (U V : Type 0) (x : Stop) (s t u : Option Source) (old new : Pa
 part_halts U V x s t u old new h hd p r g e e' i m q = telling_then s t u _ _ (λ a b. StopMoves {U = V} (Err x) (bytes_in old) (bytes_in new) a b)
     (λ a b c k j. rw i (halted_on U V x old.head h old.payload new.payload a b c (which old h r g.stays) (subst (λ (l : List ℕ). Gains l h a b 0) e k) (subst (λ (l : List ℕ). StopMoves {U = U} (Err x) l new.payload b c) e' j))) m q
 
--- Before the head was complete there was no room; a complete head stays, and announces a payload of the room's size.
+-- Nothing is allocated before the head is complete. A complete head is unchanged, and its payload
+-- has the allocated size.
 room_announcement : (p : Part) (h : List ℕ) (s : Announcement) → IsReading p → HeadGoesOn p h → announcement_at h ≡ s
     → (p.room ≡ 0) ⊎ ((k : FrameKind) × (m : ℕ) × (s ≡ announces.Payload k m) × (length p.payload < m) × (0 < p.room → p.room ≡ m))
 room_announcement p h s r g says = elim (cases_lt (length p.head) (frame_need p.head)) [
@@ -126,7 +127,7 @@ room_announcement p h s r g says = elim (cases_lt (length p.head) (frame_need p.
       inr (w.0, w.1, sym says ∙ ap announcement_at same ∙ w.2, w.3, w.4)
 ]
 
--- the result of a reading that read a payload in part, or had no room for it
+-- the payload was read in part, or was not allocated
 pub stopped_keeps : (U : Type 0) (x : Stop) (old mid new : Part) (k : FrameKind) (m : ℕ) → IsReading old → HeadGoesOn old mid.head → mid.room ≡ old.room → frame_need mid.head ≡ length mid.head → announcement_at mid.head ≡ announces.Payload k m
     → new.head ≡ mid.head → PayloadKeeps {U = U} (Err x) m mid new → AdvanceKeeps (Err x) old new
 stopped_keeps U (stopped.Source y) old mid new k m r g e w says i q = record {
@@ -164,7 +165,7 @@ none_announcement (announces.Skip m) not = refl
 none_announcement announces.BadSession not = refl
 none_announcement announces.TooLong not = refl
 
--- the head announces no payload
+-- no payload follows the head
 pub announcement_bare : (s : Announcement) (old new : Part) → IsReading old → HeadGoesOn old new.head → new.room ≡ old.room → new.payload ≡ old.payload → frame_need new.head ≡ length new.head → announcement_at new.head ≡ s
     → ((k : FrameKind) (m : ℕ) → s ≡ announces.Payload k m → ⊥) → IsComplete s new
 announcement_bare s old new r g e e' w says not = elim (room_announcement old new.head s r g says) [

@@ -70,7 +70,7 @@ after_skip-cut n bytes e = rw e refl
 
 -- ---- what starts with a case is computed as that case
 
--- an encoding of a type of this kind, and of a number after it that says this
+-- the encoding of a complete head at the start of the bytes
 front-encoded : (bytes head rest : List ℕ) (id n : ℕ) (o : Option FrameKind) (s : Announcement) → kind_of id ≡ o → EncodesPair id n head → announcement_of o n ≡ s → bytes ≡ head ++ rest → front bytes ≡ front_after s rest
 front-encoded bytes head rest id n o s kind h says parts =
     let whole : bytes ≡ h.first ++ (h.second ++ rest) = parts ∙ ap (λ (x : List ℕ). x ++ rest) h.parts ∙ append_assoc h.first h.second rest in
@@ -96,7 +96,7 @@ front-begins bytes (Framed (PlainOf kind payload) rest) (s, h, parts) =
 
 -- ---- what is computed is what the bytes start with
 
--- the bytes start with the case, or it is Short
+-- the bytes start with the case, or the case is Short
 abbrev Holds : List ℕ → Front → Type 0
 Holds bytes c = (c ≡ Short) ⊎ Begins bytes c
 
@@ -205,14 +205,14 @@ begins-more bytes more (BadId rest) (s, h, parts) = (s, h, ap (λ (x : List ℕ)
 begins-more bytes more (TooBig rest) (s, h, parts) = (s, h, ap (λ (x : List ℕ). x ++ more) parts ∙ append_assoc s rest more)
 begins-more bytes more Short h = absurd h
 
--- a case other than Short stays the same when bytes follow
+-- appending bytes does not change a case other than Short
 pub front-more : (bytes more : List ℕ) → front bytes ≢ Short → front (bytes ++ more) ≡ extended (front bytes) more
 front-more bytes more whole = elim (front_holds bytes) [
   | inl short ↦ absurd (whole short)
   | inr h ↦ front-begins (bytes ++ more) (extended (front bytes) more) (begins-more bytes more (front bytes) h)
 ]
 
--- the bytes after a frame are a suffix of all
+-- the bytes after a frame are a suffix of the bytes
 pub front-framed_rest : (bytes rest : List ℕ) (f : Content) → front bytes ≡ Framed f rest → (s : List ℕ) × (bytes ≡ s ++ rest)
 front-framed_rest bytes rest f e = elim (front_holds bytes) [
   | inl short ↦ absurd (cc)

@@ -60,7 +60,7 @@ header_front-begins bytes (Headed (WebTransportHeader id) rest) (s, (encoded, ev
 
 -- ---- what is computed is what the bytes start with
 
--- the bytes start with the case, or it is Short
+-- the bytes start with the case, or the case is Short
 abbrev Holds : List ℕ → HeaderFront → Type 0
 Holds bytes c = (c ≡ Short) ⊎ StreamBegins bytes c
 
@@ -124,7 +124,7 @@ begins-more bytes more (Unknown rest) (s, h, parts) = (s, h, ap (λ (x : List �
 begins-more bytes more (BadId rest) (s, h, parts) = (s, h, ap (λ (x : List ℕ). x ++ more) parts ∙ append_assoc s rest more)
 begins-more bytes more Short h = absurd h
 
--- a case other than Short stays the same when bytes follow
+-- appending bytes does not change a case other than Short
 pub header_front-more : (bytes more : List ℕ) → header_front bytes ≢ Short → header_front (bytes ++ more) ≡ header_extended (header_front bytes) more
 header_front-more bytes more whole = elim (header_front_holds bytes) [
   | inl short ↦ absurd (whole short)

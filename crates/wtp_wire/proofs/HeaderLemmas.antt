@@ -1,4 +1,4 @@
--- The kind and session that a stream header's fields give, and its parts by them.
+-- The kind, the session ID and the parts of a stream header, given by its fields.
 use Rattle.std.proofs.Common.{◌≡◌, ℕ, [], ◌∷◌, List, true, Option, Some, None, refl, sym}
 use Rattle.wtp_core.specs.Varint.{shortest}
 use Rattle.wtp_wire.specs.declared.stream_header.StreamKind.{StreamKind}
@@ -7,7 +7,7 @@ use Rattle.wtp_wire.specs.StreamKind.{has_session, stream_number_of}
 use Rattle.wtp_wire.specs.Header.{header, IsProperHeader, header_kind, header_session}
 use Rattle.wtp_wire.specs.HeaderWire.{header_parts}
 
--- only streams of a session have one
+-- only WebTransport streams have a session ID
 pub has_session-true : (kind : StreamKind) → has_session kind ≡ true → kind ≡ WebTransport
 has_session-true WebTransport t = refl
 has_session-true kind t = absurd cc

@@ -1,4 +1,4 @@
--- The result of one poll of a reading of a stream header.
+-- The result of a poll for a stream header.
 use Rattle.std.proofs.Common.{◌≡◌, ◌≢◌, ℕ, ◌+◌, ◌%◌, ◌==◌, ◌<◌, List, [], ◌∷◌, length, take, drop, Option, Some, None, Result, Ok, Err, refl, sym, ap, ◌∙◌, arith, inl, inr, length-drop}
 use Rattle.std.proofs.lemmas.Bool.{cases_lt, cases_Bool}
 use Rattle.wtp_core.specs.declared.bytes.polled.Polled.TheVariants.{Ready}
@@ -60,7 +60,7 @@ header_cut h f = elim (cases_lt (length h) (varint_need h)) [
       header_typed h r id is ∙ typed_cut (stream_kind_of id) r (omega (arith, need_known h r id is, length-drop (varint_need h) h))
 ]
 
--- a case that leaves nothing
+-- a case with no bytes after it
 abbrev pub LeavesNothing : HeaderFront → Type 0
 LeavesNothing (Headed h rest) = rest ≡ []
 LeavesNothing (Unknown rest) = rest ≡ []
@@ -84,7 +84,7 @@ typed_whole (Some kind) r w = elim (cases_Bool (has_session kind)) [
   | inr plain ↦ let none : 0 ≡ length r = rw plain at w in rw plain (no_bytes r (omega arith))
 ]
 
--- as many bytes as are needed are a case, and none follow it
+-- a complete header is a case with no bytes after it
 pub header_whole : (h : List ℕ) → header_need h ≡ length h → LeavesNothing (header_front h)
 header_whole h w = elim (cases_lt (length h) (varint_need h)) [
   | inl l ↦ absurd (omega (arith, need_none h (number_at-cut h l)))
@@ -115,7 +115,7 @@ whole_fault parse.InvalidSessionId h rest w e = whole_bad h rest w e
 not_short : (h : List ℕ) (c : HeaderFront) → header_front h ≡ c → c ≢ Short → header_front h ≢ Short
 not_short h c e n s = n (sym e ∙ s)
 
--- the case stays when bytes follow
+-- appending bytes does not change the case
 decided : (old h : List ℕ) (a b : Source) (case : List ℕ → HeaderFront) → header_front h ≡ case [] → case [] ≢ Short → header_extended (case []) b.ahead ≡ case b.ahead → Gains old h a b 0 → HeaderDecided old [] a b case
 decided old h a b case e n more g = record {
   front = ap header_front g.kept ∙ header_front-more h b.ahead (not_short h (case []) e n) ∙ ap (λ (c : HeaderFront). header_extended c b.ahead) e ∙ more;
@@ -140,7 +140,7 @@ whole_given (Err (Parse parse.UnknownStream)) m old h front w = answered m old h
 whole_given (Err (Parse parse.InvalidSessionId)) m old h front w = answered m old h BadId front w
 whole_given (Err (IO e)) m old h front w = absurd w
 
--- the result of a poll whose reading stopped after n bytes
+-- the result of a poll that stopped after n bytes
 abbrev pub halted_at : {T : Type 0} → Halt → ℕ → Polled (Result T IoReadError)
 halted_at x n = halted_poll (λ (f : bytes-is.IoReadError). IO f) (halt_fault x n)
 

@@ -1,4 +1,4 @@
--- The settings that are stored of the pairs of a payload.
+-- The settings stored from the pairs of a payload.
 use Rattle.std.proofs.Common.{◌≡◌, ◌≢◌, ℕ, List, [], ◌∷◌, ◌++◌, true, false, Option, Some, None, Result, Ok, Err, refl, sym, ap, ◌∙◌, inl, inr, ◌⊎◌, ◌↔◌}
 use Rattle.std.proofs.lemmas.Bool.{cases_Bool, cases_eq, both_ways}
 use Rattle.std.specs.Ordering.{nat_cmp}
@@ -14,18 +14,18 @@ use Rattle.wtp_wire.proofs.ValueLemmas.{contains_cases, contains_head, contains_
 
 -- ---- one pair
 
--- the pair is not stored, because its identifier is not permitted there
+-- the pair is an error after the settings m
 pub record Refuses (m : List (ℕ × ℕ)) (p : ℕ × ℕ) : Type 0 where
   pub is : kept_with m p ≡ Err Settings
   pub cause : IsReserved p.0 ⊎ (IsSetting p.0 × ((value : ℕ) × (value_at m p.0 ≡ Some value)))
 
--- it is ignored
+-- the pair is ignored
 pub record Ignores (m : List (ℕ × ℕ)) (p : ℕ × ℕ) : Type 0 where
   pub is : kept_with m p ≡ Ok m
   pub free : IsReserved p.0 → ⊥
   pub unknown : IsSetting p.0 → ⊥
 
--- it is stored
+-- the pair is stored
 pub record Keeps (m : List (ℕ × ℕ)) (p : ℕ × ℕ) : Type 0 where
   pub is : kept_with m p ≡ Ok (with_setting m p.0 p.1)
   pub free : IsReserved p.0 → ⊥
@@ -66,7 +66,7 @@ kept_with-cases m p = elim (cases_Bool (is_reserved p.0)) [
 
 -- ---- all pairs
 
--- m and the pairs, one after the other
+-- the settings m after these pairs
 abbrev pub kept : List (ℕ × ℕ) → List (ℕ × ℕ) → Result (List (ℕ × ℕ)) ErrorCode
 kept m [] = Ok m
 kept m (p ∷ ps) = or_fault (kept_with m p) (λ k. kept k ps)
@@ -75,7 +75,7 @@ kept m (p ∷ ps) = or_fault (kept_with m p) (λ k. kept k ps)
 abbrev pub AreNew : List (ℕ × ℕ) → List (ℕ × ℕ) → Type 0
 AreNew m ps = (id value : ℕ) → Contains ps (id, value) → IsSetting id → value_at m id ≡ None
 
--- n has the settings of m and those among the pairs
+-- n are the settings of m and those among the pairs
 abbrev pub Joins : List (ℕ × ℕ) → List (ℕ × ℕ) → List (ℕ × ℕ) → Type 0
 Joins m ps n = (id value : ℕ) → (value_at n id ≡ Some value) ↔ ((value_at m id ≡ Some value) ⊎ (IsSetting id × Contains ps (id, value)))
 
@@ -122,7 +122,7 @@ keeps_ignored m n ps p i h = record {
   rising = h.rising;
 }
 
--- a value of the settings with one more
+-- a value after one more setting
 value_with : (m : List (ℕ × ℕ)) (p : ℕ × ℕ) (id value : ℕ) → value_at (with_setting m p.0 p.1) id ≡ Some value → (p ≡ (id, value)) ⊎ ((id ≢ p.0) × (value_at m id ≡ Some value))
 value_with m p id value v = elim (cases_eq id p.0) [
   | inl e ↦ let same : p.1 ≡ value = some_is p.1 value (sym (value_at-set m p.0 p.1) ∙ ap (λ (i : ℕ). value_at (with_setting m p.0 p.1) i) (sym e) ∙ v) in inl (λ i. (sym e i, same i))
@@ -178,7 +178,7 @@ kept-all (p ∷ ps) m n e = elim (kept_with-cases m p) [
   ]
 ]
 
--- pairs without a fault are stored
+-- pairs without an error are stored
 pub kept-faultless : (ps m : List (ℕ × ℕ)) → AreFaultless ps → AreNew m ps → (n : List (ℕ × ℕ)) × (kept m ps ≡ Ok n)
 kept-faultless [] m h new = (m, refl)
 kept-faultless (p ∷ ps) m (free, once, rest) new = elim (kept_with-cases m p) [
@@ -201,7 +201,7 @@ no_value id value e = cc
 
 -- ---- starting with none
 
--- the settings that are stored are those among the pairs
+-- the stored settings are those among the pairs
 pub kept-are_kept : (ps m : List (ℕ × ℕ)) → kept [] ps ≡ Ok m → AreKept m ps
 kept-are_kept ps m e =
     let h = kept-all ps [] m e in
@@ -215,7 +215,7 @@ same_options None None h = refl
 same_options None (Some v) h = (h v).1 refl
 same_options (Some v) q h = sym ((h v).0 refl)
 
--- there is one list of them
+-- they are unique
 pub are_kept-same : (ps m n : List (ℕ × ℕ)) (h : AreKept m ps) (k : AreKept n ps) → m ≡ n
 are_kept-same ps m n h k = same_values m n h.rising k.rising (λ id. same_options (value_at m id) (value_at n id) (λ v. (λ e. (k.same id v).1 ((h.same id v).0 e), λ e. (h.same id v).1 ((k.same id v).0 e))))
 

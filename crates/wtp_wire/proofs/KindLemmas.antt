@@ -1,4 +1,4 @@
--- The computed kind is the kind.
+-- The computed kind agrees with the definition.
 use Rattle.std.proofs.Common.{◌≡◌, ℕ, ◌*◌, ◌-◌, ◌%◌, ◌/◌, ◌≤◌, Bool, true, false, cond, eqb, List, [], ◌∷◌, Option, Some, None, refl, sym, ap, subst, ◌∙◌, arith, inl, inr, ◌⊎◌}
 use Rattle.std.specs.Prelude.{◌&&◌, not}
 use Rattle.std.proofs.lemmas.Bool.{eqb-true, cases_Bool}
@@ -24,7 +24,7 @@ test_exercise id t =
 
 -- ---- the table
 
--- a test that led to x or y
+-- a conditional with value x or y
 pub which : {A : Type 0} (b : Bool) (x y z : A) → cond b x y ≡ z → ((b ≡ true) × (x ≡ z)) ⊎ ((b ≡ false) × (y ≡ z))
 which true x y z e = inl (refl, e)
 which false x y z e = inr (refl, e)
@@ -36,12 +36,12 @@ both_true : (a b : Bool) → (a && b) ≡ true → (a ≡ true) × (b ≡ true)
 both_true true b e = (refl, e)
 both_true false b e = absurd (cc)
 
--- whether a kind has one type
+-- whether a kind has only one type
 abbrev has_type : FrameKind → Bool
 has_type (Exercise number) = false
 has_type kind = true
 
--- whether each of these kinds has one type, and that is not reserved
+-- whether each of these kinds has only one type, and it is not reserved
 abbrev all_typed : List FrameKind → Bool
 all_typed [] = true
 all_typed (kind ∷ rest) = (has_type kind && not (is_exercise (frame_type_of kind))) && all_typed rest
@@ -56,7 +56,7 @@ kind_among-is (first ∷ rest) id kind typed e =
       | inr p ↦ kind_among-is rest id kind there p.1
     ]
 
--- none is found for a reserved type
+-- no kind is found for a reserved type
 kind_among-none : (kinds : List FrameKind) (id : ℕ) → all_typed kinds ≡ true → is_exercise id ≡ true → kind_among id kinds ≡ None
 kind_among-none [] id typed reserved = refl
 kind_among-none (first ∷ rest) id typed reserved =

@@ -1,4 +1,4 @@
--- The kind of a number, by a list of named kinds.
+-- The kind with a number, found in a list of named kinds.
 use Rattle.std.proofs.Common.{◌≡◌, ℕ, Bool, true, false, not, eqb, List, [], ◌∷◌, Some, None, refl, subst, inl, inr}
 use Rattle.std.specs.List.{list_all}
 use Rattle.std.proofs.lemmas.Bool.{cases_Bool, eqb-true, and_parts}
@@ -9,7 +9,7 @@ use Rattle.wtp_wire.proofs.KindLemmas.{which}
 some_is : {K : Type 0} (x y : K) → Some x ≡ Some y → x ≡ y
 some_is x y e = cc
 
--- no named kind has a number that is reserved for exercise
+-- no named kind has a reserved number
 abbrev pub AreApart : {K : Type 0} → (K → ℕ) → List K → Type 0
 AreApart number ks = list_all (λ k. not (is_exercise (number k))) ks ≡ true
 

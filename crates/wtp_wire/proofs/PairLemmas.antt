@@ -98,7 +98,7 @@ or_fault-same : (r : Result (List (ℕ × ℕ)) ErrorCode) (f g : List (ℕ × �
 or_fault-same (Ok m) f g h = h m
 or_fault-same (Err code) f g h = refl
 
--- more steps than bytes change nothing
+-- more steps than bytes do not change the result
 from-enough : (n k : ℕ) (m : List (ℕ × ℕ)) (bytes : List ℕ) → length bytes ≤ n → length bytes ≤ k → settings_from n m bytes ≡ settings_from k m bytes
 from-enough n k m [] h i = from-nil n m ∙ sym (from-nil k m)
 from-enough zero k m (b ∷ bs) h i = absurd (omega arith)
@@ -130,7 +130,7 @@ or_fault-ok (Err code) f m e = absurd cc
 ok_is : (x y : List (ℕ × ℕ)) (r : Result (List (ℕ × ℕ)) ErrorCode) → r ≡ Ok x → r ≡ Ok y → x ≡ y
 ok_is x y r d e = cc
 
--- what follows a prefix without a fault
+-- reading the bytes after a prefix without an error
 read_after : (n : ℕ) (j m : List (ℕ × ℕ)) (front rest : List ℕ) → length front ≤ n → read_from j front ≡ Ok m → read_from j (front ++ rest) ≡ read_from m rest
 read_after n j m [] rest h e = ap (λ (x : List (ℕ × ℕ)). read_from x rest) (ok_is j m (read_from j []) (read_from-nil j) e)
 read_after zero j m (b ∷ bs) rest h e = absurd (omega arith)
@@ -145,9 +145,9 @@ read_after (suc n) j m (b ∷ bs) rest h e = elim (found (pair_at (b ∷ bs))) [
     not_ok : Err Frame ≡ Ok m → ⊥
     not_ok x = cc
 
--- ---- a payload of which a prefix is read
+-- ---- a payload with a prefix that was read
 
--- the settings of the bytes before the rest
+-- m are the settings of the bytes before the rest
 pub record ReadSoFar (payload rest : List ℕ) (m : List (ℕ × ℕ)) : Type 0 where
   pub front : List ℕ
   pub parts : payload ≡ front ++ rest

@@ -1,10 +1,10 @@
--- Parts that a loop writes one after the other.
+-- Parts that a loop writes in order.
 use Rattle.std.proofs.Common.{ℕ, Bool, List, [], ◌∷◌, Option, Result, Ok, Err, Some, None, refl, sym, append-nil, arith}
 use Rattle.wtp_core.specs.declared.bytes.writer.PutError.{PutError}
 use Rattle.wtp_core.specs.Writer.{Puts, PutsParts}
 use Rattle.wtp_core.proofs.WriterLemmas.{put-none, put-more}
 
--- the writer wrote some of the parts: what writing the rest does is what writing all does
+-- some of the parts are written: writing the rest has the effect of writing all
 pub record PutsAfter (grows : Bool) (all rest : List (List ℕ)) (old : List ℕ) (room : Option (List ℕ)) (new : List ℕ) (left : Option (List ℕ)) : Type 0 where
   pub whole : (r : Result (Unit {0}) PutError) (last : List ℕ) (behind : Option (List ℕ)) → PutsParts grows rest r new left last behind → PutsParts grows all r old room last behind
 
@@ -18,7 +18,7 @@ puts-part grows all rest p old new last room left behind u h taken = record { wh
 pub puts-pair : (grows : Bool) (all rest : List (List ℕ)) (p q old new mid last : List ℕ) (room left place behind : Option (List ℕ)) (h : PutsAfter grows all (p ∷ q ∷ rest) old room new left) → Puts grows p (Ok tt) new left mid place → Puts grows q (Ok tt) mid place last behind → PutsAfter grows all rest old room last behind
 puts-pair grows all rest p q old new mid last room left place behind h first second = puts-part grows all rest q old mid last room place behind tt (puts-part grows all (q ∷ rest) p old new mid room left place tt h first) second
 
--- a part is refused
+-- writing a part failed
 pub puts-refused : (grows : Bool) (all rest : List (List ℕ)) (p old new last : List ℕ) (room left behind : Option (List ℕ)) (e : PutError) (h : PutsAfter grows all (p ∷ rest) old room new left) → Puts grows p (Err e) new left last behind → PutsParts grows all (Err e) old room last behind
 puts-refused grows all rest p old new last room left behind e h refused = h.whole (Err e) last behind (put-none grows p rest e new left last behind refused)
 

@@ -1,4 +1,4 @@
--- What is left after the complete numbers at the start of bytes.
+-- The bytes after the complete numbers at the start of bytes.
 use Rattle.std.proofs.Common.{◌≡◌, ℕ, List, Some, None, refl, sym, ap, ◌∙◌}
 use Rattle.wtp_core.specs.Varint.{number_at}
 use Rattle.wtp_wire.specs.PastNumber.{past_number, past_two}
@@ -11,7 +11,7 @@ pub past_number-some : (bytes rest : List ℕ) (n : ℕ) → number_at bytes ≡
 unfolding past_number
 past_number-some bytes rest n e = rw e refl
 
--- no number is taken, as none is complete
+-- no number is taken, because none is complete
 pub left-none : (left bytes : List ℕ) → number_at bytes ≡ None → left ≡ bytes → left ≡ past_number bytes
 left-none left bytes e same = same ∙ sym (past_number-none bytes e)
 

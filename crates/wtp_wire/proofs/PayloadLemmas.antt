@@ -1,4 +1,4 @@
--- The computed settings of a payload, and its fault, are those of the grammar.
+-- The computed settings of a payload, or its error, are those of the grammar.
 use Rattle.std.proofs.Common.{◌≡◌, ℕ, suc, zero, true, ◌^◌, ◌<◌, ◌≤◌, List, [], ◌∷◌, ◌++◌, length, Option, Some, None, Result, Ok, Err, refl, sym, ap, ◌∙◌, append_assoc, append-nil, arith, inl, inr, ◌⊎◌}
 use Rattle.std.specs.Ordering.{nat_cmp}
 use Rattle.std.specs.Map.{keys_of, values_of}
@@ -23,7 +23,7 @@ use Rattle.wtp_wire.proofs.KeptLemmas.{Refuses, kept, kept_with-cases, kept-all,
 
 -- ---- what the grammar says is computed
 
--- the pairs at the start are stored one after the other
+-- the pairs at the start are stored in order
 read_from-pairs : (ps m : List (ℕ × ℕ)) (s rest : List ℕ) → ArePairs ps s → read_from m (s ++ rest) ≡ or_fault (kept m ps) (λ k. read_from k rest)
 read_from-pairs [] m s rest h = ap (λ (x : List ℕ). read_from m (x ++ rest)) h
 read_from-pairs (p ∷ ps) m s rest (first, more, encoded, pairs, parts) =
@@ -85,7 +85,7 @@ pairs-push : (ps : List (ℕ × ℕ)) (id value : ℕ) (front s : List ℕ) → 
 pairs-push [] id value front s h encoded = (s, [], encoded, refl, ap (λ (x : List ℕ). x ++ s) h ∙ sym (append-nil s))
 pairs-push (p ∷ ps) id value front s (first, more, one, pairs, parts) encoded = (first, more ++ s, one, pairs-push ps id value more s pairs encoded, ap (λ (x : List ℕ). x ++ s) parts ∙ append_assoc first more s)
 
--- the payload contains settings, or has a fault
+-- the payload contains valid settings, or has an error
 abbrev Judged : List ℕ → Type 0
 Judged s = ((m : List (ℕ × ℕ)) × IsPayload m s) ⊎ ((code : ErrorCode) × IsSettingsFault code s)
 

@@ -9,7 +9,7 @@ use Rattle.wtp_wire.specs.Run.{Run, Tail, MayGoOn, H3, past_unknown, run, next_r
 use Rattle.wtp_wire.proofs.RunLemmas.{past_unknown-unknown, past_unknown-framed, past_unknown-bad, past_unknown-big, past_unknown-short, run-step}
 use Rattle.wtp_wire.proofs.RuleLemmas.{rule_first}
 
--- the bytes do not start with an unknown frame, and are of this case
+-- the run of bytes that start with this case, which is not an unknown frame
 run_at : (role : Role) (first : Bool) (bytes : List ℕ) (tail : Tail) (c : Front) → past_unknown bytes ≡ bytes → front bytes ≡ c → run role first bytes tail ≡ next_run (λ f r. run role f r tail) role first bytes bytes tail c
 run_at role first bytes tail c known e =
     run-step role first bytes tail

@@ -46,7 +46,7 @@ past_unknown-big bytes rest e = past-step bytes ∙ ap (λ (c : Front). passed (
 pub past_unknown-short : (bytes : List ℕ) → front bytes ≡ Short → past_unknown bytes ≡ bytes
 past_unknown-short bytes e = past-step bytes ∙ ap (λ (c : Front). passed (λ r. past_within (length bytes) r) bytes c) e
 
--- what is skipped does not grow
+-- skipping does not add bytes
 passed-shorter : (more : List ℕ → List ℕ) (bytes : List ℕ) (c : Front) → front bytes ≡ c → ((rest : List ℕ) → length (more rest) ≤ length rest) → length (passed more bytes c) ≤ length bytes
 passed-shorter more bytes (Framed x rest) e h = omega arith
 passed-shorter more bytes (Unknown rest) e h = omega (arith, h rest, unknown-shorter bytes rest e)

@@ -1,4 +1,4 @@
--- The computed setting of a number is its setting.
+-- The computed setting of an identifier agrees with the definition.
 use Rattle.std.proofs.Common.{◌≡◌, ℕ, Bool, true, false, eqb, leb, ◌&&◌, Option, Some, None, is_some, refl, ap, arith, inl, inr}
 use Rattle.std.proofs.lemmas.Bool.{eqb-true, eq-eqb, le-leb, leb-true, and_from, and_parts, or_left, or_right, or_cases}
 use Rattle.wtp_wire.specs.declared.settings.SettingId.{SettingId}

@@ -1,4 +1,4 @@
--- The pairs of a settings payload, one after the other, are those of the grammar.
+-- The computed pairs of a settings payload are those of the grammar.
 use Rattle.std.proofs.Common.{◌≡◌, ◌≢◌, ℕ, suc, zero, true, false, ◌<◌, ◌≤◌, List, [], ◌∷◌, ◌++◌, length, Option, Some, None, Result, Ok, Err, refl, sym, ap, subst, ◌∙◌, append_assoc, append-nil, arith, inl, inr, ◌⊎◌}
 use Rattle.std.specs.Prelude.{map, Contains}
 use Rattle.std.specs.Map.{keys_of}
@@ -34,7 +34,7 @@ at-same (Some p) f g h = elim (cases_Bool (is_reserved p.0.0)) [
   | inr t ↦ rw t (ap (λ (l : List (Result SettingPair ErrorCode)). Ok (record { id = p.0.0; value = p.0.1 }) ∷ l) (h p refl))
 ]
 
--- more steps than bytes change nothing
+-- more steps than bytes do not change the result
 within-enough : (n k : ℕ) (bytes : List ℕ) → length bytes ≤ n → length bytes ≤ k → items_within n bytes ≡ items_within k bytes
 within-enough n k [] h i = within-nil n ∙ sym (within-nil k)
 within-enough zero k (b ∷ bs) h i = absurd (omega arith)
@@ -78,7 +78,7 @@ not_reserved id h = elim (cases_Bool (is_reserved id)) [ inl t ↦ absurd (h (re
 reserved_not : (id : ℕ) → is_reserved id ≡ false → IsReserved id → ⊥
 reserved_not id t r = let u : is_reserved id ≡ true = is_reserved-true id r in absurd (cc)
 
--- the pairs at the start are returned one after the other
+-- the pairs at the start are returned in order
 items-pairs : (ps : List SettingPair) (s rest : List ℕ) → ArePairs (numbers_of ps) s → AllByRecursion (λ (id : ℕ). IsReserved id → ⊥) (keys_of (numbers_of ps)) → setting_items (s ++ rest) ≡ map (λ p. Ok p) ps ++ setting_items rest
 items-pairs [] s rest h free = ap (λ (x : List ℕ). setting_items (x ++ rest)) h
 items-pairs (p ∷ ps) s rest (first, more, encoded, pairs, parts) free =
@@ -185,9 +185,9 @@ items-has_pairs ps fault payload e =
     let same = same_items qs ps g fault (sym (has_pairs-items qs g payload h) ∙ e) in
     subst (λ (f : Option ErrorCode). HasPairs ps f payload) same.1 (subst (λ (l : List SettingPair). HasPairs l g payload) same.0 h)
 
--- ---- beside the settings that are stored
+-- ---- comparison with the settings that are stored
 
--- pairs of these numbers
+-- the pairs with these numbers
 pairs_of : List (ℕ × ℕ) → List SettingPair
 pairs_of [] = []
 pairs_of (p ∷ ps) = record { id = p.0; value = p.1 } ∷ pairs_of ps

@@ -1,4 +1,4 @@
--- Settings as a list of numbers and values: one more setting.
+-- Settings as a list of identifiers and values: adding a setting.
 use Rattle.std.proofs.Common.{◌≡◌, ℕ, ◌^◌, ◌<◌, List, [], ◌∷◌, ◌++◌, Bool, true, false, cond, IsTrue, refl, ap, ◌∙◌, append_assoc, arith, inl, inr}
 use Rattle.std.proofs.lemmas.Bool.{cases_lt, lt-ltb, le-ltb, eq-eqb, ne_eqb}
 use Rattle.std.specs.declared.cmp.Ordering.{Ordering}
@@ -21,7 +21,7 @@ no_settings m e rising = record {
   values = rw e (All-nil (λ (v : ℕ). v < 2 ^ 62));
 }
 
--- one more setting, of a number that is one
+-- adding a setting with a known identifier
 pub are_settings-with : (m : List (ℕ × ℕ)) (id value : ℕ) (h : IsSettings m) → IsStrictlySortedBy nat_cmp (keys_of (with_setting m id value)) → is_setting id ≡ true → id < 2 ^ 62 → value < 2 ^ 62 → IsSettings (with_setting m id value)
 are_settings-with m id value h rising known below small = record {
   rising = rising;
@@ -63,7 +63,7 @@ with_setting-last (x ∷ xs) ys k v h =
     let below : x.0 < k = nat_cmp-less x.0 k (all_middle (λ (i : ℕ). nat_cmp x.0 i ≡ Less) xs ys k v (sorted_head nat_cmp x.0 (keys_of (xs ++ (k, v) ∷ ys)) h)) in
     ap (λ (o : Ordering). match_ordering o ((k, v) ∷ x ∷ xs) ((x.0, v) ∷ xs) (x ∷ with_setting xs k v)) (greater-nat_cmp k x.0 below) ∙ ap (λ (l : List (ℕ × ℕ)). x ∷ l) (with_setting-last xs ys k v (sorted_tail nat_cmp x.0 (keys_of (xs ++ (k, v) ∷ ys)) h))
 
--- one more of the settings m, in order
+-- copying the settings m in order
 pub copied-more : (m xs ys next : List (ℕ × ℕ)) (k v : ℕ) (h : IsSettings m) → xs ++ (k, v) ∷ ys ≡ m → next ≡ with_setting xs k v → next ++ ys ≡ m
 copied-more m xs ys next k v h e step =
     let rising : IsStrictlySortedBy nat_cmp (keys_of (xs ++ (k, v) ∷ ys)) = rw e h.rising in

@@ -1,4 +1,4 @@
--- The settings that are listed are those that are set.
+-- Exactly the settings that are set are listed.
 use Rattle.std.proofs.Common.{◌≡◌, ℕ, true, List, [], ◌∷◌, Option, Some, None, refl, sym, ap, subst, ◌∙◌, inl, inr, IsTrue}
 use Rattle.std.specs.Prelude.{Contains, map}
 use Rattle.std.specs.Map.{keys_of}
@@ -16,7 +16,7 @@ use Rattle.wtp_wire.proofs.ValueLemmas.{contains_cases, contains_head, contains_
 
 -- ---- a setting and its number
 
--- the setting of a number that is one
+-- the setting of a known identifier
 pub setting_of-is : (setting : SettingId) (id : ℕ) → IsSettingId setting id → setting_of id ≡ setting
 setting_of-is setting id h = ap (λ (o : Option SettingId). setting_or o (Exercise id)) (setting_id_of-is setting id h)
 
@@ -49,7 +49,7 @@ numbers-listed : (m : List (ℕ × ℕ)) → AllByRecursion (λ (id : ℕ). IsTr
 numbers-listed [] h = refl
 numbers-listed (p ∷ m) h = ap (λ (n : ℕ). n ∷ map (λ (x : SettingId × ℕ). setting_number_of x.0) (settings_list m)) (number_of-is (setting_of p.0) p.0 (is-setting_of p.0 h.0)) ∙ ap (λ (l : List ℕ). p.0 ∷ l) (numbers-listed m h.1)
 
--- one that is set is listed
+-- a setting that is set is listed
 listed-contains : (m : List (ℕ × ℕ)) (setting : SettingId) (id value : ℕ) → IsSettingId setting id → Contains m (id, value) → Contains (settings_list m) (setting, value)
 listed-contains [] setting id value h c = absurd (contains_none (id, value) c)
 listed-contains (p ∷ m) setting id value h c = elim (contains_cases p m (id, value) c) [
@@ -57,7 +57,7 @@ listed-contains (p ∷ m) setting id value h c = elim (contains_cases p m (id, v
   | inr rest ↦ contains_tail (setting_of p.0, p.1) (settings_list m) (setting, value) (listed-contains m setting id value h rest)
 ]
 
--- one that is listed is set
+-- a setting that is listed is set
 contains-listed : (m : List (ℕ × ℕ)) (setting : SettingId) (value : ℕ) → AllByRecursion (λ (id : ℕ). IsTrue (is_setting id)) (keys_of m) → Contains (settings_list m) (setting, value) → (id : ℕ) × IsSettingId setting id × Contains m (id, value)
 contains-listed [] setting value h c = absurd (contains_none (setting, value) c)
 contains-listed (p ∷ m) setting value h c = elim (contains_cases (setting_of p.0, p.1) (settings_list m) (setting, value) c) [

@@ -1,4 +1,4 @@
--- The computed kind of a stream is its kind.
+-- The computed kind of a stream agrees with the definition.
 use Rattle.std.proofs.Common.{◌≡◌, ℕ, Bool, true, false, Option, Some, None, refl}
 use Rattle.wtp_wire.specs.declared.stream_header.StreamKind.{StreamKind}
 use Rattle.wtp_wire.specs.declared.stream_header.StreamKind.TheVariants.{Exercise}

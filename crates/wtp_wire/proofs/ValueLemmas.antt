@@ -1,4 +1,4 @@
--- The values of settings as a list of numbers and values in ascending order of the numbers.
+-- The values of settings in a list of identifiers and values, in ascending order of identifiers.
 use Rattle.std.proofs.Common.{◌≡◌, ◌≢◌, ℕ, ◌<◌, List, [], ◌∷◌, Option, Some, None, refl, sym, ap, ◌∙◌, arith, inl, inr, ◌⊎◌}
 use Rattle.std.proofs.lemmas.Bool.{cases_order, cases_eq}
 use Rattle.std.specs.declared.cmp.Ordering.TheVariants.{Less}
@@ -43,7 +43,7 @@ contains_key (p ∷ ps) id value h = elim (contains_cases p ps (id, value) h) [
   | inr rest ↦ contains_tail p.0 (keys_of ps) id (contains_key ps id value rest)
 ]
 
--- what holds of each number holds of one among them
+-- a property of all numbers holds for each of them
 pub all_contains : (P : ℕ → Type 0) (ks : List ℕ) (k : ℕ) → AllByRecursion P ks → Contains ks k → P k
 all_contains P [] k h c = absurd (contains_none k c)
 all_contains P (x ∷ ks) k h c = elim (contains_cases x ks k c) [ inl e ↦ rw (← e) h.0 | inr rest ↦ all_contains P ks k h.1 rest ]
@@ -68,7 +68,7 @@ with_setting-same p m id value h = rw (equal-nat_cmp id p.0 h) refl
 with_setting-more : (p : ℕ × ℕ) (m : List (ℕ × ℕ)) (id value : ℕ) → p.0 < id → with_setting (p ∷ m) id value ≡ p ∷ with_setting m id value
 with_setting-more p m id value h = rw (greater-nat_cmp id p.0 h) refl
 
--- the number that was set
+-- the value of the identifier that was set
 pub value_at-set : (m : List (ℕ × ℕ)) (id value : ℕ) → value_at (with_setting m id value) id ≡ Some value
 value_at-set [] id value = value_at-head (id, value) [] id refl
 value_at-set (p ∷ m) id value = elim (cases_order id p.0) [
@@ -85,7 +85,7 @@ value_at-rest p m n id e = elim (cases_eq id p.0) [
   | inr apart ↦ value_at-tail p m id apart ∙ e ∙ sym (value_at-tail p n id apart)
 ]
 
--- the others
+-- the values of the other identifiers
 pub value_at-kept : (m : List (ℕ × ℕ)) (id value other : ℕ) → other ≢ id → value_at (with_setting m id value) other ≡ value_at m other
 value_at-kept [] id value other ne = value_at-tail (id, value) [] other ne
 value_at-kept (p ∷ m) id value other ne = elim (cases_order id p.0) [
@@ -123,7 +123,7 @@ rising-with (p ∷ m) id value h =
       ]
     ]
 
--- a number below all of them has no value
+-- an identifier below all of them has no value
 value_at-below : (m : List (ℕ × ℕ)) (id : ℕ) → AllByRecursion (λ (k : ℕ). nat_cmp id k ≡ Less) (keys_of m) → value_at m id ≡ None
 value_at-below [] id h = refl
 value_at-below (p ∷ m) id h = let near : id < p.0 = nat_cmp-less id p.0 h.0 in value_at-tail p m id (λ e. omega arith) ∙ value_at-below m id h.1

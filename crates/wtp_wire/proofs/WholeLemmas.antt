@@ -49,7 +49,7 @@ short_payload bytes behind kind n h cut = front-head bytes behind (announces.Pay
 no_frame : (bytes rest : List ℕ) (f : Content) → front bytes ≡ Short → front bytes ≡ Framed f rest → ⊥
 no_frame bytes rest f short e = cc
 
--- if the payload is short, and enough bytes follow it
+-- enough bytes follow the head of a short payload
 pub enough_after : (bytes behind rest : List ℕ) (kind : FrameKind) (n : ℕ) (f : Content) → head_at bytes ≡ Some (announces.Payload kind n, behind)
     → front bytes ≡ Framed f rest → length (payload_in f) ≤ 40 → 40 ≤ length (payload_in f) + length rest
     → (n ≤ 40) × (40 ≤ length behind)

@@ -1,4 +1,4 @@
--- What is written is read again.
+-- Written frames are read back.
 use Rattle.std.proofs.Common.{◌≡◌, ◌≢◌, ℕ, ◌^◌, ◌≤◌, ◌<◌, List, [], ◌∷◌, ◌++◌, length, refl, sym, ap, ◌∙◌, append_assoc, append-nil, arith, lit<}
 use Rattle.wtp_core.specs.Varint.{shortest}
 use Rattle.wtp_core.specs.Writer.{joined}

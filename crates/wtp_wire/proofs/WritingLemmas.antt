@@ -25,7 +25,7 @@ two_ranges h p i j k le behind = elim (cases_lt 0 j) [
       sym (rw (zero, i_is, take-append-add h p k, drop-append-le i h (take k p) le, take-length h) refl)
 ]
 
--- the first part was sent to its end, and then the second as far as the sink went
+-- the first part was sent completely, and then the second until the sink accepted no more
 pub both_told : {U : Type 0} (r : Polled (Result U IoWriteError)) (s t u : Option Sink) (h p : List ℕ) (i j k : ℕ) → i ≤ length h → (0 < j → i ≡ length h)
     → Telling s t (λ a b. Took a b (drop i (take (length h) h)) 0 0 0) → Telling t u (SinkTook r (drop j (take k p))) → Telling s u (SinkTook r (drop (i + j) (take (length h + k) (h ++ p))))
 both_told r s t u h p i j k le behind g q = rw (← two_ranges h p i j k le behind) (telling_then s t u _ _ _ (λ a b c x y. sink_then r _ _ a b c x y) g q)

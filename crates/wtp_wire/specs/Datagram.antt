@@ -2,7 +2,7 @@
 use Rattle.std.specs.Prelude.{◌≡◌, ℕ, ◌^◌, ◌<◌, List, ◌++◌, nat_lt, if◌then◌else◌, Option, Some, None}
 use Rattle.wtp_core.specs.Varint.{Encodes, shortest, number_at}
 
--- s is a quarter stream ID below 2^60, and then the payload
+-- s is an encoding of a quarter stream ID below 2^60, followed by the payload
 pub record IsDatagram (id : ℕ) (payload s : List ℕ) : Type 0 where
   pub head : List ℕ
   pub encoded : Encodes id head
@@ -18,10 +18,11 @@ abbrev pub quarter_in : Option (ℕ × List ℕ) → Option (ℕ × List ℕ)
 quarter_in None = None
 quarter_in (Some found) = quarter_of found
 
--- the quarter stream ID and the payload of a datagram of these bytes
+-- the quarter stream ID and the payload of the datagram with these bytes, or None if it is
+-- malformed
 unfoldable pub datagram_in : List ℕ → Option (ℕ × List ℕ)
 datagram_in bytes = quarter_in (number_at bytes)
 
--- the bytes of a datagram that is written
+-- the bytes of a written datagram, with its quarter stream ID in the shortest encoding
 unfoldable pub datagram_wire : ℕ × List ℕ → List ℕ
 datagram_wire d = shortest d.0 ++ d.1

@@ -1,5 +1,4 @@
--- What the head of a frame, its first two numbers, announces about the bytes after it (RFC 9114,
--- section 7.1).
+-- The head of a frame, its first two numbers, and what follows it (RFC 9114, section 7.1).
 use Rattle.std.specs.Prelude.{◌≡◌, ◌≢◌, ℕ, ◌%◌, ◌≤◌, List, Option, Some, None, nat_lt, ◌==◌, if◌then◌else◌}
 use Rattle.wtp_core.specs.Varint.{number_at}
 use Rattle.wtp_wire.specs.Limits.{max_payload}
@@ -9,7 +8,7 @@ use Rattle.wtp_wire.specs.declared.frame.head.Announcement.{Announcement}
 use Rattle.wtp_wire.specs.declared.frame.head.Announcement.TheVariants as announces
 use Rattle.wtp_wire.specs.Kind.{kind_of, IsKnown}
 
--- what the second number announces after the type of this kind, or after an unknown type
+-- what follows a head with a type of this kind, or an unknown type, and this second number
 abbrev pub announcement_of : Option FrameKind → ℕ → Announcement
 announcement_of None n = announces.Skip n
 announcement_of (Some WebTransport) n =
@@ -17,8 +16,8 @@ announcement_of (Some WebTransport) n =
 announcement_of (Some kind) n =
     if nat_lt max_payload n then announces.TooLong else announces.Payload kind n
 
--- a payload that is announced is of the given kind, which is known and not WebTransport, and may be
--- read
+-- if a payload follows, its frame is of the given kind, which is known and not WebTransport, and
+-- the payload is short enough to be read
 abbrev pub AnnouncesKind : Option FrameKind → Announcement → Type 0
 AnnouncesKind given (announces.Payload kind n) =
     (given ≡ Some kind) × IsKnown kind × (kind ≢ WebTransport) × (n ≤ max_payload)
@@ -28,17 +27,18 @@ abbrev pub and_then : {A B : Type 0} → Option A → (A → Option B) → Optio
 and_then None next = None
 and_then (Some x) next = next x
 
--- what the head at the start of the bytes announces, and the bytes after the head
+-- what follows the head at the start of the bytes, and the bytes after the head; None if the head
+-- is incomplete
 unfoldable pub head_at : List ℕ → Option (Announcement × List ℕ)
 head_at bytes =
     and_then (number_at bytes)
     (λ id. and_then (number_at id.1) (λ n. Some (announcement_of (kind_of id.0) n.0, n.1)))
 
--- what the head announces, if it is complete
+-- what follows the head, or Unfinished if it is incomplete
 abbrev pub announcement_in : Option (Announcement × List ℕ) → Announcement
 announcement_in None = announces.Unfinished
 announcement_in (Some x) = x.0
 
--- what the head at the start of the bytes announces
+-- what follows the head at the start of the bytes
 unfoldable pub announcement_at : List ℕ → Announcement
 announcement_at bytes = announcement_in (head_at bytes)

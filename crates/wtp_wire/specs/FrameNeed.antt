@@ -1,10 +1,10 @@
--- The size of the first two numbers of a frame, as far as the bytes held determine it.
+-- The size of the first two numbers of a frame, as far as its first bytes determine it.
 use Rattle.std.proofs.Common.{◌≡◌, ℕ, ◌+◌, ◌<◌, ◌≤◌, List, [], ◌∷◌, ◌++◌, length, drop, refl, ap, arith, inl, inr, length-drop}
 use Rattle.std.proofs.lemmas.Bool.{cases_lt}
 use Rattle.std.proofs.lemmas.List.{drop-append-le}
 use Rattle.wtp_core.specs.VarintNeed.{varint_need, varint_need_range, varint_need_grows, varint_need_more}
 
--- the least size of the two numbers if they start with these bytes
+-- the minimum size of two numbers that start with these bytes
 unfoldable pub frame_need : List ℕ → ℕ
 frame_need bytes = varint_need bytes + varint_need (drop (varint_need bytes) bytes)
 

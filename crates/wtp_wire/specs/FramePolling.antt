@@ -1,4 +1,4 @@
--- Reading a frame, poll by poll.
+-- Polled reading of a frame.
 use Rattle.std.specs.Prelude.{◌≡◌, ℕ, ◌+◌, ◌<◌, ◌≤◌, List, [], ◌++◌, length, Result, Ok, Err}
 use Rattle.wtp_core.specs.declared.bytes.polled.Polled.{Polled}
 use Rattle.wtp_core.specs.declared.bytes.polled.Polled.TheVariants.{Ready, Pending, Again, NoMemory}
@@ -13,28 +13,29 @@ use Rattle.wtp_wire.specs.Content.{Content}
 use Rattle.wtp_wire.specs.Front.{Front, Framed, Unknown, BadId, TooBig, Short}
 use Rattle.wtp_wire.specs.Held.{Held, new_held, front_held, IsUnknownHead, IsPayloadHead, Skips, Leaves}
 
--- In all of these, old and new are what the reading holds before and after one poll.
+-- In these definitions, old and new are the state before and after one poll.
 
--- the input starts with this case, all is taken up to its end, and nothing is held
+-- the bytes held and ahead start with this case; all bytes up to its end are taken, and nothing is
+-- held afterwards
 pub record Decided (old new : Held) (a b : Source) (case : List ℕ → Front) : Type 0 where
   pub front : front_held old a.ahead ≡ case b.ahead
   pub empty : new ≡ new_held
 
--- the source stopped after all bytes ahead, and they are too few
+-- the source gives no more bytes, and those held and ahead are too few
 pub record Stopped (old new : Held) (a b : Source) (fault : IoReadError) : Type 0 where
   pub leaves : Leaves old new a b
   pub short : front_held old a.ahead ≡ Short
   pub none_ahead : b.ahead ≡ []
   pub why : fault ≡ IO (stop (old.due + length (old.taken ++ a.ahead)) a.ending)
 
--- as many bytes of an unknown frame were skipped as one poll may, and some are still to be skipped
+-- the maximum number of bytes of an unknown frame was skipped, and more are left to skip
 pub record PassesMost (old new : Held) (a b : Source) : Type 0 where
   pub same : front_held new b.ahead ≡ front_held old a.ahead
   pub due : 0 < new.due
   pub skips : Skips old new a b
   pub most : length skips.payload ≡ max_passed
 
--- the type of a kind and a length above 0 precede a payload that may be read; none of its bytes was
+-- the bytes start with the head of a nonempty payload that may be read; no byte of the payload was
 -- held
 pub record WantsPayload (whole : List ℕ) (held : ℕ) : Type 0 where
   pub kind : FrameKind
@@ -46,7 +47,7 @@ pub record WantsPayload (whole : List ℕ) (held : ℕ) : Type 0 where
   pub parts : whole ≡ head ++ rest
   pub none_held : held ≤ length head
 
--- what one poll did to a source with a model
+-- the effect of one poll, by its result, on the state and on the model of the source
 abbrev pub FramePolled :
     Polled (Result Content IoReadError) → Held → Held → Source → Source → Type 0
 FramePolled (Ready (Ok f)) old new a b = Decided old new a b (Framed f)
@@ -65,8 +66,8 @@ FramePolled NoMemory old new a b =
 
 -- ---- of every source, also of one without a model
 
--- More bytes were given after those held, and none was lost; or they are the head of an unknown
--- frame; or fewer bytes of one are still to be skipped.
+-- No byte was lost: the bytes given were appended to those held, or they are the head and skipped
+-- bytes of an unknown frame, or the number of bytes left to skip did not grow.
 pub record KeepsHeld (old new : Held) : Type 0 where
   pub kept : new.due ≡ 0 → (old.due ≡ 0) × ((given : List ℕ) × (new.taken ≡ old.taken ++ given))
   pub begun :
@@ -74,19 +75,21 @@ pub record KeepsHeld (old new : Held) : Type 0 where
       → (given : List ℕ) × (passed : ℕ) × IsUnknownHead (passed + new.due) (old.taken ++ given)
   pub going : 0 < old.due → (0 < new.due) × (new.due ≤ old.due)
 
--- bytes were given that, after those held, make this case, and nothing is held
+-- the bytes held followed by those given are this case exactly, and nothing is held afterwards
 pub record Answered (old new : Held) (case : List ℕ → Front) : Type 0 where
   pub given : List ℕ
   pub front : front_held old given ≡ case []
   pub empty : new ≡ new_held
 
--- what is held is the head of a payload that may be read, of at least one byte
+-- the bytes held are the head of a nonempty payload that may be read
 pub record HoldsHead (held : List ℕ) : Type 0 where
   pub kind : FrameKind
   pub size : ℕ
   pub is : IsPayloadHead kind size held
   pub some : 0 < size
 
+-- the effect of one poll, by its result, on the state; this holds for every source, even without a
+-- model
 abbrev pub FrameGiven : Polled (Result Content IoReadError) → Held → Held → Type 0
 FrameGiven (Ready (Ok f)) old new = Answered old new (Framed f)
 FrameGiven (Ready (Err (Parse UnknownFrame))) old new = Answered old new Unknown

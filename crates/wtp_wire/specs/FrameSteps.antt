@@ -1,4 +1,4 @@
--- The parts of one poll of a reading of a frame, for the private functions that it consists of.
+-- The steps of one poll for a frame, for the private functions that it consists of.
 use Rattle.std.specs.Prelude.{◌≡◌, ◌≢◌, ℕ, ◌+◌, ◌-◌, ◌<◌, ◌≤◌, List, [], ◌++◌, length, drop, None, Result, Ok, Err}
 use Rattle.wtp_core.specs.declared.bytes.polled.Polled.{Polled}
 use Rattle.wtp_core.specs.declared.bytes.polled.Polled.TheVariants.{Ready, Pending, Again, NoMemory}
@@ -26,52 +26,54 @@ use Rattle.wtp_wire.specs.Held.{Held}
 
 -- ---- a complete frame that the source has buffered
 
--- these bytes are the frame, and no more
+-- some bytes are exactly this frame
 pub record IsFramed (f : Content) : Type 0 where
   pub bytes : List ℕ
   pub front : front bytes ≡ Framed f []
 
--- it was taken
+-- the source gave this frame, its first, in at most one call
 pub record TakesFrame (f : Content) (a b : Source) : Type 0 where
   pub front : front a.ahead ≡ Framed f b.ahead
   pub asks : Asks 1 a b
   pub waits : b.waits ≡ a.waits
 
--- ---- reading on
+-- ---- reading further
 
--- new starts with the bytes of old
+-- old is a prefix of new
 abbrev pub Grew : List ℕ → List ℕ → Type 0
 Grew old new = (given : List ℕ) × (new ≡ old ++ given)
 
--- what it did to the source
+-- the effect of a step with this result on the bytes held and on the model of the source
 abbrev pub StopMoves : {U : Type 0} → Result U Stop → List ℕ → List ℕ → Source → Source → Type 0
 StopMoves (Ok u) held new a b = Gains held new a b 0
 StopMoves {U} (Err (stopped.Source h)) held new a b = FillMoves {U = U} (Err h) held new a b
 StopMoves (Err stopped.NoMemory) held new a b = Gains held new a b 0
 
--- how often the source was not ready
+-- how often the source was not ready: once or never
 abbrev pub stop_waits : {U : Type 0} → Result U Stop → ℕ
 stop_waits (Ok u) = 0
 stop_waits {U} (Err (stopped.Source h)) = halt_waits {U = U} (Err h)
 stop_waits (Err stopped.NoMemory) = 0
 
+-- the count of waits rose by this number
 abbrev pub StopWaits : {U : Type 0} → Result U Stop → Source → Source → Type 0
 StopWaits r a b = b.waits ≡ a.waits + stop_waits r
 
--- there is no room, and none was to be had for a payload of this size
+-- nothing is allocated for the payload, before or after: allocation of this size failed
 pub record LacksPayloadRoom (size : ℕ) (old new : Part) : Type 0 where
   pub before : old.room ≡ 0
   pub after : new.room ≡ 0
   pub none : new.payload ≡ []
   pub some : 0 < size
 
--- of a payload of this size
+-- the effect of reading a payload of this size: it is complete, or incomplete, or its allocation
+-- failed
 abbrev pub PayloadKeeps : {U : Type 0} → Result U Stop → ℕ → Part → Part → Type 0
 PayloadKeeps (Ok _) size old new = (new.room ≡ size) × (length new.payload ≡ size)
 PayloadKeeps (Err (stopped.Source h)) size old new = (new.room ≡ size) × (length new.payload < size)
 PayloadKeeps (Err stopped.NoMemory) size old new = LacksPayloadRoom size old new
 
--- the size of the payload that has to be held with such a head
+-- the size of the payload that must be held after such a head
 abbrev pub payload_size : Announcement → ℕ
 payload_size announces.Unfinished = 0
 payload_size (announces.Payload k size) = size
@@ -80,14 +82,14 @@ payload_size (announces.Skip size) = 0
 payload_size announces.BadSession = 0
 payload_size announces.TooLong = 0
 
--- the head is complete and announces this, and its payload is all there
+-- the head is complete, this follows it, and its payload is complete
 pub record IsComplete (s : Announcement) (p : Part) : Type 0 where
   pub whole : frame_need p.head ≡ length p.head
   pub says : announcement_at p.head ≡ s
   pub size : length p.payload ≡ payload_size s
   pub all : p.room ≡ length p.payload
 
--- the head announces a payload, none of which was held before, and there is no room for it
+-- the head is complete, a nonempty payload follows, and no byte of it was held
 pub record WantsRoom (old new : Part) : Type 0 where
   pub none : old.payload ≡ []
   pub forward : length old.head ≤ length new.head
@@ -98,13 +100,14 @@ pub record WantsRoom (old new : Part) : Type 0 where
   pub some : 0 < size
   pub empty : new.payload ≡ []
 
+-- the effect of reading up to a complete payload: the frame is complete, or incomplete, or its
+-- payload was not allocated
 abbrev pub AdvanceKeeps : Result Announcement Stop → Part → Part → Type 0
 AdvanceKeeps (Ok s) old new = IsComplete s new
 AdvanceKeeps (Err (stopped.Source _)) old new = IsReading new
 AdvanceKeeps (Err stopped.NoMemory) old new = IsReading new × WantsRoom old new
 
--- the result where the head announces this and this is the payload; a frame that has to be skipped
--- has none
+-- the result for what follows the head, and the payload; a frame to be skipped has none
 abbrev pub IsAnswer : Announcement → List ℕ → Result Content IoReadError → Type 0
 IsAnswer announces.Unfinished payload r = ⊥
 IsAnswer (announces.Payload k size) payload r = r ≡ Ok (content k payload None)
@@ -113,7 +116,7 @@ IsAnswer (announces.Skip size) payload r = ⊥
 IsAnswer announces.BadSession payload r = r ≡ Err (Parse parse.InvalidSessionId)
 IsAnswer announces.TooLong payload r = r ≡ Err (Parse parse.PayloadTooBig)
 
--- there is a result
+-- there is a result: the frame is complete, and is not one to be skipped
 abbrev pub CanAnswer : Announcement → ℕ → Type 0
 CanAnswer announces.Unfinished size = ⊥
 CanAnswer (announces.Payload k n) size = IsKnown k × (k ≢ WebTransport) × (size ≤ max_payload)
@@ -122,8 +125,9 @@ CanAnswer (announces.Skip n) size = ⊥
 CanAnswer announces.BadSession size = Unit {0}
 CanAnswer announces.TooLong size = Unit {0}
 
--- ---- skipping the bytes of an unknown frame that are still to be skipped
+-- ---- skipping the bytes of an unknown frame that are left to skip
 
+-- due - due' bytes were skipped, at most the maximum for one poll
 pub record Skipped (due due' : ℕ) (a b : Source) : Type 0 where
   pub fewer : due' ≤ due
   pub most : due ≤ due' + max_passed
@@ -131,6 +135,8 @@ pub record Skipped (due due' : ℕ) (a b : Source) : Type 0 where
   pub rest : b.ahead ≡ drop (due - due') a.ahead
   pub asks : Asks max_passed a b
 
+-- the effect of skipping, by its result, on the number of bytes left to skip and on the model of
+-- the source
 abbrev pub PassedOn : Polled (Result Content IoReadError) → ℕ → ℕ → Source → Source → Type 0
 PassedOn (Ready (Ok f)) due due' a b = ⊥
 PassedOn (Ready (Err (Parse parse.UnknownFrame))) due due' a b = Skipped due due' a b × (due' ≡ 0)
@@ -147,7 +153,7 @@ PassedOn Pending due due' a b =
 PassedOn Again due due' a b = Skipped due due' a b × (0 < due') × (due ≡ due' + max_passed)
 PassedOn NoMemory due due' a b = ⊥
 
--- of every source
+-- the same for every source, even without a model
 abbrev pub PassedPlain : Polled (Result Content IoReadError) → ℕ → ℕ → Type 0
 PassedPlain (Ready (Ok f)) due due' = ⊥
 PassedPlain (Ready (Err (Parse parse.UnknownFrame))) due due' = due' ≡ 0
@@ -158,9 +164,9 @@ PassedPlain Pending due due' = (0 < due') × (due' ≤ due)
 PassedPlain Again due due' = (0 < due') × (due' ≤ due)
 PassedPlain NoMemory due due' = ⊥
 
--- ---- a poll up to the bytes still to be skipped
+-- ---- a poll up to the bytes left to skip
 
--- the head of an unknown frame is taken, or bytes of one were still to be skipped before
+-- the head of an unknown frame was taken, or bytes of one were left to skip before
 pub record BeginsFrame (old new : Held) (a b : Source) : Type 0 where
   pub head : List ℕ
   pub parts : old.taken ++ a.ahead ≡ head ++ b.ahead
@@ -170,7 +176,7 @@ pub record BeginsFrame (old new : Held) (a b : Source) : Type 0 where
   pub going : 0 < old.due → (head ≡ []) × (old.due ≡ new.due) × (b.ahead ≡ a.ahead)
   pub asks : Asks max_head a b
 
--- of every source
+-- the same for every source, even without a model
 pub record BeginsPlain (old new : Held) : Type 0 where
   pub empty : new.taken ≡ []
   pub begun :

@@ -10,7 +10,7 @@ use Rattle.wtp_wire.specs.Kind.{frame_type_of, IsKind}
 use Rattle.wtp_wire.specs.Content.{Content, PlainOf, WebTransportOf}
 use Rattle.wtp_wire.specs.FrameHead.{head_at}
 
--- What the bytes start with, and the bytes after it. Short means that more bytes have to come.
+-- What the bytes start with, and the bytes after it. Short means that more bytes are needed.
 pub data Front : Type 0 where
   Framed : Content → List ℕ → Front
   Unknown : List ℕ → Front
@@ -20,7 +20,7 @@ pub data Front : Type 0 where
 
 -- ---- the wire grammar
 
--- s is an encoding of a type, and then an encoding of n
+-- s is an encoding of id, followed by an encoding of n
 pub record EncodesPair (id n : ℕ) (s : List ℕ) : Type 0 where
   pub first : List ℕ
   pub second : List ℕ
@@ -28,8 +28,8 @@ pub record EncodesPair (id n : ℕ) (s : List ℕ) : Type 0 where
   pub type_number : Encodes id first
   pub number : Encodes n second
 
--- s is a type of this kind, which is not WebTransport, a length of at most 4096, and a payload of
--- that length
+-- s is a frame of this kind, which is not WebTransport: a type, a length of at most 4096, and a
+-- payload of that length
 pub record IsPlainFrame (kind : FrameKind) (payload s : List ℕ) : Type 0 where
   pub id : ℕ
   pub head : List ℕ
@@ -44,7 +44,7 @@ abbrev pub IsFrame : Content → List ℕ → Type 0
 IsFrame (PlainOf kind payload) s = IsPlainFrame kind payload s
 IsFrame (WebTransportOf id) s = EncodesPair (frame_type_of WebTransport) id s × (id % 4 ≡ 0)
 
--- s is a frame of an unknown type, of any length: it has to be ignored
+-- s is a frame of an unknown type and of any length, which must be ignored
 abbrev pub IsUnknown : List ℕ → Type 0
 IsUnknown s =
     (id : ℕ)
@@ -57,7 +57,7 @@ IsUnknown s =
 abbrev pub IsBadId : List ℕ → Type 0
 IsBadId s = (id : ℕ) × EncodesPair (frame_type_of WebTransport) id s × (id % 4 ≢ 0)
 
--- s is a type of another kind and a length above 4096
+-- s is a known type other than WebTransport, followed by a length above 4096
 abbrev pub IsTooBig : List ℕ → Type 0
 IsTooBig s =
     (kind : FrameKind)
@@ -75,7 +75,7 @@ Begins bytes (BadId rest) = (s : List ℕ) × IsBadId s × (bytes ≡ s ++ rest)
 Begins bytes (TooBig rest) = (s : List ℕ) × IsTooBig s × (bytes ≡ s ++ rest)
 Begins bytes Short = ⊥
 
--- the case, if more bytes follow
+-- the same case with more bytes after it
 abbrev pub extended : Front → List ℕ → Front
 extended (Framed f rest) more = Framed f (rest ++ more)
 extended (Unknown rest) more = Unknown (rest ++ more)
@@ -89,7 +89,7 @@ abbrev pub or_short : {A : Type 0} → Option A → (A → Front) → Front
 or_short None next = Short
 or_short (Some x) next = next x
 
--- the case of all the bytes, given what their head announces and the bytes after the head
+-- the case of all the bytes, given what follows the head and the bytes after the head
 abbrev pub front_after : Announcement → List ℕ → Front
 front_after announces.Unfinished rest = Short
 front_after (announces.Payload kind n) rest =
@@ -99,6 +99,6 @@ front_after (announces.Skip n) rest = or_short (bytes_at n rest) (λ payload. Un
 front_after announces.BadSession rest = BadId rest
 front_after announces.TooLong rest = TooBig rest
 
--- the first frame of the bytes, or the case in its place
+-- the case that the bytes start with: their first frame, an error, or Short
 unfoldable pub front : List ℕ → Front
 front bytes = or_short (head_at bytes) (λ head. front_after head.0 head.1)

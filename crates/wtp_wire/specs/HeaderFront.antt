@@ -7,7 +7,7 @@ use Rattle.wtp_wire.specs.Front.{EncodesPair}
 use Rattle.wtp_wire.specs.StreamKind.{IsStreamKind, has_session, stream_number_of, stream_kind_of}
 use Rattle.wtp_wire.specs.Header.{Header, PlainHeader, WebTransportHeader}
 
--- What the bytes start with, and the bytes after it. Short means that more bytes have to come.
+-- What the bytes start with, and the bytes after it. Short means that more bytes are needed.
 pub data HeaderFront : Type 0 where
   Headed : Header → List ℕ → HeaderFront
   Unknown : List ℕ → HeaderFront
@@ -22,7 +22,7 @@ IsHeader (PlainHeader kind) s =
     (id : ℕ) × IsStreamKind kind id × (has_session kind ≡ false) × Encodes id s
 IsHeader (WebTransportHeader id) s = EncodesPair (stream_number_of WebTransport) id s × (id % 4 ≡ 0)
 
--- s is an unknown type (RFC 9114, section 6.2: the stream has to be ignored or refused)
+-- s is an unknown type, whose stream must be ignored or rejected (RFC 9114, section 6.2)
 abbrev pub IsUnknownHeader : List ℕ → Type 0
 IsUnknownHeader s = (id : ℕ) × ((kind : StreamKind) → IsStreamKind kind id → ⊥) × Encodes id s
 
@@ -37,7 +37,7 @@ StreamBegins bytes (Unknown rest) = (s : List ℕ) × IsUnknownHeader s × (byte
 StreamBegins bytes (BadId rest) = (s : List ℕ) × IsBadHeader s × (bytes ≡ s ++ rest)
 StreamBegins bytes Short = ⊥
 
--- the case, if more bytes follow
+-- the same case with more bytes after it
 abbrev pub header_extended : HeaderFront → List ℕ → HeaderFront
 header_extended (Headed h rest) more = Headed h (rest ++ more)
 header_extended (Unknown rest) more = Unknown (rest ++ more)
@@ -50,13 +50,13 @@ abbrev pub or_short_header : {A : Type 0} → Option A → (A → HeaderFront) �
 or_short_header None next = Short
 or_short_header (Some x) next = next x
 
--- after the WebTransport type
+-- the case, given the bytes after the WebTransport type
 unfoldable pub session_header_front : List ℕ → HeaderFront
 session_header_front bytes =
     or_short_header (number_at bytes)
     (λ id. if id.0 % 4 == 0 then Headed (WebTransportHeader id.0) id.1 else BadId id.1)
 
--- after the type of a kind
+-- the case, given a kind and the bytes after its type
 abbrev pub kind_header_front : StreamKind → List ℕ → HeaderFront
 kind_header_front kind bytes =
     if has_session kind then session_header_front bytes else Headed (PlainHeader kind) bytes
@@ -65,7 +65,7 @@ abbrev pub typed_header_front : Option StreamKind → List ℕ → HeaderFront
 typed_header_front None bytes = Unknown bytes
 typed_header_front (Some kind) bytes = kind_header_front kind bytes
 
--- the header of the bytes, or the case in its place
+-- the case that the bytes start with: a header, an error, or Short
 unfoldable pub header_front : List ℕ → HeaderFront
 header_front bytes =
     or_short_header (number_at bytes) (λ id. typed_header_front (stream_kind_of id.0) id.1)

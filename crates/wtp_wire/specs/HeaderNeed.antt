@@ -1,4 +1,4 @@
--- The size of a stream header, as far as the bytes held determine it.
+-- The size of a stream header, as far as its first bytes determine it.
 use Rattle.std.proofs.Common.{◌≡◌, ℕ, ◌+◌, ◌≤◌, List, ◌++◌, Bool, true, false, if◌then◌else◌, Option, Some, None, refl, arith}
 use Rattle.wtp_core.specs.Varint.{number_at}
 use Rattle.wtp_core.specs.VarintNeed.{varint_need, varint_need_range, varint_need_grows}
@@ -6,7 +6,7 @@ use Rattle.wtp_core.proofs.EncodingLemmas.{number_at-more}
 use Rattle.wtp_wire.specs.declared.stream_header.StreamKind.{StreamKind}
 use Rattle.wtp_wire.specs.StreamKind.{has_session, stream_kind_of}
 
--- the least number of bytes after the type of this kind, or after an unknown type
+-- the minimum number of bytes after a type of this kind, or after an unknown type
 abbrev pub second_need : Option StreamKind → List ℕ → ℕ
 second_need None rest = 0
 second_need (Some kind) rest = if has_session kind then varint_need rest else 0
@@ -15,7 +15,7 @@ abbrev pub need_after : Option (ℕ × List ℕ) → ℕ
 need_after None = 0
 need_after (Some x) = second_need (stream_kind_of x.0) x.1
 
--- the least size of a header that starts with these bytes
+-- the minimum size of a header that starts with these bytes
 unfoldable pub header_need : List ℕ → ℕ
 header_need bytes = varint_need bytes + need_after (number_at bytes)
 

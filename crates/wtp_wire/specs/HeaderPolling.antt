@@ -1,4 +1,4 @@
--- Reading a stream header, poll by poll.
+-- Polled reading of a stream header.
 use Rattle.std.specs.Prelude.{◌≡◌, ℕ, List, [], ◌++◌, Result, Ok, Err}
 use Rattle.wtp_core.specs.declared.bytes.polled.Polled.{Polled}
 use Rattle.wtp_core.specs.declared.bytes.polled.Polled.TheVariants.{Ready, Pending, Again, NoMemory}
@@ -10,15 +10,16 @@ use Rattle.wtp_wire.specs.declared.stream_header.polled.IoReadError.TheVariants.
 use Rattle.wtp_wire.specs.Header.{Header}
 use Rattle.wtp_wire.specs.HeaderFront.{HeaderFront, Headed, Unknown, BadId, Short, header_front}
 
--- In all of these, old and new are the bytes that the reading holds before and after one poll.
+-- In these definitions, old and new are the bytes held before and after one poll.
 
--- the bytes start with this case, all is taken up to its end, and nothing is held
+-- the bytes held and ahead start with this case; all bytes up to its end are taken, and nothing is
+-- held afterwards
 pub record HeaderDecided (old new : List ℕ) (a b : Source) (case : List ℕ → HeaderFront) : Type
     0 where
   pub front : header_front (old ++ a.ahead) ≡ case b.ahead
   pub empty : new ≡ []
 
--- what one poll did to a source with a model
+-- the effect of one poll, by its result, on the bytes held and on the model of the source
 abbrev pub HeaderPolled :
     Polled (Result Header IoReadError) → List ℕ → List ℕ → Source → Source → Type 0
 HeaderPolled (Ready (Ok h)) old new a b = HeaderDecided old new a b (Headed h)
@@ -30,14 +31,14 @@ HeaderPolled Pending old new a b = Waits old new a b
 HeaderPolled Again old new a b = ⊥
 HeaderPolled NoMemory old new a b = ⊥
 
--- bytes were given that, after those held, make this case, and nothing is held
+-- the bytes held followed by those given are this case exactly, and nothing is held afterwards
 pub record HeaderAnswered (old new : List ℕ) (case : List ℕ → HeaderFront) : Type 0 where
   pub given : List ℕ
   pub front : header_front (old ++ given) ≡ case []
   pub empty : new ≡ []
 
--- More bytes were given after those held, and none was lost. This holds of every source, also of
--- one without a model.
+-- No byte was lost: the bytes given were appended to those held, or all of them are the header or
+-- the error returned. This holds for every source, even without a model.
 abbrev pub HeaderGiven : Polled (Result Header IoReadError) → List ℕ → List ℕ → Type 0
 HeaderGiven (Ready (Ok h)) old new = HeaderAnswered old new (Headed h)
 HeaderGiven (Ready (Err (Parse UnknownStream))) old new = HeaderAnswered old new Unknown
@@ -49,7 +50,7 @@ HeaderGiven NoMemory old new = ⊥
 
 -- ---- its parts
 
--- the result of complete bytes
+-- the result for the bytes of a complete header
 abbrev pub IsWhole : Result Header IoReadError → List ℕ → Type 0
 IsWhole (Ok h) bytes = header_front bytes ≡ Headed h []
 IsWhole (Err (Parse UnknownStream)) bytes = header_front bytes ≡ Unknown []

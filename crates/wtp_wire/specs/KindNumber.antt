@@ -1,4 +1,4 @@
--- A kind of frames that is stored as its type.
+-- A kind of frame stored as its type.
 use Rattle.std.proofs.Common.{◌≡◌, ℕ, Bool, true, false, eqb, cond, List, [], ◌∷◌, Option, Some, None, refl, sym}
 use Rattle.std.proofs.lemmas.Bool.{eqb-true}
 use Rattle.wtp_wire.specs.declared.frame.kind.FrameKind.{FrameKind}
@@ -9,7 +9,7 @@ abbrev pub or_exercise : ℕ → Option FrameKind → FrameKind
 or_exercise id (Some kind) = kind
 or_exercise id None = Exercise id
 
--- the kind of this type, if it is known to have one
+-- the kind with this type; an unknown type is treated as an exercise kind
 unfoldable pub kind_numbered : ℕ → FrameKind
 kind_numbered id = or_exercise id (registered_kind id)
 

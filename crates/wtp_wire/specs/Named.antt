@@ -1,9 +1,9 @@
--- Kinds by their numbers: a named kind has one number, and each number that is reserved for
--- exercise is a kind too.
+-- Kinds and their numbers: each named kind has one number, and each reserved number is an exercise
+-- kind.
 use Rattle.std.specs.Prelude.{ℕ, List, [], ◌∷◌, Option, Some, None, ◌==◌, if◌then◌else◌}
 use Rattle.wtp_wire.specs.Kind.{is_exercise}
 
--- the kind of this number, if it has one: the named kind whose number it is, or the exercise kind
+-- the kind with this number, if there is one: a named kind, or an exercise kind
 abbrev pub kind_by : {K : Type 0} → (K → ℕ) → (ℕ → K) → List K → ℕ → Option K
 kind_by number exercise [] id = if is_exercise id then Some (exercise id) else None
 kind_by number exercise (k ∷ ks) id =

@@ -9,11 +9,13 @@ use Rattle.wtp_wire.specs.Named.{kind_by}
 
 -- ---- the table: the settings with a name, and the number of each
 
+-- the settings with a name
 abbrev pub named_settings : List SettingId
 named_settings =
     QPackMaxTableCapacity ∷ MaxFieldSectionSize ∷ QPackBlockedStreams ∷ EnableConnectProtocol
     ∷ H3Datagram ∷ EnableWebTransport ∷ WebTransportMaxSessions ∷ []
 
+-- the identifier of a setting
 abbrev pub setting_number_of : SettingId → ℕ
 setting_number_of QPackMaxTableCapacity = 0x01
 setting_number_of MaxFieldSectionSize = 0x06
@@ -24,8 +26,8 @@ setting_number_of EnableWebTransport = 0x2b603742
 setting_number_of WebTransportMaxSessions = 0xc671706a
 setting_number_of (Exercise number) = number
 
--- the names of the settings in the standards; an exercise setting has none, and is printed as its
--- number in hexadecimal
+-- the name of a setting in the standards; an exercise setting has none, and is printed as its
+-- identifier in hexadecimal
 abbrev pub setting_name_of : SettingId → List ℕ
 -- RFC 9204, section 5
 setting_name_of QPackMaxTableCapacity = codes "SETTINGS_QPACK_MAX_TABLE_CAPACITY"
@@ -41,31 +43,31 @@ setting_name_of EnableWebTransport = codes "SETTINGS_ENABLE_WEBTRANSPORT"
 setting_name_of WebTransportMaxSessions = codes "SETTINGS_WEBTRANSPORT_MAX_SESSIONS"
 setting_name_of (Exercise number) = codes "0x" ++ digits 16 false number
 
--- the number identified a setting of HTTP/2 that HTTP/3 does not have: it must not be received (RFC
--- 9114, section 7.2.4.1)
+-- the identifier is reserved because HTTP/2 used it: it must not be received (RFC 9114, section
+-- 7.2.4.1)
 abbrev pub IsReserved : ℕ → Type 0
 IsReserved id = (id ≡ 0x00) ⊎ ((0x02 ≤ id) × (id ≤ 0x05))
 
 -- ---- what follows from it
 
--- the identifier of this setting is this number; the exercise identifiers are the exercise types of
--- frames (RFC 9114, section 7.2.4.1)
+-- the setting has this identifier; the exercise identifiers are the reserved frame types (RFC 9114,
+-- section 7.2.4.1)
 abbrev pub IsSettingId : SettingId → ℕ → Type 0
 IsSettingId (Exercise number) id = (number ≡ id) × IsExercise id
 IsSettingId setting id = id ≡ setting_number_of setting
 
--- the number identifies a setting that is stored: others are unknown and ignored
+-- the identifier is that of a setting that is stored; others are unknown and ignored
 abbrev pub IsSetting : ℕ → Type 0
 IsSetting id = (setting : SettingId) × IsSettingId setting id
 
 -- ---- the same, computed
 
--- the number, except for an exercise setting whose number is not reserved for exercise
+-- the identifier of a setting, or None for an exercise setting whose number is not reserved
 abbrev pub known_number_of : SettingId → Option ℕ
 known_number_of (Exercise number) = if is_exercise number then Some number else None
 known_number_of setting = Some (setting_number_of setting)
 
--- the setting of a number, if it has one
+-- the setting with this identifier, or None if it is unknown
 unfoldable pub setting_id_of : ℕ → Option SettingId
 setting_id_of id = kind_by setting_number_of (λ n. Exercise n) named_settings id
 

@@ -16,15 +16,16 @@ use Rattle.wtp_wire.specs.declared.settings.SettingId.{SettingId}
 use Rattle.wtp_wire.specs.Front.{EncodesPair}
 use Rattle.wtp_wire.specs.SettingId.{IsSetting, IsReserved, is_setting, is_reserved, known_number_of}
 
--- ---- settings are numbers and their values, in ascending order of the numbers
+-- ---- settings are identifiers and their values, in ascending order of identifiers
 
+-- m is a valid list of settings: known identifiers in ascending order, and all numbers below 2^62
 pub record IsSettings (m : List (ℕ × ℕ)) : Type 0 where
   pub rising : IsStrictlySortedBy nat_cmp (keys_of m)
   pub known : All (λ id. IsTrue (is_setting id)) (keys_of m)
   pub ids : All (λ id. id < 2 ^ 62) (keys_of m)
   pub values : All (λ value. value < 2 ^ 62) (values_of m)
 
--- the value of a number
+-- the value of an identifier, or None if it is not set
 abbrev pub value_at : List (ℕ × ℕ) → ℕ → Option ℕ
 value_at m id = lookup (is_at (nat_cmp id)) m
 
@@ -32,31 +33,30 @@ abbrev pub value_at_some : List (ℕ × ℕ) → Option ℕ → Option ℕ
 value_at_some m None = None
 value_at_some m (Some id) = value_at m id
 
--- the value of a setting
+-- the value of a setting, or None if it is not set
 abbrev pub setting_value : List (ℕ × ℕ) → SettingId → Option ℕ
 setting_value m setting = value_at_some m (known_number_of setting)
 
--- m with this value of a number: in place of the previous one, or else at the position of the
--- number
+-- m with this value for an identifier: it replaces the previous value, or is inserted in order
 abbrev pub with_setting : List (ℕ × ℕ) → ℕ → ℕ → List (ℕ × ℕ)
 with_setting m id value = insert_entry nat_cmp m id value
 
 -- ---- the payload
 
--- s is these pairs one after the other: of each an encoding of its identifier, and then one of its
--- value
+-- s is the encoding of these pairs in order: for each, an encoding of its identifier followed by
+-- one of its value
 abbrev pub ArePairs : List (ℕ × ℕ) → List ℕ → Type 0
 ArePairs [] s = s ≡ []
 ArePairs (p ∷ ps) s =
     (first rest : List ℕ) × EncodesPair p.0 p.1 first × ArePairs ps rest × (s ≡ first ++ rest)
 
--- no identifier is one of HTTP/2's, and none that is stored occurs twice
+-- no identifier is reserved because HTTP/2 used it, and no identifier of a setting occurs twice
 abbrev pub AreFaultless : List (ℕ × ℕ) → Type 0
 AreFaultless [] = Unit {0}
 AreFaultless (p ∷ ps) =
     (¬ IsReserved p.0) × (IsSetting p.0 → ¬ Contains (keys_of ps) p.0) × AreFaultless ps
 
--- m are the settings among the pairs, in ascending order of the numbers
+-- m are the settings among the pairs, in ascending order of identifiers
 pub record AreKept (m ps : List (ℕ × ℕ)) : Type 0 where
   pub rising : IsStrictlySortedBy nat_cmp (keys_of m)
   pub same :
@@ -66,12 +66,13 @@ pub record AreKept (m ps : List (ℕ × ℕ)) : Type 0 where
 abbrev pub IsPayload : List (ℕ × ℕ) → List ℕ → Type 0
 IsPayload m s = (ps : List (ℕ × ℕ)) × ArePairs ps s × AreFaultless ps × AreKept m ps
 
--- after these pairs, the rest starts with an identifier or a value that is truncated
+-- the rest is a truncated pair: its identifier or its value is incomplete
 abbrev pub IsCutSetting : List ℕ → Type 0
 IsCutSetting rest =
     (rest ≢ []) × ((id value : ℕ) (s more : List ℕ) → EncodesPair id value s → rest ≡ s ++ more → ⊥)
 
--- after these pairs, the rest starts with a pair that is not permitted there
+-- the rest starts with a pair that is not permitted after these pairs: its identifier is reserved,
+-- or repeats that of a setting
 abbrev pub IsRefused : List (ℕ × ℕ) → List ℕ → Type 0
 IsRefused ps rest =
     (id value : ℕ)
@@ -80,7 +81,7 @@ IsRefused ps rest =
     × (rest ≡ s ++ more)
     × (IsReserved id ⊎ (IsSetting id × Contains (keys_of ps) id))
 
--- the first fault of the payload, in byte order
+-- the error code of the first error of the payload, in byte order
 abbrev pub IsSettingsFault : ErrorCode → List ℕ → Type 0
 IsSettingsFault code s =
     (ps : List (ℕ × ℕ))
@@ -92,13 +93,14 @@ IsSettingsFault code s =
 
 -- ---- the same, computed
 
--- the identifier and the value at the start of the bytes, and the bytes after them
+-- the identifier and the value at the start of the bytes, and the bytes after them; None if they
+-- are incomplete
 unfoldable pub pair_at : List ℕ → Option ((ℕ × ℕ) × List ℕ)
 pair_at bytes =
     option_and_then (λ id. option_map (λ value. ((id.0, value.0), value.1)) (number_at id.1))
     (number_at bytes)
 
--- m and one more pair
+-- the settings m after one more pair, or the error code
 unfoldable pub kept_with : List (ℕ × ℕ) → ℕ × ℕ → Result (List (ℕ × ℕ)) ErrorCode
 kept_with m p =
     if is_reserved p.0
@@ -116,26 +118,26 @@ abbrev pub or_fault :
 or_fault (Err code) next = Err code
 or_fault (Ok x) next = next x
 
--- m and the pairs that the bytes encode, at most n of them
+-- the settings m after the pairs that the bytes encode, at most n, or the first error
 unfoldable pub settings_from : ℕ → List (ℕ × ℕ) → List ℕ → Result (List (ℕ × ℕ)) ErrorCode
 settings_from n m [] = Ok m
 settings_from zero m (b ∷ bs) = Err Frame
 settings_from (suc n) m (b ∷ bs) =
     or_cut (pair_at (b ∷ bs)) (λ p. or_fault (kept_with m p.0) (λ kept. settings_from n kept p.1))
 
--- the settings that the payload contains, or its first fault
+-- the settings that the payload contains, or its first error
 unfoldable pub settings_in : List ℕ → Result (List (ℕ × ℕ)) ErrorCode
 settings_in bytes = settings_from (length bytes) [] bytes
 
 -- ---- reading and writing
 
--- the result of storing one more pair; allocation may fail only for one that is stored
+-- the result of storing one more pair; allocation may fail only for a setting that is stored
 abbrev pub KeepsSetting : List (ℕ × ℕ) → ℕ × ℕ → Result (Unit {0}) Refused → List (ℕ × ℕ) → Type 0
 KeepsSetting old p (Ok u) new = kept_with old p ≡ Ok new
 KeepsSetting old p (Err (Code code)) new = kept_with old p ≡ Err code
 KeepsSetting old p (Err Memory) new = kept_with old p ≡ Ok (with_setting old p.0 p.1)
 
--- a prefix of the payload contains settings, and at least one
+-- a prefix of the payload contains valid settings, at least one
 pub record StartsWithSettings (payload : List ℕ) : Type 0 where
   pub front : List ℕ
   pub rest : List ℕ
@@ -144,20 +146,20 @@ pub record StartsWithSettings (payload : List ℕ) : Type 0 where
   pub read : settings_in front ≡ Ok m
   pub some : m ≢ []
 
--- the result of reading the payload; memory is allocated only for a setting up to which there is no
--- fault, so only then may allocation fail
+-- the result of parsing the payload; allocation may fail only after at least one setting without an
+-- error before it
 abbrev pub AnswersSettings : List ℕ → Result (List (ℕ × ℕ)) Refused → Type 0
 AnswersSettings payload (Ok m) = settings_in payload ≡ Ok m
 AnswersSettings payload (Err (Code code)) = settings_in payload ≡ Err code
 AnswersSettings payload (Err Memory) = StartsWithSettings payload
 
--- the parts of a payload that is written: of each setting its number and its value, in their
--- shortest encodings
+-- the parts of a written payload: for each setting the shortest encodings of its identifier and its
+-- value
 abbrev pub settings_parts : List (ℕ × ℕ) → List (List ℕ)
 settings_parts [] = []
 settings_parts (p ∷ ps) = shortest p.0 ∷ shortest p.1 ∷ settings_parts ps
 
--- the bytes of a payload that is written
+-- the bytes of a written payload
 abbrev pub settings_wire : List (ℕ × ℕ) → List ℕ
 settings_wire m = joined (settings_parts m)
 

@@ -1,4 +1,4 @@
-//! The error codes of the faults of frames, of stream headers and of capsules.
+//! The error codes of parse errors of frames, stream headers and capsules.
 ghost use Rattle.std.specs.Prelude.{◌≡◌};
 ghost use Rattle.wtp_core.specs.declared.error.ErrorCode.TheVariants.{Message};
 ghost use Rattle.wtp_wire.specs.Codes.{frame_code, frame_read_code, header_code, header_read_code, capsule_code};
@@ -9,8 +9,8 @@ use wtp_core::bytes;
 use wtp_core::error::ErrorCode;
 
 impl frame::ParseError {
-    /// Returns the error code of the fault, or `None` for an unknown frame, which is not a fault
-    /// and has to be ignored (RFC 9114, section 9). Not in the Rust crate.
+    /// Returns the error code, or `None` for an unknown frame, which is not an error and must be
+    /// ignored (RFC 9114, section 9). Not in the Rust crate.
     pub fn code(&self) -> Option<ErrorCode>
         ensures { result ≡ frame_code self.now }
     {
@@ -25,8 +25,8 @@ impl frame::ParseError {
 impl From<stream_header::ParseError> for ErrorCode {
     ghost from_gives = { λ fault code. code ≡ header_code fault };
 
-    /// Returns the error code of the fault. A stream of an unknown type ends itself and never the
-    /// connection (RFC 9114, section 6.2). Not in the Rust crate.
+    /// Returns the error code. An unknown stream type ends only that stream, never the connection
+    /// (RFC 9114, section 6.2). Not in the Rust crate.
     fn from(fault: stream_header::ParseError) -> ErrorCode {
         match fault {
             stream_header::ParseError::UnknownStream => ErrorCode::StreamCreation,
@@ -36,11 +36,11 @@ impl From<stream_header::ParseError> for ErrorCode {
 }
 
 impl frame::IoReadError {
-    /// Returns the error code of the fault; [`ErrorCode::Frame`] if the source ended inside a frame
-    /// (RFC 9114, section 7.1). Not in the Rust crate.
+    /// Returns the error code: that of the parse error, or [`ErrorCode::Frame`] if the source ended
+    /// inside a frame (RFC 9114, section 7.1). Not in the Rust crate.
     ///
-    /// Returns `None` for an unknown frame, which has to be ignored, and for every other fault of
-    /// the source.
+    /// Returns `None` for an unknown frame, which must be ignored, and for every other error of the
+    /// source.
     pub fn code(&self) -> Option<ErrorCode>
         ensures { result ≡ frame_read_code self.now }
     {
@@ -53,10 +53,10 @@ impl frame::IoReadError {
 }
 
 impl stream_header::IoReadError {
-    /// Returns the error code of the fault. Not in the Rust crate.
+    /// Returns the error code of the parse error. Not in the Rust crate.
     ///
-    /// Returns `None` for a fault of the source: a stream that ends or is reset before its header
-    /// is complete has to be tolerated (RFC 9114, section 6.2).
+    /// Returns `None` for an error of the source: a stream that ends or is reset before its header
+    /// is complete must be tolerated (RFC 9114, section 6.2).
     pub fn code(&self) -> Option<ErrorCode>
         ensures { result ≡ header_read_code self.now }
     {
@@ -73,9 +73,9 @@ impl stream_header::IoReadError {
 }
 
 impl CapsuleError {
-    /// Returns the error code of a capsule that was read, or `None` if memory allocation failed. A
-    /// value that is too long is an error of the capsule protocol (RFC 9297, section 5.2). Not in
-    /// the Rust crate.
+    /// Returns the error code of a received capsule, or `None` if memory allocation failed. A value
+    /// that is too long is an error of the capsule protocol (RFC 9297, section 5.2). Not in the
+    /// Rust crate.
     pub fn code(&self) -> Option<ErrorCode>
         ensures { result ≡ capsule_code self.now }
     {
@@ -89,8 +89,8 @@ impl CapsuleError {
 impl From<CutCapsule> for ErrorCode {
     ghost from_gives = { λ _ code. code ≡ Message };
 
-    /// Returns [`ErrorCode::Message`]: a stream that ends within a capsule makes a malformed
-    /// message (RFC 9297, section 3.3; RFC 9114, section 4.1.2). Not in the Rust crate.
+    /// Returns [`ErrorCode::Message`]: a message whose stream ends within a capsule is malformed
+    /// (RFC 9297, section 3.3; RFC 9114, section 4.1.2). Not in the Rust crate.
     fn from(_fault: CutCapsule) -> ErrorCode {
         ErrorCode::Message
     }

@@ -8,7 +8,7 @@ use wtp_core::bytes::{BufferWriter, BytesReader, BytesWriter, EndOfBuffer};
 use wtp_core::error::ErrorCode;
 use wtp_core::ids::QStreamId;
 
-/// A datagram of a session: the session's quarter stream ID, and the payload.
+/// A datagram of a session: the session's quarter stream ID and a payload.
 #[derive(Debug, Drop)]
 pub struct Datagram<'a> {
     qstream_id: QStreamId,
@@ -24,7 +24,7 @@ impl<'a> Model for Datagram<'a> {
 }
 
 impl<'a> Datagram<'a> {
-    /// Creates a datagram with this payload.
+    /// Creates a datagram with the given payload.
     pub fn new(qstream_id: QStreamId, payload: &'a [u8]) -> Self
         ensures { result ≡ (qstream_id, payload.now) }
     {
@@ -34,8 +34,8 @@ impl<'a> Datagram<'a> {
         }
     }
 
-    /// Reads the payload of a QUIC datagram. Returns `Datagram` if it does not start with a number,
-    /// or if that number is 2^60 or more.
+    /// Parses the payload of a QUIC datagram. Returns [`ErrorCode::Datagram`] if it does not start
+    /// with a complete variable-length integer, or if that number is 2^60 or more.
     #[tactic(auto, unfolding(crate::specs::Datagram::datagram_in))]
     pub fn read(quic_datagram: &'a [u8]) -> Result<Self, ErrorCode>
         ensures { MatchResult result (λ d. datagram_in quic_datagram.now ≡ Some d)
@@ -52,7 +52,7 @@ impl<'a> Datagram<'a> {
     }
 
     /// Writes the datagram to the start of the buffer, and returns its size in bytes. Returns
-    /// `EndOfBuffer` if the buffer is shorter than that; then nothing is written.
+    /// `EndOfBuffer` if the buffer is shorter than that; nothing is then written.
     #[tactic(auto, unfolding(crate::specs::Datagram::datagram_wire))]
     pub fn write(&self, buffer: &mut [u8]) -> Result<usize, EndOfBuffer>
         ensures room { IsOk result ↔ (length (datagram_wire self.now) ≤ length buffer.old) }
@@ -74,7 +74,7 @@ impl<'a> Datagram<'a> {
     }
 
     /// Returns the number of bytes that `write` writes: the quarter stream ID in its shortest
-    /// encoding, and the payload. Requires that there are fewer than 2^64.
+    /// encoding, and the payload. Requires that their number is less than 2^64.
     #[tactic(auto, unfolding(crate::specs::Datagram::datagram_wire))]
     pub fn write_size(&self) -> usize
         requires { length (shortest self.now.0) + length self.now.1 < 2 ^ 64 }
@@ -83,7 +83,7 @@ impl<'a> Datagram<'a> {
         Self::header_size(self.qstream_id) + self.payload.len()
     }
 
-    /// Returns the number of bytes before the payload.
+    /// Returns the number of bytes before the payload: the size of the quarter stream ID.
     pub fn header_size(qstream_id: QStreamId) -> usize
         ensures size { result ≡ length (shortest qstream_id) }
         ensures most { result ≤ 8 }

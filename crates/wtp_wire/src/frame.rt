@@ -1,4 +1,4 @@
-//! Frames of HTTP/3 (RFC 9114, section 7), read and written whole or poll by poll.
+//! Frames of HTTP/3 (RFC 9114, section 7): reading and writing, at once or poll by poll.
 ghost use Rattle.std.specs.Prelude.{◌≡◌, ◌%◌, ◌≢◌, ◌<◌, ◌≤◌, ◌^◌, ◌+◌, length, IsTrue, IsSome, IsOk, OnOk, OnErr, Err, Some, None, ◌↔◌};
 ghost use Rattle.wtp_core.specs.Writer.{LacksRoom, PutsParts};
 ghost use Rattle.wtp_core.specs.Reader.{IsRest};
@@ -31,21 +31,21 @@ use wtp_core::ids::SessionId;
 pub use wtp_core::numbers::frame_kind_ids;
 use wtp_core::varint::VarInt;
 
-/// The reason no frame can be read at the start of the input.
+/// The reason why no frame was read at the start of the input.
 #[derive(Debug, Drop, PartialEq, Eq, thiserror::Error)]
 pub enum ParseError {
-    /// A complete frame of an unknown type, which has to be ignored (RFC 9114, section 9).
+    /// A complete frame of an unknown type, which must be ignored (RFC 9114, section 9).
     #[error("cannot parse HTTP3 frame as ID is unknown")]
     UnknownFrame,
     /// A WebTransport frame with an invalid session ID (draft-ietf-webtrans-http3-02, section 4.2).
     #[error("cannot parse HTTP3 frame as session ID is invalid")]
     InvalidSessionId,
-    /// A frame whose length is above 4096.
+    /// A frame of a known type whose length is above 4096 bytes.
     #[error("cannot parse HTTP3 frame as payload limit is reached")]
     PayloadTooBig,
 }
 
-/// The reason no frame was created.
+/// The reason why no frame was created.
 #[derive(Debug, Drop, PartialEq, Eq, thiserror::Error)]
 pub enum GenerateError {
     /// The payload would have more than 2^62 - 1 bytes.
@@ -77,7 +77,7 @@ impl<'a> Model for Frame<'a> {
     ghost invariant = { λ f. IsProper f.kind (payload_of f.body) (session_of f.body) };
 }
 
-// The fields of the Rust crate's frame, however this one stores them.
+// Prints the fields of the Rust crate's frame, which this one stores differently.
 impl fmt::Debug for Frame<'_> {
     fn fmt<W: fmt::Write>(&self, f: &mut fmt::Formatter<W>) -> fmt::Result {
         f.debug_struct("Frame")
@@ -98,8 +98,8 @@ impl<'a> Frame<'a> {
     ghost use Rattle.wtp_wire.specs.PastNumber.{past_two};
     ghost use Rattle.wtp_wire.specs.Wire.{parts_of, wire, IsReadable};
 
-    /// Creates a HEADERS frame with this payload, an encoded field section (RFC 9114, section
-    /// 7.2.2). Requires that the payload has fewer than 2^62 bytes; `try_new_headers` tests it.
+    /// Creates a HEADERS frame with the given payload, an encoded field section (RFC 9114, section
+    /// 7.2.2). Requires that the payload has fewer than 2^62 bytes; `try_new_headers` checks this.
     pub fn new_headers(payload: CowSlice<'a, u8>) -> Self
         requires { length (cow_slice_items payload) < 2 ^ 62 }
         ensures { result ≡ HeadersOf (cow_slice_items payload.entry) }
@@ -110,8 +110,8 @@ impl<'a> Frame<'a> {
         }
     }
 
-    /// Creates a SETTINGS frame with this payload (RFC 9114, section 7.2.4). Requires that the
-    /// payload has fewer than 2^62 bytes; `try_new_settings` tests it.
+    /// Creates a SETTINGS frame with the given payload (RFC 9114, section 7.2.4). Requires that the
+    /// payload has fewer than 2^62 bytes; `try_new_settings` checks this.
     pub fn new_settings(payload: CowSlice<'a, u8>) -> Self
         requires { length (cow_slice_items payload) < 2 ^ 62 }
         ensures { result ≡ SettingsOf (cow_slice_items payload.entry) }
@@ -122,7 +122,7 @@ impl<'a> Frame<'a> {
         }
     }
 
-    /// Creates the frame that associates its stream with this session
+    /// Creates the WebTransport frame, which associates its stream with a session
     /// (draft-ietf-webtrans-http3-02, section 4.2).
     pub fn new_webtransport(session_id: SessionId) -> Self
         ensures { result ≡ WebTransportOf session_id }
@@ -133,8 +133,9 @@ impl<'a> Frame<'a> {
         }
     }
 
-    /// Creates a frame of a type that is reserved for exercise (see `FrameKind::is_id_exercise`;
-    /// RFC 9114, section 7.2.8). Requires that the payload has fewer than 2^62 bytes.
+    /// Creates a frame of a reserved type (RFC 9114, section 7.2.8). Requires that
+    /// `FrameKind::is_id_exercise` returns `true` for the type, and that the payload has fewer than
+    /// 2^62 bytes.
     pub fn new_exercise(id: VarInt, payload: CowSlice<'a, u8>) -> Self
         requires reserved { IsTrue (is_exercise id) }
         requires fits { length (cow_slice_items payload) < 2 ^ 62 }
@@ -146,8 +147,8 @@ impl<'a> Frame<'a> {
         }
     }
 
-    /// Creates a DATA frame with this payload (RFC 9114, section 7.2.1). Requires that the payload
-    /// has fewer than 2^62 bytes; `try_new_data` tests it.
+    /// Creates a DATA frame with the given payload (RFC 9114, section 7.2.1). Requires that the
+    /// payload has fewer than 2^62 bytes; `try_new_data` checks this.
     pub fn new_data(payload: CowSlice<'a, u8>) -> Self
         requires { length (cow_slice_items payload) < 2 ^ 62 }
         ensures { result ≡ DataOf (cow_slice_items payload.entry) }
@@ -175,22 +176,23 @@ impl<'a> Frame<'a> {
         self.body.payload()
     }
 
-    /// Returns the session, if the kind is WebTransport.
+    /// Returns the session ID of a WebTransport frame, and `None` for every other kind.
     pub fn session_id(&self) -> Option<SessionId>
         ensures { result ≡ session_in self.now }
     {
         self.body.session()
     }
 
-    /// Reads the first frame of the input. It does not allocate.
+    /// Reads the first frame of the input. Does not allocate.
     ///
-    /// Returns `None` if there are too few bytes. Those of the first two numbers that are complete
-    /// were read then, and nothing else was. Errors:
+    /// Returns `None` if there are too few bytes. The reader has then moved past those of the first
+    /// two numbers that are complete, and no further. Errors:
     ///
-    /// - `UnknownFrame`: a complete frame of an unknown type was read.
-    /// - `InvalidSessionId`: the WebTransport type and an invalid session ID were read.
-    /// - `PayloadTooBig`: another type and a length above 4096 were read; the payload is not looked
-    ///   for.
+    /// - `UnknownFrame`: the frame has an unknown type. The reader has moved past the whole frame.
+    /// - `InvalidSessionId`: the frame has the WebTransport type and an invalid session ID. The
+    ///   reader has moved past both.
+    /// - `PayloadTooBig`: the frame has another known type and a length above 4096. The reader has
+    ///   moved past both; the payload need not be there.
     #[inline(always)]
     pub fn read<R: BytesReader<'a>>(reader: &mut R) -> Result<Option<Self>, ParseError>
         ensures answer { Answers (front (R.left reader.old)) result (R.left reader.new) }
@@ -204,7 +206,7 @@ impl<'a> Frame<'a> {
         Self::read_body(reader, id, announcement)
     }
 
-    /// Reads what follows a head of this type, which announces it.
+    /// Reads the rest of a frame after its head, given the type and the announcement of the head.
     #[inline(always)]
     fn read_body<R: BytesReader<'a>>(
         reader: &mut R,
@@ -237,8 +239,8 @@ impl<'a> Frame<'a> {
         }
     }
 
-    /// Reads the first frame of the input as `read` does, and moves past it. The reader does not
-    /// move if this returns `None` or an error.
+    /// Reads the first frame of the input as `read` does, and moves past it. If this returns `None`
+    /// or an error, the reader does not move.
     #[inline(always)]
     pub fn read_from_buffer(reader: &mut BufferReader<'a>) -> Result<Option<Self>, ParseError>
         ensures answer { AnswersWhole (front (left_of reader.old)) result (left_of reader.old)
@@ -253,10 +255,10 @@ impl<'a> Frame<'a> {
         Ok(Some(frame))
     }
 
-    /// Writes the frame, each number in its shortest encoding.
+    /// Writes the frame, with each number in its shortest encoding.
     ///
-    /// The parts are the type, the length or session ID, and the payload. On an error the writer
-    /// holds the parts before the one that it refused.
+    /// The parts are the type, the length or session ID, and the payload. On an error, the parts
+    /// before the one that failed have been written.
     pub fn write<W: BytesWriter>(&self, writer: &mut W) -> Result<(), PutError>
         ensures parts { PutsParts W.grows (parts_of self.now) result (W.written writer.old)
             (W.room writer.old) (W.written writer.new) (W.room writer.new) }
@@ -275,8 +277,8 @@ impl<'a> Frame<'a> {
         }
     }
 
-    /// Writes the complete frame as `write` does. Returns `EndOfBuffer` exactly if the room is less
-    /// than `write_size`; then nothing is written.
+    /// Writes the complete frame as `write` does. Returns `EndOfBuffer` exactly if less space than
+    /// `write_size` is left; nothing is then written.
     pub fn write_to_buffer(&self, writer: &mut BufferWriter<'_>) -> Result<(), EndOfBuffer>
         ensures room { IsOk result ↔ (length (wire self.now) ≤ length (room_in writer.old)) }
         ensures ok { OnOk result (Wrote (wire self.now) writer.old writer.new) }

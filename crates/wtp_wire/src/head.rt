@@ -1,5 +1,5 @@
-//! The two numbers with which a frame, a capsule and a setting start: a type or an identifier, and
-//! then a length, a session ID or a value. Not in the Rust crate.
+//! The two numbers at the start of a frame, a capsule or a setting: a type or an identifier, then a
+//! length, a session ID or a value. Not in the Rust crate.
 ghost use Rattle.std.specs.Prelude.{◌≡◌, ◌≢◌, ◌+◌, ◌-◌, ◌<◌, ◌≤◌, ◌↔◌, length, drop, Some, None, MatchOption, IfSome};
 ghost use Rattle.wtp_wire.specs.FrameNeed.{frame_need};
 ghost use Rattle.wtp_wire.specs.Settings.{pair_at};
@@ -7,20 +7,19 @@ ghost use Rattle.wtp_wire.specs.Settings.{pair_at};
 use wtp_core::bytes::get::varint_need;
 use wtp_core::varint::{VarInt, first_varint};
 
-/// Two numbers at the start of some bytes, one after the other.
+/// The two numbers at the start of some bytes.
 #[derive(Clone, Copy, Debug, PartialEq, Eq)]
 pub struct FirstPair {
     /// The first number.
     pub first: VarInt,
     /// The second number.
     pub second: VarInt,
-    /// The size of both encodings, in bytes.
+    /// The total size of both encodings in bytes.
     pub size: usize,
 }
 
-/// Returns the two numbers at the start of these bytes, or `None` if they are not both complete.
-///
-/// Source: RFC 9000, section 16.
+/// Returns the two numbers at the start of the bytes (RFC 9000, section 16), or `None` if they are
+/// not both complete.
 #[inline(always)]
 #[tactic(auto, unfolding(crate::specs::Settings::pair_at))]
 pub fn first_pair(bytes: &[u8]) -> Option<FirstPair>
@@ -38,8 +37,8 @@ pub fn first_pair(bytes: &[u8]) -> Option<FirstPair>
     })
 }
 
-/// Returns the least size of two numbers that start with these bytes, in bytes: from 2 to 16. If
-/// both numbers are complete, it is their size.
+/// Returns the minimum size of two numbers that start with these bytes: from 2 to 16 bytes. If both
+/// numbers are complete, this is their size.
 #[inline(always)]
 pub fn pair_size(bytes: &[u8]) -> usize
     ensures size { result ≡ frame_need bytes.now }
@@ -50,8 +49,8 @@ pub fn pair_size(bytes: &[u8]) -> usize
     first + varint_need(bytes.get(first..).unwrap_or(&[]))
 }
 
-/// Returns the least number of bytes missing until two numbers that start with these bytes are
-/// complete: 0 exactly if they are.
+/// Returns the minimum number of bytes missing from two numbers that start with these bytes: 0
+/// exactly if both numbers are complete.
 pub fn missing_bytes(bytes: &[u8]) -> usize
     ensures missing { result ≡ frame_need bytes.now - length bytes.now }
     ensures complete { (result ≡ 0) ↔ (pair_at bytes.now ≢ None) }

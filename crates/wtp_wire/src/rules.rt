@@ -1,5 +1,5 @@
-//! Which frames a stream allows, by its role: the rules of RFC 9114, sections 6.2.1 and 7.2, that
-//! this library checks (docs/DIFFERENCES.md lists the others).
+//! Which frames a stream allows, depending on its role: the rules of RFC 9114, sections 6.2.1 and
+//! 7.2, that this library checks (docs/DIFFERENCES.md lists the others).
 ghost use Rattle.std.specs.Prelude.{◌≡◌};
 ghost use Rattle.wtp_wire.specs.Role.{role_of};
 ghost use Rattle.wtp_wire.specs.Rule.{rule};
@@ -10,25 +10,25 @@ use wtp_core::error::ErrorCode;
 /// The role of a stream whose frames are read. Not in the Rust crate.
 #[derive(Clone, Copy, Debug, PartialEq, Eq)]
 pub enum StreamRole {
-    /// A bidirectional stream that the peer opened: for a request, or for a session by its first
-    /// frame.
+    /// A bidirectional stream that the peer opened: a request, or a stream of a session if its
+    /// first frame is a WebTransport frame.
     BiRemote,
-    /// A bidirectional stream that this end opened.
+    /// A bidirectional stream that this endpoint opened.
     BiLocal,
-    /// A unidirectional stream that the peer opened, after its header: the control stream.
+    /// The control stream that the peer opened, after its header.
     UniRemote,
-    /// The stream of a request for a session.
+    /// The stream of a session's request.
     Session,
 }
 
-/// Returns the fault of a frame of this kind on a stream, or `None` if the stream allows it.
+/// Returns the error code for a frame of this kind on a stream, or `None` if the stream allows it.
 ///
-/// `first` says whether it is the first frame of the stream, other than unknown ones. It matters
-/// only on a `BiRemote` stream, where a WebTransport frame has to be the first: `Frame`. Every
-/// other fault is `FrameUnexpected`. Not in the Rust crate.
+/// `first` is whether the frame is the first one on the stream, not counting unknown frames. It
+/// matters only on a `BiRemote` stream: a WebTransport frame that is not the first one there is a
+/// `Frame` error. Every other error is `FrameUnexpected`. Not in the Rust crate.
 ///
-/// Source: the rules of RFC 9114, sections 6.2.1, 7.2 and table 1, that this library checks
-/// (docs/DIFFERENCES.md lists the others); draft-ietf-webtrans-http3-02, section 4.2.
+/// These are the rules of RFC 9114, sections 6.2.1, 7.2 and table 1, that this library checks
+/// (docs/DIFFERENCES.md lists the others), and of draft-ietf-webtrans-http3-02, section 4.2.
 #[inline(always)]
 #[tactic(auto, using(crate::proofs::RuleLemmas::rules_of_kinds))]
 pub fn fault_of(role: StreamRole, first: bool, kind: FrameKind) -> Option<ErrorCode>

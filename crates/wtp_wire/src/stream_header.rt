@@ -1,5 +1,5 @@
-//! Headers of unidirectional streams (RFC 9114, section 6.2), read and written whole or poll by
-//! poll.
+//! Headers of unidirectional streams (RFC 9114, section 6.2): reading and writing, at once or poll
+//! by poll.
 ghost use Rattle.std.specs.Prelude.{◌≡◌, ◌≤◌, length, is_some, IfSome, IsOk, OnOk, OnErr, Err, Some, None, ◌↔◌};
 ghost use Rattle.wtp_core.specs.Writer.{LacksRoom, PutsParts};
 ghost use Rattle.wtp_core.specs.Reader.{IsRest};
@@ -19,7 +19,7 @@ use wtp_core::numbers;
 pub use wtp_core::numbers::stream_type_ids;
 use wtp_core::varint::VarInt;
 
-/// The reason no header can be read at the start of the input.
+/// The reason why no header was read at the start of the input.
 #[derive(Debug, Drop, PartialEq, Eq, thiserror::Error)]
 pub enum ParseError {
     /// The type is unknown.
@@ -39,9 +39,9 @@ pub enum StreamKind {
     QPackEncoder,
     /// The QPACK decoder stream (RFC 9204, section 4.2).
     QPackDecoder,
-    /// A stream of a WebTransport session: type 0x54 (draft-ietf-webtrans-http3-02, section 4.1).
+    /// A stream of a WebTransport session, type 0x54 (draft-ietf-webtrans-http3-02, section 4.1).
     WebTransport,
-    /// A type that is reserved to exercise the requirement to ignore unknown types (RFC 9114,
+    /// A type reserved to exercise the requirement that unknown types are ignored (RFC 9114,
     /// section 6.2.3).
     Exercise(VarInt),
 }
@@ -50,7 +50,8 @@ impl StreamKind {
     ghost use Rattle.wtp_wire.specs.Kind.{is_exercise};
     ghost use Rattle.wtp_wire.specs.StreamKind.{has_session, stream_kind_of, stream_number_of, IsKnownStream};
 
-    /// Returns whether the type is one of those reserved for exercise, `0x21 + 0x1f * n`.
+    /// Returns whether the type is reserved: `0x21 + 0x1f * n` for some `n` (RFC 9114, section
+    /// 6.2.3).
     pub fn is_id_exercise(id: VarInt) -> bool
         ensures { result ≡ is_exercise id }
     {
@@ -70,7 +71,7 @@ impl StreamKind {
         }
     }
 
-    /// Returns the kind of this type, or `None` if the type is unknown.
+    /// Returns the kind with this type, or `None` if the type is unknown.
     #[tactic(auto, unfolding(crate::specs::StreamKind::stream_kind_of))]
     pub fn parse(id: VarInt) -> Option<Self>
         ensures kind { result ≡ stream_kind_of id }
@@ -94,7 +95,7 @@ impl StreamKind {
     }
 }
 
-/// The header of a unidirectional stream: its kind, and for WebTransport the session.
+/// The header of a unidirectional stream: its kind, and the session ID of a WebTransport stream.
 #[derive(Clone, Copy, Debug)]
 pub struct StreamHeader {
     kind: StreamKind,
@@ -121,7 +122,7 @@ impl StreamHeader {
     ghost use Rattle.wtp_wire.specs.PastNumber.{past_number};
     ghost use Rattle.wtp_wire.specs.HeaderWire.{header_parts, header_wire, IsReadableHeader};
 
-    /// The largest size of an encoded header, in bytes.
+    /// The maximum size of an encoded header, in bytes.
     pub const MAX_SIZE: usize = 16;
 
     /// Creates the header of the control stream.
@@ -134,7 +135,8 @@ impl StreamHeader {
         }
     }
 
-    /// Creates the header of a stream of this session (draft-ietf-webtrans-http3-02, section 4.1).
+    /// Creates the header of a WebTransport stream of this session (draft-ietf-webtrans-http3-02,
+    /// section 4.1).
     pub fn new_webtransport(session_id: SessionId) -> Self
         ensures { result ≡ WebTransportHeader session_id }
     {
@@ -152,7 +154,7 @@ impl StreamHeader {
         self.kind
     }
 
-    /// Returns the session, if the kind is WebTransport.
+    /// Returns the session ID of a WebTransport stream, and `None` for every other kind.
     pub fn session_id(&self) -> Option<SessionId>
         ensures session { result ≡ header_session self.now }
         ensures opens { is_some result ≡ has_session (header_kind self.now) }
@@ -178,13 +180,14 @@ impl StreamHeader {
         }
     }
 
-    /// Reads the header at the start of the input. It does not allocate.
+    /// Reads the header at the start of the input. Does not allocate.
     ///
-    /// Returns `None` if there are too few bytes. The type was read then, if it is complete, and
-    /// nothing else was. Errors:
+    /// Returns `None` if there are too few bytes. The reader has then moved past the type if that
+    /// is complete, and no further. Errors:
     ///
-    /// - `UnknownStream`: an unknown type was read.
-    /// - `InvalidSessionId`: the WebTransport type and an invalid session ID were read.
+    /// - `UnknownStream`: the type is unknown. The reader has moved past it.
+    /// - `InvalidSessionId`: the WebTransport type is followed by an invalid session ID. The reader
+    ///   has moved past both.
     #[tactic(auto, unfolding(crate::specs::HeaderFront::header_front))]
     pub fn read<'a, R: BytesReader<'a>>(reader: &mut R) -> Result<Option<Self>, ParseError>
         ensures answer { AnswersHeader (header_front (R.left reader.old)) result
@@ -206,8 +209,8 @@ impl StreamHeader {
         }
     }
 
-    /// Reads the header at the start of the input as `read` does, and moves past it. The reader
-    /// does not move if this returns `None` or an error.
+    /// Reads the header at the start of the input as `read` does, and moves past it. If this
+    /// returns `None` or an error, the reader does not move.
     pub fn read_from_buffer(reader: &mut BufferReader<'_>) -> Result<Option<Self>, ParseError>
         ensures answer { AnswersHeaderWhole (header_front (left_of reader.old)) result
             (left_of reader.old) (left_of reader.new) }
@@ -221,10 +224,10 @@ impl StreamHeader {
         Ok(Some(header))
     }
 
-    /// Writes the header, each number in its shortest encoding.
+    /// Writes the header, with each number in its shortest encoding.
     ///
-    /// The parts are the type and the session ID. On an error the writer holds the parts before the
-    /// one that it refused.
+    /// The parts are the type and the session ID. On an error, the parts before the one that failed
+    /// have been written.
     pub fn write<W: BytesWriter>(&self, writer: &mut W) -> Result<(), PutError>
         ensures parts { PutsParts W.grows (header_parts self.now) result (W.written writer.old)
             (W.room writer.old) (W.written writer.new) (W.room writer.new) }
@@ -239,8 +242,8 @@ impl StreamHeader {
         }
     }
 
-    /// Writes the complete header as `write` does. Returns `EndOfBuffer` exactly if the room is
-    /// less than `write_size`; then nothing is written.
+    /// Writes the complete header as `write` does. Returns `EndOfBuffer` exactly if less space than
+    /// `write_size` is left; nothing is then written.
     pub fn write_to_buffer(&self, writer: &mut BufferWriter<'_>) -> Result<(), EndOfBuffer>
         ensures room { IsOk result ↔ (length (header_wire self.now) ≤ length (room_in writer.old)) }
         ensures ok { OnOk result (Wrote (header_wire self.now) writer.old writer.new) }

@@ -1,4 +1,4 @@
-//! The part of a frame after its type.
+//! The body of a frame: its payload or session ID.
 ghost use Rattle.std.specs.Prelude.{◌≡◌, ◌≤◌, None, length, take, IsSome, IfSome};
 ghost use Rattle.wtp_wire.specs.Body.{payload_of, session_of};
 
@@ -7,7 +7,7 @@ use std::alloc::Global;
 use std::borrow::CowSlice;
 use wtp_core::ids::SessionId;
 
-/// A payload, or a session in its place.
+/// A payload, or a session ID in its place.
 #[derive(Drop)]
 pub(crate) enum Body<'a> {
     /// A borrowed payload.
@@ -16,14 +16,14 @@ pub(crate) enum Body<'a> {
     Owned(Vec<u8>),
     /// A payload stored in the frame itself: its length, and its bytes.
     Short(u8, Room),
-    /// The session of a WebTransport frame.
+    /// The session ID of a WebTransport frame.
     Session(SessionId),
 }
 
 impl<'a> Body<'a> {
     ghost use Rattle.std.specs.Cow.{cow_slice_items};
 
-    /// Creates a body of this payload, as it is.
+    /// Creates a body with the given payload, without copying it.
     #[inline(always)]
     pub(crate) fn of(payload: CowSlice<'a, u8>) -> Self
         ensures payload { payload_of result ≡ cow_slice_items payload.entry }
@@ -35,7 +35,7 @@ impl<'a> Body<'a> {
         }
     }
 
-    /// Returns the payload, which is empty if there is a session in its place.
+    /// Returns the payload, or no bytes if there is a session ID in its place.
     #[inline(always)]
     pub(crate) fn payload(&self) -> &[u8]
         ensures { result.now ≡ payload_of self.now }
@@ -48,7 +48,7 @@ impl<'a> Body<'a> {
         }
     }
 
-    /// Returns the session, if there is one.
+    /// Returns the session ID, if there is one.
     #[inline(always)]
     pub(crate) fn session(&self) -> Option<SessionId>
         ensures { result ≡ session_of self.now }
@@ -61,8 +61,8 @@ impl<'a> Body<'a> {
 }
 
 impl Body<'static> {
-    /// Copies the first `len` bytes. Returns `None` if there are fewer, and if allocation failed.
-    /// A payload of at most 40 bytes does not allocate if at least 40 bytes are given.
+    /// Copies the first `len` bytes. Returns `None` if there are fewer, or if allocation failed. If
+    /// `len` is at most 40 and at least 40 bytes are given, this does not allocate and never fails.
     #[inline(always)]
     pub(crate) fn copy(alloc: Global, bytes: &[u8], len: usize) -> Option<Self>
         ensures within { IfSome result (λ _. len ≤ length bytes.now) }

@@ -1,5 +1,4 @@
-//! The head of a frame, and what it announces. The head is the first two numbers: the type, and
-//! the length or session ID.
+//! The head of a frame: its first two numbers, which are the type and the length or session ID.
 ghost use Rattle.std.specs.Prelude.{◌≡◌, ◌+◌, ◌<◌, ◌≤◌, length, Some, None, MatchOption, IfSome};
 ghost use Rattle.wtp_core.specs.Reader.{IsRest};
 ghost use Rattle.wtp_wire.specs.FrameNeed.{frame_need, frame_need_most, frame_need_grows};
@@ -14,27 +13,27 @@ use wtp_core::ids::SessionId;
 use wtp_core::polling::head::Head;
 use wtp_core::varint::VarInt;
 
-/// The longest payload that is read, in bytes.
+/// The maximum length of a payload that is read, in bytes.
 pub(crate) const MAX_PAYLOAD: u64 = 4096;
 
-/// What the head of a frame announces: which bytes follow it.
+/// What follows the head of a frame.
 #[derive(Clone, Copy)]
 pub(crate) enum Announcement {
-    /// Nothing yet: the two numbers are not both complete.
+    /// Not known yet: the two numbers are not both complete.
     Unfinished,
-    /// A payload of this many bytes, of a frame of this kind.
+    /// A payload of this many bytes, in a frame of this kind.
     Payload(FrameKind, u64),
-    /// No more bytes: the frame is that of this session.
+    /// Nothing: this is the WebTransport frame of this session.
     Session(SessionId),
-    /// A payload of this many bytes, of an unknown frame. It has to be skipped.
+    /// A payload of this many bytes in an unknown frame, which must be skipped.
     Skip(u64),
-    /// An invalid session ID, which is the second number.
+    /// Nothing: the second number is an invalid session ID.
     BadSession,
-    /// A payload too long to be read.
+    /// A payload of more than 4096 bytes in a known frame, which is not read.
     TooLong,
 }
 
-/// The first two numbers of a frame are its head; every frame starts with both.
+/// The head of a frame: its first two numbers. Every frame starts with both.
 pub(crate) struct FrameHead;
 
 impl Head for FrameHead {
@@ -52,19 +51,18 @@ impl Head for FrameHead {
     ghost need_grows = { frame_need_grows };
 }
 
-/// The head at the start of some bytes.
+/// A complete head at the start of some bytes.
 #[derive(Clone, Copy)]
 pub(crate) struct FirstHead<'a> {
     /// The type.
     pub(crate) id: VarInt,
-    /// What the head announces.
+    /// What follows the head.
     pub(crate) announcement: Announcement,
     /// The bytes after the head.
     pub(crate) after: &'a [u8],
 }
 
-/// Returns the head at the start of these bytes, or `None` if its two numbers are not both
-/// complete.
+/// Returns the head at the start of the bytes, or `None` if its two numbers are not both complete.
 #[inline(always)]
 #[tactic(auto, using(crate::proofs::HeadPairLemmas::head_steps))]
 pub(crate) fn first_head<'a>(bytes: &'a [u8]) -> Option<FirstHead<'a>>
@@ -81,8 +79,9 @@ pub(crate) fn first_head<'a>(bytes: &'a [u8]) -> Option<FirstHead<'a>>
     })
 }
 
-/// Reads the head at the start of the input. Returns its type and what it announces, or `None` if
-/// its two numbers are not both complete; the first of them may have been read then.
+/// Reads the head at the start of the input. Returns the type and what follows the head, or `None`
+/// if the two numbers are not both complete. The reader has then moved past the first number if
+/// that is complete.
 #[inline(always)]
 #[tactic(auto, unfolding(crate::specs::FrameHead::head_at))]
 pub(crate) fn get_head<'a, R: BytesReader<'a>>(reader: &mut R) -> Option<(VarInt, Announcement)>
@@ -98,7 +97,7 @@ pub(crate) fn get_head<'a, R: BytesReader<'a>>(reader: &mut R) -> Option<(VarInt
     Some((id, classify_head(id, number)))
 }
 
-/// Returns what the head at the start of these bytes announces.
+/// Returns what follows the head at the start of the bytes.
 #[inline(always)]
 #[tactic(auto, unfolding(crate::specs::FrameHead::announcement_at))]
 pub(crate) fn read_head(held: &[u8]) -> Announcement
@@ -110,7 +109,7 @@ pub(crate) fn read_head(held: &[u8]) -> Announcement
     }
 }
 
-/// Returns what a head of these two numbers announces.
+/// Returns what follows a head with these two numbers.
 #[inline(always)]
 pub(crate) fn classify_head(id: VarInt, number: VarInt) -> Announcement
     ensures announces { result ≡ announcement_of (kind_of id) number }

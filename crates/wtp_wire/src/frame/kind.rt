@@ -1,4 +1,4 @@
-//! Kinds of frames by their types.
+//! The kinds of frames, and their types on the wire.
 ghost use Rattle.std.specs.Prelude.{◌≡◌, Some, IfSome};
 ghost use Rattle.wtp_wire.specs.Kind.{is_exercise, kind_of, frame_type_of, registered_kind, IsKnown};
 
@@ -15,16 +15,17 @@ pub enum FrameKind {
     Headers,
     /// SETTINGS (RFC 9114, section 7.2.4).
     Settings,
-    /// The frame that associates its stream with a WebTransport session: type 0x41
+    /// WEBTRANSPORT_STREAM, type 0x41: associates its stream with a WebTransport session
     /// (draft-ietf-webtrans-http3-02, section 4.2).
     WebTransport,
-    /// A type that is reserved to exercise the requirement to ignore unknown types (RFC 9114,
+    /// A type reserved to exercise the requirement that unknown types are ignored (RFC 9114,
     /// section 7.2.8).
     Exercise(VarInt),
 }
 
 impl FrameKind {
-    /// Returns whether the type is one of those reserved for exercise, `0x21 + 0x1f * n`.
+    /// Returns whether the type is reserved: `0x21 + 0x1f * n` for some `n` (RFC 9114, section
+    /// 7.2.8).
     pub fn is_id_exercise(id: VarInt) -> bool
         ensures { result ≡ is_exercise id }
     {
@@ -44,7 +45,7 @@ impl FrameKind {
         }
     }
 
-    // Returns the kind that has this type and no other.
+    // Returns the kind with this type, except the reserved types.
     #[inline(always)]
     #[tactic(auto, unfolding(crate::specs::Kind::registered_kind))]
     fn find_registered(id: VarInt) -> Option<Self>
@@ -60,7 +61,7 @@ impl FrameKind {
         }
     }
 
-    /// Returns the kind of this type, or `None` if the type is unknown.
+    /// Returns the kind with this type, or `None` if the type is unknown.
     #[inline(always)]
     #[tactic(auto, unfolding(crate::specs::Kind::kind_of))]
     pub fn parse(id: VarInt) -> Option<Self>
@@ -75,7 +76,7 @@ impl FrameKind {
     }
 }
 
-/// A kind that is stored as its type, which has half the size.
+/// A kind stored as its type, which takes half the space.
 #[derive(Clone, Copy)]
 pub(crate) struct KindNumber {
     id: VarInt,
@@ -106,7 +107,7 @@ impl KindNumber {
         KindNumber { id: kind.id() }
     }
 
-    /// Stores the kind of this type.
+    /// Stores a kind with its type, which must be the given one.
     #[inline(always)]
     #[tactic(auto, using(crate::proofs::KindLemmas::numbered))]
     pub(crate) fn with_number(id: VarInt, kind: FrameKind) -> Self

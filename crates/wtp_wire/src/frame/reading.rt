@@ -1,4 +1,4 @@
-//! Reading a frame, poll by poll.
+//! Polled reading of frames.
 ghost use Rattle.std.specs.Prelude.{◌≡◌, length, None, IfSome};
 ghost use Rattle.wtp_core.specs.Source.{Telling};
 ghost use Rattle.wtp_core.specs.Polled.{Asks, WaitsAs};
@@ -22,13 +22,13 @@ use wtp_core::bytes::{AsyncRead, Polled};
 use wtp_core::polling::fill::halt_result;
 use wtp_core::polling::passing::pass;
 
-/// The reason no frame was read from a source.
+/// The reason why no frame was read from a source.
 ///
-/// It has the faults of one frame, whatever stream it is on: `stream::IoReadError` has the error
-/// codes of a stream's rules, and `bytes::IoReadError` the faults of a source alone.
+/// It covers one frame, whatever stream it is on. `stream::IoReadError` also covers the rules of a
+/// stream, and `bytes::IoReadError` only the source.
 #[derive(Debug, Drop, PartialEq, Eq, thiserror::Error)]
 pub enum IoReadError {
-    /// The first bytes are not a valid frame.
+    /// The bytes are not a valid frame.
     #[error("{0}")]
     Parse(ParseError),
     /// The source gave no more bytes.
@@ -48,7 +48,7 @@ impl From<bytes::IoReadError> for IoReadError {
 }
 
 impl<'a> Frame<'a> {
-    /// Returns a state that reads one frame from a source, poll by poll, and then the next.
+    /// Returns a state that reads frames from a source, one after the other, poll by poll.
     pub fn read_async(alloc: Global) -> FrameReading
         ensures { result ≡ new_held }
     {
@@ -58,9 +58,8 @@ impl<'a> Frame<'a> {
 
 /// Reads one frame from a source, poll by poll, and takes no byte after it.
 ///
-/// It holds the bytes that it took of a frame, or the number of bytes of an unknown frame still to
-/// be skipped, and loses none of that if a poll returns neither a frame nor a parse error.
-/// Otherwise it is as new, and reads the next frame.
+/// It buffers a partial frame, or counts the bytes of an unknown frame left to skip, across polls.
+/// After a frame or a parse error it is reset and reads the next frame.
 #[derive(Drop)]
 pub struct FrameReading {
     alloc: Global,
@@ -68,7 +67,7 @@ pub struct FrameReading {
     due: u64,
 }
 
-// The number of bytes held, and the number of bytes still to be skipped.
+// Prints the number of bytes held, and the number of bytes left to skip.
 impl fmt::Debug for FrameReading {
     fn fmt<W: fmt::Write>(&self, f: &mut fmt::Formatter<W>) -> fmt::Result {
         f.debug_struct("FrameReading")
@@ -103,23 +102,25 @@ impl FrameReading {
         }
     }
 
-    /// Reads as far as the source goes, in at most 4112 calls.
+    /// Reads until a frame is complete or the source gives no more. Calls the source at most 4112
+    /// times.
     ///
-    /// - `Ready(Ok(frame))` or `Ready(Err(Parse(fault)))`: the result of `Frame::read` of the bytes
-    ///   taken and ahead. The source is positioned right after the bytes that decided. Only the
-    ///   payload is allocated, once, before its first byte.
-    /// - `Ready(Err(IO(fault)))`: the source gave no more bytes, and there were too few. All are
+    /// - `Ready(Ok(frame))` or `Ready(Err(Parse(error)))`: the result of `Frame::read` for the
+    ///   bytes received and ahead. The source is positioned right after the bytes that
+    ///   `Frame::read` reads. Only the payload is allocated, once, before its first byte is read.
+    /// - `Ready(Err(IO(error)))`: the source gave no more bytes, and there were too few. All bytes
+    ///   received are held, or skipped if they are the payload of an unknown frame.
+    /// - `Pending`: the source was not ready, and was not called again after that. All bytes
+    ///   received are held or skipped, as above.
+    /// - `NoMemory`: allocation failed for a payload of 1 to 4096 bytes. All bytes received are
     ///   held.
-    /// - `Pending`: the source was not ready, once, and is not called again then. `NoMemory`: allocation failed for a payload of 1 to
-    ///   4096 bytes. All bytes received are held.
-    /// - `Again`: 4096 bytes of an unknown frame's payload were skipped, and some are still to be
-    ///   skipped.
+    /// - `Again`: 4096 bytes of an unknown frame's payload were skipped, and more are left to skip.
     ///
-    /// It may be polled again after each of these, with the same source or another.
+    /// It may be polled again after each of these, with the same source or another one.
     ///
-    /// A complete frame that the source has buffered is taken in one call, and a payload of at most
-    /// 40 bytes then mostly does not allocate: that is how it is done, and no promise of the
-    /// contract.
+    /// If the source has a complete frame buffered, it is taken in one call, and a payload of at
+    /// most 40 bytes then usually needs no allocation. This is how it is implemented; the contract
+    /// does not promise it.
     #[inline(always)]
     pub fn poll<S: AsyncRead>(&mut self, source: &mut S) -> Polled<Result<FrameOwned, IoReadError>>
         ensures was_unfinished { IsUnfinished self.old }
@@ -138,7 +139,7 @@ impl FrameReading {
         self.read_on(source)
     }
 
-    /// Reads as `poll` does, without a look at what the source has buffered.
+    /// Reads as `poll` does, but does not look for a complete frame in the source's buffered bytes.
     fn read_on<S: AsyncRead>(&mut self, source: &mut S) -> Polled<Result<FrameOwned, IoReadError>>
         ensures was_unfinished { IsUnfinished self.old }
         ensures unfinished { IsUnfinished self.new }
@@ -167,7 +168,8 @@ impl FrameReading {
     }
 }
 
-/// Takes the first frame of a source if all of it is buffered. Otherwise the source is unchanged.
+/// Takes the first frame of a source if the source has buffered all of it. Otherwise returns
+/// `None`, and the source is unchanged.
 #[inline(always)]
 fn take_buffered_frame<S: AsyncRead>(alloc: Global, source: &mut S) -> Option<FrameOwned>
     ensures framed { IfSome result IsFramed }
@@ -183,7 +185,7 @@ fn take_buffered_frame<S: AsyncRead>(alloc: Global, source: &mut S) -> Option<Fr
     }
 }
 
-/// Returns the result of a frame that need not be skipped, with the payload that was read.
+/// Returns the result for a complete head and its payload. The frame must not be one to skip.
 #[inline(always)]
 fn answer(announcement: Announcement, payload: Vec<u8>) -> Result<FrameOwned, IoReadError>
     requires { CanAnswer announcement (length payload.items) }
@@ -201,7 +203,7 @@ fn answer(announcement: Announcement, payload: Vec<u8>) -> Result<FrameOwned, Io
     }
 }
 
-/// Skips payload bytes of an unknown frame, as many as one poll may.
+/// Skips `due` payload bytes of an unknown frame, up to 4096 in one poll.
 fn pass_on<S: AsyncRead>(source: &mut S, due: &mut u64) -> Polled<Result<FrameOwned, IoReadError>>
     ensures plain { PassedPlain result due.old due.new }
     ensures passed { Telling (S.tells source.old) (S.tells source.new)

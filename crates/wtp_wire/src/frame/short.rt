@@ -3,16 +3,16 @@ ghost use Rattle.std.specs.Prelude.{◌≡◌, ◌≤◌, ◌↔◌, List, ℕ, 
 
 use std::marker::Model;
 
-/// The longest payload stored in a frame, in bytes.
+/// The maximum length of a payload stored in a frame, in bytes.
 pub(crate) const MAX_SHORT: usize = 40;
 
-/// Room for a payload of at most 40 bytes. Its length is stored beside it.
+/// Storage for a payload of at most 40 bytes. The length is stored separately.
 #[derive(Drop)]
 pub(crate) struct Room {
-    // The payload, and bytes after it that are not part of it.
+    // The payload, followed by bytes that are not part of it.
     bytes: [u8; MAX_SHORT],
-    // Has no size, and aligns the bytes: they are then copied by words of eight bytes, and a length
-    // of one byte fits into what an enum leaves free after its tag.
+    // Takes no space, but aligns the bytes, so that they are copied eight at a time. A one-byte
+    // length then fits into the padding after an enum's tag.
     aligned: [u64; 0],
 }
 
@@ -23,10 +23,10 @@ impl Model for Room {
 }
 
 impl Room {
-    /// Copies the first `len` bytes. Returns `None` if `len` is above 40, or if fewer than 40 bytes
+    /// Copies the first `len` bytes. Returns `None` if `len` is above 40 or if fewer than 40 bytes
     /// are given.
     ///
-    /// All 40 are copied, which needs no call that depends on a number.
+    /// Always copies 40 bytes, because a copy of constant length needs no function call.
     #[inline(always)]
     pub(crate) fn front_of(bytes: &[u8], len: usize) -> Option<Self>
         ensures front { IfSome result (λ r. take len r ≡ take len bytes.now) }
@@ -42,7 +42,7 @@ impl Room {
         })
     }
 
-    /// Returns the first `len` bytes, and at most all 40.
+    /// Returns the first `len` bytes, or all 40 if `len` is larger.
     #[inline(always)]
     pub(crate) fn first(&self, len: u8) -> &[u8]
         ensures { result.now ≡ take len self.now }

@@ -1,4 +1,4 @@
-//! Creating frames from payloads of any length. Not in the Rust crate.
+//! Constructors of frames that check the length of the payload. Not in the Rust crate.
 ghost use Rattle.std.specs.Prelude.{◌≡◌, ◌<◌, ◌^◌, ◌↔◌, length, IsTrue, IsOk, IfOk, OnErr, Err};
 ghost use Rattle.std.specs.Cow.{cow_slice_items};
 ghost use Rattle.wtp_wire.specs.Content.{DataOf, HeadersOf, SettingsOf};
@@ -7,7 +7,7 @@ use crate::frame::{Frame, GenerateError};
 use std::borrow::CowSlice;
 use wtp_core::varint::VarInt;
 
-/// Returns whether a frame may have this payload: it has fewer than 2^62 bytes.
+/// Returns whether the payload has fewer than 2^62 bytes.
 fn fits(payload: &CowSlice<'_, u8>) -> bool
     ensures { IsTrue result ↔ (length (cow_slice_items payload.now) < 2 ^ 62) }
 {
@@ -19,12 +19,10 @@ fn fits(payload: &CowSlice<'_, u8>) -> bool
 }
 
 impl<'a> Frame<'a> {
-    /// Creates a HEADERS frame as `new_headers` does, from a payload of any length. Not in the Rust
-    /// crate.
+    /// Creates a HEADERS frame (RFC 9114, section 7.2.2) from a payload of any length. Not in the
+    /// Rust crate.
     ///
     /// Returns `PayloadTooLong` exactly if the payload has 2^62 bytes or more.
-    ///
-    /// Source: RFC 9114, section 7.2.2.
     pub fn try_new_headers(payload: CowSlice<'a, u8>) -> Result<Self, GenerateError>
         ensures fits { IsOk result ↔ (length (cow_slice_items payload.entry) < 2 ^ 62) }
         ensures ok { IfOk result (λ f. f ≡ HeadersOf (cow_slice_items payload.entry)) }
@@ -36,12 +34,10 @@ impl<'a> Frame<'a> {
         Ok(Frame::new_headers(payload))
     }
 
-    /// Creates a SETTINGS frame as `new_settings` does, from a payload of any length. Not in the
+    /// Creates a SETTINGS frame (RFC 9114, section 7.2.4) from a payload of any length. Not in the
     /// Rust crate.
     ///
     /// Returns `PayloadTooLong` exactly if the payload has 2^62 bytes or more.
-    ///
-    /// Source: RFC 9114, section 7.2.4.
     pub fn try_new_settings(payload: CowSlice<'a, u8>) -> Result<Self, GenerateError>
         ensures fits { IsOk result ↔ (length (cow_slice_items payload.entry) < 2 ^ 62) }
         ensures ok { IfOk result (λ f. f ≡ SettingsOf (cow_slice_items payload.entry)) }
@@ -53,12 +49,10 @@ impl<'a> Frame<'a> {
         Ok(Frame::new_settings(payload))
     }
 
-    /// Creates a DATA frame as `new_data` does, from a payload of any length. Not in the Rust
+    /// Creates a DATA frame (RFC 9114, section 7.2.1) from a payload of any length. Not in the Rust
     /// crate.
     ///
     /// Returns `PayloadTooLong` exactly if the payload has 2^62 bytes or more.
-    ///
-    /// Source: RFC 9114, section 7.2.1.
     pub fn try_new_data(payload: CowSlice<'a, u8>) -> Result<Self, GenerateError>
         ensures fits { IsOk result ↔ (length (cow_slice_items payload.entry) < 2 ^ 62) }
         ensures ok { IfOk result (λ f. f ≡ DataOf (cow_slice_items payload.entry)) }

@@ -9,10 +9,11 @@ use crate::frame::kind::KindNumber;
 use crate::frame::{Frame, FrameOwned};
 use std::alloc::Global;
 
-/// Returns the first frame of the input, with a payload of its own, and the number of bytes it has.
+/// Returns the first frame of the input, with a copy of its payload, and the length of the frame in
+/// bytes.
 ///
-/// Returns `None` if the input does not start with a complete frame, and if allocation failed. A
-/// payload of at most 40 bytes does not allocate if there are 40 bytes from its first one on.
+/// Returns `None` if the input does not start with a complete valid frame, or if allocation failed.
+/// A payload of at most 40 bytes is copied without allocation if at least 40 bytes follow the head.
 #[inline(always)]
 pub(crate) fn front_frame(alloc: Global, bytes: &[u8]) -> Option<(FrameOwned, usize)>
     ensures size { IfSome result (λ x. x.1 ≤ length bytes.now) }

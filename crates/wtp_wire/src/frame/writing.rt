@@ -1,4 +1,4 @@
-//! Writing a frame, poll by poll.
+//! Polled writing of frames.
 ghost use Rattle.std.specs.Prelude.{◌≡◌, ◌+◌, ◌<◌, ◌≤◌, ◌++◌, length, Ok};
 ghost use Rattle.wtp_core.specs.Source.{Telling};
 ghost use Rattle.wtp_core.specs.Put.{Writing, unsent, GoesOn, IsSent, WritePolled};
@@ -15,8 +15,8 @@ use wtp_core::varint::VarInt;
 impl<'a> Frame<'a> {
     ghost use Rattle.wtp_wire.specs.Wire.{wire};
 
-    /// Returns a state that writes the frame to a sink, poll by poll, each number in its shortest
-    /// encoding.
+    /// Returns a state that writes the frame to a sink, poll by poll, with each number in its
+    /// shortest encoding.
     pub fn write_async(&self) -> FrameWriting<'_>
         ensures { result ≡ unsent (wire self.now) }
     {
@@ -36,8 +36,8 @@ impl FrameWriting<'static> {
     ghost use Rattle.wtp_wire.specs.Content.{WebTransportOf};
     ghost use Rattle.wtp_wire.specs.Wire.{wire};
 
-    /// Returns a state that writes the frame that associates its stream with this session, and has
-    /// sent nothing. Not in the Rust crate.
+    /// Returns a state that writes the WebTransport frame of this session. Nothing is sent yet. Not
+    /// in the Rust crate.
     pub fn of_session(session_id: SessionId) -> Self
         ensures { result ≡ unsent (wire (WebTransportOf session_id)) }
     {
@@ -52,8 +52,7 @@ impl FrameWriting<'static> {
 
 /// Writes one frame to a sink, poll by poll.
 ///
-/// It counts the bytes of the frame sent, and sends none of them twice. It does not allocate; the
-/// sink may.
+/// It counts the bytes sent, and sends no byte twice. It does not allocate, but the sink may.
 #[derive(Drop)]
 pub struct FrameWriting<'a> {
     head: Encoded,
@@ -61,7 +60,7 @@ pub struct FrameWriting<'a> {
     payload_sent: usize,
 }
 
-// The number of bytes sent of the first two numbers and of the payload.
+// Prints the number of bytes sent of the first two numbers and of the payload.
 impl fmt::Debug for FrameWriting<'_> {
     fn fmt<W: fmt::Write>(&self, f: &mut fmt::Formatter<W>) -> fmt::Result {
         f.debug_struct("FrameWriting")
@@ -83,12 +82,12 @@ impl<'a> Model for FrameWriting<'a> {
 }
 
 impl<'a> FrameWriting<'a> {
-    /// Writes as far as the sink goes.
+    /// Writes until all bytes are sent or the sink accepts no more.
     ///
-    /// Returns `Ready(Ok(()))` once all is sent, and then stays finished and does not call its sink
-    /// again. Otherwise returns what the sink reported: not ready (`Pending`), out of memory,
-    /// stopped or not connected. After each of these it may be polled again, with the same sink or
-    /// another.
+    /// Returns `Ready(Ok(()))` once all bytes are sent, and so does every later poll, without a
+    /// call of the sink. Otherwise returns what the sink reported: not ready (`Pending`), out of
+    /// memory, stopped or not connected. It may be polled again after each of these, with the same
+    /// sink or another one.
     pub fn poll<W: AsyncWrite>(&mut self, sink: &mut W) -> Polled<Result<(), IoWriteError>>
         ensures on { GoesOn self.old self.new }
         ensures whole { IsSent result self.new }

@@ -11,7 +11,7 @@ ghost use Rattle.wtp_wire.specs.declared.capsule.CapsuleKind.{CapsuleKind};
 ghost use Rattle.wtp_wire.specs.declared.capsule.cursor.CapsuleCursor.{CapsuleCursor};
 ghost use Rattle.wtp_wire.specs.declared.capsule.cursor.CapsuleStep.{CapsuleStep};
 
-/// The computed kind of a capsule type is the kind that has this type.
+/// Computing the kind of a capsule type gives exactly the kind that has this type.
 pub fn capsule_kind_is_computed()
     ensures computed { (kind : CapsuleKind) (id : ℕ) → id ≡ capsule_number_of kind
         → capsule_kind_of id ≡ Some kind }
@@ -19,8 +19,8 @@ pub fn capsule_kind_is_computed()
         → id ≡ capsule_number_of kind }
 {}
 
-/// The capsule at the start of the input is computed, and what is computed is at its start: so the
-/// input starts with at most one capsule.
+/// Computing the capsule at the start of the input agrees with its definition. So the input starts
+/// with at most one capsule.
 pub fn capsule_is_computed()
     ensures computed { (bytes : List ℕ) (kind : CapsuleKind) (payload : List ℕ)
         → BeginsWithCapsule bytes kind payload → capsule_in bytes ≡ Some (kind, payload) }
@@ -28,7 +28,7 @@ pub fn capsule_is_computed()
         → capsule_in bytes ≡ Some (kind, payload) → BeginsWithCapsule bytes kind payload }
 {}
 
-/// The computed code and reason of a close payload are those by definition.
+/// Computing the code and the reason of a close payload agrees with their definition.
 pub fn close_is_computed()
     ensures computed { (code : ℕ) (reason payload : List ℕ) → IsClose code reason payload
         → close_in payload ≡ Some (code, reason) }
@@ -36,19 +36,21 @@ pub fn close_is_computed()
         → IsClose code reason payload }
 {}
 
-/// What data starts with is computed: so at most one case of `CapsuleFront` holds, with one rest.
+/// Whatever case of `CapsuleFront` the data starts with, `capsule_front` computes it. So at most
+/// one case holds, with one remainder.
 pub fn capsule_front_is_computed()
     ensures { (bytes : List ℕ) (c : CapsuleFront) → StartsWith bytes c → capsule_front bytes ≡ c }
 {}
 
-/// One case holds: the computed one. If that is `Cut`, the data starts with none of the others.
+/// The data starts with the case that `capsule_front` computes. If that is `Cut`, no other case
+/// holds.
 pub fn one_capsule_front()
     ensures { (bytes : List ℕ)
         → StartsWith bytes (capsule_front bytes)
         ⊎ ((capsule_front bytes ≡ Cut) × ((c : CapsuleFront) → StartsWith bytes c → ⊥)) }
 {}
 
-/// The next capsule of a known kind: those of unknown types before it are skipped.
+/// To find the next capsule of a known kind, unknown capsules before it are skipped.
 pub fn next_capsule_by_front()
     ensures unknown { (bytes rest : List ℕ) → capsule_front bytes ≡ Unknown rest
         → next_capsule bytes ≡ next_capsule rest }
@@ -56,7 +58,7 @@ pub fn next_capsule_by_front()
         → next_capsule bytes ≡ capsule_front bytes }
 {}
 
-/// The capsules of data go by the first one.
+/// The capsules of data, given by the first one and the capsules of the remainder.
 pub fn capsules_by_first()
     ensures found { (bytes value rest : List ℕ) (kind : CapsuleKind)
         → capsule_front bytes ≡ Found kind value rest
@@ -69,19 +71,19 @@ pub fn capsules_by_first()
     ensures end { (bytes : List ℕ) → capsule_front bytes ≡ End → capsules bytes ≡ ends Between }
 {}
 
-/// Where data is cut makes no difference: whatever follows, the capsules and the ending of what is
-/// held, the bytes given and those that follow are the result of a call, followed by the capsules
-/// and the ending of what is then held, the bytes left and those that follow.
+/// It makes no difference where data is split. For all bytes that follow: the capsules and the
+/// ending of the state and the bytes before a call are the result of the call, followed by the
+/// capsules and the ending of the state and the bytes after it.
 pub fn cuts_make_no_difference()
     ensures { (result : Result (Option (CapsuleKind × List ℕ)) CapsuleError) (old new : Held)
         (a b more : List ℕ) → NextGiven result old a new b
         → capsules_held old (a ++ more) ≡ with_result result (capsules_held new (b ++ more)) }
 {}
 
-/// A new reading returns the capsules of the data, and finds how it ends, whatever pieces the data
-/// arrives in and however often a call fails and is made again. The steps are what happened at the
-/// reading, and what it holds and the bytes that are left are those after them. If no byte is left,
-/// the data ends between two capsules exactly where `finish` returns no error.
+/// A new reading returns the capsules of the data and its ending, in whatever pieces the data
+/// arrives and however often a call fails and is repeated. The steps are the calls made; `held` and
+/// the bytes left are the state after them. If no byte is left, the data ends between two capsules
+/// exactly if `finish` returns no error.
 pub fn pieces_make_no_difference()
     ensures between { (steps : List Step) (held : Held) → Leads steps new_held [] held []
         → next_held held [] ≡ End
@@ -95,9 +97,9 @@ pub fn pieces_make_no_difference()
         ≡ record { found = returned steps; ending = AtTooLong } }
 {}
 
-/// A new cursor finds the capsules of the data, and how it ends, whatever pieces the data comes in
-/// and however often it is called. The events are what happened at the cursor; the cursor and the
-/// bytes that are left are those after them, of which `finish` returns the ending.
+/// A new cursor finds the capsules of the data and its ending, in whatever pieces the data arrives
+/// and however often it is called. The events are what happened at the cursor; `cursor` and `rest`
+/// are the state after them, for which `finish` returns the ending.
 pub fn held_pieces_make_no_difference()
     ensures end { (events : List CursorEvent) (cursor : CapsuleCursor) (rest : List ℕ)
         (ending : CapsuleEnding) → LeadsTo events (record { due = 0 }) [] cursor rest
@@ -109,7 +111,7 @@ pub fn held_pieces_make_no_difference()
         ≡ record { found = found_in events []; ending = AtTooLong } }
 {}
 
-/// A close capsule that is written is read again, whatever follows, and so are its code and reason.
+/// A written close capsule is read back, with its code and reason, whatever bytes follow it.
 pub fn written_close_is_read()
     ensures next { (close : ℕ × List ℕ) (rest : List ℕ) → IsWritableClose close
         → next_capsule (close_wire close ++ rest)

@@ -2,7 +2,7 @@
 ghost use Rattle.std.specs.Prelude.{◌≡◌, ◌<◌, ◌^◌, ℕ, List, Some};
 ghost use Rattle.wtp_wire.specs.Datagram.{IsDatagram, datagram_in, datagram_wire};
 
-/// The computed datagram of the input is its datagram by definition.
+/// Computing the datagram of the input agrees with its definition.
 pub fn datagram_is_computed()
     ensures computed { (id : ℕ) (payload s : List ℕ) → IsDatagram id payload s
         → datagram_in s ≡ Some (id, payload) }
@@ -10,7 +10,7 @@ pub fn datagram_is_computed()
         → IsDatagram id payload s }
 {}
 
-/// A datagram that is written is read again, with the same quarter stream ID and payload.
+/// A written datagram is read back, with the same quarter stream ID and payload.
 pub fn written_datagram_is_read()
     ensures { (id : ℕ) (payload : List ℕ) → id < 2 ^ 60
         → datagram_in (datagram_wire (id, payload)) ≡ Some (id, payload) }

@@ -4,15 +4,15 @@ ghost use Rattle.wtp_core.specs.Source.{Source};
 ghost use Rattle.wtp_wire.specs.Front.{IsUnknown, front};
 ghost use Rattle.wtp_wire.specs.Held.{Held, front_held, Skips};
 
-/// If no byte of an unknown frame is still to be skipped, the case of the bytes held and ahead is
-/// that of the bytes held followed by those ahead.
+/// If no byte is left to skip, the first frame is that of the bytes held followed by the bytes
+/// ahead.
 pub fn held_is_in_front()
     ensures { (h : Held) (ahead : List ℕ) → h.due ≡ 0
         → front_held h ahead ≡ front (h.taken ++ ahead) }
 {}
 
-/// The bytes that a poll skipped, followed by any bytes as many as are still to be skipped, are an
-/// unknown frame; or the part of one that was still to be skipped before.
+/// The bytes that a poll skipped, followed by any bytes in the number left to skip, are an unknown
+/// frame; or, if bytes were left to skip before, exactly that many bytes.
 pub fn passed_is_unknown()
     ensures begun { (old new : Held) (a b : Source) (s : Skips old new a b) (z : List ℕ)
         → length z ≡ new.due → old.due ≡ 0 → IsUnknown ((s.head ++ s.payload) ++ z) }

@@ -9,7 +9,7 @@ ghost use Rattle.wtp_wire.specs.declared.settings.pairs.SettingPair.{SettingPair
 ghost use Rattle.wtp_wire.specs.SettingsList.{AreListed, settings_list};
 ghost use Rattle.wtp_wire.specs.declared.settings.SettingId.{SettingId};
 
-/// The computed setting of a number is its setting by definition.
+/// Computing the setting of an identifier agrees with its definition.
 pub fn setting_id_is_computed()
     ensures computed { (setting : SettingId) (id : ℕ) → IsSettingId setting id
         → setting_id_of id ≡ Some setting }
@@ -17,8 +17,8 @@ pub fn setting_id_is_computed()
         → IsSettingId setting id }
 {}
 
-/// The settings of a payload are computed, and so is its first fault: so it has at most one
-/// meaning.
+/// If a payload contains settings, or has a first error, `settings_in` computes it. So a payload
+/// has at most one result.
 pub fn settings_are_computed()
     ensures settings { (m : List (ℕ × ℕ)) (payload : List ℕ) → IsPayload m payload
         → settings_in payload ≡ Ok m }
@@ -26,19 +26,19 @@ pub fn settings_are_computed()
         → settings_in payload ≡ Err code }
 {}
 
-/// Each payload contains settings or has a fault.
+/// Each payload contains valid settings or has an error.
 pub fn one_reading()
     ensures { (payload : List ℕ)
         → ((m : List (ℕ × ℕ)) × IsPayload m payload)
         ⊎ ((code : ErrorCode) × IsSettingsFault code payload) }
 {}
 
-/// Settings that are written are read again.
+/// Written settings are read back.
 pub fn written_settings_are_read()
     ensures { (m : List (ℕ × ℕ)) → IsSettings m → settings_in (settings_wire m) ≡ Ok m }
 {}
 
-/// Setting one number changes its value only.
+/// Setting the value of one identifier does not change the values of others.
 pub fn one_setting_changes()
     ensures set { (m : List (ℕ × ℕ)) (id value : ℕ)
         → value_at (with_setting m id value) id ≡ Some value }
@@ -46,13 +46,13 @@ pub fn one_setting_changes()
         → value_at (with_setting m id value) other ≡ value_at m other }
 {}
 
-/// The settings that are listed are those that are set, each once with its value, in ascending
-/// order of their numbers.
+/// Exactly the settings that are set are listed: each once with its value, in ascending order of
+/// identifiers.
 pub fn settings_are_listed()
     ensures { (m : List (ℕ × ℕ)) → IsSettings m → AreListed m (settings_list m) }
 {}
 
-/// The computed pairs of a payload, and its fault, are those by definition.
+/// Computing the pairs of a payload and its error agrees with their definition.
 pub fn setting_pairs_are_computed()
     ensures computed { (ps : List SettingPair) (fault : Option ErrorCode) (payload : List ℕ)
         → HasPairs ps fault payload → setting_items payload ≡ pair_items ps fault }
@@ -60,14 +60,14 @@ pub fn setting_pairs_are_computed()
         → setting_items payload ≡ pair_items ps fault → HasPairs ps fault payload }
 {}
 
-/// Each payload has pairs, and then ends or has a fault.
+/// Each payload is a list of pairs, followed by its end or by an error.
 pub fn one_list_of_pairs()
     ensures { (payload : List ℕ)
         → (ps : List SettingPair) × (fault : Option ErrorCode) × HasPairs ps fault payload }
 {}
 
-/// The settings of a payload are those among its pairs, and its first fault is that of its pairs,
-/// except for a repeated identifier of a setting: that is a fault of the settings alone.
+/// The settings of a payload are those among its pairs, and its first error is that of its pairs.
+/// The exception is a repeated identifier of a setting, which is an error of the settings only.
 pub fn settings_are_among_the_pairs()
     ensures settings { (m : List (ℕ × ℕ)) (payload : List ℕ) → settings_in payload ≡ Ok m
         → (ps : List SettingPair) × HasPairs ps None payload × AreFaultless (numbers_of ps)

@@ -6,7 +6,7 @@ ghost use Rattle.wtp_wire.specs.HeaderFront.{HeaderFront, Headed, Short, StreamB
 ghost use Rattle.wtp_wire.specs.HeaderWire.{header_wire, IsReadableHeader};
 ghost use Rattle.wtp_wire.specs.declared.stream_header.StreamKind.{StreamKind};
 
-/// The computed kind of a stream type is its kind by definition.
+/// Computing the kind of a stream type agrees with its definition.
 pub fn stream_kind_is_computed()
     ensures computed { (kind : StreamKind) (id : ℕ) → IsStreamKind kind id
         → stream_kind_of id ≡ Some kind }
@@ -14,26 +14,27 @@ pub fn stream_kind_is_computed()
         → IsStreamKind kind id }
 {}
 
-/// What a stream's bytes start with is computed: so at most one case of `HeaderFront` holds, with
-/// one header and one rest.
+/// Whatever case of `HeaderFront` a stream starts with, `header_front` computes it. So at most one
+/// case holds, with one header and one remainder.
 pub fn header_front_is_computed()
     ensures { (bytes : List ℕ) (c : HeaderFront) → StreamBegins bytes c → header_front bytes ≡ c }
 {}
 
-/// One case holds: the computed one. If that is `Short`, the bytes start with none of the others.
+/// The bytes start with the case that `header_front` computes. If that is `Short`, no other case
+/// holds.
 pub fn one_header_front()
     ensures { (bytes : List ℕ)
         → StreamBegins bytes (header_front bytes)
         ⊎ ((header_front bytes ≡ Short) × ((c : HeaderFront) → StreamBegins bytes c → ⊥)) }
 {}
 
-/// A case other than `Short` stays the same when bytes follow.
+/// Appending bytes does not change a case other than `Short`, except for its remainder.
 pub fn header_front_stays()
     ensures { (bytes more : List ℕ) → header_front bytes ≢ Short
         → header_front (bytes ++ more) ≡ header_extended (header_front bytes) more }
 {}
 
-/// A header that is written is read again, whatever follows.
+/// A written header is read back, whatever bytes follow it.
 pub fn written_header_is_read()
     ensures { (h : Header) (rest : List ℕ) → IsReadableHeader h
         → header_front (header_wire h ++ rest) ≡ Headed h rest }

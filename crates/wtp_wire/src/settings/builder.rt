@@ -1,4 +1,4 @@
-//! The builder of settings.
+//! A builder for settings.
 ghost use Rattle.std.specs.Prelude.{◌≡◌, true, OnErr, IfOk, None};
 
 use crate::settings::{Settings, setting_ids};
@@ -6,7 +6,7 @@ use std::alloc::AllocError;
 use std::marker::Model;
 use wtp_core::varint::VarInt;
 
-/// A builder that sets settings one after the other.
+/// Builds [`Settings`], one setting at a time.
 #[derive(Debug, Drop)]
 pub struct SettingsBuilder {
     settings: Settings,
@@ -25,14 +25,14 @@ impl SettingsBuilder {
     ghost use Rattle.wtp_wire.specs.SettingId.{is_setting};
     ghost use Rattle.wtp_wire.specs.Settings.{value_at, with_setting};
 
-    /// Creates a builder that starts with these settings.
+    /// Creates a builder that starts with the given settings.
     pub(crate) fn new(settings: Settings) -> Self
         ensures { result ≡ settings }
     {
         SettingsBuilder { settings }
     }
 
-    /// Sets the value of a number.
+    /// Sets the value of an identifier.
     fn set(mut self, number: VarInt, value: VarInt) -> Result<Self, AllocError>
         requires { is_setting number ≡ true }
         ensures ok { IfOk result (λ b. b ≡ with_setting self number value) }
@@ -44,7 +44,7 @@ impl SettingsBuilder {
 
     /// Sets the maximum size of the QPACK dynamic table, in bytes (RFC 9204, section 5).
     ///
-    /// Returns `AllocError` if allocation failed; then the builder is dropped. This cannot happen
+    /// Returns `AllocError` if allocation failed; the builder is then dropped. This cannot happen
     /// if the setting was set before.
     pub fn qpack_max_table_capacity(self, value: VarInt) -> Result<Self, AllocError>
         ensures ok { IfOk result (λ b. b ≡ with_setting self 0x01 value) }
@@ -56,7 +56,7 @@ impl SettingsBuilder {
     /// Sets the maximum size of a field section, in bytes (RFC 9114, section 7.2.4.1). Not in the
     /// Rust crate.
     ///
-    /// Returns `AllocError` if allocation failed; then the builder is dropped. This cannot happen
+    /// Returns `AllocError` if allocation failed; the builder is then dropped. This cannot happen
     /// if the setting was set before.
     pub fn max_field_section_size(self, value: VarInt) -> Result<Self, AllocError>
         ensures ok { IfOk result (λ b. b ≡ with_setting self 0x06 value) }
@@ -65,9 +65,9 @@ impl SettingsBuilder {
         self.set(setting_ids::SETTINGS_MAX_FIELD_SECTION_SIZE, value)
     }
 
-    /// Sets the number of streams that QPACK may block (RFC 9204, section 5).
+    /// Sets the maximum number of streams that QPACK may block (RFC 9204, section 5).
     ///
-    /// Returns `AllocError` if allocation failed; then the builder is dropped. This cannot happen
+    /// Returns `AllocError` if allocation failed; the builder is then dropped. This cannot happen
     /// if the setting was set before.
     pub fn qpack_blocked_streams(self, value: VarInt) -> Result<Self, AllocError>
         ensures ok { IfOk result (λ b. b ≡ with_setting self 0x07 value) }
@@ -76,9 +76,9 @@ impl SettingsBuilder {
         self.set(setting_ids::SETTINGS_QPACK_BLOCKED_STREAMS, value)
     }
 
-    /// Sets that extended CONNECT is supported (RFC 9220, section 3).
+    /// Announces support for extended CONNECT (RFC 9220, section 3).
     ///
-    /// Returns `AllocError` if allocation failed; then the builder is dropped. This cannot happen
+    /// Returns `AllocError` if allocation failed; the builder is then dropped. This cannot happen
     /// if the setting was set before.
     pub fn enable_connect_protocol(self) -> Result<Self, AllocError>
         ensures ok { IfOk result (λ b. b ≡ with_setting self 0x08 1) }
@@ -90,9 +90,9 @@ impl SettingsBuilder {
         )
     }
 
-    /// Sets that WebTransport is supported (draft-ietf-webtrans-http3-02, section 3.1).
+    /// Announces support for WebTransport (draft-ietf-webtrans-http3-02, section 3.1).
     ///
-    /// Returns `AllocError` if allocation failed; then the builder is dropped. This cannot happen
+    /// Returns `AllocError` if allocation failed; the builder is then dropped. This cannot happen
     /// if the setting was set before.
     pub fn enable_webtransport(self) -> Result<Self, AllocError>
         ensures ok { IfOk result (λ b. b ≡ with_setting self 0x2b60_3742 1) }
@@ -104,9 +104,9 @@ impl SettingsBuilder {
         )
     }
 
-    /// Sets that datagrams are supported (RFC 9297, section 2.1.1).
+    /// Announces support for HTTP datagrams (RFC 9297, section 2.1.1).
     ///
-    /// Returns `AllocError` if allocation failed; then the builder is dropped. This cannot happen
+    /// Returns `AllocError` if allocation failed; the builder is then dropped. This cannot happen
     /// if the setting was set before.
     pub fn enable_h3_datagrams(self) -> Result<Self, AllocError>
         ensures ok { IfOk result (λ b. b ≡ with_setting self 0x33 1) }
@@ -117,7 +117,7 @@ impl SettingsBuilder {
 
     /// Sets the maximum number of concurrent WebTransport sessions (draft-ietf-webtrans-http3-07).
     ///
-    /// Returns `AllocError` if allocation failed; then the builder is dropped. This cannot happen
+    /// Returns `AllocError` if allocation failed; the builder is then dropped. This cannot happen
     /// if the setting was set before.
     pub fn webtransport_max_sessions(self, value: VarInt) -> Result<Self, AllocError>
         ensures ok { IfOk result (λ b. b ≡ with_setting self 0xc671_706a value) }

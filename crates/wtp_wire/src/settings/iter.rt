@@ -1,4 +1,4 @@
-//! The settings one by one. Not in the Rust crate.
+//! Iteration over settings. Not in the Rust crate.
 
 ghost use Rattle.std.specs.Prelude.{◌≡◌, length, ⊤, IfSome};
 ghost use Rattle.std.specs.Iterator.{UpTo, YieldsFirst, at_most};
@@ -13,8 +13,8 @@ use std::iter::FusedIterator;
 use std::marker::Model;
 use wtp_core::varint::VarInt;
 
-/// An iterator over settings, in ascending order of their numbers: see [`Settings::iter`]. Not in
-/// the Rust crate.
+/// An iterator over settings in ascending order of identifiers. See [`Settings::iter`]. Not in the
+/// Rust crate.
 #[derive(Drop)]
 pub struct SettingsIter<'a> {
     entries: Iter<'a, VarInt, VarInt>,
@@ -37,8 +37,8 @@ impl<'a> Model for SettingsIter<'a> {
 impl Settings {
     ghost use Rattle.wtp_wire.specs.Settings.{IsSettings};
 
-    /// Returns an iterator over the settings and their values, in ascending order of their numbers.
-    /// It gives each setting that is set once. Not in the Rust crate.
+    /// Returns an iterator over the settings that are set and their values, in ascending order of
+    /// identifiers. Not in the Rust crate.
     pub fn iter(&self) -> SettingsIter<'_>
         ensures listed { result ≡ settings_list self.now }
         ensures settings { IsSettings self.now }
@@ -89,7 +89,7 @@ impl Iterator for SettingsIter<'_> {
         ensures lower { IsWithinCount result.0 (at_most (length self.now)) }
         ensures upper { IfSome result.1 (UpTo (at_most (length self.now))) }
 
-        // Exactly the settings that are left.
+        // The bounds are exact: the number of settings left.
         ensures exact { result ≡ (length self.now, Some (length self.now)) }
     {
         let len = self.entries.len();
@@ -105,7 +105,7 @@ impl ExactSizeIterator for SettingsIter<'_> {
 
 impl FusedIterator for SettingsIter<'_> {}
 
-// The settings that are left, as a map.
+// Prints the settings left, as a map.
 impl fmt::Debug for SettingsIter<'_> {
     fn fmt<W: fmt::Write>(&self, f: &mut fmt::Formatter<W>) -> fmt::Result {
         f.debug_map().entries(self.clone().unwrap()).finish()

@@ -1,4 +1,4 @@
-//! The settings of a payload as pairs, those that are unknown too. Not in the Rust crate.
+//! The settings of a payload as pairs, including unknown ones. Not in the Rust crate.
 
 ghost use Rattle.std.specs.Prelude.{◌≡◌, length, Some, None, MatchOption};
 ghost use Rattle.std.specs.Iterator.{YieldsFirst, at_most};
@@ -13,7 +13,7 @@ use wtp_core::bytes::BytesReader;
 use wtp_core::error::ErrorCode;
 use wtp_core::varint::VarInt;
 
-/// A setting of a payload: its identifier, which may be unknown, and its value. Not in the Rust
+/// A setting in a payload: its identifier, which may be unknown, and its value. Not in the Rust
 /// crate.
 #[derive(Clone, Copy, Debug, PartialEq, Eq)]
 pub struct SettingPair {
@@ -23,19 +23,18 @@ pub struct SettingPair {
     pub value: VarInt,
 }
 
-/// An iterator over the settings in the payload of a SETTINGS frame, in the order of the payload:
-/// known ones, those reserved for exercise, and unknown ones. It does not allocate. Not in the Rust
-/// crate.
+/// An iterator over the settings in the payload of a SETTINGS frame (RFC 9114, sections 7.1, 7.2.4
+/// and 7.2.4.1), in the order of the payload. It returns known, reserved and unknown identifiers,
+/// and does not allocate. Not in the Rust crate.
 ///
-/// Each item is a pair or the first fault, after which nothing follows:
+/// Each item is a pair or the first error, after which the iterator ends:
 ///
 /// - `Err(Frame)`: an identifier or a value is truncated.
 /// - `Err(Settings)`: the identifier is reserved because HTTP/2 used it: 0x00, or 0x02 to 0x05.
 ///
-/// A repeated identifier is not a fault here: each of its pairs is returned. `Settings::with_frame`
-/// refuses one that is known or an exercise one, and otherwise finds the same faults.
-///
-/// Source: RFC 9114, sections 7.1, 7.2.4 and 7.2.4.1.
+/// A repeated identifier is not an error here: all of its pairs are returned.
+/// `Settings::with_frame` rejects it if the identifier is known or reserved for exercise, and
+/// otherwise returns the same errors.
 #[derive(Debug, Drop)]
 pub struct SettingPairs<'a> {
     rest: &'a [u8],
@@ -53,7 +52,7 @@ impl<'a> Model for SettingPairs<'a> {
 }
 
 impl<'a> SettingPairs<'a> {
-    /// Creates an iterator over the settings in this payload.
+    /// Creates an iterator over the settings in the payload.
     pub fn new(payload: &'a [u8]) -> Self
         ensures { result ≡ setting_items payload.now }
     {
@@ -61,7 +60,8 @@ impl<'a> SettingPairs<'a> {
     }
 }
 
-/// Takes an identifier and a value. Returns `None` if one is truncated.
+/// Takes an identifier and a value from the start of the bytes. Returns `None` if one of them is
+/// truncated.
 #[tactic(auto, using(crate::proofs::PairLemmas::pair_steps))]
 fn take_pair(bytes: &mut &[u8]) -> Option<SettingPair>
     ensures { MatchOption result (pair_at bytes.old.now ≡ None)
@@ -76,7 +76,8 @@ fn take_pair(bytes: &mut &[u8]) -> Option<SettingPair>
     Some(SettingPair { id, value })
 }
 
-/// Takes a pair, or returns the fault in its place and takes all bytes.
+/// Takes a pair from the start of the bytes. If there is an error instead, returns it and takes all
+/// bytes.
 #[tactic(auto, using(crate::proofs::SettingPairsLemmas::item_steps))]
 fn take_item(bytes: &mut &[u8]) -> Option<Result<SettingPair, ErrorCode>>
     ensures { YieldsFirst (λ b. setting_items b) bytes.old.now result bytes.new.now }

@@ -1,4 +1,4 @@
-//! Reading and writing a stream header, poll by poll.
+//! Polled reading and writing of stream headers.
 ghost use Rattle.std.specs.Prelude.{◌≡◌, ℕ, ◌+◌, ◌<◌, ◌≤◌, List, [], length, take, Ok};
 ghost use Rattle.wtp_core.specs.Source.{Telling};
 ghost use Rattle.wtp_core.specs.Polled.{Asks, WaitsAs};
@@ -18,13 +18,13 @@ use wtp_core::polling::fill::halt_result;
 use wtp_core::polling::head::{Head, fill_head};
 use wtp_core::varint::first_varint;
 
-/// The reason no header was read from a source.
+/// The reason why no header was read from a source.
 ///
-/// It has the faults of the header of a unidirectional stream: `frame::IoReadError` has those of a
-/// frame, and `bytes::IoReadError` those of a source alone.
+/// It covers the header of a unidirectional stream. `frame::IoReadError` covers a frame, and
+/// `bytes::IoReadError` only the source.
 #[derive(Debug, Drop, PartialEq, Eq, thiserror::Error)]
 pub enum IoReadError {
-    /// The first bytes are not a valid header.
+    /// The bytes are not a valid header.
     #[error("{0}")]
     Parse(ParseError),
     /// The source gave no more bytes.
@@ -53,8 +53,8 @@ impl StreamHeader {
         HeaderReading::new()
     }
 
-    /// Returns a state that writes the header to a sink, poll by poll, each number in its shortest
-    /// encoding.
+    /// Returns a state that writes the header to a sink, poll by poll, with each number in its
+    /// shortest encoding.
     pub fn write_async(&self) -> HeaderWriting
         ensures { result ≡ unsent (header_wire self.now) }
     {
@@ -66,7 +66,7 @@ impl StreamHeader {
     }
 }
 
-/// The head of a stream is its type, followed by the session ID after the WebTransport type.
+/// The head of a stream: its type, followed by a session ID if that is the WebTransport type.
 struct HeaderHead;
 
 impl Head for HeaderHead {
@@ -93,15 +93,14 @@ impl Head for HeaderHead {
 
 /// Reads one stream header from a source, poll by poll, and takes no byte after it.
 ///
-/// It holds the bytes that it took, and loses none of them if a poll returns neither a header nor a
-/// parse error. Otherwise it is as new.
+/// It buffers a partial header across polls. After a header or a parse error it is reset.
 #[derive(Drop)]
 pub struct HeaderReading {
     bytes: [u8; 16],
     len: usize,
 }
 
-// The number of bytes held.
+// Prints the number of bytes held.
 impl fmt::Debug for HeaderReading {
     fn fmt<W: fmt::Write>(&self, f: &mut fmt::Formatter<W>) -> fmt::Result {
         f.debug_struct("HeaderReading")
@@ -130,16 +129,18 @@ impl HeaderReading {
         }
     }
 
-    /// Reads as far as the source goes, in at most 16 calls, and does not allocate.
+    /// Reads until the header is complete or the source gives no more. Calls the source at most 16
+    /// times, and does not allocate.
     ///
-    /// - `Ready(Ok(header))` or `Ready(Err(Parse(fault)))`: the result of `StreamHeader::read` of
-    ///   the bytes taken and ahead. The source is positioned right after the bytes that decided.
-    /// - `Ready(Err(IO(fault)))`: the source gave no more bytes, and there were too few. All are
-    ///   held.
-    /// - `Pending`: the source was not ready, once, and is not called again then. All bytes received
-    ///   are held.
+    /// - `Ready(Ok(header))` or `Ready(Err(Parse(error)))`: the result of `StreamHeader::read` for
+    ///   the bytes received and ahead. The source is positioned right after the bytes that
+    ///   `StreamHeader::read` reads.
+    /// - `Ready(Err(IO(error)))`: the source gave no more bytes, and there were too few. All bytes
+    ///   received are held.
+    /// - `Pending`: the source was not ready, and was not called again after that. All bytes
+    ///   received are held.
     ///
-    /// It may be polled again after each of these, with the same source or another.
+    /// It may be polled again after each of these, with the same source or another one.
     pub fn poll<S: AsyncRead>(
         &mut self,
         source: &mut S,
@@ -162,7 +163,7 @@ impl HeaderReading {
     }
 }
 
-/// Returns what the bytes of a complete header, and no more, are.
+/// Parses the bytes of a complete header, with no bytes after it.
 fn read_whole(bytes: &[u8]) -> Result<StreamHeader, IoReadError>
     requires { header_need bytes.now ≡ length bytes.now }
     ensures { IsWhole result bytes.now }
@@ -177,14 +178,13 @@ fn read_whole(bytes: &[u8]) -> Result<StreamHeader, IoReadError>
 
 /// Writes one stream header to a sink, poll by poll.
 ///
-/// It counts the bytes of the header sent, and sends none of them twice. It does not allocate; the
-/// sink may.
+/// It counts the bytes sent, and sends no byte twice. It does not allocate, but the sink may.
 #[derive(Drop)]
 pub struct HeaderWriting {
     encoded: Encoded,
 }
 
-// The number of bytes sent.
+// Prints the number of bytes sent.
 impl fmt::Debug for HeaderWriting {
     fn fmt<W: fmt::Write>(&self, f: &mut fmt::Formatter<W>) -> fmt::Result {
         f.debug_struct("HeaderWriting")
@@ -200,7 +200,8 @@ impl Model for HeaderWriting {
 }
 
 impl HeaderWriting {
-    /// Writes as far as the sink goes, as `FrameWriting` does.
+    /// Writes until all bytes are sent or the sink accepts no more. The results are those of
+    /// `FrameWriting::poll`.
     pub fn poll<W: AsyncWrite>(&mut self, sink: &mut W) -> Polled<Result<(), IoWriteError>>
         ensures on { GoesOn self.old self.new }
         ensures whole { IsSent result self.new }

@@ -1,5 +1,5 @@
-//! The bytes that a reading holds of one frame: those of its head (its first two numbers), and
-//! those of its payload.
+//! The bytes received of one frame: those of its head (its first two numbers) and those of its
+//! payload.
 ghost use Rattle.std.specs.Prelude.{◌≡◌, ◌<◌, length, false, IsTrue};
 ghost use Rattle.wtp_core.specs.Source.{Telling};
 ghost use Rattle.wtp_wire.specs.FramePart.{Part, new_part, bytes_in, IsReading};
@@ -13,10 +13,10 @@ use wtp_core::bytes::AsyncRead;
 use wtp_core::polling::fill::{Halt, fill};
 use wtp_core::polling::head::fill_head;
 
-// The most bytes that a head has: two numbers of at most 8 bytes.
+// The maximum length of a head in bytes: two numbers of at most 8 bytes.
 const MAX_HEAD: usize = 16;
 
-/// The reason no more of a frame was read.
+/// The reason why reading a frame stopped.
 #[derive(Clone, Copy)]
 pub(super) enum Stop {
     /// The source gave no more bytes.
@@ -25,12 +25,12 @@ pub(super) enum Stop {
     NoMemory,
 }
 
-/// The bytes held of one frame.
+/// The bytes received of one frame.
 #[derive(Drop)]
 pub(super) struct FramePart {
     head: [u8; MAX_HEAD],
     len: usize,
-    // As long as the payload, once its first byte is to be read; empty before.
+    // Has the full length of the payload once that is allocated, and is empty before.
     payload: Vec<u8>,
     filled: usize,
 }
@@ -54,7 +54,7 @@ impl Model for FramePart {
 }
 
 impl FramePart {
-    /// Creates a part of which nothing is held.
+    /// Creates a part that holds no bytes.
     pub(super) fn new(alloc: Global) -> Self
         ensures { result ≡ new_part }
     {
@@ -89,11 +89,11 @@ impl FramePart {
         self.len + self.filled
     }
 
-    /// Reads until the head is complete, and with it the payload if one follows that may be read.
-    /// Returns what the head announces.
+    /// Reads until the head is complete, and the payload too if one of at most 4096 bytes follows.
+    /// Returns what follows the head.
     ///
-    /// The room for the payload is allocated in full before its first byte. All bytes received are
-    /// held, also if this returns an error.
+    /// The payload is allocated in full before its first byte is read. All bytes received are held,
+    /// even if this returns an error.
     pub(super) fn advance<S: AsyncRead>(&mut self, source: &mut S) -> Result<Announcement, Stop>
         requires { IsReading self.old }
         ensures keeps { AdvanceKeeps result self.old self.new }
@@ -116,7 +116,7 @@ impl FramePart {
         }
     }
 
-    /// Reads until a payload of this size is held.
+    /// Reads until all `size` bytes of the payload are held.
     #[inline(always)]
     fn fill_payload<S: AsyncRead>(&mut self, source: &mut S, size: usize) -> Result<(), Stop>
         requires { 0 < self.old.room → self.old.room ≡ size }
@@ -136,8 +136,8 @@ impl FramePart {
         }
     }
 
-    /// Allocates the room for a payload of this size, unless it is there. Returns whether there is
-    /// room then.
+    /// Allocates a payload of `size` bytes, unless this was done before. Returns `false` if
+    /// allocation failed.
     #[inline(always)]
     fn take_room(&mut self, size: usize) -> bool
         requires { 0 < self.old.room → self.old.room ≡ size }
@@ -152,7 +152,7 @@ impl FramePart {
         self.payload.reserve_exact(size).is_ok() && self.payload.resize(size, 0).is_ok()
     }
 
-    /// Takes the payload out, which is all held. Nothing is held then.
+    /// Returns the payload, which must be complete, and resets the part.
     #[inline(always)]
     pub(super) fn take_payload(&mut self, alloc: Global) -> Vec<u8>
         requires { self.old.room ≡ length self.old.payload }

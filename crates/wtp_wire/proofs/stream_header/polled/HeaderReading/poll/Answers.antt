@@ -5,7 +5,7 @@ use Rattle.wtp_wire.specs.HeaderNeed.{header_need_is}
 use Rattle.wtp_wire.proofs.HeaderPollLemmas.{header_cut, halted_header, whole_told, whole_given, halted_told, halted_given, asks_halted}
 use Rattle.wtp_wire.proofs.stream_header.polled.HeaderReading.poll.Goals as goal
 
--- the bytes held now start with those held before
+-- the bytes held after the poll start with those held before
 held_front : (m n : ℕ) (buf new : List ℕ) → m ≤ n → take m new ≡ take m buf → take m (take n new) ≡ take m buf
 held_front m n buf new l e = take-take m n new l ∙ e
 
