@@ -61,7 +61,7 @@ digit_found byte d e = elim (cases_lt 47 byte) [
 value_is : (byte d : ℕ) → IsDigit byte d → digit_value byte ≡ d
 value_is byte d digit = let e = digit_value_digit byte (let is = digit.is in let small = digit.small in (omega arith, omega arith)) in let is = digit.is in omega (arith, e, is)
 
--- the text of three digits that write a status code
+-- three digits are the text of a status code
 text_of_status : (a b c x y z code : ℕ) → IsDigit a x → IsDigit b y → IsDigit c z → x * 100 + y * 10 + z ≡ code → 99 < code → code < 600
     → IsStatusText (a ∷ b ∷ c ∷ []) × (status_in (a ∷ b ∷ c ∷ []) ≡ code)
 text_of_status a b c x y z code is_a is_b is_c sum low high =

@@ -1,4 +1,4 @@
--- Field lists that are read line by line.
+-- Decoding field lists line by line.
 use Rattle.std.proofs.Common.{◌≡◌, inl, inr, ℕ, ◌+◌, ◌-◌, ◌<◌, ◌≤◌, List, [], ◌∷◌, ◌++◌, length, refl, ◌∙◌, ap, arith, Result, Ok, Err, IsTrue}
 use Rattle.std.specs.Result.{IsErrAnd}
 use Rattle.std.proofs.lemmas.List.Sums.{sum_by-append}
@@ -12,7 +12,7 @@ use Rattle.wtp_fields.specs.declared.fields.FieldSectionError.{FieldSectionError
 use Rattle.wtp_fields.specs.FieldCodes.{section_error}
 use Rattle.wtp_fields.specs.FieldList.{field_size, list_size, Reaches, HasFaultyLine, ExceedsLimit, NeedsMemory, DecodesTo}
 
--- these fields were read, the rest follows, and so much is left of the limit
+-- these fields were decoded, rest follows, and left is left of the limit
 pub record IsRead (limit : ℕ) (section : List ℕ) (fields : List Field) (rest : List ℕ) (left : ℕ) : Type 0 where
   pub start : List ℕ
   pub prefix : after_prefix section ≡ Ok start
@@ -69,7 +69,7 @@ copy_refused limit section fields rest left field behind is line fits = record {
   needs = inr (record { field = field; behind = behind; is = line; fits = let sum = is.sum in omega (arith, sum, fits) });
 }
 
--- the fault of the prefix, which is not a lack of memory
+-- an error of the prefix, which is not an allocation failure
 pub prefix_fault : (limit : ℕ) (section : List ℕ) (fault : DecodingError) (r : Result (List Field) FieldSectionError) → IsErrAnd r (λ e. e ≡ section_error fault)
     → after_prefix section ≡ Err fault → DecodesTo limit section r
 prefix_fault limit section fault (Ok fields) is e = absurd is

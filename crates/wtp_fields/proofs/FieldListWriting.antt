@@ -1,4 +1,4 @@
--- Field lists for a message.
+-- Field lists of messages to send.
 use Rattle.std.proofs.Common.{◌≡◌, ◌⊎◌, inl, inr, ℕ, zero, suc, ◌+◌, ◌<◌, ◌≤◌, ◌==◌, ◌&&◌, Bool, true, false, cond, List, [], ◌∷◌, codes, decimal, refl, sym, ◌∙◌, ap, subst, arith, Option, Some, None, Result, Ok, Err, MatchResult}
 use Rattle.std.specs.Result.{IsErrAnd}
 use Rattle.std.specs.Str.{bytes_eq}
@@ -35,7 +35,7 @@ unfolding request_for
 list_fault (Err fault) e is = cc is
 list_fault (Ok url) e is = same_fault (bytes_eq url.scheme (codes "https")) (five_fields (authority_of url) (with_query url.path url.query)) (request_fields (authority_of url) (with_query url.path url.query)) _ e is
 
--- the fault of the text, or that memory or room for it was lacking
+-- the error is that of the URL, Memory or Overflow
 pub fault_given : (parsed : Parsed Parts) (e : UrlParseError) (r : Result (List Field) UrlParseError) → IsErrAnd r (λ x. x ≡ e)
     → (request_at parsed ≡ Err e) ⊎ ((e ≡ answered.Memory) ⊎ (e ≡ answered.Overflow))
     → MatchResult r (λ list. list_at parsed ≡ Ok list) (λ x. (list_at parsed ≡ Err x) ⊎ ((x ≡ answered.Memory) ⊎ (x ≡ answered.Overflow)))
@@ -67,7 +67,7 @@ found_fields true one two a p m other is authority path =
     some_same x y e = cc
 found_fields false one two a p m other is authority path = cc is
 
--- the list of the request for a text, by the fields of its map
+-- the list of a request, given by the fields of its map
 pub list_found : (parsed : Parsed Parts) (m : List Field) (a p : List ℕ) → request_at parsed ≡ Ok m
     → field_value (codes ":authority") m ≡ Some a → field_value (codes ":path") m ≡ Some p → list_at parsed ≡ Ok (request_fields a p)
 unfolding request_for
@@ -112,7 +112,7 @@ pub request_map : (authority path : List ℕ) → field_map (request_fields auth
 unfolding five_fields
 request_map authority path = refl
 
--- the status code is read back, as a test
+-- whether the status code is read back
 is_code : Result ℕ HeadersParseError → ℕ → Bool
 is_code (Ok n) code = n == code
 is_code (Err e) code = false

@@ -32,7 +32,7 @@ chosen : {X Y : Type 0} (f : X → Y) (b : Bool) (x : X) (r : Option X) → opti
 chosen f true x r = refl
 chosen f false x r = refl
 
--- the value at a text among the entries is the value of the name
+-- looking up a name in the entries finds the value of the name
 pub value_found : (name : List ℕ) (es : List (String Global × String Global))
     → option_map string_bytes (lookup (is_at (λ k. slice_cmp nat_cmp name (string_bytes k))) es) ≡ field_value name (map field_of es)
 value_found name [] = refl
@@ -64,7 +64,7 @@ held_texts (e ∷ es) = (is_text e.0, is_text e.1, held_texts es)
 pub lent_push : (ps : List (Bor (List ℕ) × Bor (List ℕ))) (p : Bor (List ℕ) × Bor (List ℕ)) → field_map (fields_of_texts (ps ++ p ∷ [])) ≡ put (field_map (fields_of_texts ps)) (p.0.now, p.1.now)
 lent_push ps p = ap field_map (map-append (λ (e : Bor (List ℕ) × Bor (List ℕ)). (e.0.now, e.1.now)) ps (p ∷ [])) ∙ map_push (fields_of_texts ps) (p.0.now, p.1.now)
 
--- the copy of a map has the same fields
+-- a clone of a map has the same fields
 pub held_clone : (xs ys : List (String Global × String Global))
     → AllZip (λ p q. (string_bytes q.0 ≡ string_bytes p.0) × (string_bytes q.1 ≡ string_bytes p.1)) xs ys → map field_of ys ≡ map field_of xs
 held_clone [] [] all = refl

@@ -32,7 +32,7 @@ ascends_filter p (x ∷ m) (low, ascends) = elim (p x) as (λ b. Ascends (cond b
   | false ↦ ascends_filter p m ascends
 ]
 
--- two halves of a map, the one put into the other
+-- merging two parts of a map gives the map
 merged : (p : Field → Bool) (m : List Field) → Ascends m → fold put (filter p m) (filter (λ x. not (p x)) m) ≡ m
 merged p [] h = refl
 merged p (x ∷ m) (low, ascends) =

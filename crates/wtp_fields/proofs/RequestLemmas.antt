@@ -1,4 +1,4 @@
--- Requests: the fields of a map without a fault, and what keeps it so.
+-- Requests: the fields of a valid request, and changes that keep it valid.
 use Rattle.std.proofs.Common.{◌≡◌, ℕ, Bool, true, false, cond, ◌||◌, List, [], ◌∷◌, drop, codes, refl, sym, ◌∙◌, ap, append_assoc, append-nil, Option, Some, None, IsSome}
 use Rattle.std.proofs.lemmas.Map.Text.{is_eq-slice_cmp}
 use Rattle.std.specs.Borrow.{Bor}
@@ -24,7 +24,7 @@ has_value : (missing : HeadersParseError) (o : Option (List ℕ)) → fault_with
 has_value missing None e = cc e
 has_value missing (Some value) e = refl
 
--- the two fields whose values are free
+-- the two fields with arbitrary values
 pub record HasFields (m : List Field) : Type 0 where
   pub authority : IsSome (field_value (codes ":authority") m)
   pub path : IsSome (field_value (codes ":path") m)
@@ -39,7 +39,7 @@ faultless_has m e =
     let last = first_none (fault_without MissingPath (field_value (codes ":path") m)) _ path.1 in
     record { authority = has_value MissingAuthority (field_value (codes ":authority") m) path.0; path = has_value MissingPath (field_value (codes ":path") m) last.0 }
 
--- what is borrowed of a value is there if the value is
+-- a borrowed value exists if the value does
 pub lent_some : (o : Option (Bor (List ℕ))) (value : Option (List ℕ)) → option_copied o ≡ value → IsSome value → IsSome o
 lent_some None None e there = there
 lent_some None (Some v) e there = cc e
@@ -61,7 +61,7 @@ or_right false b e = e
 other_value : (m : List Field) (field : Field) (name : List ℕ) → bytes_eq name field.0 ≡ false → field_value name (put m field) ≡ field_value name m
 other_value m field name other = value_put name field m ∙ ap (λ b. cond b (Some field.1) (field_value name m)) (eq_sym field.0 name ∙ other)
 
--- the tests of a name among names, each in turn
+-- comparing a name with each of several names
 first_other : (name reserved : List ℕ) (names : List (List ℕ)) → list_any (λ reserved. bytes_eq reserved name) (reserved ∷ names) ≡ false
     → (bytes_eq reserved name ≡ false) × (list_any (λ reserved. bytes_eq reserved name) names ≡ false)
 first_other name reserved names e =

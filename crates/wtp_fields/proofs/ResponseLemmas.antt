@@ -1,4 +1,4 @@
--- Responses: the status of a map, and what keeps it.
+-- Responses: the status of a map, and changes that keep it.
 use Rattle.std.proofs.Common.{◌≡◌, ℕ, ◌<◌, true, false, cond, List, codes, decimal, slice_index, get_or, refl, sym, ◌∙◌, ap, subst, arith, Option, Some, None, IsSome, is_some, IsSomeAnd, Result, Ok, Err, IsOk, is_err, ne_eqb}
 use Rattle.std.proofs.lemmas.Fmt.{decimal_is_IsNumeral, first_decimal}
 use Rattle.std.specs.Result.{OkIff}
@@ -11,7 +11,7 @@ use Rattle.wtp_qpack.proofs.FieldMaps.{value_put}
 
 -- ---- the status of a map
 
--- the text of a status
+-- the value of `:status`
 pub record StatusText (m : List Field) : Type 0 where
   pub text : List ℕ
   pub there : status_value m ≡ Some text
@@ -32,7 +32,7 @@ has_status m text there good = subst (λ o. IsSomeAnd o IsStatusText) (sym there
 pub status_there : (m : List Field) → HasStatus m → IsSome (status_value m)
 status_there m has = ap is_some (status_text m has).there
 
--- the text of a status is that of a code
+-- the value of a valid `:status` is a status code
 pub status_good : (m : List Field) (text : List ℕ) → HasStatus m → status_value m ≡ Some text → IsStatusText text
 status_good m text has there =
     let status = status_text m has in
@@ -40,7 +40,7 @@ status_good m text has there =
     let same : status.text ≡ text = cc both in
     subst IsStatusText same status.good
 
--- a valid text is parsed, and a parsed text is valid
+-- parsing a valid text succeeds
 pub good_parses : {T E : Type 0} {P : Type 0} (r : Result T E) (value : T) → OkIff r P value → P → IsOk r
 good_parses (Ok x) value given good = refl
 good_parses (Err e) value given good = absurd (given good)
@@ -78,7 +78,7 @@ no_status m none has = absurd (subst (λ o. IsSomeAnd o IsStatusText) none has)
 pub bad_status : (m : List Field) (text : List ℕ) → status_value m ≡ Some text → ¬ IsStatusText text → ¬ HasStatus m
 bad_status m text there bad has = bad (status_good m text has there)
 
--- a text that is not parsed is not valid
+-- a text that cannot be parsed is not valid
 pub parsed_bad : {T E : Type 0} {P : Type 0} (r : Result T E) (value : T) → OkIff r P value → is_err r ≡ true → ¬ P
 parsed_bad (Ok x) value given e = cc e
 parsed_bad (Err f) value given e = given

@@ -1,4 +1,4 @@
--- The error codes of the faults of field sections and of messages.
+-- The error codes of invalid field sections and malformed messages.
 use Rattle.std.specs.Prelude.{Option, Some, None}
 use Rattle.wtp_core.specs.declared.error.ErrorCode.{ErrorCode}
 use Rattle.wtp_core.specs.declared.error.ErrorCode.TheVariants.{Decompression, Message}
@@ -10,17 +10,19 @@ use Rattle.wtp_fields.specs.declared.session.HeadersParseError.{HeadersParseErro
 use Rattle.wtp_fields.specs.declared.session.HeadersParseError.TheVariants as parsing
 pub use Rattle.wtp_qpack.specs.SectionCodes.{section_code, huffman_fault}
 
--- each fault of a request or a response makes a malformed message (RFC 9114, section 4.1.2)
+-- the error code of an invalid request or response, which is a malformed message (RFC 9114, section
+-- 4.1.2)
 abbrev pub message_code : HeadersParseError → Option ErrorCode
 message_code parsing.Memory = None
 message_code _ = Some Message
 
--- a fault of decoding as the reason that there is no list
+-- the list error for a decoding error
 abbrev pub section_error : DecodingError → FieldSectionError
 section_error decoding.Memory = section.Memory
 section_error fault = section.Decoding fault
 
--- what cannot be decoded is a fault of decompression (RFC 9204, section 6)
+-- the error code of a list error: a section that cannot be decoded is a decompression failure (RFC
+-- 9204, section 6)
 abbrev pub field_section_code : FieldSectionError → Option ErrorCode
 field_section_code (section.Decoding fault) = Some Decompression
 field_section_code section.TooLarge = None

@@ -1,5 +1,5 @@
--- Field lists: the fields of a section in their order, with repeated names, as bytes (RFC 9110,
--- sections 5.2 and 5.3; RFC 9114, section 4.2).
+-- Field lists: the fields of a section in order, with repeated names, as bytes (RFC 9110, sections
+-- 5.2 and 5.3; RFC 9114, section 4.2).
 use Rattle.std.specs.Prelude.{◌≡◌, ◌⊎◌, ℕ, ◌+◌, ◌<◌, ◌≤◌, List, [], map, filter, length, sum_by}
 use Rattle.std.specs.Prelude.{Bool, Result, Ok, Err, IsTrue}
 use Rattle.std.specs.Str.{bytes_eq}
@@ -16,7 +16,7 @@ use Rattle.wtp_fields.specs.declared.fields.FieldSectionError.TheVariants.{Memor
 abbrev pub stored : StoredField → Field
 stored field = (field.name.items, field.value.items)
 
--- the fields that are stored, in their order
+-- the stored fields, in order
 abbrev pub all_stored : List StoredField → List Field
 all_stored fields = map stored fields
 
@@ -24,32 +24,31 @@ all_stored fields = map stored fields
 abbrev pub has_name : List ℕ → Field → Bool
 has_name name field = bytes_eq field.0 name
 
--- the values of all fields of a name, in their order
+-- the values of all fields with a name, in order
 abbrev pub values_of : List ℕ → List Field → List (List ℕ)
 values_of name fields = map (λ (field : Field). field.1) (filter (has_name name) fields)
 
 -- ---- the size
 
--- the size of a field: the bytes of its name and of its value, and 32 more (RFC 9114, section
--- 4.2.2)
+-- the size of a field: the lengths of its name and its value, plus 32 (RFC 9114, section 4.2.2)
 abbrev pub field_size : Field → ℕ
 field_size field = 32 + (length field.0 + length field.1)
 
--- the size of a list of fields
+-- the size of a list of fields: the sum of their sizes
 abbrev pub list_size : List Field → ℕ
 list_size = sum_by field_size
 
 -- ---- reading
 
--- after its prefix the section starts with the lines of these fields, whose size is at most the
--- limit, and the rest follows
+-- after its prefix, the section starts with the lines of these fields, followed by rest; the size
+-- of the fields is at most the limit
 pub record Reaches (limit : ℕ) (section : List ℕ) (fields : List Field) (rest : List ℕ) : Type 0 where
   pub start : List ℕ
   pub prefix : after_prefix section ≡ Ok start
   pub are : AreOctetLines start fields rest
   pub fits : list_size fields ≤ limit
 
--- the first line that cannot be decoded, and its fault
+-- after lines within the limit, the next line cannot be decoded, with this error
 pub record HasFaultyLine (limit : ℕ) (section : List ℕ) (fault : DecodingError) : Type 0 where
   pub fields : List Field
   pub rest : List ℕ
@@ -57,7 +56,7 @@ pub record HasFaultyLine (limit : ℕ) (section : List ℕ) (fault : DecodingErr
   pub some : 0 < length rest
   pub is : octet_line_at rest ≡ Err fault
 
--- the first line with which the fields exceed the limit
+-- after lines within the limit, the size with the next field exceeds the limit
 pub record ExceedsLimit (limit : ℕ) (section : List ℕ) : Type 0 where
   pub fields : List Field
   pub rest : List ℕ
@@ -67,23 +66,23 @@ pub record ExceedsLimit (limit : ℕ) (section : List ℕ) : Type 0 where
   pub is : octet_line_at rest ≡ Ok (field, behind)
   pub exceeds : limit < list_size fields + field_size field
 
--- a line with a field that does not exceed the limit
+-- the next line is valid, and the size with its field does not exceed the limit
 pub record FitsNext (limit : ℕ) (fields : List Field) (rest : List ℕ) : Type 0 where
   pub field : Field
   pub behind : List ℕ
   pub is : octet_line_at rest ≡ Ok (field, behind)
   pub fits : list_size fields + field_size field ≤ limit
 
--- a line that needs memory: it has a Huffman text, or its field does not exceed the limit, and is
--- copied
+-- after lines within the limit, the next line needs memory: it has a Huffman-encoded string, or its
+-- field is within the limit and is copied
 pub record NeedsMemory (limit : ℕ) (section : List ℕ) : Type 0 where
   pub fields : List Field
   pub rest : List ℕ
   pub reached : Reaches limit section fields rest
   pub needs : IsTrue (is_coded_line rest) ⊎ FitsNext limit fields rest
 
--- The list of a section's fields under a limit, or why there is none: in byte order, the first line
--- that cannot be decoded, or with which the limit is exceeded.
+-- The result of decoding a section with a limit: its fields, or the error at the first line, in
+-- byte order, that cannot be decoded or with which the limit is exceeded.
 abbrev pub DecodesTo : ℕ → List ℕ → Result (List Field) FieldSectionError → Type 0
 DecodesTo limit section (Ok fields) = Reaches limit section fields []
 DecodesTo limit section (Err (Decoding fault)) =

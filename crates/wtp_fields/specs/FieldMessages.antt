@@ -1,5 +1,5 @@
 -- The messages of a session as field lists (RFC 9114, sections 4.1.2 and 4.3; RFC 9220, section 3).
--- Of repeated pseudo-header fields the last counts, as in a header map.
+-- The last value of a repeated pseudo-header field counts, as in a header map.
 use Rattle.std.specs.Prelude.{◌≡◌, ℕ, ◌+◌, ◌-◌, ◌*◌, ◌<◌, nat_lt, if◌then◌else◌, ◌&&◌, List, [], ◌∷◌}
 use Rattle.std.specs.Prelude.{codes, Option, Some, None, Result, Ok, Err, MatchResult, length}
 use Rattle.wtp_qpack.specs.Field.{Field, last_value, field_map}
@@ -25,7 +25,7 @@ use Rattle.wtp_fields.specs.SessionRequest.{fault_unless, fault_without, first_f
 
 -- ---- requests
 
--- the first fault of the fields of a request, in this order
+-- the first error of a request's fields, in this order
 unfoldable pub request_fault : List Field → Option HeadersParseError
 request_fault fields = first_fault (
     fault_unless (codes "CONNECT") MissingMethod MethodNotConnect
@@ -38,20 +38,20 @@ request_fault fields = first_fault (
     ∷ fault_without MissingPath (last_value (codes ":path") fields)
     ∷ [])
 
--- the target of a request without a fault
+-- the list is a valid request with this target
 pub record IsTarget (fields : List Field) (target : RequestTarget) : Type 0 where
   pub faultless : request_fault fields ≡ None
   pub authority : last_value (codes ":authority") fields ≡ Some target.authority.now
   pub path : last_value (codes ":path") fields ≡ Some target.path.now
 
--- the target of a request, or its first fault
+-- the result is the target of the request, or its first error
 abbrev pub RequestIs : List Field → Result RequestTarget HeadersParseError → Type 0
 RequestIs fields result =
     MatchResult result (IsTarget fields) (λ fault. request_fault fields ≡ Some fault)
 
 -- ---- responses
 
--- the decimal digit of a byte
+-- the decimal digit that a byte is in ASCII
 abbrev pub digit_of : ℕ → Option ℕ
 digit_of byte = if nat_lt 47 byte && nat_lt byte 58 then Some (byte - 48) else None
 
@@ -61,27 +61,28 @@ of_digits (Some a) (Some b) None = None
 of_digits (Some a) None c = None
 of_digits None b c = None
 
--- the number of a text of exactly three decimal digits
+-- the number that exactly three decimal digits denote
 abbrev pub three_digits : List ℕ → Option ℕ
 three_digits (a ∷ b ∷ c ∷ []) = of_digits (digit_of a) (digit_of b) (digit_of c)
 three_digits _ = None
 
--- a number from 100 to 599
+-- the number, or an error if it is not from 100 to 599
 abbrev pub in_range : Option ℕ → Result ℕ HeadersParseError
 in_range None = Err InvalidStatusCode
 in_range (Some code) =
     if nat_lt 99 code && nat_lt code 600 then Ok code else Err InvalidStatusCode
 
--- the status code of a field's value, three digits (RFC 9110, section 15; RFC 9114, section 4.3.2)
+-- the status code that the value of a field denotes, three digits (RFC 9110, section 15; RFC 9114,
+-- section 4.3.2)
 unfoldable pub status_by : Option (List ℕ) → Result ℕ HeadersParseError
 status_by None = Err MissingStatusCode
 status_by (Some text) = in_range (three_digits text)
 
--- the status code of a response, or its fault
+-- the status code of a response, or its error
 abbrev pub status_of : List Field → Result ℕ HeadersParseError
 status_of fields = status_by (last_value (codes ":status") fields)
 
--- the map has a status that is the text of this code
+-- the map has a `:status` field with this status code
 pub record HasStatusOf (code : ℕ) (m : List Field) : Type 0 where
   pub text : List ℕ
   pub value : status_value m ≡ Some text
@@ -90,12 +91,12 @@ pub record HasStatusOf (code : ℕ) (m : List Field) : Type 0 where
 
 -- ---- the header map
 
--- why a list has no map, or that allocation failed at one of its fields
+-- a list has no map because it is not UTF-8, or because allocation failed at one of its fields
 abbrev pub HasNoMap : List Field → ToHeadersError → Type 0
 HasNoMap fields NotUtf8 = ¬ AreUtf8Fields fields
 HasNoMap fields refused.Memory = AreUtf8Fields fields × (0 < length fields)
 
--- the map of a list whose names and values are UTF-8
+-- the result is the map of a list of UTF-8 names and values, or the error
 abbrev pub MapIs : List Field → Result (List Field) ToHeadersError → Type 0
 MapIs fields result =
     MatchResult result (λ m. AreUtf8Fields fields × (m ≡ field_map fields)) (HasNoMap fields)

@@ -31,21 +31,22 @@ use Rattle.wtp_fields.specs.Headers.{headers_at}
 
 -- ---- the fields that a request must have
 
+-- the names of the fields that every request sets itself
 abbrev pub reserved_names : List (List ℕ)
 reserved_names =
     codes ":method" ∷ codes ":scheme" ∷ codes ":protocol" ∷ codes ":authority" ∷ codes ":path" ∷ []
 
--- the name is that of one of the five
+-- the name is one of the five reserved names
 abbrev pub is_reserved_name : List ℕ → Bool
 is_reserved_name name = list_any (λ reserved. bytes_eq reserved name) reserved_names
 
--- the fault of a field that must have this value
+-- the error of a field that must have this value
 abbrev pub fault_unless : List ℕ → HeadersParseError → HeadersParseError → Option (List ℕ)
     → Option HeadersParseError
 fault_unless text missing other None = Some missing
 fault_unless text missing other (Some value) = if bytes_eq value text then None else Some other
 
--- the fault of a field that must have a value
+-- the error of a field that must exist
 abbrev pub fault_without : HeadersParseError → Option (List ℕ) → Option HeadersParseError
 fault_without missing None = Some missing
 fault_without missing (Some value) = None
@@ -55,7 +56,7 @@ first_fault [] = None
 first_fault (Some fault ∷ faults) = Some fault
 first_fault (None ∷ faults) = first_fault faults
 
--- the first fault of the fields of a request, in this order
+-- the first error of a request's fields, in this order; None for a valid request
 unfoldable pub fault_of : List Field → Option HeadersParseError
 fault_of m = first_fault (
     fault_unless (codes "CONNECT") MissingMethod MethodNotConnect
@@ -70,7 +71,7 @@ fault_of m = first_fault (
 
 -- ---- the request for a URL
 
--- the user part: user name and password, and what separates them from the host (RFC 3986, section
+-- the user part of an authority: user name and password, with their delimiters (RFC 3986, section
 -- 3.2.1)
 abbrev pub user_part : Parts → List ℕ
 user_part url =
@@ -78,20 +79,20 @@ user_part url =
     ++ (when (not (is_empty url.password)) (codes ":")
     ++ (url.password ++ when (has_credentials url) (codes "@")))
 
--- the port, if the URL has one: it is never the default of its scheme
+-- the port with its colon, if the URL has one, which is never the default port of its scheme
 abbrev pub port_part : Parts → List ℕ
 port_part url = when (is_some url.port) (codes ":") ++ unwrap_or (option_map decimal url.port) []
 
--- the authority (RFC 3986, section 3.2)
+-- the authority of a URL (RFC 3986, section 3.2)
 unfoldable pub authority_of : Parts → List ℕ
 authority_of url = user_part url ++ (host_text (host_or_empty url) ++ port_part url)
 
--- the path, followed by the query if there is one
+-- the path, followed by a question mark and the query if there is one
 abbrev pub with_query : List ℕ → Option (List ℕ) → List ℕ
 with_query path None = path
 with_query path (Some query) = path ++ 63 ∷ query
 
--- the map of the five fields
+-- the map of the five fields of a request
 unfoldable pub five_fields : List ℕ → List ℕ → List Field
 five_fields authority path = field_map (
     (codes ":method", codes "CONNECT")
@@ -101,14 +102,14 @@ five_fields authority path = field_map (
     ∷ (codes ":path", path)
     ∷ [])
 
--- the request for a URL
+-- the request for a URL, as a map; its scheme must be https
 unfoldable pub request_for : Parts → Result (List Field) UrlParseError
 request_for url =
     if bytes_eq url.scheme (codes "https")
     then Ok (five_fields (authority_of url) (with_query url.path url.query))
     else Err answered.SchemeNotHttps
 
--- the error of the same name
+-- the error for an error of the URL parser
 abbrev pub url_error_of : ParseError → UrlParseError
 url_error_of parsing.EmptyHost = answered.EmptyHost
 url_error_of parsing.IdnaError = answered.IdnaError
@@ -123,14 +124,14 @@ url_error_of parsing.Overflow = answered.Overflow
 url_error_of parsing.CannotSet = answered.Unknown
 url_error_of parsing.OutOfMemory = answered.Memory
 
--- the request for a URL that was read from a text, or why there is none
+-- the request for a parsed URL, or the error
 abbrev pub request_at : Parsed Parts → Result (List Field) UrlParseError
 request_at (Err fault) = Err (url_error_of fault)
 request_at (Ok url) = request_for url
 
 -- ---- the request in a frame
 
--- a request with a fault is a malformed message (RFC 9114, section 4.1.2)
+-- the map, or Message if it has an error: the message is malformed (RFC 9114, section 4.1.2)
 abbrev pub or_message : Option HeadersParseError → List Field → Result (List Field) Refused
 or_message None m = Ok m
 or_message (Some fault) m = Err (Code Message)
@@ -139,7 +140,7 @@ abbrev pub request_by : Result (List Field) Refused → Result (List Field) Refu
 request_by (Ok m) = or_message (fault_of m) m
 request_by (Err refused) = Err refused
 
--- the request in a frame, or the error code if there is none
+-- the request in a frame, or the error code
 abbrev pub request_in : Content → Result (List Field) Refused
 request_in (PlainOf Headers payload) = request_by (headers_at payload)
 request_in f = Err (Code FrameUnexpected)

@@ -8,19 +8,19 @@ use Rattle.wtp_fields.specs.declared.session.HeadersParseError.TheVariants.{Inva
 use Rattle.wtp_fields.specs.declared.session.HeadersParseError.TheVariants.{Memory}
 use Rattle.wtp_qpack.specs.Field.{Field, field_value}
 
--- the text of the status, if there is one
+-- the value of `:status`, if there is one
 abbrev pub status_value : List Field → Option (List ℕ)
 status_value m = field_value (codes ":status") m
 
--- the map has a status, and its text is that of a status code
+-- the map has a `:status` field whose value is a status code
 unfoldable pub HasStatus : List Field → Type 0
 HasStatus m = IsSomeAnd (status_value m) IsStatusText
 
--- the map of a status only, in its shortest digits
+-- the map with only `:status`, with the code in decimal
 abbrev pub status_alone : ℕ → List Field
 status_alone code = (codes ":status", decimal code) ∷ []
 
--- the response with the status of a map: its code only, or why there is none
+-- the result is a response with only this status code, or the error
 abbrev pub ByStatus : Option (List ℕ) → Result (List Field) HeadersParseError → Type 0
 ByStatus None result = result ≡ Err MissingStatusCode
 ByStatus (Some text) result =

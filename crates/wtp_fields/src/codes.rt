@@ -1,4 +1,4 @@
-//! The error codes of the faults of messages.
+//! The error codes of malformed messages.
 ghost use Rattle.std.specs.Prelude.{◌≡◌};
 ghost use Rattle.wtp_fields.specs.FieldCodes.{message_code};
 

@@ -1,8 +1,8 @@
-//! Field lists: the fields of a section in their order, with repeated names, as bytes (RFC 9110,
-//! section 5; RFC 9114, section 4.2). Not in the Rust crate.
+//! Field lists: the fields of a section in order, with repeated names, as bytes (RFC 9110, section
+//! 5; RFC 9114, section 4.2). Not in the Rust crate.
 //!
-//! A header map ([`Headers`](crate::headers::Headers)) has UTF-8 texts only, and one value for each
-//! name; [`FieldList::to_headers`] returns it.
+//! A header map ([`Headers`](crate::headers::Headers)) contains only UTF-8 texts, and one value for
+//! each name. [`FieldList::to_headers`] converts a list to a map.
 ghost use Rattle.std.specs.Prelude.{◌≡◌, ◌≢◌, ◌==◌, ◌+◌, ◌-◌, ◌≤◌, ℕ, List, [], ◌∷◌, ◌++◌, length};
 ghost use Rattle.std.specs.Prelude.{OnOk, OnErr, IfErr, SomeIff, slice_get, option_map};
 ghost use Rattle.std.specs.Option.{option_copied};
@@ -26,10 +26,10 @@ use wtp_core::error::ErrorCode;
 pub use wtp_qpack::qpack::FieldLine;
 use wtp_qpack::qpack::{DecodingError, FieldLines, FieldRoom};
 
-/// The reason there is no list of a section's fields.
+/// The reason why a section was not decoded to a list.
 #[derive(Debug, Drop, Clone, Copy, PartialEq, Eq, Error)]
 pub enum FieldSectionError {
-    /// The section cannot be decoded: the first fault in byte order, which is never
+    /// The section cannot be decoded. Contains the first error in byte order, which is never
     /// [`DecodingError::Memory`].
     #[error("{0}")]
     Decoding(DecodingError),
@@ -65,8 +65,8 @@ impl From<AllocError> for FieldSectionError {
 
 impl FieldSectionError {
     /// Returns the error code: [`ErrorCode::Decompression`] for a section that cannot be decoded
-    /// (RFC 9204, section 6), and `None` otherwise. Fields that exceed a limit are no fault of the
-    /// peer: a server may answer them with the status code 431 (RFC 9114, section 4.2.2).
+    /// (RFC 9204, section 6), and `None` otherwise. Exceeding the limit is not an error of the
+    /// peer: a server may respond with status code 431 (RFC 9114, section 4.2.2).
     pub fn code(&self) -> Option<ErrorCode>
         ensures { result ≡ field_section_code self.now }
     {
@@ -77,7 +77,7 @@ impl FieldSectionError {
     }
 }
 
-/// A field of a list, with memory of its own.
+/// A field of a list, which owns its name and value.
 #[derive(Debug, Drop)]
 struct StoredField {
     name: Vec<u8>,
@@ -94,16 +94,16 @@ fn line_of(field: &StoredField) -> FieldLine<'_>
     }
 }
 
-/// A list of fields: each has a name and a value, which are bytes. Names may be repeated, and the
-/// order is that of the section.
+/// A list of fields, each with a name and a value, both bytes. Names may be repeated. The order is
+/// that of the section.
 #[derive(Debug, Drop)]
 pub struct FieldList {
     fields: Vec<StoredField>,
-    // the allocator of later fields
+    // the allocator for fields appended later
     alloc: Global,
 }
 
-// Contracts treat a list as its fields, names and values as bytes.
+// In contracts, a list is its fields: pairs of name and value, as bytes.
 impl Model for FieldList {
     ghost use Rattle.std.specs.Prelude.{List};
     ghost use Rattle.wtp_qpack.specs.Field.{Field};
@@ -115,7 +115,7 @@ impl Model for FieldList {
 }
 
 impl FieldList {
-    /// Returns the empty list. Nothing is allocated.
+    /// Returns the empty list, without allocating.
     fn empty(alloc: Global) -> Self
         ensures { result ≡ [] }
     {
@@ -125,7 +125,7 @@ impl FieldList {
         }
     }
 
-    /// Appends a field. On an error nothing changes.
+    /// Appends a field. If allocation fails, the list is unchanged.
     fn append(&mut self, name: &[u8], value: &[u8]) -> Result<(), AllocError>
         ensures ok { OnOk result (self.new ≡ self.old ++ (name.now, value.now) ∷ []) }
         ensures err { OnErr result (self.new ≡ self.old) }
@@ -136,16 +136,19 @@ impl FieldList {
         Ok(())
     }
 
-    /// Returns the fields of a section, in its order (RFC 9204, section 4.5).
+    /// Decodes a field section to its fields, in order (RFC 9204, section 4.5).
     ///
-    /// `limit` bounds their size: for each field the bytes of its name and of its value, decoded,
-    /// and 32 more (RFC 9114, section 4.2.2). A field is counted before it is copied.
+    /// `limit` bounds the size of the list: for each field, the decoded lengths of its name and its
+    /// value in bytes, plus 32 (RFC 9114, section 4.2.2). The limit is checked before a field is
+    /// copied.
     ///
-    /// In byte order, the first line that cannot be decoded is [`FieldSectionError::Decoding`] with
-    /// its fault, and the first with which the size exceeds the limit is
-    /// [`FieldSectionError::TooLarge`]. Returns [`FieldSectionError::Memory`] only if allocation
-    /// failed at a line after valid ones that has a Huffman text, or that is valid and does not
-    /// exceed the limit: the section can be decoded again.
+    /// Stops at the first faulty line in byte order: returns [`FieldSectionError::Decoding`] if it
+    /// cannot be decoded, and [`FieldSectionError::TooLarge`] if the size exceeds the limit with
+    /// it. An invalid prefix of the section is also a [`FieldSectionError::Decoding`].
+    ///
+    /// Returns [`FieldSectionError::Memory`] only if allocation failed, at a line after valid ones
+    /// that has a Huffman-encoded string, or that is valid and does not exceed the limit. The
+    /// section can then be decoded again.
     pub fn decode(alloc: Global, section: &[u8], limit: u64) -> Result<Self, FieldSectionError>
         ensures read { DecodesTo limit section.now result }
         ensures no_fault { IfErr result (λ e. e ≢ FieldSectionError.Decoding decoding.Memory) }
@@ -176,14 +179,14 @@ impl FieldList {
         self.fields.len()
     }
 
-    /// Returns whether there is no field.
+    /// Returns whether the list is empty.
     pub fn is_empty(&self) -> bool
         ensures { result ≡ (length self.now == 0) }
     {
         self.fields.is_empty()
     }
 
-    /// Returns the field at an index, from 0 on.
+    /// Returns the field at an index, or `None` if the index is out of bounds.
     pub fn get(&self, index: usize) -> Option<FieldLine<'_>>
         ensures { option_map seen_line result ≡ slice_get self.now index }
     {
@@ -193,21 +196,21 @@ impl FieldList {
         }
     }
 
-    /// Returns an iterator over the fields, in their order.
+    /// Returns an iterator over the fields in order.
     pub fn iter(&self) -> Fields<'_>
         ensures { result ≡ self.now }
     {
         Fields::new(self.fields.as_slice())
     }
 
-    /// Returns an iterator over the values of all fields of a name, in their order.
+    /// Returns an iterator over the values of all fields with a name, in order.
     pub fn all<'a>(&'a self, name: &'a [u8]) -> Values<'a>
         ensures { result ≡ values_of name.now self.now }
     {
         Values::new(self.fields.as_slice(), name)
     }
 
-    /// Returns the value of the first field of a name.
+    /// Returns the value of the first field with a name, or `None` if there is none.
     pub fn first(&self, name: &[u8]) -> Option<&[u8]>
         ensures { option_copied result ≡ field_value name.now self.now }
     {
@@ -219,7 +222,7 @@ impl FieldList {
         None
     }
 
-    /// Returns the value of the last field of a name.
+    /// Returns the value of the last field with a name, or `None` if there is none.
     pub fn last(&self, name: &[u8]) -> Option<&[u8]>
         ensures { option_copied result ≡ last_value name.now self.now }
     {
@@ -233,7 +236,7 @@ impl FieldList {
     }
 }
 
-/// Returns what is left of a limit after a field, if its size does not exceed it.
+/// Subtracts the size of a field from a limit. Returns `None` if the size exceeds the limit.
 fn left_after(left: u64, line: FieldLine<'_>) -> Option<u64>
     ensures { SomeIff result (field_size (seen_line line.entry) ≤ left)
         (left - field_size (seen_line line.entry)) }

@@ -1,3 +1,3 @@
-//! The Huffman code of header text (RFC 7541, section 5.2 and Appendix B).
+//! The Huffman code for header strings (RFC 7541, section 5.2 and Appendix B).
 
 pub use wtp_huffman::huffman::{HuffmanError, decode, encode, encoded_len};

@@ -1,5 +1,5 @@
-//! Laws of the definitions: the contract of each function is the law. Those about definitions only
-//! do nothing.
+//! Laws of the definitions and types that the contracts of this crate cite. The contract of each
+//! function states one law.
 
 mod fields;
 mod headers;

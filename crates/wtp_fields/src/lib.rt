@@ -1,5 +1,5 @@
-//! Header maps of HTTP/3, and the messages of sessions. The Huffman text and the field sections
-//! that they are encoded in are passed on from the crates below.
+//! Field lists and header maps of HTTP/3, and the messages of sessions. The crate re-exports the
+//! Huffman code and the field sections that they are encoded with.
 #![tactic(auto)]
 
 mod codes;

@@ -1,4 +1,4 @@
-//! The first messages of a session: the request for it, and the response.
+//! The first messages of a session: the request and the response.
 ghost use Rattle.std.specs.Prelude.{◌≡◌, Err};
 ghost use Rattle.wtp_wire.specs.Content.{kind_in, payload_in};
 ghost use Rattle.wtp_fields.specs.Headers.{GivesUnlessRefused, BeginsLine};
@@ -15,7 +15,7 @@ use thiserror::Error;
 use wtp_core::error::{ErrorCode, Refused};
 use wtp_wire::frame::{Frame, FrameKind};
 
-/// The reason a header map is not a request or not a response.
+/// The reason why a header map is not a request or not a response.
 #[derive(Debug, Drop, PartialEq, Eq, Error)]
 pub enum HeadersParseError {
     /// A request without `:method`.
@@ -64,14 +64,14 @@ impl From<AllocError> for HeadersParseError {
     }
 }
 
-/// Returns the request in a HEADERS frame (RFC 9114, sections 4.1.2 and 4.3.1; RFC 9220, section
-/// 3). Not in the Rust crate.
+/// Parses the request in a HEADERS frame (RFC 9114, sections 4.1.2 and 4.3.1; RFC 9220, section 3).
+/// Not in the Rust crate.
 ///
 /// Returns [`Refused::Code`] with [`ErrorCode::FrameUnexpected`] for a frame of another kind, with
 /// [`ErrorCode::Decompression`] for a payload that is not a field section, and with
 /// [`ErrorCode::Message`] for a header map that is not a request. Returns [`Refused::Memory`] if
-/// allocation fails, which happens only at a field line after valid ones: the frame can be read
-/// again.
+/// allocation fails, which is possible only at a field line after valid ones. The frame can then be
+/// read again.
 pub fn request_of_frame(alloc: Global, frame: &Frame<'_>) -> Result<SessionRequest, Refused>
     ensures read { GivesUnlessRefused result (request_in frame.now) }
     ensures memory { result ≡ Err Refused.Memory

@@ -1,4 +1,4 @@
-//! The fields of a list one by one.
+//! Iterators over field lists.
 ghost use Rattle.std.specs.Prelude.{◌≡◌};
 ghost use Rattle.std.specs.Iterator.{YieldsFirstBy, YieldsFirstRef, item_count};
 ghost use Rattle.wtp_qpack.specs.FieldLines.{seen_line};
@@ -7,13 +7,13 @@ ghost use Rattle.wtp_fields.specs.FieldList.{all_stored, values_of};
 use super::{FieldLine, StoredField, line_of};
 use std::marker::Model;
 
-/// An iterator over the fields of a list: see [`FieldList::iter`](super::FieldList::iter).
+/// An iterator over the fields of a list. See [`FieldList::iter`](super::FieldList::iter).
 #[derive(Drop)]
 pub struct Fields<'a> {
     rest: &'a [StoredField],
 }
 
-// Contracts treat the iterator as the fields that are left.
+// In contracts, the iterator is the list of fields left.
 impl<'a> Model for Fields<'a> {
     ghost use Rattle.std.specs.Prelude.{List};
     ghost use Rattle.wtp_qpack.specs.Field.{Field};
@@ -25,7 +25,7 @@ impl<'a> Model for Fields<'a> {
 }
 
 impl<'a> Fields<'a> {
-    /// Returns the iterator over these fields.
+    /// Creates an iterator over the fields.
     pub(super) fn new(fields: &'a [StoredField]) -> Self
         ensures { result ≡ all_stored fields.now }
     {
@@ -47,7 +47,7 @@ impl<'a> Iterator for Fields<'a> {
     }
 }
 
-/// An iterator over the values of all fields of a name: see
+/// An iterator over the values of all fields with a name. See
 /// [`FieldList::all`](super::FieldList::all).
 #[derive(Drop)]
 pub struct Values<'a> {
@@ -55,7 +55,7 @@ pub struct Values<'a> {
     name: &'a [u8],
 }
 
-// Contracts treat the iterator as the values that are left.
+// In contracts, the iterator is the list of values left.
 impl<'a> Model for Values<'a> {
     ghost use Rattle.std.specs.Prelude.{List, ℕ};
     ghost use Rattle.wtp_fields.specs.FieldList.{all_stored, values_of};
@@ -66,7 +66,7 @@ impl<'a> Model for Values<'a> {
 }
 
 impl<'a> Values<'a> {
-    /// Returns the iterator over the values of a name in these fields.
+    /// Creates an iterator over the values of a name in the fields.
     pub(super) fn new(fields: &'a [StoredField], name: &'a [u8]) -> Self
         ensures { result ≡ values_of name.now (all_stored fields.now) }
     {

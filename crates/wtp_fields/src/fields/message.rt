@@ -1,5 +1,5 @@
-//! The messages of a session as field lists (RFC 9114, sections 4.1.2 and 4.3; RFC 9220, section
-//! 3), and the header map of a list.
+//! Requests and responses of sessions as field lists (RFC 9114, sections 4.1.2 and 4.3; RFC 9220,
+//! section 3), and the conversion of a list to a header map.
 ghost use Rattle.std.specs.Prelude.{◌≡◌, ◌↔◌, ◌<◌, true, IsTrue, IfSome, None, Some, SomeIff, MatchResult};
 ghost use Rattle.std.specs.Option.{option_copied};
 ghost use Rattle.std.specs.Str.{is_utf8};
@@ -14,8 +14,8 @@ use std::alloc::{AllocError, Global};
 use thiserror::Error;
 use wtp_core::ids::StatusCode;
 
-/// What a request for a session asks for (RFC 9110, section 7.1). Both are bytes, and need not be
-/// UTF-8.
+/// The target of a request for a session (RFC 9110, section 7.1). Both parts are bytes, not
+/// necessarily UTF-8.
 #[derive(Clone, Copy, Debug, PartialEq, Eq)]
 pub struct RequestTarget<'a> {
     /// The value of `:authority`.
@@ -24,7 +24,7 @@ pub struct RequestTarget<'a> {
     pub path: &'a [u8],
 }
 
-/// The reason there is no header map of a list.
+/// The reason why a list was not converted to a header map.
 #[derive(Debug, Drop, Clone, Copy, PartialEq, Eq, Error)]
 pub enum ToHeadersError {
     /// A name or a value is not UTF-8.
@@ -47,14 +47,14 @@ impl From<AllocError> for ToHeadersError {
 }
 
 impl FieldList {
-    /// Returns the target of the request for a session (RFC 9220, section 3; RFC 9114, section
-    /// 4.3.1).
+    /// Checks that the list is a request for a session, and returns its target (RFC 9220, section
+    /// 3; RFC 9114, section 4.3.1).
     ///
-    /// Returns the first fault in the order of [`HeadersParseError`], and never `Memory`. Each is a
-    /// malformed message (RFC 9114, section 4.1.2), which ends the stream only. The checks are
-    /// those of [`SessionRequest`](crate::session::SessionRequest), and of a repeated field the
-    /// last counts. The other rules of RFC 9114, sections 4.2 and 4.3, as those on the order of
-    /// fields and on repeated pseudo-header fields, are not checked.
+    /// Returns the first error in the order of [`HeadersParseError`], and never `Memory`. Each
+    /// means that the message is malformed (RFC 9114, section 4.1.2), which ends only the stream.
+    /// The checks are those of [`SessionRequest`](crate::session::SessionRequest); the last value
+    /// of a repeated field counts. The other rules of RFC 9114, sections 4.2 and 4.3, such as those
+    /// on the order of fields and on repeated pseudo-header fields, are not checked.
     #[tactic(auto, unfolding(crate::specs::FieldMessages::request_fault))]
     pub fn session_request(&self) -> Result<RequestTarget<'_>, HeadersParseError>
         ensures { RequestIs self.now result }
@@ -86,13 +86,13 @@ impl FieldList {
         Ok(RequestTarget { authority, path })
     }
 
-    /// Returns the status code of a response: the value of `:status`, which has exactly three
-    /// decimal digits and is from 100 to 599 (RFC 9110, section 15; RFC 9114, section 4.3.2).
+    /// Returns the status code of a response: the value of `:status`, which must have exactly three
+    /// decimal digits and be from 100 to 599 (RFC 9110, section 15; RFC 9114, section 4.3.2).
     ///
     /// Returns `MissingStatusCode` if there is no `:status`, and `InvalidStatusCode` for any other
-    /// value. Both are malformed messages (RFC 9114, section 4.1.2), which end the stream only. Of
-    /// a repeated `:status` the last counts; that it is the only pseudo-header field is not
-    /// checked.
+    /// value. Both mean that the message is malformed (RFC 9114, section 4.1.2), which ends only
+    /// the stream. The last value of a repeated `:status` counts. Other pseudo-header fields are
+    /// not rejected.
     #[tactic(auto, unfolding(crate::specs::FieldMessages::status_by))]
     pub fn status(&self) -> Result<StatusCode, HeadersParseError>
         ensures { result ≡ status_of self.now }
@@ -123,10 +123,10 @@ impl FieldList {
         true
     }
 
-    /// Returns the header map of the fields. The last value of a name wins.
+    /// Converts the list to a header map. The last value of a repeated name counts.
     ///
-    /// Returns [`ToHeadersError::NotUtf8`] if a name or a value is not UTF-8, before anything is
-    /// allocated, and [`ToHeadersError::Memory`] if allocation fails.
+    /// Returns [`ToHeadersError::NotUtf8`] if a name or a value is not UTF-8, before allocating
+    /// anything, and [`ToHeadersError::Memory`] if allocation fails.
     pub fn to_headers(&self, alloc: Global) -> Result<Headers, ToHeadersError>
         ensures { MapIs self.now result }
     {
@@ -147,7 +147,7 @@ impl FieldList {
     }
 }
 
-/// Returns bytes as a text, if they are UTF-8.
+/// Returns the bytes as a text, or `None` if they are not UTF-8.
 fn text_of(bytes: &[u8]) -> Option<&str>
     ensures { SomeIff (option_copied result) (is_utf8 bytes.now ≡ true) bytes.now }
 {
@@ -157,7 +157,8 @@ fn text_of(bytes: &[u8]) -> Option<&str>
     }
 }
 
-/// Returns the fault of a field that must have this value.
+/// Checks that a field has the value `text`. Returns `missing` if there is no value, and `other` if
+/// it is a different one.
 fn expect_value(
     value: Option<&[u8]>,
     text: &[u8],
@@ -175,7 +176,7 @@ fn expect_value(
     }
 }
 
-/// Returns the decimal digit of a byte.
+/// Returns the decimal digit that a byte is in ASCII, or `None` if it is none.
 fn digit_of(byte: u8) -> Option<u32>
     ensures digit { result ≡ digit_of byte }
     ensures small { IfSome result (λ digit. digit < 10) }
@@ -187,7 +188,7 @@ fn digit_of(byte: u8) -> Option<u32>
     }
 }
 
-/// Returns the number of a text of exactly three decimal digits.
+/// Parses a number of exactly three decimal digits.
 fn three_digits(text: &[u8]) -> Option<u32>
     ensures { result ≡ three_digits text.now }
 {

@@ -1,5 +1,5 @@
-//! Field lists for a message that is sent, and its HEADERS frame (RFC 9114, sections 4.1.2, 4.2,
-//! 4.3 and 7.2.2).
+//! Field lists of messages to send, and their HEADERS frames (RFC 9114, sections 4.1.2, 4.2, 4.3
+//! and 7.2.2).
 ghost use Rattle.std.specs.Prelude.{◌≡◌, ◌≢◌, ◌⊎◌, ◌++◌, ◌==◌, ◌≤◌, ◌^◌, List, [], ◌∷◌, length, Some, None, Ok, Err};
 ghost use Rattle.std.specs.Prelude.{MatchResult, OnOk, OnErr, IfOk, codes};
 ghost use Rattle.std.specs.List.{list_all, list_any};
@@ -24,23 +24,24 @@ use wtp_core::varint::VarInt;
 use wtp_qpack::section;
 use wtp_wire::frame::{Frame, FrameOwned, GenerateError};
 
-/// The reason a field was not pushed.
+/// The reason why a field was not appended.
 #[derive(Debug, Drop, Clone, Copy, PartialEq, Eq, Error)]
 pub enum PushError {
     /// The name is empty.
     #[error("the name is empty")]
     EmptyName,
-    /// The name starts with a colon: it is that of a pseudo-header field (RFC 9114, section 4.3).
+    /// The name starts with a colon, as those of pseudo-header fields do (RFC 9114, section 4.3).
     #[error("the name is that of a pseudo-header field")]
     PseudoHeader,
     /// The name has an upper-case letter (RFC 9114, section 4.2).
     #[error("the name has an upper-case letter")]
     UpperCase,
-    /// The name has a character that no token has (RFC 9110, section 5.6.2).
+    /// The name is not a token: it has a character that is not allowed in tokens (RFC 9110, section
+    /// 5.6.2).
     #[error("the name is no token")]
     NotAToken,
-    /// The value has a control character other than a tab, as CR, LF or NUL, or it starts or ends
-    /// with a space or a tab (RFC 9110, section 5.5; RFC 9114, section 10.3).
+    /// The value has a control character other than a tab, such as CR, LF or NUL, or it starts or
+    /// ends with a space or a tab (RFC 9110, section 5.5; RFC 9114, section 10.3).
     #[error("the value has a forbidden character")]
     ForbiddenValue,
     /// Memory allocation failed.
@@ -60,9 +61,9 @@ impl From<AllocError> for PushError {
 }
 
 impl FieldList {
-    /// Returns the list of the request for the session at a URL, whose scheme is `https` (RFC 9220,
+    /// Creates the list of a request for a session at a URL with the scheme `https` (RFC 9220,
     /// section 3; RFC 9114, section 4.3.1): `:method`, `:scheme`, `:protocol`, `:authority` and
-    /// `:path`, with the values that [`SessionRequest::new`] gives them.
+    /// `:path`, with the same values as in [`SessionRequest::new`].
     ///
     /// Returns the errors of [`SessionRequest::new`].
     pub fn request(alloc: Global, url: &str) -> Result<Self, UrlParseError>
@@ -79,7 +80,7 @@ impl FieldList {
         Ok(list)
     }
 
-    /// Returns the list of a response: `:status` only, in three digits (RFC 9114, section 4.3.2).
+    /// Creates the list of a response: only `:status`, with three digits (RFC 9114, section 4.3.2).
     ///
     /// Returns [`AllocError`] if allocation fails.
     pub fn response(alloc: Global, status_code: StatusCode) -> Result<Self, AllocError>
@@ -92,12 +93,12 @@ impl FieldList {
         Ok(list)
     }
 
-    /// Appends a field, which may have the name of an earlier one.
+    /// Appends a field. Its name may be that of an earlier field.
     ///
-    /// Refuses a name that is empty, that starts with a colon, that has an upper-case letter, or
-    /// that is no token, and a value that has a control character other than a tab, or that starts
-    /// or ends with a space or a tab: the first of these is returned, in the order of
-    /// [`PushError`], before anything is allocated. On an error nothing changes.
+    /// Rejects a name that is empty, starts with a colon, has an upper-case letter or is not a
+    /// token, and a value that has a control character other than a tab, or starts or ends with a
+    /// space or a tab. Returns the first of these errors in the order of [`PushError`], before
+    /// allocating anything. On an error, the list is unchanged.
     pub fn push(&mut self, name: &[u8], value: &[u8]) -> Result<(), PushError>
         ensures ok { OnOk result (self.new ≡ self.old ++ (name.now, value.now) ∷ []) }
         ensures fault { MatchResult result (λ _. push_fault name.now value.now ≡ None)
@@ -109,15 +110,15 @@ impl FieldList {
         Ok(())
     }
 
-    /// Returns the field section of the list, with the static table only (RFC 9204, section 4.5):
-    /// its fields in their order. A list that [`FieldList::request`] or [`FieldList::response`]
-    /// made has its pseudo-header fields first, as RFC 9114, section 4.3 requires. A list that was
-    /// decoded is written as it was received, whatever its fields are.
+    /// Encodes the list as a field section, with its fields in order, using only the static table
+    /// (RFC 9204, section 4.5). A list from [`FieldList::request`] or [`FieldList::response`] has
+    /// its pseudo-header fields first, as RFC 9114, section 4.3 requires. A decoded list is written
+    /// with its fields as received, whatever they are.
     ///
     /// Returns [`AllocError`] if allocation fails.
     pub fn encode(&self, alloc: Global) -> Result<Vec<u8>, AllocError>
         ensures section { IfOk result (λ section. section.items ≡ section_of self.now) }
-        // So the section is read as this list.
+        // The section is therefore decoded to this list.
         ensures octets { IfOk result (λ _. AreOctets self.now) }
     {
         let mut out = section::empty_prefix(alloc)?;
@@ -129,8 +130,8 @@ impl FieldList {
         Ok(out)
     }
 
-    /// Returns the HEADERS frame of the list (RFC 9114, section 7.2.2), whose payload is its
-    /// section.
+    /// Creates the HEADERS frame of the list (RFC 9114, section 7.2.2). Its payload is the field
+    /// section that `encode` returns.
     ///
     /// Returns [`GenerateError::Memory`] if allocation fails, and [`GenerateError::PayloadTooLong`]
     /// if the payload has 2^62 bytes or more.
@@ -149,7 +150,7 @@ impl FieldList {
     }
 }
 
-/// Returns the list of the five fields of a request.
+/// Creates the list of the five fields of a request.
 fn of_target(alloc: Global, authority: &[u8], path: &[u8]) -> Result<FieldList, AllocError>
     ensures { IfOk result (λ list. list ≡ request_fields authority.now path.now) }
 {
@@ -162,7 +163,7 @@ fn of_target(alloc: Global, authority: &[u8], path: &[u8]) -> Result<FieldList, 
     Ok(list)
 }
 
-/// Returns the same bytes, of which it is a fact that each is below 256.
+/// Returns its argument; the contract states that each byte is below 256.
 fn octets(bytes: &[u8]) -> &[u8]
     ensures same { result.now ≡ bytes.now }
     ensures octets { IsOctets bytes.now }
@@ -170,8 +171,7 @@ fn octets(bytes: &[u8]) -> &[u8]
     bytes
 }
 
-/// Returns the first fault of a field, as [`FieldList::push`] does, without a list. It does not
-/// allocate.
+/// Checks a field as [`FieldList::push`] does, and returns the first error. Does not allocate.
 #[tactic(auto, unfolding(crate::specs::FieldWriting::push_fault))]
 pub fn check_field(name: &[u8], value: &[u8]) -> Result<(), PushError>
     ensures { MatchResult result (λ _. push_fault name.now value.now ≡ None)
@@ -185,7 +185,7 @@ pub fn check_field(name: &[u8], value: &[u8]) -> Result<(), PushError>
     }
 }
 
-/// Returns the first fault of a name.
+/// Checks a name, and returns the first error.
 fn check_name(name: &[u8]) -> Result<(), PushError>
     ensures { MatchResult result (λ _. name_fault name.now ≡ None)
         (λ e. (name_fault name.now ≡ Some e) × (e ≢ PushError.Memory)) }
@@ -211,7 +211,7 @@ fn has_upper(name: &[u8]) -> bool
     false
 }
 
-/// Returns whether each byte is a character of tokens.
+/// Returns whether all bytes are allowed in tokens.
 fn is_token(name: &[u8]) -> bool
     ensures { result ≡ list_all is_tchar name.now }
 {
@@ -223,28 +223,28 @@ fn is_token(name: &[u8]) -> bool
     true
 }
 
-/// Returns whether a byte is a character of tokens (RFC 9110, section 5.6.2).
+/// Returns whether a byte is allowed in tokens (RFC 9110, section 5.6.2).
 fn is_tchar(byte: u8) -> bool
     ensures { result ≡ is_tchar byte }
 {
     byte.is_ascii_alphanumeric() || is_mark(byte)
 }
 
-/// Returns whether a byte is one of the other characters of tokens.
+/// Returns whether a byte is one of the token characters other than letters and digits.
 fn is_mark(byte: u8) -> bool
     ensures { result ≡ list_any (λ mark. mark == byte) (codes "!#$%&'*+-.^_`|~") }
 {
     b"!#$%&'*+-.^_`|~".contains(&byte)
 }
 
-/// Returns whether bytes are the value of a field.
+/// Returns whether the bytes are a valid field value.
 fn is_field_value(value: &[u8]) -> bool
     ensures { result ≡ is_field_value value.now }
 {
     are_value_bytes(value) && !is_blank_at(value.first()) && !is_blank_at(value.last())
 }
 
-/// Returns whether each byte may be in a value.
+/// Returns whether all bytes are allowed in a field value.
 fn are_value_bytes(value: &[u8]) -> bool
     ensures { result ≡ list_all is_value_byte value.now }
 {
@@ -256,14 +256,14 @@ fn are_value_bytes(value: &[u8]) -> bool
     true
 }
 
-/// Returns whether a byte may be in a value: a tab, or any but a control character.
+/// Returns whether a byte is allowed in a field value: a tab, or any byte but a control character.
 fn is_value_byte(byte: u8) -> bool
     ensures { result ≡ is_value_byte byte }
 {
     byte == b'\t' || (byte > 31 && byte != 127)
 }
 
-/// Returns whether there is a byte, a space or a tab.
+/// Returns whether there is a byte and it is a space or a tab.
 fn is_blank_at(byte: Option<&u8>) -> bool
     ensures { result ≡ is_blank_at (option_copied byte.entry) }
 {

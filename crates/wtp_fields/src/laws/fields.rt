@@ -1,4 +1,4 @@
-//! Laws of field lists, and of the header maps that they make.
+//! Laws of field lists, and of their header maps.
 ghost use Rattle.std.specs.Prelude.{◌≡◌, ◌≤◌, ℕ, List, [], Ok, None};
 ghost use Rattle.wtp_core.specs.Ids.{IsStatus};
 ghost use Rattle.wtp_qpack.specs.Field.{Field, AreOctets, field_map, field_value, last_value};
@@ -11,9 +11,9 @@ ghost use Rattle.wtp_fields.specs.FieldList.{Reaches, list_size};
 ghost use Rattle.wtp_fields.specs.FieldMessages.{request_fault, status_of, HasStatusOf};
 ghost use Rattle.wtp_fields.specs.FieldWriting.{request_fields};
 
-/// A section whose fields are UTF-8 has the map of its list, whatever limit the list was read
-/// under. A list is a request exactly if its map is, with the same fault and the same values; and
-/// where it has a status code, its map has the same.
+/// A section with UTF-8 fields is decoded to the map of its list, whatever limit the list was
+/// decoded with. A list is a valid request exactly if its map is, with the same error and the same
+/// values. If a list has a status code, its map has the same one.
 pub fn maps_of_lists()
     ensures map { (limit : ℕ) (section : List ℕ) (fields : List Field)
         → Reaches limit section fields [] → AreUtf8Fields fields
@@ -25,10 +25,10 @@ pub fn maps_of_lists()
         → HasStatusOf code (field_map fields) }
 {}
 
-/// A section that a list is written as is read as that list, under any limit that its size does not
-/// exceed, and a section is read as one list only. The list of a request is that of a session, with
-/// the map that [`SessionRequest`](crate::session::SessionRequest) has; and the list of a response
-/// has its status code.
+/// The encoding of a list is decoded to the same list, with any limit that its size does not
+/// exceed, and a section is decoded to one list only. The list of a request is a valid request,
+/// with the map of [`SessionRequest`](crate::session::SessionRequest). The list of a response has
+/// its status code.
 pub fn sent_lists()
     ensures again { (limit : ℕ) (fields : List Field) → AreOctets fields
         → list_size fields ≤ limit → Reaches limit (section_of fields) fields [] }

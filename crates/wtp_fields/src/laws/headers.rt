@@ -6,7 +6,8 @@ ghost use Rattle.wtp_qpack.specs.Field.{Field, IsMap, AreTexts, put, field_value
 ghost use Rattle.wtp_qpack.specs.FieldSection.{map_at};
 ghost use Rattle.wtp_fields.specs.Headers.{payload, headers_at};
 
-/// Putting a field into a map sets the value of its name, and leaves the values of all other names.
+/// Putting a field into a map sets the value of its name, and leaves the values of all other names
+/// unchanged.
 pub fn header_maps()
     ensures value { (m : List Field) (field : Field) (name : List ℕ)
         → field_value name (put m field)
@@ -14,8 +15,8 @@ pub fn header_maps()
     ensures ordered { (m : List Field) (field : Field) → IsMap m → IsMap (put m field) }
 {}
 
-/// A header map and its payload determine each other: the map of the payload's section is the map,
-/// and two maps are equal exactly if their payloads are. So the frame of a map is read as that map.
+/// A header map and its payload determine each other: decoding the payload gives the map, and two
+/// maps are equal exactly if their payloads are. So the frame of a map is read as that map.
 pub fn header_payloads()
     ensures again { (m : List Field) → IsMap m → AreTexts m → map_at (payload m) ≡ Ok m }
     ensures same { (m n : List Field) → IsMap m → AreTexts m → IsMap n → AreTexts n

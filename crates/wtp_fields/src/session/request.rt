@@ -1,4 +1,4 @@
-//! The request for a session.
+//! Requests for sessions.
 ghost use Rattle.std.specs.Prelude.{◌≡◌, ◌≢◌, ◌⊎◌, ◌↔◌, MatchResult, None, Some, Ok, Err, OnOk};
 ghost use Rattle.std.specs.Prelude.{OnErr, IfOk, IfErr, IsTrue, IsErrOf, codes, string_bytes};
 ghost use Rattle.std.specs.Prelude.{length, ◌≤◌};
@@ -18,13 +18,13 @@ use std::marker::Model;
 use thiserror::Error;
 use url::{ParseError, Url};
 
-/// The reason there is no request for a text that should be a URL.
+/// The reason why no request was created for a URL.
 #[derive(Debug, Drop, PartialEq, Eq, Error)]
 pub enum UrlParseError {
     /// The URL has no host.
     #[error("host is missing in the URL")]
     EmptyHost,
-    /// The host is not an international domain name.
+    /// The host is not a valid international domain name.
     #[error("invalid international domain name")]
     IdnaError,
     /// The port is not a number below 2^16.
@@ -36,7 +36,7 @@ pub enum UrlParseError {
     /// The host is in brackets and is not an IPv6 address.
     #[error("invalid IPv6 address")]
     InvalidIpv6Address,
-    /// The host has a character that no domain has.
+    /// The host has a character that is not allowed in a domain.
     #[error("invalid domain character")]
     InvalidDomainCharacter,
     /// The text has no scheme.
@@ -46,14 +46,14 @@ pub enum UrlParseError {
     /// given.
     #[error("relative URL with a cannot-be-a-base base")]
     RelativeUrlWithCannotBeABaseBase,
-    /// A host for a URL that has none. This does not occur, because no host is set.
+    /// A host was set on a URL that cannot have one. This does not occur, because no host is set.
     #[error("a cannot-be-a-base URL doesn’t have a host to set")]
     SetHostOnCannotBeABaseUrl,
-    /// The text is too long. A text of 16 MiB (2^24 bytes) or more may be refused in this way, even
-    /// if its URL is valid and shorter than 4 GB; a shorter text never is.
+    /// The text is too long. This error is possible for any text of 16 MiB (2^24 bytes) or more,
+    /// even if its URL is valid and shorter than 4 GB, and never occurs for a shorter text.
     #[error("URLs more than 4 GB are not supported")]
     Overflow,
-    /// Another fault of the URL.
+    /// Another error of the URL.
     #[error("unknown error during URL parsing")]
     Unknown,
     /// The URL's scheme is not `https`.
@@ -95,16 +95,16 @@ impl From<ParseError> for UrlParseError {
     }
 }
 
-/// The length in bytes, 16 MiB, from which the URL of a text may be 4 GB or longer, which `url`
-/// refuses. The URL of a shorter text would need 256 bytes for each byte of the text.
+/// The minimum length in bytes, 16 MiB, of a text whose URL may reach 4 GB, which `url` rejects.
+/// The URL of a shorter text would need more than 256 bytes for each byte of the text.
 const LONG_TEXT: usize = 1 << 24;
 
-/// The name is that of a field that a request sets itself.
+/// The name is reserved: it is that of a field that every request sets itself.
 #[derive(Debug, Drop, PartialEq, Eq, Error)]
 #[error("used reserved header")]
 pub struct ReservedHeader;
 
-/// The reason a field was not put into a request.
+/// The reason why a field was not inserted into a request.
 #[derive(Debug, Drop, PartialEq, Eq, Error)]
 pub enum InsertError {
     /// The name is one of [`SessionRequest::RESERVED_HEADERS`].
@@ -132,7 +132,7 @@ pub struct SessionRequest {
     headers: Headers,
 }
 
-// Contracts treat a request as its header map, which has no fault.
+// In contracts, a request is its header map, which is always a valid request.
 impl Model for SessionRequest {
     ghost use Rattle.std.specs.Prelude.{◌≡◌, List, None};
     ghost use Rattle.wtp_qpack.specs.Field.{Field};
@@ -146,7 +146,7 @@ impl Model for SessionRequest {
 }
 
 impl SessionRequest {
-    /// The names of the fields that a request sets itself.
+    /// The names of the fields that every request sets itself.
     pub const RESERVED_HEADERS: &'static [&'static str] = &[
         ":method",
         ":scheme",
@@ -155,16 +155,16 @@ impl SessionRequest {
         ":path",
     ];
 
-    /// Returns the request for the session at a URL, whose scheme is `https` (RFC 9220, section 3;
-    /// RFC 9114, section 4.3.1).
+    /// Creates a request for a session at a URL with the scheme `https` (RFC 9220, section 3; RFC
+    /// 9114, section 4.3.1).
     ///
-    /// `:authority` is the URL's user part, host, and port if it is not the default, and `:path`
-    /// its path and query.
+    /// `:authority` is the URL's user part, its host, and its port if that is not the default.
+    /// `:path` is the URL's path and query.
     ///
-    /// Returns the error of the same name for a fault of the URL, [`UrlParseError::SchemeNotHttps`]
-    /// for a URL of another scheme, and [`UrlParseError::Memory`] if allocation fails.
-    /// A text of 16 MiB (2^24 bytes) or more may be refused with [`UrlParseError::Overflow`],
-    /// whatever its URL is; a shorter text never is.
+    /// Returns the error of the URL parser, under the same name, for an invalid URL,
+    /// [`UrlParseError::SchemeNotHttps`] for another scheme, and [`UrlParseError::Memory`] if
+    /// allocation fails. [`UrlParseError::Overflow`] is possible for any text of 16 MiB (2^24
+    /// bytes) or more, whatever its URL is, and never occurs for a shorter text.
     pub fn new(alloc: Global, url: &str) -> Result<Self, UrlParseError>
         ensures request { MatchResult result
             (λ request. request_at (parse_url None url.now) ≡ Ok request)
@@ -182,7 +182,7 @@ impl SessionRequest {
         Self::for_url(alloc, &parsed)
     }
 
-    /// Returns the request for the session at a URL.
+    /// Creates the request for a parsed URL.
     #[tactic(auto, unfolding(crate::specs::SessionRequest::request_for))]
     fn for_url(alloc: Global, url: &Url) -> Result<Self, UrlParseError>
         ensures request { MatchResult result (λ request. request_for url.now ≡ Ok request)
@@ -197,44 +197,45 @@ impl SessionRequest {
         Ok(SessionRequest { headers })
     }
 
-    /// Returns the field `:authority`.
+    /// Returns the value of `:authority`.
     pub fn authority(&self) -> &str
         ensures { field_value (codes ":authority") self.now ≡ Some result.now }
     {
         self.headers.get(":authority").unwrap()
     }
 
-    /// Returns the field `:path`.
+    /// Returns the value of `:path`.
     pub fn path(&self) -> &str
         ensures { field_value (codes ":path") self.now ≡ Some result.now }
     {
         self.headers.get(":path").unwrap()
     }
 
-    /// Returns the field `origin`.
+    /// Returns the value of `origin`, if there is one.
     pub fn origin(&self) -> Option<&str>
         ensures { option_copied result ≡ field_value (codes "origin") self.now }
     {
         self.headers.get("origin")
     }
 
-    /// Returns the field `user-agent`.
+    /// Returns the value of `user-agent`, if there is one.
     pub fn user_agent(&self) -> Option<&str>
         ensures { option_copied result ≡ field_value (codes "user-agent") self.now }
     {
         self.headers.get("user-agent")
     }
 
-    /// Returns the value of a field.
+    /// Returns the value of a field, or `None` if there is none.
     pub fn get(&self, name: &str) -> Option<&str>
         ensures { option_copied result ≡ field_value name.now self.now }
     {
         self.headers.get(name)
     }
 
-    /// Sets the value of a field, in place of its previous value. On an error nothing changes.
+    /// Sets the value of a field, replacing any previous value.
     ///
-    /// The names of [`Self::RESERVED_HEADERS`] are refused, before anything is allocated.
+    /// Returns `Reserved` for the names of [`Self::RESERVED_HEADERS`], before allocating anything,
+    /// and `Memory` if allocation fails. On an error, the request is unchanged.
     pub fn insert(&mut self, name: &str, value: &str) -> Result<(), InsertError>
         ensures ok { OnOk result (self.new ≡ put self.old (name.now, value.now)) }
         ensures reserved { IsErrOf result (InsertError.Reserved (record {}))
@@ -264,18 +265,19 @@ impl TryFrom<Headers> for SessionRequest {
         (λ request. (fault_of headers ≡ None) × (request ≡ headers))
         (λ fault. fault_of headers ≡ Some fault) };
 
-    /// Returns the request of a header map that has the fields of one (RFC 9114, section 4.3.1; RFC
-    /// 9220, section 3). It keeps all other fields.
+    /// Converts a header map that has the fields of a request (RFC 9114, section 4.3.1; RFC 9220,
+    /// section 3). All other fields are kept.
     ///
-    /// Returns the first fault in the order of [`HeadersParseError`], and never `Memory`: nothing
-    /// is allocated. The map is dropped on an error.
+    /// Returns the first error in the order of [`HeadersParseError`], and never `Memory`, because
+    /// nothing is allocated. On an error, the map is dropped.
     fn try_from(headers: Headers) -> Result<Self, HeadersParseError> {
         check(&headers)?;
         Ok(SessionRequest { headers })
     }
 }
 
-/// Returns the fault of a field that must have this value.
+/// Checks that a field has the value `text`. Returns `missing` if there is no such field, and
+/// `other` if it has a different value.
 fn expect_value(
     headers: &Headers,
     name: &str,
@@ -295,7 +297,7 @@ fn expect_value(
     }
 }
 
-/// Returns the fault of a field that must have a value.
+/// Checks that a field exists. Returns `missing` if it does not.
 fn expect_field(
     headers: &Headers,
     name: &str,
@@ -311,7 +313,7 @@ fn expect_field(
     }
 }
 
-/// Returns the first fault of a request's fields.
+/// Checks the fields of a request, and returns the first error.
 #[tactic(auto, unfolding(crate::specs::SessionRequest::fault_of))]
 fn check(headers: &Headers) -> Result<(), HeadersParseError>
     ensures { MatchResult result
@@ -350,7 +352,7 @@ fn authority(url: &Url) -> &str
     url.authority()
 }
 
-/// Returns the path, followed by the query.
+/// Returns the path, followed by a question mark and the query if there is one.
 fn path_with_query(alloc: Global, path: &str, query: Option<&str>) -> Result<String, AllocError>
     ensures { IfOk result (λ text. string_bytes text
         ≡ with_query path.now (option_copied query.entry)) }
@@ -363,7 +365,7 @@ fn path_with_query(alloc: Global, path: &str, query: Option<&str>) -> Result<Str
     Ok(text)
 }
 
-/// Returns the map of the five fields of a request.
+/// Creates the map of the five fields of a request.
 #[tactic(auto, unfolding(crate::specs::SessionRequest::five_fields, wtp_qpack::specs::Field::field_map))]
 fn five_fields(alloc: Global, authority: &str, path: &str) -> Result<Headers, AllocError>
     ensures { IfOk result (λ headers. headers ≡ five_fields authority.now path.now) }
