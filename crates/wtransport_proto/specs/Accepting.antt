@@ -1,10 +1,10 @@
--- Accepting a bidirectional stream that the peer opened: which frame opens it.
+-- Accepting a bidirectional stream that the peer opened: the frame that opens it.
 --
--- A WebTransport frame does if no other frame of a known or reserved type comes before it; what
--- follows it is the application's (draft-ietf-webtrans-http3-02, section 4.2). Otherwise the first
--- HEADERS frame opens a request (RFC 9114, section 4.1): frames of reserved types before it are
--- skipped (section 7.2.8), and a DATA frame is unexpected there. Frames of unknown types are always
--- skipped (section 9). The law `opening_by_front` states exactly that.
+-- A WebTransport frame opens a stream of a session if no frame of a known or reserved type comes
+-- before it; the bytes after it are application data (draft-ietf-webtrans-http3-02, section 4.2).
+-- Otherwise the first HEADERS frame opens a request (RFC 9114, section 4.1). Frames of reserved
+-- types before it are skipped (section 7.2.8), and a DATA frame before it is an error. Frames of
+-- unknown types are always skipped (section 9). The law `opening_by_front` states exactly this.
 use Rattle.std.specs.Prelude.{◌≡◌, ◌≢◌, ◌⊎◌, ℕ, ◌+◌, ◌<◌, ◌≤◌, Bool, true, false, List, [], ◌∷◌}
 use Rattle.wtp_core.specs.declared.bytes.polled.IoReadError.TheVariants as io
 use Rattle.wtp_core.specs.declared.error.ErrorCode.{ErrorCode}
@@ -29,16 +29,16 @@ use Rattle.wtransport_proto.specs.Streams.{first_of, session_of}
 
 -- ---- what opens a stream
 
--- A session, by the number in its WebTransport frame, and the bytes after the frame. Or a request,
--- by the payload of its HEADERS frame, and the run of the bytes after the frame. Or nothing, as
--- this is how the stream ends before.
+-- What opens a stream: a session, with its ID and the bytes after the WebTransport frame; a
+-- request, with the payload of its HEADERS frame and the run of the bytes after the frame; or
+-- nothing, with the ending of the stream before such a frame.
 pub data Opening : Type 0 where
   Session : ℕ → List ℕ → Opening
   Request : List ℕ → Run → Opening
   Nothing : Ending → Opening
 
--- The request that the frames of a run open. The rule of the stream refuses SETTINGS frames and
--- WebTransport frames that are not the first, so there is none of them among the frames of a run.
+-- What the frames of a run open if the first frame is not a WebTransport frame. A run has no
+-- SETTINGS frames and no later WebTransport frames, because the stream does not allow them.
 abbrev pub request_in : List Content → Ending → Opening
 request_in [] ending = Nothing ending
 request_in (PlainOf Headers payload ∷ frames) ending =
@@ -49,12 +49,12 @@ request_in (PlainOf Settings payload ∷ frames) ending = Nothing (H3 FrameUnexp
 request_in (PlainOf WebTransport payload ∷ frames) ending = Nothing (H3 Frame)
 request_in (WebTransportOf id ∷ frames) ending = Nothing (H3 Frame)
 
--- what opens a stream, if its bytes start so once unknown frames are skipped, and this is its run
+-- what opens a stream, given the first frame that is not unknown, and the run
 abbrev pub opening_by : Bool → Front → Run → Opening
 opening_by true (Framed (WebTransportOf id) rest) r = Session id rest
 opening_by first case r = request_in r.frames r.ending
 
--- the first frame of the bytes that is not unknown, by their first frame
+-- the first frame that is not unknown, given the first frame
 abbrev pub known_by : Front → Front
 known_by (Framed f rest) = Framed f rest
 known_by (Unknown rest) = front (past_unknown rest)
@@ -62,37 +62,37 @@ known_by (BadId rest) = BadId rest
 known_by (TooBig rest) = TooBig rest
 known_by Short = Short
 
--- What opens a stream, by the bytes held and ahead and how they end; first says whether a frame
--- would be the first of the stream.
+-- What opens a stream, given the bytes held and ahead and how they end. `first` is whether the next
+-- frame is the first one of the stream.
 unfoldable pub opening : Bool → Held → List ℕ → Tail → Opening
 opening first h ahead tail =
     opening_by first (known_by (front_held h ahead)) (run_held RemoteBi first h ahead tail)
 
--- the same over a source
+-- the same for the bytes ahead in a source
 abbrev pub opening_of : Bool → Held → Source → Opening
 opening_of first h s = opening first h s.ahead (tail_of s.ending)
 
 -- ---- what one poll did to a source with a model
 
--- In all of these, old and new are what the reading holds before and after one poll; first and next
--- say whether the next frame would be the first of its stream.
+-- In these definitions, old and new are the reading states before and after one poll. `first` and
+-- `next` are whether the next frame is the first one of its stream, before and after it.
 
--- The WebTransport frame was taken, and no byte after it: these are the bytes that the opening has
--- after the frame.
+-- The WebTransport frame was taken, and no byte after it: the bytes ahead are those after the
+-- frame.
 pub record TakesSession (first : Bool) (old : Held) (id : ℕ) (a b : Source) : Type 0 where
   pub opening : opening_of first old a ≡ Session id b.ahead
   pub none_before : first ≡ true
   pub front : front_held old a.ahead ≡ Framed (WebTransportOf id) b.ahead
 
--- The HEADERS frame was taken, and no byte after it: the run of what is there now is the one that
--- the opening has.
+-- The HEADERS frame was taken, and no byte after it: the run of the bytes held and ahead is the one
+-- after the frame.
 pub record TakesRequest (first next : Bool) (old new : Held) (f : Content) (a b : Source) : Type
     0 where
   pub opening : opening_of first old a ≡ Request (payload_in f) (run_of RemoteBi next new b)
   pub headers : f ≡ HeadersOf (payload_in f)
   pub takes : StreamTakesFrame RemoteBi first next old new f a b
 
--- the stream opens as before
+-- what opens the stream is unchanged
 abbrev pub SameOpening : Bool → Bool → Held → Held → Source → Source → Type 0
 SameOpening first next old new a b = opening_of next new b ≡ opening_of first old a
 
@@ -103,26 +103,26 @@ SkipsReserved first next old new a b =
     × (payload : List ℕ)
     × StreamTakesFrame RemoteBi first next old new (ExerciseOf number payload) a b
 
--- a frame of a reserved or unknown type was skipped; or 4096 bytes of the payload of an unknown one
+-- a frame of a reserved or unknown type was skipped, or 4096 payload bytes of an unknown one
 pub record SkipsFrame (first next : Bool) (old new : Held) (a b : Source) : Type 0 where
   pub opening : SameOpening first next old new a b
   pub size : size_of new b < size_of old a
   pub skipped : PassesUnknown first next old new a b ⊎ SkipsReserved first next old new a b
 
--- the stream ends so before a frame opens it
+-- the stream ends with this error before a frame opens it
 pub record FailsSo (o : Opening) (x : IoReadError) : Type 0 where
   pub ending : Ending
   pub opening : o ≡ Nothing ending
   pub fault : IsStreamFault x ending
 
--- a DATA frame that the rule of the stream allows was taken, and no byte after it
+-- a DATA frame was taken, and no byte after it, and the error is FrameUnexpected
 abbrev pub TakesData : Bool → Bool → Held → Held → IoReadError → Source → Source → Type 0
 TakesData first next old new x a b =
     (x ≡ stream.H3 FrameUnexpected)
     × ((payload : List ℕ) × StreamTakesFrame RemoteBi first next old new (DataOf payload) a b)
 
--- No frame opens the stream, which has this fault. What decided is taken completely, and no byte
--- after it; if the bytes are too few, all received are held.
+-- No frame opens the stream, and this is its error. An invalid frame or head was taken completely,
+-- and no byte after it; if the bytes are too few, all bytes received are held.
 pub record FailsToOpen (first next : Bool) (old new : Held) (x : IoReadError) (a b : Source) : Type
     0 where
   pub fails : FailsSo (opening_of first old a) x
@@ -132,6 +132,7 @@ pub record FailsToOpen (first next : Bool) (old new : Held) (x : IoReadError) (a
   pub place : SourceIsAfter (front_held old a.ahead) old new a b
   pub dry : IsDry x b
 
+-- the effect of one poll, by its result, on the state and on the model of the source
 abbrev pub BiAcceptPolled : BiAccepted → Bool → Held → Source → Source → Type 0
 BiAcceptPolled (accepted.WebTransport s) first old a b = TakesSession first old (session_of s) a b
 BiAcceptPolled (accepted.Request s reading f) first old a b =
@@ -149,17 +150,18 @@ BiAcceptPolled (accepted.NoMemory p) first old a b =
 BiAcceptPolled (accepted.Failed p x) first old a b =
     FailsToOpen first (first_of p.stream) old p.reading x a b
 
--- how often the source was not ready
+-- how often the source was not ready: once if the result is Pending, and otherwise never
 abbrev pub bi_accept_waits : BiAccepted → ℕ
 bi_accept_waits (accepted.Pending p) = 1
 bi_accept_waits other = 0
 
+-- the count of waits rose by one if the result is Pending, and otherwise not
 abbrev pub BiAcceptWaits : BiAccepted → Source → Source → Type 0
 BiAcceptWaits result a b = b.waits ≡ a.waits + bi_accept_waits result
 
 -- ---- of every source, also of one without a model
 
--- a frame of a reserved type was given completely
+-- the bytes held followed by those given are a frame of a reserved type
 abbrev pub ReservedGiven : Bool → Held → Held → Type 0
 ReservedGiven next old new =
     (number : ℕ)
@@ -167,13 +169,15 @@ ReservedGiven next old new =
     × Answered old new (Framed (ExerciseOf number payload))
     × (next ≡ false)
 
--- a DATA frame was given completely
+-- the bytes held followed by those given are a DATA frame, and the error is FrameUnexpected
 abbrev pub DataGiven : ErrorCode → Bool → Held → Held → Type 0
 DataGiven c next old new =
     (c ≡ FrameUnexpected)
     × ((payload : List ℕ) × Answered old new (Framed (DataOf payload)))
     × (next ≡ false)
 
+-- the effect of one poll, by its result, on the state; this holds for every source, even without a
+-- model
 abbrev pub BiAcceptGiven : BiAccepted → Bool → Held → Type 0
 BiAcceptGiven (accepted.WebTransport s) first old =
     Answered old new_held (Framed (WebTransportOf (session_of s))) × (first ≡ true)
@@ -196,7 +200,7 @@ BiAcceptGiven (accepted.Failed p (stream.IO e)) first old =
 
 -- ---- between polls
 
--- what is held after a poll; a stream of a session has no reading
+-- the reading state after a poll; a stream of a session has none
 abbrev pub held_in : BiAccepted → Held
 held_in (accepted.WebTransport s) = new_held
 held_in (accepted.Request s reading f) = reading
@@ -205,7 +209,7 @@ held_in (accepted.Pending p) = p.reading
 held_in (accepted.NoMemory p) = p.reading
 held_in (accepted.Failed p x) = p.reading
 
--- What a state makes of a frame that the stream's rule allows, which is no SETTINGS frame
+-- The result for a frame that the stream allows, which is not a SETTINGS frame.
 abbrev pub Judges : BiAccepted → BiAccepting → Content → Type 0
 Judges (accepted.WebTransport s) old f = f ≡ WebTransportOf (session_of s)
 Judges (accepted.Request s reading g) old f =

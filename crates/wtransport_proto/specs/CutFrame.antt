@@ -1,10 +1,11 @@
--- How many bytes of an unknown frame are missing.
+-- The number of missing payload bytes of an unknown frame.
 use Rattle.std.specs.Prelude.{ℕ, ◌-◌, List, length, Option, Some, None}
 use Rattle.wtp_core.specs.Varint.{number_at}
 use Rattle.wtp_wire.specs.declared.frame.kind.FrameKind.{FrameKind}
 use Rattle.wtp_wire.specs.Kind.{kind_of}
 
--- of a payload of this size after a type of this kind or of none, if this many bytes are there
+-- the number of missing bytes of a payload of this size, of which this many are there; 0 for a
+-- known type
 abbrev pub due_of : Option FrameKind → ℕ → ℕ → ℕ
 due_of None size there = size - there
 due_of (Some kind) size there = 0
@@ -17,7 +18,7 @@ abbrev pub due_first : Option (ℕ × List ℕ) → ℕ
 due_first None = 0
 due_first (Some id) = due_second (kind_of id.0) (number_at id.1)
 
--- the missing payload bytes of the unknown frame that the bytes start with; 0 if they start with
--- none
+-- the number of missing payload bytes of the unknown frame that the bytes start with, or 0 if they
+-- do not start with one
 unfoldable pub due_in : List ℕ → ℕ
 due_in bytes = due_first (number_at bytes)

@@ -1,4 +1,4 @@
--- Driving a stream: polls of it until one has to wait, fails, or enough were made.
+-- Driving a stream: polling it until a poll waits or fails, or until a number of polls is reached.
 use Rattle.std.specs.Prelude.{◌≡◌, ℕ, ◌+◌, ◌*◌, ◌<◌, ◌≤◌, ◌⊎◌, Bool, false, List, [], ◌∷◌, ◌++◌, Err}
 use Rattle.wtp_core.specs.declared.bytes.polled.Polled.TheVariants.{Ready, Pending, NoMemory}
 use Rattle.wtp_core.specs.Source.{Source}
@@ -14,36 +14,35 @@ use Rattle.wtransport_proto.specs.Place.{place_of, SamePlace, StopsAt}
 use Rattle.wtransport_proto.specs.StreamPolling.{EndsSo, IsDry}
 use Rattle.wtransport_proto.specs.Polls.{TakesSome, Series}
 
--- A stream changed in nothing but whether its next frame is the first, and that permanently.
+-- A stream changed only in whether its next frame is the first one, and only from true to false.
 pub record ChangesFirst {X : Type 0} (first : X → Bool) (old new : X) : Type 0 where
   pub same : first new ≡ first old → new ≡ old
   pub for_good : first old ≡ false → first new ≡ false
 
--- these frames, and then a run
+-- these frames, followed by a run
 abbrev pub after : List Content → Run → Run
 after fs r = record { frames = fs ++ r.frames; ending = r.ending }
 
--- The run from before is these frames, and then the run from now.
+-- The run before is these frames, followed by the run after.
 abbrev pub RunsOn : Role → Bool → Bool → Held → Held → List Content → Source → Source → Type 0
 RunsOn role first next old new fs a b = run_of role first old a ≡ after fs (run_of role next new b)
 
--- what this many polls did to a source with a model: no more bytes are held and ahead than before
+-- this many polls made at most 4112 calls each, and the number of bytes held and ahead did not grow
 pub record DriveKeeps (old new : Held) (polls : ℕ) (a b : Source) : Type 0 where
   pub size : size_of new b ≤ size_of old a
   pub asks : Asks (4112 * polls) a b
 
--- The place where the run ends is the same as before: no byte was lost, not even one after the
--- fault that follows.
+-- The position where the run ends is unchanged: no byte was lost, not even one after a later error.
 abbrev pub KeepsPlace : Role → Bool → Bool → Held → Held → Source → Source → Type 0
 KeepsPlace role first next old new a b =
     SamePlace (place_of role first old a) (place_of role next new b)
 
--- What a drive did that produced the frames fs. If it ended, reading, source and flag are as the
--- fault's poll leaves them, at the place where the run of what was there ends.
+-- The effect of a drive that output the frames fs, by its result. If it ended, the reading state,
+-- the source and the flag are as the failed poll leaves them, at the position where the run ends.
 --
--- `Spent` comes after all polls, and each of them took a frame, or passed an unknown one or 4096
--- bytes of it. Every other result comes after fewer such polls, and then the one that says so; but
--- there was no such poll if allocation failed for a place in the list.
+-- `Spent`: all polls were made, and each of them took a frame, or skipped an unknown frame or 4096
+-- bytes of it. Every other result: fewer such polls were made, followed by one with that result. If
+-- allocation failed for the list of frames, there was no such last poll.
 abbrev pub DriveDid :
     Role → Driven → Bool → Bool → Held → Held → List Content → ℕ → Source → Source → Type 0
 DriveDid role (driven.Ended x) first next old new fs polls a b =
@@ -73,7 +72,7 @@ DriveDid role driven.NoMemory first next old new fs polls a b =
     × (Series TakesSome role fs n [] first next old new a b
     ⊎ Series TakesSome role fs n (NoMemory ∷ []) first next old new a b))
 
--- what a drive did so far, in this many polls that each took something
+-- the effect of a drive so far, in this many polls that each took or skipped something
 pub record Drove (role : Role) (first next : Bool) (old new : Held) (fs : List Content) (polls : ℕ)
     (a b : Source) : Type 0 where
   pub run : RunsOn role first next old new fs a b

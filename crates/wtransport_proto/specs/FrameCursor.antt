@@ -1,4 +1,4 @@
--- Reading frames from bytes that the caller holds.
+-- Reading frames from bytes owned by the caller.
 use Rattle.std.specs.Prelude.{◌≡◌, ◌≢◌, ℕ, ◌-◌, ◌<◌, ◌≤◌, nat_lt, if◌then◌else◌, Bool, false, List, [], ◌++◌, Some, None, Result, Ok, Err, length, take, drop}
 use Rattle.wtp_core.specs.declared.error.ErrorCode.{ErrorCode}
 use Rattle.wtp_core.specs.declared.error.ErrorCode.TheVariants.{Id, ExcessiveLoad}
@@ -15,38 +15,37 @@ use Rattle.wtransport_proto.specs.declared.stream.cursor.FramePlace.{FramePlace}
 use Rattle.wtransport_proto.specs.declared.stream.cursor.CursorStep.{CursorStep}
 use Rattle.wtransport_proto.specs.declared.stream.cursor.CursorStep.TheVariants.{Frame, More, Fault}
 
--- what a cursor holds: no bytes, and in their place the payload bytes of an unknown frame that are
--- still to be skipped
+-- a cursor as a reading state: it holds no bytes, only the number of payload bytes of an unknown
+-- frame left to skip
 abbrev pub held_by : FrameCursor → Held
 held_by c = record { taken = []; due = c.due }
 
--- the run of the bytes from a cursor on
+-- the run of the bytes at a cursor
 abbrev pub run_from : FrameCursor → List ℕ → Tail → Run
 run_from c bytes tail = run_held (role_of c.role) c.first (held_by c) bytes tail
 
--- the bytes from the first frame on that is not skipped
+-- the bytes from the first frame on that is not unknown
 abbrev pub known_from : FrameCursor → List ℕ → List ℕ
 known_from c bytes = past_unknown (drop c.due bytes)
 
 -- ---- a frame
 
--- the payload at a place
+-- the payload at a position
 abbrev pub payload_at : FramePlace → List ℕ → List ℕ
 payload_at p bytes = take (p.end - p.start) (drop p.start bytes)
 
--- the frame at a place
+-- the frame at a position
 abbrev pub frame_at : FramePlace → List ℕ → Content
 frame_at p bytes = content p.kind (payload_at p bytes) p.session_id
 
--- this is the place of a frame that ends here
+-- this is the position of a frame that ends at this offset
 pub record IsPlaceOf (p : FramePlace) (f : Content) (n : ℕ) : Type 0 where
   pub kind : p.kind ≡ kind_in f
   pub session : p.session_id ≡ session_in f
   pub start : p.start ≡ n - length (payload_in f)
   pub end : p.end ≡ n
 
--- The frame at this place is the first one that is not skipped, and the stream allows it. It ends
--- where the place does.
+-- The frame at this position is the first one that is not unknown, and the stream allows it.
 pub record TakesFrame (p : FramePlace) (old : FrameCursor) (bytes : List ℕ) (new : FrameCursor) :
     Type 0 where
   pub within : p.end ≤ length bytes
@@ -57,13 +56,13 @@ pub record TakesFrame (p : FramePlace) (old : FrameCursor) (bytes : List ℕ) (n
 
 -- ---- more bytes
 
--- how many payload bytes of an unknown frame are still to be skipped after these bytes
+-- the number of payload bytes of an unknown frame left to skip after these bytes
 abbrev pub due_after : FrameCursor → List ℕ → ℕ
 due_after c bytes =
     if nat_lt (length bytes) c.due then c.due - length bytes else due_in (known_from c bytes)
 
--- The first frame that is not skipped is not complete, nor is it a fault. The bytes from there on
--- are left, which are few; or none is, if they are of an unknown frame.
+-- The first frame that is not unknown is incomplete, and not an error. The bytes from there on are
+-- left, at most 4111; or none, if they are those of an unknown frame.
 pub record WantsMore (n : ℕ) (old : FrameCursor) (bytes : List ℕ) (new : FrameCursor) : Type 0 where
   pub within : n ≤ length bytes
   pub short : front (known_from old bytes) ≡ Short
@@ -75,7 +74,7 @@ pub record WantsMore (n : ℕ) (old : FrameCursor) (bytes : List ℕ) (new : Fra
 
 -- ---- a fault
 
--- the first frame that is not skipped has this fault
+-- the first frame that is not unknown has this error
 abbrev pub IsFault : Role → Bool → Front → ErrorCode → Type 0
 IsFault role first (Framed f rest) c = rule role first (kind_in f) ≡ Some c
 IsFault role first (Unknown rest) c = ⊥
@@ -85,21 +84,21 @@ IsFault role first Short c = ⊥
 
 -- ---- one call
 
--- by the first frame that is not skipped
+-- the effect of one call, given the first frame that is not unknown
 abbrev pub StepIs : CursorStep → FrameCursor → List ℕ → FrameCursor → Type 0
 StepIs (Frame p) old bytes new = TakesFrame p old bytes new
 StepIs (More n) old bytes new = WantsMore n old bytes new
 StepIs (Fault c) old bytes new =
     IsFault (role_of old.role) old.first (front (known_from old bytes)) c × (new ≡ old)
 
--- whatever follows these bytes, and however those end, the run of all is made so from the run of
--- the rest
+-- for all bytes that follow, and however they end, the run of all bytes is `made` from the run of
+-- the bytes left
 abbrev pub Continues : FrameCursor → List ℕ → FrameCursor → List ℕ → (Run → Run) → Type 0
 Continues old bytes new rest made =
     (more : List ℕ) (tail : Tail) → tail ≢ MayGoOn
     → run_from old (bytes ++ more) tail ≡ made (run_from new (rest ++ more) tail)
 
--- by the run: the bytes that are consumed are not wanted again
+-- the effect of one call on the run, which shows that the consumed bytes are not needed again
 abbrev pub RunGoesOn : CursorStep → FrameCursor → List ℕ → FrameCursor → Type 0
 RunGoesOn (Frame p) old bytes new =
     Continues old bytes new (drop p.end bytes) (λ r. follows (frame_at p bytes) r)
@@ -108,7 +107,7 @@ RunGoesOn (Fault c) old bytes new = Continues old bytes new bytes (λ r. ends (H
 
 -- ---- the end of the stream
 
--- the ending of the run where the stream ends so
+-- the ending of the run if the stream ends with this result
 abbrev pub ending_of : Result (Unit {0}) ErrorCode → Ending
 ending_of (Ok u) = ImmediateFin
 ending_of (Err c) = H3 c

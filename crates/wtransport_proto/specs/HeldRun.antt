@@ -1,8 +1,8 @@
--- The run of what a reading holds and of the bytes ahead.
+-- The run of a reading state and of the bytes ahead.
 --
--- It is the run of the bytes held followed by those ahead; if payload bytes of an unknown frame are
--- still to be skipped in place of bytes held, it is the run of the bytes after those. The law
--- `run_held_by_bytes` states exactly that.
+-- It is the run of the bytes held followed by the bytes ahead. If payload bytes of an unknown frame
+-- are left to skip, it is the run of the bytes after those. The law `run_held_by_bytes` states
+-- exactly this.
 use Rattle.std.specs.Prelude.{ℕ, ◌+◌, ◌==◌, Bool, false, List, ◌++◌, length, if◌then◌else◌}
 use Rattle.wtp_core.specs.declared.error.ErrorCode.TheVariants.{Id, ExcessiveLoad, Frame}
 use Rattle.wtp_core.specs.Source.{Source, AtEnd, AtReset, AtDisconnection}
@@ -19,14 +19,14 @@ tail_of AtEnd = Ended
 tail_of AtReset = WasReset
 tail_of AtDisconnection = Lost
 
--- the ending if the bytes are too few for a frame, and this many are there
+-- the ending if there are this many bytes and they are too few for a frame
 abbrev pub stop_of : ℕ → Tail → Ending
 stop_of n MayGoOn = Open n
 stop_of n Ended = if n == 0 then ImmediateFin else H3 Frame
 stop_of n WasReset = Reset
 stop_of n Lost = NotConnected
 
--- the run by the first frame
+-- the run, given the first frame
 abbrev pub run_by : Role → Bool → Tail → ℕ → Front → Run
 run_by role first tail n (Framed f rest) =
     judged (rule role first (kind_in f)) f (run role false rest tail)
@@ -35,15 +35,15 @@ run_by role first tail n (BadId rest) = ends (H3 Id)
 run_by role first tail n (TooBig rest) = ends (H3 ExcessiveLoad)
 run_by role first tail n Short = ends (stop_of n tail)
 
--- the number of bytes held and ahead; those still to be skipped count too
+-- the number of bytes held and ahead, plus the number left to skip
 abbrev pub count_held : Held → List ℕ → ℕ
 count_held h ahead = h.due + length (h.taken ++ ahead)
 
--- the run of what is held and of the bytes ahead
+-- the run of the bytes held and ahead
 unfoldable pub run_held : Role → Bool → Held → List ℕ → Tail → Run
 run_held role first h ahead tail = run_by role first tail (count_held h ahead) (front_held h ahead)
 
--- the same over a source
+-- the same for the bytes ahead in a source
 abbrev pub run_of : Role → Bool → Held → Source → Run
 run_of role first h s = run_held role first h s.ahead (tail_of s.ending)
 

@@ -1,4 +1,4 @@
--- Polls of a stream, one after another, each of which goes on where the one before it stopped.
+-- Consecutive polls of a stream, each of which continues where the previous one stopped.
 use Rattle.std.specs.Prelude.{◌≡◌, ℕ, Bool, List, [], ◌∷◌, ◌++◌, length, Result, Ok, Err}
 use Rattle.std.specs.List.{All}
 use Rattle.wtp_core.specs.declared.bytes.polled.Polled.{Polled}
@@ -10,10 +10,11 @@ use Rattle.wtp_wire.specs.Rule.{Role}
 use Rattle.wtransport_proto.specs.declared.stream.polled.IoReadError.{IoReadError}
 use Rattle.wtransport_proto.specs.StreamPolling.{StreamPolled}
 
--- In these, first, old and a are before the polls, and next, new and b after them: whether the next
--- frame would be the first of its stream, what the reading holds, and the source.
+-- In these definitions, first, old and a are the state before the polls, and next, new and b the
+-- state after them: whether the next frame is the first one of its stream, the reading state, and
+-- the source.
 
--- these are the results of the polls, in order; without any, nothing has changed
+-- consecutive polls had these results, in order; without polls, nothing changes
 abbrev pub Polls :
     Role → List (Polled (Result Content IoReadError)) → Bool → Bool → Held → Held → Source → Source
     → Type 0
@@ -34,7 +35,7 @@ frames_in (Pending ∷ xs) = frames_in xs
 frames_in (Again ∷ xs) = frames_in xs
 frames_in (NoMemory ∷ xs) = frames_in xs
 
--- the poll took a frame, or passed an unknown one or 4096 bytes of it
+-- the poll took a frame, or skipped an unknown frame or 4096 bytes of it
 abbrev pub TakesSome : Polled (Result Content IoReadError) → Type 0
 TakesSome (Ready (Ok f)) = Unit {0}
 TakesSome (Ready (Err x)) = ⊥
@@ -42,7 +43,7 @@ TakesSome Pending = ⊥
 TakesSome Again = Unit {0}
 TakesSome NoMemory = ⊥
 
--- the poll waited, or passed an unknown frame or 4096 bytes of it
+-- the poll waited, or skipped an unknown frame or 4096 bytes of it
 abbrev pub GivesNone : Polled (Result Content IoReadError) → Type 0
 GivesNone (Ready (Ok f)) = ⊥
 GivesNone (Ready (Err x)) = ⊥
@@ -50,8 +51,8 @@ GivesNone Pending = Unit {0}
 GivesNone Again = Unit {0}
 GivesNone NoMemory = ⊥
 
--- this many polls, each of which was such a one, and then one with each of the results `last`;
--- those before it returned the frames fs
+-- count polls, each with the property Each, returned the frames fs; polls with the results `last`
+-- followed
 pub record Series (Each : Polled (Result Content IoReadError) → Type 0) (role : Role)
     (fs : List Content) (count : ℕ) (last : List (Polled (Result Content IoReadError)))
     (first next : Bool) (old new : Held) (a b : Source) : Type 0 where

@@ -1,4 +1,4 @@
--- The error codes of the faults of streams and of journeys.
+-- The error codes of stream errors and of failed exchanges.
 use Rattle.std.specs.Prelude.{Option, Some, None}
 use Rattle.wtp_core.specs.declared.error.ErrorCode.{ErrorCode}
 use Rattle.wtp_core.specs.declared.error.ErrorCode.TheVariants.{FrameUnexpected}
@@ -11,18 +11,20 @@ use Rattle.wtransport_proto.specs.declared.journey.ReceiveError.TheVariants.{Str
 use Rattle.wtransport_proto.specs.declared.stream.polled.IoReadError.{IoReadError}
 use Rattle.wtransport_proto.specs.declared.stream.polled.IoReadError.TheVariants.{H3, IO}
 
--- the code of a fault by the rules of a stream
+-- the error code of a stream error, or None if the source gave no more bytes
 abbrev pub stream_code : IoReadError → Option ErrorCode
 stream_code (H3 code) = Some code
 stream_code (IO fault) = None
 
--- the code of what was received in place of a header map
+-- the error code of what was received instead of a header map, or None if nothing invalid was
+-- received
 abbrev pub receive_code : ReceiveError → Option ErrorCode
 receive_code (Stream fault) = stream_code fault
 receive_code (Section refused) = code_in refused
 receive_code (OtherKind Data) = Some FrameUnexpected  -- RFC 9114, section 4.1
 receive_code _ = None
 
+-- the error code of a failed exchange, or None if nothing invalid was received
 abbrev pub journey_code : JourneyError → Option ErrorCode
 journey_code (Receive error) = receive_code error
 journey_code _ = None

@@ -1,4 +1,4 @@
--- Writing a frame to a stream, poll by poll.
+-- Polled writing of a frame to a stream.
 use Rattle.std.specs.Prelude.{◌≡◌, ◌≢◌, ℕ, List, false, Result, Ok, Err}
 use Rattle.wtp_core.specs.declared.bytes.polled.Polled.{Polled}
 use Rattle.wtp_core.specs.declared.bytes.polled.Polled.TheVariants.{Ready, Pending, Again, NoMemory}
@@ -13,21 +13,20 @@ use Rattle.wtransport_proto.specs.declared.stream.types.BiLocal.{BiLocal}
 use Rattle.wtransport_proto.specs.declared.stream.types.H3.{H3}
 use Rattle.wtransport_proto.specs.Streams.{can_upgrade}
 
--- s is a frame that can exist, of another kind than WebTransport; the type of an exercise frame is
--- one of those that are reserved
+-- s is a valid frame of another kind than WebTransport; an exercise frame has a reserved type
 pub record IsPlainWire (s : List ℕ) : Type 0 where
   pub frame : Content
   pub known : IsKnown (kind_in frame)
   pub plain : kind_in frame ≢ WebTransport
   pub bytes : s ≡ wire frame
 
--- It writes such a frame. That there is one is a fact with one proof, so that a struct may keep it
--- for a loop of polls.
+-- The state writes such a frame. This is a proposition with a unique proof, so that a struct can
+-- store it across polls.
 abbrev pub WritesPlain : Writing → Type 0
 WritesPlain w = ∥ IsPlainWire w.bytes ∥₁
 
--- a stream to which a complete frame was written cannot be upgraded any more; no other result
--- changes it
+-- the stream after a poll: if a complete frame was written, it can no longer be upgraded; otherwise
+-- it is unchanged
 abbrev pub Begun :
     {U : Type 0} → Polled (Result U IoWriteError) → Stream BiLocal (H3 (Unit {0}))
     → Stream BiLocal (H3 (Unit {0})) → Type 0

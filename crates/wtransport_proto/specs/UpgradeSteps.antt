@@ -1,4 +1,4 @@
--- Upgrading a stream, poll by poll.
+-- Polled upgrades of streams.
 use Rattle.std.specs.Prelude.{◌≡◌, ◌≢◌, ◌⊎◌, ℕ, ◌+◌, ◌<◌, List, [], ◌++◌, length, drop}
 use Rattle.wtp_core.specs.declared.bytes.polled.Stepped.{Stepped}
 use Rattle.wtp_core.specs.declared.bytes.polled.Stepped.TheVariants.{Done, Pending, NoMemory, Failed}
@@ -30,10 +30,10 @@ use Rattle.wtransport_proto.specs.Streams.{header_of, session_of}
 
 -- ---- upgrades that are written
 
--- What one poll did to a sink with a model, if each returned state holds such a writing: the sink's
--- list grew by the bytes from those sent before up to those sent now, and by all of them if it is
--- done. Then no count changed; if it waited, stopped or was lost, that count rose by exactly one,
--- and the others stayed.
+-- The effect of one poll on the model of a sink: it took the bytes sent between the old state and
+-- the returned one, or all remaining bytes if the upgrade is done. Pending, Stopped and
+-- NotConnected raise their own count by exactly one, and no other count changed. `writing` returns
+-- the write state of a returned state.
 abbrev pub StepSends :
     {P T : Type 0} → (P → Writing) → Stepped P T IoWriteError → Writing → Sink → Sink → Type 0
 StepSends writing (Done t) old a b = Took a b (drop old.sent old.bytes) 0 0 0
@@ -42,12 +42,12 @@ StepSends writing (NoMemory p) old a b = Took a b (between old (writing p)) 0 0 
 StepSends writing (Failed p write.Stopped) old a b = Took a b (between old (writing p)) 0 1 0
 StepSends writing (Failed p write.NotConnected) old a b = Took a b (between old (writing p)) 0 0 1
 
--- new has sent no less than old, and not all
+-- new has sent at least as many bytes as old, but not all
 pub record SentPart (old new : Writing) : Type 0 where
   pub on : GoesOn old new
   pub part : new.sent < length new.bytes
 
--- what a state of an upgrade to a stream of a session writes
+-- the write state of an upgrade to a stream of a session
 abbrev pub bi_writing : BiUpgrading → Writing
 bi_writing u = u.writing
 
@@ -55,14 +55,15 @@ abbrev pub BiGoesOn : BiUpgrading → BiUpgrading → Type 0
 BiGoesOn old new =
     (new.stream ≡ old.stream) × (new.session_id ≡ old.session_id) × SentPart old.writing new.writing
 
--- This holds of every sink, also of one without a model.
+-- The returned state or stream, by the result of one poll. This holds for every sink, even without
+-- a model.
 abbrev pub BiStepped : Stepped BiUpgrading (Stream BiLocal WT) IoWriteError → BiUpgrading → Type 0
 BiStepped (Done s) old = session_of s ≡ old.session_id
 BiStepped (Pending p) old = BiGoesOn old p
 BiStepped (NoMemory p) old = BiGoesOn old p
 BiStepped (Failed p e) old = BiGoesOn old p
 
--- what a state of an upgrade by a header writes
+-- the write state of an upgrade with a header
 abbrev pub uni_writing : UniUpgrading → Writing
 uni_writing u = u.writing
 
@@ -70,7 +71,8 @@ abbrev pub UniGoesOn : UniUpgrading → UniUpgrading → Type 0
 UniGoesOn old new =
     (new.stream ≡ old.stream) × (new.header ≡ old.header) × SentPart old.writing new.writing
 
--- This holds of every sink, also of one without a model.
+-- The returned state or stream, by the result of one poll. This holds for every sink, even without
+-- a model.
 abbrev pub UniStepped :
     Stepped UniUpgrading (Stream UniLocal (H3 Header)) IoWriteError → UniUpgrading → Type 0
 UniStepped (Done s) old = header_of s ≡ old.header
@@ -80,16 +82,17 @@ UniStepped (Failed p e) old = UniGoesOn old p
 
 -- ---- the upgrade that is read
 
--- In these, old and new are the bytes that the state holds before and after one poll.
+-- In these definitions, old and new are the bytes held before and after one poll.
 
--- an unknown type, or an invalid session ID; or the source ended inside the header
+-- the error code is that of an unknown type, of an invalid session ID, or of a source that ended
+-- inside the header
 abbrev pub HeaderFault : ErrorCode → List ℕ → List ℕ → Source → Source → Type 0
 HeaderFault c old new a b =
     ((c ≡ StreamCreation) × HeaderDecided old new a b Unknown)
     ⊎ ((c ≡ Id) × HeaderDecided old new a b BadId)
     ⊎ ((c ≡ Frame) × (header_front (old ++ a.ahead) ≡ Short) × Stops old new read.UnexpectedFin a b)
 
--- what one poll did to a source with a model
+-- the effect of one poll, by its result, on the bytes held and on the model of the source
 abbrev pub AcceptPolled :
     Stepped UniAccepting (Stream UniRemote (H3 Header)) IoReadError → List ℕ → Source → Source
     → Type 0
@@ -100,7 +103,7 @@ AcceptPolled (Failed p (stream.H3 c)) old a b = HeaderFault c old p.reading a b
 AcceptPolled (Failed p (stream.IO e)) old a b =
     (e ≢ read.UnexpectedFin) × (header_front (old ++ a.ahead) ≡ Short) × Stops old p.reading e a b
 
--- how often the source was not ready
+-- how often the source was not ready: once if the result is Pending, and otherwise never
 abbrev pub accept_waits : Stepped UniAccepting (Stream UniRemote (H3 Header)) IoReadError → ℕ
 accept_waits (Pending p) = 1
 accept_waits other = 0
@@ -115,7 +118,8 @@ HeaderFaultGiven c old new =
     ⊎ ((c ≡ Id) × HeaderAnswered old new BadId)
     ⊎ ((c ≡ Frame) × Grew old new)
 
--- This holds of every source, also of one without a model.
+-- The effect of one poll, by its result, on the state. This holds for every source, even without a
+-- model.
 abbrev pub AcceptGiven :
     Stepped UniAccepting (Stream UniRemote (H3 Header)) IoReadError → UniAccepting → Type 0
 AcceptGiven (Done s) old =

@@ -11,8 +11,8 @@ use Rattle.wtransport_proto.specs.declared.stream.uniremote.MaybeUpgradeH3.{Mayb
 use Rattle.wtransport_proto.specs.declared.stream.uniremote.MaybeUpgradeH3.TheVariants as maybe
 use Rattle.wtransport_proto.specs.Streams.{header_of}
 
--- The result if the stream's bytes start so; if they are not too few, left is what follows those
--- that decided.
+-- The result of an upgrade, given what the stream's bytes start with. Unless the bytes are too few,
+-- left are the bytes after it.
 abbrev pub AnswersUpgrade :
     HeaderFront → Stream UniRemote Quic → Result MaybeUpgradeH3 ErrorCode → List ℕ → Type 0
 AnswersUpgrade front old (Ok (maybe.H3 s)) left = front ≡ Headed (header_of s) left
@@ -20,7 +20,7 @@ AnswersUpgrade front old (Ok (maybe.Quic s)) left = (front ≡ Short) × (s ≡ 
 AnswersUpgrade front old (Err c) left =
     ((c ≡ StreamCreation) × (front ≡ Unknown left)) ⊎ ((c ≡ Id) × (front ≡ BadId left))
 
--- the writer's result, if the stream was upgraded, or returned with the writer's error
+-- the result of the writer: Ok if the stream was upgraded, or the error returned with the stream
 abbrev pub write_answer : {A B : Type 0} → Result A (B × PutError) → Result (Unit {0}) PutError
 write_answer (Ok upgraded) = Ok tt
 write_answer (Err e) = Err e.1

@@ -1,4 +1,4 @@
-//! The error codes of the faults of streams and of journeys.
+//! The error codes of stream errors and of failed exchanges.
 ghost use Rattle.std.specs.Prelude.{◌≡◌};
 ghost use Rattle.wtransport_proto.specs.StreamCodes.{stream_code, receive_code, journey_code};
 
@@ -20,11 +20,11 @@ impl IoReadError {
 }
 
 impl ReceiveError {
-    /// Returns the error code of what was received. A DATA frame before the HEADERS frame of a
-    /// message is not permitted (RFC 9114, section 4.1). Not in the Rust crate.
+    /// Returns the error code if what was received is invalid. A DATA frame before the HEADERS
+    /// frame of a message is not permitted (RFC 9114, section 4.1). Not in the Rust crate.
     ///
-    /// Returns `None` if nothing is wrong with it: the source was not ready or gave no more bytes,
-    /// memory allocation failed, or the frame is of another kind.
+    /// Returns `None` if nothing invalid was received: the source was not ready or gave no more
+    /// bytes, memory allocation failed, or the frame is of another kind.
     pub fn code(&self) -> Option<ErrorCode>
         ensures { result ≡ receive_code self.now }
     {
@@ -38,8 +38,8 @@ impl ReceiveError {
 }
 
 impl JourneyError {
-    /// Returns the error code of what was received, as [`ReceiveError::code`] does, or `None` if
-    /// the journey ended before. Not in the Rust crate.
+    /// Returns the error code if what was received is invalid, as [`ReceiveError::code`] does, or
+    /// `None` if the exchange ended before anything was received. Not in the Rust crate.
     pub fn code(&self) -> Option<ErrorCode>
         ensures { result ≡ journey_code self.now }
     {

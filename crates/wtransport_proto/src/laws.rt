@@ -1,5 +1,6 @@
-//! Laws of the definitions that the contracts of this crate cite. Each function does nothing: its
-//! contract is the law. The laws of the crates below are in [`base`], [`wire`] and [`fields`].
+//! Laws of the definitions that the contracts of this crate cite. The contract of each function
+//! states the law; its body is empty. The laws of the crates below are in [`base`], [`wire`] and
+//! [`fields`].
 ghost use Rattle.std.specs.Prelude.{◌≡◌, ◌≢◌, ◌<◌, ◌≤◌, ◌++◌, ℕ, List, Bool, false, Some, None, Ok, length, drop};
 ghost use Rattle.wtp_core.specs.declared.error.ErrorCode.{ErrorCode};
 ghost use Rattle.wtp_core.specs.declared.error.ErrorCode.TheVariants.{Id, ExcessiveLoad};
@@ -24,7 +25,7 @@ pub mod cursor;
 pub mod opening;
 pub mod place;
 
-/// The run goes by the first frame of the bytes, except for unknown frames.
+/// The run of bytes, given by their first frame if that is not unknown.
 pub fn run_goes_by_front()
     ensures allowed { (role : Role) (first : Bool) (bytes rest : List ℕ) (tail : Tail) (f : Content)
         → front bytes ≡ Framed f rest → rule role first (kind_in f) ≡ None
@@ -40,8 +41,8 @@ pub fn run_goes_by_front()
         → front bytes ≡ Short → run role first bytes tail ≡ ends (run_stop bytes bytes tail) }
 {}
 
-/// An unknown frame is skipped: the run is that of the bytes after it. If the bytes may go on, its
-/// bytes count as left over as long as there was no frame.
+/// An unknown frame is skipped: the run is that of the bytes after it. If more bytes may follow and
+/// the run has no frame, the bytes of the unknown frame count as left over.
 pub fn run_passes_unknown()
     ensures ended { (role : Role) (first : Bool) (bytes rest : List ℕ) (tail : Tail)
         → tail ≢ MayGoOn → front bytes ≡ Unknown rest
@@ -51,7 +52,7 @@ pub fn run_passes_unknown()
         → run role first bytes MayGoOn ≡ counted bytes (run role first rest MayGoOn) }
 {}
 
-/// The bytes after the unknown frames at the start, frame by frame.
+/// The bytes after the unknown frames at the start, given by the first frame.
 pub fn past_unknown_by_front()
     ensures unknown { (bytes rest : List ℕ) → front bytes ≡ Unknown rest
         → past_unknown bytes ≡ past_unknown rest }
@@ -59,7 +60,7 @@ pub fn past_unknown_by_front()
         → past_unknown bytes ≡ bytes }
 {}
 
-/// Only a bidirectional stream that the peer opened distinguishes the first frame from the others.
+/// Only bidirectional streams that the peer opened distinguish the first frame from later ones.
 pub fn only_remote_bi_counts()
     ensures rules { (role : Role) (f g : Bool) (kind : FrameKind) → role ≢ RemoteBi
         → rule role f kind ≡ rule role g kind }
@@ -67,9 +68,9 @@ pub fn only_remote_bi_counts()
         → run role f bytes tail ≡ run role g bytes tail }
 {}
 
-/// The run of what a reading holds and of the bytes ahead: that of the bytes held followed by those
-/// ahead. If payload bytes of an unknown frame are still to be skipped, it is the run of the bytes
-/// after those; with fewer bytes ahead it has no frame.
+/// The run of a reading state and the bytes ahead is that of the bytes held followed by the bytes
+/// ahead. If payload bytes of an unknown frame are left to skip, it is the run of the bytes after
+/// those. If there are fewer bytes ahead, it has no frame.
 pub fn run_held_by_bytes()
     ensures held { (role : Role) (first : Bool) (h : Held) (ahead : List ℕ) (tail : Tail)
         → tail ≢ MayGoOn → h.due ≡ 0
@@ -82,18 +83,18 @@ pub fn run_held_by_bytes()
         → run_held role first h ahead tail ≡ ends (stop_of (count_held h ahead) tail) }
 {}
 
-/// Whole and polled reading agree: the run of bytes that may go on has the frames of the run of the
-/// same bytes with an end. Both end by what those frames leave of the bytes: with the same code,
-/// or, if the bytes are too few, the one is open with exactly these bytes left, and the other stops
-/// there.
+/// Buffered and polled reading agree: the run of bytes after which more may follow has the same
+/// frames as the run of the same bytes with an end. Both endings depend on the bytes after these
+/// frames: they are the same error code; or, if the bytes are too few for a frame, the first run is
+/// open with exactly these bytes left, and the second ends as the stream does.
 pub fn buffered_and_polled_agree()
     ensures { (role : Role) (first : Bool) (bytes : List ℕ) (tail : Tail) → tail ≢ MayGoOn
         → Agrees role first tail bytes (run role first bytes MayGoOn) (run role first bytes tail) }
 {}
 
-/// A header map that is sent completely is read back as the same map: on each bidirectional stream,
-/// the run of the bytes of its frame, followed by any bytes, starts with that frame, and the map of
-/// the frame's section is the map.
+/// A header map that is sent completely is read back as the same map. On every bidirectional
+/// stream, the run of the bytes of its frame, followed by any bytes, starts with that frame, and
+/// decoding the frame's section gives the map.
 pub fn header_run()
     ensures sent { (role : Role) (first : Bool) (m : List Field) (rest : List ℕ) (tail : Tail)
         → role ≢ RemoteUni → length (payload m) ≤ 4096

@@ -1,25 +1,29 @@
 //! The protocol core of WebTransport over HTTP/3, without a network.
 //!
-//! Bytes of streams and datagrams are parsed into frames and exact error codes, and the same things
-//! are written as bytes. A user depends on this crate only: it re-exports the crates below it. In
-//! the order of the protocol:
+//! The crate parses the bytes of streams and datagrams into frames, settings, requests, responses,
+//! capsules and exact error codes, and serializes them again. Users depend on this crate only: it
+//! re-exports the crates below it. The modules, in the order of the protocol:
 //!
-//! - [`bytes`]: streams of a QUIC library as sources and sinks; readers and writers over memory.
-//! - [`stream_header`]: the first bytes of a unidirectional stream, which say what it is for.
-//! - [`stream`]: streams by their kind and state: opened, accepted, upgraded, read and written.
+//! - [`bytes`]: sources and sinks for the streams of a QUIC library; readers and writers over
+//!   memory.
+//! - [`stream_header`]: the first bytes of a unidirectional stream, which determine its purpose.
+//! - [`stream`]: streams, typed by their kind and state: opening, accepting, upgrading, reading and
+//!   writing them.
 //! - [`frame`]: the frames on a stream.
 //! - [`settings`]: the first frame of a control stream.
-//! - [`session`]: the request for a session, and the response, in HEADERS frames.
-//! - [`fields`], [`headers`]: the fields of both, as a list of bytes and as a map of texts.
-//! - [`qpack`], [`huffman`]: how fields are encoded.
+//! - [`session`]: the request for a session and the response, in HEADERS frames.
+//! - [`fields`], [`headers`]: the fields of requests and responses, as a list of bytes and as a map
+//!   of texts.
+//! - [`qpack`], [`huffman`]: the encoding of fields.
 //! - [`datagram`]: the datagrams of a session.
 //! - [`capsule`]: the capsule that closes a session, in DATA frames.
-//! - [`error`]: the codes with which a stream or the connection is closed after a fault.
-//! - [`varint`], [`ids`]: numbers, stream and session IDs, status codes.
-//! - [`journey`]: a frame or a header map that is sent or received in a bounded number of polls.
-//! - [`laws`]: facts about the definitions that the contracts cite, for proofs of a user.
+//! - [`error`]: the error codes with which a stream or the connection is closed.
+//! - [`varint`], [`ids`]: variable-length integers, stream and session IDs, status codes.
+//! - [`journey`]: sending a frame, and sending or receiving a header map, in a bounded number of
+//!   polls.
+//! - [`laws`]: facts about the definitions that the contracts cite, for users' proofs.
 //!
-//! docs/GUIDE.md builds a client and a server step by step.
+//! See docs/GUIDE.md, which builds a client and a server step by step.
 #![tactic(auto)]
 
 pub use wtp_core::{bytes, error, ids, varint};
@@ -31,6 +35,5 @@ pub mod journey;
 pub mod laws;
 pub mod stream;
 
-/// The application protocol that a QUIC connection of WebTransport negotiates (RFC 9114, section
-/// 3.1).
+/// The ALPN protocol ID that a QUIC connection for WebTransport negotiates (RFC 9114, section 3.1).
 pub const WEBTRANSPORT_ALPN: &[u8; 2] = b"h3";

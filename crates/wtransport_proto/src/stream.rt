@@ -1,11 +1,11 @@
-//! Streams of QUIC, HTTP/3 and WebTransport, by their kind and state.
+//! Streams of QUIC, HTTP/3 and WebTransport, typed by their kind and state.
 //!
-//! A stream holds no bytes: it is given a reader or a writer, and reports what may be received on
-//! it.
+//! A stream stores no bytes. Its calls take a reader or a writer, and check what may be received on
+//! the stream.
 //!
-//! A server accepts a bidirectional stream that its peer opened by
-//! [`biremote::StreamBiRemoteH3::accept_async`], which tells a stream of a session from one of a
-//! request, and reads the frames of a request on from there, one by one or by [`drive`].
+//! A server accepts a bidirectional stream that its peer opened with
+//! [`biremote::StreamBiRemoteH3::accept_async`], which distinguishes a stream of a session from
+//! that of a request. It then reads further frames of the request one by one, or with [`drive`].
 ghost use Rattle.std.specs.Prelude.{◌≡◌, is_some};
 ghost use Rattle.wtp_wire.specs.Header.{header_kind, header_session, WebTransportHeader};
 ghost use Rattle.wtp_wire.specs.StreamKind.{has_session};
@@ -51,7 +51,7 @@ impl<K> Stream<K, H3<StreamHeader>> {
         self.stage.header.kind()
     }
 
-    /// Returns the session, if the kind is WebTransport.
+    /// Returns the session ID of a WebTransport stream, and `None` for every other kind.
     pub fn session_id(&self) -> Option<SessionId>
         ensures session { result ≡ header_session (header_of self.now) }
         ensures opens { is_some result ≡ has_session (header_kind (header_of self.now)) }
@@ -59,8 +59,7 @@ impl<K> Stream<K, H3<StreamHeader>> {
         self.stage.header.session_id()
     }
 
-    /// Converts to a stream of the session. Requires that the kind is WebTransport, as `kind`
-    /// reports.
+    /// Converts to a stream of the session. Requires that `kind` returns WebTransport.
     pub fn upgrade(self) -> Stream<K, WT>
         requires { header_kind (header_of self) ≡ StreamKind.WebTransport }
         ensures { header_of self ≡ WebTransportHeader (session_of result) }
@@ -76,7 +75,7 @@ impl<K> Stream<K, H3<StreamHeader>> {
 }
 
 impl<K> Stream<K, WT> {
-    /// Returns the session.
+    /// Returns the session ID.
     pub fn session_id(&self) -> SessionId
         ensures { result ≡ session_of self.now }
     {

@@ -1,4 +1,4 @@
-//! Laws of what opens a bidirectional stream that the peer opened.
+//! Laws of the frame that opens a bidirectional stream of the peer.
 ghost use Rattle.std.specs.Prelude.{◌≡◌, ◌≢◌, ℕ, List, Bool, true, false, Some};
 ghost use Rattle.wtp_core.specs.declared.error.ErrorCode.{ErrorCode};
 ghost use Rattle.wtp_core.specs.declared.error.ErrorCode.TheVariants.{FrameUnexpected, Id, ExcessiveLoad};
@@ -10,10 +10,10 @@ ghost use Rattle.wtp_wire.specs.Run.{Tail, MayGoOn, H3, run};
 ghost use Rattle.wtransport_proto.specs.Accepting.{Session, Request, Nothing, opening};
 ghost use Rattle.wtransport_proto.specs.HeldRun.{stop_of, count_held};
 
-/// What opens a stream, by the first frame of what is held and ahead. A WebTransport frame does as
-/// the first frame of the stream, and a HEADERS frame at any place; frames of reserved and unknown
-/// types are skipped. Nothing does if there is a DATA frame, a frame that the stream refuses, an
-/// invalid session ID or a length that is too big, or if the bytes are too few.
+/// What opens a stream, given by the first frame of the bytes held and ahead. A WebTransport frame
+/// opens the stream if it is the first one, and a HEADERS frame in any position. Frames of reserved
+/// and unknown types are skipped. A DATA frame, a frame that the stream does not allow, an invalid
+/// session ID, a payload that is too big and too few bytes open nothing.
 pub fn opening_by_front()
     ensures session { (h : Held) (ahead rest : List ℕ) (tail : Tail) (id : ℕ)
         → front_held h ahead ≡ Framed (WebTransportOf id) rest

@@ -1,4 +1,4 @@
-//! Laws of the place where a run ends.
+//! Laws of the position where a run ends.
 ghost use Rattle.std.specs.Prelude.{◌≡◌, ◌≢◌, ℕ, List, Bool, false, Some, None};
 ghost use Rattle.wtp_core.specs.declared.error.ErrorCode.{ErrorCode};
 ghost use Rattle.wtp_wire.specs.Content.{Content, kind_in};
@@ -9,8 +9,8 @@ ghost use Rattle.wtp_wire.specs.Run.{Tail, past_unknown, run};
 ghost use Rattle.wtransport_proto.specs.Agreeing.{EndsAfter};
 ghost use Rattle.wtransport_proto.specs.Place.{remainder, remainder_here, place_held, place_here, place_after};
 
-/// What the frames of a run leave of its bytes: if the stream allows the first frame after any
-/// unknown frames, what they leave of the bytes after it; otherwise all of the bytes.
+/// The bytes left after the frames of a run. If the stream allows the first frame after any unknown
+/// frames, they are those left of the bytes after it; otherwise they are all of the bytes.
 pub fn remainder_by_front()
     ensures allowed { (role : Role) (first : Bool) (bytes rest : List ℕ) (f : Content)
         → front (past_unknown bytes) ≡ Framed f rest → rule role first (kind_in f) ≡ None
@@ -24,15 +24,16 @@ pub fn remainder_by_front()
         → remainder role first bytes ≡ remainder_here first bytes }
 {}
 
-/// A run ends by what its frames leave: with the code of a refused frame, of an invalid session ID
-/// or of a payload that is too big, or as the bytes end if they are too few.
+/// The ending of a run depends on the bytes left after its frames: it is the error code of a frame
+/// that is not allowed, of an invalid session ID or of a payload that is too big; or, if the bytes
+/// are too few, the run ends as they end.
 pub fn run_ends_by_remainder()
     ensures { (role : Role) (first : Bool) (bytes : List ℕ) (tail : Tail)
         → EndsAfter role tail (remainder role first bytes) (run role first bytes tail).ending }
 {}
 
-/// The place where the run of what is held and ahead ends, by the first frame of both: frames that
-/// the stream allows and unknown frames are taken, and nothing else is.
+/// The position where the run of the bytes held and ahead ends, given by the first frame: it is
+/// after frames that the stream allows and unknown frames, and before everything else.
 pub fn place_by_front()
     ensures allowed { (role : Role) (first : Bool) (h : Held) (ahead rest : List ℕ) (f : Content)
         → front_held h ahead ≡ Framed f rest → rule role first (kind_in f) ≡ None
@@ -54,7 +55,7 @@ pub fn place_by_front()
         → front_held h ahead ≡ Short → place_held role first h ahead ≡ place_here first h ahead }
 {}
 
-/// If nothing is held, it is the place after the frames of the bytes ahead.
+/// If no byte is held, it is the position after the frames of the bytes ahead.
 pub fn place_by_remainder()
     ensures { (role : Role) (first : Bool) (bytes : List ℕ)
         → place_held role first new_held bytes ≡ place_after (remainder role first bytes) }

@@ -1,4 +1,4 @@
-//! Reading the start of a stream that the peer opened, poll by poll: the header of a unidirectional
+//! Polled reading of the start of a stream that the peer opened: the header of a unidirectional
 //! stream, or the first frame of a bidirectional one.
 use crate::stream::biremote::{StreamBiRemoteH3, StreamBiRemoteWT};
 use crate::stream::polled::stream_fault;
@@ -11,8 +11,8 @@ use wtp_wire::frame::{FrameKind, FrameOwned, FrameReading};
 use wtp_wire::stream_header;
 use wtp_wire::stream_header::HeaderReading;
 
-/// Converts a stream to one of HTTP/3 by the header that is read from it, poll by poll. Not in the
-/// Rust crate.
+/// Reads the header of a unidirectional stream, poll by poll, and converts the stream to one of
+/// HTTP/3. Not in the Rust crate.
 #[derive(Debug, Drop)]
 pub struct UniAccepting {
     pub(crate) stream: StreamUniRemoteQuic,
@@ -24,10 +24,12 @@ impl UniAccepting {
     ghost use Rattle.wtp_core.specs.Polled.{Asks};
     ghost use Rattle.wtransport_proto.specs.UpgradeSteps.{AcceptPolled, AcceptWaits, AcceptGiven};
 
-    /// Reads as far as the source goes, in at most 16 calls, and does not allocate. Returns `Done`
-    /// once the header is read; the source is positioned right after it.
+    /// Reads until the header is complete or the source gives no more. Calls the source at most 16
+    /// times, and does not allocate. Returns `Done` once the header is read; the source is then
+    /// positioned right after it.
     ///
-    /// Every other result returns the state, which holds the bytes received. `Failed` has:
+    /// Every other result returns the state. After `Pending`, or if the source gave no more bytes,
+    /// it holds the bytes received; after an invalid header it is reset. `Failed` contains:
     ///
     /// - `StreamCreation` after an unknown type, which must not be treated as a connection error
     ///   (RFC 9114, section 6.2);
@@ -35,7 +37,7 @@ impl UniAccepting {
     /// - `Frame` if the source ended inside the header, which must not end the connection: a
     ///   unidirectional stream may be closed or reset before its header is complete (RFC 9114,
     ///   section 6.2);
-    /// - or the fault of the source.
+    /// - or the error of the source.
     pub fn poll<S: AsyncRead>(
         mut self,
         source: &mut S,
@@ -66,28 +68,28 @@ impl UniAccepting {
     }
 }
 
-/// Reads the first frame of a bidirectional stream, poll by poll: it is a stream of a WebTransport
-/// session, or one of a request. Not in the Rust crate.
+/// Reads the start of a bidirectional stream, poll by poll, to find out whether it is a stream of a
+/// WebTransport session or that of a request. Not in the Rust crate.
 #[derive(Debug, Drop)]
 pub struct BiAccepting {
     pub(crate) stream: StreamBiRemoteH3,
     pub(crate) reading: FrameReading,
 }
 
-/// What a poll of `BiAccepting` found. Not in the Rust crate.
+/// The result of a poll of [`BiAccepting`]. Not in the Rust crate.
 #[derive(Debug, Drop)]
 pub enum BiAccepted {
-    /// A WebTransport frame came first: what follows it is the application's, and is not frames.
+    /// A WebTransport frame came first. The bytes after it are application data, not frames.
     WebTransport(StreamBiRemoteWT),
-    /// The stream of a request, the reading, which holds nothing, and the first HEADERS frame.
+    /// The stream of a request, an empty reading state, and the first HEADERS frame.
     Request(StreamBiRemoteH3, FrameReading, FrameOwned),
-    /// A frame was skipped, or 4096 bytes of its payload: more may be read.
+    /// A frame was skipped, or 4096 bytes of its payload. Poll again at once.
     Again(BiAccepting),
     /// The source was not ready.
     Pending(BiAccepting),
     /// Memory allocation failed for a payload.
     NoMemory(BiAccepting),
-    /// The first fault of the stream.
+    /// The stream failed with this error.
     Failed(BiAccepting, IoReadError),
 }
 
@@ -103,24 +105,26 @@ impl BiAccepting {
 
     /// Reads at most one frame, in at most 4112 calls to the source.
     ///
-    /// - `WebTransport(stream)`: a WebTransport frame was read, before any other frame of a known
-    ///   or reserved type. The stream is upgraded to one of its session. The source is positioned
+    /// - `WebTransport(stream)`: a WebTransport frame was read, and no frame of a known or reserved
+    ///   type before it. The stream is converted to one of the session. The source is positioned
     ///   right after the frame.
     /// - `Request(stream, reading, frame)`: the first HEADERS frame was read. The source is
     ///   positioned right after it.
     /// - `Again`: a frame of a reserved or unknown type was skipped (RFC 9114, sections 7.2.8 and
     ///   9), or 4096 bytes of the payload of an unknown one. A WebTransport frame is not permitted
     ///   after one of a reserved type.
-    /// - `Pending`: the source was not ready. `NoMemory`: allocation failed for a payload.
-    /// - `Failed(_, H3(code))`: the code that `read_frame` of the stream returns, or `Frame` if the
+    /// - `Pending`: the source was not ready.
+    /// - `NoMemory`: allocation failed for a payload.
+    /// - `Failed(_, H3(code))`: the code that `read_frame` of the stream returns; `Frame` if the
     ///   source ended inside a frame; `FrameUnexpected` if a DATA frame came before the first
-    ///   HEADERS frame (RFC 9114, section 4.1). The source is positioned right after the bytes that
-    ///   decided.
-    /// - `Failed(_, IO(fault))`: the source gave no more bytes; `ImmediateFin` if nothing is held.
+    ///   HEADERS frame (RFC 9114, section 4.1). The source is positioned right after the frame,
+    ///   right after its head if that is invalid, or at the end.
+    /// - `Failed(_, IO(error))`: the source gave no more bytes. The error is `ImmediateFin` if the
+    ///   source ended and no byte is held.
     ///
-    /// Each state that is returned holds the bytes received of a frame, and loses nothing. It may
-    /// be polled again, with the same source or another. `Failed` leaves the stream as
-    /// `read_frame_async` does: a frame that was refused counts as read.
+    /// Each returned state holds the bytes received of a partial frame, and loses none of them. It
+    /// may be polled again, with the same source or another one. `Failed` leaves the stream as
+    /// `read_frame_async` does: a frame that was not allowed counts as read.
     pub fn poll<S: AsyncRead>(mut self, source: &mut S) -> BiAccepted
         ensures was_unfinished { IsUnfinished self.reading }
         ensures unfinished { IsUnfinished (held_in result) }
@@ -139,7 +143,7 @@ impl BiAccepting {
         }
     }
 
-    // Converts by a frame that the stream's rule permits.
+    // Returns the result for a frame that the stream allows.
     fn judge(self, frame: FrameOwned) -> BiAccepted
         requires { (first : Bool) × (rule RemoteBi first (kind_in frame) ≡ None) }
         ensures { Judges result self frame.entry }

@@ -1,5 +1,5 @@
-//! Reading frames from bytes that the caller holds, with no source and no memory. Not in the Rust
-//! crate.
+//! Reading frames from bytes owned by the caller, without a source and without allocation. Not in
+//! the Rust crate.
 ghost use Rattle.std.specs.Prelude.{◌≡◌, ◌≤◌, ◌-◌, ◌↔◌, length, Ok, None, true, IsOk, OnErr, Err};
 ghost use Rattle.wtp_core.specs.Reader.{IsRest};
 ghost use Rattle.wtp_wire.specs.Front.{front};
@@ -13,42 +13,43 @@ use wtp_core::ids::SessionId;
 use wtp_wire::frame::{Frame, FrameKind};
 use wtp_wire::rules::{StreamRole, fault_of};
 
-/// The state of reading the frames of a stream, between two calls. Not in the Rust crate.
+/// The state of an incremental frame reader over bytes owned by the caller. Not in the Rust crate.
 ///
-/// It holds no bytes: the caller does, and gives those after the ones that were consumed. Each
-/// value is a valid one.
+/// It stores no bytes. The caller passes the unconsumed bytes again, followed by new ones. Every
+/// combination of field values is valid.
 #[derive(Clone, Copy, Debug, PartialEq, Eq)]
 pub struct FrameCursor {
     /// The role of the stream.
     pub role: StreamRole,
-    /// Whether the next frame would be the first of the stream, other than unknown ones.
+    /// Whether the next frame is the first one of the stream, not counting unknown frames.
     pub first: bool,
-    /// How many payload bytes of an unknown frame are still to be skipped.
+    /// The number of payload bytes of an unknown frame left to skip.
     pub due: u64,
 }
 
-/// A frame by its place in the bytes given to `FrameCursor::next`. Not in the Rust crate.
+/// A frame, given by its position in the bytes passed to [`FrameCursor::next`]. Not in the Rust
+/// crate.
 #[derive(Clone, Copy, Debug, PartialEq, Eq)]
 pub struct FramePlace {
     /// The kind.
     pub kind: FrameKind,
-    /// The session, if the kind is WebTransport.
+    /// The session ID, if the kind is WebTransport.
     pub session_id: Option<SessionId>,
     /// The offset of the payload.
     pub start: usize,
-    /// The offset of the byte after the payload, which is the number of bytes consumed.
+    /// The offset of the end of the payload, which is the number of bytes consumed.
     pub end: usize,
     ghost ordered: { start ≤ end },
 }
 
-/// What a cursor finds next. Not in the Rust crate.
+/// The result of [`FrameCursor::next`]. Not in the Rust crate.
 #[derive(Clone, Copy, Debug, PartialEq, Eq)]
 pub enum CursorStep {
-    /// A frame. The bytes up to its end are consumed.
+    /// A complete frame. The bytes up to its end are consumed.
     Frame(FramePlace),
-    /// More bytes are needed, after this many that are consumed.
+    /// More bytes are needed. This many bytes are consumed.
     More(usize),
-    /// A fault of the stream, by its code. No byte is consumed.
+    /// An error of the stream, with its code. No byte is consumed.
     Fault(ErrorCode),
 }
 
@@ -56,7 +57,7 @@ impl FramePlace {
     ghost use Rattle.wtp_wire.specs.Content.{payload_in, IsProper};
     ghost use Rattle.wtransport_proto.specs.FrameCursor.{payload_at, IsPlaceOf};
 
-    // Returns the place of a frame that ends here.
+    // Returns the position of a frame that ends at this offset.
     fn of(frame: &Frame<'_>, end: usize) -> Self
         requires { length (payload_in frame.now) ≤ end }
         ensures place { IsPlaceOf result frame.now end }
@@ -71,8 +72,8 @@ impl FramePlace {
         }
     }
 
-    /// Returns the payload of the frame. Requires that these are the bytes given to
-    /// `FrameCursor::next`, or at least as many.
+    /// Returns the payload of the frame. Pass the bytes that were passed to [`FrameCursor::next`].
+    /// Requires that there are at least `end` bytes.
     pub fn payload<'a>(&self, bytes: &'a [u8]) -> &'a [u8]
         requires { self.now.end ≤ length bytes.now }
         ensures { result.now ≡ payload_at self.now bytes.now }
@@ -87,7 +88,7 @@ impl FrameCursor {
     ghost use Rattle.wtp_wire.specs.Held.{front_held};
     ghost use Rattle.wtp_wire.specs.Run.{Ended, ends};
 
-    /// Creates a cursor at the first frame of a stream.
+    /// Creates a cursor at the start of a stream with this role.
     pub fn new(role: StreamRole) -> Self
         ensures { result ≡ record { role = role; first = true; due = 0 } }
     {
@@ -98,18 +99,19 @@ impl FrameCursor {
         }
     }
 
-    /// Finds the next frame in the bytes that follow those consumed before. It does not allocate.
+    /// Finds the next frame in the bytes after those consumed before. Does not allocate.
     ///
-    /// Unknown frames are skipped, also piece by piece (RFC 9114, section 9).
+    /// Unknown frames are skipped, even if they arrive in parts (RFC 9114, section 9).
     ///
     /// - `Frame(place)`: the next frame, which the stream allows. The bytes up to `place.end` are
     ///   consumed.
-    /// - `More(n)`: there is no complete frame. The first `n` bytes are consumed; at most 4111 are
-    ///   left, which have to be given again with more bytes after them.
-    /// - `Fault(code)`: `FrameUnexpected` or `Frame` for a frame that is not permitted here, `Id` for
-    ///   an invalid session ID, `ExcessiveLoad` for a length above 4096. The cursor is unchanged.
+    /// - `More(n)`: there is no complete frame. The first `n` bytes are consumed. At most 4111
+    ///   bytes are left, which must be passed again with more bytes after them.
+    /// - `Fault(code)`: `FrameUnexpected` or `Frame` if the frame is not permitted here, `Id` if
+    ///   its session ID is invalid, `ExcessiveLoad` if its length is above 4096. The cursor is
+    ///   unchanged.
     ///
-    /// However the bytes of a stream are cut, the frames and the first fault are the same.
+    /// The frames and the first error are the same however the bytes of a stream are split.
     pub fn next(&mut self, bytes: &[u8]) -> CursorStep
         ensures step { StepIs result self.old bytes.now self.new }
         ensures run { RunGoesOn result self.old bytes.now self.new }
@@ -140,10 +142,11 @@ impl FrameCursor {
         }
     }
 
-    /// Checks that the stream may end here, with `rest` left over: after `More(n)`, the bytes after
-    /// the first `n`.
+    /// Checks that the stream may end here. `rest` is the unconsumed remainder: after `More(n)`,
+    /// the bytes after the first `n`.
     ///
-    /// Returns `Frame` if a frame has begun (RFC 9114, section 7.1).
+    /// Returns `Frame` if the stream ends inside a frame (RFC 9114, section 7.1): if `rest` is not
+    /// empty, or if bytes of an unknown frame are left to skip.
     #[tactic(auto, using(crate::proofs::CursorStepLemmas::endings))]
     pub fn finish(&self, rest: &[u8]) -> Result<(), ErrorCode>
         ensures clean { IsOk result ↔ ((self.now.due ≡ 0) × (length rest.now ≡ 0)) }
@@ -161,8 +164,9 @@ impl FrameCursor {
     }
 }
 
-/// Reads the first frame of a known or exercise kind. Unknown frames before it are passed, and the
-/// bytes after them are left if they are too few for a frame.
+/// Reads the first frame of a known or reserved type, and skips unknown frames before it. Returns
+/// `None` if the bytes after the unknown frames are too few for a frame; `rest` then contains these
+/// bytes.
 fn take_known<'a>(rest: &mut &'a [u8]) -> Result<Option<Frame<'a>>, ErrorCode>
     ensures answer { AnswersKnown (front (past_unknown rest.old.now)) result rest.new.now }
     ensures short { result ≡ Ok None → rest.new.now ≡ past_unknown rest.old.now }
@@ -184,8 +188,8 @@ fn take_known<'a>(rest: &mut &'a [u8]) -> Result<Option<Frame<'a>>, ErrorCode>
     }
 }
 
-/// Returns how many payload bytes are missing if the bytes start with an unknown frame that they
-/// cut, or 0.
+/// Returns how many payload bytes are missing if the bytes are a truncated unknown frame, and 0
+/// otherwise.
 #[cold]
 #[inline(never)]
 #[tactic(auto, unfolding(crate::specs::CutFrame::due_in))]

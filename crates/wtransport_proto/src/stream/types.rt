@@ -1,13 +1,13 @@
-//! Kinds and states of streams.
+//! The kinds and states of streams, as type parameters.
 
 use wtp_core::ids::SessionId;
 use wtp_fields::session::SessionRequest;
 
-/// Both ends send.
+/// Both endpoints send.
 #[derive(Debug, Drop)]
 pub struct Bi;
 
-/// One end sends.
+/// One endpoint sends.
 #[derive(Debug, Drop)]
 pub struct Uni;
 
@@ -15,7 +15,7 @@ pub struct Uni;
 #[derive(Debug, Drop)]
 pub struct Remote;
 
-/// This end opened the stream.
+/// This endpoint opened the stream.
 #[derive(Debug, Drop)]
 pub struct Local;
 
@@ -29,7 +29,7 @@ impl Default for BiRemote {
     }
 }
 
-/// A bidirectional stream that this end opened.
+/// A bidirectional stream that this endpoint opened.
 #[derive(Debug, Drop)]
 pub struct BiLocal(Bi, Local);
 
@@ -49,7 +49,7 @@ impl Default for UniRemote {
     }
 }
 
-/// A unidirectional stream that this end opened.
+/// A unidirectional stream that this endpoint opened.
 #[derive(Debug, Drop)]
 pub struct UniLocal(Uni, Local);
 
@@ -59,12 +59,12 @@ impl Default for UniLocal {
     }
 }
 
-/// A stream of QUIC, of which nothing was read or written yet.
+/// A stream of QUIC. Nothing has been read or written yet.
 #[derive(Debug, Drop)]
 pub struct Quic;
 
-/// A stream of HTTP/3. `H` is `StreamHeader` if the stream is unidirectional, as it starts with a
-/// header (RFC 9114, section 6.2), and `()` if it is bidirectional.
+/// A stream of HTTP/3. `H` is `StreamHeader` for a unidirectional stream, which starts with a
+/// header (RFC 9114, section 6.2), and `()` for a bidirectional one.
 #[derive(Debug, Drop)]
 pub struct H3<H = ()> {
     pub(crate) header: H,
@@ -77,7 +77,8 @@ pub struct WT {
     pub(crate) session_id: SessionId,
 }
 
-/// A stream of HTTP/3 that carries the request for a session, the response, and what follows them.
+/// The stream of a session: a stream of HTTP/3 with the request, the response and the frames after
+/// them.
 #[derive(Debug, Drop)]
 pub struct Session {
     pub(crate) session_request: SessionRequest,

@@ -1,4 +1,4 @@
-//! Unidirectional streams that this end opened.
+//! Unidirectional streams that this endpoint opened.
 ghost use Rattle.std.specs.Prelude.{◌≡◌, ◌≤◌, ◌↔◌, length, Err, IfOk, IfErr, IsOk, OnOk, OnErr, Ok};
 ghost use Rattle.wtp_core.specs.Source.{Telling};
 ghost use Rattle.wtp_core.specs.Writer.{PutsParts, LacksRoom};
@@ -18,14 +18,14 @@ use wtp_wire::stream_header::StreamHeader;
 /// A stream of QUIC.
 pub type StreamUniLocalQuic = Stream<UniLocal, Quic>;
 
-/// A stream of HTTP/3, whose header was written.
+/// A stream of HTTP/3 whose header has been written.
 pub type StreamUniLocalH3 = Stream<UniLocal, H3<StreamHeader>>;
 
 /// A stream of a WebTransport session.
 pub type StreamUniLocalWT = Stream<UniLocal, WT>;
 
 impl StreamUniLocalQuic {
-    /// Creates a stream that this end opened.
+    /// Creates a stream that this endpoint opened.
     pub fn open_uni() -> Self {
         Stream {
             kind: UniLocal::default(),
@@ -33,10 +33,9 @@ impl StreamUniLocalQuic {
         }
     }
 
-    /// Converts to a stream of HTTP/3 with this header, which is written as `StreamHeader::write`
-    /// does.
+    /// Writes the header as `StreamHeader::write` does, and converts to a stream of HTTP/3.
     ///
-    /// On an error the stream is returned unchanged, and the writer may hold the header's type.
+    /// On an error, returns the stream unchanged. The type of the header may have been written.
     pub fn upgrade<W: BytesWriter>(
         self,
         stream_header: StreamHeader,
@@ -62,8 +61,8 @@ impl StreamUniLocalQuic {
         }
     }
 
-    /// Returns a state that converts to a stream of HTTP/3 with this header, poll by poll, as
-    /// `upgrade` does.
+    /// Returns a state that writes the header poll by poll, and then converts to a stream of
+    /// HTTP/3.
     pub fn upgrade_async(self, header: StreamHeader) -> UniUpgrading
         ensures stream { result.stream ≡ self }
         ensures header { result.header ≡ header }
@@ -87,12 +86,12 @@ impl StreamUniLocalQuic {
 }
 
 impl StreamUniLocalH3 {
-    /// Writes a frame as `Frame::write` does, and consumes it. Requires that the stream's kind is
-    /// not WebTransport, as `kind` reports: that is for `upgrade`. The stream does not change, and
-    /// may be written again.
+    /// Writes a frame as `Frame::write` does, and consumes it. Requires that `kind` does not return
+    /// WebTransport; use `upgrade` for a WebTransport stream. The stream is unchanged, and more
+    /// frames may be written.
     ///
-    /// On an error the frame is dropped, and the writer holds those of its parts before the one
-    /// that it refused.
+    /// On an error, the frame is dropped, and its parts before the one that failed have been
+    /// written.
     pub fn write_frame<W: BytesWriter>(
         &mut self,
         frame: Frame<'_>,
@@ -110,10 +109,10 @@ impl StreamUniLocalH3 {
         frame.write(writer)
     }
 
-    /// Writes a complete frame as `Frame::write_to_buffer` does, with the condition of
-    /// `write_frame`, and consumes it.
+    /// Writes a complete frame as `Frame::write_to_buffer` does, and consumes it. The requirement
+    /// is that of `write_frame`.
     ///
-    /// Returns `EndOfBuffer` if the room is too small; then nothing is written, and the frame is
+    /// Returns `EndOfBuffer` if too little space is left; nothing is then written, and the frame is
     /// dropped.
     pub fn write_frame_to_buffer(
         &mut self,
@@ -131,8 +130,8 @@ impl StreamUniLocalH3 {
         frame.write_to_buffer(writer)
     }
 
-    /// Writes a frame, poll by poll, as `FrameWriting` does, with the condition of `write_frame`.
-    /// The stream does not change, so that the next poll may follow.
+    /// Writes a frame, poll by poll, as `FrameWriting` does. The requirement is that of
+    /// `write_frame`. The stream is unchanged, so it may be polled again.
     pub fn write_frame_async<W: AsyncWrite>(
         &mut self,
         writing: &mut FrameWriting<'_>,

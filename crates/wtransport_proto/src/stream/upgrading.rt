@@ -1,4 +1,4 @@
-//! Upgrading a stream that this end opened, poll by poll.
+//! Polled upgrades of streams that this endpoint opened.
 use crate::stream::bilocal::{StreamBiLocalH3, StreamBiLocalWT};
 use crate::stream::types::{H3, WT};
 use crate::stream::unilocal::{StreamUniLocalH3, StreamUniLocalQuic};
@@ -8,8 +8,8 @@ use wtp_core::ids::SessionId;
 use wtp_wire::frame::FrameWriting;
 use wtp_wire::stream_header::{HeaderWriting, StreamHeader};
 
-/// Converts a stream to one of a session by a WebTransport frame, poll by poll. Not in the Rust
-/// crate.
+/// Writes a WebTransport frame, poll by poll, and converts the stream to one of the session. Not in
+/// the Rust crate.
 #[derive(Debug, Drop)]
 pub struct BiUpgrading {
     pub(crate) stream: StreamBiLocalH3,
@@ -21,10 +21,11 @@ impl BiUpgrading {
     ghost use Rattle.wtp_core.specs.Source.{Telling};
     ghost use Rattle.wtransport_proto.specs.UpgradeSteps.{BiStepped, StepSends, bi_writing};
 
-    /// Writes as far as the sink goes, as `FrameWriting` does. Returns `Done` once all is sent.
+    /// Writes until all bytes are sent or the sink accepts no more, as `FrameWriting` does. Returns
+    /// `Done` once all bytes are sent.
     ///
-    /// Every other result returns the state. It knows what was sent, and may be polled again, with
-    /// the same sink or another.
+    /// Every other result returns the state. It counts the bytes sent, and may be polled again,
+    /// with the same sink or another one.
     pub fn poll<W: AsyncWrite>(
         mut self,
         sink: &mut W,
@@ -48,7 +49,8 @@ impl BiUpgrading {
     }
 }
 
-/// Converts a stream to one of HTTP/3 by its header, poll by poll. Not in the Rust crate.
+/// Writes the header of a stream, poll by poll, and converts it to a stream of HTTP/3. Not in the
+/// Rust crate.
 #[derive(Debug, Drop)]
 pub struct UniUpgrading {
     pub(crate) stream: StreamUniLocalQuic,
@@ -60,10 +62,11 @@ impl UniUpgrading {
     ghost use Rattle.wtp_core.specs.Source.{Telling};
     ghost use Rattle.wtransport_proto.specs.UpgradeSteps.{UniStepped, StepSends, uni_writing};
 
-    /// Writes as far as the sink goes, as `HeaderWriting` does. Returns `Done` once all is sent.
+    /// Writes until all bytes are sent or the sink accepts no more, as `HeaderWriting` does.
+    /// Returns `Done` once all bytes are sent.
     ///
-    /// Every other result returns the state. It knows what was sent, and may be polled again, with
-    /// the same sink or another.
+    /// Every other result returns the state. It counts the bytes sent, and may be polled again,
+    /// with the same sink or another one.
     pub fn poll<W: AsyncWrite>(
         mut self,
         sink: &mut W,
