@@ -132,7 +132,7 @@ no_code n none x e =
     let p = placed x in
     none (place_of x) p.below (e ∙ ap (λ (y : ErrorCode). code_number y) (sym p.at))
 
--- ---- applications' error codes
+-- ---- application error codes
 
 -- the number's distance from the first code is 31 q + r
 record Split (n : ℕ) : Type 0 where

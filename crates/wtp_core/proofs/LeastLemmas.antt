@@ -81,7 +81,7 @@ shortest-least v s h = elim (width-cases (get_or s 0 0)) [
   | inr (inr (inr (e, l))) ↦ let a = as_width w64 v s h e in omega (arith, a.size, at_most_8 v)
 ]
 
--- ---- an encoding of each width is that of its value
+-- ---- the encodings of each width
 
 same16 : (s : List ℕ) → length s ≡ 2 → ((i : ℕ) → get_or s i 0 < 256) → 64 ≤ get_or s 0 0 → get_or s 0 0 < 128 → to_be_bytes w16 (2 ^ 14 + value_of w16 s) ≡ s
 unfolding value_of

@@ -12,7 +12,7 @@ varint_need bytes = byte_len (width_of (slice_index bytes 0))
 abbrev pub IsCutNumber : List ℕ → Type 0
 IsCutNumber bytes = length bytes < varint_need bytes
 
--- ---- what readers that continue from these bytes rely on
+-- ---- facts for readers that continue from these bytes
 
 pub byte_len_range : (b : ℕ) → (0 < byte_len (width_of b)) × (byte_len (width_of b) ≤ 8)
 byte_len_range b = elim (cases_lt b 64) [
