@@ -47,7 +47,7 @@ pub bytes_push : (xs : List ℕ) (x : ℕ) → IsBytes xs → x < 256 → IsByte
 bytes_push [] x h small = (small, tt)
 bytes_push (y ∷ ys) x h small = (h.0, bytes_push ys x h.1 small)
 
--- ---- how far the decoder has come
+-- ---- the progress of the decoder
 
 pub reads_none : (text : List ℕ) → Reads text [] (bits_of text)
 unfolding text_code

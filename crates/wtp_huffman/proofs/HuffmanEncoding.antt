@@ -44,7 +44,7 @@ joined_bits a b x n h small =
 pub joined_whole : (a b x n : ℕ) → a + b ≤ 64 → x < 2 ^ a → n < 2 ^ b → x * 2 ^ b % 18446744073709551616 + n < 2 ^ (a + b)
 joined_whole a b x n h fits small = rw (shl_whole x a b 64 fits h) (joined_fits a b x n fits small)
 
--- ---- whole bytes out of the bits that wait
+-- ---- whole bytes of the waiting bits
 
 -- the whole bytes of a left-aligned number, and the bits left over
 whole_bits : (count x : ℕ) → count ≤ 64 → take (8 * (count / 8)) (bits_of (to_be_bytes w64 (x * 2 ^ (64 - count) % 18446744073709551616))) ++ low_bits (count % 8) x ≡ low_bits count x
@@ -116,7 +116,7 @@ pub coded_next : (i : ℕ) (s : List ℕ) → i < length s → text_code (drop i
 unfolding text_code
 coded_next i s lt = ap text_code (drop_more s i 0 lt)
 
--- ---- bits that wait, and more that come
+-- ---- waiting bits, and bits added
 
 pub adds_none : (out : List ℕ) (count waiting : ℕ) → count < 8 → Adds 8 (text_code []) out count waiting out count waiting
 unfolding text_code
@@ -206,7 +206,7 @@ begins_cut old bytes n h =
     let all : n ≡ length old + (n - length old) = omega arith in
     record { more = take (n - length old) bytes; is = ap (λ j. take j (old ++ bytes)) all ∙ take-append-add old bytes (n - length old) }
 
--- ---- how long the bytes are
+-- ---- the number of bytes
 
 pub adds_length : (most : ℕ) (more : List Bool) (old : List ℕ) (count waiting : ℕ) (new : List ℕ) (left rest : ℕ) → Adds most more old count waiting new left rest
     → 8 * length new + left ≡ 8 * length old + count + length more
@@ -218,7 +218,7 @@ pub whole_length : (all behind : List Bool) (old out : List ℕ) (count waiting 
 whole_length all behind old out count waiting same =
     omega (arith, ap length same, length-append (bits_of old) all, length_bits old, length-append (bits_of out) (low_bits count waiting ++ behind), length_bits out, length-append (low_bits count waiting) behind, low_bits_length count waiting)
 
--- ---- where memory may be short
+-- ---- where allocation may fail
 
 pub on_err : {X E P : Type 0} (r : Result X E) → P → OnErr r P
 on_err (Ok x) p = tt

@@ -81,7 +81,7 @@ same_word u v m bits symbol w few most same =
       known = w.known;
     }
 
--- ---- what an entry says
+-- ---- the contents of an entry
 
 -- the second word within twelve bits, after a first one of l bits
 pub record Second (i l bits second : ℕ) : Type 0 where
@@ -130,7 +130,7 @@ entry_at i h =
     let ok = rw place at (pairs_ok_at 0 i PAIRS all_pairs (rw pairs_length h)) in
     entry_parts i (slice_index PAIRS i) ok
 
--- ---- the words of bits that begin so
+-- ---- the words at the start of such bits
 
 top_part : (a k b : ℕ) → b < 2 ^ k → (a * 2 ^ k + b) % 2 ^ k ≡ b
 top_part a k b small =
@@ -168,7 +168,7 @@ second_word bits i l e few place fits =
     let word : IsWord v (short_bits_at j) (short_byte_at j) = rw at_j at (short_found v (omega (arith, at_j, place))) in
     same_word u v m (short_bits_at j) (short_byte_at j) word (omega (arith, fits)) (omega arith) (rw behind same)
 
--- ---- what the decoder takes
+-- ---- the words that the decoder takes
 
 pub record Limits (i : ℕ) : Type 0 where
   pub least : 5 ≤ pair_bits_at i

@@ -85,7 +85,7 @@ short_found v h =
       known = omega arith;
     }
 
--- ---- the next bits that wait
+-- ---- the next waiting bits
 
 -- the window of a few bits
 pub few_window : (bits number : ℕ) → bits ≤ 30 → number < 2 ^ bits → window_of 30 (low_bits bits number) + 1 ≡ (number + 1) * 2 ^ (30 - bits)
