@@ -1,4 +1,4 @@
--- The computed close payload is the close payload.
+-- The computed close payload agrees with the definition.
 use Rattle.std.proofs.Common.{◌≡◌, ◌≢◌, ℕ, ◌+◌, ◌≤◌, ◌<◌, List, [], length, take, drop, true, false, ltb, Option, Some, None, IsUtf8, refl, sym, ap, ◌∙◌, arith, inl, inr, length-append, length-drop}
 use Rattle.std.proofs.lemmas.Bool.{cases_Bool, le-ltb, ltb-false, false_from_ne_true, not_from_true, not_from_false, not-false, or_from, or_parts, or_right}
 use Rattle.std.proofs.lemmas.List.{take-append-drop, length-take}
@@ -64,11 +64,11 @@ is-close_in code reason payload e = elim (cases_Bool (is_no_close payload)) [
       }
 ]
 
--- a text that does not fit into its room
+-- a text of more than n bytes is not empty
 pub some_text : (text : List ℕ) (n : ℕ) → n < length text → text ≢ []
 some_text text n h e = omega (arith, ap length e)
 
--- what was read in steps: the head, the text after it, and a copy of the text
+-- the payload, read in parts: the head, the text after it, and a copy of the text
 pub close_in-read : (all payload head text : List ℕ) (code : ℕ) (reason : List ℕ) → payload ≡ all → head ≡ take 4 payload → text ≡ drop 4 payload → length text + 4 ≡ length payload → length text ≤ 1024 → IsUtf8 text → code ≡ from_be_bytes w32 head → reason ≡ text → close_in all ≡ Some (code, reason)
 close_in-read all payload head text code reason is front behind size short utf8 number copy =
     ap close_in (sym is) ∙ close_in-text payload text behind size short utf8 ∙ ap (λ (n : ℕ). Some (n, text)) (ap (λ (x : List ℕ). from_be_bytes w32 x) (sym front) ∙ sym number) ∙ ap (λ (x : List ℕ). Some (code, x)) (sym copy)

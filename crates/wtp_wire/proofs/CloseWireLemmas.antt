@@ -1,4 +1,4 @@
--- A close capsule that is written is read again.
+-- A written close capsule is read back.
 use Rattle.std.proofs.Common.{◌≡◌, ℕ, ◌+◌, ◌^◌, ◌≤◌, ◌<◌, List, ◌++◌, length, Some, IsUtf8, refl, sym, ap, ◌∙◌, append_assoc, append-nil, length-append, arith, lit<}
 use Rattle.std.specs.Int.{w32, to_be_bytes}
 use Rattle.std.proofs.lemmas.Nat.{from_be_bytes-to_be_bytes_4}

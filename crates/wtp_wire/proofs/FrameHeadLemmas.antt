@@ -1,4 +1,4 @@
--- What the head of a frame announces, and what follows it.
+-- The head of a frame, and what follows it.
 use Rattle.std.proofs.Common.{◌≡◌, ◌≢◌, ℕ, ◌+◌, ◌%◌, ◌==◌, ◌<◌, ◌≤◌, nat_lt, List, [], ◌++◌, length, drop, Option, Some, None, refl, sym, ap, subst, ◌∙◌, arith, inl, inr, false, length-append, length-drop, append_assoc, append-nil}
 use Rattle.std.proofs.lemmas.Bool.{cases_lt, ltb-false, cases_Bool}
 use Rattle.wtp_core.specs.Varint.{Encodes, number_at}
@@ -63,7 +63,7 @@ front_part h f = elim (cases_lt (length h) (varint_need h)) [
       front-cut h r one.0 one.1 (number_at-cut r cut)
 ]
 
--- ---- what the numbers say
+-- ---- the two numbers
 
 second_whole : (k : Option FrameKind) (n : ℕ) → announcement_of k n ≡ announces.Unfinished → ⊥
 second_whole None n e = cc
@@ -145,7 +145,7 @@ announcement_skip h m w e =
       };
     }
 
--- what was skipped, and any bytes as many as are still to be skipped
+-- the skipped bytes, followed by any bytes in the number left to skip
 pub passed_unknown : (old new : Held) (a b : Source) (s : Skips old new a b) (z : List ℕ) → length z ≡ new.due → (old.due ≡ 0 → IsUnknown ((s.head ++ s.payload) ++ z)) × (0 < old.due → length ((s.head ++ s.payload) ++ z) ≡ old.due)
 passed_unknown old new a b s z e = (
   λ d. let h = s.begun d in let size : length s.payload + new.due ≡ length (s.payload ++ z) = omega (arith, length-append s.payload z) in

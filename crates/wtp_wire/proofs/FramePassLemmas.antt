@@ -160,7 +160,7 @@ passed_asks : (s t u : Option Source) (r : Polled (Result Content IoReadError)) 
     → Telling s t (BeginsFrame old mid) → Telling t u (PassedOn r mid.due d) → Telling s u (Asks max_calls)
 passed_asks s t u r old mid d p q = telling_then s t u (BeginsFrame old mid) (PassedOn r mid.due d) (Asks max_calls) (λ a b c g k. (passed_polled r old mid [] d a b c refl g k).1) p q
 
--- ---- what holds of every source
+-- ---- every source, even without a model
 
 -- a list of n bytes
 zeros : ℕ → List ℕ

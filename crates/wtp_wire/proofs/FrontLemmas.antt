@@ -38,7 +38,7 @@ pub front-cut : (bytes mid : List ℕ) (id : ℕ) → number_at bytes ≡ Some (
 unfolding front head_at
 front-cut bytes mid id e f = rw (e, f) refl
 
--- ---- what the second number says
+-- ---- the second number
 
 second-session : (id : ℕ) → id % 4 ≡ 0 → announcement_of (Some WebTransport) id ≡ announces.Session id
 second-session id h = rw (eq-eqb (id % 4) 0 h) refl
@@ -54,7 +54,7 @@ second-plain : (kind : FrameKind) (n : ℕ) → kind ≢ WebTransport → n ≤ 
 second-plain WebTransport n plain h = absurd (plain refl)
 second-plain kind n plain h = rw (le-ltb 4096 n h) refl
 
--- ---- what follows it
+-- ---- the bytes after the head
 
 pub after-payload : (kind : FrameKind) (n : ℕ) (payload rest bytes : List ℕ) → bytes_at n bytes ≡ Some (payload, rest) → front_after (announces.Payload kind n) bytes ≡ Framed (PlainOf kind payload) rest
 after-payload kind n payload rest bytes e = rw e refl
@@ -68,7 +68,7 @@ after_payload-cut kind n bytes e = rw e refl
 pub after_skip-cut : (n : ℕ) (bytes : List ℕ) → bytes_at n bytes ≡ None → front_after (announces.Skip n) bytes ≡ Short
 after_skip-cut n bytes e = rw e refl
 
--- ---- what starts with a case is computed as that case
+-- ---- from the grammar to the computation
 
 -- the encoding of a complete head at the start of the bytes
 front-encoded : (bytes head rest : List ℕ) (id n : ℕ) (o : Option FrameKind) (s : Announcement) → kind_of id ≡ o → EncodesPair id n head → announcement_of o n ≡ s → bytes ≡ head ++ rest → front bytes ≡ front_after s rest
@@ -94,7 +94,7 @@ front-begins bytes (Framed (PlainOf kind payload) rest) (s, h, parts) =
     front-encoded bytes h.head (payload ++ rest) h.id (length payload) (Some kind) (announces.Payload kind (length payload)) (kind_of-is kind h.id h.is_kind) h.encoded (second-plain kind (length payload) h.plain h.small) (parts ∙ ap (λ (x : List ℕ). x ++ rest) h.parts ∙ append_assoc h.head payload rest)
     ∙ after-payload kind (length payload) payload rest (payload ++ rest) (bytes_at-append payload rest)
 
--- ---- what is computed is what the bytes start with
+-- ---- from the computation to the grammar
 
 -- the bytes start with the case, or the case is Short
 abbrev Holds : List ℕ → Front → Type 0
@@ -192,7 +192,7 @@ front_holds bytes = elim (head_holds bytes) [
   | inr h ↦ holds-along bytes (front bytes) (front_after (announcement_of (kind_of h.id) h.n) h.rest) h.front (after_holds (kind_of h.id) bytes h.head h.rest h.id h.n refl h.encoded h.parts)
 ]
 
--- ---- what follows
+-- ---- bytes appended
 
 -- Short exactly if the bytes start with no case
 pub front-short : (bytes : List ℕ) → front bytes ≡ Short → (c : Front) → Begins bytes c → ⊥
@@ -225,7 +225,7 @@ end_is_drop bytes s rest parts =
     let size : length bytes - length rest ≡ length s = omega arith in
     (omega arith, rw (size, parts) (drop-append_seam s rest))
 
--- ---- what follows is shorter
+-- ---- the remainder is shorter
 
 shorter : (bytes s rest : List ℕ) → bytes ≡ s ++ rest → 0 < length s → length rest < length bytes
 shorter bytes s rest parts h = omega (arith, ap length parts ∙ length-append s rest)

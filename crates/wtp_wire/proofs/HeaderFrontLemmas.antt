@@ -16,7 +16,7 @@ use Rattle.wtp_wire.proofs.FrontLemmas.{found}
 use Rattle.wtp_wire.proofs.HeaderLemmas.{has_session-true}
 use Rattle.wtp_wire.proofs.StreamKindLemmas.{stream_kind_of-is, is-stream_kind_of, stream_kind_of-none}
 
--- ---- what starts with a case is computed as that case
+-- ---- from the grammar to the computation
 
 header_front-typed : (bytes rest : List ℕ) (id : ℕ) → number_at bytes ≡ Some (id, rest) → header_front bytes ≡ typed_header_front (stream_kind_of id) rest
 unfolding header_front
@@ -58,7 +58,7 @@ header_front-begins bytes (Headed (WebTransportHeader id) rest) (s, (encoded, ev
     let (to_session, number) = header_front-session bytes s rest id encoded parts in
     to_session ∙ session_header_front-id (encoded.second ++ rest) rest id number even
 
--- ---- what is computed is what the bytes start with
+-- ---- from the computation to the grammar
 
 -- the bytes start with the case, or the case is Short
 abbrev Holds : List ℕ → HeaderFront → Type 0
@@ -112,7 +112,7 @@ header_front_holds bytes = elim (found (number_at bytes)) [
       holds-along bytes (header_front bytes) (typed_header_front (stream_kind_of id) rest) (header_front-typed bytes rest id e) (typed_holds (stream_kind_of id) id bytes first rest refl typed parts)
 ]
 
--- ---- what follows
+-- ---- bytes appended
 
 -- Short exactly if the bytes start with no case
 pub header_front-short : (bytes : List ℕ) → header_front bytes ≡ Short → (c : HeaderFront) → StreamBegins bytes c → ⊥
@@ -131,7 +131,7 @@ header_front-more bytes more whole = elim (header_front_holds bytes) [
   | inr h ↦ header_front-begins (bytes ++ more) (header_extended (header_front bytes) more) (begins-more bytes more (header_front bytes) h)
 ]
 
--- ---- what is written is read again
+-- ---- written headers are read back
 
 encodes-wire : (n : ℕ) → n < 2 ^ 62 → Encodes n (shortest n ++ [])
 encodes-wire n fits = rw (append-nil (shortest n)) (shortest-encodes n fits)

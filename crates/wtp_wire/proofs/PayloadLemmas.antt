@@ -21,7 +21,7 @@ use Rattle.wtp_wire.proofs.FrontLemmas.{found}
 use Rattle.wtp_wire.proofs.PairLemmas.{pair_at-encoded, pair_at-begins, pair_at-shorter, read_from, read_from-nil, read_from-pair, read_from-cut, settings_in-from}
 use Rattle.wtp_wire.proofs.KeptLemmas.{Refuses, kept, kept_with-cases, kept-all, kept-faultless, kept-are_kept, kept-is, or_fault-same, or_fault-chain, kept-append}
 
--- ---- what the grammar says is computed
+-- ---- from the grammar to the computation
 
 -- the pairs at the start are stored in order
 read_from-pairs : (ps m : List (ℕ × ℕ)) (s rest : List ℕ) → ArePairs ps s → read_from m (s ++ rest) ≡ or_fault (kept m ps) (λ k. read_from k rest)
@@ -79,7 +79,7 @@ settings_in-fault code s (ps, front, rest, pairs, faultless, parts, fault) =
           refused-fault m (id, value) rest more at (refused_after ps m id value e cause) ∙ ap (λ (c : ErrorCode). Err c) (sym bad.0)
     ]
 
--- ---- what is computed is what the grammar says
+-- ---- from the computation to the grammar
 
 pairs-push : (ps : List (ℕ × ℕ)) (id value : ℕ) (front s : List ℕ) → ArePairs ps front → EncodesPair id value s → ArePairs (ps ++ (id, value) ∷ []) (front ++ s)
 pairs-push [] id value front s h encoded = (s, [], encoded, refl, ap (λ (x : List ℕ). x ++ s) h ∙ sym (append-nil s))
@@ -98,7 +98,7 @@ refused_cause ps m p e r = elim r.cause [
 one_more : (ps m k : List (ℕ × ℕ)) (p : ℕ × ℕ) → kept [] ps ≡ Ok m → kept_with m p ≡ Ok k → kept [] (ps ++ p ∷ []) ≡ Ok k
 one_more ps m k p e step = kept-append ps (p ∷ []) [] ∙ ap (λ (r : Result (List (ℕ × ℕ)) ErrorCode). or_fault r (λ j. kept j (p ∷ []))) e ∙ ap (λ (r : Result (List (ℕ × ℕ)) ErrorCode). or_fault r (λ j. kept j [])) step
 
--- the pair after the pairs ps is refused, or the rest after it is judged
+-- the pair after the pairs ps is an error, or the rest after it decides
 pair_judged : (ps m : List (ℕ × ℕ)) (p : ℕ × ℕ) (front rest more : List ℕ) → ArePairs ps front → kept [] ps ≡ Ok m → pair_at rest ≡ Some (p, more) → ((k : List (ℕ × ℕ)) (s : List ℕ) → ArePairs (ps ++ p ∷ []) (front ++ s) → kept [] (ps ++ p ∷ []) ≡ Ok k → Judged ((front ++ s) ++ more)) → Judged (front ++ rest)
 pair_judged ps m p front rest more pairs e at next =
     let h = pair_at-begins rest more p.0 p.1 at in
@@ -125,7 +125,7 @@ judged (suc n) ps m front (b ∷ bs) h pairs e = elim (found (pair_at (b ∷ bs)
 pub payload_judged : (s : List ℕ) → Judged s
 payload_judged s = judged (length s) [] [] [] s (omega arith) refl refl
 
--- ---- what is written is read
+-- ---- written settings are read back
 
 pairs-wire : (m : List (ℕ × ℕ)) → AllByRecursion (λ (id : ℕ). id < 2 ^ 62) (keys_of m) → AllByRecursion (λ (v : ℕ). v < 2 ^ 62) (values_of m) → ArePairs m (settings_wire m)
 pairs-wire [] h k = refl

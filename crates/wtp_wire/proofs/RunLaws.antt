@@ -33,7 +33,7 @@ run-too_big role first bytes rest tail e = run_at role first bytes tail (TooBig 
 pub run-short : (role : Role) (first : Bool) (bytes : List ℕ) (tail : Tail) → front bytes ≡ Short → run role first bytes tail ≡ ends (run_stop bytes bytes tail)
 run-short role first bytes tail e = run_at role first bytes tail Short (past_unknown-short bytes e) e
 
--- ---- unknown frames, if the bytes may go on
+-- ---- unknown frames, if more bytes may follow
 
 counted_judged : (o : Option ErrorCode) (bytes : List ℕ) (f : Content) (r : Run) → counted bytes (judged o f r) ≡ judged o f r
 counted_judged None bytes f r = refl

@@ -70,7 +70,7 @@ items-pair bytes more p e t = items-some bytes (let short : length more < length
 
 pub ruleset item_steps = (items-empty, items-nil, items-cut, items-reserved, items-pair)
 
--- ---- what the grammar says is computed
+-- ---- from the grammar to the computation
 
 not_reserved : (id : ℕ) → (IsReserved id → ⊥) → is_reserved id ≡ false
 not_reserved id h = elim (cases_Bool (is_reserved id)) [ inl t ↦ absurd (h (reserved-is_reserved id t)) | inr t ↦ t ]
@@ -113,7 +113,7 @@ has_pairs-items ps fault payload h =
     ∙ items-pairs ps h.front h.rest h.pairs (recursion_from_All (λ (id : ℕ). IsReserved id → ⊥) (keys_of (numbers_of ps)) h.free)
     ∙ ap (λ (l : List (Result SettingPair ErrorCode)). map (λ p. Ok p) ps ++ l) (items-ending fault h.rest h.ending)
 
--- ---- each payload has pairs, and ends or has a fault
+-- ---- each payload has pairs, followed by its end or an error
 
 abbrev Judged : List ℕ → Type 0
 Judged payload = (ps : List SettingPair) × (fault : Option ErrorCode) × HasPairs ps fault payload
@@ -152,7 +152,7 @@ judged (suc n) (b ∷ bs) l = elim (found (pair_at (b ∷ bs))) [
 pub pairs_judged : (payload : List ℕ) → (ps : List SettingPair) × (fault : Option ErrorCode) × HasPairs ps fault payload
 pairs_judged payload = judged (length payload) payload (omega arith)
 
--- ---- what is computed is what the grammar says
+-- ---- from the computation to the grammar
 
 same_fault : (f g : Option ErrorCode) → fault_items f ≡ fault_items g → f ≡ g
 same_fault None None e = refl

@@ -41,7 +41,7 @@ AnswersClose payload (Err (Code code)) = (close_in payload ≡ None) × (code �
 AnswersClose payload (Err Memory) =
     (close : ℕ × List ℕ) × (close_in payload ≡ Some close) × (close.1 ≢ [])
 
--- ---- written
+-- ---- writing
 
 -- the bytes of the payload
 abbrev pub close_value : ℕ × List ℕ → List ℕ

@@ -11,9 +11,11 @@ pub record IsDatagram (id : ℕ) (payload s : List ℕ) : Type 0 where
 
 -- ---- the same, computed
 
+-- the number and the bytes after it, or None if the number is 2^60 or more
 abbrev pub quarter_of : ℕ × List ℕ → Option (ℕ × List ℕ)
 quarter_of found = if nat_lt found.0 (2 ^ 60) then Some found else None
 
+-- the same for a number that may be missing
 abbrev pub quarter_in : Option (ℕ × List ℕ) → Option (ℕ × List ℕ)
 quarter_in None = None
 quarter_in (Some found) = quarter_of found

@@ -23,6 +23,7 @@ AnnouncesKind given (announces.Payload kind n) =
     (given ≡ Some kind) × IsKnown kind × (kind ≢ WebTransport) × (n ≤ max_payload)
 AnnouncesKind given other = Unit {0}
 
+-- the result of next for a value, or None
 abbrev pub and_then : {A B : Type 0} → Option A → (A → Option B) → Option B
 and_then None next = None
 and_then (Some x) next = next x

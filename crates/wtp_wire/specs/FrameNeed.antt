@@ -8,7 +8,7 @@ use Rattle.wtp_core.specs.VarintNeed.{varint_need, varint_need_range, varint_nee
 unfoldable pub frame_need : List ℕ → ℕ
 frame_need bytes = varint_need bytes + varint_need (drop (varint_need bytes) bytes)
 
--- ---- what readers that continue from these bytes rely on
+-- ---- facts for readers that continue from these bytes
 
 pub frame_need_is :
     (h : List ℕ) → frame_need h ≡ varint_need h + varint_need (drop (varint_need h) h)

@@ -64,7 +64,7 @@ FramePolled NoMemory old new a b =
     × (new.due ≡ 0)
     × WantsPayload (old.taken ++ a.ahead) (length old.taken)
 
--- ---- of every source, also of one without a model
+-- ---- every source, even without a model
 
 -- No byte was lost: the bytes given were appended to those held, or they are the head and skipped
 -- bytes of an unknown frame, or the number of bytes left to skip did not grow.

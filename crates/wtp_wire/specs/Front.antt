@@ -85,6 +85,7 @@ extended Short more = Short
 
 -- ---- the same, computed
 
+-- the result of next for a value, or Short if there is none
 abbrev pub or_short : {A : Type 0} → Option A → (A → Front) → Front
 or_short None next = Short
 or_short (Some x) next = next x

@@ -46,6 +46,7 @@ header_extended Short more = Short
 
 -- ---- the same, computed
 
+-- the result of next for a value, or Short if there is none
 abbrev pub or_short_header : {A : Type 0} → Option A → (A → HeaderFront) → HeaderFront
 or_short_header None next = Short
 or_short_header (Some x) next = next x
@@ -61,6 +62,7 @@ abbrev pub kind_header_front : StreamKind → List ℕ → HeaderFront
 kind_header_front kind bytes =
     if has_session kind then session_header_front bytes else Headed (PlainHeader kind) bytes
 
+-- the case, given the kind of the type, if it is known, and the bytes after the type
 abbrev pub typed_header_front : Option StreamKind → List ℕ → HeaderFront
 typed_header_front None bytes = Unknown bytes
 typed_header_front (Some kind) bytes = kind_header_front kind bytes

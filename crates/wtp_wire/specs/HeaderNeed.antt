@@ -11,6 +11,7 @@ abbrev pub second_need : Option StreamKind → List ℕ → ℕ
 second_need None rest = 0
 second_need (Some kind) rest = if has_session kind then varint_need rest else 0
 
+-- the minimum number of bytes after the type, or 0 if the type is incomplete
 abbrev pub need_after : Option (ℕ × List ℕ) → ℕ
 need_after None = 0
 need_after (Some x) = second_need (stream_kind_of x.0) x.1
@@ -19,7 +20,7 @@ need_after (Some x) = second_need (stream_kind_of x.0) x.1
 unfoldable pub header_need : List ℕ → ℕ
 header_need bytes = varint_need bytes + need_after (number_at bytes)
 
--- ---- what readers that continue from these bytes rely on
+-- ---- facts for readers that continue from these bytes
 
 pub header_need_is : (h : List ℕ) → header_need h ≡ varint_need h + need_after (number_at h)
 unfolding header_need

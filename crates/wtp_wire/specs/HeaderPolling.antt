@@ -48,7 +48,7 @@ HeaderGiven Pending old new = (given : List ℕ) × (new ≡ old ++ given)
 HeaderGiven Again old new = ⊥
 HeaderGiven NoMemory old new = ⊥
 
--- ---- its parts
+-- ---- the steps of one poll
 
 -- the result for the bytes of a complete header
 abbrev pub IsWhole : Result Header IoReadError → List ℕ → Type 0

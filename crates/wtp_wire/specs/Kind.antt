@@ -32,6 +32,7 @@ IsKind kind id = id ≡ frame_type_of kind
 
 -- ---- the same, computed
 
+-- whether a type is reserved
 abbrev pub is_exercise : ℕ → Bool
 is_exercise id = is_reserved id
 
@@ -49,6 +50,7 @@ kind_among id (kind ∷ rest) = if id == frame_type_of kind then Some kind else 
 unfoldable pub registered_kind : ℕ → Option FrameKind
 registered_kind id = kind_among id registered
 
+-- the kind that was found, or an exercise kind if the type is reserved
 abbrev pub or_reserved : ℕ → Option FrameKind → Option FrameKind
 or_reserved id (Some kind) = Some kind
 or_reserved id None = if is_exercise id then Some (Exercise id) else None

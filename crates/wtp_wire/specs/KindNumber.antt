@@ -5,6 +5,7 @@ use Rattle.wtp_wire.specs.declared.frame.kind.FrameKind.{FrameKind}
 use Rattle.wtp_wire.specs.declared.frame.kind.FrameKind.TheVariants.{Exercise}
 use Rattle.wtp_wire.specs.Kind.{frame_type_of, registered, kind_among, registered_kind}
 
+-- the kind that was found, or else an exercise kind
 abbrev pub or_exercise : ℕ → Option FrameKind → FrameKind
 or_exercise id (Some kind) = kind
 or_exercise id None = Exercise id
@@ -13,7 +14,7 @@ or_exercise id None = Exercise id
 unfoldable pub kind_numbered : ℕ → FrameKind
 kind_numbered id = or_exercise id (registered_kind id)
 
--- ---- the type stays the same
+-- ---- the type is unchanged
 
 by_test :
     (b : Bool) (kind : FrameKind) (other : Option FrameKind) (id : ℕ)

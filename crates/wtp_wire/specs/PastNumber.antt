@@ -2,6 +2,7 @@
 use Rattle.std.specs.Prelude.{ℕ, List, Option, Some, None}
 use Rattle.wtp_core.specs.Varint.{number_at}
 
+-- the bytes after a number, or all bytes if there is none
 abbrev pub past_some : List ℕ → Option (ℕ × List ℕ) → List ℕ
 past_some bytes None = bytes
 past_some bytes (Some number) = number.1

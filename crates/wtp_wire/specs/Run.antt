@@ -44,6 +44,8 @@ follows f r = record { frames = f ∷ r.frames; ending = r.ending }
 
 -- ---- unknown frames are skipped
 
+-- the bytes after an unknown frame, continued by more, or all bytes if their first frame is not
+-- unknown
 abbrev pub passed : (List ℕ → List ℕ) → List ℕ → Front → List ℕ
 passed more bytes (Framed f rest) = bytes
 passed more bytes (Unknown rest) = more rest
@@ -75,6 +77,7 @@ abbrev pub judged : Option ErrorCode → Content → Run → Run
 judged None f r = follows f r
 judged (Some c) f r = ends (H3 c)
 
+-- the run, given the first frame that is not unknown; more is the run of the bytes after it
 abbrev pub next_run : (Bool → List ℕ → Run) → Role → Bool → List ℕ → List ℕ → Tail → Front → Run
 next_run more role first bytes rest tail (Framed f behind) =
     judged (rule role first (kind_in f)) f (more false behind)
@@ -102,6 +105,8 @@ counted_end bytes ImmediateFin = ImmediateFin
 counted_end bytes Reset = Reset
 counted_end bytes NotConnected = NotConnected
 
+-- the run with these frames; if there are none, the length of these bytes is the number of bytes
+-- after the last frame
 abbrev pub counted_run : List ℕ → List Content → Ending → Run
 counted_run bytes [] ending = ends (counted_end bytes ending)
 counted_run bytes (f ∷ frames) ending = record { frames = f ∷ frames; ending = ending }

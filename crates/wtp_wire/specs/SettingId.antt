@@ -48,7 +48,7 @@ setting_name_of (Exercise number) = codes "0x" ++ digits 16 false number
 abbrev pub IsReserved : ℕ → Type 0
 IsReserved id = (id ≡ 0x00) ⊎ ((0x02 ≤ id) × (id ≤ 0x05))
 
--- ---- what follows from it
+-- ---- derived definitions
 
 -- the setting has this identifier; the exercise identifiers are the reserved frame types (RFC 9114,
 -- section 7.2.4.1)
@@ -71,8 +71,10 @@ known_number_of setting = Some (setting_number_of setting)
 unfoldable pub setting_id_of : ℕ → Option SettingId
 setting_id_of id = kind_by setting_number_of (λ n. Exercise n) named_settings id
 
+-- whether an identifier is that of a setting that is stored
 abbrev pub is_setting : ℕ → Bool
 is_setting id = is_some (setting_id_of id)
 
+-- whether an identifier is reserved because HTTP/2 used it
 abbrev pub is_reserved : ℕ → Bool
 is_reserved id = (id == 0) || (nat_le 2 id && nat_le id 5)

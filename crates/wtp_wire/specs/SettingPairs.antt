@@ -38,6 +38,7 @@ pub record HasPairs (ps : List SettingPair) (fault : Option ErrorCode) (payload 
     pub parts : payload ≡ front ++ rest
     pub ending : EndsPairs fault rest
 
+-- the item of an error, if there is one
 abbrev pub fault_items : Option ErrorCode → List (Result SettingPair ErrorCode)
 fault_items None = []
 fault_items (Some code) = Err code ∷ []
@@ -48,6 +49,7 @@ pair_items ps fault = map (λ p. Ok p) ps ++ fault_items fault
 
 -- ---- the same, computed
 
+-- the first item, and the items of the bytes after it
 abbrev pub items_at :
     (List ℕ → List (Result SettingPair ErrorCode)) → Option ((ℕ × ℕ) × List ℕ)
     → List (Result SettingPair ErrorCode)

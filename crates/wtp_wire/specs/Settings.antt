@@ -29,6 +29,7 @@ pub record IsSettings (m : List (ℕ × ℕ)) : Type 0 where
 abbrev pub value_at : List (ℕ × ℕ) → ℕ → Option ℕ
 value_at m id = lookup (is_at (nat_cmp id)) m
 
+-- the value of an identifier, or None if there is no identifier
 abbrev pub value_at_some : List (ℕ × ℕ) → Option ℕ → Option ℕ
 value_at_some m None = None
 value_at_some m (Some id) = value_at m id
@@ -109,10 +110,12 @@ kept_with m p =
     then (if is_some (value_at m p.0) then Err Settings else Ok (with_setting m p.0 p.1))
     else Ok m)
 
+-- the result of next for a value, or Frame if there is none
 abbrev pub or_cut : {A B : Type 0} → Option A → (A → Result B ErrorCode) → Result B ErrorCode
 or_cut None next = Err Frame
 or_cut (Some x) next = next x
 
+-- the result of next for a value, or the error
 abbrev pub or_fault :
     {A B : Type 0} → Result A ErrorCode → (A → Result B ErrorCode) → Result B ErrorCode
 or_fault (Err code) next = Err code
@@ -163,8 +166,8 @@ settings_parts (p ∷ ps) = shortest p.0 ∷ shortest p.1 ∷ settings_parts ps
 abbrev pub settings_wire : List (ℕ × ℕ) → List ℕ
 settings_wire m = joined (settings_parts m)
 
--- the room after those of the parts that fit were written over it, one after the other, up to the
--- first that does not fit
+-- the bytes of place after the parts were written over them in order, up to the first part that
+-- does not fit
 abbrev pub overwritten : List (List ℕ) → List ℕ → List ℕ
 overwritten [] place = place
 overwritten (part ∷ parts) place =

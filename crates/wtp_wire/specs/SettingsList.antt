@@ -16,6 +16,7 @@ pub record AreListed (m : List (ℕ × ℕ)) (xs : List (SettingId × ℕ)) : Ty
 
 -- ---- the same, computed
 
+-- the setting that was found, or else the other one
 abbrev pub setting_or : Option SettingId → SettingId → SettingId
 setting_or None other = other
 setting_or (Some setting) other = setting

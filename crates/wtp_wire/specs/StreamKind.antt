@@ -25,7 +25,7 @@ abbrev pub has_session : StreamKind → Bool
 has_session WebTransport = true
 has_session kind = false
 
--- ---- what follows from it
+-- ---- derived definitions
 
 -- streams of this type have this kind; the reserved types are the reserved frame types (RFC 9114,
 -- section 6.2.3)

@@ -81,9 +81,9 @@ pub fn cuts_make_no_difference()
 {}
 
 /// A new reading returns the capsules of the data and its ending, in whatever pieces the data
-/// arrives and however often a call fails and is repeated. The steps are the calls made; `held` and
-/// the bytes left are the state after them. If no byte is left, the data ends between two capsules
-/// exactly if `finish` returns no error.
+/// arrives and however often a call fails and is repeated. The steps are the pieces that arrived
+/// and the calls that returned; `held` and the bytes left are the state after them. If no byte is
+/// left, the data ends between two capsules exactly if `finish` returns no error.
 pub fn pieces_make_no_difference()
     ensures between { (steps : List Step) (held : Held) → Leads steps new_held [] held []
         → next_held held [] ≡ End
