@@ -74,7 +74,7 @@ unfolding request_for
 list_found (Err fault) m a p is authority path = cc is
 list_found (Ok url) m a p is authority path = found_fields (bytes_eq url.scheme (codes "https")) (authority_of url) (with_query url.path url.query) a p m _ is authority path
 
--- ---- what is read of a written list
+-- ---- decoding a written list
 
 pub list_again : (limit : ℕ) (fields : List Field) → AreOctets fields → list_size fields ≤ limit → Reaches limit (section_of fields) fields []
 list_again limit fields are fits = record { start = flat_map encoded_line fields; prefix = prefix_again fields; are = octet_lines_again fields are; fits = fits }

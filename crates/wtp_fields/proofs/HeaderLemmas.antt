@@ -40,7 +40,7 @@ value_found name (e ∷ es) =
     chosen string_bytes (is_at (λ k. slice_cmp nat_cmp name (string_bytes k)) e.0) e.1 (lookup (is_at (λ k. slice_cmp nat_cmp name (string_bytes k))) es)
     ∙ rw (eq_turned name (string_bytes e.0), value_found name es) refl
 
--- ---- what holds of each map
+-- ---- facts about every map
 
 below : (k : String Global) (es : List (String Global × String Global)) → AllByRecursion (λ y. string_cmp k y ≡ Less) (map (λ (e : String Global × String Global). e.0) es)
     → AllByRecursion (λ y. slice_cmp nat_cmp (string_bytes k) y ≡ Less) (map (λ (field : Field). field.0) (map field_of es))

@@ -14,7 +14,7 @@ use Rattle.wtp_fields.specs.SessionRequest.{reserved_names, is_reserved_name, fa
 use Rattle.wtp_qpack.proofs.FieldMaps.{map_last, value_put}
 use Rattle.wtp_fields.proofs.HeaderLemmas.{eq_turned}
 
--- ---- no fault
+-- ---- no error
 
 first_none : (fault : Option HeadersParseError) (faults : List (Option HeadersParseError)) → first_fault (fault ∷ faults) ≡ None → (fault ≡ None) × (first_fault faults ≡ None)
 first_none None faults e = (refl, e)
@@ -45,7 +45,7 @@ lent_some None None e there = there
 lent_some None (Some v) e there = cc e
 lent_some (Some x) value e there = refl
 
--- ---- another field keeps a request
+-- ---- adding a field keeps a request valid
 
 eq_sym : (xs ys : List ℕ) → bytes_eq xs ys ≡ bytes_eq ys xs
 eq_sym xs ys = sym (is_eq-slice_cmp xs ys) ∙ eq_turned xs ys

@@ -49,7 +49,7 @@ pub parsed_good : {T E : Type 0} {P : Type 0} (r : Result T E) (value : T) → O
 parsed_good (Ok x) value given e = given.0
 parsed_good (Err f) value given e = cc e
 
--- ---- what keeps it
+-- ---- changes that keep it
 
 pub status_kept : (m : List Field) (field : Field) → HasStatus m → bytes_eq field.0 (codes ":status") ≡ false → HasStatus (put m field)
 status_kept m field has other =

@@ -55,6 +55,7 @@ RequestIs fields result =
 abbrev pub digit_of : ℕ → Option ℕ
 digit_of byte = if nat_lt 47 byte && nat_lt byte 58 then Some (byte - 48) else None
 
+-- the number with these three digits, or None if one is missing
 abbrev pub of_digits : Option ℕ → Option ℕ → Option ℕ → Option ℕ
 of_digits (Some a) (Some b) (Some c) = Some (a * 100 + b * 10 + c)
 of_digits (Some a) (Some b) None = None

@@ -50,6 +50,7 @@ is_blank byte = byte == 32 || byte == 9
 abbrev pub is_value_byte : ℕ → Bool
 is_value_byte byte = byte == 9 || (nat_lt 31 byte && not (byte == 127))
 
+-- there is a byte, and it is a space or a tab
 abbrev pub is_blank_at : Option ℕ → Bool
 is_blank_at None = false
 is_blank_at (Some byte) = is_blank byte

@@ -10,6 +10,7 @@ use Rattle.wtp_qpack.specs.Field.{Field}
 use Rattle.wtp_qpack.specs.FieldLine.{encoded_line}
 use Rattle.wtp_qpack.specs.FieldSection.{after_prefix, AreLines, map_at, section_of}
 
+-- the first byte of the name is a colon
 abbrev pub begins_with_colon : List ℕ → Bool
 begins_with_colon [] = false
 begins_with_colon (b ∷ bs) = b == 58
@@ -51,6 +52,7 @@ BeginsLine bytes =
 
 -- ---- the two groups, as they are written
 
+-- the field is a pseudo-header field, or is none, as the flag says
 abbrev pub in_group : Bool → Field → Bool
 in_group true field = is_pseudo field
 in_group false field = not (is_pseudo field)

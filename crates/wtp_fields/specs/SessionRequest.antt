@@ -51,6 +51,7 @@ abbrev pub fault_without : HeadersParseError → Option (List ℕ) → Option He
 fault_without missing None = Some missing
 fault_without missing (Some value) = None
 
+-- the first error in the list
 abbrev pub first_fault : List (Option HeadersParseError) → Option HeadersParseError
 first_fault [] = None
 first_fault (Some fault ∷ faults) = Some fault
@@ -136,6 +137,7 @@ abbrev pub or_message : Option HeadersParseError → List Field → Result (List
 or_message None m = Ok m
 or_message (Some fault) m = Err (Code Message)
 
+-- the request of a header map, or the error code
 abbrev pub request_by : Result (List Field) Refused → Result (List Field) Refused
 request_by (Ok m) = or_message (fault_of m) m
 request_by (Err refused) = Err refused
