@@ -72,7 +72,7 @@ opening first h ahead tail =
 abbrev pub opening_of : Bool → Held → Source → Opening
 opening_of first h s = opening first h s.ahead (tail_of s.ending)
 
--- ---- what one poll did to a source with a model
+-- ---- the effect of one poll on a source with a model
 
 -- In these definitions, old and new are the reading states before and after one poll. `first` and
 -- `next` are whether the next frame is the first one of its stream, before and after it.
@@ -159,7 +159,7 @@ bi_accept_waits other = 0
 abbrev pub BiAcceptWaits : BiAccepted → Source → Source → Type 0
 BiAcceptWaits result a b = b.waits ≡ a.waits + bi_accept_waits result
 
--- ---- of every source, also of one without a model
+-- ---- every source, even without a model
 
 -- the bytes held followed by those given are a frame of a reserved type
 abbrev pub ReservedGiven : Bool → Held → Held → Type 0

@@ -10,10 +10,12 @@ abbrev pub due_of : Option FrameKind → ℕ → ℕ → ℕ
 due_of None size there = size - there
 due_of (Some kind) size there = 0
 
+-- the same, given the length and the bytes after it, or 0 if the length is incomplete
 abbrev pub due_second : Option FrameKind → Option (ℕ × List ℕ) → ℕ
 due_second kind None = 0
 due_second kind (Some size) = due_of kind size.0 (length size.1)
 
+-- the same, given the type and the bytes after it, or 0 if the type is incomplete
 abbrev pub due_first : Option (ℕ × List ℕ) → ℕ
 due_first None = 0
 due_first (Some id) = due_second (kind_of id.0) (number_at id.1)

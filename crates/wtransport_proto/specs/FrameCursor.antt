@@ -72,7 +72,7 @@ pub record WantsMore (n : ℕ) (old : FrameCursor) (bytes : List ℕ) (new : Fra
   pub few : length (drop n bytes) ≤ 4111
   pub still : front_held (held_by new) (drop n bytes) ≡ Short
 
--- ---- a fault
+-- ---- an error
 
 -- the first frame that is not unknown has this error
 abbrev pub IsFault : Role → Bool → Front → ErrorCode → Type 0

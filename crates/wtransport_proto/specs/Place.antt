@@ -50,7 +50,7 @@ remainder_within (suc n) role first bytes =
 unfoldable pub remainder : Role → Bool → List ℕ → Remainder
 remainder role first bytes = remainder_within (length bytes) role first bytes
 
--- ---- of what a reading holds and the bytes ahead
+-- ---- of a reading state and the bytes ahead
 
 -- The bytes held and ahead where a run ends, and whether the next frame is the first one of its
 -- stream. Neither a frame that the stream allows nor a complete unknown frame begins there.
@@ -115,7 +115,7 @@ pub record SamePlace (old new : Place) : Type 0 where
   pub first : new.first ≡ old.first
   pub remains : Remains old.held new.held old.ahead new.ahead
 
--- ---- after the fault
+-- ---- after an error
 
 -- The bytes left after an error, given the first frame at its position: a frame that is not
 -- allowed, or an invalid head, was taken completely, and no byte after it; if the bytes are too

@@ -28,7 +28,7 @@ use Rattle.wtransport_proto.specs.declared.stream.accepting.UniAccepting.{UniAcc
 use Rattle.wtp_wire.specs.Header.{Header}
 use Rattle.wtransport_proto.specs.Streams.{header_of, session_of}
 
--- ---- upgrades that are written
+-- ---- upgrades that write
 
 -- The effect of one poll on the model of a sink: it took the bytes sent between the old state and
 -- the returned one, or all remaining bytes if the upgrade is done. Pending, Stopped and
@@ -51,6 +51,8 @@ pub record SentPart (old new : Writing) : Type 0 where
 abbrev pub bi_writing : BiUpgrading → Writing
 bi_writing u = u.writing
 
+-- the state of an upgrade after a poll that did not complete it: only the number of bytes sent
+-- changed
 abbrev pub BiGoesOn : BiUpgrading → BiUpgrading → Type 0
 BiGoesOn old new =
     (new.stream ≡ old.stream) × (new.session_id ≡ old.session_id) × SentPart old.writing new.writing
@@ -67,6 +69,8 @@ BiStepped (Failed p e) old = BiGoesOn old p
 abbrev pub uni_writing : UniUpgrading → Writing
 uni_writing u = u.writing
 
+-- the state of an upgrade after a poll that did not complete it: only the number of bytes sent
+-- changed
 abbrev pub UniGoesOn : UniUpgrading → UniUpgrading → Type 0
 UniGoesOn old new =
     (new.stream ≡ old.stream) × (new.header ≡ old.header) × SentPart old.writing new.writing
@@ -80,7 +84,7 @@ UniStepped (Pending p) old = UniGoesOn old p
 UniStepped (NoMemory p) old = UniGoesOn old p
 UniStepped (Failed p e) old = UniGoesOn old p
 
--- ---- the upgrade that is read
+-- ---- the upgrade that reads a header
 
 -- In these definitions, old and new are the bytes held before and after one poll.
 
@@ -108,10 +112,12 @@ abbrev pub accept_waits : Stepped UniAccepting (Stream UniRemote (H3 Header)) Io
 accept_waits (Pending p) = 1
 accept_waits other = 0
 
+-- the count of waits rose by one if the result is Pending, and otherwise not
 abbrev pub AcceptWaits :
     Stepped UniAccepting (Stream UniRemote (H3 Header)) IoReadError → Source → Source → Type 0
 AcceptWaits result a b = b.waits ≡ a.waits + accept_waits result
 
+-- the same for every source, even without a model
 abbrev pub HeaderFaultGiven : ErrorCode → List ℕ → List ℕ → Type 0
 HeaderFaultGiven c old new =
     ((c ≡ StreamCreation) × HeaderAnswered old new Unknown)
