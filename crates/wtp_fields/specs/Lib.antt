@@ -15,3 +15,4 @@ pub use Rattle.wtp_qpack.specs.StringLiteral
 pub use Rattle.wtp_qpack.specs.FieldLine
 pub use Rattle.wtp_qpack.specs.FieldSection
 pub use Rattle.wtp_qpack.specs.FieldLines
+pub use Rattle.wtp_qpack.specs.SectionCodes

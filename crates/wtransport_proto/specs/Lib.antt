@@ -32,6 +32,8 @@ pub use Rattle.wtp_core.specs.Put
 pub use Rattle.wtp_core.specs.ErrorCodes
 pub use Rattle.wtp_core.specs.ErrorScope
 pub use Rattle.wtp_core.specs.ApplicationCodes
+pub use Rattle.wtp_core.specs.Codes
+pub use Rattle.wtp_core.specs.Numbers
 pub use Rattle.wtp_wire.specs.Kind
 pub use Rattle.wtp_wire.specs.Content
 pub use Rattle.wtp_wire.specs.Front
@@ -54,6 +56,8 @@ pub use Rattle.wtp_wire.specs.HeaderPolling
 pub use Rattle.wtp_wire.specs.SettingId
 pub use Rattle.wtp_wire.specs.Settings
 pub use Rattle.wtp_wire.specs.SettingsList
+pub use Rattle.wtp_wire.specs.SettingPairs
+pub use Rattle.wtp_wire.specs.PastNumber
 pub use Rattle.wtp_wire.specs.Rule
 pub use Rattle.wtp_wire.specs.Role
 pub use Rattle.wtp_wire.specs.Run
@@ -63,6 +67,7 @@ pub use Rattle.wtp_wire.specs.Codes as WireCodes
 pub use Rattle.wtp_wire.specs.CapsuleFront
 pub use Rattle.wtp_wire.specs.CapsuleStream
 pub use Rattle.wtp_wire.specs.CapsuleCursor
+pub use Rattle.wtp_wire.specs.AnyCapsule
 pub use Rattle.wtp_huffman.specs.HuffmanRows
 pub use Rattle.wtp_huffman.specs.Huffman
 pub use Rattle.wtp_fields.specs.Qpack
@@ -78,3 +83,7 @@ pub use Rattle.wtp_fields.specs.ResponseFrame
 pub use Rattle.wtp_fields.specs.FieldCodes
 pub use Rattle.wtp_fields.specs.FieldLines
 pub use Rattle.wtp_fields.specs.Headers
+pub use Rattle.wtp_fields.specs.FieldList
+pub use Rattle.wtp_fields.specs.FieldMessages
+pub use Rattle.wtp_fields.specs.FieldWriting
+pub use Rattle.wtp_fields.specs.SectionCodes
