@@ -1,5 +1,5 @@
-"""The edits in `crates/NAME/wrong-bodies/`, each of which gives a function of that crate a wrong
-body, and copies of the crate in which some of them are made.
+"""The edits in `crates/NAME/mutants/`, each of which makes a mutant of a function
+of that crate, and copies of the crate in which some of them are made.
 
 An edit is a file of lines: `file: PATH`, then pairs `old: TEXT` and `new: TEXT`, where the old text
 is in the file exactly once.
@@ -160,7 +160,7 @@ def drop_answers(folder, body, names):
 
 def names_of(top, crate, is_gate):
     """Returns the names of a crate's edits: of those in `gate/`, or of all."""
-    folder = top / "crates" / crate / "wrong-bodies"
+    folder = top / "crates" / crate / "mutants"
     return sorted(
         file.name
         for file in [*folder.glob("gate/*.edit"), *([] if is_gate else folder.glob("*.edit"))]
@@ -169,10 +169,10 @@ def names_of(top, crate, is_gate):
 
 def copy_crate(top, crate, folder):
     """Copies a crate to a folder, with all of its edits in `folder/edits`."""
-    ignored = shutil.ignore_patterns("out", "wrong-bodies")
+    ignored = shutil.ignore_patterns("out", "mutants")
     shutil.copytree(top / "crates" / crate, folder, ignore=ignored)
     (folder / "edits").mkdir()
-    for file in (top / "crates" / crate / "wrong-bodies").rglob("*.edit"):
+    for file in (top / "crates" / crate / "mutants").rglob("*.edit"):
         shutil.copy(file, folder / "edits")
 
 

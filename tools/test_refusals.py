@@ -116,7 +116,7 @@ class Refusals(unittest.TestCase):
     def test_numbers_at_which_it_is_false(self):
         words = (
             "`omega`: the goal does not follow. All of that holds, and the goal fails, at "
-            "`c.due` = 1."
+            "`c.skip_remaining` = 1."
         )
         self.check(f"{ANSWERS}error: `returns`: {words}\n", True)
 

@@ -1,5 +1,5 @@
-"""Tries edits that give functions wrong bodies, and tells how the prover refuses each. What the
-tries are, and what counts as refused, is in tools/wrong-bodies, which uses this.
+"""Tries mutants of functions, and tells how the prover refuses each. What the
+tries are, and what counts as refused, is in tools/mutants, which uses this.
 """
 
 import collections
@@ -8,7 +8,7 @@ import subprocess
 from dataclasses import dataclass, field
 from pathlib import Path
 
-import libraries
+import ci_libraries
 from edits import copied, copy_without_others, drop_answers, make, together
 from refusals import may_be, refusals
 
@@ -108,7 +108,7 @@ class Part:
         words = [
             "rattle",
             "check",
-            *libraries.arguments_of(folder, self.crate, self.libraries),
+            *ci_libraries.arguments_of(folder, self.crate, self.libraries),
             *flags,
         ]
         words += ["--incremental", "../incremental", "--jobs", "1"]
@@ -198,7 +198,7 @@ class Part:
         elif not has_verdict:
             trial.fault = f"BAD EDIT: it does not compile, or its check did not end\n{said[-2000:]}"
         elif is_refused:
-            # (of the rest nothing changed but what the wrong body gives it)
+            # (of the rest nothing changed but what the mutant gives it)
             trial.fault = "NOT SHOWN: no goal is refused"
             trial.note(refusals(said))
 

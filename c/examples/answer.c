@@ -34,7 +34,7 @@ int main(void) {
   switch (wt_request_read(stream + frame.offset, frame.length, texts, sizeof texts, &authority, &used,
                           &code)) {
     case WT_OK: break;
-    case WT_FAULT: fprintf(stderr, "refused with 0x%llx\n", (unsigned long long)code); return 2;
+    case WT_ERROR: fprintf(stderr, "refused with 0x%llx\n", (unsigned long long)code); return 2;
     default: fputs("no memory\n", stderr); return 1;
   }
   fprintf(stderr, "host %.*s, path %.*s\n", (int)authority, (const char *)texts,

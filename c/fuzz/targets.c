@@ -40,7 +40,7 @@ static void stream_header(const uint8_t *d, size_t n) {
   uint64_t code;
   uint8_t out[16];
   int answer = wt_stream_header_read(d, n, &consumed, &header, &code);
-  note((uint64_t)answer, answer == WT_OK ? header.type : answer == WT_FAULT ? code : 0);
+  note((uint64_t)answer, answer == WT_OK ? header.type : answer == WT_ERROR ? code : 0);
   if (answer == WT_OK) {
     MUST(consumed <= n && wt_stream_header_write(&header, out, 16, &used) == WT_OK && used <= consumed);
   }
@@ -69,14 +69,14 @@ static uint64_t walk(const uint8_t *d, size_t n, uint8_t kind, size_t step) {
     int answer;
     if (have > 0) memcpy(held, d + at, have);
     answer = wt_read_frame(&reader, held, have, &consumed, &frame, &code);
-    MUST(answer == WT_FAULT || consumed <= have);
-    note((uint64_t)answer, answer == WT_OK ? frame.type : answer == WT_FAULT ? code : reader.due > 0);
+    MUST(answer == WT_ERROR || consumed <= have);
+    note((uint64_t)answer, answer == WT_OK ? frame.type : answer == WT_ERROR ? code : reader.skip_remaining > 0);
     if (answer == WT_OK) {
       MUST(frame.offset + frame.length == consumed && frame.length <= WT_MAX_FRAME_PAYLOAD);
       sum = sum * 31 + frame.type + frame.session + frame.length + (frame.length ? held[frame.offset] : 0);
     }
     free(held);
-    if (answer == WT_FAULT) return sum * 31 + code;
+    if (answer == WT_ERROR) return sum * 31 + code;
     at += consumed;
     have -= consumed;
     if (answer == WT_MORE) {
@@ -100,7 +100,7 @@ static void write_again(const wt_field *some, size_t count, const uint8_t *texts
   uint64_t code;
   int answer = wt_fields_write(some, count, texts, used, section, sizeof section, &size);
   note(100, (uint64_t)answer);
-  MUST(answer == WT_OK || answer == WT_INVALID || answer == WT_ROOM);
+  MUST(answer == WT_OK || answer == WT_INVALID || answer == WT_BUFFER_TOO_SMALL);
   if (answer != WT_OK) return;
   MUST(wt_fields_read(section, size, again, 64, again_texts, sizeof again_texts, &again_count, &again_used,
                       &code) == WT_OK);
@@ -122,13 +122,13 @@ static uint64_t walk_capsules(const uint8_t *d, size_t n, size_t step) {
     if (have > 0) memcpy(held, d + at, have);
     answer = wt_capsule_read(&reader, held, have, &consumed, &capsule, &code);
     MUST(consumed <= have);
-    note((uint64_t)answer, answer == WT_OK ? capsule.length : reader.due > 0);
+    note((uint64_t)answer, answer == WT_OK ? capsule.length : reader.skip_remaining > 0);
     if (answer == WT_OK) {
       MUST(capsule.offset + capsule.length == consumed && capsule.length <= WT_MAX_CAPSULE_VALUE);
       sum = sum * 31 + capsule.type + capsule.length + (capsule.length ? held[capsule.offset] : 0);
     }
     free(held);
-    if (answer == WT_FAULT) return sum * 31 + code;
+    if (answer == WT_ERROR) return sum * 31 + code;
     at += consumed;
     have -= consumed;
     if (answer == WT_MORE) {
@@ -151,15 +151,15 @@ static void request_fault(const uint8_t *d, size_t n) {
   size_t authority, used, size;
   int fault = -1;
   uint64_t code, other;
-  int answer = wt_request_fault(d, n, &fault, &code);
+  int answer = wt_request_check(d, n, &fault, &code);
   int read = wt_request_read(d, n, out, sizeof out, &authority, &used, &other);
   note((uint64_t)answer, (uint64_t)fault);
-  if (answer == WT_FAULT) {
-    MUST(fault == -1 && code == WT_QPACK_DECOMPRESSION_FAILED && read == WT_FAULT && other == WT_QPACK_DECOMPRESSION_FAILED);
+  if (answer == WT_ERROR) {
+    MUST(fault == -1 && code == WT_QPACK_DECOMPRESSION_FAILED && read == WT_ERROR && other == WT_QPACK_DECOMPRESSION_FAILED);
   } else if (fault == WT_REQUEST_OK) {
-    MUST(read == WT_OK || read == WT_ROOM);
+    MUST(read == WT_OK || read == WT_BUFFER_TOO_SMALL);
   } else {
-    MUST(answer == WT_OK && read == WT_FAULT && other == WT_H3_MESSAGE_ERROR);
+    MUST(answer == WT_OK && read == WT_ERROR && other == WT_H3_MESSAGE_ERROR);
     MUST(wt_request_fault_name(fault, name, sizeof name, &size) == WT_OK && size > 0);
   }
 }
@@ -181,7 +181,7 @@ static void fields(const uint8_t *d, size_t n) {
     }
     write_again(some, count, texts, used);
   }
-  MUST(answer != WT_ROOM || count > 64 || used > sizeof texts);
+  MUST(answer != WT_BUFFER_TOO_SMALL || count > 64 || used > sizeof texts);
 }
 
 static void settings(const uint8_t *d, size_t n) {
@@ -191,7 +191,7 @@ static void settings(const uint8_t *d, size_t n) {
   uint8_t out[1024];
   size_t used;
   int answer = wt_settings_read(d, n, some, 64, &count, &code);
-  note((uint64_t)answer, answer == WT_FAULT ? code : 0);
+  note((uint64_t)answer, answer == WT_ERROR ? code : 0);
   if (answer == WT_OK) {
     for (size_t i = 0; i < count; i++) note(100, some[i].id);
     MUST(count <= 64 && wt_settings_write(some, count, out, sizeof out, &used) == WT_OK && used <= n);
@@ -203,7 +203,7 @@ static void request(const uint8_t *d, size_t n) {
   size_t authority, used;
   uint64_t code;
   int answer = wt_request_read(d, n, out, sizeof out, &authority, &used, &code);
-  note((uint64_t)answer, answer == WT_OK ? used : answer == WT_FAULT ? code : 0);
+  note((uint64_t)answer, answer == WT_OK ? used : answer == WT_ERROR ? code : 0);
   if (answer == WT_OK) MUST(authority <= used && used <= sizeof out);
 }
 
@@ -225,7 +225,7 @@ static void url(const uint8_t *d, size_t n) {
   if (answer == WT_OK && used > 67) {
     /* the length of a payload of 64 to 16383 bytes has two bytes */
     answer = wt_request_read(out + 3, used - 3, parts, sizeof parts, &authority, &both, &code);
-    MUST(answer == WT_OK || (answer == WT_ROOM && both > sizeof parts));
+    MUST(answer == WT_OK || (answer == WT_BUFFER_TOO_SMALL && both > sizeof parts));
   }
 }
 

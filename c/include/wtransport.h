@@ -25,15 +25,15 @@ extern "C" {
 enum {
   WT_OK = 0,       /* done */
   WT_MORE = 1,     /* more bytes are needed */
-  WT_FAULT = -1,   /* the input has a fault; *code is its error code */
-  WT_ROOM = -2,    /* an output is too short; its size is reported */
+  WT_ERROR = -1,   /* the input has a fault; *code is its error code */
+  WT_BUFFER_TOO_SMALL = -2,    /* an output is too short; its size is reported */
   WT_INVALID = -3, /* an argument is out of its range; nothing changed */
   WT_MEMORY = -4   /* memory allocation failed; nothing changed but the arrays of wt_fields_read, and the
                       call can be made again */
 };
 
 /* Calls that write do so at the start of `out`, which has room for `room` bytes, and change nothing
-   after that. `WT_OK`: *used bytes were written. `WT_ROOM`: `out` did not change, and *used is the
+   after that. `WT_OK`: *used bytes were written. `WT_BUFFER_TOO_SMALL`: `out` did not change, and *used is the
    room that is needed; so a call with no room at all is a way to ask for the size. */
 
 /* ---- Version ---- */
@@ -84,7 +84,7 @@ uint32_t wt_version(void);
 int wt_varint_read(const uint8_t *bytes, size_t length, uint64_t *value, size_t *consumed);
 
 /* Writes the shortest encoding of a number.
-   WT_OK, WT_ROOM: as above. WT_INVALID: the number is 2^62 or more. */
+   WT_OK, WT_BUFFER_TOO_SMALL: as above. WT_INVALID: the number is 2^62 or more. */
 int wt_varint_write(uint64_t value, uint8_t *out, size_t room, size_t *used);
 
 /* The size of the shortest encoding, 1, 2, 4 or 8; or 0 if the number is 2^62 or more. */
@@ -110,13 +110,13 @@ typedef struct wt_stream_header {
    reserved one is to be ignored.
    WT_OK: *header is the header, and *consumed its size.
    WT_MORE: there are too few bytes; *consumed is 0.
-   WT_FAULT: *code is WT_H3_STREAM_CREATION_ERROR for an unknown type, after which the stream alone is no
+   WT_ERROR: *code is WT_H3_STREAM_CREATION_ERROR for an unknown type, after which the stream alone is no
    longer read, or WT_H3_ID_ERROR for an invalid session ID; *consumed is 0. */
 int wt_stream_header_read(const uint8_t *bytes, size_t length, size_t *consumed,
                           wt_stream_header *header, uint64_t *code);
 
 /* Writes a header.
-   WT_OK, WT_ROOM: as above. WT_INVALID: the type is unknown, the session of a WebTransport stream is
+   WT_OK, WT_BUFFER_TOO_SMALL: as above. WT_INVALID: the type is unknown, the session of a WebTransport stream is
    not one, or the session of another stream is not 0. */
 int wt_stream_header_write(const wt_stream_header *header, uint8_t *out, size_t room, size_t *used);
 
@@ -124,12 +124,12 @@ int wt_stream_header_write(const wt_stream_header *header, uint8_t *out, size_t 
 
 /* Reads a QUIC datagram.
    WT_OK: *session is its session, and the payload is all bytes from *offset on.
-   WT_FAULT: *code is WT_H3_DATAGRAM_ERROR. */
+   WT_ERROR: *code is WT_H3_DATAGRAM_ERROR. */
 int wt_datagram_read(const uint8_t *bytes, size_t length, uint64_t *session, size_t *offset,
                      uint64_t *code);
 
 /* Writes a datagram.
-   WT_OK, WT_ROOM: as above. WT_INVALID: the number is not that of a session. */
+   WT_OK, WT_BUFFER_TOO_SMALL: as above. WT_INVALID: the number is not that of a session. */
 int wt_datagram_write(uint64_t session, const uint8_t *payload, size_t length, uint8_t *out,
                       size_t room, size_t *used);
 
@@ -158,7 +158,7 @@ enum {
 typedef struct wt_reader {
   uint8_t kind;  /* one of WT_READ_.. */
   uint8_t first; /* 1 if the next frame would be the first, otherwise 0 */
-  uint64_t due;  /* payload bytes of an unknown frame that are still to be skipped, fewer than 2^62 */
+  uint64_t skip_remaining;  /* payload bytes of an unknown frame that are still to be skipped, fewer than 2^62 */
 } wt_reader;
 
 /* A frame. Its payload is `length` bytes from bytes[offset] on, of the bytes given to the call that
@@ -182,7 +182,7 @@ int wt_reader_new(uint8_t kind, wt_reader *reader);
    WT_OK: *frame is the next frame. The next call begins after the first *consumed bytes.
    WT_MORE: there is no complete frame. The bytes after the first *consumed, at most WT_MAX_FRAME_REST, are
    to be given again, with more bytes after them.
-   WT_FAULT: *code is WT_H3_FRAME_UNEXPECTED for a frame that the stream does not allow, WT_H3_FRAME_ERROR
+   WT_ERROR: *code is WT_H3_FRAME_UNEXPECTED for a frame that the stream does not allow, WT_H3_FRAME_ERROR
    for a WebTransport frame that is not the first of a stream that the peer opened, WT_H3_ID_ERROR for an
    invalid session ID, or WT_H3_EXCESSIVE_LOAD for a payload above WT_MAX_FRAME_PAYLOAD bytes; *consumed is
    0, and *reader is unchanged.
@@ -194,7 +194,7 @@ int wt_read_frame(wt_reader *reader, const uint8_t *bytes, size_t length, size_t
 
 /* Call this when the stream ends, with the bytes that have not been consumed: those after the first
    *consumed of the last WT_MORE, or none.
-   WT_OK: the stream may end here. WT_FAULT: a frame has begun; *code is WT_H3_FRAME_ERROR. WT_INVALID:
+   WT_OK: the stream may end here. WT_ERROR: a frame has begun; *code is WT_H3_FRAME_ERROR. WT_INVALID:
    *reader is not valid. */
 int wt_read_end(const wt_reader *reader, const uint8_t *rest, size_t length, uint64_t *code);
 
@@ -209,7 +209,7 @@ enum {
 
 /* Writes a frame with a payload: DATA, HEADERS, SETTINGS, or of a type that is reserved for exercise
    (0x21 + 0x1f * n). A payload may be longer than those that wt_read_frame reads.
-   WT_OK, WT_ROOM: as above. WT_INVALID: the type is another, or the payload has 2^62 bytes. */
+   WT_OK, WT_BUFFER_TOO_SMALL: as above. WT_INVALID: the type is another, or the payload has 2^62 bytes. */
 int wt_frame_write(uint64_t type, const uint8_t *payload, size_t length, uint8_t *out, size_t room,
                    size_t *used);
 
@@ -219,7 +219,7 @@ int wt_frame_write_head(uint64_t type, uint64_t length, uint8_t *out, size_t roo
 
 /* Writes the frame at the start of a bidirectional stream of a session
    (draft-ietf-webtrans-http3-02, section 4.2). All bytes after it are the application's.
-   WT_OK, WT_ROOM: as above. WT_INVALID: the number is not that of a session. */
+   WT_OK, WT_BUFFER_TOO_SMALL: as above. WT_INVALID: the number is not that of a session. */
 int wt_session_frame_write(uint64_t session, uint8_t *out, size_t room, size_t *used);
 
 /* ---- Settings (RFC 9114, section 7.2.4) ---- */
@@ -243,8 +243,8 @@ typedef struct wt_setting {
    0x21 + 0x1f * n. A value may be any number: whether the setting allows it is for the caller to check.
    It allocates.
    WT_OK: the settings are the first *count. What is after these in `settings` does not change.
-   WT_ROOM: `settings` is too short and did not change; *count is the room that is needed.
-   WT_FAULT: *code is WT_H3_FRAME_ERROR if the payload is cut, or WT_H3_SETTINGS_ERROR for an identifier
+   WT_BUFFER_TOO_SMALL: `settings` is too short and did not change; *count is the room that is needed.
+   WT_ERROR: *code is WT_H3_FRAME_ERROR if the payload is cut, or WT_H3_SETTINGS_ERROR for an identifier
    that HTTP/2 used, or that is repeated and has a name or is reserved for exercise: an unknown one may be
    repeated.
    WT_MEMORY. WT_INVALID: the payload has 2^62 bytes. */
@@ -252,7 +252,7 @@ int wt_settings_read(const uint8_t *payload, size_t length, wt_setting *settings
                      size_t *count, uint64_t *code);
 
 /* Writes the payload of a SETTINGS frame: the settings in their order. It allocates, but for none.
-   WT_OK, WT_ROOM: as above. WT_INVALID: a number is 2^62 or more, an identifier is one that HTTP/2
+   WT_OK, WT_BUFFER_TOO_SMALL: as above. WT_INVALID: a number is 2^62 or more, an identifier is one that HTTP/2
    used, or one that has a name or is reserved for exercise is repeated. WT_MEMORY, only if it would not be
    WT_INVALID. */
 int wt_settings_write(const wt_setting *settings, size_t count, uint8_t *out, size_t room,
@@ -261,7 +261,7 @@ int wt_settings_write(const wt_setting *settings, size_t count, uint8_t *out, si
 /* Writes the name of a setting in ASCII, without a final zero, as SETTINGS_H3_DATAGRAM; or its number,
    as 0x21, if it is reserved for exercise. No name, here and below, has more than 64 bytes. It
    allocates.
-   WT_OK, WT_ROOM: as above. WT_INVALID: the setting is unknown. WT_MEMORY. */
+   WT_OK, WT_BUFFER_TOO_SMALL: as above. WT_INVALID: the setting is unknown. WT_MEMORY. */
 int wt_setting_name(uint64_t id, char *out, size_t room, size_t *used);
 
 /* ---- Field sections of QPACK, with the static table only (RFC 9204, section 4.5) ---- */
@@ -275,8 +275,8 @@ typedef struct wt_field {
    names, as bytes that need not be UTF-8. It allocates for Huffman text.
    WT_OK: the lines are the first *count, and their texts the first *used bytes of `texts`. What is after
    these does not change.
-   WT_ROOM: an array is too short; *count and *used are the room that is needed.
-   WT_FAULT: *code is WT_QPACK_DECOMPRESSION_FAILED. WT_MEMORY.
+   WT_BUFFER_TOO_SMALL: an array is too short; *count and *used are the room that is needed.
+   WT_ERROR: *code is WT_QPACK_DECOMPRESSION_FAILED. WT_MEMORY.
    If it does not return WT_OK, the contents of both arrays are unspecified. */
 int wt_fields_read(const uint8_t *section, size_t length, wt_field *fields, size_t fields_room,
                    uint8_t *texts, size_t texts_room, size_t *count, size_t *used, uint64_t *code);
@@ -284,7 +284,7 @@ int wt_fields_read(const uint8_t *section, size_t length, wt_field *fields, size
 /* Writes a field section: the fields in their order, each text in the Huffman code if that is shorter.
    Names and values are written as they are, pseudo-header fields too: that they are allowed in a message
    (RFC 9114, sections 4.2 and 4.3) is for the caller to check. It allocates.
-   WT_OK, WT_ROOM: as above. WT_INVALID: a field is not within the texts or is not UTF-8. WT_MEMORY. */
+   WT_OK, WT_BUFFER_TOO_SMALL: as above. WT_INVALID: a field is not within the texts or is not UTF-8. WT_MEMORY. */
 int wt_fields_write(const wt_field *fields, size_t count, const uint8_t *texts, size_t texts_length,
                     uint8_t *out, size_t room, size_t *used);
 
@@ -295,7 +295,7 @@ int wt_fields_write(const wt_field *fields, size_t count, const uint8_t *texts, 
    host is sent in lower case, port 443 and a fragment are not sent. A user name and a password in it are
    sent in :authority, which RFC 9114, section 4.3.1, forbids. A value is any bytes, as RFC 9110, section
    5.5, allows them. It allocates.
-   WT_OK, WT_ROOM: as above. WT_INVALID: the URL is not one, its scheme is not https, or it has 16 MiB or
+   WT_OK, WT_BUFFER_TOO_SMALL: as above. WT_INVALID: the URL is not one, its scheme is not https, or it has 16 MiB or
    more and would be too long. Or a field is not within the texts; its name is empty, starts with a colon
    (as a pseudo-header field), has an upper-case letter or is no token; or its value has a control
    character other than a tab, such as CR, LF or NUL, or starts or ends with a space or a tab.
@@ -308,8 +308,8 @@ int wt_request_write(const uint8_t *url, size_t url_length, const wt_field *fiel
    its path to `out`. wt_fields_read reads all of its fields, the pseudo-header fields too. Names and
    values are bytes, and need not be UTF-8. Of a repeated name, that of a pseudo-header field too, the
    last value counts. It allocates.
-   WT_OK, WT_ROOM: as above, and *authority is the size of the authority.
-   WT_FAULT: *code is WT_QPACK_DECOMPRESSION_FAILED for a section with a fault, or WT_H3_MESSAGE_ERROR for
+   WT_OK, WT_BUFFER_TOO_SMALL: as above, and *authority is the size of the authority.
+   WT_ERROR: *code is WT_QPACK_DECOMPRESSION_FAILED for a section with a fault, or WT_H3_MESSAGE_ERROR for
    one that is not a request. WT_MEMORY. */
 int wt_request_read(const uint8_t *section, size_t length, uint8_t *out, size_t room,
                     size_t *authority, size_t *used, uint64_t *code);
@@ -331,18 +331,18 @@ enum {
 /* Finds the first fault of a request, so that the WT_H3_MESSAGE_ERROR of wt_request_read can be
    explained. It allocates.
    WT_OK: *fault is one of WT_REQUEST_...
-   WT_FAULT: *code is WT_QPACK_DECOMPRESSION_FAILED for a section with a fault. WT_MEMORY. Then *fault
+   WT_ERROR: *code is WT_QPACK_DECOMPRESSION_FAILED for a section with a fault. WT_MEMORY. Then *fault
    does not change. */
-int wt_request_fault(const uint8_t *section, size_t length, int *fault, uint64_t *code);
+int wt_request_check(const uint8_t *section, size_t length, int *fault, uint64_t *code);
 
 /* Writes the name of a fault in ASCII, without a final zero, as MissingMethod for
    WT_REQUEST_MISSING_METHOD.
-   WT_OK, WT_ROOM: as above. WT_INVALID: no fault has this number; WT_REQUEST_OK is none. */
+   WT_OK, WT_BUFFER_TOO_SMALL: as above. WT_INVALID: no fault has this number; WT_REQUEST_OK is none. */
 int wt_request_fault_name(int fault, char *out, size_t room, size_t *used);
 
 /* Writes the HEADERS frame of the response with a status: :status, and then these fields in their order,
    with repeated names, such as set-cookie. It allocates.
-   WT_OK, WT_ROOM: as above. WT_INVALID: the status is not from 100 to 599, or for a field that
+   WT_OK, WT_BUFFER_TOO_SMALL: as above. WT_INVALID: the status is not from 100 to 599, or for a field that
    wt_request_write rejects. WT_MEMORY. */
 int wt_response_write(uint32_t status, const wt_field *fields, size_t count, const uint8_t *texts,
                       size_t texts_length, uint8_t *out, size_t room, size_t *used);
@@ -350,7 +350,7 @@ int wt_response_write(uint32_t status, const wt_field *fields, size_t count, con
 /* Reads the response in a field section, the payload of a HEADERS frame. Names and values need not be
    UTF-8. It allocates.
    WT_OK: *status is its status.
-   WT_FAULT: *code is WT_QPACK_DECOMPRESSION_FAILED for a section with a fault, or WT_H3_MESSAGE_ERROR for
+   WT_ERROR: *code is WT_QPACK_DECOMPRESSION_FAILED for a section with a fault, or WT_H3_MESSAGE_ERROR for
    one without a :status of three digits from 100 to 599. WT_MEMORY. */
 int wt_response_read(const uint8_t *section, size_t length, uint16_t *status, uint64_t *code);
 
@@ -365,7 +365,7 @@ enum {
 
 /* Capsule-reader state for one stream. It begins as {0}; every value is valid. */
 typedef struct wt_capsule_reader {
-  uint64_t due; /* bytes of an unknown capsule's value that are still to be skipped */
+  uint64_t skip_remaining; /* bytes of an unknown capsule's value that are still to be skipped */
 } wt_capsule_reader;
 
 /* A capsule. Its value is in the bytes that were read: `length` bytes from `offset` on. */
@@ -381,14 +381,14 @@ typedef struct wt_capsule {
    WT_OK: *capsule is the next capsule. The next call begins after the first *consumed bytes.
    WT_MORE: there is no complete capsule. The bytes after the first *consumed, at most WT_MAX_CAPSULE_REST,
    are to be given again, with those of the next payload after them.
-   WT_FAULT: *code is WT_H3_DATAGRAM_ERROR for a value above WT_MAX_CAPSULE_VALUE bytes; *consumed is 0, and
+   WT_ERROR: *code is WT_H3_DATAGRAM_ERROR for a value above WT_MAX_CAPSULE_VALUE bytes; *consumed is 0, and
    *reader is unchanged. However the bytes are cut into payloads and pieces, the capsules and the fault are the
    same. */
 int wt_capsule_read(wt_capsule_reader *reader, const uint8_t *bytes, size_t length, size_t *consumed,
                     wt_capsule *capsule, uint64_t *code);
 
 /* Call this when the stream ends, with the bytes that have not been consumed after WT_MORE.
-   WT_OK: the stream may end here. WT_FAULT: a capsule has begun; *code is WT_H3_MESSAGE_ERROR (RFC 9297,
+   WT_OK: the stream may end here. WT_ERROR: a capsule has begun; *code is WT_H3_MESSAGE_ERROR (RFC 9297,
    section 3.3). */
 int wt_capsule_end(const wt_capsule_reader *reader, const uint8_t *rest, size_t length,
                    uint64_t *code);
@@ -397,13 +397,13 @@ int wt_capsule_end(const wt_capsule_reader *reader, const uint8_t *rest, size_t 
 
 /* Reads the value of a capsule of type WT_CAPSULE_CLOSE_SESSION.
    WT_OK: *reset is the application's code, and the reason is all bytes from the fifth on.
-   WT_FAULT: *code is WT_H3_DATAGRAM_ERROR for a value of fewer than 4 or more than WT_MAX_CAPSULE_VALUE
+   WT_ERROR: *code is WT_H3_DATAGRAM_ERROR for a value of fewer than 4 or more than WT_MAX_CAPSULE_VALUE
    bytes, or a reason that is not UTF-8. */
 int wt_close_read(const uint8_t *value, size_t length, uint32_t *reset, uint64_t *code);
 
 /* Writes the capsule that closes a session: type, length and value. It is the last of the payloads of
    DATA frames on the session's stream. It allocates.
-   WT_OK, WT_ROOM: as above. WT_INVALID: the reason is not UTF-8 or has more than WT_MAX_CLOSE_REASON
+   WT_OK, WT_BUFFER_TOO_SMALL: as above. WT_INVALID: the reason is not UTF-8 or has more than WT_MAX_CLOSE_REASON
    bytes. WT_MEMORY. */
 int wt_close_write(uint32_t reset, const uint8_t *reason, size_t length, uint8_t *out, size_t room,
                    size_t *used);
@@ -412,7 +412,7 @@ int wt_close_write(uint32_t reset, const uint8_t *reason, size_t length, uint8_t
 
 /* Writes the name of a registered code in ASCII, without a final zero, such as H3_FRAME_UNEXPECTED for
    WT_H3_FRAME_UNEXPECTED. Numbers reserved for exercise have no name.
-   WT_OK, WT_ROOM: as above. WT_INVALID: no code is registered with this number; it is to be treated as
+   WT_OK, WT_BUFFER_TOO_SMALL: as above. WT_INVALID: no code is registered with this number; it is to be treated as
    WT_H3_NO_ERROR. */
 int wt_code_name(uint64_t code, char *out, size_t room, size_t *used);
 

@@ -32,7 +32,7 @@ static void tell_frame(uint64_t type, const uint8_t *payload, size_t size, trans
     tell_content(t, payload, size);
   } else if (type == WT_FRAME_HEADERS) {
     int answer = wt_fields_read(payload, size, fields, LINES, texts, sizeof texts, &many, &used, &code);
-    if (answer == WT_FAULT) tell_fault(t, code);
+    if (answer == WT_ERROR) tell_fault(t, code);
     for (size_t i = 0; answer == WT_OK && i < many; i++) {
       tell_line(t, texts + fields[i].name_offset, fields[i].name_length, texts + fields[i].value_offset,
                 fields[i].value_length);
@@ -40,7 +40,7 @@ static void tell_frame(uint64_t type, const uint8_t *payload, size_t size, trans
     tell_section_end(t);
   } else if (type == WT_FRAME_SETTINGS) {
     int answer = wt_settings_read(payload, size, settings, LINES, &many, &code);
-    if (answer == WT_FAULT) tell_fault(t, code);
+    if (answer == WT_ERROR) tell_fault(t, code);
     for (size_t i = 0; answer == WT_OK && i < many; i++) tell_setting(t, settings[i].id, settings[i].value);
   }
 }

@@ -8,7 +8,7 @@ structs with the header, and sees that each call is here.
 import ctypes
 from ctypes import POINTER, c_char_p, c_int, c_size_t, c_uint8, c_uint16, c_uint32, c_uint64
 
-OK, MORE, FAULT, ROOM, INVALID, MEMORY = 0, 1, -1, -2, -3, -4
+OK, MORE, FAULT, BUFFER_TOO_SMALL, INVALID, MEMORY = 0, 1, -1, -2, -3, -4
 
 VERSION, VERSION_NUMBER = "0.8.0", 0x000800
 
@@ -72,7 +72,7 @@ class StreamHeader(ctypes.Structure):
 
 
 class Reader(ctypes.Structure):
-    _fields_ = [("kind", c_uint8), ("first", c_uint8), ("due", c_uint64)]
+    _fields_ = [("kind", c_uint8), ("first", c_uint8), ("skip_remaining", c_uint64)]
 
 
 class Frame(ctypes.Structure):
@@ -98,7 +98,7 @@ class Field(ctypes.Structure):
 
 
 class CapsuleReader(ctypes.Structure):
-    _fields_ = [("due", c_uint64)]
+    _fields_ = [("skip_remaining", c_uint64)]
 
 
 class Capsule(ctypes.Structure):
@@ -150,7 +150,7 @@ ARGUMENTS = {
     "wt_fields_write": [*FIELDS, *BYTES, *OUT],
     "wt_request_write": [*BYTES, *FIELDS, *BYTES, *OUT],
     "wt_request_read": [*BYTES, c_char_p, c_size_t, SIZE, SIZE, U64],
-    "wt_request_fault": [*BYTES, POINTER(c_int), U64],
+    "wt_request_check": [*BYTES, POINTER(c_int), U64],
     "wt_request_fault_name": [c_int, *OUT],
     "wt_response_write": [c_uint32, *FIELDS, *BYTES, *OUT],
     "wt_response_read": [*BYTES, POINTER(c_uint16), U64],

@@ -103,7 +103,7 @@ static int find_fault(void) {
   const uint8_t *frame = request_frame(&size);
   int fault;
   uint64_t code;
-  return wt_request_fault(frame + 2, size - 2, &fault, &code);
+  return wt_request_check(frame + 2, size - 2, &fault, &code);
 }
 
 static int write_response(void) {
@@ -150,7 +150,7 @@ int main(void) {
   refuse("wt_setting_name", name_setting);
   refuse("wt_request_write", write_request);
   refuse("wt_request_read", read_request);
-  refuse("wt_request_fault", find_fault);
+  refuse("wt_request_check", find_fault);
   refuse("wt_response_write", write_response);
   refuse("wt_response_read", read_response);
   refuse("wt_close_write", write_close);

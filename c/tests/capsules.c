@@ -12,14 +12,14 @@ static void test_close(void) {
   uint8_t *bytes = exactly(closing, 10);
   CHECK(wt_capsule_read(&reader, bytes, 10, &consumed, &capsule, &code) == WT_OK);
   CHECK(consumed == 10 && capsule.type == WT_CAPSULE_CLOSE_SESSION && capsule.offset == 3);
-  CHECK(capsule.length == 7 && reader.due == 0 && code == UNCHANGED);
+  CHECK(capsule.length == 7 && reader.skip_remaining == 0 && code == UNCHANGED);
   free(bytes);
   for (size_t size = 0; size < 10; size++) {
     bytes = exactly(closing, size);
     capsule.type = consumed = UNCHANGED;
     CHECK(wt_capsule_read(&reader, bytes, size, &consumed, &capsule, &code) == WT_MORE);
-    CHECK(consumed == 0 && reader.due == 0 && capsule.type == UNCHANGED && code == UNCHANGED);
-    CHECK(wt_capsule_end(&reader, bytes, size, &code) == (size == 0 ? WT_OK : WT_FAULT));
+    CHECK(consumed == 0 && reader.skip_remaining == 0 && capsule.type == UNCHANGED && code == UNCHANGED);
+    CHECK(wt_capsule_end(&reader, bytes, size, &code) == (size == 0 ? WT_OK : WT_ERROR));
     CHECK(code == (size == 0 ? UNCHANGED : WT_H3_MESSAGE_ERROR));
     code = UNCHANGED;
     free(bytes);
@@ -39,22 +39,22 @@ static void test_skipped(void) {
   CHECK(wt_capsule_read(&reader, bytes, 18, &consumed, &capsule, &code) == WT_OK);
   CHECK(consumed == 18 && capsule.offset == 11 && capsule.length == 7);
   CHECK(wt_capsule_read(&reader, bytes, 5, &consumed, &capsule, &code) == WT_MORE);
-  CHECK(consumed == 5 && reader.due == 0);
+  CHECK(consumed == 5 && reader.skip_remaining == 0);
   CHECK(wt_capsule_read(&reader, bytes, 4, &consumed, &capsule, &code) == WT_MORE);
-  CHECK(consumed == 4 && reader.due == 1);
-  CHECK(wt_capsule_end(&reader, NULL, 0, &code) == WT_FAULT && code == WT_H3_MESSAGE_ERROR);
+  CHECK(consumed == 4 && reader.skip_remaining == 1);
+  CHECK(wt_capsule_end(&reader, NULL, 0, &code) == WT_ERROR && code == WT_H3_MESSAGE_ERROR);
   code = UNCHANGED;
   CHECK(wt_capsule_read(&reader, bytes + 4, 14, &consumed, &capsule, &code) == WT_OK && consumed == 14);
-  CHECK(reader.due == 0 && capsule.offset == 7);
+  CHECK(reader.skip_remaining == 0 && capsule.offset == 7);
   free(bytes);
   bytes = exactly("\x17\x53\x88", 3); /* a value of 5000 bytes */
   CHECK(wt_capsule_read(&reader, bytes, 3, &consumed, &capsule, &code) == WT_MORE);
-  CHECK(consumed == 3 && reader.due == 5000);
+  CHECK(consumed == 3 && reader.skip_remaining == 5000);
   free(bytes);
   CHECK(wt_capsule_read(&reader, zeros, 100, &consumed, &capsule, &code) == WT_MORE);
-  CHECK(consumed == 100 && reader.due == 4900);
+  CHECK(consumed == 100 && reader.skip_remaining == 4900);
   CHECK(wt_capsule_read(&reader, zeros, 4900, &consumed, &capsule, &code) == WT_MORE);
-  CHECK(consumed == 4900 && reader.due == 0 && code == UNCHANGED);
+  CHECK(consumed == 4900 && reader.skip_remaining == 0 && code == UNCHANGED);
   CHECK(wt_capsule_end(&reader, NULL, 0, &code) == WT_OK);
 }
 
@@ -70,10 +70,10 @@ static void test_longest(void) {
   CHECK(wt_capsule_read(&reader, bytes, 1044, &consumed, &capsule, &code) == WT_OK && consumed == 1044);
   CHECK(capsule.offset == 16 && capsule.length == WT_MAX_CAPSULE_VALUE);
   bytes[15] = 5;
-  CHECK(wt_capsule_read(&reader, bytes, 1045, &consumed, &capsule, &code) == WT_FAULT);
-  CHECK(code == WT_H3_DATAGRAM_ERROR && consumed == 0 && reader.due == 0);
+  CHECK(wt_capsule_read(&reader, bytes, 1045, &consumed, &capsule, &code) == WT_ERROR);
+  CHECK(code == WT_H3_DATAGRAM_ERROR && consumed == 0 && reader.skip_remaining == 0);
   code = consumed = UNCHANGED;
-  CHECK(wt_capsule_read(&reader, bytes, 16, &consumed, &capsule, &code) == WT_FAULT);
+  CHECK(wt_capsule_read(&reader, bytes, 16, &consumed, &capsule, &code) == WT_ERROR);
   CHECK(code == WT_H3_DATAGRAM_ERROR && consumed == 0);
 }
 

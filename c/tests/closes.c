@@ -6,7 +6,7 @@
 static void faulty(const uint8_t *value, size_t size) {
   uint32_t reset = UNCHANGED;
   uint64_t code = UNCHANGED;
-  CHECK(wt_close_read(value, size, &reset, &code) == WT_FAULT && reset == UNCHANGED && code == WT_H3_DATAGRAM_ERROR);
+  CHECK(wt_close_read(value, size, &reset, &code) == WT_ERROR && reset == UNCHANGED && code == WT_H3_DATAGRAM_ERROR);
 }
 
 void test_closes(void) {
@@ -30,9 +30,9 @@ void test_closes(void) {
   CHECK(wt_close_write(0x1234, (const uint8_t *)"bye", 3, out, sizeof out, &used) == WT_OK);
   CHECK(used == 10 && memcmp(out, "\x68\x43\x07\x00\x00\x12\x34" "bye", 10) == 0 && out[10] == 0xee);
   memset(out, 0xee, sizeof out);
-  CHECK(wt_close_write(0x1234, (const uint8_t *)"bye", 3, out, 9, &used) == WT_ROOM);
+  CHECK(wt_close_write(0x1234, (const uint8_t *)"bye", 3, out, 9, &used) == WT_BUFFER_TOO_SMALL);
   CHECK(used == 10 && out[0] == 0xee);
-  CHECK(wt_close_write(1, NULL, 0, NULL, 0, &used) == WT_ROOM && used == 7);
+  CHECK(wt_close_write(1, NULL, 0, NULL, 0, &used) == WT_BUFFER_TOO_SMALL && used == 7);
   CHECK(wt_close_write(1, longest, WT_MAX_CLOSE_REASON, out, sizeof out, &used) == WT_OK && used == 1032);
   CHECK(wt_close_write(1, longest, WT_MAX_CLOSE_REASON + 1, out, sizeof out, &used) == WT_INVALID && used == 1032);
   CHECK(wt_close_write(1, (const uint8_t *)"\xff", 1, out, sizeof out, &used) == WT_INVALID);

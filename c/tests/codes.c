@@ -9,8 +9,8 @@ static void named(uint64_t code, const char *name, int scope) {
   memset(out, '!', sizeof out);
   CHECK(wt_code_name(code, out, sizeof out, &used) == WT_OK);
   CHECK(used == size && memcmp(out, name, size) == 0 && out[size] == '!');
-  CHECK(wt_code_name(code, out, size - 1, &used) == WT_ROOM && used == size);
-  CHECK(wt_code_name(code, NULL, 0, &used) == WT_ROOM && used == size);
+  CHECK(wt_code_name(code, out, size - 1, &used) == WT_BUFFER_TOO_SMALL && used == size);
+  CHECK(wt_code_name(code, NULL, 0, &used) == WT_BUFFER_TOO_SMALL && used == size);
   CHECK(wt_code_scope(code) == scope);
 }
 

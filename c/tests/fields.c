@@ -30,7 +30,7 @@ static void faulty(const char *given, size_t size) {
   uint64_t code = UNCHANGED;
   uint8_t *bytes = exactly(given, size);
   CHECK(wt_fields_read(bytes, size, fields, 4, texts, sizeof texts, &count, &used, &code) ==
-        WT_FAULT);
+        WT_ERROR);
   CHECK(code == WT_QPACK_DECOMPRESSION_FAILED && count == UNCHANGED && used == UNCHANGED);
   free(bytes);
 }
@@ -50,12 +50,12 @@ static void test_read(void) {
   CHECK(is_line(&fields[3], texts, "abc", "xyz"));
   CHECK(is_line(&fields[4], texts, "abc", ""));
   CHECK(wt_fields_read(bytes, size, fields, LINES - 1, texts, TEXTS, &count, &used, &code) ==
-        WT_ROOM);
+        WT_BUFFER_TOO_SMALL);
   CHECK(count == LINES && used == TEXTS);
   CHECK(wt_fields_read(bytes, size, fields, LINES, texts, TEXTS - 1, &count, &used, &code) ==
-        WT_ROOM);
+        WT_BUFFER_TOO_SMALL);
   CHECK(count == LINES && used == TEXTS && code == UNCHANGED);
-  CHECK(wt_fields_read(bytes, size, NULL, 0, NULL, 0, &count, &used, &code) == WT_ROOM);
+  CHECK(wt_fields_read(bytes, size, NULL, 0, NULL, 0, &count, &used, &code) == WT_BUFFER_TOO_SMALL);
   CHECK(count == LINES && used == TEXTS);
   CHECK(wt_fields_read(bytes, 2, NULL, 0, NULL, 0, &count, &used, &code) == WT_OK);
   CHECK(count == 0 && used == 0);
@@ -84,9 +84,9 @@ static void test_write(void) {
   CHECK(wt_fields_write(fields, 3, given, room, out, sizeof out, &used) == WT_OK && used == size);
   CHECK(memcmp(out, written, size) == 0 && out[size] == 0xee);
   memset(out, 0xee, sizeof out);
-  CHECK(wt_fields_write(fields, 3, given, room, out, size - 1, &used) == WT_ROOM && used == size);
+  CHECK(wt_fields_write(fields, 3, given, room, out, size - 1, &used) == WT_BUFFER_TOO_SMALL && used == size);
   CHECK(out[0] == 0xee);
-  CHECK(wt_fields_write(NULL, 0, NULL, 0, NULL, 0, &used) == WT_ROOM && used == 2);
+  CHECK(wt_fields_write(NULL, 0, NULL, 0, NULL, 0, &used) == WT_BUFFER_TOO_SMALL && used == 2);
   CHECK(wt_fields_write(NULL, 0, NULL, 0, out, 2, &used) == WT_OK && used == 2 && out[0] == 0);
   used = UNCHANGED;
   CHECK(wt_fields_write(&not_text, 1, given, room, out, sizeof out, &used) == WT_INVALID);

@@ -11,13 +11,13 @@ static void write_row(uint64_t type, const char *payload, size_t size, const cha
   CHECK(wt_frame_write(type, given, size, out, sizeof out, &used) == WT_OK);
   CHECK(used == head + size && memcmp(out, bytes, used) == 0 && out[used] == 0xee);
   memset(out, 0xee, sizeof out);
-  CHECK(wt_frame_write(type, given, size, out, head + size - 1, &used) == WT_ROOM);
+  CHECK(wt_frame_write(type, given, size, out, head + size - 1, &used) == WT_BUFFER_TOO_SMALL);
   CHECK(used == head + size && out[0] == 0xee);
   CHECK(wt_frame_write(type, given, size, out, head + size, &used) == WT_OK);
   memset(out, 0xee, sizeof out);
   CHECK(wt_frame_write_head(type, size, out, sizeof out, &used) == WT_OK);
   CHECK(used == head && memcmp(out, bytes, head) == 0 && out[head] == 0xee);
-  CHECK(wt_frame_write_head(type, size, NULL, 0, &used) == WT_ROOM && used == head);
+  CHECK(wt_frame_write_head(type, size, NULL, 0, &used) == WT_BUFFER_TOO_SMALL && used == head);
 }
 
 static void refused(uint64_t type) {
@@ -44,7 +44,7 @@ void test_frames(void) {
 
   CHECK(wt_session_frame_write(4, out, sizeof out, &used) == WT_OK);
   CHECK(used == 3 && memcmp(out, "\x40\x41\x04", 3) == 0);
-  CHECK(wt_session_frame_write(4, out, 2, &used) == WT_ROOM && used == 3);
-  CHECK(wt_session_frame_write(4, NULL, 0, &used) == WT_ROOM && used == 3);
+  CHECK(wt_session_frame_write(4, out, 2, &used) == WT_BUFFER_TOO_SMALL && used == 3);
+  CHECK(wt_session_frame_write(4, NULL, 0, &used) == WT_BUFFER_TOO_SMALL && used == 3);
   CHECK(wt_session_frame_write(6, out, sizeof out, &used) == WT_INVALID && used == 3);
 }

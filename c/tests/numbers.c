@@ -44,7 +44,7 @@ static void write_row(size_t i) {
   CHECK(wt_varint_write(rows[i].value, out, sizeof out, &used) == WT_OK);
   CHECK(used == rows[i].size && memcmp(out, rows[i].bytes, used) == 0 && out[used] == 0xee);
   memset(out, 0xee, sizeof out);
-  CHECK(wt_varint_write(rows[i].value, out, rows[i].size - 1, &used) == WT_ROOM);
+  CHECK(wt_varint_write(rows[i].value, out, rows[i].size - 1, &used) == WT_BUFFER_TOO_SMALL);
   CHECK(used == rows[i].size && out[0] == 0xee);
   CHECK(wt_varint_write(rows[i].value, out, rows[i].size, &used) == WT_OK);
 }
@@ -60,6 +60,6 @@ void test_numbers(void) {
   used = UNCHANGED;
   CHECK(wt_varint_write(4611686018427387904u, NULL, 0, &used) == WT_INVALID && used == UNCHANGED);
   CHECK(wt_varint_write(UINT64_MAX, NULL, 0, &used) == WT_INVALID && used == UNCHANGED);
-  CHECK(wt_varint_write(5, NULL, 0, &used) == WT_ROOM && used == 1);
+  CHECK(wt_varint_write(5, NULL, 0, &used) == WT_BUFFER_TOO_SMALL && used == 1);
   CHECK(wt_varint_size(4611686018427387904u) == 0);
 }

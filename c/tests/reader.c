@@ -45,7 +45,7 @@ static void piecewise(size_t k) {
       at += take;
     }
   }
-  CHECK(frames == 2 && have == 0 && reader.due == 0 && reader.first == 0 && code == UNCHANGED);
+  CHECK(frames == 2 && have == 0 && reader.skip_remaining == 0 && reader.first == 0 && code == UNCHANGED);
   CHECK(most <= 16);
   CHECK(wt_read_end(&reader, held, have, &code) == WT_OK);
 }
@@ -56,9 +56,9 @@ static void faulty(uint8_t kind, uint8_t first, const char *given, size_t size, 
   uint64_t code = UNCHANGED;
   wt_frame frame = {97, 97, 97, 97};
   uint8_t *bytes = exactly(given, size);
-  CHECK(wt_read_frame(&reader, bytes, size, &consumed, &frame, &code) == WT_FAULT);
+  CHECK(wt_read_frame(&reader, bytes, size, &consumed, &frame, &code) == WT_ERROR);
   CHECK(code == expected && consumed == 0 && frame.type == 97);
-  CHECK(reader.kind == kind && reader.first == first && reader.due == 0);
+  CHECK(reader.kind == kind && reader.first == first && reader.skip_remaining == 0);
   free(bytes);
 }
 
@@ -69,7 +69,7 @@ static void refused(wt_reader reader) {
   wt_frame frame = {97, 97, 97, 97};
   CHECK(wt_read_frame(&reader, NULL, 0, &consumed, &frame, &code) == WT_INVALID);
   CHECK(consumed == UNCHANGED && code == UNCHANGED && frame.type == 97);
-  CHECK(reader.kind == same.kind && reader.first == same.first && reader.due == same.due);
+  CHECK(reader.kind == same.kind && reader.first == same.first && reader.skip_remaining == same.skip_remaining);
   CHECK(wt_read_end(&reader, NULL, 0, &code) == WT_INVALID && code == UNCHANGED);
 }
 
@@ -82,11 +82,11 @@ static void test_ends(void) {
   CHECK(wt_read_frame(&reader, NULL, 0, &consumed, &frame, &code) == WT_MORE && consumed == 0);
   CHECK(wt_read_end(&reader, NULL, 0, &code) == WT_OK && code == UNCHANGED);
   CHECK(wt_read_frame(&reader, (const uint8_t *)"\x04", 1, &consumed, &frame, &code) == WT_MORE);
-  CHECK(consumed == 0 && wt_read_end(&reader, (const uint8_t *)"\x04", 1, &code) == WT_FAULT);
+  CHECK(consumed == 0 && wt_read_end(&reader, (const uint8_t *)"\x04", 1, &code) == WT_ERROR);
   CHECK(code == WT_H3_FRAME_ERROR);
   CHECK(wt_read_frame(&reader, (const uint8_t *)"\x0d\x05x", 3, &consumed, &frame, &code) == WT_MORE);
   code = UNCHANGED;
-  CHECK(consumed == 3 && reader.due == 4 && wt_read_end(&reader, NULL, 0, &code) == WT_FAULT);
+  CHECK(consumed == 3 && reader.skip_remaining == 4 && wt_read_end(&reader, NULL, 0, &code) == WT_ERROR);
   CHECK(code == WT_H3_FRAME_ERROR);
 }
 
@@ -120,5 +120,5 @@ void test_reader(void) {
     free(bytes);
   }
   CHECK(wt_read_frame(&last, (const uint8_t *)"abc", 3, &consumed, &frame, &code) == WT_MORE);
-  CHECK(consumed == 3 && last.due == (1ull << 62) - 4 && code == UNCHANGED);
+  CHECK(consumed == 3 && last.skip_remaining == (1ull << 62) - 4 && code == UNCHANGED);
 }

@@ -55,8 +55,8 @@ static void test_name(int fault, const char *name) {
   memset(out, '!', sizeof out);
   CHECK(wt_request_fault_name(fault, out, sizeof out, &used) == WT_OK);
   CHECK(used == size && memcmp(out, name, size) == 0 && out[size] == '!');
-  CHECK(wt_request_fault_name(fault, out, size - 1, &used) == WT_ROOM && used == size);
-  CHECK(wt_request_fault_name(fault, NULL, 0, &used) == WT_ROOM && used == size);
+  CHECK(wt_request_fault_name(fault, out, size - 1, &used) == WT_BUFFER_TOO_SMALL && used == size);
+  CHECK(wt_request_fault_name(fault, NULL, 0, &used) == WT_BUFFER_TOO_SMALL && used == size);
 }
 
 static void test_row(size_t row) {
@@ -65,10 +65,10 @@ static void test_row(size_t row) {
   int fault = UNCHANGED;
   uint64_t code = UNCHANGED;
   uint8_t *copy = exactly(section, size);
-  CHECK(wt_request_fault(copy, size, &fault, &code) == WT_OK);
+  CHECK(wt_request_check(copy, size, &fault, &code) == WT_OK);
   CHECK(fault == rows[row].fault && code == UNCHANGED);
   CHECK(wt_request_read(copy, size, parts, sizeof parts, &authority, &used, &code) ==
-        (fault == WT_REQUEST_OK ? WT_OK : WT_FAULT));
+        (fault == WT_REQUEST_OK ? WT_OK : WT_ERROR));
   CHECK(code == (fault == WT_REQUEST_OK ? UNCHANGED : WT_H3_MESSAGE_ERROR));
   if (fault != WT_REQUEST_OK) test_name(fault, rows[row].name);
   free(copy);
@@ -79,9 +79,9 @@ void test_request_faults(void) {
   uint64_t code = UNCHANGED;
   size_t used = UNCHANGED;
   for (size_t row = 0; row < sizeof rows / sizeof rows[0]; row++) test_row(row);
-  CHECK(wt_request_fault((const uint8_t *)"\x00\x00\xff", 3, &fault, &code) == WT_FAULT);
+  CHECK(wt_request_check((const uint8_t *)"\x00\x00\xff", 3, &fault, &code) == WT_ERROR);
   CHECK(fault == UNCHANGED && code == WT_QPACK_DECOMPRESSION_FAILED);
-  CHECK(wt_request_fault(NULL, 0, &fault, &code) == WT_FAULT && fault == UNCHANGED);
+  CHECK(wt_request_check(NULL, 0, &fault, &code) == WT_ERROR && fault == UNCHANGED);
   CHECK(wt_request_fault_name(WT_REQUEST_OK, NULL, 0, &used) == WT_INVALID && used == UNCHANGED);
   CHECK(wt_request_fault_name(9, NULL, 0, &used) == WT_INVALID && used == UNCHANGED);
   CHECK(wt_request_fault_name(-1, NULL, 0, &used) == WT_INVALID && used == UNCHANGED);

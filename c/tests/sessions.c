@@ -66,14 +66,14 @@ static void test_request(void) {
   copy = exactly(out + head, used - head);
   CHECK(wt_request_read(copy, used - head, parts, 28, &authority, &both, &code) == WT_OK);
   CHECK(authority == 16 && both == 28 && memcmp(parts, "example.com:4433/chat?room=1", 28) == 0);
-  CHECK(wt_request_read(copy, used - head, parts, 27, &authority, &both, &code) == WT_ROOM && both == 28);
-  CHECK(wt_request_read(copy, used - head, NULL, 0, &authority, &both, &code) == WT_ROOM && code == UNCHANGED);
-  CHECK(wt_request_read(copy, used - head - 1, parts, 64, &authority, &both, &code) == WT_FAULT && code == WT_QPACK_DECOMPRESSION_FAILED);
+  CHECK(wt_request_read(copy, used - head, parts, 27, &authority, &both, &code) == WT_BUFFER_TOO_SMALL && both == 28);
+  CHECK(wt_request_read(copy, used - head, NULL, 0, &authority, &both, &code) == WT_BUFFER_TOO_SMALL && code == UNCHANGED);
+  CHECK(wt_request_read(copy, used - head - 1, parts, 64, &authority, &both, &code) == WT_ERROR && code == WT_QPACK_DECOMPRESSION_FAILED);
   free(copy);
   CHECK(wt_request_read((const uint8_t *)"\x00\x00\xd1", 3, parts, 64, &authority, &both, &code) ==
-        WT_FAULT && code == WT_H3_MESSAGE_ERROR); /* a GET */
-  CHECK(request(url, size, &origin, 1, out, used - 1, &both) == WT_ROOM && both == used);
-  CHECK(request(url, size, NULL, 0, NULL, 0, &both) == WT_ROOM);
+        WT_ERROR && code == WT_H3_MESSAGE_ERROR); /* a GET */
+  CHECK(request(url, size, &origin, 1, out, used - 1, &both) == WT_BUFFER_TOO_SMALL && both == used);
+  CHECK(request(url, size, NULL, 0, NULL, 0, &both) == WT_BUFFER_TOO_SMALL);
   both = UNCHANGED;
   CHECK(request("http://example.com/", 19, NULL, 0, out, sizeof out, &both) == WT_INVALID);
   CHECK(request("https://", 8, NULL, 0, out, sizeof out, &both) == WT_INVALID);
@@ -137,7 +137,7 @@ static void test_response(void) {
   CHECK(wt_response_write(200, NULL, 0, NULL, 0, out, sizeof out, &used) == WT_OK && used == 9);
   /* the name of static entry 24, and 200 in the Huffman code */
   CHECK(memcmp(out, "\x01\x07\x00\x00\x5f\x09\x82\x10\x01", 9) == 0);
-  CHECK(wt_response_write(200, NULL, 0, NULL, 0, out, 8, &used) == WT_ROOM && used == 9);
+  CHECK(wt_response_write(200, NULL, 0, NULL, 0, out, 8, &used) == WT_BUFFER_TOO_SMALL && used == 9);
   CHECK(wt_response_write(200, &origin, 1, (const uint8_t *)texts, sizeof texts, out, sizeof out,
                           &used) == WT_OK && used > 9);
   CHECK(wt_response_read(out + 2, used - 2, &read, &code) == WT_OK && read == 200 && code == UNCHANGED);
@@ -153,9 +153,9 @@ static void test_response(void) {
     CHECK(wt_response_write(200, &rejected[i], 1, (const uint8_t *)texts, sizeof texts, out, sizeof out,
                             &used) == WT_INVALID && used == UNCHANGED);
   }
-  CHECK(wt_response_read((const uint8_t *)"\x00\x00\xd1", 3, &read, &code) == WT_FAULT);
+  CHECK(wt_response_read((const uint8_t *)"\x00\x00\xd1", 3, &read, &code) == WT_ERROR);
   CHECK(read == UNCHANGED && code == WT_H3_MESSAGE_ERROR);
-  CHECK(wt_response_read(NULL, 0, &read, &code) == WT_FAULT && code == WT_QPACK_DECOMPRESSION_FAILED);
+  CHECK(wt_response_read(NULL, 0, &read, &code) == WT_ERROR && code == WT_QPACK_DECOMPRESSION_FAILED);
 }
 
 void test_sessions(void) {

@@ -8,7 +8,7 @@ static void faulty(const char *payload, size_t size, uint64_t expected) {
   size_t count = UNCHANGED;
   uint64_t code = UNCHANGED;
   uint8_t *bytes = exactly(payload, size);
-  CHECK(wt_settings_read(bytes, size, settings, 4, &count, &code) == WT_FAULT);
+  CHECK(wt_settings_read(bytes, size, settings, 4, &count, &code) == WT_ERROR);
   CHECK(code == expected && count == UNCHANGED && settings[0].id == UNCHANGED && settings[0].value == UNCHANGED);
   free(bytes);
 }
@@ -32,9 +32,9 @@ static void test_read(void) {
   CHECK(wt_settings_read(bytes, size, settings, 5, &count, &code) == WT_OK && count == 5);
   CHECK(are(settings, expected, 5));
   settings[0].id = UNCHANGED;
-  CHECK(wt_settings_read(bytes, size, settings, 4, &count, &code) == WT_ROOM && count == 5);
+  CHECK(wt_settings_read(bytes, size, settings, 4, &count, &code) == WT_BUFFER_TOO_SMALL && count == 5);
   CHECK(settings[0].id == UNCHANGED);
-  CHECK(wt_settings_read(bytes, size, NULL, 0, &count, &code) == WT_ROOM && count == 5 && code == UNCHANGED);
+  CHECK(wt_settings_read(bytes, size, NULL, 0, &count, &code) == WT_BUFFER_TOO_SMALL && count == 5 && code == UNCHANGED);
   free(bytes);
   CHECK(wt_settings_read(NULL, 0, NULL, 0, &count, &code) == WT_OK && count == 0);
   faulty("\x33", 1, WT_H3_FRAME_ERROR);
@@ -63,7 +63,7 @@ static void test_write(void) {
   CHECK(memcmp(out, "\x33\x01\x08\x01\xc0\x00\x00\x00\xc6\x71\x70\x6a\x40\x40", 14) == 0);
   CHECK(out[14] == 0xee);
   memset(out, 0xee, sizeof out);
-  CHECK(wt_settings_write(good, 3, out, 13, &used) == WT_ROOM && used == 14 && out[0] == 0xee);
+  CHECK(wt_settings_write(good, 3, out, 13, &used) == WT_BUFFER_TOO_SMALL && used == 14 && out[0] == 0xee);
   CHECK(wt_settings_write(NULL, 0, NULL, 0, &used) == WT_OK && used == 0);
   CHECK(wt_settings_write(unknown, 2, out, sizeof out, &used) == WT_OK && used == 4);
   CHECK(memcmp(out, "\x0d\x00\x0d\x05", 4) == 0);
@@ -78,7 +78,7 @@ static void named(uint64_t id, uint64_t constant, const char *name) {
   size_t used = UNCHANGED, size = strlen(name);
   CHECK(id == constant && wt_setting_name(id, out, sizeof out, &used) == WT_OK);
   CHECK(used == size && memcmp(out, name, size) == 0);
-  CHECK(wt_setting_name(id, out, size - 1, &used) == WT_ROOM && used == size);
+  CHECK(wt_setting_name(id, out, size - 1, &used) == WT_BUFFER_TOO_SMALL && used == size);
 }
 
 void test_settings(void) {

@@ -19,8 +19,8 @@ static const struct {
   {"", 0, WT_MORE, 0, 0, 0},
   {"\x40", 1, WT_MORE, 0, 0, 0},
   {"\x40\x54", 2, WT_MORE, 0, 0, 0},
-  {"\x40\x54\x05", 3, WT_FAULT, 0, 0, WT_H3_ID_ERROR}, /* a session ID is divisible by 4 */
-  {"\x01", 1, WT_FAULT, 0, 0, WT_H3_STREAM_CREATION_ERROR},         /* push streams are not for WebTransport */
+  {"\x40\x54\x05", 3, WT_ERROR, 0, 0, WT_H3_ID_ERROR}, /* a session ID is divisible by 4 */
+  {"\x01", 1, WT_ERROR, 0, 0, WT_H3_STREAM_CREATION_ERROR},         /* push streams are not for WebTransport */
 };
 
 static void read_row(size_t i) {
@@ -34,7 +34,7 @@ static void read_row(size_t i) {
     CHECK(header.session == rows[i].session && code == UNCHANGED);
   } else {
     CHECK(consumed == 0 && header.type == UNCHANGED && header.session == UNCHANGED);
-    CHECK(code == (rows[i].answer == WT_FAULT ? rows[i].code : UNCHANGED));
+    CHECK(code == (rows[i].answer == WT_ERROR ? rows[i].code : UNCHANGED));
   }
   free(bytes);
 }
@@ -48,7 +48,7 @@ static void write_row(size_t i) {
   CHECK(wt_stream_header_write(&header, out, sizeof out, &used) == WT_OK);
   CHECK(used == rows[i].size && memcmp(out, rows[i].bytes, used) == 0 && out[used] == 0xee);
   memset(out, 0xee, sizeof out);
-  CHECK(wt_stream_header_write(&header, out, rows[i].size - 1, &used) == WT_ROOM);
+  CHECK(wt_stream_header_write(&header, out, rows[i].size - 1, &used) == WT_BUFFER_TOO_SMALL);
   CHECK(used == rows[i].size && out[0] == 0xee);
 }
 

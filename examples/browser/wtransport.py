@@ -233,12 +233,12 @@ class CapsuleReader:
         consumed, capsule, code = c_size_t(), c.Capsule(), c_uint64()
         self.rest += data
         while True:
-            due = self._state.due
+            skip_remaining = self._state.skip_remaining
             answer = _lib.wt_capsule_read(
                 self._state, self.rest, len(self.rest), consumed, capsule, code
             )
             _accept(answer, code)
-            self.unknown += answer == c.MORE and consumed.value > due
+            self.unknown += answer == c.MORE and consumed.value > skip_remaining
             value = self.rest[capsule.offset :][: capsule.length] if answer == c.OK else b""
             self.rest = self.rest[consumed.value :]
             if answer == c.MORE:

@@ -5,5 +5,5 @@
 mod sink;
 mod source;
 
-pub use sink::{BYTE_BY_BYTE, Paced, stops_after};
-pub use source::{Answers, End, Trickle};
+pub use sink::{BYTE_BY_BYTE, ScriptedSink, stops_after};
+pub use source::{Answers, End, OneByteSource};

@@ -38,7 +38,7 @@ pub static BYTE_BY_BYTE: [[WriteStep; 2]; 32] = [[WriteStep::NotReady, WriteStep
 /// Returns the results of a list, where `Bytes(n)` takes at most n bytes, and at least one; then it
 /// takes all, as a vector does. It has a model of all that it takes.
 #[derive(Drop)]
-pub struct Paced<'a> {
+pub struct ScriptedSink<'a> {
     steps: &'a [WriteStep],
     taken: Vec<u8>,
     waits: usize,
@@ -49,13 +49,13 @@ pub struct Paced<'a> {
     ghost losses_fit: { losses + length steps.now < 2 ^ 64 },
 }
 
-impl<'a> Paced<'a> {
+impl<'a> ScriptedSink<'a> {
     /// Creates a sink that returns these results.
     pub fn new(alloc: Global, steps: &'a [WriteStep]) -> Self
         ensures { (result.steps.now ≡ steps.now) × (result.taken.items ≡ []) × (result.waits ≡ 0)
             × (result.stops ≡ 0) × (result.losses ≡ 0) }
     {
-        Paced {
+        ScriptedSink {
             steps,
             taken: Vec::new(alloc),
             waits: 0,
@@ -79,7 +79,7 @@ impl<'a> Paced<'a> {
     }
 }
 
-impl AsyncWrite for Paced<'_> {
+impl AsyncWrite for ScriptedSink<'_> {
     ghost tells = { λ s. Some (record {
       taken = s.taken.items;
       waits = s.waits;

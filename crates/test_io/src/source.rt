@@ -38,7 +38,7 @@ impl End {
 /// Gives one byte per call, and is not ready once before each byte and once before its end, where
 /// it stays. It has a model of all that it gives.
 #[derive(Drop)]
-pub struct Trickle<'a> {
+pub struct OneByteSource<'a> {
     rest: &'a [u8],
     end: End,
     is_ready: bool,
@@ -46,13 +46,13 @@ pub struct Trickle<'a> {
     ghost fits: { given + length rest.now < 2 ^ 64 },
 }
 
-impl<'a> Trickle<'a> {
+impl<'a> OneByteSource<'a> {
     /// Creates a source of these bytes, followed by this end.
     pub fn new(bytes: &'a [u8], end: End) -> Self
         ensures { (result.rest.now ≡ bytes.now) × (result.end ≡ end) × (result.given ≡ 0)
             × (result.is_ready ≡ false) }
     {
-        Trickle {
+        OneByteSource {
             rest: bytes,
             end,
             is_ready: false,
@@ -68,7 +68,7 @@ impl<'a> Trickle<'a> {
     }
 }
 
-impl AsyncRead for Trickle<'_> {
+impl AsyncRead for OneByteSource<'_> {
     ghost tells = { λ s. Some (record {
       ahead = s.rest.now;
       ending = ending_of s.end;

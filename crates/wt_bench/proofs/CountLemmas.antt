@@ -12,7 +12,7 @@ use Rattle.wtp_core.specs.declared.bytes.polled.IoReadError.TheVariants as io
 use Rattle.wtransport_proto.specs.Driving.{after}
 use Rattle.wtransport_proto.specs.HeldRun.{run_of}
 use Rattle.wtransport_proto.specs.Rule.{Role, RemoteBi, rule}
-use Rattle.wtransport_proto.specs.Run.{Run, Tail, Ended, Ending, ends, follows, judged, next_run, run_within, run, past_unknown}
+use Rattle.wtransport_proto.specs.Run.{Run, Tail, Ended, Ending, ends, follows, judged, next_run, run_within, run, skip_unknown}
 use Rattle.wtransport_proto.specs.StreamPolling.{EndsSo}
 use Rattle.wtransport_proto.proofs.HeldRunLemmas.{run_new}
 use Rattle.wt_bench.specs.Frames.{count_at, count_of}
@@ -55,7 +55,7 @@ next_few Short more n role first bytes rest tail h = omega arith
 
 within_few : (n : ℕ) (role : Role) (tail : Tail) (first : Bool) (bytes : List ℕ) → length (run_within n role tail first bytes).frames ≤ n
 within_few zero role tail first bytes = omega arith
-within_few (suc n) role tail first bytes = next_few (front (past_unknown bytes)) (λ f r. run_within n role tail f r) n role first bytes (past_unknown bytes) tail (λ x b. within_few n role tail x b)
+within_few (suc n) role tail first bytes = next_few (front (skip_unknown bytes)) (λ f r. run_within n role tail f r) n role first bytes (skip_unknown bytes) tail (λ x b. within_few n role tail x b)
 
 pub few_frames : (role : Role) (first : Bool) (bytes : List ℕ) (tail : Tail) → length (run role first bytes tail).frames ≤ length bytes
 unfolding run

@@ -13,7 +13,7 @@ use super::pair::Pair;
 use super::put;
 use std::alloc::Global;
 use std::borrow::CowSlice;
-use wtp_fields::qpack::{Decoder, Encoder, FieldLine, FieldLines, FieldRoom};
+use wtp_fields::qpack::{Decoder, Encoder, FieldBuffer, FieldLine, FieldLines};
 use wtp_wire::frame::Frame;
 use wtp_wire::settings::Settings;
 
@@ -74,7 +74,7 @@ pub extern "C" fn wt_bench_qpack_lines(alloc: Global, section: &[u8]) -> i64
     let Ok(mut lines) = FieldLines::new(section) else {
         return -1;
     };
-    let mut room = FieldRoom::new(alloc);
+    let mut room = FieldBuffer::new(alloc);
     let mut size: usize = 0;
     'lines: loop {
         match lines.next_line(&mut room) {

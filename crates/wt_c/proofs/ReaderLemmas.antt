@@ -8,15 +8,15 @@ use Rattle.wtp_wire.specs.Kind.{kind_of}
 use Rattle.wtransport_proto.specs.CutFrame.{due_in, due_first, due_second}
 use Rattle.wtransport_proto.specs.FrameCursor.{StepIs, RunGoesOn, due_after, known_from}
 use Rattle.wtransport_proto.specs.declared.stream.cursor.FrameCursor.{FrameCursor}
-use Rattle.wtransport_proto.specs.declared.stream.cursor.FramePlace.{FramePlace}
+use Rattle.wtransport_proto.specs.declared.stream.cursor.FrameSpan.{FrameSpan}
 use Rattle.wtransport_proto.specs.declared.stream.cursor.CursorStep.TheVariants.{Frame, More}
 use Rattle.wt_c.specs.Reader.{IsReader, cursor_of, Stepped}
 use Rattle.wt_c.specs.declared.reader.WtReader.{WtReader}
 
-pub frame_step : (p : FramePlace) (r : WtReader) (old new : FrameCursor) (bytes : List ℕ) → old ≡ cursor_of r → StepIs (Frame p) old bytes new → RunGoesOn (Frame p) old bytes new
-    → Stepped (Frame p) r bytes (record r { first = 0; due = 0 })
+pub frame_step : (p : FrameSpan) (r : WtReader) (old new : FrameCursor) (bytes : List ℕ) → old ≡ cursor_of r → StepIs (Frame p) old bytes new → RunGoesOn (Frame p) old bytes new
+    → Stepped (Frame p) r bytes (record r { first = 0; skip_remaining = 0 })
 frame_step p r old new bytes e s g =
-    let same : new ≡ cursor_of (record r { first = 0; due = 0 }) = s.cursor ∙ ap (λ (c : FrameCursor). record c { first = false; due = 0 }) e in
+    let same : new ≡ cursor_of (record r { first = 0; skip_remaining = 0 }) = s.cursor ∙ ap (λ (c : FrameCursor). record c { first = false; skip_remaining = 0 }) e in
     record { step_is = rw (e, same) at s; goes_on = rw (e, same) at g }
 
 -- ---- what is left to skip
@@ -53,15 +53,15 @@ due_low bytes = first (number_at bytes)
     first None = omega arith
     first (Some id) = second id.1 (kind_of id.0) (number_at id.1) refl
 
-after_low : (due : ℕ) (c : FrameCursor) (bytes : List ℕ) → c.due < 2 ^ 62 → due ≡ due_after c bytes → due < 2 ^ 62
-after_low due c bytes low e = elim (cases_lt (length bytes) c.due) [
-  | inl h ↦ let d : due ≡ c.due - length bytes = rw (lt-ltb (length bytes) c.due h) at e in omega (arith, d, low)
-  | inr l ↦ let d : due ≡ due_in (known_from c bytes) = rw (le-ltb (length bytes) c.due l) at e in rw d (due_low (known_from c bytes))
+after_low : (skip_remaining : ℕ) (c : FrameCursor) (bytes : List ℕ) → c.skip_remaining < 2 ^ 62 → skip_remaining ≡ due_after c bytes → skip_remaining < 2 ^ 62
+after_low skip_remaining c bytes low e = elim (cases_lt (length bytes) c.skip_remaining) [
+  | inl h ↦ let d : skip_remaining ≡ c.skip_remaining - length bytes = rw (lt-ltb (length bytes) c.skip_remaining h) at e in omega (arith, d, low)
+  | inr l ↦ let d : skip_remaining ≡ due_in (known_from c bytes) = rw (le-ltb (length bytes) c.skip_remaining l) at e in rw d (due_low (known_from c bytes))
 ]
 
-pub more_reader : (n : ℕ) (r : WtReader) (old new : FrameCursor) (bytes : List ℕ) → old ≡ cursor_of r → StepIs (More n) old bytes new → IsReader r → IsReader (record r { due = new.due })
+pub more_reader : (n : ℕ) (r : WtReader) (old new : FrameCursor) (bytes : List ℕ) → old ≡ cursor_of r → StepIs (More n) old bytes new → IsReader r → IsReader (record r { skip_remaining = new.skip_remaining })
 more_reader n r old new bytes e s is = record {
   kind = is.kind;
   first = is.first;
-  due = after_low new.due old bytes (rw e is.due) (ap (λ (c : FrameCursor). c.due) s.cursor);
+  skip_remaining = after_low new.skip_remaining old bytes (rw e is.skip_remaining) (ap (λ (c : FrameCursor). c.skip_remaining) s.cursor);
 }

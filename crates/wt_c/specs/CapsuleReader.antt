@@ -3,17 +3,17 @@ use Rattle.std.specs.Prelude.{◌≡◌, ℕ, ◌-◌, List, length}
 use Rattle.wtp_wire.specs.Capsule.{capsule_number_of}
 use Rattle.wtp_wire.specs.CapsuleCursor.{StepIs, CapsulesGoOn}
 use Rattle.wtp_wire.specs.declared.capsule.cursor.CapsuleCursor.{CapsuleCursor}
-use Rattle.wtp_wire.specs.declared.capsule.cursor.CapsulePlace.{CapsulePlace}
+use Rattle.wtp_wire.specs.declared.capsule.cursor.CapsuleSpan.{CapsuleSpan}
 use Rattle.wtp_wire.specs.declared.capsule.cursor.CapsuleStep.{CapsuleStep}
 use Rattle.wt_c.specs.declared.capsule_reader.WtCapsuleReader.{WtCapsuleReader}
 use Rattle.wt_c.specs.declared.capsule_reader.WtCapsule.{WtCapsule}
 
 -- the reader as a cursor
 abbrev pub cursor_of : WtCapsuleReader → CapsuleCursor
-cursor_of r = record { due = r.due }
+cursor_of r = record { skip_remaining = r.skip_remaining }
 
 -- a capsule's place as C has it
-abbrev pub c_capsule : CapsulePlace → WtCapsule
+abbrev pub c_capsule : CapsuleSpan → WtCapsule
 c_capsule p = record {
   kind = capsule_number_of p.kind;
   offset = p.start;
@@ -29,5 +29,5 @@ pub record Stepped (step : CapsuleStep) (old : WtCapsuleReader) (bytes : List �
 
 -- no capsule has begun
 pub record IsEnd (r : WtCapsuleReader) (rest : List ℕ) : Type 0 where
-  pub none_due : r.due ≡ 0
+  pub none_due : r.skip_remaining ≡ 0
   pub none_left : length rest ≡ 0

@@ -6,7 +6,7 @@ use Rattle.wtp_wire.specs.declared.rules.StreamRole.{StreamRole}
 use Rattle.wtp_wire.specs.declared.rules.StreamRole.TheVariants.{BiRemote, BiLocal}
 use Rattle.wtp_wire.specs.declared.rules.StreamRole.TheVariants.{UniRemote, Session}
 use Rattle.wtransport_proto.specs.declared.stream.cursor.FrameCursor.{FrameCursor}
-use Rattle.wtransport_proto.specs.declared.stream.cursor.FramePlace.{FramePlace}
+use Rattle.wtransport_proto.specs.declared.stream.cursor.FrameSpan.{FrameSpan}
 use Rattle.wtransport_proto.specs.declared.stream.cursor.CursorStep.{CursorStep}
 use Rattle.wt_c.specs.declared.reader.TheConstants.{BI_REMOTE, BI_LOCAL, CONTROL, SESSION}
 use Rattle.wt_c.specs.declared.reader.WtReader.{WtReader}
@@ -17,7 +17,7 @@ use Rattle.wt_c.specs.declared.reader.WtFrame.{WtFrame}
 pub record IsReader (r : WtReader) : Type 0 where
   pub kind : r.kind ≤ SESSION
   pub first : r.first ≤ 1
-  pub due : r.due < 2 ^ 62
+  pub skip_remaining : r.skip_remaining < 2 ^ 62
 
 -- the role of a stream's kind in C, if it is one
 abbrev pub stream_role : ℕ → StreamRole
@@ -30,10 +30,10 @@ is_first n = not (n == 0)
 
 -- the reader as a cursor
 abbrev pub cursor_of : WtReader → FrameCursor
-cursor_of r = record { role = stream_role r.kind; first = is_first r.first; due = r.due }
+cursor_of r = record { role = stream_role r.kind; first = is_first r.first; skip_remaining = r.skip_remaining }
 
 -- a frame's place as C has it
-abbrev pub c_frame : FramePlace → WtFrame
+abbrev pub c_frame : FrameSpan → WtFrame
 c_frame p = record {
   kind = frame_type_of p.kind;
   session = unwrap_or p.session_id 0;

@@ -10,7 +10,7 @@ pub const MORE: i32 = 1;
 pub const FAULT: i32 = -1;
 
 /// An output is too short. The call reports the room that it needs.
-pub const ROOM: i32 = -2;
+pub const BUFFER_TOO_SMALL: i32 = -2;
 
 /// An argument is out of its range.
 pub const INVALID: i32 = -3;

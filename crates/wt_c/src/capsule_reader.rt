@@ -1,19 +1,19 @@
 //! Capsules that are read from the data of a session's stream (RFC 9297, section 3.2).
 ghost use Rattle.std.specs.Prelude.{◌≡◌, ◌≢◌, ◌⊎◌, ◌≤◌, length};
-ghost use Rattle.wtp_wire.specs.declared.capsule.cursor.CapsulePlace.{CapsulePlace};
+ghost use Rattle.wtp_wire.specs.declared.capsule.cursor.CapsuleSpan.{CapsuleSpan};
 ghost use Rattle.wtp_wire.specs.declared.capsule.cursor.CapsuleStep.{CapsuleStep};
 ghost use Rattle.wt_c.specs.CapsuleReader.{Stepped, c_capsule, cursor_of, IsEnd};
 
 use crate::answers::{FAULT, MORE, OK};
 use wtp_core::error::ErrorCode;
-use wtp_wire::capsule::{CapsuleCursor, CapsulePlace, CapsuleStep};
+use wtp_wire::capsule::{CapsuleCursor, CapsuleSpan, CapsuleStep};
 
 /// All that reading the capsules of a stream remembers between two calls. Every value is valid.
 #[repr(C)]
 #[derive(Clone, Copy)]
 pub struct WtCapsuleReader {
     /// How many bytes of an unknown capsule's value are still to be skipped.
-    pub due: u64,
+    pub skip_remaining: u64,
 }
 
 /// A capsule, whose value is in the bytes that were read.
@@ -32,11 +32,13 @@ pub struct WtCapsule {
 fn cursor_of(reader: &WtCapsuleReader) -> CapsuleCursor
     ensures { result ≡ cursor_of reader.now }
 {
-    CapsuleCursor { due: reader.due }
+    CapsuleCursor {
+        skip_remaining: reader.skip_remaining,
+    }
 }
 
 /// Returns a capsule's place as C has it.
-fn capsule_at(place: &CapsulePlace) -> WtCapsule
+fn capsule_at(place: &CapsuleSpan) -> WtCapsule
     ensures { result ≡ c_capsule place.now }
 {
     WtCapsule {
@@ -67,7 +69,7 @@ pub extern "C" fn wt_capsule_read(
     code: &mut u64,
 ) -> i32
     ensures answers { (result ≡ OK) ⊎ ((result ≡ MORE) ⊎ (result ≡ FAULT)) }
-    ensures capsule { result ≡ OK → (p : CapsulePlace) × (capsule.new ≡ c_capsule p)
+    ensures capsule { result ≡ OK → (p : CapsuleSpan) × (capsule.new ≡ c_capsule p)
         × (consumed.new ≡ p.end)
         × Stepped (CapsuleStep.Capsule p) reader.old bytes.now reader.new }
     ensures more { result ≡ MORE
@@ -82,13 +84,13 @@ pub extern "C" fn wt_capsule_read(
     let step = cursor.next(bytes);
     match step {
         CapsuleStep::Capsule(place) => {
-            reader.due = cursor.due;
+            reader.skip_remaining = cursor.skip_remaining;
             *consumed = place.end;
             *capsule = capsule_at(&place);
             OK
         }
         CapsuleStep::More(passed) => {
-            reader.due = cursor.due;
+            reader.skip_remaining = cursor.skip_remaining;
             *consumed = passed;
             MORE
         }

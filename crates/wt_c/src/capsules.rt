@@ -2,9 +2,9 @@
 ghost use Rattle.std.specs.Prelude.{◌≡◌, ◌⊎◌, ◌≤◌, ◌<◌, length, drop, MatchOption, Some, None};
 ghost use Rattle.std.specs.Prelude.{◌≢◌, [], IsUtf8};
 ghost use Rattle.wtp_wire.specs.CloseSession.{close_in, close_wire};
-ghost use Rattle.wt_c.specs.Output.{Puts, Lacks};
+ghost use Rattle.wt_c.specs.Output.{WritesPrefix, TooShort};
 
-use crate::answers::{FAULT, INVALID, MEMORY, OK, ROOM};
+use crate::answers::{BUFFER_TOO_SMALL, FAULT, INVALID, MEMORY, OK};
 use std::alloc::Global;
 use wtp_core::bytes::{BufferWriter, BytesWriter};
 use wtp_core::error::ErrorCode;
@@ -58,7 +58,7 @@ pub extern "C" fn wt_close_read(value: &[u8], reset: &mut u32, code: &mut u64) -
 /// Writes the capsule that closes a session, with a code and a reason of the application, to the
 /// start of `out`. It is the last of the data of the session's stream.
 ///
-/// Returns `OK` with the size of the capsule in `used`. Returns `ROOM` if `out` is shorter than
+/// Returns `OK` with the size of the capsule in `used`. Returns `BUFFER_TOO_SMALL` if `out` is shorter than
 /// that size, which `used` then is; `out` does not change. Returns `INVALID` if the reason is not
 /// UTF-8 or has more than 1024 bytes. Otherwise returns `MEMORY` if allocation failed, which does
 /// not happen for an empty reason. Then nothing changes.
@@ -70,11 +70,11 @@ pub extern "C" fn wt_close_write(
     out: &mut [u8],
     used: &mut usize,
 ) -> i32
-    ensures answers { (result ≡ OK) ⊎ ((result ≡ ROOM) ⊎ ((result ≡ INVALID) ⊎ (result ≡ MEMORY))) }
+    ensures answers { (result ≡ OK) ⊎ ((result ≡ BUFFER_TOO_SMALL) ⊎ ((result ≡ INVALID) ⊎ (result ≡ MEMORY))) }
     ensures bytes { result ≡ OK → IsUtf8 reason.now × (length reason.now ≤ 1024)
-        × Puts (close_wire (reset, reason.now)) out.old out.new used.new }
-    ensures room { result ≡ ROOM → IsUtf8 reason.now × (length reason.now ≤ 1024)
-        × Lacks (close_wire (reset, reason.now)) out.old out.new used.new }
+        × WritesPrefix (close_wire (reset, reason.now)) out.old out.new used.new }
+    ensures room { result ≡ BUFFER_TOO_SMALL → IsUtf8 reason.now × (length reason.now ≤ 1024)
+        × TooShort (close_wire (reset, reason.now)) out.old out.new used.new }
     ensures invalid { result ≡ INVALID → ((¬ (IsUtf8 reason.now)) ⊎ (1024 < length reason.now))
         × (out.new ≡ out.old) × (used.new ≡ used.old) }
     ensures memory { result ≡ MEMORY → IsUtf8 reason.now × (length reason.now ≤ 1024)
@@ -93,13 +93,13 @@ pub extern "C" fn wt_close_write(
 
 /// Writes a capsule to the start of `out`, as `write_bytes` does.
 fn write_close(close: &CloseWebTransportSession, out: &mut [u8], used: &mut usize) -> i32
-    ensures answers { (result ≡ OK) ⊎ (result ≡ ROOM) }
-    ensures bytes { result ≡ OK → Puts (close_wire close.now) out.old out.new used.new }
-    ensures room { result ≡ ROOM → Lacks (close_wire close.now) out.old out.new used.new }
+    ensures answers { (result ≡ OK) ⊎ (result ≡ BUFFER_TOO_SMALL) }
+    ensures bytes { result ≡ OK → WritesPrefix (close_wire close.now) out.old out.new used.new }
+    ensures room { result ≡ BUFFER_TOO_SMALL → TooShort (close_wire close.now) out.old out.new used.new }
 {
     *used = close.write_size();
     if out.len() < *used {
-        return ROOM;
+        return BUFFER_TOO_SMALL;
     }
     let mut writer = BufferWriter::new(out);
     let written = close.write(&mut writer);

@@ -3,9 +3,9 @@ ghost use Rattle.std.specs.Prelude.{◌≡◌, ◌≢◌, ◌⊎◌, ◌<◌, �
 ghost use Rattle.wtp_core.specs.ApplicationCodes.{http3_number};
 ghost use Rattle.wtp_core.specs.Codes.{code_name, code_scope};
 ghost use Rattle.wt_c.specs.Codes.{IsNoCode, scope_number};
-ghost use Rattle.wt_c.specs.Output.{Puts, Lacks};
+ghost use Rattle.wt_c.specs.Output.{WritesPrefix, TooShort};
 
-use crate::answers::{INVALID, OK, ROOM};
+use crate::answers::{BUFFER_TOO_SMALL, INVALID, OK};
 use crate::output::write_bytes;
 use wtp_core::error::{Code, ErrorScope, application_codes};
 use wtp_core::varint::VarInt;
@@ -22,17 +22,17 @@ pub const EITHER: i32 = 2;
 /// Writes the name of an error code in the registry, such as `H3_FRAME_UNEXPECTED`, to the start of
 /// `out`, in ASCII and without a final zero.
 ///
-/// Returns `OK` with the size of the name in `used`. Returns `ROOM` if `out` is shorter than that
+/// Returns `OK` with the size of the name in `used`. Returns `BUFFER_TOO_SMALL` if `out` is shorter than that
 /// size, which `used` then is; `out` does not change. Returns `INVALID` if the number is not that
 /// of a registered code; then nothing changes. An unknown error code is treated as `H3_NO_ERROR`
 /// (RFC 9114, section 8).
 #[unsafe(no_mangle)]
 pub extern "C" fn wt_code_name(number: u64, out: &mut [u8], used: &mut usize) -> i32
-    ensures answers { (result ≡ OK) ⊎ ((result ≡ ROOM) ⊎ (result ≡ INVALID)) }
+    ensures answers { (result ≡ OK) ⊎ ((result ≡ BUFFER_TOO_SMALL) ⊎ (result ≡ INVALID)) }
     ensures name { result ≡ OK → (name : List ℕ) × (code_name number ≡ Some name)
-        × Puts name out.old out.new used.new }
-    ensures room { result ≡ ROOM → (name : List ℕ) × (code_name number ≡ Some name)
-        × Lacks name out.old out.new used.new }
+        × WritesPrefix name out.old out.new used.new }
+    ensures room { result ≡ BUFFER_TOO_SMALL → (name : List ℕ) × (code_name number ≡ Some name)
+        × TooShort name out.old out.new used.new }
     ensures invalid { result ≡ INVALID → IsNoCode number
         × (out.new ≡ out.old) × (used.new ≡ used.old) }
 {

@@ -4,9 +4,9 @@ ghost use Rattle.std.specs.Prelude.{None};
 ghost use Rattle.wtp_wire.specs.Datagram.{datagram_in, datagram_wire};
 ghost use Rattle.wt_c.specs.Numbers.{IsSessionNumber};
 ghost use Rattle.wt_c.specs.Datagrams.{datagram_head};
-ghost use Rattle.wt_c.specs.Output.{Puts, Lacks};
+ghost use Rattle.wt_c.specs.Output.{WritesPrefix, TooShort};
 
-use crate::answers::{FAULT, INVALID, OK, ROOM};
+use crate::answers::{BUFFER_TOO_SMALL, FAULT, INVALID, OK};
 use crate::numbers::session_of;
 use crate::output::{size_before, write_number};
 use wtp_core::ids::QStreamId;
@@ -47,7 +47,7 @@ pub extern "C" fn wt_datagram_read(
 
 /// Writes a datagram of a session to the start of `out`.
 ///
-/// Returns `OK` with the size of the datagram in `used`. Returns `ROOM` if `out` is shorter than
+/// Returns `OK` with the size of the datagram in `used`. Returns `BUFFER_TOO_SMALL` if `out` is shorter than
 /// that size, which `used` then is; `out` does not change. Returns `INVALID` if the number is not
 /// that of a session; then nothing changes.
 #[unsafe(no_mangle)]
@@ -57,11 +57,11 @@ pub extern "C" fn wt_datagram_write(
     out: &mut [u8],
     used: &mut usize,
 ) -> i32
-    ensures answers { (result ≡ OK) ⊎ ((result ≡ ROOM) ⊎ (result ≡ INVALID)) }
+    ensures answers { (result ≡ OK) ⊎ ((result ≡ BUFFER_TOO_SMALL) ⊎ (result ≡ INVALID)) }
     ensures bytes { result ≡ OK → IsSessionNumber session
-        × Puts (datagram_wire (session / 4, payload.now)) out.old out.new used.new }
-    ensures room { result ≡ ROOM → IsSessionNumber session
-        × Lacks (datagram_wire (session / 4, payload.now)) out.old out.new used.new }
+        × WritesPrefix (datagram_wire (session / 4, payload.now)) out.old out.new used.new }
+    ensures room { result ≡ BUFFER_TOO_SMALL → IsSessionNumber session
+        × TooShort (datagram_wire (session / 4, payload.now)) out.old out.new used.new }
     ensures invalid { result ≡ INVALID → (¬ (IsSessionNumber session))
         × (out.new ≡ out.old) × (used.new ≡ used.old) }
 {
@@ -72,7 +72,7 @@ pub extern "C" fn wt_datagram_write(
     *used = datagram.write_size();
     match datagram.write(out) {
         Ok(_) => OK,
-        Err(_) => ROOM,
+        Err(_) => BUFFER_TOO_SMALL,
     }
 }
 
@@ -82,11 +82,11 @@ pub extern "C" fn wt_datagram_write(
 /// Returns what `wt_datagram_write` returns, for these bytes alone.
 #[unsafe(no_mangle)]
 pub extern "C" fn wt_datagram_write_head(session: u64, out: &mut [u8], used: &mut usize) -> i32
-    ensures answers { (result ≡ OK) ⊎ ((result ≡ ROOM) ⊎ (result ≡ INVALID)) }
+    ensures answers { (result ≡ OK) ⊎ ((result ≡ BUFFER_TOO_SMALL) ⊎ (result ≡ INVALID)) }
     ensures bytes { result ≡ OK → IsSessionNumber session
-        × Puts (datagram_head (session / 4)) out.old out.new used.new }
-    ensures room { result ≡ ROOM → IsSessionNumber session
-        × Lacks (datagram_head (session / 4)) out.old out.new used.new }
+        × WritesPrefix (datagram_head (session / 4)) out.old out.new used.new }
+    ensures room { result ≡ BUFFER_TOO_SMALL → IsSessionNumber session
+        × TooShort (datagram_head (session / 4)) out.old out.new used.new }
     ensures invalid { result ≡ INVALID → (¬ (IsSessionNumber session))
         × (out.new ≡ out.old) × (used.new ≡ used.old) }
 {

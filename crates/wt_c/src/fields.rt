@@ -7,10 +7,10 @@ ghost use Rattle.wtp_fields.specs.FieldLines.{octet_line_at, AreOctetLines, is_c
 ghost use Rattle.wt_c.specs.Fields.{AreLinesOf, HasSectionFault, HasCodedLine, HoldLines, LackRoom};
 ghost use Rattle.wt_c.specs.Fields.{LinePut, capped, texts_size};
 
-use crate::answers::{FAULT, MEMORY, OK, ROOM};
+use crate::answers::{BUFFER_TOO_SMALL, FAULT, MEMORY, OK};
 use std::alloc::Global;
 use wtp_core::error::ErrorCode;
-use wtp_fields::qpack::{DecodingError, FieldLines, FieldRoom};
+use wtp_fields::qpack::{DecodingError, FieldBuffer, FieldLines};
 
 /// A field line, whose name and value are in an array of bytes.
 #[repr(C)]
@@ -100,7 +100,7 @@ fn read_lines(
         × (e ≢ Memory → octet_line_at rest ≡ Err e)
         × (e ≡ Memory → IsTrue (is_coded_line rest))) }
 {
-    let mut room = FieldRoom::new(alloc);
+    let mut room = FieldBuffer::new(alloc);
     let mut count: usize = 0;
     let mut used: usize = 0;
     'lines: loop {
@@ -120,7 +120,7 @@ fn read_lines(
 /// Reads a field section: its lines in their order, with repeated names, as bytes.
 ///
 /// Returns `OK` with the lines: the first `count` of `fields`, whose texts are the first `used`
-/// bytes of `texts`. After these, both arrays do not change. Returns `ROOM` if an array is too
+/// bytes of `texts`. After these, both arrays do not change. Returns `BUFFER_TOO_SMALL` if an array is too
 /// short; `count` and `used` are then the room that the lines need, and the contents of both arrays
 /// are unspecified. Returns `FAULT` with the code `QPACK_DECOMPRESSION_FAILED` (0x200) for a
 /// section with a fault, and `MEMORY` if allocation failed, which happens only at a line with a
@@ -136,10 +136,10 @@ pub extern "C" fn wt_fields_read(
     used: &mut usize,
     code: &mut u64,
 ) -> i32
-    ensures answers { (result ≡ OK) ⊎ ((result ≡ ROOM) ⊎ ((result ≡ FAULT) ⊎ (result ≡ MEMORY))) }
+    ensures answers { (result ≡ OK) ⊎ ((result ≡ BUFFER_TOO_SMALL) ⊎ ((result ≡ FAULT) ⊎ (result ≡ MEMORY))) }
     ensures lines { result ≡ OK → (lines : List Field) × AreLinesOf section.now lines
         × HoldLines fields.old texts.old fields.new texts.new count.new used.new lines }
-    ensures room { result ≡ ROOM → (lines : List Field) × AreLinesOf section.now lines
+    ensures room { result ≡ BUFFER_TOO_SMALL → (lines : List Field) × AreLinesOf section.now lines
         × LackRoom fields.old texts.old count.new used.new lines }
     ensures fault { result ≡ FAULT → HasSectionFault section.now × (code.new ≡ 0x200)
         × (count.new ≡ count.old) × (used.new ≡ used.old) }
@@ -158,7 +158,7 @@ pub extern "C" fn wt_fields_read(
             if lines_found <= fields.len() && bytes_found <= texts.len() {
                 OK
             } else {
-                ROOM
+                BUFFER_TOO_SMALL
             }
         }
         Err(DecodingError::Memory) => MEMORY,

@@ -7,9 +7,9 @@ ghost use Rattle.wtp_wire.specs.Content.{PlainOf, WebTransportOf};
 ghost use Rattle.wtp_wire.specs.Kind.{IsKnown};
 ghost use Rattle.wtp_wire.specs.Wire.{wire};
 ghost use Rattle.wt_c.specs.Frames.{IsPayloadKind, frame_head};
-ghost use Rattle.wt_c.specs.Output.{Puts, Lacks};
+ghost use Rattle.wt_c.specs.Output.{WritesPrefix, TooShort};
 
-use crate::answers::{INVALID, OK, ROOM};
+use crate::answers::{BUFFER_TOO_SMALL, INVALID, OK};
 use crate::numbers::session_of;
 use crate::output::write_pair;
 use std::borrow::CowSlice;
@@ -57,33 +57,33 @@ fn frame_of(kind: FrameKind, payload: &[u8]) -> Option<Frame<'_>>
 
 /// Writes a frame to the start of `out`, as `write_bytes` does.
 pub(crate) fn write_frame(frame: &Frame<'_>, out: &mut [u8], used: &mut usize) -> i32
-    ensures answers { (result ≡ OK) ⊎ (result ≡ ROOM) }
-    ensures bytes { result ≡ OK → Puts (wire frame.now) out.old out.new used.new }
-    ensures room { result ≡ ROOM → Lacks (wire frame.now) out.old out.new used.new }
+    ensures answers { (result ≡ OK) ⊎ (result ≡ BUFFER_TOO_SMALL) }
+    ensures bytes { result ≡ OK → WritesPrefix (wire frame.now) out.old out.new used.new }
+    ensures room { result ≡ BUFFER_TOO_SMALL → TooShort (wire frame.now) out.old out.new used.new }
 {
     *used = frame.write_size();
     let mut writer = BufferWriter::new(out);
     match frame.write_to_buffer(&mut writer) {
         Ok(()) => OK,
-        Err(_) => ROOM,
+        Err(_) => BUFFER_TOO_SMALL,
     }
 }
 
 /// Writes a frame with a payload to the start of `out`. Its type is DATA (0x00), HEADERS (0x01),
 /// SETTINGS (0x04), or one that is reserved for exercise (RFC 9114, section 7.2.8).
 ///
-/// Returns `OK` with the size of the frame in `used`. Returns `ROOM` if `out` is shorter than that
+/// Returns `OK` with the size of the frame in `used`. Returns `BUFFER_TOO_SMALL` if `out` is shorter than that
 /// size, which `used` then is; `out` does not change. Returns `INVALID` if the type is another, or
 /// if the payload has 2^62 bytes or more; then nothing changes.
 #[unsafe(no_mangle)]
 pub extern "C" fn wt_frame_write(kind: u64, payload: &[u8], out: &mut [u8], used: &mut usize) -> i32
-    ensures answers { (result ≡ OK) ⊎ ((result ≡ ROOM) ⊎ (result ≡ INVALID)) }
+    ensures answers { (result ≡ OK) ⊎ ((result ≡ BUFFER_TOO_SMALL) ⊎ (result ≡ INVALID)) }
     ensures bytes { result ≡ OK → (k : FrameKind) × IsPayloadKind k kind
         × (length payload.now < 2 ^ 62)
-        × Puts (wire (PlainOf k payload.now)) out.old out.new used.new }
-    ensures room { result ≡ ROOM → (k : FrameKind) × IsPayloadKind k kind
+        × WritesPrefix (wire (PlainOf k payload.now)) out.old out.new used.new }
+    ensures room { result ≡ BUFFER_TOO_SMALL → (k : FrameKind) × IsPayloadKind k kind
         × (length payload.now < 2 ^ 62)
-        × Lacks (wire (PlainOf k payload.now)) out.old out.new used.new }
+        × TooShort (wire (PlainOf k payload.now)) out.old out.new used.new }
     ensures invalid { result ≡ INVALID
         → (((k : FrameKind) → ¬ (IsPayloadKind k kind)) ⊎ (2 ^ 62 ≤ length payload.now))
         × (out.new ≡ out.old) × (used.new ≡ used.old) }
@@ -104,11 +104,11 @@ pub extern "C" fn wt_frame_write(kind: u64, payload: &[u8], out: &mut [u8], used
 /// 2^62 or more.
 #[unsafe(no_mangle)]
 pub extern "C" fn wt_frame_write_head(kind: u64, size: u64, out: &mut [u8], used: &mut usize) -> i32
-    ensures answers { (result ≡ OK) ⊎ ((result ≡ ROOM) ⊎ (result ≡ INVALID)) }
+    ensures answers { (result ≡ OK) ⊎ ((result ≡ BUFFER_TOO_SMALL) ⊎ (result ≡ INVALID)) }
     ensures bytes { result ≡ OK → (k : FrameKind) × IsPayloadKind k kind
-        × (size < 2 ^ 62) × Puts (frame_head k size) out.old out.new used.new }
-    ensures room { result ≡ ROOM → (k : FrameKind) × IsPayloadKind k kind
-        × (size < 2 ^ 62) × Lacks (frame_head k size) out.old out.new used.new }
+        × (size < 2 ^ 62) × WritesPrefix (frame_head k size) out.old out.new used.new }
+    ensures room { result ≡ BUFFER_TOO_SMALL → (k : FrameKind) × IsPayloadKind k kind
+        × (size < 2 ^ 62) × TooShort (frame_head k size) out.old out.new used.new }
     ensures invalid { result ≡ INVALID
         → (((k : FrameKind) → ¬ (IsPayloadKind k kind)) ⊎ (2 ^ 62 ≤ size))
         × (out.new ≡ out.old) × (used.new ≡ used.old) }
@@ -132,16 +132,16 @@ pub fn frame_is_head_and_payload()
 /// Writes the frame that associates its stream with a session to the start of `out`
 /// (draft-ietf-webtrans-http3-02, section 4.2). All bytes after it are the application's.
 ///
-/// Returns `OK` with the size of the frame in `used`. Returns `ROOM` if `out` is shorter than that
+/// Returns `OK` with the size of the frame in `used`. Returns `BUFFER_TOO_SMALL` if `out` is shorter than that
 /// size, which `used` then is; `out` does not change. Returns `INVALID` if the number is not that
 /// of a session; then nothing changes.
 #[unsafe(no_mangle)]
 pub extern "C" fn wt_session_frame_write(session: u64, out: &mut [u8], used: &mut usize) -> i32
-    ensures answers { (result ≡ OK) ⊎ ((result ≡ ROOM) ⊎ (result ≡ INVALID)) }
+    ensures answers { (result ≡ OK) ⊎ ((result ≡ BUFFER_TOO_SMALL) ⊎ (result ≡ INVALID)) }
     ensures bytes { result ≡ OK → IsSessionNumber session
-        × Puts (wire (WebTransportOf session)) out.old out.new used.new }
-    ensures room { result ≡ ROOM → IsSessionNumber session
-        × Lacks (wire (WebTransportOf session)) out.old out.new used.new }
+        × WritesPrefix (wire (WebTransportOf session)) out.old out.new used.new }
+    ensures room { result ≡ BUFFER_TOO_SMALL → IsSessionNumber session
+        × TooShort (wire (WebTransportOf session)) out.old out.new used.new }
     ensures invalid { result ≡ INVALID → (¬ (IsSessionNumber session))
         × (out.new ≡ out.old) × (used.new ≡ used.old) }
 {

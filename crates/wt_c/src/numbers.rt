@@ -2,9 +2,9 @@
 ghost use Rattle.std.specs.Prelude.{◌≡◌, ◌⊎◌, ◌≤◌, ◌<◌, ◌^◌, length, drop, Some, None, MatchOption};
 ghost use Rattle.wtp_core.specs.Varint.{number_at, shortest};
 ghost use Rattle.wt_c.specs.Numbers.{IsSessionNumber};
-ghost use Rattle.wt_c.specs.Output.{Puts, Lacks};
+ghost use Rattle.wt_c.specs.Output.{WritesPrefix, TooShort};
 
-use crate::answers::{INVALID, MORE, OK, ROOM};
+use crate::answers::{BUFFER_TOO_SMALL, INVALID, MORE, OK};
 use crate::output::write_number;
 use wtp_core::ids::SessionId;
 use wtp_core::varint::{VarInt, first_varint};
@@ -37,16 +37,16 @@ pub extern "C" fn wt_varint_read(bytes: &[u8], value: &mut u64, consumed: &mut u
 
 /// Writes the shortest encoding of a number to the start of `out`.
 ///
-/// Returns `OK` with the size of the encoding in `used`. Returns `ROOM` if `out` is shorter than
+/// Returns `OK` with the size of the encoding in `used`. Returns `BUFFER_TOO_SMALL` if `out` is shorter than
 /// that size, which `used` then is; `out` does not change. Returns `INVALID` if the number is 2^62
 /// or more; then nothing changes.
 #[unsafe(no_mangle)]
 pub extern "C" fn wt_varint_write(value: u64, out: &mut [u8], used: &mut usize) -> i32
-    ensures answers { (result ≡ OK) ⊎ ((result ≡ ROOM) ⊎ (result ≡ INVALID)) }
+    ensures answers { (result ≡ OK) ⊎ ((result ≡ BUFFER_TOO_SMALL) ⊎ (result ≡ INVALID)) }
     ensures bytes { result ≡ OK
-        → (value < 2 ^ 62) × Puts (shortest value) out.old out.new used.new }
-    ensures room { result ≡ ROOM
-        → (value < 2 ^ 62) × Lacks (shortest value) out.old out.new used.new }
+        → (value < 2 ^ 62) × WritesPrefix (shortest value) out.old out.new used.new }
+    ensures room { result ≡ BUFFER_TOO_SMALL
+        → (value < 2 ^ 62) × TooShort (shortest value) out.old out.new used.new }
     ensures invalid { result ≡ INVALID
         → (2 ^ 62 ≤ value) × (out.new ≡ out.old) × (used.new ≡ used.old) }
 {

@@ -3,9 +3,9 @@ ghost use Rattle.std.specs.Prelude.{◌≡◌, ◌⊎◌, ◌≤◌, ◌+◌, �
 ghost use Rattle.wtp_core.specs.BufferWriter.{Wrote, loan_of, room_in};
 ghost use Rattle.wtp_core.specs.Reader.{IsRest};
 ghost use Rattle.wtp_core.specs.Varint.{shortest};
-ghost use Rattle.wt_c.specs.Output.{Puts, Lacks};
+ghost use Rattle.wt_c.specs.Output.{WritesPrefix, TooShort};
 
-use crate::answers::{OK, ROOM};
+use crate::answers::{BUFFER_TOO_SMALL, OK};
 use wtp_core::bytes::{BufferWriter, BytesWriter};
 use wtp_core::varint::VarInt;
 
@@ -19,15 +19,15 @@ pub(crate) fn size_before(rest: &[u8], bytes: &[u8]) -> usize
 }
 
 /// Writes bytes to the start of `out`, and reports how many they are in `used`. Returns `OK`, or
-/// `ROOM` if `out` is shorter; then `out` does not change.
+/// `BUFFER_TOO_SMALL` if `out` is shorter; then `out` does not change.
 pub(crate) fn write_bytes(bytes: &[u8], out: &mut [u8], used: &mut usize) -> i32
-    ensures answers { (result ≡ OK) ⊎ (result ≡ ROOM) }
-    ensures bytes { result ≡ OK → Puts bytes.now out.old out.new used.new }
-    ensures room { result ≡ ROOM → Lacks bytes.now out.old out.new used.new }
+    ensures answers { (result ≡ OK) ⊎ (result ≡ BUFFER_TOO_SMALL) }
+    ensures bytes { result ≡ OK → WritesPrefix bytes.now out.old out.new used.new }
+    ensures room { result ≡ BUFFER_TOO_SMALL → TooShort bytes.now out.old out.new used.new }
 {
     *used = bytes.len();
     if out.len() < *used {
-        return ROOM;
+        return BUFFER_TOO_SMALL;
     }
     let mut writer = BufferWriter::new(out);
     let written = writer.put_bytes(bytes);
@@ -37,13 +37,13 @@ pub(crate) fn write_bytes(bytes: &[u8], out: &mut [u8], used: &mut usize) -> i32
 
 /// Writes the shortest encoding of a number, as `write_bytes` does.
 pub(crate) fn write_number(number: VarInt, out: &mut [u8], used: &mut usize) -> i32
-    ensures answers { (result ≡ OK) ⊎ (result ≡ ROOM) }
-    ensures bytes { result ≡ OK → Puts (shortest number) out.old out.new used.new }
-    ensures room { result ≡ ROOM → Lacks (shortest number) out.old out.new used.new }
+    ensures answers { (result ≡ OK) ⊎ (result ≡ BUFFER_TOO_SMALL) }
+    ensures bytes { result ≡ OK → WritesPrefix (shortest number) out.old out.new used.new }
+    ensures room { result ≡ BUFFER_TOO_SMALL → TooShort (shortest number) out.old out.new used.new }
 {
     *used = number.size();
     if out.len() < *used {
-        return ROOM;
+        return BUFFER_TOO_SMALL;
     }
     let mut writer = BufferWriter::new(out);
     let written = writer.put_varint(number);
@@ -53,15 +53,15 @@ pub(crate) fn write_number(number: VarInt, out: &mut [u8], used: &mut usize) -> 
 
 /// Writes the shortest encodings of two numbers, as `write_bytes` does.
 pub(crate) fn write_pair(first: VarInt, second: VarInt, out: &mut [u8], used: &mut usize) -> i32
-    ensures answers { (result ≡ OK) ⊎ (result ≡ ROOM) }
+    ensures answers { (result ≡ OK) ⊎ (result ≡ BUFFER_TOO_SMALL) }
     ensures bytes { result ≡ OK
-        → Puts (shortest first ++ shortest second) out.old out.new used.new }
-    ensures room { result ≡ ROOM
-        → Lacks (shortest first ++ shortest second) out.old out.new used.new }
+        → WritesPrefix (shortest first ++ shortest second) out.old out.new used.new }
+    ensures room { result ≡ BUFFER_TOO_SMALL
+        → TooShort (shortest first ++ shortest second) out.old out.new used.new }
 {
     *used = first.size() + second.size();
     if out.len() < *used {
-        return ROOM;
+        return BUFFER_TOO_SMALL;
     }
     let mut writer = BufferWriter::new(out);
     let front = writer.put_varint(first);
@@ -85,13 +85,13 @@ fn write_both(writer: &mut BufferWriter<'_>, first: &[u8], second: &[u8])
 
 /// Writes two lists of bytes one after the other, as `write_bytes` does.
 pub(crate) fn write_parts(first: &[u8], second: &[u8], out: &mut [u8], used: &mut usize) -> i32
-    ensures answers { (result ≡ OK) ⊎ (result ≡ ROOM) }
-    ensures bytes { result ≡ OK → Puts (first.now ++ second.now) out.old out.new used.new }
-    ensures room { result ≡ ROOM → Lacks (first.now ++ second.now) out.old out.new used.new }
+    ensures answers { (result ≡ OK) ⊎ (result ≡ BUFFER_TOO_SMALL) }
+    ensures bytes { result ≡ OK → WritesPrefix (first.now ++ second.now) out.old out.new used.new }
+    ensures room { result ≡ BUFFER_TOO_SMALL → TooShort (first.now ++ second.now) out.old out.new used.new }
 {
     *used = first.len() + second.len();
     if out.len() < *used {
-        return ROOM;
+        return BUFFER_TOO_SMALL;
     }
     let mut writer = BufferWriter::new(out);
     write_both(&mut writer, first, second);

@@ -5,14 +5,14 @@ ghost use Rattle.wtp_core.specs.ErrorCodes.{code_number};
 ghost use Rattle.wtp_wire.specs.Front.{Short};
 ghost use Rattle.wtp_wire.specs.Held.{front_held};
 ghost use Rattle.wtransport_proto.specs.FrameCursor.{held_by};
-ghost use Rattle.wtransport_proto.specs.declared.stream.cursor.FramePlace.{FramePlace};
+ghost use Rattle.wtransport_proto.specs.declared.stream.cursor.FrameSpan.{FrameSpan};
 ghost use Rattle.wtransport_proto.specs.declared.stream.cursor.CursorStep.{CursorStep};
 ghost use Rattle.wt_c.specs.Reader.{IsReader, Stepped, c_frame, cursor_of, stream_role};
 
 use crate::answers::{FAULT, INVALID, MORE, OK};
 use wtp_core::varint::VarInt;
 use wtransport_proto::error::ErrorCode;
-use wtransport_proto::stream::{CursorStep, FrameCursor, FramePlace, StreamRole};
+use wtransport_proto::stream::{CursorStep, FrameCursor, FrameSpan, StreamRole};
 
 /// A bidirectional stream that the peer opened.
 pub const BI_REMOTE: u8 = 0;
@@ -36,7 +36,7 @@ pub struct WtReader {
     /// Whether the next frame would be the first of the stream: 1, or 0.
     pub first: u8,
     /// How many payload bytes of an unknown frame are still to be skipped: fewer than 2^62.
-    pub due: u64,
+    pub skip_remaining: u64,
 }
 
 /// A frame, whose payload is in the bytes that were read.
@@ -75,13 +75,13 @@ fn cursor_of(reader: &WtReader) -> Option<FrameCursor>
     let Some(role) = role_of(reader.kind) else {
         return None;
     };
-    if reader.first > 1 || reader.due > VarInt::MAX.into_inner() {
+    if reader.first > 1 || reader.skip_remaining > VarInt::MAX.into_inner() {
         return None;
     }
     Some(FrameCursor {
         role,
         first: reader.first != 0,
-        due: reader.due,
+        skip_remaining: reader.skip_remaining,
     })
 }
 
@@ -92,7 +92,7 @@ fn cursor_of(reader: &WtReader) -> Option<FrameCursor>
 pub extern "C" fn wt_reader_new(kind: u8, reader: &mut WtReader) -> i32
     ensures answers { (result ≡ OK) ⊎ (result ≡ INVALID) }
     ensures reader { result ≡ OK → (kind ≤ SESSION)
-        × (reader.new ≡ record { kind = kind; first = 1; due = 0 }) }
+        × (reader.new ≡ record { kind = kind; first = 1; skip_remaining = 0 }) }
     ensures invalid { result ≡ INVALID → (SESSION < kind) × (reader.new ≡ reader.old) }
 {
     if kind > SESSION {
@@ -101,7 +101,7 @@ pub extern "C" fn wt_reader_new(kind: u8, reader: &mut WtReader) -> i32
     *reader = WtReader {
         kind,
         first: 1,
-        due: 0,
+        skip_remaining: 0,
     };
     OK
 }
@@ -114,7 +114,7 @@ pub extern "C" fn wt_reader_new(kind: u8, reader: &mut WtReader) -> i32
 ///   again with more bytes after them; they are at most 4111.
 /// - `FAULT`: the stream has a fault, whose error code is `code`. The reader does not change, and
 ///   `consumed` is 0.
-/// - `INVALID`: `reader` is not valid: its kind is above `SESSION`, `first` above 1, or `due` 2^62 or
+/// - `INVALID`: `reader` is not valid: its kind is above `SESSION`, `first` above 1, or `skip_remaining` 2^62 or
 ///   more. Nothing changes.
 ///
 /// However the bytes of a stream are cut, the frames and the first fault are the same. `frame`
@@ -128,7 +128,7 @@ pub extern "C" fn wt_read_frame(
     code: &mut u64,
 ) -> i32
     ensures answers { (result ≡ OK) ⊎ ((result ≡ MORE) ⊎ ((result ≡ FAULT) ⊎ (result ≡ INVALID))) }
-    ensures frame { result ≡ OK → (p : FramePlace) × (frame.new ≡ c_frame p)
+    ensures frame { result ≡ OK → (p : FrameSpan) × (frame.new ≡ c_frame p)
         × (consumed.new ≡ p.end)
         × Stepped (CursorStep.Frame p) reader.old bytes.now reader.new }
     ensures more { result ≡ MORE
@@ -150,13 +150,13 @@ pub extern "C" fn wt_read_frame(
     match step {
         CursorStep::Frame(place) => {
             reader.first = 0;
-            reader.due = 0;
+            reader.skip_remaining = 0;
             *consumed = place.end;
             *frame = frame_at(&place);
             OK
         }
         CursorStep::More(passed) => {
-            reader.due = cursor.due;
+            reader.skip_remaining = cursor.skip_remaining;
             *consumed = passed;
             MORE
         }
@@ -169,7 +169,7 @@ pub extern "C" fn wt_read_frame(
 }
 
 /// Returns a frame's place as C has it.
-fn frame_at(place: &FramePlace) -> WtFrame
+fn frame_at(place: &FrameSpan) -> WtFrame
     ensures { result ≡ c_frame place.now }
 {
     WtFrame {
@@ -191,10 +191,10 @@ fn frame_at(place: &FramePlace) -> WtFrame
 #[unsafe(no_mangle)]
 pub extern "C" fn wt_read_end(reader: &WtReader, rest: &[u8], code: &mut u64) -> i32
     ensures answers { (result ≡ OK) ⊎ ((result ≡ FAULT) ⊎ (result ≡ INVALID)) }
-    ensures clean { result ≡ OK → IsReader reader.now × (reader.now.due ≡ 0)
+    ensures clean { result ≡ OK → IsReader reader.now × (reader.now.skip_remaining ≡ 0)
         × (length rest.now ≡ 0) }
     ensures fault { result ≡ FAULT → IsReader reader.now × (code.new ≡ 0x106)
-        × ¬ ((reader.now.due ≡ 0) × (length rest.now ≡ 0)) }
+        × ¬ ((reader.now.skip_remaining ≡ 0) × (length rest.now ≡ 0)) }
     ensures invalid { result ≡ INVALID → ¬ (IsReader reader.now) }
     ensures code { result ≢ FAULT → code.new ≡ code.old }
 {

@@ -5,11 +5,11 @@ ghost use Rattle.wtp_fields.specs.Field.{Field};
 ghost use Rattle.wtp_fields.specs.FieldMessages.{request_fault};
 ghost use Rattle.wtp_fields.specs.declared.session.HeadersParseError.{HeadersParseError};
 ghost use Rattle.wt_c.specs.Fields.{AreLinesOf, HasSectionFault, HasStoredLine};
-ghost use Rattle.wt_c.specs.Output.{Puts, Lacks};
+ghost use Rattle.wt_c.specs.Output.{WritesPrefix, TooShort};
 ghost use Rattle.wt_c.specs.RequestFaults.{IsFaultNumber, IsRequestFault, first_number};
 ghost use Rattle.wt_c.specs.RequestFaults.{fault_number, fault_name};
 
-use crate::answers::{FAULT, INVALID, MEMORY, OK, ROOM};
+use crate::answers::{BUFFER_TOO_SMALL, FAULT, INVALID, MEMORY, OK};
 use crate::lists::read_fields;
 use crate::output::write_bytes;
 use std::alloc::Global;
@@ -81,7 +81,7 @@ fn first_fault(fields: &FieldList) -> i32
 /// Returns `FAULT` with the code `QPACK_DECOMPRESSION_FAILED` (0x200) for a section with a fault,
 /// and `MEMORY` if allocation failed. Then `fault` does not change.
 #[unsafe(no_mangle)]
-pub extern "C" fn wt_request_fault(
+pub extern "C" fn wt_request_check(
     alloc: Global,
     section: &[u8],
     fault: &mut i32,
@@ -144,16 +144,16 @@ fn name_of(fault: &HeadersParseError) -> &'static str
 /// Writes the name of a request's fault to the start of `out`, in ASCII and without a final zero:
 /// `MissingMethod` and its like.
 ///
-/// Returns `OK` with the size of the name in `used`. Returns `ROOM` if `out` is shorter than that
+/// Returns `OK` with the size of the name in `used`. Returns `BUFFER_TOO_SMALL` if `out` is shorter than that
 /// size, which `used` then is; `out` does not change. Returns `INVALID` if no fault has this
 /// number; then nothing changes.
 #[unsafe(no_mangle)]
 pub extern "C" fn wt_request_fault_name(fault: i32, out: &mut [u8], used: &mut usize) -> i32
-    ensures answers { (result ≡ OK) ⊎ ((result ≡ ROOM) ⊎ (result ≡ INVALID)) }
+    ensures answers { (result ≡ OK) ⊎ ((result ≡ BUFFER_TOO_SMALL) ⊎ (result ≡ INVALID)) }
     ensures name { result ≡ OK → (e : HeadersParseError) × IsFaultNumber fault e
-        × Puts (fault_name e) out.old out.new used.new }
-    ensures room { result ≡ ROOM → (e : HeadersParseError) × IsFaultNumber fault e
-        × Lacks (fault_name e) out.old out.new used.new }
+        × WritesPrefix (fault_name e) out.old out.new used.new }
+    ensures room { result ≡ BUFFER_TOO_SMALL → (e : HeadersParseError) × IsFaultNumber fault e
+        × TooShort (fault_name e) out.old out.new used.new }
     ensures invalid { result ≡ INVALID → ((e : HeadersParseError) → ¬ (IsFaultNumber fault e))
         × (out.new ≡ out.old) × (used.new ≡ used.old) }
 {

@@ -1,10 +1,10 @@
 //! Field sections that are written (RFC 9204, section 4.5).
 ghost use Rattle.std.specs.Prelude.{◌≡◌, ◌⊎◌, IfOk};
 ghost use Rattle.wtp_fields.specs.FieldSection.{section_of};
-ghost use Rattle.wt_c.specs.Output.{Puts, Lacks};
+ghost use Rattle.wt_c.specs.Output.{WritesPrefix, TooShort};
 ghost use Rattle.wt_c.specs.Texts.{AreTextFields, lines_in};
 
-use crate::answers::{INVALID, MEMORY, OK, ROOM};
+use crate::answers::{BUFFER_TOO_SMALL, INVALID, MEMORY, OK};
 use crate::fields::WtField;
 use crate::output::write_bytes;
 use crate::texts::{TextPairs, are_texts};
@@ -27,7 +27,7 @@ fn encode_fields(alloc: Global, fields: &[WtField], texts: &[u8]) -> Result<Vec<
 /// Writes a field section to the start of `out`: the fields in their order, with the static table
 /// only, each text in the Huffman code if that is shorter.
 ///
-/// Returns `OK` with the size of the section in `used`. Returns `ROOM` if `out` is shorter than
+/// Returns `OK` with the size of the section in `used`. Returns `BUFFER_TOO_SMALL` if `out` is shorter than
 /// that size, which `used` then is; `out` does not change. Returns `INVALID` if a field is not
 /// within `texts` or is not UTF-8; otherwise `MEMORY` if allocation failed. Then nothing changes.
 #[unsafe(no_mangle)]
@@ -38,11 +38,11 @@ pub extern "C" fn wt_fields_write(
     out: &mut [u8],
     used: &mut usize,
 ) -> i32
-    ensures answers { (result ≡ OK) ⊎ ((result ≡ ROOM) ⊎ ((result ≡ INVALID) ⊎ (result ≡ MEMORY))) }
+    ensures answers { (result ≡ OK) ⊎ ((result ≡ BUFFER_TOO_SMALL) ⊎ ((result ≡ INVALID) ⊎ (result ≡ MEMORY))) }
     ensures bytes { result ≡ OK → AreTextFields texts.now fields.now
-        × Puts (section_of (lines_in texts.now fields.now)) out.old out.new used.new }
-    ensures room { result ≡ ROOM → AreTextFields texts.now fields.now
-        × Lacks (section_of (lines_in texts.now fields.now)) out.old out.new used.new }
+        × WritesPrefix (section_of (lines_in texts.now fields.now)) out.old out.new used.new }
+    ensures room { result ≡ BUFFER_TOO_SMALL → AreTextFields texts.now fields.now
+        × TooShort (section_of (lines_in texts.now fields.now)) out.old out.new used.new }
     ensures invalid { result ≡ INVALID → (¬ (AreTextFields texts.now fields.now))
         × (out.new ≡ out.old) × (used.new ≡ used.old) }
     ensures memory { result ≡ MEMORY → AreTextFields texts.now fields.now

@@ -8,17 +8,17 @@ ghost use Rattle.wtp_fields.specs.FieldMessages.{status_of};
 ghost use Rattle.wtp_fields.specs.FieldWriting.{list_at};
 ghost use Rattle.wtp_fields.specs.SessionResponse.{status_alone};
 ghost use Rattle.wt_c.specs.Fields.{field_in, AreLinesOf, HasStoredLine};
-ghost use Rattle.wt_c.specs.Output.{Puts, Lacks};
+ghost use Rattle.wt_c.specs.Output.{WritesPrefix, TooShort};
 ghost use Rattle.wt_c.specs.Sessions.{IsNoUrl, IsMessageField, AreMessageFields, message_frame};
 ghost use Rattle.wt_c.specs.Sessions.{IsRequestOf, HasRequestFault, HasResponseFault};
 ghost use Rattle.wt_c.specs.Texts.{lines_in};
 
-use crate::answers::{FAULT, INVALID, MEMORY, OK, ROOM};
+use crate::answers::{BUFFER_TOO_SMALL, FAULT, INVALID, MEMORY, OK};
 use crate::fields::WtField;
 use crate::frames::write_frame;
 use crate::lists::read_fields;
 use crate::output::write_parts;
-use crate::texts::{Unmade, parts_of};
+use crate::texts::{Rejection, parts_of};
 use std::alloc::{AllocError, Global};
 use wtp_core::error::ErrorCode;
 use wtp_core::ids::StatusCode;
@@ -82,11 +82,11 @@ fn write_message(
     used: &mut usize,
 ) -> i32
     requires { AreMessageFields texts.now fields.now }
-    ensures answers { (result ≡ OK) ⊎ ((result ≡ ROOM) ⊎ (result ≡ MEMORY)) }
+    ensures answers { (result ≡ OK) ⊎ ((result ≡ BUFFER_TOO_SMALL) ⊎ (result ≡ MEMORY)) }
     ensures frame { result ≡ OK
-        → Puts (message_frame list texts.now fields.now) out.old out.new used.new }
-    ensures room { result ≡ ROOM
-        → Lacks (message_frame list texts.now fields.now) out.old out.new used.new }
+        → WritesPrefix (message_frame list texts.now fields.now) out.old out.new used.new }
+    ensures room { result ≡ BUFFER_TOO_SMALL
+        → TooShort (message_frame list texts.now fields.now) out.old out.new used.new }
     ensures memory { result ≡ MEMORY → (out.new ≡ out.old) × (used.new ≡ used.old) }
 {
     if push_fields(&mut list, fields, texts).is_err() {
@@ -99,19 +99,19 @@ fn write_message(
 }
 
 /// Returns the fields of the request for the session at a URL.
-fn request_for(alloc: Global, url: &[u8]) -> Result<FieldList, Unmade>
+fn request_for(alloc: Global, url: &[u8]) -> Result<FieldList, Rejection>
     ensures ok { IfOk result (λ list. list_at (parse_url None url.now) ≡ Ok list) }
-    ensures invalid { IfErr result (λ e. e ≡ Unmade.Invalid → IsNoUrl url.now) }
-    ensures memory { IfErr result (λ e. e ≡ Unmade.Memory → IsUtf8 url.now) }
+    ensures invalid { IfErr result (λ e. e ≡ Rejection.Invalid → IsNoUrl url.now) }
+    ensures memory { IfErr result (λ e. e ≡ Rejection.Memory → IsUtf8 url.now) }
     ensures utf8 { OnOk result (IsUtf8 url.now) }
 {
     let Ok(text) = str::from_utf8(url) else {
-        return Err(Unmade::Invalid);
+        return Err(Rejection::Invalid);
     };
     match FieldList::request(alloc, text) {
         Ok(list) => Ok(list),
-        Err(UrlParseError::Memory) => Err(Unmade::Memory),
-        Err(_) => Err(Unmade::Invalid),
+        Err(UrlParseError::Memory) => Err(Rejection::Memory),
+        Err(_) => Err(Rejection::Invalid),
     }
 }
 
@@ -119,7 +119,7 @@ fn request_for(alloc: Global, url: &[u8]) -> Result<FieldList, Unmade>
 /// section 4.3.1): the pseudo-header fields, and then these fields in their order, with repeated
 /// names.
 ///
-/// Returns `OK` with the size of the frame in `used`. Returns `ROOM` if `out` is shorter than that
+/// Returns `OK` with the size of the frame in `used`. Returns `BUFFER_TOO_SMALL` if `out` is shorter than that
 /// size, which `used` then is; `out` does not change. Returns `INVALID` if the URL is not one, its
 /// scheme is not `https`, or it has 2^24 bytes or more and is too long; or if a field is not within
 /// `texts`, its name is empty, starts with a colon, has an upper-case letter or is no token, or its
@@ -135,13 +135,13 @@ pub extern "C" fn wt_request_write(
     out: &mut [u8],
     used: &mut usize,
 ) -> i32
-    ensures answers { (result ≡ OK) ⊎ ((result ≡ ROOM) ⊎ ((result ≡ INVALID) ⊎ (result ≡ MEMORY))) }
+    ensures answers { (result ≡ OK) ⊎ ((result ≡ BUFFER_TOO_SMALL) ⊎ ((result ≡ INVALID) ⊎ (result ≡ MEMORY))) }
     ensures frame { result ≡ OK → (m : List Field) × (list_at (parse_url None url.now) ≡ Ok m)
         × AreMessageFields texts.now fields.now
-        × Puts (message_frame m texts.now fields.now) out.old out.new used.new }
-    ensures room { result ≡ ROOM → (m : List Field) × (list_at (parse_url None url.now) ≡ Ok m)
+        × WritesPrefix (message_frame m texts.now fields.now) out.old out.new used.new }
+    ensures room { result ≡ BUFFER_TOO_SMALL → (m : List Field) × (list_at (parse_url None url.now) ≡ Ok m)
         × AreMessageFields texts.now fields.now
-        × Lacks (message_frame m texts.now fields.now) out.old out.new used.new }
+        × TooShort (message_frame m texts.now fields.now) out.old out.new used.new }
     ensures invalid { result ≡ INVALID
         → (IsNoUrl url.now ⊎ ¬ (AreMessageFields texts.now fields.now))
         × (out.new ≡ out.old) × (used.new ≡ used.old) }
@@ -160,7 +160,7 @@ pub extern "C" fn wt_request_write(
 /// Writes the HEADERS frame of the response with a status to the start of `out` (RFC 9114, section
 /// 4.3.2): `:status`, and then these fields in their order, with repeated names.
 ///
-/// Returns `OK` with the size of the frame in `used`. Returns `ROOM` if `out` is shorter than that
+/// Returns `OK` with the size of the frame in `used`. Returns `BUFFER_TOO_SMALL` if `out` is shorter than that
 /// size, which `used` then is; `out` does not change. Returns `INVALID` if the status is not from
 /// 100 to 599, or for a field that `wt_request_write` rejects. Otherwise returns `MEMORY` if
 /// allocation failed. Then nothing changes.
@@ -173,12 +173,12 @@ pub extern "C" fn wt_response_write(
     out: &mut [u8],
     used: &mut usize,
 ) -> i32
-    ensures answers { (result ≡ OK) ⊎ ((result ≡ ROOM) ⊎ ((result ≡ INVALID) ⊎ (result ≡ MEMORY))) }
+    ensures answers { (result ≡ OK) ⊎ ((result ≡ BUFFER_TOO_SMALL) ⊎ ((result ≡ INVALID) ⊎ (result ≡ MEMORY))) }
     ensures frame { result ≡ OK → IsStatus status × AreMessageFields texts.now fields.now
-        × Puts (message_frame (status_alone status) texts.now fields.now)
+        × WritesPrefix (message_frame (status_alone status) texts.now fields.now)
         out.old out.new used.new }
-    ensures room { result ≡ ROOM → IsStatus status × AreMessageFields texts.now fields.now
-        × Lacks (message_frame (status_alone status) texts.now fields.now)
+    ensures room { result ≡ BUFFER_TOO_SMALL → IsStatus status × AreMessageFields texts.now fields.now
+        × TooShort (message_frame (status_alone status) texts.now fields.now)
         out.old out.new used.new }
     ensures invalid { result ≡ INVALID
         → ((¬ (IsStatus status)) ⊎ ¬ (AreMessageFields texts.now fields.now))
@@ -203,7 +203,7 @@ pub extern "C" fn wt_response_write(
 /// these nor the other fields need be UTF-8.
 ///
 /// Returns `OK` with the size of both in `used`, and that of the authority in `authority`. Returns
-/// `ROOM` if `out` is shorter than both, whose sizes are reported all the same; `out` does not
+/// `BUFFER_TOO_SMALL` if `out` is shorter than both, whose sizes are reported all the same; `out` does not
 /// change. Returns `FAULT` with the code `QPACK_DECOMPRESSION_FAILED` (0x200) for a section with a
 /// fault, or `H3_MESSAGE_ERROR` (0x10e) for one that is not a request. Returns `MEMORY` if
 /// allocation failed. Then nothing else changes.
@@ -217,13 +217,13 @@ pub extern "C" fn wt_request_read(
     code: &mut u64,
 ) -> i32
     ensures answers { (result ≡ OK)
-        ⊎ ((result ≡ ROOM) ⊎ ((result ≡ FAULT) ⊎ (result ≡ MEMORY))) }
+        ⊎ ((result ≡ BUFFER_TOO_SMALL) ⊎ ((result ≡ FAULT) ⊎ (result ≡ MEMORY))) }
     ensures request { result ≡ OK → (m : List Field) × (host : List ℕ) × (path : List ℕ)
         × IsRequestOf section.now m host path × (authority.new ≡ length host)
-        × Puts (host ++ path) out.old out.new used.new }
-    ensures room { result ≡ ROOM → (m : List Field) × (host : List ℕ) × (path : List ℕ)
+        × WritesPrefix (host ++ path) out.old out.new used.new }
+    ensures room { result ≡ BUFFER_TOO_SMALL → (m : List Field) × (host : List ℕ) × (path : List ℕ)
         × IsRequestOf section.now m host path × (authority.new ≡ length host)
-        × Lacks (host ++ path) out.old out.new used.new }
+        × TooShort (host ++ path) out.old out.new used.new }
     ensures fault { result ≡ FAULT → HasRequestFault section.now code.new
         × (out.new ≡ out.old) × (authority.new ≡ authority.old) × (used.new ≡ used.old) }
     ensures memory { result ≡ MEMORY → HasStoredLine section.now

@@ -8,14 +8,14 @@ ghost use Rattle.wtp_wire.specs.declared.settings.SettingId.{SettingId};
 ghost use Rattle.wtp_wire.specs.SettingId.{setting_id_of, setting_name_of};
 ghost use Rattle.wtp_wire.specs.Settings.{settings_in, settings_wire, StartsWithSettings};
 ghost use Rattle.wtp_wire.specs.Settings.{AnswersSettings, AreFaultless};
-ghost use Rattle.wt_c.specs.Output.{Puts, Lacks};
+ghost use Rattle.wt_c.specs.Output.{WritesPrefix, TooShort};
 ghost use Rattle.wtp_wire.specs.SettingPairs.{numbers_of, setting_items};
 ghost use Rattle.wtp_wire.specs.declared.settings.pairs.SettingPair.{SettingPair};
 ghost use Rattle.wt_c.specs.declared.settings.WtSetting.{WtSetting};
 ghost use Rattle.wt_c.specs.Settings.{HoldSettings, LackSettings, ArePairsOf, AreNumbers, pairs_of};
 ghost use Rattle.wt_c.specs.Settings.{IsFaultlessBefore, AreWritable};
 
-use crate::answers::{FAULT, INVALID, MEMORY, OK, ROOM};
+use crate::answers::{BUFFER_TOO_SMALL, FAULT, INVALID, MEMORY, OK};
 use crate::output::write_bytes;
 use std::alloc::{AllocError, Global};
 use std::borrow::CowSlice;
@@ -50,15 +50,15 @@ fn count_settings(payload: &[u8]) -> usize
 /// Puts the settings of a payload into an array, in the payload's order.
 fn put_settings(payload: &[u8], settings: &mut [WtSetting], count: &mut usize) -> i32
     requires { (ps : List SettingPair) × ArePairsOf payload.now ps }
-    ensures answers { (result ≡ OK) ⊎ (result ≡ ROOM) }
+    ensures answers { (result ≡ OK) ⊎ (result ≡ BUFFER_TOO_SMALL) }
     ensures settings { result ≡ OK → (ps : List SettingPair) × ArePairsOf payload.now ps
         × HoldSettings settings.old settings.new count.new (numbers_of ps) }
-    ensures room { result ≡ ROOM → (ps : List SettingPair) × ArePairsOf payload.now ps
+    ensures room { result ≡ BUFFER_TOO_SMALL → (ps : List SettingPair) × ArePairsOf payload.now ps
         × LackSettings settings.old count.new (numbers_of ps) × (settings.new ≡ settings.old) }
 {
     *count = count_settings(payload);
     if *count > settings.len() {
-        return ROOM;
+        return BUFFER_TOO_SMALL;
     }
     let mut left = SettingPairs::new(payload);
     let mut n: usize = 0;
@@ -87,7 +87,7 @@ fn read_settings(alloc: Global, payload: &[u8]) -> Result<Settings, Refused>
 /// identifiers too.
 ///
 /// Returns `OK` with the settings: the first `count` of `settings`, after which the array does not
-/// change. Returns `ROOM` if the array is too short; `count` is then the room that they need, and
+/// change. Returns `BUFFER_TOO_SMALL` if the array is too short; `count` is then the room that they need, and
 /// the array does not change. Returns `FAULT` with the code of the first fault: `H3_FRAME_ERROR`
 /// (0x106) for a payload that is cut, `H3_SETTINGS_ERROR` (0x109) for an identifier of HTTP/2 or a
 /// repeated one, which is no fault of an unknown identifier. Returns `MEMORY` if allocation failed, which happens only at a
@@ -100,11 +100,11 @@ pub extern "C" fn wt_settings_read(
     count: &mut usize,
     code: &mut u64,
 ) -> i32
-    ensures answers { (result ≡ OK) ⊎ ((result ≡ ROOM) ⊎ ((result ≡ FAULT)
+    ensures answers { (result ≡ OK) ⊎ ((result ≡ BUFFER_TOO_SMALL) ⊎ ((result ≡ FAULT)
         ⊎ ((result ≡ MEMORY) ⊎ (result ≡ INVALID)))) }
     ensures settings { result ≡ OK → (ps : List SettingPair) × ArePairsOf payload.now ps
         × HoldSettings settings.old settings.new count.new (numbers_of ps) }
-    ensures room { result ≡ ROOM → (ps : List SettingPair) × ArePairsOf payload.now ps
+    ensures room { result ≡ BUFFER_TOO_SMALL → (ps : List SettingPair) × ArePairsOf payload.now ps
         × LackSettings settings.old count.new (numbers_of ps) × (settings.new ≡ settings.old) }
     ensures fault { result ≡ FAULT → (e : ErrorCode) × (settings_in payload.now ≡ Err e)
         × (code.new ≡ code_number e)
@@ -224,7 +224,7 @@ fn write_pairs(alloc: Global, settings: &[WtSetting]) -> Result<Vec<u8>, AllocEr
 
 /// Writes the payload of a SETTINGS frame to the start of `out`: the settings in their order.
 ///
-/// Returns `OK` with the size of the payload in `used`. Returns `ROOM` if `out` is shorter than
+/// Returns `OK` with the size of the payload in `used`. Returns `BUFFER_TOO_SMALL` if `out` is shorter than
 /// that size, which `used` then is; `out` does not change. Returns `INVALID` if a number is 2^62 or
 /// more, or if a peer would find a fault in the payload: an identifier of HTTP/2, or a known one
 /// that is repeated. Otherwise returns `MEMORY` if allocation failed, which does not happen for no
@@ -236,11 +236,11 @@ pub extern "C" fn wt_settings_write(
     out: &mut [u8],
     used: &mut usize,
 ) -> i32
-    ensures answers { (result ≡ OK) ⊎ ((result ≡ ROOM) ⊎ ((result ≡ INVALID) ⊎ (result ≡ MEMORY))) }
+    ensures answers { (result ≡ OK) ⊎ ((result ≡ BUFFER_TOO_SMALL) ⊎ ((result ≡ INVALID) ⊎ (result ≡ MEMORY))) }
     ensures bytes { result ≡ OK → AreWritable settings.now
-        × Puts (settings_wire (pairs_of settings.now)) out.old out.new used.new }
-    ensures room { result ≡ ROOM → AreWritable settings.now
-        × Lacks (settings_wire (pairs_of settings.now)) out.old out.new used.new }
+        × WritesPrefix (settings_wire (pairs_of settings.now)) out.old out.new used.new }
+    ensures room { result ≡ BUFFER_TOO_SMALL → AreWritable settings.now
+        × TooShort (settings_wire (pairs_of settings.now)) out.old out.new used.new }
     ensures invalid { result ≡ INVALID → (¬ (AreWritable settings.now))
         × (out.new ≡ out.old) × (used.new ≡ used.old) }
     ensures memory { result ≡ MEMORY → AreWritable settings.now × (settings.now ≢ [])
@@ -265,16 +265,16 @@ pub fn written_settings_are_read()
 /// `SETTINGS_H3_DATAGRAM` and its like, or the number of one that is reserved for exercise, as
 /// `0x21`.
 ///
-/// Returns `OK` with the size of the name in `used`. Returns `ROOM` if `out` is shorter than that
+/// Returns `OK` with the size of the name in `used`. Returns `BUFFER_TOO_SMALL` if `out` is shorter than that
 /// size, which `used` then is; `out` does not change. Returns `INVALID` if the number is not that
 /// of a setting; otherwise `MEMORY` if allocation failed. Then nothing changes.
 #[unsafe(no_mangle)]
 pub extern "C" fn wt_setting_name(alloc: Global, id: u64, out: &mut [u8], used: &mut usize) -> i32
-    ensures answers { (result ≡ OK) ⊎ ((result ≡ ROOM) ⊎ ((result ≡ INVALID) ⊎ (result ≡ MEMORY))) }
+    ensures answers { (result ≡ OK) ⊎ ((result ≡ BUFFER_TOO_SMALL) ⊎ ((result ≡ INVALID) ⊎ (result ≡ MEMORY))) }
     ensures name { result ≡ OK → (setting : SettingId) × (setting_id_of id ≡ Some setting)
-        × Puts (setting_name_of setting) out.old out.new used.new }
-    ensures room { result ≡ ROOM → (setting : SettingId) × (setting_id_of id ≡ Some setting)
-        × Lacks (setting_name_of setting) out.old out.new used.new }
+        × WritesPrefix (setting_name_of setting) out.old out.new used.new }
+    ensures room { result ≡ BUFFER_TOO_SMALL → (setting : SettingId) × (setting_id_of id ≡ Some setting)
+        × TooShort (setting_name_of setting) out.old out.new used.new }
     ensures invalid { result ≡ INVALID → ((setting_id_of id ≡ None) ⊎ (2 ^ 62 ≤ id))
         × (out.new ≡ out.old) × (used.new ≡ used.old) }
     ensures memory { result ≡ MEMORY → (setting : SettingId) × (setting_id_of id ≡ Some setting)

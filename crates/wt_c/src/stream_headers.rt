@@ -3,10 +3,10 @@ ghost use Rattle.std.specs.Prelude.{◌≡◌, ◌≢◌, ◌⊎◌, ◌≤◌, 
 ghost use Rattle.wtp_wire.specs.Header.{Header};
 ghost use Rattle.wtp_wire.specs.HeaderFront.{Short, header_front};
 ghost use Rattle.wtp_wire.specs.HeaderWire.{header_wire};
-ghost use Rattle.wt_c.specs.Output.{Puts, Lacks};
+ghost use Rattle.wt_c.specs.Output.{WritesPrefix, TooShort};
 ghost use Rattle.wt_c.specs.StreamHeaders.{StartsWithHeader, HasHeaderFault, IsHeaderIn};
 
-use crate::answers::{FAULT, INVALID, MORE, OK, ROOM};
+use crate::answers::{BUFFER_TOO_SMALL, FAULT, INVALID, MORE, OK};
 use crate::numbers::session_of;
 use crate::output::{size_before, write_number, write_pair};
 use wtp_core::error::ErrorCode;
@@ -87,7 +87,7 @@ fn is_header(header: &WtStreamHeader) -> bool
 
 /// Writes the header of a unidirectional stream to the start of `out`.
 ///
-/// Returns `OK` with its size in `used`. Returns `ROOM` if `out` is shorter than that size, which
+/// Returns `OK` with its size in `used`. Returns `BUFFER_TOO_SMALL` if `out` is shorter than that size, which
 /// `used` then is; `out` does not change. Returns `INVALID` if the type is unknown, if the session
 /// of the WebTransport type is invalid, or if another type has a session other than 0; then nothing
 /// changes.
@@ -97,11 +97,11 @@ pub extern "C" fn wt_stream_header_write(
     out: &mut [u8],
     used: &mut usize,
 ) -> i32
-    ensures answers { (result ≡ OK) ⊎ ((result ≡ ROOM) ⊎ (result ≡ INVALID)) }
+    ensures answers { (result ≡ OK) ⊎ ((result ≡ BUFFER_TOO_SMALL) ⊎ (result ≡ INVALID)) }
     ensures bytes { result ≡ OK → (h : Header) × IsHeaderIn header.now h
-        × Puts (header_wire h) out.old out.new used.new }
-    ensures room { result ≡ ROOM → (h : Header) × IsHeaderIn header.now h
-        × Lacks (header_wire h) out.old out.new used.new }
+        × WritesPrefix (header_wire h) out.old out.new used.new }
+    ensures room { result ≡ BUFFER_TOO_SMALL → (h : Header) × IsHeaderIn header.now h
+        × TooShort (header_wire h) out.old out.new used.new }
     ensures invalid { result ≡ INVALID → ((h : Header) → ¬ (IsHeaderIn header.now h))
         × (out.new ≡ out.old) × (used.new ≡ used.old) }
 {

@@ -10,26 +10,26 @@ use crate::fields::WtField;
 
 /// The bytes of an array of texts are tested for ASCII at once if they are at most this many for
 /// each field.
-const NEAR: usize = 128;
+const MAX_BYTES_PER_FIELD: usize = 128;
 
 /// Why the arguments were rejected.
 #[derive(Drop)]
-pub(crate) enum Unmade {
+pub(crate) enum Rejection {
     /// An argument is out of its range.
     Invalid,
     /// Memory allocation failed.
     Memory,
 }
 
-impl Unmade {
+impl Rejection {
     /// Returns the answer in C.
     pub(crate) fn answer(self) -> i32
-        ensures invalid { self ≡ Unmade.Invalid → result ≡ INVALID }
-        ensures memory { self ≡ Unmade.Memory → result ≡ MEMORY }
+        ensures invalid { self ≡ Rejection.Invalid → result ≡ INVALID }
+        ensures memory { self ≡ Rejection.Memory → result ≡ MEMORY }
     {
         match self {
-            Unmade::Invalid => INVALID,
-            Unmade::Memory => MEMORY,
+            Rejection::Invalid => INVALID,
+            Rejection::Memory => MEMORY,
         }
     }
 }
@@ -156,7 +156,7 @@ fn are_within(fields: &[WtField], size: usize) -> bool
 }
 
 /// Returns whether every name and value is valid UTF-8, checked one by one.
-fn are_each_texts(fields: &[WtField], texts: &[u8]) -> bool
+fn each_is_utf8(fields: &[WtField], texts: &[u8]) -> bool
     ensures { MatchBool result (AreTextFields texts.now fields.now)
         (¬ (AreTextFields texts.now fields.now)) }
 {
@@ -178,10 +178,10 @@ pub(crate) fn are_texts(fields: &[WtField], texts: &[u8]) -> bool
     ensures { MatchBool result (AreTextFields texts.now fields.now)
         (¬ (AreTextFields texts.now fields.now)) }
 {
-    if is_short_ascii(texts, fields.len().saturating_mul(NEAR)) {
+    if is_short_ascii(texts, fields.len().saturating_mul(MAX_BYTES_PER_FIELD)) {
         return are_within(fields, texts.len());
     }
-    are_each_texts(fields, texts)
+    each_is_utf8(fields, texts)
 }
 
 /// The names and the values of fields, one after the other.

@@ -5,20 +5,20 @@ use std::alloc::Global;
 use std::io::Read;
 
 /// The greatest number of bytes of input.
-const MOST_BYTES: usize = 67_108_864;
+const MAX_INPUT_LEN: usize = 67_108_864;
 
 /// Returns all bytes of a reader, if there are at most 67108864.
 pub fn read_all<R: Read>(alloc: Global, input: &mut R) -> Result<Vec<u8>, Failure> {
     let mut bytes = Vec::new(alloc);
     let mut chunk = [0; 16_384];
     // Each turn but the last adds at least one byte.
-    for _ in 0..=MOST_BYTES {
+    for _ in 0..=MAX_INPUT_LEN {
         let count = input.read(&mut chunk).map_err(|_| Failure::Input)?;
         if count == 0 {
             return Ok(bytes);
         }
         bytes.extend_from_slice(&chunk[..count])?;
-        if bytes.len() > MOST_BYTES {
+        if bytes.len() > MAX_INPUT_LEN {
             break;
         }
     }

@@ -7,7 +7,7 @@ use Rattle.wtp_wire.specs.declared.capsule.CapsuleKind.{CapsuleKind}
 use Rattle.wtp_wire.specs.declared.capsule.CapsuleKind.TheVariants.{CloseWebTransportSession}
 use Rattle.wt_inspection.specs.declared.capsules.Closing.{Closing}
 use Rattle.wt_inspection.specs.declared.capsules.Closing.TheVariants as closing-is
-use Rattle.wt_items.specs.declared.item.capsule.CloseReason.{CloseReason}
+use Rattle.wt_inspection_model.specs.declared.item.capsule.CloseReason.{CloseReason}
 use Rattle.wt_inspection.specs.declared.reading.Next.TheVariants as next-is
 use Rattle.wt_inspection.specs.Recording.{Then, Closes, StopsWith}
 use Rattle.wt_inspection.specs.Recording.{IsClosing}

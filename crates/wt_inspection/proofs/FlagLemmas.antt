@@ -10,7 +10,7 @@ use Rattle.wtp_wire.specs.SettingId.{is_reserved}
 use Rattle.wt_inspection.proofs.SettingLemmas.{settings_with}
 use Rattle.wtp_wire.specs.Settings.{pair_at}
 use Rattle.wt_inspection.specs.SettingLines.{StartsSettings, AreFlagged, flag_of}
-use Rattle.wt_items.specs.declared.item.settings.SettingLine.{SettingLine}
+use Rattle.wt_inspection_model.specs.declared.item.settings.SettingLine.{SettingLine}
 
 -- the identifiers of these lines, the last one first, and those before them
 abbrev pub ids_of : List ℕ → List SettingLine → List ℕ

@@ -15,27 +15,27 @@ use Rattle.wtp_wire.specs.Content.{Content as Frame, PlainOf}
 use Rattle.wtp_wire.specs.Kind.{kind_of}
 use Rattle.wtp_wire.specs.Role.{role_of}
 use Rattle.wtp_wire.specs.Rule.{Role, rule}
-use Rattle.wtp_wire.specs.Run.{Run, Tail, past_unknown, run, next_run}
+use Rattle.wtp_wire.specs.Run.{Run, Tail, skip_unknown, run, next_run}
 use Rattle.wtp_wire.specs.Settings.{settings_in}
 use Rattle.wtp_wire.specs.declared.rules.StreamRole.{StreamRole}
 use Rattle.wtp_wire.proofs.RunLaws.{run-allowed}
-use Rattle.wtp_wire.proofs.RunLemmas.{past_unknown-unknown, run-step}
-use Rattle.wt_items.specs.declared.item.Content.{Content}
-use Rattle.wt_items.specs.declared.item.Content.TheVariants as content-is
-use Rattle.wt_items.specs.declared.item.Item.{Item}
-use Rattle.wt_items.specs.declared.item.FrameItem.{FrameItem}
-use Rattle.wt_items.specs.declared.item.Parts.{Parts}
-use Rattle.wt_items.specs.declared.item.Parts.TheVariants as parts-is
-use Rattle.wt_items.specs.declared.item.ending.End.{End}
-use Rattle.wt_items.specs.declared.item.fields.SectionFault.{SectionFault}
-use Rattle.wt_items.specs.declared.item.fields.SectionFault.TheVariants as fault-is
-use Rattle.wt_items.specs.declared.item.names.FrameName.{FrameName}
-use Rattle.wt_items.specs.declared.item.names.FrameName.TheVariants as name-is
+use Rattle.wtp_wire.proofs.RunLemmas.{skip_unknown-unknown, run-step}
+use Rattle.wt_inspection_model.specs.declared.item.Content.{Content}
+use Rattle.wt_inspection_model.specs.declared.item.Content.TheVariants as content-is
+use Rattle.wt_inspection_model.specs.declared.item.Item.{Item}
+use Rattle.wt_inspection_model.specs.declared.item.FrameItem.{FrameItem}
+use Rattle.wt_inspection_model.specs.declared.item.Parts.{Parts}
+use Rattle.wt_inspection_model.specs.declared.item.Parts.TheVariants as parts-is
+use Rattle.wt_inspection_model.specs.declared.item.ending.End.{End}
+use Rattle.wt_inspection_model.specs.declared.item.fields.SectionFault.{SectionFault}
+use Rattle.wt_inspection_model.specs.declared.item.fields.SectionFault.TheVariants as fault-is
+use Rattle.wt_inspection_model.specs.declared.item.names.FrameName.{FrameName}
+use Rattle.wt_inspection_model.specs.declared.item.names.FrameName.TheVariants as name-is
 use Rattle.wt_inspection.specs.declared.reading.Next.{Next}
 use Rattle.wt_inspection.specs.declared.reading.Next.TheVariants as next-is
 use Rattle.wt_inspection.specs.DataCapsules.{Stage}
 use Rattle.wt_inspection.specs.ItemFrames.{frame_of, frames_at, frames_in, IsWithin, IsReadable, AreReadable}
-use Rattle.wt_items.specs.Names.{frame_name_of, named, other_name, is_http2}
+use Rattle.wt_inspection_model.specs.Names.{frame_name_of, named, other_name, is_http2}
 use Rattle.wtp_wire.specs.Settings.{pair_at}
 use Rattle.wt_inspection.specs.Recording.{Then, AfterSection, AfterSettings, HasParts, IsCut, IsCutPart, Judged, IsFrameAt, IsNext, IsNoFrame, IsRefused, Reads, is_session, name_fault, still_first}
 
@@ -149,8 +149,8 @@ unknown_frames : (role : Role) (first : Bool) (bytes rest : List ℕ) (tail : Ta
 unknown_frames role first bytes rest tail e =
     let more = λ (f : Bool) (r : List ℕ). run role f r tail in
     ap (λ (r : Run). r.frames) (run-step role first bytes tail)
-    ∙ ap (λ (b : List ℕ). (next_run more role first bytes b tail (front b)).frames) (past_unknown-unknown bytes rest e)
-    ∙ same_frames more role first bytes rest (past_unknown rest) tail (front (past_unknown rest))
+    ∙ ap (λ (b : List ℕ). (next_run more role first bytes b tail (front b)).frames) (skip_unknown-unknown bytes rest e)
+    ∙ same_frames more role first bytes rest (skip_unknown rest) tail (front (skip_unknown rest))
     ∙ ap (λ (r : Run). r.frames) (sym (run-step role first rest tail))
 
 -- ---- names without a kind

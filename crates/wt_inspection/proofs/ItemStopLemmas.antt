@@ -15,7 +15,7 @@ use Rattle.wtp_wire.specs.Rule.{rule}
 use Rattle.wtp_wire.specs.Run.{Tail, H3, run, ends, run_stop}
 use Rattle.wtp_wire.specs.declared.rules.StreamRole.{StreamRole}
 use Rattle.wtp_wire.proofs.RunLaws.{run-refused, run-bad_id, run-short}
-use Rattle.wt_items.specs.declared.item.Content.TheVariants.{Unread}
+use Rattle.wt_inspection_model.specs.declared.item.Content.TheVariants.{Unread}
 use Rattle.wt_inspection.specs.declared.reading.Next.TheVariants.{Frames}
 use Rattle.wtp_wire.specs.Settings.{pair_at}
 use Rattle.wt_inspection.specs.Recording.{Then, IsNext, IsNoFrame, IsRefused, StopsWith}

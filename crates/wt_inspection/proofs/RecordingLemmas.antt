@@ -12,9 +12,9 @@ use Rattle.wtp_wire.specs.declared.frame.kind.FrameKind.TheVariants as kind-is
 use Rattle.wtp_wire.specs.declared.stream_header.StreamKind.{StreamKind}
 use Rattle.wtp_wire.specs.declared.stream_header.StreamKind.TheVariants as stream-is
 use Rattle.wtp_wire.specs.declared.rules.StreamRole.{StreamRole}
-use Rattle.wt_items.specs.declared.item.Content.{Content}
-use Rattle.wt_items.specs.declared.item.Content.TheVariants as content-is
-use Rattle.wt_items.specs.declared.item.Item.{Item}
+use Rattle.wt_inspection_model.specs.declared.item.Content.{Content}
+use Rattle.wt_inspection_model.specs.declared.item.Content.TheVariants as content-is
+use Rattle.wt_inspection_model.specs.declared.item.Item.{Item}
 use Rattle.wt_inspection.specs.declared.reading.Next.{Next}
 use Rattle.wt_inspection.specs.declared.reading.Next.TheVariants as next-is
 use Rattle.wtp_wire.proofs.HeadPairLemmas.{two_at}

@@ -5,8 +5,8 @@ use Rattle.wtp_qpack.specs.declared.qpack.DecodingError.{DecodingError}
 use Rattle.wtp_qpack.specs.Field.{Field}
 use Rattle.wtp_qpack.specs.FieldLines.{AreOctetLines, octet_line_at}
 use Rattle.wtp_qpack.specs.FieldSection.{after_prefix}
-use Rattle.wt_items.specs.declared.item.fields.FieldSection.{FieldSection}
-use Rattle.wt_items.specs.declared.item.fields.Line.{Line}
+use Rattle.wt_inspection_model.specs.declared.item.fields.FieldSection.{FieldSection}
+use Rattle.wt_inspection_model.specs.declared.item.fields.Line.{Line}
 use Rattle.wt_inspection.specs.Sections.{HasLines, IsSection, fault_of, field_of}
 
 -- one more line

@@ -3,7 +3,7 @@ use Rattle.std.proofs.Common.{◌≡◌, ℕ, List, [], ◌∷◌, ◌++◌, Som
 use Rattle.wtp_core.specs.declared.error.ErrorCode.{ErrorCode}
 use Rattle.wtp_wire.specs.Settings.{settings_in}
 use Rattle.wt_inspection.specs.Recording.{Then, StopsWith, AfterSettings, HasFault}
-use Rattle.wt_items.specs.declared.item.settings.SettingLine.{SettingLine}
+use Rattle.wt_inspection_model.specs.declared.item.settings.SettingLine.{SettingLine}
 use Rattle.wtp_wire.specs.Settings.{pair_at}
 use Rattle.wt_inspection.specs.SettingLines.{StartsSettings}
 

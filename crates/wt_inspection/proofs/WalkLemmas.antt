@@ -10,7 +10,7 @@ use Rattle.wtp_wire.specs.declared.capsule.CapsuleKind.{CapsuleKind}
 use Rattle.wtp_wire.specs.declared.capsule.CapsuleKind.TheVariants.{CloseWebTransportSession}
 use Rattle.wtp_wire.specs.declared.capsule.cursor.AnyCapsule.{AnyCapsule}
 use Rattle.wtp_wire.specs.declared.capsule.cursor.CapsuleCursor.{CapsuleCursor}
-use Rattle.wtp_wire.specs.declared.capsule.cursor.CapsulePlace.{CapsulePlace}
+use Rattle.wtp_wire.specs.declared.capsule.cursor.CapsuleSpan.{CapsuleSpan}
 use Rattle.wtp_wire.specs.declared.capsule.cursor.UnknownCapsule.{UnknownCapsule}
 use Rattle.wtp_wire.specs.AnyCapsule.{AnyIs, FindsKnown, FindsLongHead, FindsUnknown, IsUnknownHead, LeavesPart, between, missing_from}
 use Rattle.wtp_wire.specs.Capsule.{capsule_in, capsule_kind_of, capsule_number_of}
@@ -25,21 +25,21 @@ use Rattle.wtp_wire.proofs.CapsuleLemmas.{capsule_in-begins, no_kind_none}
 use Rattle.wtp_wire.proofs.CapsuleReadingLemmas.{no_more}
 use Rattle.wtp_wire.proofs.HeadPairLemmas.{two_at}
 use Rattle.wtp_wire.proofs.PairLemmas.{pair_at-encoded, pair_at-more}
-use Rattle.wt_items.specs.declared.item.capsule.CapsuleItem.{CapsuleItem}
-use Rattle.wt_items.specs.declared.item.capsule.CloseReason.{CloseReason}
-use Rattle.wt_items.specs.declared.item.ending.Fault.{Fault}
-use Rattle.wt_items.specs.declared.item.ending.Cut.{Cut}
-use Rattle.wt_items.specs.declared.item.ending.End.TheVariants as end-is
+use Rattle.wt_inspection_model.specs.declared.item.capsule.CapsuleItem.{CapsuleItem}
+use Rattle.wt_inspection_model.specs.declared.item.capsule.CloseReason.{CloseReason}
+use Rattle.wt_inspection_model.specs.declared.item.ending.Fault.{Fault}
+use Rattle.wt_inspection_model.specs.declared.item.ending.Cut.{Cut}
+use Rattle.wt_inspection_model.specs.declared.item.ending.End.TheVariants as end-is
 use Rattle.wtp_wire.specs.declared.frame.kind.FrameKind.TheVariants as kind-is
 use Rattle.wtp_wire.specs.declared.rules.StreamRole.{StreamRole}
-use Rattle.wt_items.specs.declared.item.Content.{Content}
-use Rattle.wt_items.specs.declared.item.Content.TheVariants as content-is
-use Rattle.wt_items.specs.declared.item.FrameItem.{FrameItem}
-use Rattle.wt_items.specs.declared.item.Parts.{Parts}
-use Rattle.wt_items.specs.declared.item.Parts.TheVariants as parts-is
-use Rattle.wt_items.specs.declared.item.ending.End.{End}
-use Rattle.wt_items.specs.declared.item.names.FrameName.{FrameName}
-use Rattle.wt_items.specs.declared.item.names.FrameName.TheVariants as name-is
+use Rattle.wt_inspection_model.specs.declared.item.Content.{Content}
+use Rattle.wt_inspection_model.specs.declared.item.Content.TheVariants as content-is
+use Rattle.wt_inspection_model.specs.declared.item.FrameItem.{FrameItem}
+use Rattle.wt_inspection_model.specs.declared.item.Parts.{Parts}
+use Rattle.wt_inspection_model.specs.declared.item.Parts.TheVariants as parts-is
+use Rattle.wt_inspection_model.specs.declared.item.ending.End.{End}
+use Rattle.wt_inspection_model.specs.declared.item.names.FrameName.{FrameName}
+use Rattle.wt_inspection_model.specs.declared.item.names.FrameName.TheVariants as name-is
 use Rattle.wt_inspection.specs.declared.reading.Next.{Next}
 use Rattle.wt_inspection.specs.declared.reading.Next.TheVariants as next-is
 use Rattle.wt_inspection.specs.declared.reading.Phase.{Phase}
@@ -127,28 +127,28 @@ long_bad bytes end fault h same = λ more.
 
 -- ---- what is held
 
-holds_part : (unknown : Option UnknownCapsule) (due : ℕ) (held came : List ℕ) → unknown ≡ None → HoldsOf unknown due held came → (due ≡ 0) × (held ≡ came) × IsCapsulePart came
-holds_part None due held came none h = h
-holds_part (Some u) due held came none h = absurd (cc none)
+holds_part : (unknown : Option UnknownCapsule) (skip_remaining : ℕ) (held came : List ℕ) → unknown ≡ None → HoldsOf unknown skip_remaining held came → (skip_remaining ≡ 0) × (held ≡ came) × IsCapsulePart came
+holds_part None skip_remaining held came none h = h
+holds_part (Some u) skip_remaining held came none h = absurd (cc none)
 
-holds_lacks : (unknown : Option UnknownCapsule) (u : UnknownCapsule) (due : ℕ) (held came : List ℕ) → unknown ≡ Some u → HoldsOf unknown due held came → (0 < due) × (held ≡ []) × LacksOf u due came
-holds_lacks unknown u due held came is h = rw is at h
+holds_lacks : (unknown : Option UnknownCapsule) (u : UnknownCapsule) (skip_remaining : ℕ) (held came : List ℕ) → unknown ≡ Some u → HoldsOf unknown skip_remaining held came → (0 < skip_remaining) × (held ≡ []) × LacksOf u skip_remaining came
+holds_lacks unknown u skip_remaining held came is h = rw is at h
 
 part_ends : (came : List ℕ) → IsCapsulePart came → EndsWith (capsule_front came) None
 part_ends [] part = rw front_end refl
 part_ends (b ∷ came) part = rw (part_cut (b ∷ came) (omega arith) part) refl
 
-of_ends : (unknown : Option UnknownCapsule) (due : ℕ) (held came : List ℕ) → HoldsOf unknown due held came → EndsWith (capsule_front came) None
-of_ends None due held came (none, same, part) = part_ends came part
-of_ends (Some u) due held came (some, none, lacks) = lacks_ends u due came some lacks
+of_ends : (unknown : Option UnknownCapsule) (skip_remaining : ℕ) (held came : List ℕ) → HoldsOf unknown skip_remaining held came → EndsWith (capsule_front came) None
+of_ends None skip_remaining held came (none, same, part) = part_ends came part
+of_ends (Some u) skip_remaining held came (some, none, lacks) = lacks_ends u skip_remaining came some lacks
 
 -- it has no complete capsule
 pub holds_ends : (walk : CapsuleWalk) (came : List ℕ) → Holds walk came → EndsWith (capsule_front came) None
-holds_ends walk came h = of_ends walk.unknown walk.cursor.due walk.held.items came h.0
+holds_ends walk came h = of_ends walk.unknown walk.cursor.skip_remaining walk.held.items came h.0
 
 -- nothing
-pub holds_none : (unknown : Option UnknownCapsule) (due : ℕ) (held : List ℕ) → unknown ≡ None → due ≡ 0 → held ≡ [] → HoldsOf unknown due held [] × (length held ≤ 1043)
-holds_none unknown due held none zero empty = (rw none (zero, empty, inl (frame_need_some [])), omega (arith, ap length empty))
+pub holds_none : (unknown : Option UnknownCapsule) (skip_remaining : ℕ) (held : List ℕ) → unknown ≡ None → skip_remaining ≡ 0 → held ≡ [] → HoldsOf unknown skip_remaining held [] × (length held ≤ 1043)
+holds_none unknown skip_remaining held none zero empty = (rw none (zero, empty, inl (frame_need_some [])), omega (arith, ap length empty))
 
 no_pair : pair_at [] ≡ None
 unfolding pair_at number_at
@@ -159,94 +159,94 @@ some_came came p e empty = cc (rw empty at e, no_pair)
 
 pub pending_none : (walk : CapsuleWalk) (came : List ℕ) → walk.held.items ≡ [] → walk.unknown ≡ None → Holds walk came → came ≡ []
 pending_none walk came empty none h =
-    let (due, same, part) = holds_part walk.unknown walk.cursor.due walk.held.items came none h.0 in
+    let (skip_remaining, same, part) = holds_part walk.unknown walk.cursor.skip_remaining walk.held.items came none h.0 in
     sym same ∙ empty
 
 pub pending_held : (walk : CapsuleWalk) (came : List ℕ) → walk.held.items ≢ [] → Holds walk came → came ≢ []
-pending_held walk came some h = by walk.unknown walk.cursor.due walk.held.items some h.0
+pending_held walk came some h = by walk.unknown walk.cursor.skip_remaining walk.held.items some h.0
   where
-    by : (unknown : Option UnknownCapsule) (due : ℕ) (held : List ℕ) → held ≢ [] → HoldsOf unknown due held came → came ≢ []
-    by None due held some (none, same, part) = λ empty. some (same ∙ empty)
-    by (Some u) due held some (more, none, lacks) = absurd (some none)
+    by : (unknown : Option UnknownCapsule) (skip_remaining : ℕ) (held : List ℕ) → held ≢ [] → HoldsOf unknown skip_remaining held came → came ≢ []
+    by None skip_remaining held some (none, same, part) = λ empty. some (same ∙ empty)
+    by (Some u) skip_remaining held some (more, none, lacks) = absurd (some none)
 
 pub pending_unknown : (walk : CapsuleWalk) (came : List ℕ) → IsSome walk.unknown → Holds walk came → came ≢ []
-pending_unknown walk came some h = by walk.unknown walk.cursor.due walk.held.items some h.0
+pending_unknown walk came some h = by walk.unknown walk.cursor.skip_remaining walk.held.items some h.0
   where
-    by : (unknown : Option UnknownCapsule) (due : ℕ) (held : List ℕ) → IsSome unknown → HoldsOf unknown due held came → came ≢ []
-    by None due held some h = absurd (cc some)
-    by (Some u) due held some (more, none, (kind, (value, e, sum))) = some_came came ((u.number, u.announced), value) e
+    by : (unknown : Option UnknownCapsule) (skip_remaining : ℕ) (held : List ℕ) → IsSome unknown → HoldsOf unknown skip_remaining held came → came ≢ []
+    by None skip_remaining held some h = absurd (cc some)
+    by (Some u) skip_remaining held some (more, none, (kind, (value, e, sum))) = some_came came ((u.number, u.announced), value) e
 
 -- ---- an unknown capsule goes on
 
-pub still_lacks : (u : UnknownCapsule) (due : ℕ) (held came : List ℕ) → 0 < due → held ≡ [] → LacksOf u due came → HoldsOf (Some u) due held came × (length held ≤ 1043)
-still_lacks u due held came some none lacks = ((some, none, lacks), omega (arith, ap length none))
+pub still_lacks : (u : UnknownCapsule) (skip_remaining : ℕ) (held came : List ℕ) → 0 < skip_remaining → held ≡ [] → LacksOf u skip_remaining came → HoldsOf (Some u) skip_remaining held came × (length held ≤ 1043)
+still_lacks u skip_remaining held came some none lacks = ((some, none, lacks), omega (arith, ap length none))
 
-pub lacks_none : (u : UnknownCapsule) (due : ℕ) (held came : List ℕ) (item : CapsuleItem) → due ≤ 0 → held ≡ [] → item.number ≡ u.number → item.announced ≡ u.announced → item.close ≡ None → LacksOf u due came → IsWhole came item × (HoldsOf None due held [] × (length held ≤ 1043))
-lacks_none u due held came item zero none number announced close lacks =
-    let none_due : due ≡ 0 = omega (arith, zero) in
-    (lacks_whole u due came item none_due number announced close lacks, holds_none None due held refl none_due none)
+pub lacks_none : (u : UnknownCapsule) (skip_remaining : ℕ) (held came : List ℕ) (item : CapsuleItem) → skip_remaining ≤ 0 → held ≡ [] → item.number ≡ u.number → item.announced ≡ u.announced → item.close ≡ None → LacksOf u skip_remaining came → IsWhole came item × (HoldsOf None skip_remaining held [] × (length held ≤ 1043))
+lacks_none u skip_remaining held came item zero none number announced close lacks =
+    let none_due : skip_remaining ≡ 0 = omega (arith, zero) in
+    (lacks_whole u skip_remaining came item none_due number announced close lacks, holds_none None skip_remaining held refl none_due none)
 
 -- ---- a turn
 
 -- bytes of a value are skipped
-pub skips : (old : CapsuleWalk) (u : UnknownCapsule) (cursor : CapsuleCursor) (found : AnyCapsule) (came front : List ℕ) → old.unknown ≡ Some u → Fits old (length front) → AnyIs found old.cursor front cursor → Holds old came → (old.held.items ≡ []) × LacksOf u cursor.due (came ++ front)
+pub skips : (old : CapsuleWalk) (u : UnknownCapsule) (cursor : CapsuleCursor) (found : AnyCapsule) (came front : List ℕ) → old.unknown ≡ Some u → Fits old (length front) → AnyIs found old.cursor front cursor → Holds old came → (old.held.items ≡ []) × LacksOf u cursor.skip_remaining (came ++ front)
 skips old u cursor found came front is fits any h =
-    let (some, none, lacks) = holds_lacks old.unknown u old.cursor.due old.held.items came is h.0 in
+    let (some, none, lacks) = holds_lacks old.unknown u old.cursor.skip_remaining old.held.items came is h.0 in
     let missing = missing_due old.cursor old.held.items some in
-    let most : length front ≤ old.cursor.due = omega (arith, missing, some, fits (omega (arith, missing, some))) in
-    (none, lacks_more u old.cursor.due cursor.due came front lacks most (skips_all found old.cursor cursor front most any))
+    let most : length front ≤ old.cursor.skip_remaining = omega (arith, missing, some, fits (omega (arith, missing, some))) in
+    (none, lacks_more u old.cursor.skip_remaining cursor.skip_remaining came front lacks most (skips_all found old.cursor cursor front most any))
 
 -- the start of a capsule is held, and no more comes than is missing
 record HoldsPart (old : CapsuleWalk) (came front : List ℕ) : Type 0 where
-  due : old.cursor.due ≡ 0
+  skip_remaining : old.cursor.skip_remaining ≡ 0
   same : old.held.items ≡ came
   part : IsCapsulePart came
   most : length front ≤ missing_from old.cursor came
 
 holds_front : (old : CapsuleWalk) (came front : List ℕ) → old.unknown ≡ None → Fits old (length front) → Holds old came → HoldsPart old came front
 holds_front old came front none fits h =
-    let (due, same, part) = holds_part old.unknown old.cursor.due old.held.items came none h.0 in
+    let (skip_remaining, same, part) = holds_part old.unknown old.cursor.skip_remaining old.held.items came none h.0 in
     record {
-      due = due;
+      skip_remaining = skip_remaining;
       same = same;
       part = part;
-      most = subst (λ (x : List ℕ). 0 < missing_from old.cursor x → length front ≤ missing_from old.cursor x) same fits (part_missing old.cursor came due part);
+      most = subst (λ (x : List ℕ). 0 < missing_from old.cursor x → length front ≤ missing_from old.cursor x) same fits (part_missing old.cursor came skip_remaining part);
     }
 
-from_none : (due end : ℕ) (bytes : List ℕ) → due ≡ 0 → between due end bytes ≡ take end bytes
-from_none due end bytes zero = let size : end - 0 ≡ end = omega arith in rw zero (ap (λ (k : ℕ). take k bytes) size)
+from_none : (skip_remaining end : ℕ) (bytes : List ℕ) → skip_remaining ≡ 0 → between skip_remaining end bytes ≡ take end bytes
+from_none skip_remaining end bytes zero = let size : end - 0 ≡ end = omega arith in rw zero (ap (λ (k : ℕ). take k bytes) size)
 
-pub holds_more : (old : CapsuleWalk) (unknown : Option UnknownCapsule) (cursor : CapsuleCursor) (held came front : List ℕ) (n : ℕ) → old.unknown ≡ None → Fits old (length front) → unknown ≡ None → held ≡ old.held.items ++ front → LeavesPart n old.cursor (old.held.items ++ front) cursor → Holds old came → HoldsOf unknown cursor.due held (came ++ front) × (length held ≤ 1043)
+pub holds_more : (old : CapsuleWalk) (unknown : Option UnknownCapsule) (cursor : CapsuleCursor) (held came front : List ℕ) (n : ℕ) → old.unknown ≡ None → Fits old (length front) → unknown ≡ None → held ≡ old.held.items ++ front → LeavesPart n old.cursor (old.held.items ++ front) cursor → Holds old came → HoldsOf unknown cursor.skip_remaining held (came ++ front) × (length held ≤ 1043)
 holds_more old unknown cursor held came front n none fits still is f h =
     let p = holds_front old came front none fits h in
-    let zero : n ≡ 0 = omega (arith, p.due, f.due) in
+    let zero : n ≡ 0 = omega (arith, p.skip_remaining, f.skip_remaining) in
     let all : old.held.items ++ front ≡ came ++ front = ap (λ (x : List ℕ). x ++ front) p.same in
     let part : IsCapsulePart (came ++ front) = rw (← all) (rw zero at f.part) in
     let few : length (old.held.items ++ front) ≤ 1043 = rw zero at f.few in
-    (rw still (omega (arith, p.due, f.due), is ∙ all, part), omega (arith, ap length is, few))
+    (rw still (omega (arith, p.skip_remaining, f.skip_remaining), is ∙ all, part), omega (arith, ap length is, few))
 
 pub holds_long : (old : CapsuleWalk) (cursor : CapsuleCursor) (came front : List ℕ) (fault : Fault) → old.unknown ≡ None → Fits old (length front) → fault.code ≡ Datagram → FindsLongHead old.cursor (old.held.items ++ front) cursor → Holds old came → IsBad (came ++ front) fault
 holds_long old cursor came front fault none fits same f h =
     let p = holds_front old came front none fits h in
     let all : old.held.items ++ front ≡ came ++ front = ap (λ (x : List ℕ). x ++ front) p.same in
-    rw (← all) (long_bad (old.held.items ++ front) f.end fault (rw (from_none old.cursor.due f.end (old.held.items ++ front) p.due) at f.head) same)
+    rw (← all) (long_bad (old.held.items ++ front) f.end fault (rw (from_none old.cursor.skip_remaining f.end (old.held.items ++ front) p.skip_remaining) at f.head) same)
 
-pub holds_unknown : (old : CapsuleWalk) (cursor : CapsuleCursor) (came front : List ℕ) (u : UnknownCapsule) → old.unknown ≡ None → Fits old (length front) → FindsUnknown u old.cursor (old.held.items ++ front) cursor → Holds old came → LacksOf u cursor.due (came ++ front)
+pub holds_unknown : (old : CapsuleWalk) (cursor : CapsuleCursor) (came front : List ℕ) (u : UnknownCapsule) → old.unknown ≡ None → Fits old (length front) → FindsUnknown u old.cursor (old.held.items ++ front) cursor → Holds old came → LacksOf u cursor.skip_remaining (came ++ front)
 holds_unknown old cursor came front u none fits f h =
     let p = holds_front old came front none fits h in
     let all : old.held.items ++ front ≡ came ++ front = ap (λ (x : List ℕ). x ++ front) p.same in
-    let head : IsUnknownHead u.number u.announced (take u.start (came ++ front)) = rw all at (rw (from_none old.cursor.due u.start (old.held.items ++ front) p.due) at f.head) in
-    let pair : pair_at (came ++ front) ≡ Some ((u.number, u.announced), []) = ends_unknown old.cursor came front u.number u.announced u.start p.due p.part p.most (rw all at f.within) head in
-    (no_kind_none u.number f.head.no_kind, ([], pair, omega (arith, f.due)))
+    let head : IsUnknownHead u.number u.announced (take u.start (came ++ front)) = rw all at (rw (from_none old.cursor.skip_remaining u.start (old.held.items ++ front) p.skip_remaining) at f.head) in
+    let pair : pair_at (came ++ front) ≡ Some ((u.number, u.announced), []) = ends_unknown old.cursor came front u.number u.announced u.start p.skip_remaining p.part p.most (rw all at f.within) head in
+    (no_kind_none u.number f.head.no_kind, ([], pair, omega (arith, f.skip_remaining)))
 
-pub holds_known : (old : CapsuleWalk) (cursor : CapsuleCursor) (came front : List ℕ) (place : CapsulePlace) → old.unknown ≡ None → Fits old (length front) → FindsKnown place old.cursor (old.held.items ++ front) cursor → Holds old came → (old.held.items ++ front ≡ came ++ front) × (cursor.due ≡ 0) × IsCapsule place.kind (capsule_value place (old.held.items ++ front)) (old.held.items ++ front)
+pub holds_known : (old : CapsuleWalk) (cursor : CapsuleCursor) (came front : List ℕ) (place : CapsuleSpan) → old.unknown ≡ None → Fits old (length front) → FindsKnown place old.cursor (old.held.items ++ front) cursor → Holds old came → (old.held.items ++ front ≡ came ++ front) × (cursor.skip_remaining ≡ 0) × IsCapsule place.kind (capsule_value place (old.held.items ++ front)) (old.held.items ++ front)
 holds_known old cursor came front place none fits f h =
     let p = holds_front old came front none fits h in
     let bytes = old.held.items ++ front in
     let all : bytes ≡ came ++ front = ap (λ (x : List ℕ). x ++ front) p.same in
-    let k : IsCapsule place.kind (capsule_value place bytes) (take place.end bytes) = rw (from_none old.cursor.due place.end bytes p.due) at f.capsule in
-    let end : place.end ≡ length (came ++ front) = ends_known old.cursor came front (capsule_value place bytes) place.kind place.end p.due p.part p.most (rw all at f.within) (subst (λ (x : List ℕ). IsCapsule place.kind (capsule_value place bytes) (take place.end x)) all k) in
-    (all, f.due, subst (λ (x : List ℕ). IsCapsule place.kind (capsule_value place bytes) x) (take_all place.end bytes (omega (arith, end, ap length all))) k)
+    let k : IsCapsule place.kind (capsule_value place bytes) (take place.end bytes) = rw (from_none old.cursor.skip_remaining place.end bytes p.skip_remaining) at f.capsule in
+    let end : place.end ≡ length (came ++ front) = ends_known old.cursor came front (capsule_value place bytes) place.kind place.end p.skip_remaining p.part p.most (rw all at f.within) (subst (λ (x : List ℕ). IsCapsule place.kind (capsule_value place bytes) (take place.end x)) all k) in
+    (all, f.skip_remaining, subst (λ (x : List ℕ). IsCapsule place.kind (capsule_value place bytes) x) (take_all place.end bytes (omega (arith, end, ap length all))) k)
 
 -- a fact of what a call returned gives another
 pub ok_map : {T E : Type 0} (P Q : T → Type 0) (r : Result T E) → ((x : T) → P x → Q x) → IfOk r P → IfOk r Q

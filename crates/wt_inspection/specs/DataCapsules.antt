@@ -7,19 +7,19 @@ use Rattle.wtp_wire.specs.declared.capsule.CapsuleKind.{CapsuleKind}
 use Rattle.wtp_wire.specs.declared.capsule.CapsuleKind.TheVariants.{CloseWebTransportSession}
 use Rattle.wtp_wire.specs.CapsuleFront.{CapsuleFront, Found, Unknown, TooLong, Cut, End, capsule_front}
 use Rattle.wtp_wire.specs.CloseSession.{close_in}
-use Rattle.wt_items.specs.declared.item.capsule.CapsuleItem.{CapsuleItem}
-use Rattle.wt_items.specs.declared.item.capsule.CloseReason.{CloseReason}
+use Rattle.wt_inspection_model.specs.declared.item.capsule.CapsuleItem.{CapsuleItem}
+use Rattle.wt_inspection_model.specs.declared.item.capsule.CloseReason.{CloseReason}
 use Rattle.wtp_wire.specs.Settings.{pair_at}
 
 -- the code and the reason of a close
-abbrev pub Says : Option (ℕ × List ℕ) → Option CloseReason → Type 0
-Says (Some close) (Some found) = (found.code ≡ close.0) × (string_bytes found.reason ≡ close.1)
-Says (Some close) None = ⊥
-Says None found = ⊥
+abbrev pub HasText : Option (ℕ × List ℕ) → Option CloseReason → Type 0
+HasText (Some close) (Some found) = (found.code ≡ close.0) × (string_bytes found.reason ≡ close.1)
+HasText (Some close) None = ⊥
+HasText None found = ⊥
 
 -- what a capsule of this kind with this value says of its session
 abbrev pub SaysBy : CapsuleKind → List ℕ → Option CloseReason → Type 0
-SaysBy CloseWebTransportSession value close = Says (close_in value) close
+SaysBy CloseWebTransportSession value close = HasText (close_in value) close
 
 -- a capsule of this kind with this value has a fault
 abbrev pub IsFaulty : CapsuleKind → List ℕ → Type 0

@@ -4,7 +4,7 @@ use Rattle.std.specs.Prelude.{◌≡◌, ℕ, ◌%◌, ◌*◌, List, length, dr
 use Rattle.wtp_wire.specs.Kind.{kind_of}
 use Rattle.wtp_wire.specs.Datagram.{datagram_in}
 use Rattle.wtp_wire.specs.declared.frame.kind.FrameKind.TheVariants.{WebTransport}
-use Rattle.wt_items.specs.declared.item.DatagramHead.{DatagramHead}
+use Rattle.wt_inspection_model.specs.declared.item.DatagramHead.{DatagramHead}
 use Rattle.wtp_wire.specs.Settings.{pair_at}
 
 -- the bytes begin with the type of a WebTransport stream and this session ID

@@ -2,11 +2,11 @@
 use Rattle.std.specs.Prelude.{ℕ, ◌≤◌, List, [], ◌∷◌, ◌++◌, take, drop}
 use Rattle.wtp_wire.specs.Limits.{max_payload}
 use Rattle.wtp_wire.specs.Content.{Content as Frame, PlainOf}
-use Rattle.wt_items.specs.declared.item.Content.{Content}
-use Rattle.wt_items.specs.declared.item.Content.TheVariants as content-is
-use Rattle.wt_items.specs.declared.item.Item.{Item}
-use Rattle.wt_items.specs.declared.item.names.FrameName.{FrameName}
-use Rattle.wt_items.specs.declared.item.names.FrameName.TheVariants as name-is
+use Rattle.wt_inspection_model.specs.declared.item.Content.{Content}
+use Rattle.wt_inspection_model.specs.declared.item.Content.TheVariants as content-is
+use Rattle.wt_inspection_model.specs.declared.item.Item.{Item}
+use Rattle.wt_inspection_model.specs.declared.item.names.FrameName.{FrameName}
+use Rattle.wt_inspection_model.specs.declared.item.names.FrameName.TheVariants as name-is
 
 -- the frame of this name with this payload; a stream skips one that has no kind
 abbrev pub frame_of : FrameName → List ℕ → List Frame

@@ -7,4 +7,4 @@ pub mod SessionSections
 pub mod Recording
 pub mod Walks
 pub mod ItemFrames
-pub use Rattle.wt_items.specs.Names
+pub use Rattle.wt_inspection_model.specs.Names

@@ -21,29 +21,29 @@ use Rattle.wtp_wire.specs.declared.stream_header.StreamKind.{StreamKind}
 use Rattle.wtp_wire.specs.declared.stream_header.StreamKind.TheVariants as stream-is
 use Rattle.wtp_wire.specs.declared.rules.StreamRole.{StreamRole}
 use Rattle.wtp_wire.specs.declared.rules.StreamRole.TheVariants as role-is
-use Rattle.wt_items.specs.declared.item.Content.{Content}
-use Rattle.wt_items.specs.declared.item.Content.TheVariants as content-is
-use Rattle.wt_items.specs.declared.item.Item.{Item}
-use Rattle.wt_items.specs.declared.item.FrameItem.{FrameItem}
-use Rattle.wt_items.specs.declared.item.StreamHead.{StreamHead}
-use Rattle.wt_items.specs.declared.item.Parts.{Parts}
-use Rattle.wt_items.specs.declared.item.Parts.TheVariants as parts-is
-use Rattle.wt_items.specs.declared.item.capsule.CapsuleItem.{CapsuleItem}
-use Rattle.wt_items.specs.declared.item.capsule.CloseReason.{CloseReason}
-use Rattle.wt_items.specs.declared.item.ending.End.{End}
-use Rattle.wt_items.specs.declared.item.ending.End.TheVariants as end-is
-use Rattle.wt_items.specs.declared.item.fields.FieldSection.{FieldSection}
-use Rattle.wt_items.specs.declared.item.fields.SectionFault.{SectionFault}
-use Rattle.wt_items.specs.declared.item.fields.SectionFault.TheVariants.{Malformed}
-use Rattle.wt_items.specs.declared.item.names.FrameName.{FrameName}
-use Rattle.wt_items.specs.declared.item.names.FrameName.TheVariants as name-is
+use Rattle.wt_inspection_model.specs.declared.item.Content.{Content}
+use Rattle.wt_inspection_model.specs.declared.item.Content.TheVariants as content-is
+use Rattle.wt_inspection_model.specs.declared.item.Item.{Item}
+use Rattle.wt_inspection_model.specs.declared.item.FrameItem.{FrameItem}
+use Rattle.wt_inspection_model.specs.declared.item.StreamHead.{StreamHead}
+use Rattle.wt_inspection_model.specs.declared.item.Parts.{Parts}
+use Rattle.wt_inspection_model.specs.declared.item.Parts.TheVariants as parts-is
+use Rattle.wt_inspection_model.specs.declared.item.capsule.CapsuleItem.{CapsuleItem}
+use Rattle.wt_inspection_model.specs.declared.item.capsule.CloseReason.{CloseReason}
+use Rattle.wt_inspection_model.specs.declared.item.ending.End.{End}
+use Rattle.wt_inspection_model.specs.declared.item.ending.End.TheVariants as end-is
+use Rattle.wt_inspection_model.specs.declared.item.fields.FieldSection.{FieldSection}
+use Rattle.wt_inspection_model.specs.declared.item.fields.SectionFault.{SectionFault}
+use Rattle.wt_inspection_model.specs.declared.item.fields.SectionFault.TheVariants.{Malformed}
+use Rattle.wt_inspection_model.specs.declared.item.names.FrameName.{FrameName}
+use Rattle.wt_inspection_model.specs.declared.item.names.FrameName.TheVariants as name-is
 use Rattle.wt_inspection.specs.declared.reading.Next.{Next}
 use Rattle.wt_inspection.specs.declared.reading.Next.TheVariants as next-is
 use Rattle.wt_inspection.specs.declared.reading.Recorded.{Recorded}
 use Rattle.wt_inspection.specs.declared.reading.Recorded.TheVariants as recorded-is
 use Rattle.wt_inspection.specs.DataCapsules.{Stage, Opening, Plain, Session, StartsCapsules, EndsWith}
 use Rattle.wt_inspection.specs.Heads.{IsSessionItem, IsDatagramItem}
-use Rattle.wt_items.specs.Names.{frame_name_of, stream_name_of}
+use Rattle.wt_inspection_model.specs.Names.{frame_name_of, stream_name_of}
 use Rattle.wtp_wire.specs.Settings.{pair_at}
 use Rattle.wt_inspection.specs.Sections.{IsSection}
 use Rattle.wt_inspection.specs.SessionSections.{stage_after}

@@ -5,10 +5,10 @@ use Rattle.wtp_qpack.specs.declared.qpack.DecodingError.TheVariants.{DynamicNotS
 use Rattle.wtp_qpack.specs.Field.{Field}
 use Rattle.wtp_qpack.specs.FieldLines.{AreOctetLines, octet_line_at}
 use Rattle.wtp_qpack.specs.FieldSection.{after_prefix}
-use Rattle.wt_items.specs.declared.item.fields.FieldSection.{FieldSection}
-use Rattle.wt_items.specs.declared.item.fields.Line.{Line}
-use Rattle.wt_items.specs.declared.item.fields.SectionFault.{SectionFault}
-use Rattle.wt_items.specs.declared.item.fields.SectionFault.TheVariants.{NeedsDynamicTable, Malformed}
+use Rattle.wt_inspection_model.specs.declared.item.fields.FieldSection.{FieldSection}
+use Rattle.wt_inspection_model.specs.declared.item.fields.Line.{Line}
+use Rattle.wt_inspection_model.specs.declared.item.fields.SectionFault.{SectionFault}
+use Rattle.wt_inspection_model.specs.declared.item.fields.SectionFault.TheVariants.{NeedsDynamicTable, Malformed}
 
 -- the name and the value
 abbrev pub field_of : Line → Field

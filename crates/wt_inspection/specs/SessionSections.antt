@@ -5,9 +5,9 @@ use Rattle.std.specs.List.{list_any}
 use Rattle.std.specs.Str.{bytes_eq}
 use Rattle.wtp_wire.specs.declared.rules.StreamRole.{StreamRole}
 use Rattle.wtp_wire.specs.declared.rules.StreamRole.TheVariants.{BiLocal}
-use Rattle.wt_items.specs.declared.item.fields.FieldSection.{FieldSection}
-use Rattle.wt_items.specs.declared.item.fields.Line.{Line}
-use Rattle.wt_items.specs.declared.item.fields.SectionFault.{SectionFault}
+use Rattle.wt_inspection_model.specs.declared.item.fields.FieldSection.{FieldSection}
+use Rattle.wt_inspection_model.specs.declared.item.fields.Line.{Line}
+use Rattle.wt_inspection_model.specs.declared.item.fields.SectionFault.{SectionFault}
 use Rattle.wt_inspection.specs.DataCapsules.{Stage, Opening, Plain, Session}
 
 -- a section has a line of this name

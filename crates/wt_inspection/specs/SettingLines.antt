@@ -2,9 +2,9 @@
 use Rattle.std.specs.Prelude.{◌≡◌, ℕ, Bool, true, false, List, [], ◌∷◌, Option, Some, None, nat_eq}
 use Rattle.std.specs.List.{list_any}
 use Rattle.wtp_wire.specs.SettingId.{is_reserved}
-use Rattle.wt_items.specs.declared.item.settings.SettingFlag.{SettingFlag}
-use Rattle.wt_items.specs.declared.item.settings.SettingFlag.TheVariants.{Reserved, Repeated}
-use Rattle.wt_items.specs.declared.item.settings.SettingLine.{SettingLine}
+use Rattle.wt_inspection_model.specs.declared.item.settings.SettingIssue.{SettingIssue}
+use Rattle.wt_inspection_model.specs.declared.item.settings.SettingIssue.TheVariants.{Reserved, Repeated}
+use Rattle.wt_inspection_model.specs.declared.item.settings.SettingLine.{SettingLine}
 use Rattle.wtp_wire.specs.Settings.{pair_at}
 
 -- the bytes start with these settings, one after the other, followed by the rest
@@ -16,7 +16,7 @@ StartsSettings bytes (line ∷ lines) rest =
     × StartsSettings behind lines rest
 
 -- what is wrong with a setting whose identifier is reserved, or repeated
-abbrev pub flag_of : Bool → Bool → Option SettingFlag
+abbrev pub flag_of : Bool → Bool → Option SettingIssue
 flag_of true repeated = Some Reserved
 flag_of false true = Some Repeated
 flag_of false false = None

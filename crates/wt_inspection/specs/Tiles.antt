@@ -1,6 +1,6 @@
 -- Items that tile bytes: each byte belongs to exactly one item, and the items are in order.
 use Rattle.std.specs.Prelude.{◌≡◌, ℕ, ◌+◌, ◌≤◌, List, [], ◌∷◌, length}
-use Rattle.wt_items.specs.declared.item.Item.{Item}
+use Rattle.wt_inspection_model.specs.declared.item.Item.{Item}
 use Rattle.wt_inspection.specs.declared.tiling.Tiling.{Tiling}
 
 -- the first item is at the first place, each other one is where the one before it ends, and the

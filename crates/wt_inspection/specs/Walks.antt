@@ -9,7 +9,7 @@ use Rattle.wtp_wire.specs.CapsuleCursor.{IsCapsulePart}
 use Rattle.wtp_wire.specs.CapsuleFront.{capsule_front}
 use Rattle.wtp_wire.specs.Capsule.{capsule_kind_of}
 use Rattle.wtp_wire.specs.CloseSession.{close_in}
-use Rattle.wt_inspection.specs.DataCapsules.{Stage, Opening, Plain, Session, Says, StartsCapsule, StartsCapsules, EndsWith}
+use Rattle.wt_inspection.specs.DataCapsules.{Stage, Opening, Plain, Session, HasText, StartsCapsule, StartsCapsules, EndsWith}
 use Rattle.wtp_wire.specs.Settings.{pair_at}
 use Rattle.wt_inspection.specs.Recording.{Then}
 use Rattle.wt_inspection.specs.declared.capsules.CapsuleWalk.{CapsuleWalk}
@@ -18,8 +18,8 @@ use Rattle.wt_inspection.specs.declared.capsules.Closing.TheVariants as closing-
 use Rattle.wt_inspection.specs.declared.capsules.Taken.{Taken}
 use Rattle.wt_inspection.specs.declared.capsules.Turn.{Turn}
 use Rattle.wt_inspection.specs.declared.capsules.Turn.TheVariants as turn-is
-use Rattle.wt_items.specs.declared.item.capsule.CapsuleItem.{CapsuleItem}
-use Rattle.wt_items.specs.declared.item.ending.Fault.{Fault}
+use Rattle.wt_inspection_model.specs.declared.item.capsule.CapsuleItem.{CapsuleItem}
+use Rattle.wt_inspection_model.specs.declared.item.ending.Fault.{Fault}
 use Rattle.wt_inspection.specs.declared.reading.Phase.{Phase}
 use Rattle.wt_inspection.specs.declared.reading.Phase.TheVariants as phase-is
 
@@ -35,13 +35,13 @@ LacksOf u n came =
 -- these bytes of a capsule came: the start of one, all of which is held; or one whose value is
 -- skipped, of which nothing is held
 abbrev pub HoldsOf : Option UnknownCapsule → ℕ → List ℕ → List ℕ → Type 0
-HoldsOf None due held came = (due ≡ 0) × (held ≡ came) × IsCapsulePart came
-HoldsOf (Some u) due held came = (0 < due) × (held ≡ []) × LacksOf u due came
+HoldsOf None skip_remaining held came = (skip_remaining ≡ 0) × (held ≡ came) × IsCapsulePart came
+HoldsOf (Some u) skip_remaining held came = (0 < skip_remaining) × (held ≡ []) × LacksOf u skip_remaining came
 
 -- what is held is short, however long the capsule is
 abbrev pub Holds : CapsuleWalk → List ℕ → Type 0
 Holds walk came =
-    HoldsOf walk.unknown walk.cursor.due walk.held.items came × (length walk.held.items ≤ 1043)
+    HoldsOf walk.unknown walk.cursor.skip_remaining walk.held.items came × (length walk.held.items ≤ 1043)
 
 -- ---- one turn
 
@@ -67,7 +67,7 @@ Turned (turn-is.Fault fault) walk bytes = IsBad bytes fault
 -- what a complete capsule that closes its session is
 abbrev pub JudgesClose : Option (ℕ × List ℕ) → Closing → Type 0
 JudgesClose found closing-is.Other = ⊥
-JudgesClose found (closing-is.Close reason) = Says found (Some reason)
+JudgesClose found (closing-is.Close reason) = HasText found (Some reason)
 JudgesClose found (closing-is.Bad code) = (found ≡ None) × (code ≡ Datagram)
 
 -- what a complete capsule of this kind with this value is

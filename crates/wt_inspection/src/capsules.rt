@@ -10,12 +10,12 @@ ghost use Rattle.wt_inspection.specs.Walks.{Fits, Holds, JudgesBy, JudgesClose, 
 use crate::reading::{Next, Reading, Step, cut, fault, fault_at};
 use std::alloc::{AllocError, Global};
 use std::borrow::CowSlice;
-use wt_items::item::{CapsuleItem, CloseReason, Content, Cut, End, Fault};
+use wt_inspection_model::item::{CapsuleItem, CloseReason, Content, Cut, End, Fault};
 use wtp_core::error::{ErrorCode, Refused};
 use wtp_core::varint::VarInt;
 use wtp_wire::capsule::capsules::CloseWebTransportSession;
 use wtp_wire::capsule::{
-    AnyCapsule, Capsule, CapsuleCursor, CapsuleKind, CapsulePlace, UnknownCapsule,
+    AnyCapsule, Capsule, CapsuleCursor, CapsuleKind, CapsuleSpan, UnknownCapsule,
 };
 use wtp_wire::frame::Frame;
 use wtp_wire::head::{first_pair, missing_bytes};
@@ -167,9 +167,9 @@ impl CapsuleWalk {
     /// Returns the unknown capsule, if none of its value is missing.
     fn go_on(&mut self, unknown: UnknownCapsule) -> Turn
         ensures { (came : List ℕ) → self.old.held.items ≡ []
-            → LacksOf unknown self.old.cursor.due came → Turned result self.new came }
+            → LacksOf unknown self.old.cursor.skip_remaining came → Turned result self.new came }
     {
-        if self.cursor.due > 0 {
+        if self.cursor.skip_remaining > 0 {
             self.unknown = Some(unknown);
             return Turn::More;
         }
@@ -183,9 +183,9 @@ impl CapsuleWalk {
     }
 
     /// Returns the capsule of a known kind that is held.
-    fn complete(&mut self, found: CapsulePlace) -> Result<Turn, AllocError>
+    fn complete(&mut self, found: CapsuleSpan) -> Result<Turn, AllocError>
         requires { found.end ≤ length self.old.held.items }
-        ensures { IfOk result (λ turn. self.old.unknown ≡ None → self.old.cursor.due ≡ 0
+        ensures { IfOk result (λ turn. self.old.unknown ≡ None → self.old.cursor.skip_remaining ≡ 0
             → IsCapsule found.kind (capsule_value found self.old.held.items) self.old.held.items
             → Turned turn self.new self.old.held.items) }
     {

@@ -7,9 +7,9 @@ ghost use Rattle.wt_inspection.specs.Sections.{HasLines, IsSection, fault_of, fi
 
 use crate::reading::{Next, fault};
 use std::alloc::{AllocError, Global};
-use wt_items::item::{End, FieldSection, Line, SectionFault};
+use wt_inspection_model::item::{End, FieldSection, Line, SectionFault};
 use wtp_core::error::ErrorCode;
-use wtp_qpack::qpack::{DecodingError, FieldLine, FieldLines, FieldRoom};
+use wtp_qpack::qpack::{DecodingError, FieldBuffer, FieldLine, FieldLines};
 
 /// Returns the lines of a section, up to the first that cannot be read.
 #[tactic(auto, using(crate::proofs::SectionLemmas::section_without_lines, crate::proofs::SectionLemmas::section_with_lines))]
@@ -35,7 +35,7 @@ fn read_lines(
 ) -> Result<FieldSection, AllocError>
     ensures { IfOk result (λ s. HasLines fields.entry s.lines.items s.fault) }
 {
-    let mut room = FieldRoom::new(alloc);
+    let mut room = FieldBuffer::new(alloc);
     let mut lines = Vec::new(alloc);
     'lines: loop {
         match fields.next_line(&mut room) {

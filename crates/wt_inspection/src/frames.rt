@@ -1,7 +1,7 @@
 //! Frames (RFC 9114, section 7).
 ghost use Rattle.std.specs.Prelude.{◌≡◌, ◌≤◌, ◌<◌, ◌+◌, ◌^◌, true, false, Some, Ok, Err, IfOk, length, drop};
 ghost use Rattle.wtp_wire.specs.Kind.{kind_of};
-ghost use Rattle.wt_items.specs.Names.{frame_name_of};
+ghost use Rattle.wt_inspection_model.specs.Names.{frame_name_of};
 ghost use Rattle.wt_inspection.specs.Walks.{Leads};
 ghost use Rattle.wtp_wire.specs.Settings.{pair_at};
 ghost use Rattle.wt_inspection.specs.Recording.{IsCutPart, HasNoFrame, HasParts, IsNext, Judged, Moves, Takes, TakesDataFrame, TakesWhole, is_cut, is_data, is_session, name_fault, still_first};
@@ -15,7 +15,7 @@ use crate::message::take_section;
 use crate::reading::{Next, Phase, Reading, Step, cut, fault};
 use crate::settings::{read_settings, settings_then};
 use std::alloc::AllocError;
-use wt_items::item::{Content, End, FrameItem, FrameName, Parts};
+use wt_inspection_model::item::{Content, End, FrameItem, FrameName, Parts};
 use wtp_core::error::ErrorCode;
 use wtp_core::ids::SessionId;
 use wtp_core::varint::VarInt;

@@ -14,7 +14,7 @@ use crate::reading::{Next, Reading, Recorded, Step, cut, end_at, end_of_nothing,
 use crate::settings::{read_settings, settings_then};
 use crate::tiling::Tiling;
 use std::alloc::{AllocError, Global};
-use wt_items::item::{Content, DatagramHead, End, Inspection, StreamHead, StreamName};
+use wt_inspection_model::item::{Content, DatagramHead, End, Inspection, StreamHead, StreamName};
 use wtp_core::error::ErrorCode;
 use wtp_core::ids::SessionId;
 use wtp_core::varint::{VarInt, first_varint};

@@ -8,8 +8,8 @@ ghost use Rattle.wtp_wire.specs.declared.rules.StreamRole.{StreamRole};
 ghost use Rattle.wt_inspection.specs.DataCapsules.{Stage};
 ghost use Rattle.wt_inspection.specs.ItemFrames.{AreReadable, frames_in};
 ghost use Rattle.wt_inspection.specs.Recording.{IsNext, Reads, StopsWith, Then};
-ghost use Rattle.wt_items.specs.declared.item.Content.TheVariants.{Unread};
-ghost use Rattle.wt_items.specs.declared.item.Item.{Item};
+ghost use Rattle.wt_inspection_model.specs.declared.item.Content.TheVariants.{Unread};
+ghost use Rattle.wt_inspection_model.specs.declared.item.Item.{Item};
 ghost use Rattle.wt_inspection.specs.declared.reading.Next.TheVariants.{Frames};
 
 /// As long as the reading goes on, the frames of the items are the frames with which the run of

@@ -4,8 +4,6 @@
 //! the items, in order, each with its place, what looks wrong in them, and how the bytes end.
 //! Unlike the streams of `wtransport_proto` it reads payloads of any length, and it goes on after a
 //! field section that needs the dynamic table of QPACK.
-//!
-//! Not in the Rust crate.
 #![tactic(auto)]
 
 mod capsules;
@@ -20,5 +18,5 @@ mod tiling;
 
 pub use kinds::inspect;
 pub use reading::Recorded;
-pub use wt_items::item;
-pub use wt_items::item::{Content, End, Inspection, Item};
+pub use wt_inspection_model::item;
+pub use wt_inspection_model::item::{Content, End, Inspection, Item};

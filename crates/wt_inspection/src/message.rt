@@ -15,7 +15,7 @@ use crate::message::lines::warning_of_line;
 use crate::message::pseudo::{Pseudo, warning_of_pseudo};
 use crate::reading::{Next, Phase, Reading};
 use std::alloc::{AllocError, Global};
-use wt_items::item::{FieldSection, Line, Warning};
+use wt_inspection_model::item::{FieldSection, Line, Warning};
 use wtp_wire::rules::StreamRole;
 
 /// What a field section belongs to.

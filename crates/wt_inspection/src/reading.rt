@@ -6,7 +6,7 @@ ghost use Rattle.wt_inspection.specs.Recording.{EndsEmpty, EndsStage, code_of_no
 
 use crate::capsules::CapsuleWalk;
 use std::alloc::{AllocError, Global};
-use wt_items::item::{Content, Cut, End, Fault, Warning};
+use wt_inspection_model::item::{Content, Cut, End, Fault, Warning};
 use wtp_core::error::ErrorCode;
 use wtp_wire::rules::StreamRole;
 

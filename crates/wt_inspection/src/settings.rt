@@ -9,7 +9,7 @@ use crate::reading::{Next, fault};
 use std::alloc::{AllocError, Global};
 use std::borrow::CowSlice;
 use std::collections::BTreeSet;
-use wt_items::item::{End, SettingFlag, SettingLine};
+use wt_inspection_model::item::{End, SettingIssue, SettingLine};
 use wtp_core::error::{ErrorCode, Refused};
 use wtp_core::varint::VarInt;
 use wtp_wire::frame::Frame;
@@ -41,11 +41,11 @@ fn line_of(pair: FirstPair, is_new: bool) -> SettingLine
     ensures flag { result.flag ≡ flag_of (is_reserved pair.first) (not is_new) }
 {
     let flag = if SettingId::is_reserved(pair.first) {
-        Some(SettingFlag::Reserved)
+        Some(SettingIssue::Reserved)
     } else if is_new {
         None
     } else {
-        Some(SettingFlag::Repeated)
+        Some(SettingIssue::Repeated)
     };
     SettingLine {
         id: pair.first.into_inner(),

@@ -3,7 +3,7 @@ ghost use Rattle.std.specs.Prelude.{◌≡◌, ◌+◌, ◌≤◌, ◌++◌, ◌
 ghost use Rattle.wt_inspection.specs.Tiles.{IsTiling, Tiles};
 
 use std::alloc::{AllocError, Global};
-use wt_items::item::{Content, Item};
+use wt_inspection_model::item::{Content, Item};
 
 /// The items so far, and the place at which they end.
 #[derive(Drop)]

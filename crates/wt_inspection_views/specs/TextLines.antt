@@ -1,20 +1,20 @@
 -- How many lines the text of an inspection has.
 use Rattle.std.specs.Prelude.{◌≡◌, ℕ, ◌+◌, ◌-◌, ◌/◌, ◌≤◌, Bool, if◌then◌else◌, List, [], length, take, drop, nat_le, sum_by, Option, Some, None}
 use Rattle.wtp_wire.specs.declared.frame.kind.FrameKind.TheVariants as kind-is
-use Rattle.wt_items.specs.declared.item.Content.{Content}
-use Rattle.wt_items.specs.declared.item.Content.TheVariants as content-is
-use Rattle.wt_items.specs.declared.item.DatagramHead.{DatagramHead}
-use Rattle.wt_items.specs.declared.item.FrameItem.{FrameItem}
-use Rattle.wt_items.specs.declared.item.Inspection.{Inspection}
-use Rattle.wt_items.specs.declared.item.Item.{Item}
-use Rattle.wt_items.specs.declared.item.Parts.{Parts}
-use Rattle.wt_items.specs.declared.item.Parts.TheVariants as parts-is
-use Rattle.wt_items.specs.declared.item.capsule.CapsuleItem.{CapsuleItem}
-use Rattle.wt_items.specs.declared.item.capsule.CloseReason.{CloseReason}
-use Rattle.wt_items.specs.declared.item.fields.FieldSection.{FieldSection}
-use Rattle.wt_items.specs.declared.item.fields.SectionFault.{SectionFault}
-use Rattle.wt_items.specs.declared.item.names.FrameName.{FrameName}
-use Rattle.wt_items.specs.declared.item.names.FrameName.TheVariants as name-is
+use Rattle.wt_inspection_model.specs.declared.item.Content.{Content}
+use Rattle.wt_inspection_model.specs.declared.item.Content.TheVariants as content-is
+use Rattle.wt_inspection_model.specs.declared.item.DatagramHead.{DatagramHead}
+use Rattle.wt_inspection_model.specs.declared.item.FrameItem.{FrameItem}
+use Rattle.wt_inspection_model.specs.declared.item.Inspection.{Inspection}
+use Rattle.wt_inspection_model.specs.declared.item.Item.{Item}
+use Rattle.wt_inspection_model.specs.declared.item.Parts.{Parts}
+use Rattle.wt_inspection_model.specs.declared.item.Parts.TheVariants as parts-is
+use Rattle.wt_inspection_model.specs.declared.item.capsule.CapsuleItem.{CapsuleItem}
+use Rattle.wt_inspection_model.specs.declared.item.capsule.CloseReason.{CloseReason}
+use Rattle.wt_inspection_model.specs.declared.item.fields.FieldSection.{FieldSection}
+use Rattle.wt_inspection_model.specs.declared.item.fields.SectionFault.{SectionFault}
+use Rattle.wt_inspection_model.specs.declared.item.names.FrameName.{FrameName}
+use Rattle.wt_inspection_model.specs.declared.item.names.FrameName.TheVariants as name-is
 
 -- the line of the fault that ends a field section
 abbrev pub stop_lines : Option SectionFault → ℕ

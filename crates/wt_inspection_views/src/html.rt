@@ -9,11 +9,11 @@ use crate::text::{end_line, item_lines, warning_lines};
 use crate::{bytes_of, split_warnings};
 use page::{Markup, Page};
 use std::alloc::{AllocError, Global};
-use wt_items::item::{Content, End, FrameName, Inspection, Item, Warning};
+use wt_inspection_model::item::{Content, End, FrameName, Inspection, Item, Warning};
 use wtp_wire::frame::FrameKind;
 
 /// Above this number of bytes of input, those of payloads are not shown.
-const MOST_SHOWN: usize = 65_536;
+const MAX_SHOWN_LEN: usize = 65_536;
 
 /// How many bytes a row shows.
 const BYTES_PER_ROW: usize = 16;
@@ -24,7 +24,7 @@ const BYTES_PER_ROW: usize = 16;
 /// text for people has them. Pointing at either marks the other. Above 65536 bytes of input,
 /// payloads are shown by their lengths. What a peer sent stands in escaped text alone.
 ///
-/// Returns [`AllocError`] if allocation fails. Not in the Rust crate.
+/// Returns [`AllocError`] if allocation fails.
 pub fn write_html(
     alloc: Global,
     inspection: &Inspection,
@@ -82,7 +82,7 @@ fn begin_end(end: End) -> Markup {
 
 /// Adds the rows of the bytes of all items.
 fn add_all_rows(page: &mut Page, items: &[Item], bytes: &[u8]) {
-    let is_long = bytes.len() > MOST_SHOWN;
+    let is_long = bytes.len() > MAX_SHOWN_LEN;
     for (index, item) in items.iter().enumerate() {
         add_rows(page, index, item, bytes, is_long);
     }

@@ -11,7 +11,7 @@ use crate::text::shown_of;
 use object::{Lines, Object};
 use parts::{add_capsule, add_capsules, add_section, add_settings};
 use std::alloc::{AllocError, Global};
-use wt_items::item::{
+use wt_inspection_model::item::{
     CapsuleItem, Content, Cut, DatagramHead, End, Fault, FieldSection, FrameItem, Inspection, Item,
     Parts, SettingLine, StreamHead, Warning,
 };
@@ -27,7 +27,7 @@ use wt_items::item::{
 /// - What a peer sent is a string if it is UTF-8 without DEL and without U+0080 to U+009F, and
 ///   otherwise `{"hex":".."}`.
 ///
-/// Returns [`AllocError`] if allocation fails. Not in the Rust crate.
+/// Returns [`AllocError`] if allocation fails.
 pub fn write_json(
     alloc: Global,
     inspection: &Inspection,
@@ -259,6 +259,6 @@ fn add_fault(object: &mut Object, fault: Fault)
     object.add_text("item", "end");
     object.add_text("state", "fault");
     object.add_number("code", code.to_code().into_inner());
-    object.add_made("name", format!(in object.alloc; "{code}"));
+    object.add_formatted("name", format!(in object.alloc; "{code}"));
     object.add_text("why", fault.why)
 }

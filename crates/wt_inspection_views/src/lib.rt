@@ -1,10 +1,8 @@
 //! Inspections as text for people, as lines of JSON, and as a page of HTML.
 //!
 //! [`write_text`](text::write_text), [`write_json`](json_lines::write_json) and
-//! [`write_html`](html::write_html) take an [`Inspection`](wt_items::item::Inspection) and the bytes
+//! [`write_html`](html::write_html) take an [`Inspection`](wt_inspection_model::item::Inspection) and the bytes
 //! that it is of. Each contract says what no byte of a peer can bring about.
-//!
-//! Not in the Rust crate.
 #![tactic(auto)]
 
 ghost use Rattle.std.specs.Prelude.{◌≡◌, ◌++◌};
@@ -17,7 +15,7 @@ pub mod laws;
 pub mod plain;
 pub mod text;
 
-use wt_items::item::{Item, Warning};
+use wt_inspection_model::item::{Item, Warning};
 
 /// Returns these bytes of the input, or none if they are not all there.
 pub(crate) fn bytes_of(bytes: &[u8], at: usize, length: usize) -> &[u8]

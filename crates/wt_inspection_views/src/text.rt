@@ -11,7 +11,7 @@ use crate::{bytes_of, split_warnings};
 use lines::Lines;
 use parts::{add_capsule, add_fields, add_hex, add_settings, add_warnings, count_bytes};
 use std::alloc::{AllocError, Global};
-use wt_items::item::{
+use wt_inspection_model::item::{
     CapsuleItem, Content, Cut, DatagramHead, End, Fault, FieldSection, FrameItem, FrameName,
     Inspection, Item, Parts, StreamHead, Warning,
 };
@@ -28,7 +28,7 @@ use wtp_wire::frame::FrameKind;
 /// characters of the text are the line feeds at the ends of these lines, and their number is that of
 /// the items, the lines of what these contain, the warnings, and one.
 ///
-/// Returns [`AllocError`] if allocation fails. Not in the Rust crate.
+/// Returns [`AllocError`] if allocation fails.
 pub fn write_text(
     alloc: Global,
     inspection: &Inspection,
@@ -136,7 +136,7 @@ fn add_item(text: &mut Lines, item: &Item)
             text.add_head(at, "datagram", words_of_datagram(text.alloc, *head))
         }
         Content::Section(section) => {
-            text.add_size(at, name_section(section), size);
+            text.add_size(at, section_label(section), size);
             add_fields(text, section)
         }
         Content::Settings(settings) => {
@@ -179,7 +179,7 @@ fn add_frame_head(text: &mut Lines, at: usize, frame: &FrameItem)
             Parts::Fields(section) => {
                 text.add_head(
                     at,
-                    name_section(section),
+                    section_label(section),
                     named_size(text.alloc, name, size),
                 )
             }
@@ -211,7 +211,7 @@ fn add_numbered(text: &mut Lines, at: usize, frame: &FrameItem, size: Result<Str
                 numbered_size(text.alloc, frame.number, size),
             )
         }
-        Err(_) => text.lose(),
+        Err(_) => text.mark_failed(),
     }
 }
 
@@ -259,7 +259,7 @@ fn add_capsules(text: &mut Lines, capsules: &[CapsuleItem])
 
 /// Returns what a field section is, by its pseudo-header fields (RFC 9114, section 4.3; RFC 8441,
 /// section 4).
-pub(crate) fn name_section(section: &FieldSection) -> &'static str {
+pub(crate) fn section_label(section: &FieldSection) -> &'static str {
     let lines = section.lines.as_slice();
     if lines
         .iter()
@@ -297,7 +297,7 @@ fn add_end(text: &mut Lines, end: End, length: usize)
     ensures { Gains 1 text.old text.new }
 {
     match end {
-        End::Whole => text.add_made(format!(in text.alloc; "{length:<5} end")),
+        End::Whole => text.add_formatted(format!(in text.alloc; "{length:<5} end")),
         End::Cut(cut) => text.add_head(cut.at, "cut", words_of_cut(text.alloc, cut)),
         End::Fault(fault) => text.add_head(fault.at, "fault", words_of_fault(text.alloc, fault)),
     }

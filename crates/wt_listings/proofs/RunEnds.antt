@@ -7,7 +7,7 @@ use Rattle.wtransport_proto.specs.declared.stream.polled.IoReadError.TheVariants
 use Rattle.wtransport_proto.specs.Content.{Content, kind_in}
 use Rattle.wtransport_proto.specs.Front.{Front, Framed, Unknown, BadId, TooBig, Short, front}
 use Rattle.wtransport_proto.specs.Rule.{Role, rule}
-use Rattle.wtransport_proto.specs.Run.{Run, Ending, Open, H3, ImmediateFin, Reset, NotConnected, Ended, judged, run_stop, next_run, run_within, past_unknown, run}
+use Rattle.wtransport_proto.specs.Run.{Run, Ending, Open, H3, ImmediateFin, Reset, NotConnected, Ended, judged, run_stop, next_run, run_within, skip_unknown, run}
 use Rattle.wtransport_proto.specs.StreamPolling.{IsStreamFault}
 use Rattle.wt_listings.specs.Stepped.{ClosesStream}
 
@@ -36,7 +36,7 @@ next_closed more role first bytes rest Short h = stop_closed bytes rest
 
 within_closed : (n : ℕ) (role : Role) (first : Bool) (bytes : List ℕ) → IsClosed (run_within n role Ended first bytes).ending
 within_closed zero role first bytes = stop_closed bytes bytes
-within_closed (suc n) role first bytes = next_closed (λ f rest. run_within n role Ended f rest) role first bytes (past_unknown bytes) (front (past_unknown bytes)) (λ f rest. within_closed n role f rest)
+within_closed (suc n) role first bytes = next_closed (λ f rest. run_within n role Ended f rest) role first bytes (skip_unknown bytes) (front (skip_unknown bytes)) (λ f rest. within_closed n role f rest)
 
 pub run_closed : (role : Role) (first : Bool) (bytes : List ℕ) → IsClosed (run role first bytes Ended).ending
 unfolding run

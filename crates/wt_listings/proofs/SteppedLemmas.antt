@@ -21,7 +21,7 @@ use Rattle.wtransport_proto.proofs.HeldRunLemmas.{run_new}
 use Rattle.wt_listings.specs.declared.listing.Listing.{Listing}
 use Rattle.wt_listings.specs.CutSource.{source_of}
 use Rattle.wt_listings.specs.Lines.{line, last_line, run_listing, text_of, ending_status, with_ending}
-use Rattle.wt_listings.specs.Listing.{Says}
+use Rattle.wt_listings.specs.Listing.{HasText}
 use Rattle.wt_listings.specs.Stepped.{stepped_run}
 use Rattle.wt_listings.specs.Stepped.{ClosesStream}
 use Rattle.wt_listings.proofs.ListingLemmas.{IsBegun}
@@ -29,7 +29,7 @@ use Rattle.wt_listings.proofs.ListingLemmas.{IsBegun}
 -- ---- the last line
 
 -- an end after a frame is listed as no bytes after it
-pub says_end : (E : Type 0) (r : Result Listing E) (lines : List ℕ) → IfOk r (λ l. Says l (with_ending lines (Open 0))) → IfOk r (λ l. Says l (with_ending lines ImmediateFin))
+pub says_end : (E : Type 0) (r : Result Listing E) (lines : List ℕ) → IfOk r (λ l. HasText l (with_ending lines (Open 0))) → IfOk r (λ l. HasText l (with_ending lines ImmediateFin))
 says_end E (Ok l) lines says = record {
   text = says.text ∙ ap (λ (zero : List ℕ). lines ++ (codes "END " ++ zero ++ codes "\n")) (decimal_digit 0 (omega arith));
   status = says.status;
@@ -68,7 +68,7 @@ begun_whole items first h bytes left input none is_first fresh same =
 
 -- after the last drive only the last line is left
 says_whole : (l : Listing) (text items : List ℕ) (fs : List Content) (x : IoReadError) (left whole : Run) → IsBegun text left whole → EndsSo left fs x → items ≡ text ++ flat_map line fs
-    → Says l (with_ending items left.ending) → Says l (run_listing whole)
+    → HasText l (with_ending items left.ending) → HasText l (run_listing whole)
 says_whole l text items fs x left whole begun ends grown says = record {
   text = says.text ∙ ap (λ (y : List ℕ). y ++ last_line left.ending) grown
       ∙ append_assoc text (flat_map line fs) (last_line left.ending)
@@ -78,7 +78,7 @@ says_whole l text items fs x left whole begun ends grown says = record {
 }
 
 pub says_listed : (E : Type 0) (r : Result Listing E) (text items : List ℕ) (fs : List Content) (x : IoReadError) (left whole : Run) → IsBegun text left whole → EndsSo left fs x → items ≡ text ++ flat_map line fs
-    → IfOk r (λ l. Says l (with_ending items left.ending)) → IfOk r (λ l. Says l (run_listing whole))
+    → IfOk r (λ l. HasText l (with_ending items left.ending)) → IfOk r (λ l. HasText l (run_listing whole))
 says_listed E (Ok l) text items fs x left whole begun ends grown says = says_whole l text items fs x left whole begun ends grown says
 says_listed E (Err e) text items fs x left whole begun ends grown says = tt
 

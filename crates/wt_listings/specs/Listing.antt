@@ -4,6 +4,6 @@ use Rattle.wt_listings.specs.declared.listing.Listing.{Listing}
 use Rattle.wt_listings.specs.Lines.{ListingText}
 
 -- the listing has this text and this status
-pub record Says (l : Listing) (x : ListingText) : Type 0 where
+pub record HasText (l : Listing) (x : ListingText) : Type 0 where
   pub text : l.text.items ≡ x.text
   pub status : l.status ≡ x.status

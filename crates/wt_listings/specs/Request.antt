@@ -9,7 +9,7 @@ use Rattle.wtransport_proto.specs.Content.{Content}
 use Rattle.wtransport_proto.specs.Field.{Field}
 use Rattle.wtransport_proto.specs.Front.{Front, Framed, Unknown, BadId, TooBig, Short, front}
 use Rattle.wtransport_proto.specs.Rule.{RemoteBi}
-use Rattle.wtransport_proto.specs.Run.{Ending, Open, H3, MayGoOn, past_unknown, run}
+use Rattle.wtransport_proto.specs.Run.{Ending, Open, H3, MayGoOn, skip_unknown, run}
 use Rattle.wtransport_proto.specs.SessionRequest.{request_in}
 
 -- the line of a field
@@ -44,4 +44,4 @@ first_frame_listing (f ∷ frames) ending rest = result_listing (request_in f) r
 unfoldable pub request_listing : List ℕ → ListingText
 request_listing input =
     let found = run RemoteBi true input MayGoOn in
-    first_frame_listing found.frames found.ending (size_after (front (past_unknown input)))
+    first_frame_listing found.frames found.ending (size_after (front (skip_unknown input)))

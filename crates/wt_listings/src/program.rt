@@ -2,7 +2,7 @@
 ghost use Rattle.std.specs.Prelude.{◌≡◌, ◌≢◌, ◌≤◌, ◌<◌, ◌⊎◌, length, Err};
 ghost use Rattle.std.specs.Prelude.{IfOk, IfErr, IfSome, OnOk, vec_len};
 ghost use Rattle.std.specs.Io.KnownBytes.{Appends, IsAtEnd};
-ghost use Rattle.wt_listings.specs.Listing.{Says};
+ghost use Rattle.wt_listings.specs.Listing.{HasText};
 ghost use Rattle.wt_listings.specs.Program.{fault_line, fault_status, fault_text, texts_of, listing_of, CanList};
 ghost use Rattle.wt_listings.specs.Program.{AppendsStart, EndsFailed, NamesNone, ListsArguments, ReadsWhole};
 
@@ -180,7 +180,7 @@ fn try_run<R: Read, W: Write>(
 /// Returns the listing of a command.
 fn list(alloc: Global, command: Command, input: &[u8]) -> Result<Listing, AllocError>
     requires { CanList command }
-    ensures listing { IfOk result (λ l. Says l (listing_of command input.now)) }
+    ensures listing { IfOk result (λ l. HasText l (listing_of command input.now)) }
     ensures status { IfOk result (λ l. (l.status ≡ 0) ⊎ (l.status ≡ 2)) }
 {
     match command {

@@ -1,11 +1,11 @@
 -- The result of one poll for a number or into a buffer.
 use Rattle.std.proofs.Common.{◌≡◌, ℕ, ◌<◌, List, [], ◌++◌, length, take, drop, Option, Some, Result, Ok, refl, sym, ap, ◌∙◌, append-nil}
 use Rattle.wtp_core.specs.declared.bytes.polled.Polled.TheVariants.{Ready}
-use Rattle.wtp_core.specs.declared.polling.fill.Halt.{Halt}
-use Rattle.wtp_core.specs.declared.polling.fill.Halt.TheVariants as halt
+use Rattle.wtp_core.specs.declared.polling.fill.Interrupted.{Interrupted}
+use Rattle.wtp_core.specs.declared.polling.fill.Interrupted.TheVariants as halt
 use Rattle.wtp_core.specs.Varint.{number_at}
-use Rattle.wtp_core.specs.VarintNeed.{varint_need, IsCutNumber}
-use Rattle.wtp_core.specs.Source.{Source, Telling}
+use Rattle.wtp_core.specs.VarintLenNeeded.{varint_len_needed, IsCutNumber}
+use Rattle.wtp_core.specs.Source.{Source, HasModel}
 use Rattle.wtp_core.specs.declared.bytes.polled.Polled.{Polled}
 use Rattle.wtp_core.specs.declared.bytes.polled.IoReadError.{IoReadError}
 use Rattle.wtp_core.specs.Fill.{Gains, HaltIsTrue, halt_fault, HaltsAs, halted_poll}
@@ -16,45 +16,45 @@ use Rattle.wtp_core.proofs.EncodingLemmas.{number_at-more}
 use Rattle.wtp_core.proofs.NeedLemmas.{number_at-cut, number_at-whole}
 
 -- the result of a poll that stopped after n bytes
-abbrev pub halted_at : {T : Type 0} → Halt → ℕ → Polled (Result T IoReadError)
+abbrev pub halted_at : {T : Type 0} → Interrupted → ℕ → Polled (Result T IoReadError)
 halted_at x n = halted_poll (λ f. f) (halt_fault x n)
 
-pub halted_plain : {T : Type 0} (x : Halt) (n : ℕ) (r : Polled (Result T IoReadError)) → HaltsAs (λ f e. e ≡ f) (halt_fault x n) r → r ≡ halted_at x n
+pub halted_plain : {T : Type 0} (x : Interrupted) (n : ℕ) (r : Polled (Result T IoReadError)) → HaltsAs (λ f e. e ≡ f) (halt_fault x n) r → r ≡ halted_at x n
 halted_plain x n r h = halted_as (λ f. f) (halt_fault x n) r h
 
 -- no byte is ahead any more
 pub dry : (old new : List ℕ) (a b : Source) (e : ℕ) → Gains old new a b e → b.ahead ≡ [] → new ≡ old ++ a.ahead
 dry old new a b e g none = sym (g.kept ∙ ap (λ l. new ++ l) none ∙ append-nil new)
 
-halted_varint : (x : Halt) (old new : List ℕ) (a b : Source) → IsCutNumber new → Gains old new a b 1 → HaltIsTrue x a b → VarintPolled (halted_at x (length new)) old new a b
+halted_varint : (x : Interrupted) (old new : List ℕ) (a b : Source) → IsCutNumber new → Gains old new a b 1 → HaltIsTrue x a b → VarintPolled (halted_at x (length new)) old new a b
 halted_varint halt.NotReady old new a b cut g t = record { waited = t; kept = sym g.kept }
 halted_varint halt.Fin old new a b cut g t = let e = dry old new a b 1 g t.0 in (rw (← e) (number_at-cut new cut), record { none_ahead = t.0; held = e; why = rw t.1 refl })
 halted_varint halt.Reset old new a b cut g t = let e = dry old new a b 1 g t.0 in (rw (← e) (number_at-cut new cut), record { none_ahead = t.0; held = e; why = rw t.1 refl })
 halted_varint halt.NotConnected old new a b cut g t = let e = dry old new a b 1 g t.0 in (rw (← e) (number_at-cut new cut), record { none_ahead = t.0; held = e; why = rw t.1 refl })
 
-pub halted_varint_told : (s t : Option Source) (x : Halt) (n : ℕ) (old new : List ℕ) → n ≡ length new → IsCutNumber new → Telling s t (λ a b. Gains old new a b 1 × HaltIsTrue x a b) → Telling s t (VarintPolled (halted_at x n) old new)
+pub halted_varint_told : (s t : Option Source) (x : Interrupted) (n : ℕ) (old new : List ℕ) → n ≡ length new → IsCutNumber new → HasModel s t (λ a b. Gains old new a b 1 × HaltIsTrue x a b) → HasModel s t (VarintPolled (halted_at x n) old new)
 halted_varint_told s t x n old new is cut p = telling_map s t _ (VarintPolled (halted_at x n) old new) (λ a b q. rw is (halted_varint x old new a b cut q.0 q.1)) p
 
-pub halted_varint_given : (x : Halt) (n m : ℕ) (old new : List ℕ) → take m new ≡ old → VarintGiven (halted_at x n) old new
+pub halted_varint_given : (x : Interrupted) (n m : ℕ) (old new : List ℕ) → take m new ≡ old → VarintGiven (halted_at x n) old new
 halted_varint_given halt.NotReady n m old new e = begins m old new e
 halted_varint_given halt.Fin n m old new e = begins m old new e
 halted_varint_given halt.Reset n m old new e = begins m old new e
 halted_varint_given halt.NotConnected n m old new e = begins m old new e
 
 -- a complete encoding is read, and no byte is left
-read_whole : (v k : ℕ) (h : List ℕ) → varint_need h ≡ length h → number_at h ≡ Some (v, drop k h) → number_at h ≡ Some (v, [])
+read_whole : (v k : ℕ) (h : List ℕ) → varint_len_needed h ≡ length h → number_at h ≡ Some (v, drop k h) → number_at h ≡ Some (v, [])
 read_whole v k h w e = let (u, is) = number_at-whole h w in is ∙ ap (λ (x : ℕ). Some (x, [])) (same_number (u, []) (v, drop k h) (sym is ∙ e))
   where
     same_number : (x y : ℕ × List ℕ) → Some x ≡ Some y → x.0 ≡ y.0
     same_number x y e = let same : x ≡ y = cc in ap (λ (p : ℕ × List ℕ). p.0) same
 
-pub whole_varint_told : (s t : Option Source) (v k : ℕ) (old h : List ℕ) → varint_need h ≡ length h → number_at h ≡ Some (v, drop k h) → Telling s t (λ a b. Gains old h a b 0) → Telling s t (VarintPolled (Ready (Ok v)) old [])
+pub whole_varint_told : (s t : Option Source) (v k : ℕ) (old h : List ℕ) → varint_len_needed h ≡ length h → number_at h ≡ Some (v, drop k h) → HasModel s t (λ a b. Gains old h a b 0) → HasModel s t (VarintPolled (Ready (Ok v)) old [])
 whole_varint_told s t v k old h w e p = telling_map s t _ (VarintPolled (Ready (Ok v)) old []) (λ a b g. ap number_at g.kept ∙ number_at-more v h [] b.ahead (read_whole v k h w e)) p
 
-pub whole_varint_given : (v k m : ℕ) (old h : List ℕ) → take m h ≡ old → varint_need h ≡ length h → number_at h ≡ Some (v, drop k h) → VarintGiven (Ready (Ok v)) old []
+pub whole_varint_given : (v k m : ℕ) (old h : List ℕ) → take m h ≡ old → varint_len_needed h ≡ length h → number_at h ≡ Some (v, drop k h) → VarintGiven (Ready (Ok v)) old []
 whole_varint_given v k m old h front w e = let (more, is) = begins m old h front in (refl, (more, ap number_at (sym is) ∙ read_whole v k h w e))
 
-pub halted_buffer_given : (U : Type 0) (x : Halt) (n m room : ℕ) (old new : List ℕ) → length new < room → take m new ≡ old → BufferGiven {U = U} (halted_at x n) room old new
+pub halted_buffer_given : (U : Type 0) (x : Interrupted) (n m room : ℕ) (old new : List ℕ) → length new < room → take m new ≡ old → BufferGiven {U = U} (halted_at x n) room old new
 halted_buffer_given U halt.NotReady n m room old new l e = (l, begins m old new e)
 halted_buffer_given U halt.Fin n m room old new l e = (l, begins m old new e)
 halted_buffer_given U halt.Reset n m room old new l e = (l, begins m old new e)

@@ -2,7 +2,7 @@
 use Rattle.std.proofs.Common.{◌≡◌, ℕ, ◌+◌, ◌<◌, length, drop, sym, ap, ◌∙◌, arith, length-drop}
 use Rattle.std.proofs.lemmas.List.{drop-drop}
 use Rattle.wtp_core.specs.Source.{Source, AsksOnce}
-use Rattle.wtp_core.specs.Passing.{Passed}
+use Rattle.wtp_core.specs.SkipAhead.{Passed}
 
 pub passed_then : (m n k e : ℕ) (a b c : Source) → k ≡ m + n → Passed m a b 0 → Passed n b c e → Passed k a c e
 passed_then m n k e a b c is p q = record {

@@ -3,9 +3,9 @@ use Rattle.std.proofs.Common.{◌≡◌, ℕ, ◌+◌, List, Option, Result, Err
 use Rattle.wtp_core.specs.declared.bytes.source.ReadStep.{ReadStep}
 use Rattle.wtp_core.specs.declared.bytes.source.ReadStep.TheVariants.{Bytes, NotReady, Reset, NotConnected}
 use Rattle.wtp_core.specs.declared.bytes.polled.IoReadError.{IoReadError}
-use Rattle.wtp_core.specs.declared.polling.fill.Halt.{Halt}
-use Rattle.wtp_core.specs.declared.polling.fill.Halt.TheVariants as halt
-use Rattle.wtp_core.specs.Source.{Source, Telling, StepMoves, StepWaits}
+use Rattle.wtp_core.specs.declared.polling.fill.Interrupted.{Interrupted}
+use Rattle.wtp_core.specs.declared.polling.fill.Interrupted.TheVariants as halt
+use Rattle.wtp_core.specs.Source.{Source, HasModel, StepMoves, StepWaits}
 use Rattle.wtp_core.specs.Polled.{WaitsAs}
 use Rattle.wtp_core.specs.Fill.{HaltWaits, halt_fault, halted_poll}
 use Rattle.wtp_core.proofs.TellingLemmas.{telling_map, telling_then}
@@ -17,17 +17,17 @@ step_waited NotReady buf a b m = m.1
 step_waited Reset buf a b m = omega (arith, m.waits)
 step_waited NotConnected buf a b m = omega (arith, m.waits)
 
-pub waits_then : (n : ℕ) (x y z : Option Source) → Telling x y (λ a b. b.waits ≡ a.waits) → Telling y z (λ a b. b.waits ≡ a.waits + n) → Telling x z (λ a b. b.waits ≡ a.waits + n)
+pub waits_then : (n : ℕ) (x y z : Option Source) → HasModel x y (λ a b. b.waits ≡ a.waits) → HasModel y z (λ a b. b.waits ≡ a.waits + n) → HasModel x z (λ a b. b.waits ≡ a.waits + n)
 waits_then n x y z p q = telling_then x y z _ _ (λ a b. b.waits ≡ a.waits + n) (λ a b c e f. omega arith) p q
 
-pub none_waits : (x y : Option Source) → Telling x y (λ a b. b.waits ≡ a.waits + 0) → Telling x y (λ a b. b.waits ≡ a.waits)
+pub none_waits : (x y : Option Source) → HasModel x y (λ a b. b.waits ≡ a.waits + 0) → HasModel x y (λ a b. b.waits ≡ a.waits)
 none_waits x y p = telling_map x y _ (λ a b. b.waits ≡ a.waits) (λ a b e. omega arith) p
 
-pub waits_none : (x y : Option Source) → Telling x y (λ a b. b.waits ≡ a.waits) → Telling x y (λ a b. b.waits ≡ a.waits + 0)
+pub waits_none : (x y : Option Source) → HasModel x y (λ a b. b.waits ≡ a.waits) → HasModel x y (λ a b. b.waits ≡ a.waits + 0)
 waits_none x y p = telling_map x y _ (λ a b. b.waits ≡ a.waits + 0) (λ a b e. omega arith) p
 
 -- a poll that stopped with a fill has the fill's waits
-pub halted_waits : (T E U : Type 0) (wrap : IoReadError → E) (h : Halt) (n : ℕ) (s t : Option Source) → Telling s t (HaltWaits {U = U} (Err h)) → Telling s t (WaitsAs {T = Result T E} (halted_poll wrap (halt_fault h n)))
+pub halted_waits : (T E U : Type 0) (wrap : IoReadError → E) (h : Interrupted) (n : ℕ) (s t : Option Source) → HasModel s t (HaltWaits {U = U} (Err h)) → HasModel s t (WaitsAs {T = Result T E} (halted_poll wrap (halt_fault h n)))
 halted_waits T E U wrap halt.NotReady n s t e = e
 halted_waits T E U wrap halt.Fin n s t e = e
 halted_waits T E U wrap halt.Reset n s t e = e

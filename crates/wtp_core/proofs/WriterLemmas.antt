@@ -3,7 +3,7 @@ use Rattle.std.proofs.Common.{◌≡◌, ℕ, ◌+◌, ◌<◌, Bool, List, [], 
 use Rattle.std.proofs.lemmas.List.{drop-drop}
 use Rattle.wtp_core.specs.declared.bytes.writer.PutError.{PutError}
 use Rattle.wtp_core.specs.declared.bytes.writer.PutError.TheVariants.{EndOfBuffer}
-use Rattle.wtp_core.specs.Writer.{room_after, HasRoom, LacksRoom, Puts, joined, PutsParts}
+use Rattle.wtp_core.specs.Writer.{room_after, HasRoom, LacksRoom, WritesPrefix, joined, PutsParts}
 
 room_after-zero : (room : Option (List ℕ)) → room_after room 0 ≡ room
 room_after-zero None = refl
@@ -18,12 +18,12 @@ HasRoom-more None m n h k = tt
 HasRoom-more (Some place) m n h k = omega (arith, length-drop m place)
 
 -- writing the first part failed
-pub put-none : (grows : Bool) (p : List ℕ) (ps : List (List ℕ)) (e : PutError) (old : List ℕ) (room : Option (List ℕ)) (new : List ℕ) (left : Option (List ℕ)) → Puts grows p (Err e) old room new left → PutsParts grows (p ∷ ps) (Err e) old room new left
+pub put-none : (grows : Bool) (p : List ℕ) (ps : List (List ℕ)) (e : PutError) (old : List ℕ) (room : Option (List ℕ)) (new : List ℕ) (left : Option (List ℕ)) → WritesPrefix grows p (Err e) old room new left → PutsParts grows (p ∷ ps) (Err e) old room new left
 put-none grows p ps e old room new left (same, still, why) =
     ([], p, ps, refl, same ∙ sym (append-nil old), still ∙ sym (room_after-zero room), rw still why)
 
 -- the first part was written, and then all or some of the others
-pub put-more : (grows : Bool) (p : List ℕ) (ps : List (List ℕ)) (r : Result (Unit {0}) PutError) (u : Unit {0}) (old mid new : List ℕ) (room place left : Option (List ℕ)) → Puts grows p (Ok u) old room mid place → PutsParts grows ps r mid place new left → PutsParts grows (p ∷ ps) r old room new left
+pub put-more : (grows : Bool) (p : List ℕ) (ps : List (List ℕ)) (r : Result (Unit {0}) PutError) (u : Unit {0}) (old mid new : List ℕ) (room place left : Option (List ℕ)) → WritesPrefix grows p (Ok u) old room mid place → PutsParts grows ps r mid place new left → PutsParts grows (p ∷ ps) r old room new left
 put-more grows p ps (Ok v) u old mid new room place left (taken, behind, fits) (others, end, fit) = (
   others ∙ ap (λ (x : List ℕ). x ++ joined ps) taken ∙ append_assoc old p (joined ps),
   end ∙ ap (λ (x : Option (List ℕ)). room_after x (length (joined ps))) behind ∙ room_after-room_after room (length p) (length (joined ps)) ∙ ap (λ (n : ℕ). room_after room n) (sym (length-append p (joined ps))),
@@ -40,7 +40,7 @@ put-more grows p ps (Err e) u old mid new room place left (taken, behind, fits) 
 )
 
 -- the only part was written, or failed
-pub put-last : (grows : Bool) (p : List ℕ) (r : Result (Unit {0}) PutError) (old : List ℕ) (room : Option (List ℕ)) (new : List ℕ) (left : Option (List ℕ)) → Puts grows p r old room new left → PutsParts grows (p ∷ []) r old room new left
+pub put-last : (grows : Bool) (p : List ℕ) (r : Result (Unit {0}) PutError) (old : List ℕ) (room : Option (List ℕ)) (new : List ℕ) (left : Option (List ℕ)) → WritesPrefix grows p r old room new left → PutsParts grows (p ∷ []) r old room new left
 put-last grows p (Ok v) old room new left (taken, behind, fits) = rw (append-nil p) (taken, behind, fits)
 put-last grows p (Err e) old room new left h = put-none grows p [] e old room new left h
 

@@ -9,11 +9,11 @@ pub mod ErrorCodes
 pub mod ErrorScope
 pub mod Codes
 pub mod ApplicationCodes
-pub mod VarintNeed
+pub mod VarintLenNeeded
 pub mod Source
 pub mod Polled
 pub mod Fill
-pub mod Passing
+pub mod SkipAhead
 pub mod Get
 pub mod GetBuffer
 pub mod Sink

@@ -27,7 +27,7 @@ write_fault ConnectionReset = write.Stopped
 write_fault _ = write.NotConnected
 
 -- at most this many calls were counted; the ending is unchanged, and no count decreased
-pub record Asks (calls : ℕ) (a b : Source) : Type 0 where
+pub record PollsAtMost (calls : ℕ) (a b : Source) : Type 0 where
   pub asked : b.asked ≤ a.asked + calls
   pub no_less : a.asked ≤ b.asked
   pub ending : b.ending ≡ a.ending

@@ -2,7 +2,7 @@
 use Rattle.std.specs.Prelude.{◌≡◌, ℕ, ◌+◌, ◌<◌, ◌≤◌, List, [], ◌++◌, take, Option}
 use Rattle.wtp_core.specs.declared.bytes.sink.WriteStep.{WriteStep}
 use Rattle.wtp_core.specs.declared.bytes.sink.WriteStep.TheVariants.{Bytes, NotReady, Stopped, NotConnected, NoMemory}
-use Rattle.wtp_core.specs.Source.{Telling}
+use Rattle.wtp_core.specs.Source.{HasModel}
 
 -- the model of a sink: the bytes taken so far, and how often it was not ready, stopped and not
 -- connected
@@ -42,7 +42,7 @@ SinkMoves NoMemory buf a b = Took a b [] 0 0 0
 
 -- the same for a sink that may have no model
 abbrev pub SinkTells : WriteStep → List ℕ → Option Sink → Option Sink → Type 0
-SinkTells step buf old new = Telling old new (λ a b. SinkMoves step buf a b)
+SinkTells step buf old new = HasModel old new (λ a b. SinkMoves step buf a b)
 
 -- the whole buffer was taken, or allocation failed
 abbrev pub TakesWhole : WriteStep → ℕ → Type 0

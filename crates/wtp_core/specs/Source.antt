@@ -23,10 +23,10 @@ abbrev pub all_ahead : List ℕ → Source
 all_ahead bytes = record { ahead = bytes; ending = AtEnd; asked = 0; waits = 0 }
 
 -- if there is a model before, there is one after, and P relates the two
-abbrev pub Telling : {X : Type 0} → Option X → Option X → (X → X → Type 0) → Type 0
-Telling None new P = Unit {0}
-Telling (Some a) None P = ⊥
-Telling (Some a) (Some b) P = P a b
+abbrev pub HasModel : {X : Type 0} → Option X → Option X → (X → X → Type 0) → Type 0
+HasModel None new P = Unit {0}
+HasModel (Some a) None P = ⊥
+HasModel (Some a) (Some b) P = P a b
 
 -- ---- one call
 
@@ -64,7 +64,7 @@ StepMoves NotConnected buf a b = IsOver a b AtDisconnection
 
 -- the effect of one call on a source that may have no model
 abbrev pub StepTells : ReadStep → List ℕ → Option Source → Option Source → Type 0
-StepTells step buf old new = Telling old new (λ a b. AsksOnce a b × StepMoves step buf a b)
+StepTells step buf old new = HasModel old new (λ a b. AsksOnce a b × StepMoves step buf a b)
 
 -- how often the source was not ready in one call: once or never
 abbrev pub step_waits : ReadStep → ℕ

@@ -27,12 +27,12 @@ Refuses grows room n EndOfBuffer = LacksRoom room n
 Refuses grows room n Memory = HasRoom room n × IsTrue grows
 
 -- the writer wrote all of the bytes, or returned an error and changed nothing
-abbrev pub Puts :
+abbrev pub WritesPrefix :
     Bool → List ℕ → Result (Unit {0}) PutError → List ℕ → Option (List ℕ) → List ℕ → Option (List ℕ)
     → Type 0
-Puts grows bytes (Ok u) old room new left =
+WritesPrefix grows bytes (Ok u) old room new left =
     (new ≡ old ++ bytes) × (left ≡ room_after room (length bytes)) × HasRoom room (length bytes)
-Puts grows bytes (Err e) old room new left =
+WritesPrefix grows bytes (Err e) old room new left =
     (new ≡ old) × (left ≡ room) × Refuses grows room (length bytes) e
 
 -- the concatenation of the parts

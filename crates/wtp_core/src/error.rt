@@ -134,7 +134,7 @@ impl ErrorCode {
         }
     }
 
-    /// Returns the printed name. Not in the Rust crate.
+    /// Returns the printed name.
     pub fn name(self) -> &'static str
         ensures { result.now ≡ name_of self }
     {

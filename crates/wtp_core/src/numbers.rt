@@ -12,7 +12,7 @@ use crate::varint::VarInt;
 ///
 /// Frame types, stream types, setting identifiers and error codes of this form are reserved, to
 /// exercise the requirement that unknown ones are ignored (RFC 9114, sections 7.2.8, 6.2.3, 7.2.4.1
-/// and 8.1). Not in the Rust crate.
+/// and 8.1).
 #[inline(always)]
 pub fn is_reserved(number: VarInt) -> bool
     ensures value { result ≡ is_reserved number }

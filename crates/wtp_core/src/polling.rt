@@ -2,9 +2,9 @@
 //! buffer is full, a head is complete or bytes are skipped, and call a sink until a buffer or one
 //! or two encoded numbers are sent. None of them allocates.
 //!
-//! Not in the Rust crate. `wtransport_proto` does not re-export these modules.
+//! `wtransport_proto` does not re-export these modules.
 pub mod drain;
 pub mod encoded;
 pub mod fill;
 pub mod head;
-pub mod passing;
+pub mod skip_ahead;

@@ -108,7 +108,7 @@ impl VarInt {
 }
 
 /// Decodes the integer at the start of `bytes`. Returns its value and the size of its encoding in
-/// bytes, or `None` if there are too few bytes. Not in the Rust crate.
+/// bytes, or `None` if there are too few bytes.
 #[tactic(auto, unfolding(crate::specs::Varint::number_at, crate::specs::Varint::value_of))]
 #[inline(always)]
 pub fn first_varint(bytes: &[u8]) -> Option<(VarInt, usize)>

@@ -6,7 +6,7 @@ use crate::session::HeadersParseError;
 use wtp_core::error::ErrorCode;
 
 impl HeadersParseError {
-    /// Returns the error code, or `None` if memory allocation failed. Not in the Rust crate.
+    /// Returns the error code, or `None` if memory allocation failed.
     pub fn code(&self) -> Option<ErrorCode>
         ensures { result ≡ message_code self.now }
     {

@@ -1,5 +1,5 @@
 //! Field lists: the fields of a section in order, with repeated names, as bytes (RFC 9110, section
-//! 5; RFC 9114, section 4.2). Not in the Rust crate.
+//! 5; RFC 9114, section 4.2).
 //!
 //! A header map ([`Headers`](crate::headers::Headers)) contains only UTF-8 texts, and one value for
 //! each name. [`FieldList::to_headers`] converts a list to a map.
@@ -24,7 +24,7 @@ use thiserror::Error;
 pub use writing::{PushError, check_field};
 use wtp_core::error::ErrorCode;
 pub use wtp_qpack::qpack::FieldLine;
-use wtp_qpack::qpack::{DecodingError, FieldLines, FieldRoom};
+use wtp_qpack::qpack::{DecodingError, FieldBuffer, FieldLines};
 
 /// The reason why a section was not decoded to a list.
 #[derive(Debug, Drop, Clone, Copy, PartialEq, Eq, Error)]
@@ -154,7 +154,7 @@ impl FieldList {
         ensures no_fault { IfErr result (λ e. e ≢ FieldSectionError.Decoding decoding.Memory) }
     {
         let mut lines = FieldLines::new(section)?;
-        let mut room = FieldRoom::new(alloc);
+        let mut room = FieldBuffer::new(alloc);
         let mut list = FieldList::empty(alloc);
         let mut left = limit;
         'lines: loop {

@@ -39,7 +39,7 @@ impl Model for Headers {
 }
 
 impl Headers {
-    /// Creates the empty map. Nothing is allocated. Not in the Rust crate.
+    /// Creates the empty map. Nothing is allocated.
     pub fn new(alloc: Global) -> Self
         ensures { result ≡ [] }
     {

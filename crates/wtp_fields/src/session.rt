@@ -65,7 +65,6 @@ impl From<AllocError> for HeadersParseError {
 }
 
 /// Parses the request in a HEADERS frame (RFC 9114, sections 4.1.2 and 4.3.1; RFC 9220, section 3).
-/// Not in the Rust crate.
 ///
 /// Returns [`Refused::Code`] with [`ErrorCode::FrameUnexpected`] for a frame of another kind, with
 /// [`ErrorCode::Decompression`] for a payload that is not a field section, and with

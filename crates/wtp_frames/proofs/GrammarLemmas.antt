@@ -3,7 +3,7 @@ use Rattle.std.proofs.Common.{◌≡◌, ℕ, ◌+◌, ◌%◌, ◌<◌, ◌≤�
 use Rattle.std.proofs.lemmas.Bool.{cases_lt, lt-ltb, le-ltb, ne_eqb}
 use Rattle.std.proofs.lemmas.List.{append-nil}
 use Rattle.wtp_core.specs.Varint.{Encodes, number_at}
-use Rattle.wtp_core.specs.VarintNeed.{byte_len_range}
+use Rattle.wtp_core.specs.VarintLenNeeded.{byte_len_range}
 use Rattle.wtp_core.proofs.EncodingLemmas.{number_at-encoding}
 use Rattle.wtp_frames.specs.declared.endpoint.Endpoint.{Endpoint}
 use Rattle.wtp_frames.specs.declared.endpoint.Side.{Side}

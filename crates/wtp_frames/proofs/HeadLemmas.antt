@@ -4,7 +4,7 @@ use Rattle.std.proofs.lemmas.Bool.{ltb-true, le-ltb, lt-ltb}
 use Rattle.std.proofs.lemmas.List.{drop-drop}
 use Rattle.std.specs.Int.{byte_len}
 use Rattle.wtp_core.specs.Varint.{number_at, bytes_at, width_of}
-use Rattle.wtp_core.specs.VarintNeed.{byte_len_range}
+use Rattle.wtp_core.specs.VarintLenNeeded.{byte_len_range}
 use Rattle.wtp_core.proofs.EncodingLemmas.{number_at-encodes, number_at-more, bytes_at-parts, bytes_at-append, encoding_not_empty}
 use Rattle.wtp_frames.specs.Run.{with_length, with_type, head_at}
 

@@ -7,7 +7,7 @@ use Rattle.wtp_qpack.specs.declared.qpack.DecodingError.{DecodingError}
 use Rattle.wtp_qpack.specs.declared.qpack.DecodingError.TheVariants.{InvalidString, Memory}
 use Rattle.wtp_qpack.specs.declared.qpack.string_literal.Texts.TheVariants.{Octets}
 use Rattle.wtp_qpack.specs.declared.qpack.field_lines.FieldLine.{FieldLine}
-use Rattle.wtp_qpack.specs.declared.qpack.field_lines.FieldRoom.{FieldRoom}
+use Rattle.wtp_qpack.specs.declared.qpack.field_lines.FieldBuffer.{FieldBuffer}
 use Rattle.wtp_qpack.specs.Field.{Field}
 use Rattle.wtp_qpack.specs.FieldLine.{Lines, line_in, is_coded_in}
 
@@ -38,11 +38,11 @@ as_texts line = if is_utf8_field line.0 then Ok line else Err InvalidString
 -- ---- one line taken
 
 -- how many bytes of memory a room has
-abbrev pub room_bytes : FieldRoom → ℕ
+abbrev pub room_bytes : FieldBuffer → ℕ
 room_bytes room = vec_capacity room.texts
 
 -- a room with no text in it
-abbrev pub IsEmptyRoom : FieldRoom → Type 0
+abbrev pub IsEmptyRoom : FieldBuffer → Type 0
 IsEmptyRoom room = (room.texts.items ≡ []) × (room_bytes room ≡ 0)
 
 abbrev pub seen_line : FieldLine → Field

@@ -6,7 +6,7 @@ use crate::qpack::DecodingError;
 use wtp_core::error::ErrorCode;
 
 impl DecodingError {
-    /// Returns the error code, or `None` if memory allocation failed. Not in the Rust crate.
+    /// Returns the error code, or `None` if memory allocation failed.
     pub fn code(&self) -> Option<ErrorCode>
         ensures { result ≡ section_code self.now }
     {

@@ -2,7 +2,5 @@
 //! sections and instructions with the dynamic table.
 
 pub use crate::qpack::integer::{read as read_integer, write as write_integer};
-pub use crate::qpack::static_table::{
-    entry as static_entry, first_entry_of as first_static_entry,
-};
+pub use crate::qpack::static_table::{entry as static_entry, first_entry_of as first_static_entry};
 pub use crate::qpack::string_literal::{has_flag, write as write_string};

@@ -19,7 +19,7 @@ pub(crate) mod integer;
 pub(crate) mod static_table;
 pub(crate) mod string_literal;
 
-pub use field_lines::{FieldLine, FieldLines, FieldRoom};
+pub use field_lines::{FieldBuffer, FieldLine, FieldLines};
 use std::alloc::{AllocError, AllocFailed, Global};
 use std::collections::BTreeMap;
 use thiserror::Error;
@@ -67,8 +67,7 @@ impl<T: Drop> From<AllocFailed<T>> for DecodingError {
 impl From<HuffmanError> for DecodingError {
     ghost from_gives = { λ fault e. e ≡ huffman_fault fault };
 
-    /// Returns `InvalidString` for an invalid text, or `Memory` if memory allocation failed. Not in
-    /// the Rust crate.
+    /// Returns `InvalidString` for an invalid text, or `Memory` if memory allocation failed.
     fn from(fault: HuffmanError) -> DecodingError {
         match fault {
             HuffmanError::Invalid => DecodingError::InvalidString,

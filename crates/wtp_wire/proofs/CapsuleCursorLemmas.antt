@@ -2,7 +2,7 @@
 use Rattle.std.proofs.Common.{◌≡◌, ℕ, ◌+◌, ◌-◌, ◌<◌, ◌≤◌, List, [], ◌∷◌, ◌++◌, length, drop, Option, Some, None, Ok, refl, sym, ap, subst, ◌∙◌, arith, inl, inr, append_assoc, append-nil, length-append, get_or, lit≤}
 use Rattle.std.proofs.lemmas.Bool.{cases_lt, le-ltb}
 use Rattle.wtp_core.specs.Varint.{Encodes, bytes_at}
-use Rattle.wtp_core.specs.VarintNeed.{byte_len_range}
+use Rattle.wtp_core.specs.VarintLenNeeded.{byte_len_range}
 use Rattle.wtp_core.proofs.EncodingLemmas.{bytes_at-append}
 use Rattle.wtp_wire.specs.declared.capsule.CapsuleKind.{CapsuleKind}
 use Rattle.wtp_wire.specs.declared.capsule.CapsuleKind.TheVariants.{CloseWebTransportSession}
@@ -11,8 +11,8 @@ use Rattle.wtp_wire.specs.declared.capsule.cursor.CapsuleStep.{CapsuleStep}
 use Rattle.wtp_wire.specs.declared.capsule.cursor.CapsuleStep.TheVariants as step-is
 use Rattle.wtp_wire.specs.Capsule.{capsule_number_of}
 use Rattle.wtp_wire.specs.CapsuleCursor.{held_by, capsules_from, capsule_value, IsCapsulePart, IsLeftOver, StepIs, CapsulesGoOn, CursorEvent, Came, Stepped, LeadsTo, data_in, add_found, found_in, left_after}
-use Rattle.wtp_wire.specs.CapsuleFront.{CapsuleFront, Unknown, TooLong, Cut, End, IsCapsule, longest_value, or_cut, capsule_front}
-use Rattle.wtp_wire.specs.CapsuleStream.{Capsules, CapsuleEnding, Between, Within, AtTooLong, Joins, MissesValue, past_unknown, next_capsule, next_held, ends, by_front, capsules, capsules_held}
+use Rattle.wtp_wire.specs.CapsuleFront.{CapsuleFront, Unknown, TooLong, Cut, End, IsCapsule, max_value_len, or_cut, capsule_front}
+use Rattle.wtp_wire.specs.CapsuleStream.{Capsules, CapsuleEnding, Between, Within, AtTooLong, Joins, MissesValue, skip_unknown, next_capsule, next_held, ends, by_front, capsules, capsules_held}
 use Rattle.wtp_wire.specs.FrameNeed.{frame_need_most}
 use Rattle.wtp_wire.specs.Held.{Held}
 use Rattle.wtp_wire.proofs.CapsuleLemmas.{capsule_kind_of-number}
@@ -22,7 +22,7 @@ use Rattle.wtp_wire.proofs.CapsuleStreamLemmas.{next-by, held-next, held-new, jo
 
 -- ---- a value to be skipped
 
-pub over : (o : Option (List ℕ × List ℕ)) → past_unknown (λ r. next_capsule r) (or_cut o (λ value. Unknown value.1)) ≡ or_cut o (λ value. next_capsule value.1)
+pub over : (o : Option (List ℕ × List ℕ)) → skip_unknown (λ r. next_capsule r) (or_cut o (λ value. Unknown value.1)) ≡ or_cut o (λ value. next_capsule value.1)
 over None = refl
 over (Some x) = refl
 
@@ -41,7 +41,7 @@ held_value n xs = elim (cases_lt 0 n) [
 encoding_most : (v : ℕ) (s : List ℕ) → Encodes v s → length s ≤ 8
 encoding_most v s h = omega (arith, h.size, (byte_len_range (get_or s 0 0)).1)
 
-longest_most : (kind : CapsuleKind) → longest_value kind ≤ 1028
+longest_most : (kind : CapsuleKind) → max_value_len kind ≤ 1028
 longest_most CloseWebTransportSession = lit≤ tt
 
 pub part_few : (s : List ℕ) → IsCapsulePart s → length s ≤ 1043
@@ -67,11 +67,11 @@ joins_at old i j bytes b c h e f = subst (λ (x : List ℕ). Joins old bytes j x
 -- ---- how far a call goes
 
 -- the bytes were passed up to this offset, and so many after it are to be skipped
-pub record HasPassed (old : Held) (bytes : List ℕ) (due at : ℕ) : Type 0 where
+pub record HasPassed (old : Held) (bytes : List ℕ) (skip_remaining at : ℕ) : Type 0 where
   pub within : at ≤ length bytes
-  pub joins : Joins old bytes (hold [] due) (drop at bytes)
+  pub joins : Joins old bytes (hold [] skip_remaining) (drop at bytes)
 
-pub passed_none : (old : CapsuleCursor) (bytes : List ℕ) → HasPassed (held_by old) bytes old.due 0
+pub passed_none : (old : CapsuleCursor) (bytes : List ℕ) → HasPassed (held_by old) bytes old.skip_remaining 0
 passed_none old bytes = record { within = omega arith; joins = λ more. refl }
 
 -- ---- all capsules
@@ -108,18 +108,18 @@ led_from (Stepped step ∷ events) old new bytes rest more (next, is, l) =
     ∙ ap (λ (all : Capsules). preceded (add_found step bytes []) all) (led_from events next new (left_after step bytes) rest more l)
     ∙ preceded-found step bytes (found_in events (left_after step bytes)) (capsules_from new (rest ++ more))
 
-led_on : (events : List CursorEvent) (new : CapsuleCursor) (rest more : List ℕ) (e : CapsuleEnding) → LeadsTo events (record { due = 0 }) [] new rest → capsules_from new (rest ++ more) ≡ ends e → capsules (data_in events ++ more) ≡ record { found = found_in events []; ending = e }
+led_on : (events : List CursorEvent) (new : CapsuleCursor) (rest more : List ℕ) (e : CapsuleEnding) → LeadsTo events (record { skip_remaining = 0 }) [] new rest → capsules_from new (rest ++ more) ≡ ends e → capsules (data_in events ++ more) ≡ record { found = found_in events []; ending = e }
 led_on events new rest more e l is =
-    sym (held-new (data_in events ++ more)) ∙ led_from events (record { due = 0 }) new [] rest more l
+    sym (held-new (data_in events ++ more)) ∙ led_from events (record { skip_remaining = 0 }) new [] rest more l
     ∙ ap (λ (all : Capsules). preceded (found_in events []) all) is
     ∙ preceded-ends (found_in events []) e
 
-pub led_end : (events : List CursorEvent) (new : CapsuleCursor) (rest : List ℕ) (e : CapsuleEnding) → LeadsTo events (record { due = 0 }) [] new rest → capsules_from new rest ≡ ends e → capsules (data_in events) ≡ record { found = found_in events []; ending = e }
+pub led_end : (events : List CursorEvent) (new : CapsuleCursor) (rest : List ℕ) (e : CapsuleEnding) → LeadsTo events (record { skip_remaining = 0 }) [] new rest → capsules_from new rest ≡ ends e → capsules (data_in events) ≡ record { found = found_in events []; ending = e }
 led_end events new rest e l is =
     ap (λ (x : List ℕ). capsules x) (sym (append-nil (data_in events)))
     ∙ led_on events new rest [] e l (ap (λ (x : List ℕ). capsules_from new x) (append-nil rest) ∙ is)
 
-pub led_long : (events : List CursorEvent) (old new : CapsuleCursor) (rest more : List ℕ) → LeadsTo events (record { due = 0 }) [] old rest → StepIs step-is.TooLong old rest new → capsules (data_in events ++ more) ≡ record { found = found_in events []; ending = AtTooLong }
+pub led_long : (events : List CursorEvent) (old new : CapsuleCursor) (rest more : List ℕ) → LeadsTo events (record { skip_remaining = 0 }) [] old rest → StepIs step-is.TooLong old rest new → capsules (data_in events ++ more) ≡ record { found = found_in events []; ending = AtTooLong }
 led_long events old new rest more l h = led_on events old rest more AtTooLong l (goes_on step-is.TooLong old rest new h more)
 
 -- ---- the end of the data
@@ -127,26 +127,26 @@ led_long events old new rest more l h = led_on events old rest more AtTooLong l 
 misses_cut : (s : List ℕ) → MissesValue s → capsule_front s ≡ Cut
 misses_cut s m =
     front_encoded (capsule_number_of m.kind) m.len m.head m.part s m.encoded m.parts
-    ∙ rw (capsule_kind_of-number m.kind, le-ltb (longest_value m.kind) m.len m.small, no_more m.len m.part m.less) refl
+    ∙ rw (capsule_kind_of-number m.kind, le-ltb (max_value_len m.kind) m.len m.small, no_more m.len m.part m.less) refl
 
 pub part_cut : (s : List ℕ) → 0 < length s → IsCapsulePart s → capsule_front s ≡ Cut
 part_cut s some p = elim p [ inl l ↦ head_cut s some l | inr m ↦ misses_cut s m ]
 
-pub end_due : (c : CapsuleCursor) (rest : List ℕ) → 0 < c.due → IsLeftOver c rest → capsules_from c rest ≡ ends Within
+pub end_due : (c : CapsuleCursor) (rest : List ℕ) → 0 < c.skip_remaining → IsLeftOver c rest → capsules_from c rest ≡ ends Within
 end_due c rest some l =
-    ap (λ (x : List ℕ). capsules_from c x) (l.none some) ∙ capsules_by (held_by c) [] Cut (short_due [] c.due some)
+    ap (λ (x : List ℕ). capsules_from c x) (l.none some) ∙ capsules_by (held_by c) [] Cut (short_due [] c.skip_remaining some)
 
-pub end_part : (c : CapsuleCursor) (rest : List ℕ) → c.due ≤ 0 → 0 < length rest → IsLeftOver c rest → capsules_from c rest ≡ ends Within
+pub end_part : (c : CapsuleCursor) (rest : List ℕ) → c.skip_remaining ≤ 0 → 0 < length rest → IsLeftOver c rest → capsules_from c rest ≡ ends Within
 end_part c rest zero some l =
-    capsules_by (held_by c) rest Cut (held_none [] c.due rest (omega arith) ∙ next-by rest Cut (part_cut rest some l.part))
+    capsules_by (held_by c) rest Cut (held_none [] c.skip_remaining rest (omega arith) ∙ next-by rest Cut (part_cut rest some l.part))
 
 no_bytes : (s : List ℕ) → length s ≤ 0 → s ≡ []
 no_bytes [] l = refl
 no_bytes (b ∷ s) l = absurd (omega arith)
 
-pub end_clean : (c : CapsuleCursor) (rest : List ℕ) → c.due ≤ 0 → length rest ≤ 0 → capsules_from c rest ≡ ends Between
+pub end_clean : (c : CapsuleCursor) (rest : List ℕ) → c.skip_remaining ≤ 0 → length rest ≤ 0 → capsules_from c rest ≡ ends Between
 end_clean c rest zero none =
     ap (λ (x : List ℕ). capsules_from c x) (no_bytes rest none)
-    ∙ capsules_by (held_by c) [] End (held_none [] c.due [] (omega arith) ∙ next-by [] End front_end)
+    ∙ capsules_by (held_by c) [] End (held_none [] c.skip_remaining [] (omega arith) ∙ next-by [] End front_end)
 
 pub ruleset endings = (end_due, end_part, end_clean)

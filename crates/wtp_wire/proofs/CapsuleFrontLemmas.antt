@@ -5,7 +5,7 @@ use Rattle.wtp_core.specs.Varint.{number_at, bytes_at}
 use Rattle.wtp_core.proofs.EncodingLemmas.{number_at-encoding, number_at-encodes, encoding_not_empty, bytes_at-parts, bytes_at-append}
 use Rattle.wtp_wire.specs.declared.capsule.CapsuleKind.{CapsuleKind}
 use Rattle.wtp_wire.specs.Capsule.{capsule_number_of, capsule_kind_of}
-use Rattle.wtp_wire.specs.CapsuleFront.{CapsuleFront, Found, Unknown, TooLong, Cut, End, longest_value, StartsWith, value_front, some_front, capsule_front}
+use Rattle.wtp_wire.specs.CapsuleFront.{CapsuleFront, Found, Unknown, TooLong, Cut, End, max_value_len, StartsWith, value_front, some_front, capsule_front}
 use Rattle.wtp_wire.specs.Front.{EncodesPair}
 use Rattle.wtp_wire.proofs.CapsuleLemmas.{capsule_kind_of-number, number-capsule_kind_of, no_kind_none}
 use Rattle.wtp_wire.proofs.FrontLemmas.{found}
@@ -63,13 +63,13 @@ with_rest bytes s head value rest e p = e ∙ ap (λ (x : List ℕ). x ++ rest) 
 pub starts-front : (bytes : List ℕ) (c : CapsuleFront) → StartsWith bytes c → capsule_front bytes ≡ c
 starts-front bytes (Found kind value rest) (s, is, e) =
     front_encoded (capsule_number_of kind) (length value) is.head (value ++ rest) bytes is.encoded (with_rest bytes s is.head value rest e is.parts)
-    ∙ rw (capsule_kind_of-number kind, le-ltb (longest_value kind) (length value) is.small, bytes_at-append value rest) refl
+    ∙ rw (capsule_kind_of-number kind, le-ltb (max_value_len kind) (length value) is.small, bytes_at-append value rest) refl
 starts-front bytes (Unknown rest) (s, is, e) =
     front_encoded is.id (length is.value) is.head (is.value ++ rest) bytes is.encoded (with_rest bytes s is.head is.value rest e is.parts)
     ∙ rw (no_kind_none is.id is.no_kind, bytes_at-append is.value rest) refl
 starts-front bytes (TooLong rest) (s, is, e) =
     front_encoded (capsule_number_of is.kind) is.len s rest bytes is.encoded e
-    ∙ rw (capsule_kind_of-number is.kind, lt-ltb (longest_value is.kind) is.len is.over) refl
+    ∙ rw (capsule_kind_of-number is.kind, lt-ltb (max_value_len is.kind) is.len is.over) refl
 starts-front bytes Cut h = absurd h
 starts-front bytes End e = ap capsule_front e ∙ front_end
 
@@ -115,13 +115,13 @@ of_unknown bytes rest id n k is two = elim (found (bytes_at n rest)) [
 ]
 
 of_known : (bytes rest : List ℕ) (id n : ℕ) (kind : CapsuleKind) → capsule_kind_of id ≡ Some kind → capsule_front bytes ≡ value_front (Some kind) n rest → TwoNumbers id n bytes rest → (capsule_front bytes ≡ Cut) ⊎ StartsWith bytes (capsule_front bytes)
-of_known bytes rest id n kind k is two = elim (cases_lt (longest_value kind) n) [
-  | inl over ↦ starts_as bytes (TooLong rest) (is ∙ rw (lt-ltb (longest_value kind) n over) refl) (two.head, record { kind = kind; len = n; over = over; encoded = same_number id n kind two.head k two.encoded }, two.parts)
+of_known bytes rest id n kind k is two = elim (cases_lt (max_value_len kind) n) [
+  | inl over ↦ starts_as bytes (TooLong rest) (is ∙ rw (lt-ltb (max_value_len kind) n over) refl) (two.head, record { kind = kind; len = n; over = over; encoded = same_number id n kind two.head k two.encoded }, two.parts)
   | inr fits ↦ elim (found (bytes_at n rest)) [
-    | inl cut ↦ inl (is ∙ rw (le-ltb (longest_value kind) n fits, cut) refl)
+    | inl cut ↦ inl (is ∙ rw (le-ltb (max_value_len kind) n fits, cut) refl)
     | inr ((value, left), got) ↦
         let (len, pieces) = bytes_at-parts n rest value left got in
-        starts_as bytes (Found kind value left) (is ∙ rw (le-ltb (longest_value kind) n fits, got) refl) (
+        starts_as bytes (Found kind value left) (is ∙ rw (le-ltb (max_value_len kind) n fits, got) refl) (
           two.head ++ value,
           record { head = two.head; encoded = subst (λ (m : ℕ). EncodesPair (capsule_number_of kind) m two.head) (sym len) (same_number id n kind two.head k two.encoded); small = omega (arith, len, fits); parts = refl },
           two.parts ∙ ap (λ (x : List ℕ). two.head ++ x) pieces ∙ sym (append_assoc two.head value left),
@@ -172,8 +172,8 @@ found-shorter bytes value rest kind e = elim (front-starts bytes) [
   | inr s ↦ found_some bytes value rest kind (subst (λ (c : CapsuleFront). StartsWith bytes c) e s)
 ]
 
-pub one_front : (bytes : List ℕ) → StartsWith bytes (capsule_front bytes) ⊎ ((capsule_front bytes ≡ Cut) × ((c : CapsuleFront) → StartsWith bytes c → ⊥))
-one_front bytes = elim (front-starts bytes) [
+pub front_is_unique : (bytes : List ℕ) → StartsWith bytes (capsule_front bytes) ⊎ ((capsule_front bytes ≡ Cut) × ((c : CapsuleFront) → StartsWith bytes c → ⊥))
+front_is_unique bytes = elim (front-starts bytes) [
   | inl cut ↦ inr (cut, λ c s. let e : c ≡ Cut = sym (starts-front bytes c s) ∙ cut in let bad : StartsWith bytes Cut = subst (λ (x : CapsuleFront). StartsWith bytes x) e s in bad)
   | inr s ↦ inl s
 ]

@@ -4,7 +4,7 @@ use Rattle.std.proofs.lemmas.Bool.{cases_Bool, cases_lt, lt-ltb, le-ltb, ltb-fal
 use Rattle.std.proofs.lemmas.List.{append_cancel_left, take-append-drop}
 use Rattle.std.proofs.Math.Seq.{drop-append-add}
 use Rattle.wtp_core.specs.Varint.{number_at, bytes_at}
-use Rattle.wtp_core.specs.VarintNeed.{varint_need}
+use Rattle.wtp_core.specs.VarintLenNeeded.{varint_len_needed}
 use Rattle.wtp_core.proofs.NeedLemmas.{number_at-cut, number_at-full, drop_all}
 use Rattle.wtp_core.proofs.EncodingLemmas.{number_at-more, bytes_at-append}
 use Rattle.wtp_wire.specs.declared.capsule.CapsuleKind.{CapsuleKind}
@@ -12,8 +12,8 @@ use Rattle.wtp_wire.specs.declared.capsule.reading.CapsuleHead.{CapsuleHead}
 use Rattle.wtp_wire.specs.declared.capsule.reading.CapsuleHead.TheVariants as head-is
 use Rattle.wtp_wire.specs.declared.capsule.reading.Reached.TheVariants as reached-is
 use Rattle.wtp_wire.specs.Capsule.{capsule_number_of, capsule_kind_of}
-use Rattle.wtp_wire.specs.CapsuleFront.{Found, Unknown, TooLong, Cut, End, longest_value, or_cut, value_front, capsule_front}
-use Rattle.wtp_wire.specs.CapsuleStream.{next_capsule, next_held, past_unknown, Joins, MissesValue, NextGiven}
+use Rattle.wtp_wire.specs.CapsuleFront.{Found, Unknown, TooLong, Cut, End, max_value_len, or_cut, value_front, capsule_front}
+use Rattle.wtp_wire.specs.CapsuleStream.{next_capsule, next_held, skip_unknown, Joins, MissesValue, NextGiven}
 use Rattle.wtp_wire.specs.declared.capsule.CapsuleError.{CapsuleError}
 use Rattle.wtp_wire.specs.declared.capsule.CapsuleError.TheVariants as error-is
 use Rattle.wtp_wire.specs.CapsuleSteps.{HasRoom, length_says, head_says, front_after, FitsHead, IsPart, holding, Advanced}
@@ -40,7 +40,7 @@ two_say bytes r rest id n e f = rw (e, f) refl
 
 value_after : (k : Option CapsuleKind) (n : ℕ) (xs : List ℕ) → value_front k n xs ≡ front_after (length_says k n) xs
 value_after None n xs = refl
-value_after (Some kind) n xs = elim (cases_Bool (nat_lt (longest_value kind) n)) [ inl t ↦ rw t refl | inr t ↦ rw t refl ]
+value_after (Some kind) n xs = elim (cases_Bool (nat_lt (max_value_len kind) n)) [ inl t ↦ rw t refl | inr t ↦ rw t refl ]
 
 pub front_says : (h xs : List ℕ) → frame_need h ≡ length h → capsule_front (h ++ xs) ≡ front_after (head_says h) xs
 front_says h xs w =
@@ -55,12 +55,12 @@ record Unready (h : List ℕ) : Type 0 where
   cut : 0 < length h → capsule_front h ≡ Cut
 
 unready : (h : List ℕ) → length h < frame_need h → Unready h
-unready h f = elim (cases_lt (length h) (varint_need h)) [
+unready h f = elim (cases_lt (length h) (varint_len_needed h)) [
   | inl l ↦ let none = number_at-cut h l in record { says = none_unfinished h none; cut = λ some. front_none h some none }
   | inr l ↦
-      let r = drop (varint_need h) h in
+      let r = drop (varint_len_needed h) h in
       let one = number_at-full h l in
-      let part : length r < varint_need r = omega (arith, frame_need_is h, length-drop (varint_need h) h) in
+      let part : length r < varint_len_needed r = omega (arith, frame_need_is h, length-drop (varint_len_needed h) h) in
       let none = number_at-cut r part in
       record { says = one_unfinished h r one.0 one.1 none; cut = λ some. front_one h r one.0 one.1 none }
 ]
@@ -74,7 +74,7 @@ says_unfinished h l = (unready h l).says
 -- a complete head says something
 pub says_something : (k : Option CapsuleKind) (n : ℕ) → length_says k n ≡ head-is.Unfinished → ⊥
 says_something None n e = cc
-says_something (Some kind) n e = elim (cases_Bool (nat_lt (longest_value kind) n)) [ inl t ↦ cc (rw t at e) | inr t ↦ cc (rw t at e) ]
+says_something (Some kind) n e = elim (cases_Bool (nat_lt (max_value_len kind) n)) [ inl t ↦ cc (rw t at e) | inr t ↦ cc (rw t at e) ]
 
 pub says_whole : (h : List ℕ) → frame_need h ≡ length h → head_says h ≡ head-is.Unfinished → ⊥
 says_whole h w e = let p = parts_of h w in says_something (capsule_kind_of p.id) p.n (sym (two_say h p.behind [] p.id p.n p.first p.second) ∙ e)
@@ -83,17 +83,17 @@ says_whole h w e = let p = parts_of h w in says_something (capsule_kind_of p.id)
 pub record KeepIs (o : Option CapsuleKind) (k : CapsuleKind) (n m : ℕ) : Type 0 where
   pub size : n ≡ m
   pub kind : o ≡ Some k
-  pub small : m ≤ longest_value k
+  pub small : m ≤ max_value_len k
 
 pub keep_is : (o : Option CapsuleKind) (k : CapsuleKind) (n m : ℕ) → length_says o n ≡ head-is.Keep k m → KeepIs o k n m
 keep_is None k n m e = absurd (cc)
-keep_is (Some kind) k n m e = elim (cases_Bool (nat_lt (longest_value kind) n)) [
+keep_is (Some kind) k n m e = elim (cases_Bool (nat_lt (max_value_len kind) n)) [
   | inl t ↦ absurd (cc (rw t at e))
   | inr t ↦
       let is : head-is.Keep kind n ≡ head-is.Keep k m = rw t at e in
       let same : kind ≡ k = cc in
       let size : n ≡ m = cc in
-      let fits : n ≤ longest_value kind = ltb-false (longest_value kind) n t in
+      let fits : n ≤ max_value_len kind = ltb-false (max_value_len kind) n t in
       record { size = size; kind = ap (λ (x : CapsuleKind). Some x) same; small = rw (← same, ← size) fits }
 ]
 
@@ -120,7 +120,7 @@ none_missed h v k m w e l none = none
 -- ---- what is held and the bytes
 
 abbrev pub hold : List ℕ → ℕ → Held
-hold t due = record { taken = t; due = due }
+hold t skip_remaining = record { taken = t; skip_remaining = skip_remaining }
 
 pub held_none : (t : List ℕ) (d : ℕ) (xs : List ℕ) → d ≡ 0 → next_held (hold t d) xs ≡ next_capsule (t ++ xs)
 unfolding next_held
@@ -182,28 +182,28 @@ pub joins_then : (h i j : Held) (a b c : List ℕ) → Joins h a i b → Joins i
 joins_then h i j a b c p q more = p more ∙ q more
 
 -- after a complete head
-held_says : (h v xs : List ℕ) (d : ℕ) → d ≡ 0 → frame_need h ≡ length h → next_held (hold (h ++ v) d) xs ≡ past_unknown (λ rest. next_capsule rest) (front_after (head_says h) (v ++ xs))
+held_says : (h v xs : List ℕ) (d : ℕ) → d ≡ 0 → frame_need h ≡ length h → next_held (hold (h ++ v) d) xs ≡ skip_unknown (λ rest. next_capsule rest) (front_after (head_says h) (v ++ xs))
 held_says h v xs d z w = held_none (h ++ v) d xs z ∙ ap next_capsule (append_assoc h v xs) ∙ next-by (h ++ (v ++ xs)) (front_after (head_says h) (v ++ xs)) (front_says h (v ++ xs) w)
 
 pub joins_skip : (h b : List ℕ) (n d d' : ℕ) → d ≡ 0 → d' ≡ n → frame_need h ≡ length h → head_says h ≡ head-is.Skip n → Joins (hold h d) b (hold [] d') b
 joins_skip h b n d d' z is w e more = elim (cases_lt 0 n) [
   | inl some ↦ start ∙ over (bytes_at n (b ++ more)) ∙ sym (ap (λ (m : ℕ). next_held (hold [] m) (b ++ more)) is ∙ held_due [] n (b ++ more) some)
-  | inr zero ↦ let none : n ≡ 0 = omega arith in start ∙ ap (λ (m : ℕ). past_unknown (λ rest. next_capsule rest) (or_cut (bytes_at m (b ++ more)) (λ value. Unknown value.1))) none ∙ rw (bytes_at-append [] (b ++ more)) refl ∙ sym (held_none [] d' (b ++ more) (is ∙ none))
+  | inr zero ↦ let none : n ≡ 0 = omega arith in start ∙ ap (λ (m : ℕ). skip_unknown (λ rest. next_capsule rest) (or_cut (bytes_at m (b ++ more)) (λ value. Unknown value.1))) none ∙ rw (bytes_at-append [] (b ++ more)) refl ∙ sym (held_none [] d' (b ++ more) (is ∙ none))
 ]
   where
-    start : next_held (hold h d) (b ++ more) ≡ past_unknown (λ rest. next_capsule rest) (or_cut (bytes_at n (b ++ more)) (λ value. Unknown value.1))
-    start = held_none h d (b ++ more) z ∙ next-by (h ++ (b ++ more)) (front_after (head_says h) (b ++ more)) (front_says h (b ++ more) w) ∙ ap (λ (s : CapsuleHead). past_unknown (λ rest. next_capsule rest) (front_after s (b ++ more))) e
+    start : next_held (hold h d) (b ++ more) ≡ skip_unknown (λ rest. next_capsule rest) (or_cut (bytes_at n (b ++ more)) (λ value. Unknown value.1))
+    start = held_none h d (b ++ more) z ∙ next-by (h ++ (b ++ more)) (front_after (head_says h) (b ++ more)) (front_says h (b ++ more) w) ∙ ap (λ (s : CapsuleHead). skip_unknown (λ rest. next_capsule rest) (front_after s (b ++ more))) e
 
-    over : (o : Option (List ℕ × List ℕ)) → past_unknown (λ rest. next_capsule rest) (or_cut o (λ value. Unknown value.1)) ≡ or_cut o (λ value. next_capsule value.1)
+    over : (o : Option (List ℕ × List ℕ)) → skip_unknown (λ rest. next_capsule rest) (or_cut o (λ value. Unknown value.1)) ≡ or_cut o (λ value. next_capsule value.1)
     over None = refl
     over (Some x) = refl
 
 pub held_long : (h v : List ℕ) (d : ℕ) → d ≡ 0 → v ≡ [] → frame_need h ≡ length h → head_says h ≡ head-is.TooLong → (more : List ℕ) → next_held (hold (h ++ v) d) more ≡ TooLong more
-held_long h v d z none w e more = held_says h v more d z w ∙ ap (λ (s : CapsuleHead). past_unknown (λ rest. next_capsule rest) (front_after s (v ++ more))) e ∙ ap (λ (x : List ℕ). TooLong (x ++ more)) none
+held_long h v d z none w e more = held_says h v more d z w ∙ ap (λ (s : CapsuleHead). skip_unknown (λ rest. next_capsule rest) (front_after s (v ++ more))) e ∙ ap (λ (x : List ℕ). TooLong (x ++ more)) none
 
 pub held_found : (h v : List ℕ) (k : CapsuleKind) (n d : ℕ) → d ≡ 0 → length v ≡ n → frame_need h ≡ length h → head_says h ≡ head-is.Keep k n → (more : List ℕ) → next_held (hold (h ++ v) d) more ≡ Found k v more
 held_found h v k n d z size w e more =
-    held_says h v more d z w ∙ ap (λ (s : CapsuleHead). past_unknown (λ rest. next_capsule rest) (front_after s (v ++ more))) (e ∙ ap (λ (m : ℕ). head-is.Keep k m) (sym size))
+    held_says h v more d z w ∙ ap (λ (s : CapsuleHead). skip_unknown (λ rest. next_capsule rest) (front_after s (v ++ more))) (e ∙ ap (λ (m : ℕ). head-is.Keep k m) (sym size))
     ∙ rw (bytes_at-append v more) refl
 
 -- too few bytes
@@ -213,7 +213,7 @@ no_more n s l = rw (lt-ltb (length s) n l) refl
 
 pub short_value : (h v : List ℕ) (k : CapsuleKind) (n d : ℕ) → d ≡ 0 → length v < n → frame_need h ≡ length h → head_says h ≡ head-is.Keep k n → next_held (hold (h ++ v) d) [] ≡ Cut
 short_value h v k n d z l w e =
-    held_says h v [] d z w ∙ ap (λ (s : CapsuleHead). past_unknown (λ rest. next_capsule rest) (front_after s (v ++ []))) e
+    held_says h v [] d z w ∙ ap (λ (s : CapsuleHead). skip_unknown (λ rest. next_capsule rest) (front_after s (v ++ []))) e
     ∙ rw (no_more n (v ++ []) (omega (arith, length-append v []))) refl
 
 pub short_due : (t : List ℕ) (d : ℕ) → 0 < d → next_held (hold t d) [] ≡ Cut
@@ -256,7 +256,7 @@ ends_clean h v d p none z =
 
 pub ends_cut : (h v : List ℕ) (d : ℕ) → IsPart h v d → (0 < length h) ⊎ (0 < d) → next_held (hold (h ++ v) d) [] ≡ End → ⊥
 ends_cut h v d p some e = elim (cases_lt 0 d) [
-  | inl due ↦ let bad : Cut ≡ End = sym (short_due (h ++ v) d due) ∙ e in cc
+  | inl skip_remaining ↦ let bad : Cut ≡ End = sym (short_due (h ++ v) d skip_remaining) ∙ e in cc
   | inr zero ↦
       let z : d ≡ 0 = omega arith in
       let begun : 0 < length h = elim some [ inl l ↦ l | inr l ↦ absurd (omega arith) ] in
@@ -403,8 +403,8 @@ advanced_memory h v d a h' c v' e k n t w is joins less none = (
 
 -- ---- from the parts of a call
 
-pub headed : (head head' v a b c : List ℕ) (d len len' due : ℕ) → length head ≡ 16 → length head' ≡ 16 → len ≤ 16 → len' ≤ 16 → len ≤ len' → IsPart (take len head) v d → due ≡ d - length a → b ≡ drop d a → due ≤ 0 → take len head' ≡ take len head → (frame_need (take len head) ≡ len → (len' ≡ len) × (head' ≡ head)) → take len head ++ b ≡ take len' head' ++ c → Headed (take len head) v d a (take len' head') c
-headed head head' v a b c d len len' due room room' fits fits' forward part is rest zero front stays joins = record {
+pub headed : (head head' v a b c : List ℕ) (d len len' skip_remaining : ℕ) → length head ≡ 16 → length head' ≡ 16 → len ≤ 16 → len' ≤ 16 → len ≤ len' → IsPart (take len head) v d → skip_remaining ≡ d - length a → b ≡ drop d a → skip_remaining ≤ 0 → take len head' ≡ take len head → (frame_need (take len head) ≡ len → (len' ≡ len) × (head' ≡ head)) → take len head ++ b ≡ take len' head' ++ c → Headed (take len head) v d a (take len' head') c
+headed head head' v a b c d len len' skip_remaining room room' fits fits' forward part is rest zero front stays joins = record {
   zero = omega arith;
   part = part;
   head = takes_head head head' (drop d a) c len len' (omega arith) (omega arith) forward front stays (rw rest at joins);

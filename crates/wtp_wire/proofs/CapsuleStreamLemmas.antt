@@ -6,13 +6,13 @@ use Rattle.wtp_wire.specs.declared.capsule.CapsuleError.{CapsuleError}
 use Rattle.wtp_wire.specs.declared.capsule.CapsuleError.TheVariants as error-is
 use Rattle.wtp_wire.specs.declared.capsule.CapsuleKind.{CapsuleKind}
 use Rattle.wtp_wire.specs.CapsuleFront.{CapsuleFront, Found, Unknown, TooLong, Cut, End, or_cut, capsule_front}
-use Rattle.wtp_wire.specs.CapsuleStream.{Capsules, CapsuleEnding, Between, Within, AtTooLong, Step, Arrived, Returned, Leads, data_of, add_result, returned, past_unknown, next_within, next_capsule, ends, follows, by_front, capsules_within, capsules, next_held, capsules_after, capsules_held, NextGiven, with_result}
+use Rattle.wtp_wire.specs.CapsuleStream.{Capsules, CapsuleEnding, Between, Within, AtTooLong, Step, Arrived, Returned, Leads, data_of, add_result, returned, skip_unknown, next_within, next_capsule, ends, follows, by_front, capsules_within, capsules, next_held, capsules_after, capsules_held, NextGiven, with_result}
 use Rattle.wtp_wire.specs.Held.{Held, new_held}
 use Rattle.wtp_wire.proofs.CapsuleFrontLemmas.{front_end, unknown-shorter, found-shorter}
 
 -- ---- the next capsule
 
-past_same : (c : CapsuleFront) (f g : List ℕ → CapsuleFront) → ((rest : List ℕ) → c ≡ Unknown rest → f rest ≡ g rest) → past_unknown f c ≡ past_unknown g c
+past_same : (c : CapsuleFront) (f g : List ℕ → CapsuleFront) → ((rest : List ℕ) → c ≡ Unknown rest → f rest ≡ g rest) → skip_unknown f c ≡ skip_unknown g c
 past_same (Found kind value rest) f g h = refl
 past_same (Unknown rest) f g h = h rest refl
 past_same (TooLong rest) f g h = refl
@@ -21,7 +21,7 @@ past_same End f g h = refl
 
 next_empty : (m : ℕ) → next_within m [] ≡ End
 next_empty zero = refl
-next_empty (suc m) = ap (λ (c : CapsuleFront). past_unknown (λ rest. next_within m rest) c) front_end
+next_empty (suc m) = ap (λ (c : CapsuleFront). skip_unknown (λ rest. next_within m rest) c) front_end
 
 next_enough : (n m : ℕ) (bytes : List ℕ) → length bytes ≤ n → length bytes ≤ m → next_within n bytes ≡ next_within m bytes
 next_enough zero m [] hn hm = sym (next_empty m)
@@ -30,14 +30,14 @@ next_enough (suc n) zero [] hn hm = next_empty (suc n)
 next_enough (suc n) zero (b ∷ bytes) hn hm = absurd (omega arith)
 next_enough (suc n) (suc m) bytes hn hm = past_same (capsule_front bytes) (λ rest. next_within n rest) (λ rest. next_within m rest) (λ rest e. let less : length rest < length bytes = unknown-shorter bytes rest e in next_enough n m rest (omega arith) (omega arith))
 
-pub next-step : (bytes : List ℕ) → next_capsule bytes ≡ past_unknown (λ rest. next_capsule rest) (capsule_front bytes)
+pub next-step : (bytes : List ℕ) → next_capsule bytes ≡ skip_unknown (λ rest. next_capsule rest) (capsule_front bytes)
 unfolding next_capsule
 next-step bytes =
     next_enough (length bytes) (suc (length bytes)) bytes (omega arith) (omega arith)
     ∙ past_same (capsule_front bytes) (λ rest. next_within (length bytes) rest) (λ rest. next_within (length rest) rest) (λ rest e. let less : length rest < length bytes = unknown-shorter bytes rest e in next_enough (length bytes) (length rest) rest (omega arith) (omega arith))
 
-pub next-by : (bytes : List ℕ) (c : CapsuleFront) → capsule_front bytes ≡ c → next_capsule bytes ≡ past_unknown (λ rest. next_capsule rest) c
-next-by bytes c e = next-step bytes ∙ ap (λ (x : CapsuleFront). past_unknown (λ rest. next_capsule rest) x) e
+pub next-by : (bytes : List ℕ) (c : CapsuleFront) → capsule_front bytes ≡ c → next_capsule bytes ≡ skip_unknown (λ rest. next_capsule rest) c
+next-by bytes c e = next-step bytes ∙ ap (λ (x : CapsuleFront). skip_unknown (λ rest. next_capsule rest) x) e
 
 -- ---- all of them
 
@@ -106,9 +106,9 @@ held_after (Some skipped) = capsules-next skipped.1
 
 pub held-next : (h : Held) (bytes : List ℕ) → capsules_held h bytes ≡ by_front (λ rest. capsules rest) (next_held h bytes)
 unfolding capsules_held next_held
-held-next h bytes = elim (cases_eq h.due 0) [
-  | inl none ↦ rw (eq-eqb h.due 0 none) (capsules-next (h.taken ++ bytes))
-  | inr some ↦ rw (ne_eqb h.due 0 some) (held_after (bytes_at h.due bytes))
+held-next h bytes = elim (cases_eq h.skip_remaining 0) [
+  | inl none ↦ rw (eq-eqb h.skip_remaining 0 none) (capsules-next (h.taken ++ bytes))
+  | inr some ↦ rw (ne_eqb h.skip_remaining 0 some) (held_after (bytes_at h.skip_remaining bytes))
 ]
 
 pub held-new : (bytes : List ℕ) → capsules_held new_held bytes ≡ capsules bytes

@@ -2,7 +2,7 @@
 use Rattle.std.proofs.Common.{◌≡◌, ℕ, Bool, List, [], ◌∷◌, length, Option, Some, None, Result, Ok, refl, sym, ◌∙◌}
 use Rattle.std.specs.Prelude.{◌↔◌, IsSome}
 use Rattle.wtp_core.specs.Varint.{shortest}
-use Rattle.wtp_core.specs.Writer.{Puts, PutsParts}
+use Rattle.wtp_core.specs.Writer.{WritesPrefix, PutsParts}
 use Rattle.wtp_core.specs.declared.bytes.writer.PutError.{PutError}
 use Rattle.wtp_core.proofs.WriterLemmas.{put-more, put-last}
 use Rattle.wtp_wire.specs.Kind.{frame_type_of}
@@ -48,9 +48,9 @@ parts_of-first kind payload (Some id) h = (shortest id ∷ [], parts_of-session 
 
 -- type and length were written, and the payload or not all of it
 pub puts-plain : (grows : Bool) (kind : FrameKind) (payload : List ℕ) (session found : Option ℕ) (f : Content) (id n : ℕ) (bytes : List ℕ) (r : Result (Unit {0}) PutError) (u v : Unit {0}) (old mid next new : List ℕ) (room place more left : Option (List ℕ))
-    → Puts grows (shortest id) (Ok u) old room mid place
-    → Puts grows (shortest n) (Ok v) mid place next more
-    → Puts grows bytes r next more new left
+    → WritesPrefix grows (shortest id) (Ok u) old room mid place
+    → WritesPrefix grows (shortest n) (Ok v) mid place next more
+    → WritesPrefix grows bytes r next more new left
     → content kind payload session ≡ f
     → found ≡ session
     → found ≡ None

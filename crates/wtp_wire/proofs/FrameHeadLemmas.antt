@@ -2,7 +2,7 @@
 use Rattle.std.proofs.Common.{◌≡◌, ◌≢◌, ℕ, ◌+◌, ◌%◌, ◌==◌, ◌<◌, ◌≤◌, nat_lt, List, [], ◌++◌, length, drop, Option, Some, None, refl, sym, ap, subst, ◌∙◌, arith, inl, inr, false, length-append, length-drop, append_assoc, append-nil}
 use Rattle.std.proofs.lemmas.Bool.{cases_lt, ltb-false, cases_Bool}
 use Rattle.wtp_core.specs.Varint.{Encodes, number_at}
-use Rattle.wtp_core.specs.VarintNeed.{varint_need}
+use Rattle.wtp_core.specs.VarintLenNeeded.{varint_len_needed}
 use Rattle.wtp_core.proofs.NeedLemmas.{number_at-cut, number_at-full, number_at-whole}
 use Rattle.wtp_core.proofs.EncodingLemmas.{number_at-more, number_at-encodes}
 use Rattle.wtp_core.specs.Source.{Source}
@@ -28,10 +28,10 @@ pub record Parts (h : List ℕ) : Type 0 where
 
 pub parts_of : (h : List ℕ) → frame_need h ≡ length h → Parts h
 parts_of h w =
-    let l : varint_need h ≤ length h = omega (arith, frame_need_least h) in
-    let r = drop (varint_need h) h in
+    let l : varint_len_needed h ≤ length h = omega (arith, frame_need_least h) in
+    let r = drop (varint_len_needed h) h in
     let one = number_at-full h l in
-    let two = number_at-whole r (omega (arith, frame_need_is h, length-drop (varint_need h) h)) in
+    let two = number_at-whole r (omega (arith, frame_need_is h, length-drop (varint_len_needed h) h)) in
     record { id = one.0; n = two.0; behind = r; first = one.1; second = two.1 }
 
 pub announcement_numbers : (bytes r rest : List ℕ) (id n : ℕ) → number_at bytes ≡ Some (id, r) → number_at r ≡ Some (n, rest) → announcement_at bytes ≡ announcement_of (kind_of id) n
@@ -54,12 +54,12 @@ front_announcement h xs w =
     ∙ ap (λ (s : Announcement). front_after s xs) (sym (announcement_numbers h p.behind [] p.id p.n p.first p.second))
 
 pub front_part : (h : List ℕ) → length h < frame_need h → front h ≡ Short
-front_part h f = elim (cases_lt (length h) (varint_need h)) [
+front_part h f = elim (cases_lt (length h) (varint_len_needed h)) [
   | inl l ↦ front-none h (number_at-cut h l)
   | inr l ↦
-      let r = drop (varint_need h) h in
+      let r = drop (varint_len_needed h) h in
       let one = number_at-full h l in
-      let cut : length r < varint_need r = omega (arith, frame_need_is h, length-drop (varint_need h) h) in
+      let cut : length r < varint_len_needed r = omega (arith, frame_need_is h, length-drop (varint_len_needed h) h) in
       front-cut h r one.0 one.1 (number_at-cut r cut)
 ]
 
@@ -146,9 +146,9 @@ announcement_skip h m w e =
     }
 
 -- the skipped bytes, followed by any bytes in the number left to skip
-pub passed_unknown : (old new : Held) (a b : Source) (s : Skips old new a b) (z : List ℕ) → length z ≡ new.due → (old.due ≡ 0 → IsUnknown ((s.head ++ s.payload) ++ z)) × (0 < old.due → length ((s.head ++ s.payload) ++ z) ≡ old.due)
+pub passed_unknown : (old new : Held) (a b : Source) (s : Skips old new a b) (z : List ℕ) → length z ≡ new.skip_remaining → (old.skip_remaining ≡ 0 → IsUnknown ((s.head ++ s.payload) ++ z)) × (0 < old.skip_remaining → length ((s.head ++ s.payload) ++ z) ≡ old.skip_remaining)
 passed_unknown old new a b s z e = (
-  λ d. let h = s.begun d in let size : length s.payload + new.due ≡ length (s.payload ++ z) = omega (arith, length-append s.payload z) in
+  λ d. let h = s.begun d in let size : length s.payload + new.skip_remaining ≡ length (s.payload ++ z) = omega (arith, length-append s.payload z) in
       (h.id, s.head, s.payload ++ z, h.no_kind, subst (λ (n : ℕ). EncodesPair h.id n s.head) size h.encoded, append_assoc s.head s.payload z),
   λ l. let w = s.going l in let whole = w.1 in omega (arith, length-append (s.head ++ s.payload) z, length-append s.head s.payload, ap length w.0),
 )

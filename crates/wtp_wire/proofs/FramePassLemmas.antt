@@ -4,8 +4,8 @@ use Rattle.std.proofs.lemmas.Bool.{cases_lt, lt-ltb, le-ltb, ne_eqb}
 use Rattle.std.proofs.lemmas.List.{drop-drop, take-append-drop}
 use Rattle.wtp_core.specs.declared.bytes.polled.Polled.{Polled}
 use Rattle.wtp_core.specs.declared.bytes.polled.Polled.TheVariants.{Ready, Pending, Again, NoMemory}
-use Rattle.wtp_core.specs.Source.{Source, SourceEnding, AtEnd, AtReset, AtDisconnection, Telling}
-use Rattle.wtp_core.specs.Polled.{stop, Asks}
+use Rattle.wtp_core.specs.Source.{Source, SourceEnding, AtEnd, AtReset, AtDisconnection, HasModel}
+use Rattle.wtp_core.specs.Polled.{stop, PollsAtMost}
 use Rattle.wtp_core.specs.Fill.{Gains}
 use Rattle.wtp_core.specs.Varint.{bytes_at}
 use Rattle.wtp_core.proofs.NeedLemmas.{drop_all}
@@ -17,11 +17,11 @@ use Rattle.wtp_wire.specs.declared.frame.head.Announcement.TheVariants as announ
 use Rattle.wtp_wire.specs.Content.{Content}
 use Rattle.wtp_wire.specs.Front.{Unknown, front}
 use Rattle.wtp_wire.specs.FrameNeed.{frame_need_most, frame_need_some}
-use Rattle.wtp_core.specs.Passing.{max_passed}
+use Rattle.wtp_core.specs.SkipAhead.{max_passed}
 use Rattle.wtp_wire.specs.Limits.{max_head, max_calls}
 use Rattle.wtp_wire.specs.Held.{Held, skip_front, front_held, IsUnknownHead, Skips, Leaves}
 use Rattle.wtp_wire.specs.FramePolling.{FramePolled, FrameGiven, KeepsHeld, Answered}
-use Rattle.wtp_wire.specs.FramePart.{Part, bytes_in, IsReading}
+use Rattle.wtp_wire.specs.PartialFrame.{Part, bytes_in, IsReading}
 use Rattle.wtp_wire.specs.FrameSteps.{IsComplete, Skipped, PassedOn, PassedPlain, BeginsFrame, BeginsPlain, Grew}
 use Rattle.wtp_wire.proofs.FrameHeadLemmas.{front_announcement, announcement_skip}
 use Rattle.wtp_core.specs.declared.bytes.polled.IoReadError as bytes-is
@@ -30,7 +30,7 @@ use Rattle.std.proofs.lemmas.List.{length-replicate}
 use Rattle.wtp_wire.proofs.FrameReadingLemmas.{no_items}
 use Rattle.wtp_wire.proofs.FramePollLemmas.{Polls, hold, front_none, front_due, skip_empty, due_unfinished, reading_unfinished, none_taken}
 
-due_begins : (s : Option Source) (t : List ℕ) (d : ℕ) → 0 < d → t ≡ [] → Telling s s (BeginsFrame (hold t d) (hold t d))
+due_begins : (s : Option Source) (t : List ℕ) (d : ℕ) → 0 < d → t ≡ [] → HasModel s s (BeginsFrame (hold t d) (hold t d))
 due_begins s t d l e = telling_same s (BeginsFrame (hold t d) (hold t d)) (λ a. record {
   head = [];
   parts = rw e refl;
@@ -44,8 +44,8 @@ bare : (m : ℕ) (p : Part) → IsComplete (announces.Skip m) p → bytes_in p �
 bare m p w = ap (λ (l : List ℕ). p.head ++ l) (no_items p.payload w.size) ∙ append-nil p.head
 
 skip_begins : (s t : Option Source) (m : ℕ) (p : Part) (old : List ℕ) (d : ℕ) → d ≡ 0 → IsComplete (announces.Skip m) p
-    → Telling s t (λ a c. Gains old (bytes_in p) a c 0)
-    → Telling s t (BeginsFrame (hold old d) (hold [] m))
+    → HasModel s t (λ a c. Gains old (bytes_in p) a c 0)
+    → HasModel s t (BeginsFrame (hold old d) (hold [] m))
 skip_begins s t m p old d z w q = telling_map s t _ (BeginsFrame (hold old d) (hold [] m))
     (λ a c g.
     let shape = bare m p w in
@@ -70,31 +70,31 @@ unfolding bytes_at
 skip_none d xs z = rw (z, le-ltb (length xs) 0 (omega arith)) refl
 
 -- the case with which a poll begins
-begun_front : (old mid : Held) (a b : Source) → BeginsFrame old mid a b → front_held old a.ahead ≡ skip_front mid.due b.ahead
-begun_front old mid a b g = elim (cases_lt 0 old.due) [
-  | inl l ↦ let w = g.going l in front_due old.taken old.due a.ahead l ∙ rw (w.1, w.2) refl
+begun_front : (old mid : Held) (a b : Source) → BeginsFrame old mid a b → front_held old a.ahead ≡ skip_front mid.skip_remaining b.ahead
+begun_front old mid a b g = elim (cases_lt 0 old.skip_remaining) [
+  | inl l ↦ let w = g.going l in front_due old.taken old.skip_remaining a.ahead l ∙ rw (w.1, w.2) refl
   | inr l ↦
-      let z : old.due ≡ 0 = omega arith in
+      let z : old.skip_remaining ≡ 0 = omega arith in
       let w = g.begun z in
-      front_none old.taken old.due a.ahead z ∙ ap front g.parts ∙ front_announcement g.head b.ahead w.1 ∙ rw w.0 refl
+      front_none old.taken old.skip_remaining a.ahead z ∙ ap front g.parts ∙ front_announcement g.head b.ahead w.1 ∙ rw w.0 refl
 ]
 
-skip_on : (old mid : Held) (d : ℕ) (a b c : Source) → BeginsFrame old mid a b → Skipped mid.due d b c → front_held old a.ahead ≡ skip_front d c.ahead
+skip_on : (old mid : Held) (d : ℕ) (a b c : Source) → BeginsFrame old mid a b → Skipped mid.skip_remaining d b c → front_held old a.ahead ≡ skip_front d c.ahead
 skip_on old mid d a b c g p =
     let few = p.fewer in
-    begun_front old mid a b g ∙ skip_step mid.due d (mid.due - d) b.ahead (omega arith) p.there ∙ ap (λ (l : List ℕ). skip_front d l) (sym p.rest)
+    begun_front old mid a b g ∙ skip_step mid.skip_remaining d (mid.skip_remaining - d) b.ahead (omega arith) p.there ∙ ap (λ (l : List ℕ). skip_front d l) (sym p.rest)
 
-skips : (old mid : Held) (t : List ℕ) (d : ℕ) (a b c : Source) → t ≡ [] → BeginsFrame old mid a b → Skipped mid.due d b c → (s : Skips old (hold t d) a c) × (length s.payload ≡ mid.due - d)
+skips : (old mid : Held) (t : List ℕ) (d : ℕ) (a b c : Source) → t ≡ [] → BeginsFrame old mid a b → Skipped mid.skip_remaining d b c → (s : Skips old (hold t d) a c) × (length s.payload ≡ mid.skip_remaining - d)
 skips old mid t d a b c e g p =
     let few = p.fewer in
-    let gone = take (mid.due - d) b.ahead in
-    let size : length gone ≡ mid.due - d = let there = p.there in omega (arith, length-take (mid.due - d) b.ahead) in
-    let all : length gone + d ≡ mid.due = omega arith in (
+    let gone = take (mid.skip_remaining - d) b.ahead in
+    let size : length gone ≡ mid.skip_remaining - d = let there = p.there in omega (arith, length-take (mid.skip_remaining - d) b.ahead) in
+    let all : length gone + d ≡ mid.skip_remaining = omega arith in (
       record {
         head = g.head;
         payload = gone;
-        parts = g.parts ∙ ap (λ (l : List ℕ). g.head ++ l) (sym (take-append-drop (mid.due - d) b.ahead) ∙ ap (λ (l : List ℕ). gone ++ l) (sym p.rest)) ∙ sym (append_assoc g.head gone c.ahead);
-        begun = λ z. let w = g.begun z in subst (λ (n : ℕ). IsUnknownHead n g.head) (sym all) (announcement_skip g.head mid.due w.1 w.0);
+        parts = g.parts ∙ ap (λ (l : List ℕ). g.head ++ l) (sym (take-append-drop (mid.skip_remaining - d) b.ahead) ∙ ap (λ (l : List ℕ). gone ++ l) (sym p.rest)) ∙ sym (append_assoc g.head gone c.ahead);
+        begun = λ z. let w = g.begun z in subst (λ (n : ℕ). IsUnknownHead n g.head) (sym all) (announcement_skip g.head mid.skip_remaining w.1 w.0);
         going = λ l. let w = g.going l in (w.0, w.1 ∙ sym all);
         most = let most = p.most in omega arith;
         empty = e;
@@ -102,10 +102,10 @@ skips old mid t d a b c e g p =
       size,
     )
 
-asks_on : (a b c : Source) → Asks max_head a b → Asks max_passed b c → Asks max_calls a c
+asks_on : (a b c : Source) → PollsAtMost max_head a b → PollsAtMost max_passed b c → PollsAtMost max_calls a c
 asks_on a b c p q = record { asked = let one = p.asked in let two = q.asked in omega arith; no_less = let one = p.no_less in let two = q.no_less in omega arith; ending = q.ending ∙ p.ending; waits = let one = p.waits in let two = q.waits in omega arith }
 
-left_due : (old mid : Held) (t : List ℕ) (d : ℕ) (a b c : Source) → t ≡ [] → 0 < d → mid.due < d + max_passed → BeginsFrame old mid a b → Skipped mid.due d b c → Leaves old (hold t d) a c
+left_due : (old mid : Held) (t : List ℕ) (d : ℕ) (a b c : Source) → t ≡ [] → 0 < d → mid.skip_remaining < d + max_passed → BeginsFrame old mid a b → Skipped mid.skip_remaining d b c → Leaves old (hold t d) a c
 left_due old mid t d a b c e l f g p = record {
   same = front_due t d c.ahead l ∙ sym (skip_on old mid d a b c g p);
   kept = λ z. absurd (omega arith);
@@ -117,13 +117,13 @@ stop_some n AtEnd l = rw (ne_eqb n 0 (λ z. omega arith)) refl
 stop_some n AtReset l = refl
 stop_some n AtDisconnection l = refl
 
-some_held : (old mid : Held) (a b : Source) → BeginsFrame old mid a b → 0 < old.due + length (old.taken ++ a.ahead)
-some_held old mid a b g = elim (cases_lt 0 old.due) [
+some_held : (old mid : Held) (a b : Source) → BeginsFrame old mid a b → 0 < old.skip_remaining + length (old.taken ++ a.ahead)
+some_held old mid a b g = elim (cases_lt 0 old.skip_remaining) [
   | inl l ↦ omega arith
   | inr l ↦ let w = g.begun (omega arith) in let whole = w.1 in omega (arith, ap length g.parts, length-append g.head b.ahead, frame_need_some g.head)
 ]
 
-passed_polled : (r : Polled (Result Content IoReadError)) (old mid : Held) (t : List ℕ) (d : ℕ) (a b c : Source) → t ≡ [] → BeginsFrame old mid a b → PassedOn r mid.due d b c → FramePolled r old (hold t d) a c × Asks max_calls a c
+passed_polled : (r : Polled (Result Content IoReadError)) (old mid : Held) (t : List ℕ) (d : ℕ) (a b c : Source) → t ≡ [] → BeginsFrame old mid a b → PassedOn r mid.skip_remaining d b c → FramePolled r old (hold t d) a c × PollsAtMost max_calls a c
 passed_polled (Ready (Ok f)) old mid t d a b c e g p = absurd p
 passed_polled (Ready (Err (Parse parse.UnknownFrame))) old mid t d a b c e g p = (
   (record { front = skip_on old mid d a b c g p.0 ∙ skip_none d c.ahead p.1; empty = rw (e, p.1) refl }, (skips old mid t d a b c e g p.0).0),
@@ -136,7 +136,7 @@ passed_polled (Ready (Err (IO x))) old mid t d a b c e g p = (
     leaves = left_due old mid t d a b c e p.1 p.2 g p.0;
     short = skip_on old mid d a b c g p.0 ∙ ap (λ (l : List ℕ). skip_front d l) p.3 ∙ skip_empty d p.1;
     none_ahead = p.3;
-    why = ap (λ (x : bytes-is.IoReadError). IO x) (p.4 ∙ ap (λ (k : SourceEnding). stop 1 k) g.asks.ending ∙ stop_some (old.due + length (old.taken ++ a.ahead)) a.ending (some_held old mid a b g));
+    why = ap (λ (x : bytes-is.IoReadError). IO x) (p.4 ∙ ap (λ (k : SourceEnding). stop 1 k) g.asks.ending ∙ stop_some (old.skip_remaining + length (old.taken ++ a.ahead)) a.ending (some_held old mid a b g));
   },
   asks_on a b c g.asks p.0.asks,
 )
@@ -144,7 +144,7 @@ passed_polled Pending old mid t d a b c e g p = ((left_due old mid t d a b c e p
 passed_polled Again old mid t d a b c e g p = (
   record {
     same = front_due t d c.ahead p.1 ∙ sym (skip_on old mid d a b c g p.0);
-    due = p.1;
+    skip_remaining = p.1;
     skips = (skips old mid t d a b c e g p.0).0;
     most = let size = (skips old mid t d a b c e g p.0).1 in let whole = p.2 in omega arith;
   },
@@ -153,12 +153,12 @@ passed_polled Again old mid t d a b c e g p = (
 passed_polled NoMemory old mid t d a b c e g p = absurd p
 
 passed_told : (s t u : Option Source) (r : Polled (Result Content IoReadError)) (old mid : Held) (l : List ℕ) (d : ℕ) → l ≡ []
-    → Telling s t (BeginsFrame old mid) → Telling t u (PassedOn r mid.due d) → Telling s u (FramePolled r old (hold l d))
-passed_told s t u r old mid l d e p q = telling_then s t u (BeginsFrame old mid) (PassedOn r mid.due d) (FramePolled r old (hold l d)) (λ a b c g k. (passed_polled r old mid l d a b c e g k).0) p q
+    → HasModel s t (BeginsFrame old mid) → HasModel t u (PassedOn r mid.skip_remaining d) → HasModel s u (FramePolled r old (hold l d))
+passed_told s t u r old mid l d e p q = telling_then s t u (BeginsFrame old mid) (PassedOn r mid.skip_remaining d) (FramePolled r old (hold l d)) (λ a b c g k. (passed_polled r old mid l d a b c e g k).0) p q
 
 passed_asks : (s t u : Option Source) (r : Polled (Result Content IoReadError)) (old mid : Held) (d : ℕ)
-    → Telling s t (BeginsFrame old mid) → Telling t u (PassedOn r mid.due d) → Telling s u (Asks max_calls)
-passed_asks s t u r old mid d p q = telling_then s t u (BeginsFrame old mid) (PassedOn r mid.due d) (Asks max_calls) (λ a b c g k. (passed_polled r old mid [] d a b c refl g k).1) p q
+    → HasModel s t (BeginsFrame old mid) → HasModel t u (PassedOn r mid.skip_remaining d) → HasModel s u (PollsAtMost max_calls)
+passed_asks s t u r old mid d p q = telling_then s t u (BeginsFrame old mid) (PassedOn r mid.skip_remaining d) (PollsAtMost max_calls) (λ a b c g k. (passed_polled r old mid [] d a b c refl g k).1) p q
 
 -- ---- every source, even without a model
 
@@ -176,33 +176,33 @@ unfolding bytes_at
 skip_all n xs e = rw (le-ltb (length xs) n (omega arith)) (ap (λ (l : List ℕ). Unknown l) (drop_all n xs (omega arith)))
 
 answered_unknown : (old mid : Held) (t : List ℕ) (d : ℕ) → t ≡ [] → d ≡ 0 → BeginsPlain old mid → Answered old (hold t d) Unknown
-answered_unknown old mid t d e z g = elim (cases_lt 0 old.due) [
+answered_unknown old mid t d e z g = elim (cases_lt 0 old.skip_remaining) [
   | inl l ↦ record {
-    given = zeros mid.due;
-    front = front_due old.taken old.due (zeros mid.due) l ∙ skip_all old.due (zeros mid.due) (length-zeros mid.due ∙ g.going l);
+    given = zeros mid.skip_remaining;
+    front = front_due old.taken old.skip_remaining (zeros mid.skip_remaining) l ∙ skip_all old.skip_remaining (zeros mid.skip_remaining) (length-zeros mid.skip_remaining ∙ g.going l);
     empty = rw (e, z) refl;
   }
   | inr l ↦
-      let z0 : old.due ≡ 0 = omega arith in
+      let z0 : old.skip_remaining ≡ 0 = omega arith in
       let (head, (given, is), says, whole) = g.begun z0 in
       record {
-        given = given ++ zeros mid.due;
-        front = front_none old.taken old.due (given ++ zeros mid.due) z0 ∙ ap front (sym (append_assoc old.taken given (zeros mid.due)) ∙ ap (λ (l : List ℕ). l ++ zeros mid.due) (sym is)) ∙ front_announcement head (zeros mid.due) whole ∙ rw says (skip_all mid.due (zeros mid.due) (length-zeros mid.due));
+        given = given ++ zeros mid.skip_remaining;
+        front = front_none old.taken old.skip_remaining (given ++ zeros mid.skip_remaining) z0 ∙ ap front (sym (append_assoc old.taken given (zeros mid.skip_remaining)) ∙ ap (λ (l : List ℕ). l ++ zeros mid.skip_remaining) (sym is)) ∙ front_announcement head (zeros mid.skip_remaining) whole ∙ rw says (skip_all mid.skip_remaining (zeros mid.skip_remaining) (length-zeros mid.skip_remaining));
         empty = rw (e, z) refl;
       }
 ]
 
-keeps_due : (old mid : Held) (t : List ℕ) (d : ℕ) → 0 < d → d ≤ mid.due → BeginsPlain old mid → KeepsHeld old (hold t d)
+keeps_due : (old mid : Held) (t : List ℕ) (d : ℕ) → 0 < d → d ≤ mid.skip_remaining → BeginsPlain old mid → KeepsHeld old (hold t d)
 keeps_due old mid t d some few g = record {
   kept = λ z. absurd (omega arith);
   begun = λ z _.
       let (head, (given, is), says, whole) = g.begun z in
-      let all : mid.due ≡ (mid.due - d) + d = omega arith in
-      (given, mid.due - d, subst (λ (s : List ℕ). IsUnknownHead ((mid.due - d) + d) s) is (subst (λ (n : ℕ). IsUnknownHead n head) all (announcement_skip head mid.due whole says)));
+      let all : mid.skip_remaining ≡ (mid.skip_remaining - d) + d = omega arith in
+      (given, mid.skip_remaining - d, subst (λ (s : List ℕ). IsUnknownHead ((mid.skip_remaining - d) + d) s) is (subst (λ (n : ℕ). IsUnknownHead n head) all (announcement_skip head mid.skip_remaining whole says)));
   going = λ l. let same = g.going l in (some, omega arith);
 }
 
-passed_given : (r : Polled (Result Content IoReadError)) (old mid : Held) (t : List ℕ) (d : ℕ) → t ≡ [] → BeginsPlain old mid → PassedPlain r mid.due d → FrameGiven r old (hold t d)
+passed_given : (r : Polled (Result Content IoReadError)) (old mid : Held) (t : List ℕ) (d : ℕ) → t ≡ [] → BeginsPlain old mid → PassedPlain r mid.skip_remaining d → FrameGiven r old (hold t d)
 passed_given (Ready (Ok f)) old mid t d e g p = absurd p
 passed_given (Ready (Err (Parse parse.UnknownFrame))) old mid t d e g p = answered_unknown old mid t d e p g
 passed_given (Ready (Err (Parse parse.InvalidSessionId))) old mid t d e g p = absurd p
@@ -227,7 +227,7 @@ skip_plain m p old d z w (given, is) = record {
 -- ---- all clauses of a poll
 
 -- a poll before which bytes were left to skip
-pub due_polls : (s t : Option Source) (r : Polled (Result Content IoReadError)) (p : Part) (d d' : ℕ) → 0 < d → IsReading p → p.head ≡ [] → PassedPlain r d d' → Telling s t (PassedOn r d d')
+pub due_polls : (s t : Option Source) (r : Polled (Result Content IoReadError)) (p : Part) (d d' : ℕ) → 0 < d → IsReading p → p.head ≡ [] → PassedPlain r d d' → HasModel s t (PassedOn r d d')
     → Polls r (hold (bytes_in p) d) (hold (bytes_in p) d') s t
 due_polls s t r p d d' l i none plain q =
     let e = none_taken p i none in
@@ -242,7 +242,7 @@ due_polls s t r p d d' l i none plain q =
 
 -- a poll that read the head of an unknown frame
 pub skip_polls : (s t u : Option Source) (r : Polled (Result Content IoReadError)) (old new : Part) (m d d' : ℕ) → d ≡ 0 → IsReading old → IsComplete (announces.Skip m) new → Grew (bytes_in old) (bytes_in new)
-    → Telling s t (λ a c. Gains (bytes_in old) (bytes_in new) a c 0) → PassedPlain r m d' → Telling t u (PassedOn r m d')
+    → HasModel s t (λ a c. Gains (bytes_in old) (bytes_in new) a c 0) → PassedPlain r m d' → HasModel t u (PassedOn r m d')
     → Polls r (hold (bytes_in old) d) (hold [] d') s u
 skip_polls s t u r old new m d d' z was w grew g plain q =
     let begins = skip_begins s t m new (bytes_in old) d z w g in

@@ -4,10 +4,10 @@ use Rattle.std.proofs.lemmas.Bool.{cases_lt, lt-ltb, ne_eqb}
 use Rattle.wtp_core.specs.declared.bytes.polled.Polled.{Polled}
 use Rattle.wtp_core.specs.declared.bytes.polled.Polled.TheVariants.{Ready, NoMemory}
 use Rattle.wtp_core.specs.declared.bytes.polled.IoReadError as bytes-is
-use Rattle.wtp_core.specs.declared.polling.fill.Halt.{Halt}
-use Rattle.wtp_core.specs.declared.polling.fill.Halt.TheVariants as halt
-use Rattle.wtp_core.specs.Source.{Source, AtEnd, AtReset, AtDisconnection, Telling}
-use Rattle.wtp_core.specs.Polled.{stop, Asks, WaitsAs}
+use Rattle.wtp_core.specs.declared.polling.fill.Interrupted.{Interrupted}
+use Rattle.wtp_core.specs.declared.polling.fill.Interrupted.TheVariants as halt
+use Rattle.wtp_core.specs.Source.{Source, AtEnd, AtReset, AtDisconnection, HasModel}
+use Rattle.wtp_core.specs.Polled.{stop, PollsAtMost, WaitsAs}
 use Rattle.wtp_core.specs.Fill.{Gains, HaltIsTrue, HaltsAs, halt_fault, halted_poll, halt_waits}
 use Rattle.wtp_core.specs.Varint.{bytes_at}
 use Rattle.wtp_core.proofs.EncodingLemmas.{bytes_at-append}
@@ -24,7 +24,7 @@ use Rattle.wtp_wire.specs.Content.{Content, WebTransportOf, content}
 use Rattle.wtp_wire.specs.Front.{Front, Framed, BadId, TooBig, Short, front_after, front}
 use Rattle.wtp_wire.specs.FrameHead.{announcement_at}
 use Rattle.wtp_wire.specs.FrameNeed.{frame_need, frame_need_most, frame_need_some}
-use Rattle.wtp_wire.specs.FramePart.{Part, new_part, bytes_in, IsReading}
+use Rattle.wtp_wire.specs.PartialFrame.{Part, new_part, bytes_in, IsReading}
 use Rattle.wtp_wire.specs.Limits.{max_payload, max_calls}
 use Rattle.wtp_wire.specs.Held.{Held, skip_front, front_held, IsUnfinished, IsPayloadHead, Leaves}
 use Rattle.wtp_wire.specs.FramePolling.{FramePolled, FrameGiven, Decided, Stopped, KeepsHeld, Answered}
@@ -33,7 +33,7 @@ use Rattle.wtp_wire.proofs.FrameHeadLemmas.{front_announcement, front_part, payl
 use Rattle.wtp_wire.proofs.FrameReadingLemmas.{no_items}
 
 abbrev pub hold : List ℕ → ℕ → Held
-hold t d = record { taken = t; due = d }
+hold t d = record { taken = t; skip_remaining = d }
 
 pub front_none : (t : List ℕ) (d : ℕ) (xs : List ℕ) → d ≡ 0 → front_held (hold t d) xs ≡ front (t ++ xs)
 unfolding front_held
@@ -99,15 +99,15 @@ pub record Polls (r : Polled (Result Content IoReadError)) (old new : Held) (s t
   pub was_unfinished : IsUnfinished old
   pub unfinished : IsUnfinished new
   pub given : FrameGiven r old new
-  pub polled : Telling s t (FramePolled r old new)
-  pub asks : Telling s t (Asks max_calls)
+  pub polled : HasModel s t (FramePolled r old new)
+  pub asks : HasModel s t (PollsAtMost max_calls)
 
 pub polls_as : (s t : Option Source) (r : Polled (Result Content IoReadError)) (o o' n n' : Held) → o ≡ o' → n ≡ n' → Polls r o n s t → Polls r o' n' s t
 polls_as s t r o o' n n' e i p = rw (← e, ← i) p
 
 -- the source before is the same
-pub told_from : (s s' t : Option Source) (P : Source → Source → Type 0) → s ≡ s' → Telling s t P → Telling s' t P
-told_from s s' t P e p = subst (λ (x : Option Source). Telling x t P) e p
+pub told_from : (s s' t : Option Source) (P : Source → Source → Type 0) → s ≡ s' → HasModel s t P → HasModel s' t P
+told_from s s' t P e p = subst (λ (x : Option Source). HasModel x t P) e p
 
 pub none_of : {A : Type 0} (o : Option A) → ((x : A) → o ≡ Some x → ⊥) → o ≡ None
 none_of None not = refl
@@ -181,7 +181,7 @@ can_answer (announces.Skip n) p w not = not n refl
 can_answer announces.BadSession p w not = tt
 can_answer announces.TooLong p w not = tt
 
-asks_announcement : (s : Announcement) (p : Part) (old : List ℕ) (a c : Source) → IsComplete s p → Gains old (bytes_in p) a c 0 → Asks max_calls a c
+asks_announcement : (s : Announcement) (p : Part) (old : List ℕ) (a c : Source) → IsComplete s p → Gains old (bytes_in p) a c 0 → PollsAtMost max_calls a c
 asks_announcement s p old a c w g = record {
   asked = let one = g.asked in let two = w.whole in omega (arith, few_announcement s p w, frame_need_most p.head, length-append p.head p.payload);
   no_less = g.no_less;
@@ -190,14 +190,14 @@ asks_announcement s p old a c w g = record {
 }
 
 pub answer_polls : (s t : Option Source) (x : Announcement) (r : Result Content IoReadError) (old new : Part) (d : ℕ) → d ≡ 0 → IsReading old → IsAnswer x new.payload r → IsComplete x new → Grew (bytes_in old) (bytes_in new)
-    → Telling s t (λ a c. Gains (bytes_in old) (bytes_in new) a c 0)
+    → HasModel s t (λ a c. Gains (bytes_in old) (bytes_in new) a c 0)
     → Polls (Ready r) (hold (bytes_in old) d) (hold [] d) s t
 answer_polls s t x r old new d z was i w grew p = record {
   was_unfinished = reading_unfinished old d z was;
   unfinished = due_unfinished [] d refl;
   given = answer_given x r new (bytes_in old) d d z z i w grew;
   polled = telling_map s t _ (FramePolled (Ready r) (hold (bytes_in old) d) (hold [] d)) (λ a c g. answer_polled x r new (bytes_in old) d d a c z z i w g) p;
-  asks = telling_map s t _ (Asks max_calls) (λ a c g. asks_announcement x new (bytes_in old) a c w g) p;
+  asks = telling_map s t _ (PollsAtMost max_calls) (λ a c g. asks_announcement x new (bytes_in old) a c w g) p;
 }
 
 -- ---- stops
@@ -212,7 +212,7 @@ left_all old new d a c e z g = record {
   skips = λ l. absurd (omega arith);
 }
 
-asks_left : (p : Part) (old : List ℕ) (e : ℕ) (a c : Source) → e ≤ 1 → IsReading p → Gains old (bytes_in p) a c e → Asks max_calls a c
+asks_left : (p : Part) (old : List ℕ) (e : ℕ) (a c : Source) → e ≤ 1 → IsReading p → Gains old (bytes_in p) a c e → PollsAtMost max_calls a c
 asks_left p old e a c small r g =
     let part = r.part in
     let size : length (bytes_in p) + 1 ≤ max_calls = elim (cases_lt (length p.head) (frame_need p.head)) [
@@ -222,10 +222,10 @@ asks_left p old e a c small r g =
     record { asked = let one = g.asked in omega arith; no_less = g.no_less; ending = g.ending; waits = g.waits }
 
 -- the result of a poll whose reading stopped after n bytes
-abbrev pub halted_at : Halt → ℕ → Polled (Result Content IoReadError)
+abbrev pub halted_at : Interrupted → ℕ → Polled (Result Content IoReadError)
 halted_at x n = halted_poll (λ (f : bytes-is.IoReadError). IO f) (halt_fault x n)
 
-halted_given : (x : Halt) (n : ℕ) (old new : List ℕ) (d : ℕ) → d ≡ 0 → Grew old new → FrameGiven (halted_at x n) (hold old d) (hold new d)
+halted_given : (x : Interrupted) (n : ℕ) (old new : List ℕ) (d : ℕ) → d ≡ 0 → Grew old new → FrameGiven (halted_at x n) (hold old d) (hold new d)
 halted_given halt.NotReady n old new d z g = keeps_all old new d z g
 halted_given halt.Fin n old new d z g = keeps_all old new d z g
 halted_given halt.Reset n old new d z g = keeps_all old new d z g
@@ -243,14 +243,14 @@ stopped_short old new d a c f z short g none is =
       why = ap (λ (x : bytes-is.IoReadError). IO x) (is ∙ ap (λ (k : ℕ). stop k a.ending) n);
     }
 
-halted_polled : (x : Halt) (old new : List ℕ) (d : ℕ) (a c : Source) → d ≡ 0 → front new ≡ Short → Gains old new a c 1 → HaltIsTrue x a c → FramePolled (halted_at x (length new)) (hold old d) (hold new d) a c
+halted_polled : (x : Interrupted) (old new : List ℕ) (d : ℕ) (a c : Source) → d ≡ 0 → front new ≡ Short → Gains old new a c 1 → HaltIsTrue x a c → FramePolled (halted_at x (length new)) (hold old d) (hold new d) a c
 halted_polled halt.NotReady old new d a c z short g t = (left_all old new d a c 1 z g, t)
 halted_polled halt.Fin old new d a c z short g t = stopped_short old new d a c (stop (length new) AtEnd) z short g t.0 (rw t.1 refl)
 halted_polled halt.Reset old new d a c z short g t = stopped_short old new d a c (stop (length new) AtReset) z short g t.0 (rw t.1 refl)
 halted_polled halt.NotConnected old new d a c z short g t = stopped_short old new d a c (stop (length new) AtDisconnection) z short g t.0 (rw t.1 refl)
 
-pub halted_polls : (s t : Option Source) (x : Halt) (n : ℕ) (r : Polled (Result Content IoReadError)) (old new : Part) (d : ℕ) → d ≡ 0 → n ≡ length (bytes_in new) → HaltsAs (λ f e. e ≡ IO f) (halt_fault x n) r → IsReading old → IsReading new → Grew (bytes_in old) (bytes_in new)
-    → Telling s t (λ a c. Gains (bytes_in old) (bytes_in new) a c 1 × HaltIsTrue x a c)
+pub halted_polls : (s t : Option Source) (x : Interrupted) (n : ℕ) (r : Polled (Result Content IoReadError)) (old new : Part) (d : ℕ) → d ≡ 0 → n ≡ length (bytes_in new) → HaltsAs (λ f e. e ≡ IO f) (halt_fault x n) r → IsReading old → IsReading new → Grew (bytes_in old) (bytes_in new)
+    → HasModel s t (λ a c. Gains (bytes_in old) (bytes_in new) a c 1 × HaltIsTrue x a c)
     → Polls r (hold (bytes_in old) d) (hold (bytes_in new) d) s t
 halted_polls s t x n r old new d z is h was now grew p =
     let same : r ≡ halted_at x (length (bytes_in new)) = halted_as (λ (f : bytes-is.IoReadError). IO f) (halt_fault x n) r h ∙ ap (λ (k : ℕ). halted_at x k) is in
@@ -259,7 +259,7 @@ halted_polls s t x n r old new d z is h was now grew p =
       unfinished = reading_unfinished new d z now;
       given = rw same (halted_given x (length (bytes_in new)) (bytes_in old) (bytes_in new) d z grew);
       polled = rw same (telling_map s t _ (FramePolled (halted_at x (length (bytes_in new))) (hold (bytes_in old) d) (hold (bytes_in new) d)) (λ a c q. halted_polled x (bytes_in old) (bytes_in new) d a c z (reading_short new now) q.0 q.1) p);
-      asks = telling_map s t _ (Asks max_calls) (λ a c q. asks_left new (bytes_in old) 1 a c (omega arith) now q.0) p;
+      asks = telling_map s t _ (PollsAtMost max_calls) (λ a c q. asks_left new (bytes_in old) 1 a c (omega arith) now q.0) p;
     }
 
 no_memory_polled : (old new : Part) (d : ℕ) (a c : Source) → d ≡ 0 → WantsRoom old new → Gains (bytes_in old) (bytes_in new) a c 0 → FramePolled NoMemory (hold (bytes_in old) d) (hold (bytes_in new) d) a c
@@ -294,17 +294,17 @@ no_memory_given old new d z w g =
     )
 
 pub no_memory_polls : (s t : Option Source) (old new : Part) (d : ℕ) → d ≡ 0 → IsReading old → IsReading new → WantsRoom old new → Grew (bytes_in old) (bytes_in new)
-    → Telling s t (λ a c. Gains (bytes_in old) (bytes_in new) a c 0)
+    → HasModel s t (λ a c. Gains (bytes_in old) (bytes_in new) a c 0)
     → Polls NoMemory (hold (bytes_in old) d) (hold (bytes_in new) d) s t
 no_memory_polls s t old new d z was now w grew p = record {
   was_unfinished = reading_unfinished old d z was;
   unfinished = reading_unfinished new d z now;
   given = no_memory_given old new d z w grew;
   polled = telling_map s t _ (FramePolled NoMemory (hold (bytes_in old) d) (hold (bytes_in new) d)) (λ a c q. no_memory_polled old new d a c z w q) p;
-  asks = telling_map s t _ (Asks max_calls) (λ a c q. asks_left new (bytes_in old) 0 a c (omega arith) now q) p;
+  asks = telling_map s t _ (PollsAtMost max_calls) (λ a c q. asks_left new (bytes_in old) 0 a c (omega arith) now q) p;
 }
 
 -- the waits of a poll that stopped with its source
-pub frame_halted_waits : (x : Halt) (n : ℕ) (s t : Option Source) (r : Polled (Result Content IoReadError)) → HaltsAs (λ f e. e ≡ IO f) (halt_fault x n) r → Telling s t (λ a b. b.waits ≡ a.waits + halt_waits {U = Unit {0}} (Err x)) → Telling s t (WaitsAs r)
+pub frame_halted_waits : (x : Interrupted) (n : ℕ) (s t : Option Source) (r : Polled (Result Content IoReadError)) → HaltsAs (λ f e. e ≡ IO f) (halt_fault x n) r → HasModel s t (λ a b. b.waits ≡ a.waits + halt_waits {U = Unit {0}} (Err x)) → HasModel s t (WaitsAs r)
 frame_halted_waits x n s t r h p =
     rw (halted_as (λ (f : bytes-is.IoReadError). IO f) (halt_fault x n) r h) (halted_waits Content IoReadError (Unit {0}) (λ f. IO f) x n s t p)

@@ -1,21 +1,21 @@
 -- The bytes held of a frame, poll by poll.
 use Rattle.std.proofs.Common.{◌≡◌, ℕ, ◌≤◌, ◌⊎◌, ◌<◌, List, [], ◌∷◌, ◌++◌, length, take, Option, refl, sym, ap, subst, ◌∙◌, arith, append_assoc, append-nil, length-append, length-take, inl, inr}
 use Rattle.std.proofs.lemmas.List.{append_cancel_left, take-take, take-append-le}
-use Rattle.wtp_core.specs.Source.{Source, Telling}
+use Rattle.wtp_core.specs.Source.{Source, HasModel}
 use Rattle.wtp_core.proofs.TellingLemmas.{telling_then}
-use Rattle.wtp_core.specs.declared.polling.fill.Halt.{Halt}
+use Rattle.wtp_core.specs.declared.polling.fill.Interrupted.{Interrupted}
 use Rattle.wtp_core.specs.Fill.{Gains, FillKeepsLengths}
 use Rattle.std.proofs.Common.{Result, Ok, Err}
 use Rattle.std.proofs.lemmas.Bool.{cases_lt}
 use Rattle.wtp_wire.specs.FrameNeed.{frame_need}
 use Rattle.wtp_wire.specs.FrameHead.{announcement_at}
-use Rattle.wtp_wire.specs.FramePart.{Part, bytes_in, IsReading}
+use Rattle.wtp_wire.specs.PartialFrame.{Part, bytes_in, IsReading}
 use Rattle.wtp_wire.specs.FrameSteps.{IsComplete, StopMoves, PayloadKeeps, AdvanceKeeps, Grew, payload_size}
 use Rattle.wtp_wire.specs.declared.frame.kind.FrameKind.{FrameKind}
 use Rattle.wtp_wire.specs.declared.frame.head.Announcement.{Announcement}
 use Rattle.wtp_wire.specs.declared.frame.head.Announcement.TheVariants as announces
-use Rattle.wtp_wire.specs.declared.frame.reading.part.Stop.{Stop}
-use Rattle.wtp_wire.specs.declared.frame.reading.part.Stop.TheVariants as stopped
+use Rattle.wtp_wire.specs.declared.frame.reading.part.ReadInterrupted.{ReadInterrupted}
+use Rattle.wtp_wire.specs.declared.frame.reading.part.ReadInterrupted.TheVariants as stopped
 use Rattle.wtp_core.proofs.FillLemmas.{gains_then, halt_then, begins}
 
 pub gains_front : (h p p' : List ℕ) (a b : Source) (e : ℕ) → Gains p p' a b e → Gains (h ++ p) (h ++ p') a b e
@@ -59,7 +59,7 @@ which p h r stays = elim (cases_lt (length p.head) (frame_need p.head)) [
 pub read_on : (hd hd' p p' : List ℕ) (a b c : Source) (e : ℕ) → ((p ≡ []) ⊎ (hd' ≡ hd)) → Gains hd hd' a b 0 → Gains p p' b c e → Gains (hd ++ p) (hd' ++ p') a c e
 read_on hd hd' p p' a b c e w g q = gains_then (hd ++ p) (hd' ++ p) (hd' ++ p) (hd' ++ p') (hd' ++ p') a b c e (gains_after hd hd' p a b 0 w g) (gains_front hd' p p' b c e q) refl refl
 
-pub halted_on : (U V : Type 0) (x : Stop) (hd hd' p p' : List ℕ) (a b c : Source) → ((p ≡ []) ⊎ (hd' ≡ hd)) → Gains hd hd' a b 0 → StopMoves {U = U} (Err x) p p' b c → StopMoves {U = V} (Err x) (hd ++ p) (hd' ++ p') a c
+pub halted_on : (U V : Type 0) (x : ReadInterrupted) (hd hd' p p' : List ℕ) (a b c : Source) → ((p ≡ []) ⊎ (hd' ≡ hd)) → Gains hd hd' a b 0 → StopMoves {U = U} (Err x) p p' b c → StopMoves {U = V} (Err x) (hd ++ p) (hd' ++ p') a c
 halted_on U V (stopped.Source h) hd hd' p p' a b c w g q = (read_on hd hd' p p' a b c 1 w g q.0, halt_then h a b c g.ending g.waits q.1)
 halted_on U V stopped.NoMemory hd hd' p p' a b c w g q = read_on hd hd' p p' a b c 0 w g q
 
@@ -76,7 +76,7 @@ grew_none old = ([], sym (append-nil old))
 pub grew_take : (m n : ℕ) (xs ys : List ℕ) → m ≤ n → take m ys ≡ take m xs → Grew (take m xs) (take n ys)
 grew_take m n xs ys l e = begins m (take m xs) (take n ys) (take-take m n ys l ∙ e)
 
-pub fill_within : {U : Type 0} (r : Result U Halt) (at room : ℕ) → FillKeepsLengths r at room → at ≤ room
+pub fill_within : {U : Type 0} (r : Result U Interrupted) (at room : ℕ) → FillKeepsLengths r at room → at ≤ room
 fill_within (Ok u) at room e = omega arith
 fill_within (Err x) at room l = omega arith
 
@@ -103,14 +103,14 @@ pub part_grew : (old new : Part) (h p : List ℕ) → IsReading old → HeadGoes
 part_grew old new h p r g e i q = rw i (grew_on old.head h old.payload new.payload (which old h r g.stays) g.grew (subst (λ (l : List ℕ). Grew l new.payload) e q))
 
 pub part_moves : (s t u : Option Source) (old new : Part) (h hd p : List ℕ) → IsReading old → HeadGoesOn old h → hd ≡ old.head → p ≡ old.payload → new.head ≡ h
-    → Telling s t (λ a b. Gains hd h a b 0) → Telling t u (λ a b. Gains p new.payload a b 0)
-    → Telling s u (λ a b. Gains (bytes_in old) (bytes_in new) a b 0)
+    → HasModel s t (λ a b. Gains hd h a b 0) → HasModel t u (λ a b. Gains p new.payload a b 0)
+    → HasModel s u (λ a b. Gains (bytes_in old) (bytes_in new) a b 0)
 part_moves s t u old new h hd p r g e e' i m q = telling_then s t u _ _ (λ a b. Gains (bytes_in old) (bytes_in new) a b 0)
     (λ x y z k j. rw i (read_on old.head h old.payload new.payload x y z 0 (which old h r g.stays) (subst (λ (l : List ℕ). Gains l h x y 0) e k) (subst (λ (l : List ℕ). Gains l new.payload y z 0) e' j))) m q
 
-pub part_halts : (U V : Type 0) (x : Stop) (s t u : Option Source) (old new : Part) (h hd p : List ℕ) → IsReading old → HeadGoesOn old h → hd ≡ old.head → p ≡ old.payload → new.head ≡ h
-    → Telling s t (λ a b. Gains hd h a b 0) → Telling t u (λ a b. StopMoves {U = U} (Err x) p new.payload a b)
-    → Telling s u (λ a b. StopMoves {U = V} (Err x) (bytes_in old) (bytes_in new) a b)
+pub part_halts : (U V : Type 0) (x : ReadInterrupted) (s t u : Option Source) (old new : Part) (h hd p : List ℕ) → IsReading old → HeadGoesOn old h → hd ≡ old.head → p ≡ old.payload → new.head ≡ h
+    → HasModel s t (λ a b. Gains hd h a b 0) → HasModel t u (λ a b. StopMoves {U = U} (Err x) p new.payload a b)
+    → HasModel s u (λ a b. StopMoves {U = V} (Err x) (bytes_in old) (bytes_in new) a b)
 part_halts U V x s t u old new h hd p r g e e' i m q = telling_then s t u _ _ (λ a b. StopMoves {U = V} (Err x) (bytes_in old) (bytes_in new) a b)
     (λ a b c k j. rw i (halted_on U V x old.head h old.payload new.payload a b c (which old h r g.stays) (subst (λ (l : List ℕ). Gains l h a b 0) e k) (subst (λ (l : List ℕ). StopMoves {U = U} (Err x) l new.payload b c) e' j))) m q
 
@@ -128,7 +128,7 @@ room_announcement p h s r g says = elim (cases_lt (length p.head) (frame_need p.
 ]
 
 -- the payload was read in part, or was not allocated
-pub stopped_keeps : (U : Type 0) (x : Stop) (old mid new : Part) (k : FrameKind) (m : ℕ) → IsReading old → HeadGoesOn old mid.head → mid.room ≡ old.room → frame_need mid.head ≡ length mid.head → announcement_at mid.head ≡ announces.Payload k m
+pub stopped_keeps : (U : Type 0) (x : ReadInterrupted) (old mid new : Part) (k : FrameKind) (m : ℕ) → IsReading old → HeadGoesOn old mid.head → mid.room ≡ old.room → frame_need mid.head ≡ length mid.head → announcement_at mid.head ≡ announces.Payload k m
     → new.head ≡ mid.head → PayloadKeeps {U = U} (Err x) m mid new → AdvanceKeeps (Err x) old new
 stopped_keeps U (stopped.Source y) old mid new k m r g e w says i q = record {
   within = omega (arith, ap length i, ap frame_need i);

@@ -2,7 +2,7 @@
 use Rattle.std.proofs.Common.{◌≡◌, ◌≢◌, ℕ, ◌-◌, ◌<◌, ◌≤◌, ◌↔◌, List, length, drop, Option, Some, None, refl, sym, ap, ◌∙◌, arith, inl, inr, length-drop}
 use Rattle.std.proofs.lemmas.Bool.{cases_lt}
 use Rattle.wtp_core.specs.Varint.{number_at}
-use Rattle.wtp_core.specs.VarintNeed.{varint_need}
+use Rattle.wtp_core.specs.VarintLenNeeded.{varint_len_needed}
 use Rattle.wtp_core.proofs.NeedLemmas.{number_at-cut, number_at-full}
 use Rattle.wtp_wire.specs.declared.capsule.reading.CapsuleHead.TheVariants as head-is
 use Rattle.wtp_wire.specs.Capsule.{capsule_kind_of}
@@ -92,21 +92,21 @@ pub ruleset capsule_steps = (says-pair, says-no_pair)
 -- ---- how many bytes are missing
 
 pub pair_at-part : (h : List ℕ) → length h < frame_need h → pair_at h ≡ None
-pair_at-part h l = elim (cases_lt (length h) (varint_need h)) [
+pair_at-part h l = elim (cases_lt (length h) (varint_len_needed h)) [
   | inl part ↦ pair_at-no_number h (number_at-cut h part)
   | inr full ↦
-      let r = drop (varint_need h) h in
+      let r = drop (varint_len_needed h) h in
       let one = number_at-full h full in
-      pair_at-no_value h r one.0 one.1 (number_at-cut r (omega (arith, frame_need_is h, length-drop (varint_need h) h)))
+      pair_at-no_value h r one.0 one.1 (number_at-cut r (omega (arith, frame_need_is h, length-drop (varint_len_needed h) h)))
 ]
 
 pub pair_at-full : (h : List ℕ) → frame_need h ≤ length h → pair_at h ≡ None → ⊥
 pair_at-full h l none =
-    let full : varint_need h ≤ length h = omega (arith, frame_need_least h) in
-    let r = drop (varint_need h) h in
+    let full : varint_len_needed h ≤ length h = omega (arith, frame_need_least h) in
+    let r = drop (varint_len_needed h) h in
     let one = number_at-full h full in
-    let two = number_at-full r (omega (arith, frame_need_is h, length-drop (varint_need h) h)) in
-    not_none ((one.0, two.0), drop (varint_need r) r) (pair_at h) none (pair_at-some h r (drop (varint_need r) r) one.0 two.0 one.1 two.1)
+    let two = number_at-full r (omega (arith, frame_need_is h, length-drop (varint_len_needed h) h)) in
+    not_none ((one.0, two.0), drop (varint_len_needed r) r) (pair_at h) none (pair_at-some h r (drop (varint_len_needed r) r) one.0 two.0 one.1 two.1)
 
 pub complete_pair : (h : List ℕ) (n : ℕ) → n ≡ frame_need h - length h → (n ≡ 0) ↔ (pair_at h ≢ None)
 complete_pair h n e = (

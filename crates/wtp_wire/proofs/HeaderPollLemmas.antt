@@ -2,12 +2,12 @@
 use Rattle.std.proofs.Common.{◌≡◌, ◌≢◌, ℕ, ◌+◌, ◌%◌, ◌==◌, ◌<◌, List, [], ◌∷◌, length, take, drop, Option, Some, None, Result, Ok, Err, refl, sym, ap, ◌∙◌, arith, inl, inr, length-drop}
 use Rattle.std.proofs.lemmas.Bool.{cases_lt, cases_Bool}
 use Rattle.wtp_core.specs.declared.bytes.polled.Polled.TheVariants.{Ready}
-use Rattle.wtp_core.specs.declared.polling.fill.Halt.{Halt}
-use Rattle.wtp_core.specs.declared.polling.fill.Halt.TheVariants as halt
+use Rattle.wtp_core.specs.declared.polling.fill.Interrupted.{Interrupted}
+use Rattle.wtp_core.specs.declared.polling.fill.Interrupted.TheVariants as halt
 use Rattle.wtp_core.specs.Varint.{number_at}
-use Rattle.wtp_core.specs.VarintNeed.{varint_need}
-use Rattle.wtp_core.specs.Source.{Source, Telling}
-use Rattle.wtp_core.specs.Polled.{Asks}
+use Rattle.wtp_core.specs.VarintLenNeeded.{varint_len_needed}
+use Rattle.wtp_core.specs.Source.{Source, HasModel}
+use Rattle.wtp_core.specs.Polled.{PollsAtMost}
 use Rattle.wtp_core.specs.Fill.{Gains, HaltIsTrue, HaltsAs, halt_fault, halted_poll}
 use Rattle.wtp_core.specs.declared.bytes.polled.Polled.{Polled}
 use Rattle.wtp_core.specs.declared.bytes.polled.IoReadError as bytes-is
@@ -36,10 +36,10 @@ header_none : (h : List ℕ) → number_at h ≡ None → header_front h ≡ Sho
 unfolding header_front
 header_none h e = rw e refl
 
-need_known : (h r : List ℕ) (id : ℕ) → number_at h ≡ Some (id, r) → header_need h ≡ varint_need h + second_need (stream_kind_of id) r
+need_known : (h r : List ℕ) (id : ℕ) → number_at h ≡ Some (id, r) → header_need h ≡ varint_len_needed h + second_need (stream_kind_of id) r
 need_known h r id e = header_need_is h ∙ rw e refl
 
-need_none : (h : List ℕ) → number_at h ≡ None → header_need h ≡ varint_need h
+need_none : (h : List ℕ) → number_at h ≡ None → header_need h ≡ varint_len_needed h
 need_none h e = omega (arith, header_need_is h, ap need_after e)
 
 -- fewer bytes than are needed are too few
@@ -52,12 +52,12 @@ typed_cut (Some kind) r l = elim (cases_Bool (has_session kind)) [
 ]
 
 pub header_cut : (h : List ℕ) → length h < header_need h → header_front h ≡ Short
-header_cut h f = elim (cases_lt (length h) (varint_need h)) [
+header_cut h f = elim (cases_lt (length h) (varint_len_needed h)) [
   | inl l ↦ header_none h (number_at-cut h l)
   | inr l ↦
       let (id, is) = number_at-full h l in
-      let r = drop (varint_need h) h in
-      header_typed h r id is ∙ typed_cut (stream_kind_of id) r (omega (arith, need_known h r id is, length-drop (varint_need h) h))
+      let r = drop (varint_len_needed h) h in
+      header_typed h r id is ∙ typed_cut (stream_kind_of id) r (omega (arith, need_known h r id is, length-drop (varint_len_needed h) h))
 ]
 
 -- a case with no bytes after it
@@ -67,7 +67,7 @@ LeavesNothing (Unknown rest) = rest ≡ []
 LeavesNothing (BadId rest) = rest ≡ []
 LeavesNothing Short = ⊥
 
-session_whole : (r : List ℕ) → varint_need r ≡ length r → LeavesNothing (session_header_front r)
+session_whole : (r : List ℕ) → varint_len_needed r ≡ length r → LeavesNothing (session_header_front r)
 unfolding session_header_front
 session_whole r w =
     let (id, is) = number_at-whole r w in
@@ -86,12 +86,12 @@ typed_whole (Some kind) r w = elim (cases_Bool (has_session kind)) [
 
 -- a complete header is a case with no bytes after it
 pub header_whole : (h : List ℕ) → header_need h ≡ length h → LeavesNothing (header_front h)
-header_whole h w = elim (cases_lt (length h) (varint_need h)) [
+header_whole h w = elim (cases_lt (length h) (varint_len_needed h)) [
   | inl l ↦ absurd (omega (arith, need_none h (number_at-cut h l)))
   | inr l ↦
       let (id, is) = number_at-full h l in
-      let r = drop (varint_need h) h in
-      rw (header_typed h r id is) (typed_whole (stream_kind_of id) r (omega (arith, need_known h r id is, length-drop (varint_need h) h)))
+      let r = drop (varint_len_needed h) h in
+      rw (header_typed h r id is) (typed_whole (stream_kind_of id) r (omega (arith, need_known h r id is, length-drop (varint_len_needed h) h)))
 ]
 
 pub whole_headed : (h rest : List ℕ) (x : Header) → header_need h ≡ length h → header_front h ≡ Headed x rest → header_front h ≡ Headed x []
@@ -128,7 +128,7 @@ whole_polled (Err (Parse parse.UnknownStream)) old h a b w g = decided old h a b
 whole_polled (Err (Parse parse.InvalidSessionId)) old h a b w g = decided old h a b BadId w (λ e. cc) refl g
 whole_polled (Err (IO e)) old h a b w g = absurd w
 
-pub whole_told : (s t : Option Source) (r : Result Header IoReadError) (old h : List ℕ) → IsWhole r h → Telling s t (λ a b. Gains old h a b 0) → Telling s t (HeaderPolled (Ready r) old [])
+pub whole_told : (s t : Option Source) (r : Result Header IoReadError) (old h : List ℕ) → IsWhole r h → HasModel s t (λ a b. Gains old h a b 0) → HasModel s t (HeaderPolled (Ready r) old [])
 whole_told s t r old h w p = telling_map s t _ (HeaderPolled (Ready r) old []) (λ a b g. whole_polled r old h a b w g) p
 
 answered : (m : ℕ) (old h : List ℕ) (case : List ℕ → HeaderFront) → take m h ≡ old → header_front h ≡ case [] → HeaderAnswered old [] case
@@ -141,26 +141,26 @@ whole_given (Err (Parse parse.InvalidSessionId)) m old h front w = answered m ol
 whole_given (Err (IO e)) m old h front w = absurd w
 
 -- the result of a poll that stopped after n bytes
-abbrev pub halted_at : {T : Type 0} → Halt → ℕ → Polled (Result T IoReadError)
+abbrev pub halted_at : {T : Type 0} → Interrupted → ℕ → Polled (Result T IoReadError)
 halted_at x n = halted_poll (λ (f : bytes-is.IoReadError). IO f) (halt_fault x n)
 
-pub halted_header : {T : Type 0} (x : Halt) (n : ℕ) (r : Polled (Result T IoReadError)) → HaltsAs (λ f e. e ≡ IO f) (halt_fault x n) r → r ≡ halted_at x n
+pub halted_header : {T : Type 0} (x : Interrupted) (n : ℕ) (r : Polled (Result T IoReadError)) → HaltsAs (λ f e. e ≡ IO f) (halt_fault x n) r → r ≡ halted_at x n
 halted_header x n r h = halted_as (λ (f : bytes-is.IoReadError). IO f) (halt_fault x n) r h
 
-halted_polled : (x : Halt) (old new : List ℕ) (a b : Source) → length new < header_need new → Gains old new a b 1 → HaltIsTrue x a b → HeaderPolled (halted_at x (length new)) old new a b
+halted_polled : (x : Interrupted) (old new : List ℕ) (a b : Source) → length new < header_need new → Gains old new a b 1 → HaltIsTrue x a b → HeaderPolled (halted_at x (length new)) old new a b
 halted_polled halt.NotReady old new a b cut g t = record { waited = t; kept = sym g.kept }
 halted_polled halt.Fin old new a b cut g t = let e = dry old new a b 1 g t.0 in (rw (← e) (header_cut new cut), record { none_ahead = t.0; held = e; why = rw t.1 refl })
 halted_polled halt.Reset old new a b cut g t = let e = dry old new a b 1 g t.0 in (rw (← e) (header_cut new cut), record { none_ahead = t.0; held = e; why = rw t.1 refl })
 halted_polled halt.NotConnected old new a b cut g t = let e = dry old new a b 1 g t.0 in (rw (← e) (header_cut new cut), record { none_ahead = t.0; held = e; why = rw t.1 refl })
 
-pub halted_told : (s t : Option Source) (x : Halt) (n : ℕ) (old new : List ℕ) → n ≡ length new → length new < header_need new → Telling s t (λ a b. Gains old new a b 1 × HaltIsTrue x a b) → Telling s t (HeaderPolled (halted_at x n) old new)
+pub halted_told : (s t : Option Source) (x : Interrupted) (n : ℕ) (old new : List ℕ) → n ≡ length new → length new < header_need new → HasModel s t (λ a b. Gains old new a b 1 × HaltIsTrue x a b) → HasModel s t (HeaderPolled (halted_at x n) old new)
 halted_told s t x n old new is cut p = telling_map s t _ (HeaderPolled (halted_at x n) old new) (λ a b q. rw is (halted_polled x old new a b cut q.0 q.1)) p
 
-pub halted_given : (x : Halt) (n m : ℕ) (old new : List ℕ) → take m new ≡ old → HeaderGiven (halted_at x n) old new
+pub halted_given : (x : Interrupted) (n m : ℕ) (old new : List ℕ) → take m new ≡ old → HeaderGiven (halted_at x n) old new
 halted_given halt.NotReady n m old new e = begins m old new e
 halted_given halt.Fin n m old new e = begins m old new e
 halted_given halt.Reset n m old new e = begins m old new e
 halted_given halt.NotConnected n m old new e = begins m old new e
 
-pub asks_halted : (s t : Option Source) (x : Halt) (old new : List ℕ) → length new < header_need new → Telling s t (λ a b. Gains old new a b 1 × HaltIsTrue x a b) → Telling s t (Asks 16)
-asks_halted s t x old new cut p = telling_map s t _ (Asks 16) (λ a b q. let g = q.0 in record { asked = let one = g.asked in omega (arith, header_need_most new); no_less = g.no_less; ending = g.ending; waits = g.waits }) p
+pub asks_halted : (s t : Option Source) (x : Interrupted) (old new : List ℕ) → length new < header_need new → HasModel s t (λ a b. Gains old new a b 1 × HaltIsTrue x a b) → HasModel s t (PollsAtMost 16)
+asks_halted s t x old new cut p = telling_map s t _ (PollsAtMost 16) (λ a b q. let g = q.0 in record { asked = let one = g.asked in omega (arith, header_need_most new); no_less = g.no_less; ending = g.ending; waits = g.waits }) p

@@ -5,12 +5,12 @@ use Rattle.wtp_core.specs.declared.error.ErrorCode.TheVariants.{Id, ExcessiveLoa
 use Rattle.wtp_wire.specs.Content.{Content, kind_in}
 use Rattle.wtp_wire.specs.Front.{Front, Framed, Unknown, BadId, TooBig, Short, front}
 use Rattle.wtp_wire.specs.Rule.{Role, RemoteBi, rule}
-use Rattle.wtp_wire.specs.Run.{Run, Tail, MayGoOn, H3, past_unknown, run, next_run, judged, ends, follows, run_stop, counted}
-use Rattle.wtp_wire.proofs.RunLemmas.{past_unknown-unknown, past_unknown-framed, past_unknown-bad, past_unknown-big, past_unknown-short, run-step}
+use Rattle.wtp_wire.specs.Run.{Run, Tail, MayGoOn, H3, skip_unknown, run, next_run, judged, ends, follows, run_stop, counted}
+use Rattle.wtp_wire.proofs.RunLemmas.{skip_unknown-unknown, skip_unknown-framed, skip_unknown-bad, skip_unknown-big, skip_unknown-short, run-step}
 use Rattle.wtp_wire.proofs.RuleLemmas.{rule_first}
 
 -- the run of bytes that start with this case, which is not an unknown frame
-run_at : (role : Role) (first : Bool) (bytes : List ℕ) (tail : Tail) (c : Front) → past_unknown bytes ≡ bytes → front bytes ≡ c → run role first bytes tail ≡ next_run (λ f r. run role f r tail) role first bytes bytes tail c
+run_at : (role : Role) (first : Bool) (bytes : List ℕ) (tail : Tail) (c : Front) → skip_unknown bytes ≡ bytes → front bytes ≡ c → run role first bytes tail ≡ next_run (λ f r. run role f r tail) role first bytes bytes tail c
 run_at role first bytes tail c known e =
     run-step role first bytes tail
     ∙ ap (λ (b : List ℕ). next_run (λ f r. run role f r tail) role first bytes b tail (front b)) known
@@ -18,20 +18,20 @@ run_at role first bytes tail c known e =
 
 pub run-allowed : (role : Role) (first : Bool) (bytes rest : List ℕ) (tail : Tail) (f : Content) → front bytes ≡ Framed f rest → rule role first (kind_in f) ≡ None → run role first bytes tail ≡ follows f (run role false rest tail)
 run-allowed role first bytes rest tail f e allowed =
-    run_at role first bytes tail (Framed f rest) (past_unknown-framed bytes rest f e) e ∙ ap (λ (o : Option ErrorCode). judged o f (run role false rest tail)) allowed
+    run_at role first bytes tail (Framed f rest) (skip_unknown-framed bytes rest f e) e ∙ ap (λ (o : Option ErrorCode). judged o f (run role false rest tail)) allowed
 
 pub run-refused : (role : Role) (first : Bool) (bytes rest : List ℕ) (tail : Tail) (f : Content) (code : ErrorCode) → front bytes ≡ Framed f rest → rule role first (kind_in f) ≡ Some code → run role first bytes tail ≡ ends (H3 code)
 run-refused role first bytes rest tail f code e refused =
-    run_at role first bytes tail (Framed f rest) (past_unknown-framed bytes rest f e) e ∙ ap (λ (o : Option ErrorCode). judged o f (run role false rest tail)) refused
+    run_at role first bytes tail (Framed f rest) (skip_unknown-framed bytes rest f e) e ∙ ap (λ (o : Option ErrorCode). judged o f (run role false rest tail)) refused
 
 pub run-bad_id : (role : Role) (first : Bool) (bytes rest : List ℕ) (tail : Tail) → front bytes ≡ BadId rest → run role first bytes tail ≡ ends (H3 Id)
-run-bad_id role first bytes rest tail e = run_at role first bytes tail (BadId rest) (past_unknown-bad bytes rest e) e
+run-bad_id role first bytes rest tail e = run_at role first bytes tail (BadId rest) (skip_unknown-bad bytes rest e) e
 
 pub run-too_big : (role : Role) (first : Bool) (bytes rest : List ℕ) (tail : Tail) → front bytes ≡ TooBig rest → run role first bytes tail ≡ ends (H3 ExcessiveLoad)
-run-too_big role first bytes rest tail e = run_at role first bytes tail (TooBig rest) (past_unknown-big bytes rest e) e
+run-too_big role first bytes rest tail e = run_at role first bytes tail (TooBig rest) (skip_unknown-big bytes rest e) e
 
 pub run-short : (role : Role) (first : Bool) (bytes : List ℕ) (tail : Tail) → front bytes ≡ Short → run role first bytes tail ≡ ends (run_stop bytes bytes tail)
-run-short role first bytes tail e = run_at role first bytes tail Short (past_unknown-short bytes e) e
+run-short role first bytes tail e = run_at role first bytes tail Short (skip_unknown-short bytes e) e
 
 -- ---- unknown frames, if more bytes may follow
 
@@ -49,21 +49,21 @@ counted_next role first bytes other rest Short more = refl
 pub run-unknown_open : (role : Role) (first : Bool) (bytes rest : List ℕ) → front bytes ≡ Unknown rest → run role first bytes MayGoOn ≡ counted bytes (run role first rest MayGoOn)
 run-unknown_open role first bytes rest e =
     run-step role first bytes MayGoOn
-    ∙ ap (λ (b : List ℕ). next_run (λ f r. run role f r MayGoOn) role first bytes b MayGoOn (front b)) (past_unknown-unknown bytes rest e)
-    ∙ counted_next role first bytes rest (past_unknown rest) (front (past_unknown rest)) (λ f r. run role f r MayGoOn)
+    ∙ ap (λ (b : List ℕ). next_run (λ f r. run role f r MayGoOn) role first bytes b MayGoOn (front b)) (skip_unknown-unknown bytes rest e)
+    ∙ counted_next role first bytes rest (skip_unknown rest) (front (skip_unknown rest)) (λ f r. run role f r MayGoOn)
     ∙ ap (λ (r : Run). counted bytes r) (sym (run-step role first rest MayGoOn))
 
 -- ---- the bytes after unknown frames
 
-known_case : (bytes : List ℕ) (c : Front) → front bytes ≡ c → ((rest : List ℕ) → front bytes ≢ Unknown rest) → past_unknown bytes ≡ bytes
-known_case bytes (Framed f rest) e h = past_unknown-framed bytes rest f e
+known_case : (bytes : List ℕ) (c : Front) → front bytes ≡ c → ((rest : List ℕ) → front bytes ≢ Unknown rest) → skip_unknown bytes ≡ bytes
+known_case bytes (Framed f rest) e h = skip_unknown-framed bytes rest f e
 known_case bytes (Unknown rest) e h = absurd (h rest e)
-known_case bytes (BadId rest) e h = past_unknown-bad bytes rest e
-known_case bytes (TooBig rest) e h = past_unknown-big bytes rest e
-known_case bytes Short e h = past_unknown-short bytes e
+known_case bytes (BadId rest) e h = skip_unknown-bad bytes rest e
+known_case bytes (TooBig rest) e h = skip_unknown-big bytes rest e
+known_case bytes Short e h = skip_unknown-short bytes e
 
-pub past_unknown-known : (bytes : List ℕ) → ((rest : List ℕ) → front bytes ≢ Unknown rest) → past_unknown bytes ≡ bytes
-past_unknown-known bytes h = known_case bytes (front bytes) refl h
+pub skip_unknown-known : (bytes : List ℕ) → ((rest : List ℕ) → front bytes ≢ Unknown rest) → skip_unknown bytes ≡ bytes
+skip_unknown-known bytes h = known_case bytes (front bytes) refl h
 
 -- ---- streams that do not distinguish the first frame from the others
 
@@ -77,5 +77,5 @@ same_next role f g bytes rest tail Short more h = refl
 pub run-first : (role : Role) (f g : Bool) (bytes : List ℕ) (tail : Tail) → role ≢ RemoteBi → run role f bytes tail ≡ run role g bytes tail
 run-first role f g bytes tail h =
     run-step role f bytes tail
-    ∙ same_next role f g bytes (past_unknown bytes) tail (front (past_unknown bytes)) (λ x r. run role x r tail) h
+    ∙ same_next role f g bytes (skip_unknown bytes) tail (front (skip_unknown bytes)) (λ x r. run role x r tail) h
     ∙ sym (run-step role g bytes tail)

@@ -5,8 +5,8 @@ use Rattle.std.proofs.lemmas.List.{append_cancel_left, drop-append-le, take-appe
 use Rattle.wtp_core.specs.declared.bytes.polled.Polled.TheVariants.{Ready}
 use Rattle.std.proofs.Common.{Ok}
 use Rattle.wtp_core.specs.Varint.{bytes_at}
-use Rattle.wtp_core.specs.Source.{Source, Telling, Shows, TakesBuffered}
-use Rattle.wtp_core.specs.Polled.{Asks}
+use Rattle.wtp_core.specs.Source.{Source, HasModel, Shows, TakesBuffered}
+use Rattle.wtp_core.specs.Polled.{PollsAtMost}
 use Rattle.wtp_core.proofs.TellingLemmas.{telling_map}
 use Rattle.wtp_wire.specs.declared.frame.kind.FrameKind.{FrameKind}
 use Rattle.wtp_wire.specs.declared.frame.head.Announcement.{Announcement}
@@ -14,7 +14,7 @@ use Rattle.wtp_wire.specs.declared.frame.head.Announcement.TheVariants as announ
 use Rattle.wtp_wire.specs.Content.{Content, PlainOf, payload_in}
 use Rattle.wtp_wire.specs.FrameHead.{head_at}
 use Rattle.wtp_wire.specs.Front.{Front, Framed, Unknown, BadId, TooBig, Short, Begins, IsFrame, extended, front}
-use Rattle.wtp_wire.specs.FramePart.{Part, bytes_in, IsReading}
+use Rattle.wtp_wire.specs.PartialFrame.{Part, bytes_in, IsReading}
 use Rattle.wtp_wire.specs.Limits.{max_calls}
 use Rattle.wtp_wire.specs.Held.{Held, new_held, front_held}
 use Rattle.wtp_wire.specs.FramePolling.{FramePolled}
@@ -90,7 +90,7 @@ more_after : (f : Content) (shown rest behind : List ℕ) → front shown ≡ Fr
 more_after f shown rest behind e = front-more shown rest (λ short. cc) ∙ ap (λ (x : Front). extended x rest) e
 
 pub takes_frame : (f : Content) (shown : List ℕ) (size : ℕ) (s t : Option Source) → size ≤ length shown → front shown ≡ Framed f (drop size shown)
-    → Shows shown s → Telling s t (TakesBuffered size) → Telling s t (TakesFrame f)
+    → Shows shown s → HasModel s t (TakesBuffered size) → HasModel s t (TakesFrame f)
 takes_frame f shown size None t small e shows p = tt
 takes_frame f shown size (Some a) None small e shows p = absurd p
 takes_frame f shown size (Some a) (Some b) small e (rest, is) (once, parts, enough, waits) =
@@ -108,7 +108,7 @@ new_front : (h : Held) (bytes : List ℕ) → h ≡ new_held → front_held h by
 new_front h bytes e = rw e (front_none [] 0 bytes refl)
 
 -- all clauses of a poll that took a buffered frame
-pub whole_polls : (s t : Option Source) (f : Content) (p : Part) (d : ℕ) → d ≡ 0 → IsReading p → p.head ≡ [] → IsFramed f → Telling s t (TakesFrame f)
+pub whole_polls : (s t : Option Source) (f : Content) (p : Part) (d : ℕ) → d ≡ 0 → IsReading p → p.head ≡ [] → IsFramed f → HasModel s t (TakesFrame f)
     → Polls (Ready (Ok f)) (hold (bytes_in p) d) (hold (bytes_in p) d) s t
 whole_polls s t f p d z r none w q =
     let h = hold (bytes_in p) d in
@@ -118,5 +118,5 @@ whole_polls s t f p d z r none w q =
       unfinished = due_unfinished (bytes_in p) d (none_taken p r none);
       given = record { given = w.bytes; front = new_front h w.bytes e ∙ w.front; empty = e };
       polled = telling_map s t _ (FramePolled (Ready (Ok f)) h h) (λ a b k. record { front = new_front h a.ahead e ∙ k.front; empty = e }) q;
-      asks = telling_map s t _ (Asks max_calls) (λ a b k. let one = k.asks in record { asked = let most = one.asked in omega arith; no_less = one.no_less; ending = one.ending; waits = one.waits }) q;
+      asks = telling_map s t _ (PollsAtMost max_calls) (λ a b k. let one = k.asks in record { asked = let most = one.asked in omega arith; no_less = one.no_less; ending = one.ending; waits = one.waits }) q;
     }

@@ -5,7 +5,7 @@ use Rattle.std.proofs.lemmas.List.{drop-append-le}
 use Rattle.std.proofs.Math.Seq.{drop-append-add, take-append-add, take-length, drop-append_seam}
 use Rattle.wtp_core.specs.declared.bytes.polled.Polled.{Polled}
 use Rattle.wtp_core.specs.declared.bytes.polled.IoWriteError.{IoWriteError}
-use Rattle.wtp_core.specs.Source.{Telling}
+use Rattle.wtp_core.specs.Source.{HasModel}
 use Rattle.wtp_core.specs.Sink.{Sink, Took}
 use Rattle.wtp_core.specs.Put.{SinkTook}
 use Rattle.wtp_core.proofs.TellingLemmas.{telling_then}
@@ -27,5 +27,5 @@ two_ranges h p i j k le behind = elim (cases_lt 0 j) [
 
 -- the first part was sent completely, and then the second until the sink accepted no more
 pub both_told : {U : Type 0} (r : Polled (Result U IoWriteError)) (s t u : Option Sink) (h p : List ℕ) (i j k : ℕ) → i ≤ length h → (0 < j → i ≡ length h)
-    → Telling s t (λ a b. Took a b (drop i (take (length h) h)) 0 0 0) → Telling t u (SinkTook r (drop j (take k p))) → Telling s u (SinkTook r (drop (i + j) (take (length h + k) (h ++ p))))
+    → HasModel s t (λ a b. Took a b (drop i (take (length h) h)) 0 0 0) → HasModel t u (SinkTook r (drop j (take k p))) → HasModel s u (SinkTook r (drop (i + j) (take (length h + k) (h ++ p))))
 both_told r s t u h p i j k le behind g q = rw (← two_ranges h p i j k le behind) (telling_then s t u _ _ _ (λ a b c x y. sink_then r _ _ a b c x y) g q)

@@ -7,7 +7,7 @@ use Rattle.wtp_wire.specs.declared.capsule.CapsuleKind.{CapsuleKind}
 use Rattle.wtp_wire.specs.declared.capsule.cursor.AnyCapsule.{AnyCapsule}
 use Rattle.wtp_wire.specs.declared.capsule.cursor.AnyCapsule.TheVariants as any-is
 use Rattle.wtp_wire.specs.declared.capsule.cursor.CapsuleCursor.{CapsuleCursor}
-use Rattle.wtp_wire.specs.declared.capsule.cursor.CapsulePlace.{CapsulePlace}
+use Rattle.wtp_wire.specs.declared.capsule.cursor.CapsuleSpan.{CapsuleSpan}
 use Rattle.wtp_wire.specs.declared.capsule.cursor.Start.{Start}
 use Rattle.wtp_wire.specs.declared.capsule.cursor.Start.TheVariants as start-is
 use Rattle.wtp_wire.specs.declared.capsule.cursor.UnknownCapsule.{UnknownCapsule}
@@ -34,38 +34,38 @@ pub record IsUnknownHead (number len : ℕ) (s : List ℕ) : Type 0 where
 
 -- A capsule of a known kind is next: all bytes after those to be skipped, up to its end, are its
 -- type, its length and its value.
-pub record FindsKnown (p : CapsulePlace) (old : CapsuleCursor) (bytes : List ℕ)
+pub record FindsKnown (p : CapsuleSpan) (old : CapsuleCursor) (bytes : List ℕ)
     (new : CapsuleCursor) : Type 0 where
-  pub after : old.due ≤ p.start
+  pub after : old.skip_remaining ≤ p.start
   pub within : p.end ≤ length bytes
-  pub capsule : IsCapsule p.kind (capsule_value p bytes) (between old.due p.end bytes)
-  pub due : new.due ≡ 0
+  pub capsule : IsCapsule p.kind (capsule_value p bytes) (between old.skip_remaining p.end bytes)
+  pub skip_remaining : new.skip_remaining ≡ 0
 
 -- One of an unknown type is next: all bytes after those to be skipped, up to its value, are this
 -- type and this length. Its whole value is to be skipped.
 pub record FindsUnknown (u : UnknownCapsule) (old : CapsuleCursor) (bytes : List ℕ)
     (new : CapsuleCursor) : Type 0 where
-  pub after : old.due ≤ u.start
+  pub after : old.skip_remaining ≤ u.start
   pub within : u.start ≤ length bytes
-  pub head : IsUnknownHead u.number u.announced (between old.due u.start bytes)
-  pub due : new.due ≡ u.announced
+  pub head : IsUnknownHead u.number u.announced (between old.skip_remaining u.start bytes)
+  pub skip_remaining : new.skip_remaining ≡ u.announced
 
 -- The first n bytes were skipped: all that were to be, or all that came. What is left is the start
 -- of a capsule, and no byte if some are still to be skipped.
 pub record LeavesPart (n : ℕ) (old : CapsuleCursor) (bytes : List ℕ) (new : CapsuleCursor) : Type 0
   where
     pub within : n ≤ length bytes
-    pub due : old.due ≡ n + new.due
-    pub all : 0 < new.due → n ≡ length bytes
+    pub skip_remaining : old.skip_remaining ≡ n + new.skip_remaining
+    pub all : 0 < new.skip_remaining → n ≡ length bytes
     pub part : IsCapsulePart (drop n bytes)
     pub few : length (drop n bytes) ≤ 1043
 
 -- The type of a kind and a length that is too long are next, up to this offset.
 pub record FindsLongHead (old : CapsuleCursor) (bytes : List ℕ) (new : CapsuleCursor) : Type 0 where
   pub end : ℕ
-  pub after : old.due ≤ end
+  pub after : old.skip_remaining ≤ end
   pub within : end ≤ length bytes
-  pub head : IsLongHead (between old.due end bytes)
+  pub head : IsLongHead (between old.skip_remaining end bytes)
   pub same : new ≡ old
 
 abbrev pub AnyIs : AnyCapsule → CapsuleCursor → List ℕ → CapsuleCursor → Type 0
@@ -106,7 +106,7 @@ missing_of (Some ((number, len), value)) bytes = len - length value
 
 -- those to be skipped, or those of the first capsule of the bytes left
 abbrev pub missing_from : CapsuleCursor → List ℕ → ℕ
-missing_from c rest = if c.due == 0 then missing_of (pair_at rest) rest else c.due
+missing_from c rest = if c.skip_remaining == 0 then missing_of (pair_at rest) rest else c.skip_remaining
 
 -- ---- what bytes start with, for the private function that reads it
 

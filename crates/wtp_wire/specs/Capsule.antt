@@ -17,9 +17,9 @@ abbrev pub capsule_number_of : CapsuleKind → ℕ
 capsule_number_of CloseWebTransportSession = 0x2843
 
 -- the longest value that is read
-abbrev pub longest_value : CapsuleKind → ℕ
+abbrev pub max_value_len : CapsuleKind → ℕ
 -- a code of 4 bytes and a reason of at most 1024 (draft-ietf-webtrans-http3-02, section 5)
-longest_value CloseWebTransportSession = 1028
+max_value_len CloseWebTransportSession = 1028
 
 -- ---- by definition
 

@@ -2,11 +2,11 @@
 use Rattle.std.specs.Prelude.{◌≡◌, ℕ, ◌-◌, ◌<◌, ◌≤◌, ◌⊎◌, List, [], ◌∷◌, ◌++◌, length, take, drop, Result, Ok, Err}
 use Rattle.wtp_wire.specs.declared.capsule.CapsuleKind.{CapsuleKind}
 use Rattle.wtp_wire.specs.declared.capsule.cursor.CapsuleCursor.{CapsuleCursor}
-use Rattle.wtp_wire.specs.declared.capsule.cursor.CapsulePlace.{CapsulePlace}
+use Rattle.wtp_wire.specs.declared.capsule.cursor.CapsuleSpan.{CapsuleSpan}
 use Rattle.wtp_wire.specs.declared.capsule.cursor.CapsuleStep.{CapsuleStep}
 use Rattle.wtp_wire.specs.declared.capsule.cursor.CapsuleStep.TheVariants.{Capsule, More, TooLong}
-use Rattle.wtp_wire.specs.declared.capsule.reading.CutCapsule.{CutCapsule}
-use Rattle.wtp_wire.specs.CapsuleFront.{longest_value}
+use Rattle.wtp_wire.specs.declared.capsule.reading.TruncatedCapsule.{TruncatedCapsule}
+use Rattle.wtp_wire.specs.CapsuleFront.{max_value_len}
 use Rattle.wtp_wire.specs.CapsuleFront.{TooLong as TooLongFront}
 use Rattle.wtp_wire.specs.CapsuleStream.{Capsules, CapsuleEnding, Between, Within, AtTooLong, Joins, MissesValue, TakesCapsule, capsules_held, ends, follows, next_held}
 use Rattle.wtp_wire.specs.FrameNeed.{frame_need}
@@ -15,7 +15,7 @@ use Rattle.wtp_wire.specs.Held.{Held}
 -- what a cursor holds: no bytes, and in their place the bytes of an unknown capsule's value that
 -- are still to be skipped
 abbrev pub held_by : CapsuleCursor → Held
-held_by c = record { taken = []; due = c.due }
+held_by c = record { taken = []; skip_remaining = c.skip_remaining }
 
 -- the capsules of the bytes from a cursor on, and their ending
 abbrev pub capsules_from : CapsuleCursor → List ℕ → Capsules
@@ -24,15 +24,15 @@ capsules_from c bytes = capsules_held (held_by c) bytes
 -- ---- a capsule
 
 -- the value at a place
-abbrev pub capsule_value : CapsulePlace → List ℕ → List ℕ
+abbrev pub capsule_value : CapsuleSpan → List ℕ → List ℕ
 capsule_value p bytes = take (p.end - p.start) (drop p.start bytes)
 
 -- The capsule at this place is the first one of a known kind, whatever follows. It ends where the
 -- place does, and nothing is to be skipped after it.
-pub record TakesPlace (p : CapsulePlace) (old : CapsuleCursor) (bytes : List ℕ)
+pub record TakesPlace (p : CapsuleSpan) (old : CapsuleCursor) (bytes : List ℕ)
     (new : CapsuleCursor) : Type 0 where
   pub within : p.end ≤ length bytes
-  pub small : p.end - p.start ≤ longest_value p.kind
+  pub small : p.end - p.start ≤ max_value_len p.kind
   pub taken :
       TakesCapsule (p.kind, capsule_value p bytes)
       (held_by old) bytes (held_by new) (drop p.end bytes)
@@ -47,7 +47,7 @@ IsCapsulePart s = (length s < frame_need s) ⊎ MissesValue s
 -- These bytes are left over: the start of a capsule, or none if bytes are still to be skipped.
 pub record IsLeftOver (c : CapsuleCursor) (rest : List ℕ) : Type 0 where
   pub part : IsCapsulePart rest
-  pub none : 0 < c.due → rest ≡ []
+  pub none : 0 < c.skip_remaining → rest ≡ []
 
 -- The bytes after the first n are left over, which are few. Whatever follows, the first capsule is
 -- the same.
@@ -134,6 +134,6 @@ found_in (Stepped step ∷ events) bytes =
 -- ---- the end of the data
 
 -- the ending of the capsules where the data ends so
-abbrev pub ending_of : Result (Unit {0}) CutCapsule → CapsuleEnding
+abbrev pub ending_of : Result (Unit {0}) TruncatedCapsule → CapsuleEnding
 ending_of (Ok u) = Between
 ending_of (Err e) = Within

@@ -3,7 +3,7 @@ use Rattle.std.specs.Prelude.{◌≡◌, ◌≢◌, ℕ, ◌<◌, ◌≤◌, Lis
 use Rattle.wtp_core.specs.Varint.{number_at, bytes_at}
 use Rattle.wtp_wire.specs.declared.capsule.CapsuleKind.{CapsuleKind}
 use Rattle.wtp_wire.specs.Capsule.{capsule_number_of, capsule_kind_of}
-pub use Rattle.wtp_wire.specs.Capsule.{longest_value}
+pub use Rattle.wtp_wire.specs.Capsule.{max_value_len}
 use Rattle.wtp_wire.specs.Front.{EncodesPair}
 
 -- What the bytes start with, and the bytes after it: a capsule of a known kind, with its value; a
@@ -22,7 +22,7 @@ pub data CapsuleFront : Type 0 where
 pub record IsCapsule (kind : CapsuleKind) (value s : List ℕ) : Type 0 where
   pub head : List ℕ
   pub encoded : EncodesPair (capsule_number_of kind) (length value) head
-  pub small : length value ≤ longest_value kind
+  pub small : length value ≤ max_value_len kind
   pub parts : s ≡ head ++ value
 
 -- s is a capsule of an unknown type, of any length: it has to be skipped
@@ -38,7 +38,7 @@ pub record IsUnknownCapsule (s : List ℕ) : Type 0 where
 pub record IsLongHead (s : List ℕ) : Type 0 where
   pub kind : CapsuleKind
   pub len : ℕ
-  pub over : longest_value kind < len
+  pub over : max_value_len kind < len
   pub encoded : EncodesPair (capsule_number_of kind) len s
 
 -- the bytes start with this case
@@ -60,7 +60,7 @@ or_cut (Some x) next = next x
 abbrev pub value_front : Option CapsuleKind → ℕ → List ℕ → CapsuleFront
 value_front None len bytes = or_cut (bytes_at len bytes) (λ value. Unknown value.1)
 value_front (Some kind) len bytes =
-    if nat_lt (longest_value kind) len
+    if nat_lt (max_value_len kind) len
     then TooLong bytes
     else or_cut (bytes_at len bytes) (λ value. Found kind value.0 value.1)
 

@@ -8,7 +8,7 @@ use Rattle.wtp_wire.specs.declared.capsule.reading.CapsuleHead.TheVariants as he
 use Rattle.wtp_wire.specs.declared.capsule.reading.Reached.{Reached}
 use Rattle.wtp_wire.specs.declared.capsule.reading.Reached.TheVariants as reached-is
 use Rattle.wtp_wire.specs.Capsule.{capsule_kind_of}
-use Rattle.wtp_wire.specs.CapsuleFront.{CapsuleFront, Found, Unknown, TooLong, Cut, longest_value, or_cut}
+use Rattle.wtp_wire.specs.CapsuleFront.{CapsuleFront, Found, Unknown, TooLong, Cut, max_value_len, or_cut}
 use Rattle.wtp_wire.specs.CapsuleStream.{Joins, TakesAll, FindsTooLong, WantsMemory, NextGiven, next_held}
 use Rattle.wtp_wire.specs.FrameNeed.{frame_need}
 use Rattle.wtp_wire.specs.Held.{Held}
@@ -19,7 +19,7 @@ use Rattle.wtp_wire.specs.Held.{Held}
 abbrev pub length_says : Option CapsuleKind → ℕ → CapsuleHead
 length_says None len = head-is.Skip len
 length_says (Some kind) len =
-    if nat_lt (longest_value kind) len then head-is.TooLong else head-is.Keep kind len
+    if nat_lt (max_value_len kind) len then head-is.TooLong else head-is.Keep kind len
 
 abbrev pub or_unfinished : Option (ℕ × List ℕ) → (ℕ × List ℕ → CapsuleHead) → CapsuleHead
 or_unfinished None next = head-is.Unfinished
@@ -47,10 +47,10 @@ FitsHead (head-is.Keep kind len) v = length v < len
 FitsHead (head-is.Skip len) v = ⊥
 FitsHead head-is.TooLong v = v ≡ []
 
-pub record IsPart (h v : List ℕ) (due : ℕ) : Type 0 where
+pub record IsPart (h v : List ℕ) (skip_remaining : ℕ) : Type 0 where
   pub within : length h ≤ frame_need h
   pub fits : FitsHead (head_says h) v
-  pub alone : 0 < due → h ≡ []
+  pub alone : 0 < skip_remaining → h ≡ []
 
 -- where n bytes of a value are held, there is room for all of it
 abbrev pub HasRoom : CapsuleHead → ℕ → ℕ → Type 0
@@ -58,30 +58,30 @@ HasRoom (head-is.Keep kind len) n room = 0 < n → len ≤ room
 HasRoom head n room = Unit {0}
 
 abbrev pub holding : List ℕ → List ℕ → ℕ → Held
-holding h v due = record { taken = h ++ v; due = due }
+holding h v skip_remaining = record { taken = h ++ v; skip_remaining = skip_remaining }
 
 -- ---- one capsule, as far as the bytes go
 
 -- an unknown capsule's value is next
-pub record StartsSkipping (old : Held) (a h v : List ℕ) (due : ℕ) (b : List ℕ) : Type 0 where
+pub record StartsSkipping (old : Held) (a h v : List ℕ) (skip_remaining : ℕ) (b : List ℕ) : Type 0 where
   pub no_head : h ≡ []
   pub no_value : v ≡ []
-  pub joins : Joins old a (holding h v due) b
+  pub joins : Joins old a (holding h v skip_remaining) b
   pub shorter : length b < length a
 
 -- a capsule's value is complete
-pub record HasValue (kind : CapsuleKind) (old : Held) (a v : List ℕ) (due : ℕ) (b : List ℕ) : Type
+pub record HasValue (kind : CapsuleKind) (old : Held) (a v : List ℕ) (skip_remaining : ℕ) (b : List ℕ) : Type
     0 where
   pub found : (more : List ℕ) → next_held old (a ++ more) ≡ Found kind v (b ++ more)
-  pub none_due : due ≡ 0
+  pub none_due : skip_remaining ≡ 0
 
 abbrev pub Advanced : Reached → Held → List ℕ → List ℕ → List ℕ → ℕ → List ℕ → Type 0
-Advanced reached-is.Skipping old a h v due b = StartsSkipping old a h v due b
-Advanced reached-is.More old a h v due b = IsPart h v due × TakesAll old a (holding h v due) b
-Advanced reached-is.TooLong old a h v due b =
-    IsPart h v due × FindsTooLong old a (holding h v due) b
-Advanced reached-is.Memory old a h v due b = IsPart h v due × WantsMemory old a (holding h v due) b
-Advanced (reached-is.Complete kind) old a h v due b = HasValue kind old a v due b
+Advanced reached-is.Skipping old a h v skip_remaining b = StartsSkipping old a h v skip_remaining b
+Advanced reached-is.More old a h v skip_remaining b = IsPart h v skip_remaining × TakesAll old a (holding h v skip_remaining) b
+Advanced reached-is.TooLong old a h v skip_remaining b =
+    IsPart h v skip_remaining × FindsTooLong old a (holding h v skip_remaining) b
+Advanced reached-is.Memory old a h v skip_remaining b = IsPart h v skip_remaining × WantsMemory old a (holding h v skip_remaining) b
+Advanced (reached-is.Complete kind) old a h v skip_remaining b = HasValue kind old a v skip_remaining b
 
 -- ---- up to the value of an unknown capsule, or a result
 

@@ -10,23 +10,23 @@ use Rattle.wtp_wire.specs.declared.capsule.CapsuleError.{CapsuleError}
 use Rattle.wtp_wire.specs.declared.capsule.CapsuleError.TheVariants as error-is
 use Rattle.wtp_wire.specs.declared.capsule.CapsuleKind.{CapsuleKind}
 use Rattle.wtp_wire.specs.Capsule.{capsule_number_of}
-use Rattle.wtp_wire.specs.CapsuleFront.{CapsuleFront, Found, Unknown, TooLong, Cut, End, longest_value, or_cut, capsule_front}
+use Rattle.wtp_wire.specs.CapsuleFront.{CapsuleFront, Found, Unknown, TooLong, Cut, End, max_value_len, or_cut, capsule_front}
 use Rattle.wtp_wire.specs.Front.{EncodesPair}
 use Rattle.wtp_wire.specs.Held.{Held, new_held}
 
 -- ---- the first capsule of a known kind
 
-abbrev pub past_unknown : (List ℕ → CapsuleFront) → CapsuleFront → CapsuleFront
-past_unknown more (Found kind value rest) = Found kind value rest
-past_unknown more (Unknown rest) = more rest
-past_unknown more (TooLong rest) = TooLong rest
-past_unknown more Cut = Cut
-past_unknown more End = End
+abbrev pub skip_unknown : (List ℕ → CapsuleFront) → CapsuleFront → CapsuleFront
+skip_unknown more (Found kind value rest) = Found kind value rest
+skip_unknown more (Unknown rest) = more rest
+skip_unknown more (TooLong rest) = TooLong rest
+skip_unknown more Cut = Cut
+skip_unknown more End = End
 
 -- at most n capsules of unknown types are skipped
 abbrev pub next_within : ℕ → List ℕ → CapsuleFront
 next_within zero bytes = End
-next_within (suc n) bytes = past_unknown (λ rest. next_within n rest) (capsule_front bytes)
+next_within (suc n) bytes = skip_unknown (λ rest. next_within n rest) (capsule_front bytes)
 
 -- the first capsule after those of unknown types at the start
 unfoldable pub next_capsule : List ℕ → CapsuleFront
@@ -72,9 +72,9 @@ capsules bytes = capsules_within (length bytes) bytes
 -- skipped, of those after
 unfoldable pub next_held : Held → List ℕ → CapsuleFront
 next_held h bytes =
-    if h.due == 0
+    if h.skip_remaining == 0
     then next_capsule (h.taken ++ bytes)
-    else or_cut (bytes_at h.due bytes) (λ value. next_capsule value.1)
+    else or_cut (bytes_at h.skip_remaining bytes) (λ value. next_capsule value.1)
 
 abbrev pub capsules_after : Option (List ℕ × List ℕ) → Capsules
 capsules_after None = ends Within
@@ -83,7 +83,7 @@ capsules_after (Some skipped) = capsules skipped.1
 -- all capsules of what is held and of the bytes
 unfoldable pub capsules_held : Held → List ℕ → Capsules
 capsules_held h bytes =
-    if h.due == 0 then capsules (h.taken ++ bytes) else capsules_after (bytes_at h.due bytes)
+    if h.skip_remaining == 0 then capsules (h.taken ++ bytes) else capsules_after (bytes_at h.skip_remaining bytes)
 
 -- ---- one call; old and new are what is held before and after, a and b are the bytes before and
 -- those left
@@ -116,14 +116,14 @@ pub record MissesValue (t : List ℕ) : Type 0 where
   pub head : List ℕ
   pub part : List ℕ
   pub encoded : EncodesPair (capsule_number_of kind) len head
-  pub small : len ≤ longest_value kind
+  pub small : len ≤ max_value_len kind
   pub less : length part < len
   pub parts : t ≡ head ++ part
 
 -- nothing is lost; of a capsule of a known kind, whose value has at least one byte, the type and
 -- the length are held, and no byte of the value
 pub record WantsMemory (old : Held) (a : List ℕ) (new : Held) (b : List ℕ) : Type 0 where
-  pub none_due : new.due ≡ 0
+  pub none_due : new.skip_remaining ≡ 0
   pub misses : MissesValue new.taken
   pub none_held : misses.part ≡ []
   pub joins : Joins old a new b

@@ -4,7 +4,7 @@ use Rattle.wtp_core.specs.declared.bytes.polled.Polled.{Polled}
 use Rattle.wtp_core.specs.declared.bytes.polled.Polled.TheVariants.{Ready, Pending, Again, NoMemory}
 use Rattle.wtp_core.specs.Source.{Source}
 use Rattle.wtp_core.specs.Polled.{stop}
-use Rattle.wtp_core.specs.Passing.{max_passed}
+use Rattle.wtp_core.specs.SkipAhead.{max_passed}
 use Rattle.wtp_wire.specs.declared.frame.kind.FrameKind.{FrameKind}
 use Rattle.wtp_wire.specs.declared.frame.ParseError.TheVariants.{UnknownFrame, InvalidSessionId, PayloadTooBig}
 use Rattle.wtp_wire.specs.declared.frame.reading.IoReadError.{IoReadError}
@@ -26,12 +26,12 @@ pub record Stopped (old new : Held) (a b : Source) (fault : IoReadError) : Type 
   pub leaves : Leaves old new a b
   pub short : front_held old a.ahead ≡ Short
   pub none_ahead : b.ahead ≡ []
-  pub why : fault ≡ IO (stop (old.due + length (old.taken ++ a.ahead)) a.ending)
+  pub why : fault ≡ IO (stop (old.skip_remaining + length (old.taken ++ a.ahead)) a.ending)
 
 -- the maximum number of bytes of an unknown frame was skipped, and more are left to skip
 pub record PassesMost (old new : Held) (a b : Source) : Type 0 where
   pub same : front_held new b.ahead ≡ front_held old a.ahead
-  pub due : 0 < new.due
+  pub skip_remaining : 0 < new.skip_remaining
   pub skips : Skips old new a b
   pub most : length skips.payload ≡ max_passed
 
@@ -60,8 +60,8 @@ FramePolled Pending old new a b = Leaves old new a b × (a.waits < b.waits)
 FramePolled Again old new a b = PassesMost old new a b
 FramePolled NoMemory old new a b =
     Leaves old new a b
-    × (old.due ≡ 0)
-    × (new.due ≡ 0)
+    × (old.skip_remaining ≡ 0)
+    × (new.skip_remaining ≡ 0)
     × WantsPayload (old.taken ++ a.ahead) (length old.taken)
 
 -- ---- every source, even without a model
@@ -69,11 +69,11 @@ FramePolled NoMemory old new a b =
 -- No byte was lost: the bytes given were appended to those held, or they are the head and skipped
 -- bytes of an unknown frame, or the number of bytes left to skip did not grow.
 pub record KeepsHeld (old new : Held) : Type 0 where
-  pub kept : new.due ≡ 0 → (old.due ≡ 0) × ((given : List ℕ) × (new.taken ≡ old.taken ++ given))
+  pub kept : new.skip_remaining ≡ 0 → (old.skip_remaining ≡ 0) × ((given : List ℕ) × (new.taken ≡ old.taken ++ given))
   pub begun :
-      old.due ≡ 0 → 0 < new.due
-      → (given : List ℕ) × (passed : ℕ) × IsUnknownHead (passed + new.due) (old.taken ++ given)
-  pub going : 0 < old.due → (0 < new.due) × (new.due ≤ old.due)
+      old.skip_remaining ≡ 0 → 0 < new.skip_remaining
+      → (given : List ℕ) × (passed : ℕ) × IsUnknownHead (passed + new.skip_remaining) (old.taken ++ given)
+  pub going : 0 < old.skip_remaining → (0 < new.skip_remaining) × (new.skip_remaining ≤ old.skip_remaining)
 
 -- the bytes held followed by those given are this case exactly, and nothing is held afterwards
 pub record Answered (old new : Held) (case : List ℕ → Front) : Type 0 where
@@ -97,5 +97,5 @@ FrameGiven (Ready (Err (Parse InvalidSessionId))) old new = Answered old new Bad
 FrameGiven (Ready (Err (Parse PayloadTooBig))) old new = Answered old new TooBig
 FrameGiven (Ready (Err (IO e))) old new = KeepsHeld old new
 FrameGiven Pending old new = KeepsHeld old new
-FrameGiven Again old new = KeepsHeld old new × (0 < new.due)
-FrameGiven NoMemory old new = KeepsHeld old new × (new.due ≡ 0) × HoldsHead new.taken
+FrameGiven Again old new = KeepsHeld old new × (0 < new.skip_remaining)
+FrameGiven NoMemory old new = KeepsHeld old new × (new.skip_remaining ≡ 0) × HoldsHead new.taken

@@ -3,9 +3,9 @@ use Rattle.std.specs.Prelude.{◌≡◌, ◌≢◌, ℕ, ◌+◌, ◌-◌, ◌<�
 use Rattle.wtp_core.specs.declared.bytes.polled.Polled.{Polled}
 use Rattle.wtp_core.specs.declared.bytes.polled.Polled.TheVariants.{Ready, Pending, Again, NoMemory}
 use Rattle.wtp_core.specs.Source.{Source}
-use Rattle.wtp_core.specs.Polled.{stop, Asks}
+use Rattle.wtp_core.specs.Polled.{stop, PollsAtMost}
 use Rattle.wtp_core.specs.Fill.{Gains, FillMoves, halt_waits}
-use Rattle.wtp_core.specs.Passing.{max_passed}
+use Rattle.wtp_core.specs.SkipAhead.{max_passed}
 use Rattle.wtp_wire.specs.declared.frame.kind.FrameKind.{FrameKind}
 use Rattle.wtp_wire.specs.declared.frame.kind.FrameKind.TheVariants.{WebTransport}
 use Rattle.wtp_wire.specs.declared.frame.ParseError.TheVariants as parse
@@ -13,14 +13,14 @@ use Rattle.wtp_wire.specs.declared.frame.head.Announcement.{Announcement}
 use Rattle.wtp_wire.specs.declared.frame.head.Announcement.TheVariants as announces
 use Rattle.wtp_wire.specs.declared.frame.reading.IoReadError.{IoReadError}
 use Rattle.wtp_wire.specs.declared.frame.reading.IoReadError.TheVariants.{Parse, IO}
-use Rattle.wtp_wire.specs.declared.frame.reading.part.Stop.{Stop}
-use Rattle.wtp_wire.specs.declared.frame.reading.part.Stop.TheVariants as stopped
+use Rattle.wtp_wire.specs.declared.frame.reading.part.ReadInterrupted.{ReadInterrupted}
+use Rattle.wtp_wire.specs.declared.frame.reading.part.ReadInterrupted.TheVariants as stopped
 use Rattle.wtp_wire.specs.Kind.{IsKnown}
 use Rattle.wtp_wire.specs.Content.{Content, WebTransportOf, content}
 use Rattle.wtp_wire.specs.Front.{Framed, front}
 use Rattle.wtp_wire.specs.FrameNeed.{frame_need}
 use Rattle.wtp_wire.specs.FrameHead.{announcement_at}
-use Rattle.wtp_wire.specs.FramePart.{Part, IsReading}
+use Rattle.wtp_wire.specs.PartialFrame.{Part, IsReading}
 use Rattle.wtp_wire.specs.Limits.{max_head, max_payload}
 use Rattle.wtp_wire.specs.Held.{Held}
 
@@ -34,7 +34,7 @@ pub record IsFramed (f : Content) : Type 0 where
 -- the source gave this frame, its first, in at most one call
 pub record TakesFrame (f : Content) (a b : Source) : Type 0 where
   pub front : front a.ahead ≡ Framed f b.ahead
-  pub asks : Asks 1 a b
+  pub asks : PollsAtMost 1 a b
   pub waits : b.waits ≡ a.waits
 
 -- ---- reading further
@@ -44,19 +44,19 @@ abbrev pub Grew : List ℕ → List ℕ → Type 0
 Grew old new = (given : List ℕ) × (new ≡ old ++ given)
 
 -- the effect of a step with this result on the bytes held and on the model of the source
-abbrev pub StopMoves : {U : Type 0} → Result U Stop → List ℕ → List ℕ → Source → Source → Type 0
+abbrev pub StopMoves : {U : Type 0} → Result U ReadInterrupted → List ℕ → List ℕ → Source → Source → Type 0
 StopMoves (Ok u) held new a b = Gains held new a b 0
 StopMoves {U} (Err (stopped.Source h)) held new a b = FillMoves {U = U} (Err h) held new a b
 StopMoves (Err stopped.NoMemory) held new a b = Gains held new a b 0
 
 -- how often the source was not ready: once or never
-abbrev pub stop_waits : {U : Type 0} → Result U Stop → ℕ
+abbrev pub stop_waits : {U : Type 0} → Result U ReadInterrupted → ℕ
 stop_waits (Ok u) = 0
 stop_waits {U} (Err (stopped.Source h)) = halt_waits {U = U} (Err h)
 stop_waits (Err stopped.NoMemory) = 0
 
 -- the count of waits rose by this number
-abbrev pub StopWaits : {U : Type 0} → Result U Stop → Source → Source → Type 0
+abbrev pub StopWaits : {U : Type 0} → Result U ReadInterrupted → Source → Source → Type 0
 StopWaits r a b = b.waits ≡ a.waits + stop_waits r
 
 -- nothing is allocated for the payload, before or after: allocation of this size failed
@@ -68,7 +68,7 @@ pub record LacksPayloadRoom (size : ℕ) (old new : Part) : Type 0 where
 
 -- the effect of reading a payload of this size: it is complete, or incomplete, or its allocation
 -- failed
-abbrev pub PayloadKeeps : {U : Type 0} → Result U Stop → ℕ → Part → Part → Type 0
+abbrev pub PayloadKeeps : {U : Type 0} → Result U ReadInterrupted → ℕ → Part → Part → Type 0
 PayloadKeeps (Ok _) size old new = (new.room ≡ size) × (length new.payload ≡ size)
 PayloadKeeps (Err (stopped.Source h)) size old new = (new.room ≡ size) × (length new.payload < size)
 PayloadKeeps (Err stopped.NoMemory) size old new = LacksPayloadRoom size old new
@@ -102,7 +102,7 @@ pub record WantsRoom (old new : Part) : Type 0 where
 
 -- the effect of reading up to a complete payload: the frame is complete, or incomplete, or its
 -- payload was not allocated
-abbrev pub AdvanceKeeps : Result Announcement Stop → Part → Part → Type 0
+abbrev pub AdvanceKeeps : Result Announcement ReadInterrupted → Part → Part → Type 0
 AdvanceKeeps (Ok s) old new = IsComplete s new
 AdvanceKeeps (Err (stopped.Source _)) old new = IsReading new
 AdvanceKeeps (Err stopped.NoMemory) old new = IsReading new × WantsRoom old new
@@ -128,41 +128,41 @@ CanAnswer announces.TooLong size = Unit {0}
 -- ---- skipping the bytes of an unknown frame that are left to skip
 
 -- due - due' bytes were skipped, at most the maximum for one poll
-pub record Skipped (due due' : ℕ) (a b : Source) : Type 0 where
-  pub fewer : due' ≤ due
-  pub most : due ≤ due' + max_passed
-  pub there : due - due' ≤ length a.ahead
-  pub rest : b.ahead ≡ drop (due - due') a.ahead
-  pub asks : Asks max_passed a b
+pub record Skipped (skip_remaining skip_remaining' : ℕ) (a b : Source) : Type 0 where
+  pub fewer : skip_remaining' ≤ skip_remaining
+  pub most : skip_remaining ≤ skip_remaining' + max_passed
+  pub there : skip_remaining - skip_remaining' ≤ length a.ahead
+  pub rest : b.ahead ≡ drop (skip_remaining - skip_remaining') a.ahead
+  pub asks : PollsAtMost max_passed a b
 
 -- the effect of skipping, by its result, on the number of bytes left to skip and on the model of
 -- the source
 abbrev pub PassedOn : Polled (Result Content IoReadError) → ℕ → ℕ → Source → Source → Type 0
-PassedOn (Ready (Ok f)) due due' a b = ⊥
-PassedOn (Ready (Err (Parse parse.UnknownFrame))) due due' a b = Skipped due due' a b × (due' ≡ 0)
-PassedOn (Ready (Err (Parse parse.InvalidSessionId))) due due' a b = ⊥
-PassedOn (Ready (Err (Parse parse.PayloadTooBig))) due due' a b = ⊥
-PassedOn (Ready (Err (IO e))) due due' a b =
-    Skipped due due' a b
-    × (0 < due')
-    × (due < due' + max_passed)
+PassedOn (Ready (Ok f)) skip_remaining skip_remaining' a b = ⊥
+PassedOn (Ready (Err (Parse parse.UnknownFrame))) skip_remaining skip_remaining' a b = Skipped skip_remaining skip_remaining' a b × (skip_remaining' ≡ 0)
+PassedOn (Ready (Err (Parse parse.InvalidSessionId))) skip_remaining skip_remaining' a b = ⊥
+PassedOn (Ready (Err (Parse parse.PayloadTooBig))) skip_remaining skip_remaining' a b = ⊥
+PassedOn (Ready (Err (IO e))) skip_remaining skip_remaining' a b =
+    Skipped skip_remaining skip_remaining' a b
+    × (0 < skip_remaining')
+    × (skip_remaining < skip_remaining' + max_passed)
     × (b.ahead ≡ [])
     × (e ≡ stop 1 a.ending)
-PassedOn Pending due due' a b =
-    Skipped due due' a b × (0 < due') × (due < due' + max_passed) × (a.waits < b.waits)
-PassedOn Again due due' a b = Skipped due due' a b × (0 < due') × (due ≡ due' + max_passed)
-PassedOn NoMemory due due' a b = ⊥
+PassedOn Pending skip_remaining skip_remaining' a b =
+    Skipped skip_remaining skip_remaining' a b × (0 < skip_remaining') × (skip_remaining < skip_remaining' + max_passed) × (a.waits < b.waits)
+PassedOn Again skip_remaining skip_remaining' a b = Skipped skip_remaining skip_remaining' a b × (0 < skip_remaining') × (skip_remaining ≡ skip_remaining' + max_passed)
+PassedOn NoMemory skip_remaining skip_remaining' a b = ⊥
 
 -- the same for every source, even without a model
 abbrev pub PassedPlain : Polled (Result Content IoReadError) → ℕ → ℕ → Type 0
-PassedPlain (Ready (Ok f)) due due' = ⊥
-PassedPlain (Ready (Err (Parse parse.UnknownFrame))) due due' = due' ≡ 0
-PassedPlain (Ready (Err (Parse parse.InvalidSessionId))) due due' = ⊥
-PassedPlain (Ready (Err (Parse parse.PayloadTooBig))) due due' = ⊥
-PassedPlain (Ready (Err (IO e))) due due' = (0 < due') × (due' ≤ due)
-PassedPlain Pending due due' = (0 < due') × (due' ≤ due)
-PassedPlain Again due due' = (0 < due') × (due' ≤ due)
-PassedPlain NoMemory due due' = ⊥
+PassedPlain (Ready (Ok f)) skip_remaining skip_remaining' = ⊥
+PassedPlain (Ready (Err (Parse parse.UnknownFrame))) skip_remaining skip_remaining' = skip_remaining' ≡ 0
+PassedPlain (Ready (Err (Parse parse.InvalidSessionId))) skip_remaining skip_remaining' = ⊥
+PassedPlain (Ready (Err (Parse parse.PayloadTooBig))) skip_remaining skip_remaining' = ⊥
+PassedPlain (Ready (Err (IO e))) skip_remaining skip_remaining' = (0 < skip_remaining') × (skip_remaining' ≤ skip_remaining)
+PassedPlain Pending skip_remaining skip_remaining' = (0 < skip_remaining') × (skip_remaining' ≤ skip_remaining)
+PassedPlain Again skip_remaining skip_remaining' = (0 < skip_remaining') × (skip_remaining' ≤ skip_remaining)
+PassedPlain NoMemory skip_remaining skip_remaining' = ⊥
 
 -- ---- a poll up to the bytes left to skip
 
@@ -171,18 +171,18 @@ pub record BeginsFrame (old new : Held) (a b : Source) : Type 0 where
   pub head : List ℕ
   pub parts : old.taken ++ a.ahead ≡ head ++ b.ahead
   pub begun :
-      old.due ≡ 0
-      → (announcement_at head ≡ announces.Skip new.due) × (frame_need head ≡ length head)
-  pub going : 0 < old.due → (head ≡ []) × (old.due ≡ new.due) × (b.ahead ≡ a.ahead)
-  pub asks : Asks max_head a b
+      old.skip_remaining ≡ 0
+      → (announcement_at head ≡ announces.Skip new.skip_remaining) × (frame_need head ≡ length head)
+  pub going : 0 < old.skip_remaining → (head ≡ []) × (old.skip_remaining ≡ new.skip_remaining) × (b.ahead ≡ a.ahead)
+  pub asks : PollsAtMost max_head a b
 
 -- the same for every source, even without a model
 pub record BeginsPlain (old new : Held) : Type 0 where
   pub empty : new.taken ≡ []
   pub begun :
-      old.due ≡ 0
+      old.skip_remaining ≡ 0
       → (head : List ℕ)
       × Grew old.taken head
-      × (announcement_at head ≡ announces.Skip new.due)
+      × (announcement_at head ≡ announces.Skip new.skip_remaining)
       × (frame_need head ≡ length head)
-  pub going : 0 < old.due → new.due ≡ old.due
+  pub going : 0 < old.skip_remaining → new.skip_remaining ≡ old.skip_remaining

@@ -1,7 +1,7 @@
 -- The size of a stream header, as far as its first bytes determine it.
 use Rattle.std.proofs.Common.{◌≡◌, ℕ, ◌+◌, ◌≤◌, List, ◌++◌, Bool, true, false, if◌then◌else◌, Option, Some, None, refl, arith}
 use Rattle.wtp_core.specs.Varint.{number_at}
-use Rattle.wtp_core.specs.VarintNeed.{varint_need, varint_need_range, varint_need_grows}
+use Rattle.wtp_core.specs.VarintLenNeeded.{varint_len_needed, varint_need_range, varint_need_grows}
 use Rattle.wtp_core.proofs.EncodingLemmas.{number_at-more}
 use Rattle.wtp_wire.specs.declared.stream_header.StreamKind.{StreamKind}
 use Rattle.wtp_wire.specs.StreamKind.{has_session, stream_kind_of}
@@ -9,7 +9,7 @@ use Rattle.wtp_wire.specs.StreamKind.{has_session, stream_kind_of}
 -- the minimum number of bytes after a type of this kind, or after an unknown type
 abbrev pub second_need : Option StreamKind → List ℕ → ℕ
 second_need None rest = 0
-second_need (Some kind) rest = if has_session kind then varint_need rest else 0
+second_need (Some kind) rest = if has_session kind then varint_len_needed rest else 0
 
 -- the minimum number of bytes after the type, or 0 if the type is incomplete
 abbrev pub need_after : Option (ℕ × List ℕ) → ℕ
@@ -18,15 +18,15 @@ need_after (Some x) = second_need (stream_kind_of x.0) x.1
 
 -- the minimum size of a header that starts with these bytes
 unfoldable pub header_need : List ℕ → ℕ
-header_need bytes = varint_need bytes + need_after (number_at bytes)
+header_need bytes = varint_len_needed bytes + need_after (number_at bytes)
 
 -- ---- facts for readers that continue from these bytes
 
-pub header_need_is : (h : List ℕ) → header_need h ≡ varint_need h + need_after (number_at h)
+pub header_need_is : (h : List ℕ) → header_need h ≡ varint_len_needed h + need_after (number_at h)
 unfolding header_need
 header_need_is h = refl
 
-session_need_most : (b : Bool) (r : List ℕ) → (if b then varint_need r else 0) ≤ 8
+session_need_most : (b : Bool) (r : List ℕ) → (if b then varint_len_needed r else 0) ≤ 8
 session_need_most true r = (varint_need_range r).1
 session_need_most false r = omega arith
 
@@ -36,7 +36,7 @@ second_need_most (Some kind) r = session_need_most (has_session kind) r
 
 session_need_grows :
     (b : Bool) (r t : List ℕ)
-    → (if b then varint_need r else 0) ≤ (if b then varint_need (r ++ t) else 0)
+    → (if b then varint_len_needed r else 0) ≤ (if b then varint_len_needed (r ++ t) else 0)
 session_need_grows true r t = varint_need_grows r t
 session_need_grows false r t = omega arith
 

@@ -11,7 +11,7 @@ pub mod Datagram
 pub mod Limits
 pub mod Held
 pub mod FrameNeed
-pub mod FramePart
+pub mod PartialFrame
 pub mod FramePolling
 pub mod FrameSteps
 pub mod Named

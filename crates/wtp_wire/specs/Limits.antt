@@ -1,6 +1,6 @@
 -- The limits of one poll for a frame.
 use Rattle.std.specs.Prelude.{ℕ, ◌+◌}
-use Rattle.wtp_core.specs.Passing.{max_passed}
+use Rattle.wtp_core.specs.SkipAhead.{max_passed}
 
 -- the maximum length of a head: two numbers of at most 8 bytes
 abbrev pub max_head : ℕ

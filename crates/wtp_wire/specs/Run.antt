@@ -59,8 +59,8 @@ past_within zero bytes = bytes
 past_within (suc n) bytes = passed (λ rest. past_within n rest) bytes (front bytes)
 
 -- the bytes after all unknown frames at the start
-unfoldable pub past_unknown : List ℕ → List ℕ
-past_unknown bytes = past_within (length bytes) bytes
+unfoldable pub skip_unknown : List ℕ → List ℕ
+skip_unknown bytes = past_within (length bytes) bytes
 
 -- ---- the run
 
@@ -90,8 +90,8 @@ next_run more role first bytes rest tail Short = ends (run_stop bytes rest tail)
 abbrev pub run_within : ℕ → Role → Tail → Bool → List ℕ → Run
 run_within zero role tail first bytes = ends (run_stop bytes bytes tail)
 run_within (suc n) role tail first bytes =
-    next_run (λ f rest. run_within n role tail f rest) role first bytes (past_unknown bytes) tail
-    (front (past_unknown bytes))
+    next_run (λ f rest. run_within n role tail f rest) role first bytes (skip_unknown bytes) tail
+    (front (skip_unknown bytes))
 
 -- the run of the bytes on a stream with this role; the flag is whether no frame came before them
 unfoldable pub run : Role → Bool → List ℕ → Tail → Run

@@ -6,9 +6,9 @@ mod cursor;
 mod reading;
 
 pub use crate::capsule::cursor::{
-    AnyCapsule, CapsuleCursor, CapsulePlace, CapsuleStep, UnknownCapsule,
+    AnyCapsule, CapsuleCursor, CapsuleSpan, CapsuleStep, UnknownCapsule,
 };
-pub use crate::capsule::reading::{CapsuleReading, CutCapsule};
+pub use crate::capsule::reading::{CapsuleReading, TruncatedCapsule};
 use crate::frame::{Frame, FrameKind};
 use std::borrow::CowSlice;
 use std::marker::Model;
@@ -25,9 +25,9 @@ pub enum CapsuleKind {
 }
 
 impl CapsuleKind {
-    ghost use Rattle.wtp_wire.specs.Capsule.{capsule_kind_of, capsule_number_of, longest_value};
+    ghost use Rattle.wtp_wire.specs.Capsule.{capsule_kind_of, capsule_number_of, max_value_len};
 
-    /// Returns the type. Not in the Rust crate.
+    /// Returns the type.
     pub fn id(self) -> VarInt
         ensures { result ≡ capsule_number_of self }
     {
@@ -39,17 +39,16 @@ impl CapsuleKind {
     }
 
     /// Returns the length of the longest value that is read from a stream's data, in bytes: for a
-    /// capsule that closes a session 1028, a code of 4 and a reason of at most 1024. Not in the
-    /// Rust crate.
-    pub fn longest_value(self) -> usize
-        ensures { result ≡ longest_value self }
+    /// capsule that closes a session 1028, a code of 4 and a reason of at most 1024.
+    pub fn max_value_len(self) -> usize
+        ensures { result ≡ max_value_len self }
     {
         match self {
             CapsuleKind::CloseWebTransportSession => 1028,
         }
     }
 
-    /// Returns the kind of this type, or `None` if the type is unknown. Not in the Rust crate.
+    /// Returns the kind of this type, or `None` if the type is unknown.
     pub fn parse(id: VarInt) -> Option<Self>
         ensures { result ≡ capsule_kind_of id }
     {
@@ -62,7 +61,7 @@ impl CapsuleKind {
     }
 }
 
-/// The reason a capsule was not read or not made. Not in the Rust crate.
+/// The reason a capsule was not read or not made.
 #[derive(Debug, Drop, PartialEq, Eq, thiserror::Error)]
 pub enum CapsuleError {
     /// Its value is longer than those of its kind may be.
@@ -80,7 +79,7 @@ pub struct Capsule<'a> {
     payload: CowSlice<'a, u8>,
 }
 
-/// A capsule that owns its payload. Not in the Rust crate.
+/// A capsule that owns its payload.
 pub type CapsuleOwned = Capsule<'static>;
 
 impl<'a> Model for Capsule<'a> {

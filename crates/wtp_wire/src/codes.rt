@@ -3,14 +3,14 @@ ghost use Rattle.std.specs.Prelude.{◌≡◌};
 ghost use Rattle.wtp_core.specs.declared.error.ErrorCode.TheVariants.{Message};
 ghost use Rattle.wtp_wire.specs.Codes.{frame_code, frame_read_code, header_code, header_read_code, capsule_code};
 
-use crate::capsule::{CapsuleError, CutCapsule};
+use crate::capsule::{CapsuleError, TruncatedCapsule};
 use crate::{frame, stream_header};
 use wtp_core::bytes;
 use wtp_core::error::ErrorCode;
 
 impl frame::ParseError {
     /// Returns the error code, or `None` for an unknown frame, which is not an error and must be
-    /// ignored (RFC 9114, section 9). Not in the Rust crate.
+    /// ignored (RFC 9114, section 9).
     pub fn code(&self) -> Option<ErrorCode>
         ensures { result ≡ frame_code self.now }
     {
@@ -26,7 +26,7 @@ impl From<stream_header::ParseError> for ErrorCode {
     ghost from_gives = { λ fault code. code ≡ header_code fault };
 
     /// Returns the error code. An unknown stream type ends only that stream, never the connection
-    /// (RFC 9114, section 6.2). Not in the Rust crate.
+    /// (RFC 9114, section 6.2).
     fn from(fault: stream_header::ParseError) -> ErrorCode {
         match fault {
             stream_header::ParseError::UnknownStream => ErrorCode::StreamCreation,
@@ -37,7 +37,7 @@ impl From<stream_header::ParseError> for ErrorCode {
 
 impl frame::IoReadError {
     /// Returns the error code: that of the parse error, or [`ErrorCode::Frame`] if the source ended
-    /// inside a frame (RFC 9114, section 7.1). Not in the Rust crate.
+    /// inside a frame (RFC 9114, section 7.1).
     ///
     /// Returns `None` for an unknown frame, which must be ignored, and for every other error of the
     /// source.
@@ -53,7 +53,7 @@ impl frame::IoReadError {
 }
 
 impl stream_header::IoReadError {
-    /// Returns the error code of the parse error. Not in the Rust crate.
+    /// Returns the error code of the parse error.
     ///
     /// Returns `None` for an error of the source: a stream that ends or is reset before its header
     /// is complete must be tolerated (RFC 9114, section 6.2).
@@ -74,8 +74,7 @@ impl stream_header::IoReadError {
 
 impl CapsuleError {
     /// Returns the error code of a received capsule, or `None` if memory allocation failed. A value
-    /// that is too long is an error of the capsule protocol (RFC 9297, section 5.2). Not in the
-    /// Rust crate.
+    /// that is too long is an error of the capsule protocol (RFC 9297, section 5.2).
     pub fn code(&self) -> Option<ErrorCode>
         ensures { result ≡ capsule_code self.now }
     {
@@ -86,12 +85,12 @@ impl CapsuleError {
     }
 }
 
-impl From<CutCapsule> for ErrorCode {
+impl From<TruncatedCapsule> for ErrorCode {
     ghost from_gives = { λ _ code. code ≡ Message };
 
     /// Returns [`ErrorCode::Message`]: a message whose stream ends within a capsule is malformed
-    /// (RFC 9297, section 3.3; RFC 9114, section 4.1.2). Not in the Rust crate.
-    fn from(_fault: CutCapsule) -> ErrorCode {
+    /// (RFC 9297, section 3.3; RFC 9114, section 4.1.2).
+    fn from(_fault: TruncatedCapsule) -> ErrorCode {
         ErrorCode::Message
     }
 }

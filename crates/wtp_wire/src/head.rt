@@ -1,10 +1,10 @@
 //! The two numbers at the start of a frame, a capsule or a setting: a type or an identifier, then a
-//! length, a session ID or a value. Not in the Rust crate.
+//! length, a session ID or a value.
 ghost use Rattle.std.specs.Prelude.{◌≡◌, ◌≢◌, ◌+◌, ◌-◌, ◌<◌, ◌≤◌, ◌↔◌, length, drop, Some, None, MatchOption, IfSome};
 ghost use Rattle.wtp_wire.specs.FrameNeed.{frame_need};
 ghost use Rattle.wtp_wire.specs.Settings.{pair_at};
 
-use wtp_core::bytes::get::varint_need;
+use wtp_core::bytes::get::varint_len_needed;
 use wtp_core::varint::{VarInt, first_varint};
 
 /// The two numbers at the start of some bytes.
@@ -45,8 +45,8 @@ pub fn pair_size(bytes: &[u8]) -> usize
     ensures least { 2 ≤ result }
     ensures most { result ≤ 16 }
 {
-    let first = varint_need(bytes);
-    first + varint_need(bytes.get(first..).unwrap_or(&[]))
+    let first = varint_len_needed(bytes);
+    first + varint_len_needed(bytes.get(first..).unwrap_or(&[]))
 }
 
 /// Returns the minimum number of bytes missing from two numbers that start with these bytes: 0

@@ -26,14 +26,14 @@ pub fn front_is_computed()
 {}
 
 /// The input starts with the case that `front` computes. If that is `Short`, no other case holds.
-pub fn one_front()
+pub fn front_is_unique()
     ensures { (bytes : List ℕ)
         → Begins bytes (front bytes)
         ⊎ ((front bytes ≡ Short) × ((c : Front) → Begins bytes c → ⊥)) }
 {}
 
 /// Appending bytes does not change a case other than `Short`, except for its remainder.
-pub fn front_stays()
+pub fn front_is_stable()
     ensures { (bytes more : List ℕ) → front bytes ≢ Short
         → front (bytes ++ more) ≡ extended (front bytes) more }
 {}

@@ -7,7 +7,7 @@ ghost use Rattle.wtp_wire.specs.Rule.{rule};
 use crate::frame::FrameKind;
 use wtp_core::error::ErrorCode;
 
-/// The role of a stream whose frames are read. Not in the Rust crate.
+/// The role of a stream whose frames are read.
 #[derive(Clone, Copy, Debug, PartialEq, Eq)]
 pub enum StreamRole {
     /// A bidirectional stream that the peer opened: a request, or a stream of a session if its
@@ -25,7 +25,7 @@ pub enum StreamRole {
 ///
 /// `first` is whether the frame is the first one on the stream, not counting unknown frames. It
 /// matters only on a `BiRemote` stream: a WebTransport frame that is not the first one there is a
-/// `Frame` error. Every other error is `FrameUnexpected`. Not in the Rust crate.
+/// `Frame` error. Every other error is `FrameUnexpected`.
 ///
 /// These are the rules of RFC 9114, sections 6.2.1, 7.2 and table 1, that this library checks
 /// (docs/DIFFERENCES.md lists the others), and of draft-ietf-webtrans-http3-02, section 4.2.

@@ -64,8 +64,7 @@ impl SettingId {
         }
     }
 
-    /// Returns the setting of this number, or `None` if the number is unknown. Not in the Rust
-    /// crate.
+    /// Returns the setting of this number, or `None` if the number is unknown.
     #[tactic(auto, unfolding(crate::specs::SettingId::setting_id_of))]
     pub fn parse(id: VarInt) -> Option<Self>
         ensures { result ≡ setting_id_of id }
@@ -95,8 +94,7 @@ impl SettingId {
     }
 
     /// Returns whether the number identified a setting of HTTP/2 that HTTP/3 does not have: 0x00, or
-    /// 0x02 to 0x05. Such a setting must not be received (RFC 9114, section 7.2.4.1). Not in the Rust
-    /// crate.
+    /// 0x02 to 0x05. Such a setting must not be received (RFC 9114, section 7.2.4.1).
     pub fn is_reserved(id: VarInt) -> bool
         ensures { result ≡ is_reserved id }
     {
@@ -122,7 +120,7 @@ impl fmt::Display for SettingId {
     ghost output = { λ setting. Some (setting_name_of setting) };
 
     /// Prints the name in the standards, as `SETTINGS_H3_DATAGRAM`; of an exercise setting its
-    /// number, as `0x21`. Not in the Rust crate.
+    /// number, as `0x21`.
     fn fmt<W: fmt::Write>(&self, f: &mut fmt::Formatter<W>) -> fmt::Result {
         match self {
             SettingId::QPackMaxTableCapacity => f.write_str("SETTINGS_QPACK_MAX_TABLE_CAPACITY"),
@@ -284,7 +282,7 @@ impl Settings {
     }
 
     /// Writes the payload of a SETTINGS frame to the start of the buffer, in ascending order of the
-    /// setting numbers, and returns its size in bytes. It does not allocate. Not in the Rust crate.
+    /// setting numbers, and returns its size in bytes. It does not allocate.
     ///
     /// Returns `EndOfBuffer` exactly if the buffer is too short. Whatever it returns, the buffer
     /// then starts with those of the payload's numbers that fit completely, and its other bytes do

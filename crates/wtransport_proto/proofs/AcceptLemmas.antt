@@ -4,8 +4,8 @@ use Rattle.std.proofs.lemmas.Bool.{cases_lt}
 use Rattle.wtp_core.specs.declared.error.ErrorCode.{ErrorCode}
 use Rattle.wtp_core.specs.declared.error.ErrorCode.TheVariants.{Id, ExcessiveLoad, FrameUnexpected}
 use Rattle.wtp_core.specs.declared.bytes.polled.Polled.TheVariants.{Pending}
-use Rattle.wtp_core.specs.Source.{Source, Telling}
-use Rattle.wtp_core.specs.Polled.{Asks}
+use Rattle.wtp_core.specs.Source.{Source, HasModel}
+use Rattle.wtp_core.specs.Polled.{PollsAtMost}
 use Rattle.wtp_core.proofs.TellingLemmas.{telling_map, telling_both}
 use Rattle.wtp_wire.specs.declared.frame.kind.FrameKind.{FrameKind}
 use Rattle.wtp_wire.specs.declared.frame.kind.FrameKind.TheVariants.{Data, Headers, WebTransport, Exercise}
@@ -20,12 +20,12 @@ use Rattle.wtransport_proto.specs.declared.stream.accepting.BiAccepting.{BiAccep
 use Rattle.wtransport_proto.specs.declared.stream.polled.IoReadError.{IoReadError}
 use Rattle.wtransport_proto.specs.declared.stream.polled.IoReadError.TheVariants as stream
 use Rattle.wtp_wire.specs.Rule.{RemoteBi, rule}
-use Rattle.wtp_wire.specs.Run.{Run, Tail, MayGoOn, H3, follows, past_unknown, run}
+use Rattle.wtp_wire.specs.Run.{Run, Tail, MayGoOn, H3, follows, skip_unknown, run}
 use Rattle.wtransport_proto.specs.HeldRun.{tail_of, stop_of, count_held, run_held, run_of}
 use Rattle.wtransport_proto.specs.StreamPolling.{StreamTakesFrame, Faults, PassesUnknown, LacksMemory, StreamPolled}
 use Rattle.wtransport_proto.specs.Streams.{first_of, session_of}
 use Rattle.wtransport_proto.specs.Accepting.{Opening, Session, Request, Nothing, request_in, opening_by, known_by, opening, opening_of, TakesSession, TakesRequest, SameOpening, SkipsFrame, FailsToOpen, BiAcceptPolled, BiAcceptGiven, held_in, Judges}
-use Rattle.wtp_wire.proofs.RunLemmas.{past_unknown-unknown, past_unknown-framed, past_unknown-bad, past_unknown-big, past_unknown-short}
+use Rattle.wtp_wire.proofs.RunLemmas.{skip_unknown-unknown, skip_unknown-framed, skip_unknown-bad, skip_unknown-big, skip_unknown-short}
 use Rattle.wtransport_proto.proofs.HeldRunLemmas.{run_framed, run_refused, run_case, run_held-run, leaves_run, unknown_run, unknown_size, frame_run, framed_size}
 
 -- ---- by the first frame
@@ -79,14 +79,14 @@ opening-reserved first h xs rest payload tail number stops e =
     ∙ ap (λ (x : Run). requested x) (sym (run_held-run RemoteBi false new_held rest tail stops refl))
     ∙ sym (late new_held rest tail)
 
-known : (bytes : List ℕ) (c : Front) → front bytes ≡ c → front (past_unknown bytes) ≡ known_by c
-known bytes (Framed f rest) e = ap front (past_unknown-framed bytes rest f e) ∙ e
-known bytes (Unknown rest) e = ap front (past_unknown-unknown bytes rest e)
-known bytes (BadId rest) e = ap front (past_unknown-bad bytes rest e) ∙ e
-known bytes (TooBig rest) e = ap front (past_unknown-big bytes rest e) ∙ e
-known bytes Short e = ap front (past_unknown-short bytes e) ∙ e
+known : (bytes : List ℕ) (c : Front) → front bytes ≡ c → front (skip_unknown bytes) ≡ known_by c
+known bytes (Framed f rest) e = ap front (skip_unknown-framed bytes rest f e) ∙ e
+known bytes (Unknown rest) e = ap front (skip_unknown-unknown bytes rest e)
+known bytes (BadId rest) e = ap front (skip_unknown-bad bytes rest e) ∙ e
+known bytes (TooBig rest) e = ap front (skip_unknown-big bytes rest e) ∙ e
+known bytes Short e = ap front (skip_unknown-short bytes e) ∙ e
 
-known_new : (bytes : List ℕ) → front (past_unknown bytes) ≡ known_by (front_held new_held bytes)
+known_new : (bytes : List ℕ) → front (skip_unknown bytes) ≡ known_by (front_held new_held bytes)
 known_new bytes = known bytes (front bytes) refl ∙ ap known_by (sym (front_none [] 0 bytes refl))
 
 pub opening-unknown : (first : Bool) (h : Held) (xs rest : List ℕ) (tail : Tail) → tail ≢ MayGoOn → front_held h xs ≡ Unknown rest → opening first h xs tail ≡ opening first new_held rest tail
@@ -140,7 +140,7 @@ leaves_opening first next old new a b n v ending =
     same_opening first next old new a b n (ap known_by v.same) (leaves_run RemoteBi first old new a b v ending ∙ ap (λ (x : Bool). run_of RemoteBi x new b) (sym n))
 
 unknown_known : (first next : Bool) (old new : Held) (a b : Source) → PassesUnknown first next old new a b → known_by (front_held new b.ahead) ≡ known_by (front_held old a.ahead)
-unknown_known first next old new a b p = elim (cases_lt 0 new.due) [
+unknown_known first next old new a b p = elim (cases_lt 0 new.skip_remaining) [
   | inl l ↦ let w = p.part l in ap known_by w.0
   | inr l ↦ let d = p.whole (omega arith) in ap (λ (h : Held). known_by (front_held h b.ahead)) d.empty ∙ sym (known_new b.ahead) ∙ ap known_by (sym d.front)
 ]
@@ -238,17 +238,17 @@ skips_unknown first next old new a b p ending = record {
 
 -- what was judged, by the contents of the frame
 pub frame_told : (s t : Option Source) (r : BiAccepted) (f : Content) (first : Bool) (old : Held) (p : BiAccepting) → Judges r p f
-    → Telling s t (StreamTakesFrame RemoteBi first (first_of p.stream) old p.reading f) → Telling s t (Asks 4112) → Telling s t (BiAcceptPolled r first old)
+    → HasModel s t (StreamTakesFrame RemoteBi first (first_of p.stream) old p.reading f) → HasModel s t (PollsAtMost 4112) → HasModel s t (BiAcceptPolled r first old)
 frame_told s t (accepted.WebTransport u) f first old p j q k = telling_map s t (StreamTakesFrame RemoteBi first (first_of p.stream) old p.reading f) (TakesSession first old (session_of u))
     (λ a b d. takes_session first (first_of p.stream) old p.reading (session_of u) a b (rw j at d)) q
 frame_told s t (accepted.Request u reading g) f first old p j q k = rw (j.0, j.1, j.2) (
-    telling_map s t (λ a b. StreamTakesFrame RemoteBi first (first_of p.stream) old p.reading f a b × Asks 4112 a b) (TakesRequest first (first_of p.stream) old p.reading f)
+    telling_map s t (λ a b. StreamTakesFrame RemoteBi first (first_of p.stream) old p.reading f a b × PollsAtMost 4112 a b) (TakesRequest first (first_of p.stream) old p.reading f)
     (λ a b d. takes_request first (first_of p.stream) old p.reading f a b j.3 d.0 d.1.ending)
-    (telling_both s t (StreamTakesFrame RemoteBi first (first_of p.stream) old p.reading f) (Asks 4112) q k))
+    (telling_both s t (StreamTakesFrame RemoteBi first (first_of p.stream) old p.reading f) (PollsAtMost 4112) q k))
 frame_told s t (accepted.Again u) f first old p (same, (number, payload, e)) q k = rw same (
-    telling_map s t (λ a b. StreamTakesFrame RemoteBi first (first_of p.stream) old p.reading f a b × Asks 4112 a b) (SkipsFrame first (first_of p.stream) old p.reading)
+    telling_map s t (λ a b. StreamTakesFrame RemoteBi first (first_of p.stream) old p.reading f a b × PollsAtMost 4112 a b) (SkipsFrame first (first_of p.stream) old p.reading)
     (λ a b d. skips_reserved first (first_of p.stream) old p.reading number payload a b (rw e at d.0) d.1.ending)
-    (telling_both s t (StreamTakesFrame RemoteBi first (first_of p.stream) old p.reading f) (Asks 4112) q k))
+    (telling_both s t (StreamTakesFrame RemoteBi first (first_of p.stream) old p.reading f) (PollsAtMost 4112) q k))
 frame_told s t (accepted.Pending u) f first old p j q k = absurd j
 frame_told s t (accepted.NoMemory u) f first old p j q k = absurd j
 frame_told s t (accepted.Failed u x) f first old p (same, is, (payload, e)) q k = rw (same, is) (
@@ -256,26 +256,26 @@ frame_told s t (accepted.Failed u x) f first old p (same, is, (payload, e)) q k 
     (λ a b d. data_fails first (first_of p.stream) old p.reading payload a b (rw e at d)) q)
 
 pub again_told : (s t : Option Source) (first next : Bool) (old new : Held)
-    → Telling s t (PassesUnknown first next old new) → Telling s t (Asks 4112) → Telling s t (SkipsFrame first next old new)
-again_told s t first next old new q k = telling_map s t (λ a b. PassesUnknown first next old new a b × Asks 4112 a b) (SkipsFrame first next old new)
-    (λ a b d. skips_unknown first next old new a b d.0 d.1.ending) (telling_both s t (PassesUnknown first next old new) (Asks 4112) q k)
+    → HasModel s t (PassesUnknown first next old new) → HasModel s t (PollsAtMost 4112) → HasModel s t (SkipsFrame first next old new)
+again_told s t first next old new q k = telling_map s t (λ a b. PassesUnknown first next old new a b × PollsAtMost 4112 a b) (SkipsFrame first next old new)
+    (λ a b d. skips_unknown first next old new a b d.0 d.1.ending) (telling_both s t (PassesUnknown first next old new) (PollsAtMost 4112) q k)
 
 pub pending_told : (s t : Option Source) (first : Bool) (old : Held) (p : BiAccepting)
-    → Telling s t (StreamPolled RemoteBi Pending first (first_of p.stream) old p.reading) → Telling s t (Asks 4112) → Telling s t (BiAcceptPolled (accepted.Pending p) first old)
+    → HasModel s t (StreamPolled RemoteBi Pending first (first_of p.stream) old p.reading) → HasModel s t (PollsAtMost 4112) → HasModel s t (BiAcceptPolled (accepted.Pending p) first old)
 pending_told s t first old p q k =
-    telling_map s t (λ a b. StreamPolled RemoteBi Pending first (first_of p.stream) old p.reading a b × Asks 4112 a b) (BiAcceptPolled (accepted.Pending p) first old)
+    telling_map s t (λ a b. StreamPolled RemoteBi Pending first (first_of p.stream) old p.reading a b × PollsAtMost 4112 a b) (BiAcceptPolled (accepted.Pending p) first old)
     (λ a b d. (leaves_opening first (first_of p.stream) old p.reading a b d.0.1 d.0.0 d.1.ending, d.0.0, d.0.1, d.0.2))
-    (telling_both s t (StreamPolled RemoteBi Pending first (first_of p.stream) old p.reading) (Asks 4112) q k)
+    (telling_both s t (StreamPolled RemoteBi Pending first (first_of p.stream) old p.reading) (PollsAtMost 4112) q k)
 
 pub no_memory_told : (s t : Option Source) (first : Bool) (old : Held) (p : BiAccepting)
-    → Telling s t (LacksMemory first (first_of p.stream) old p.reading) → Telling s t (Asks 4112) → Telling s t (BiAcceptPolled (accepted.NoMemory p) first old)
+    → HasModel s t (LacksMemory first (first_of p.stream) old p.reading) → HasModel s t (PollsAtMost 4112) → HasModel s t (BiAcceptPolled (accepted.NoMemory p) first old)
 no_memory_told s t first old p q k =
-    telling_map s t (λ a b. LacksMemory first (first_of p.stream) old p.reading a b × Asks 4112 a b) (BiAcceptPolled (accepted.NoMemory p) first old)
+    telling_map s t (λ a b. LacksMemory first (first_of p.stream) old p.reading a b × PollsAtMost 4112 a b) (BiAcceptPolled (accepted.NoMemory p) first old)
     (λ a b d. (leaves_opening first (first_of p.stream) old p.reading a b d.0.flag d.0.leaves d.1.ending, d.0))
-    (telling_both s t (LacksMemory first (first_of p.stream) old p.reading) (Asks 4112) q k)
+    (telling_both s t (LacksMemory first (first_of p.stream) old p.reading) (PollsAtMost 4112) q k)
 
 pub fault_told : (s t : Option Source) (first next : Bool) (old new : Held) (x : IoReadError)
-    → Telling s t (Faults RemoteBi first next old new x) → Telling s t (FailsToOpen first next old new x)
+    → HasModel s t (Faults RemoteBi first next old new x) → HasModel s t (FailsToOpen first next old new x)
 fault_told s t first next old new x q = telling_map s t (Faults RemoteBi first next old new x) (FailsToOpen first next old new x)
     (λ a b d. faults_fail first next old new x a b d) q
 

@@ -18,16 +18,16 @@ use Rattle.wtransport_proto.specs.FrameCursor.{run_from, known_from, payload_at,
 use Rattle.wtransport_proto.specs.HeldRun.{stop_of, count_held, run_held}
 use Rattle.wtp_wire.specs.Role.{role_of}
 use Rattle.wtp_wire.specs.Rule.{Role, rule}
-use Rattle.wtp_wire.specs.Run.{Run, Tail, MayGoOn, Ended, WasReset, Lost, H3, ends, follows, passed, past_within, past_unknown, run}
+use Rattle.wtp_wire.specs.Run.{Run, Tail, MayGoOn, Ended, WasReset, Lost, H3, ends, follows, passed, past_within, skip_unknown, run}
 use Rattle.wtransport_proto.specs.declared.stream.cursor.FrameCursor.{FrameCursor}
-use Rattle.wtransport_proto.specs.declared.stream.cursor.FramePlace.{FramePlace}
-use Rattle.wtransport_proto.proofs.CutFrameLemmas.{HasNumbers, Lacks, lacks_due, unknown_front}
-use Rattle.wtransport_proto.proofs.HeldRunLemmas.{run_case, run_held-run, run_held-due, by_same}
+use Rattle.wtransport_proto.specs.declared.stream.cursor.FrameSpan.{FrameSpan}
+use Rattle.wtransport_proto.proofs.CutFrameLemmas.{HasNumbers, TooShort, lacks_due, unknown_front}
+use Rattle.wtransport_proto.proofs.HeldRunLemmas.{run_case, run_held-run, run_held-skip_remaining, by_same}
 use Rattle.wtransport_proto.proofs.ReadingLemmas.{run-unknown}
 use Rattle.wtp_wire.proofs.RunLaws.{run-allowed, run-refused, run-bad_id, run-too_big}
 
 abbrev skipping : ℕ → Held
-skipping n = record { taken = []; due = n }
+skipping n = record { taken = []; skip_remaining = n }
 
 -- ---- the first frame, whatever follows
 
@@ -46,8 +46,8 @@ past_run : (n : ℕ) (role : Role) (first : Bool) (bytes more : List ℕ) (tail 
 past_run zero role first bytes more tail t = refl
 past_run (suc n) role first bytes more tail t = past_case role first bytes more tail (front bytes) (λ rest. past_within n rest) t refl (λ rest. past_run n role first rest more tail t)
 
-known_run : (role : Role) (first : Bool) (bytes more : List ℕ) (tail : Tail) → tail ≢ MayGoOn → run role first (past_unknown bytes ++ more) tail ≡ run role first (bytes ++ more) tail
-unfolding past_unknown
+known_run : (role : Role) (first : Bool) (bytes more : List ℕ) (tail : Tail) → tail ≢ MayGoOn → run role first (skip_unknown bytes ++ more) tail ≡ run role first (bytes ++ more) tail
+unfolding skip_unknown
 known_run role first bytes more tail t = past_run (length bytes) role first bytes more tail t
 
 none_due : (role : Role) (first : Bool) (n : ℕ) (bytes : List ℕ) (tail : Tail) → tail ≢ MayGoOn → n ≡ 0 → run_held role first (skipping n) bytes tail ≡ run role first bytes tail
@@ -56,18 +56,18 @@ none_due role first n bytes tail t z = run_held-run role first (skipping n) byte
 due_skipped : (role : Role) (first : Bool) (d : ℕ) (bytes more : List ℕ) (tail : Tail) → tail ≢ MayGoOn → d ≤ length bytes → run_held role first (skipping d) (bytes ++ more) tail ≡ run role first (drop d bytes ++ more) tail
 due_skipped role first d bytes more tail t l = elim (cases_lt 0 d) [
   | inl some ↦
-      run_held-due role first (skipping d) (bytes ++ more) tail some (omega (arith, length-append bytes more))
+      run_held-skip_remaining role first (skipping d) (bytes ++ more) tail some (omega (arith, length-append bytes more))
       ∙ ap (λ (b : List ℕ). run role first b tail) (drop-append-le d bytes more l)
   | inr none ↦ let z : d ≡ 0 = omega arith in rw z (none_due role first 0 (bytes ++ more) tail t refl)
 ]
 
 -- the run from the first frame on that is not skipped
-from_known : (c : FrameCursor) (bytes more : List ℕ) (tail : Tail) → tail ≢ MayGoOn → c.due ≤ length bytes → run_from c (bytes ++ more) tail ≡ run (role_of c.role) c.first (known_from c bytes ++ more) tail
-from_known c bytes more tail t l = due_skipped (role_of c.role) c.first c.due bytes more tail t l ∙ sym (known_run (role_of c.role) c.first (drop c.due bytes) more tail t)
+from_known : (c : FrameCursor) (bytes more : List ℕ) (tail : Tail) → tail ≢ MayGoOn → c.skip_remaining ≤ length bytes → run_from c (bytes ++ more) tail ≡ run (role_of c.role) c.first (known_from c bytes ++ more) tail
+from_known c bytes more tail t l = due_skipped (role_of c.role) c.first c.skip_remaining bytes more tail t l ∙ sym (known_run (role_of c.role) c.first (drop c.skip_remaining bytes) more tail t)
 
 -- ---- a frame, and a fault
 
-pub continues_framed : (old : FrameCursor) (bytes rest : List ℕ) (f : Content) → old.due ≤ length bytes → front (known_from old bytes) ≡ Framed f rest → rule (role_of old.role) old.first (kind_in f) ≡ None → Continues old bytes (record old { first = false; due = 0 }) rest (λ r. follows f r)
+pub continues_framed : (old : FrameCursor) (bytes rest : List ℕ) (f : Content) → old.skip_remaining ≤ length bytes → front (known_from old bytes) ≡ Framed f rest → rule (role_of old.role) old.first (kind_in f) ≡ None → Continues old bytes (record old { first = false; skip_remaining = 0 }) rest (λ r. follows f r)
 continues_framed old bytes rest f l e allowed = λ more tail t.
     from_known old bytes more tail t l
     ∙ run-allowed (role_of old.role) old.first (known_from old bytes ++ more) (rest ++ more) tail f (more_is (known_from old bytes) more (Framed f rest) e (λ h. cc)) allowed
@@ -80,7 +80,7 @@ fault_case role first bytes more tail c (BadId rest) e h = run-bad_id role first
 fault_case role first bytes more tail c (TooBig rest) e h = run-too_big role first (bytes ++ more) (rest ++ more) tail (more_is bytes more (TooBig rest) e (λ z. cc)) ∙ ap (λ (d : ErrorCode). ends (H3 d)) (sym h)
 fault_case role first bytes more tail c Short e h = absurd h
 
-pub continues_fault : (old new : FrameCursor) (bytes rest : List ℕ) (c : ErrorCode) → old.due ≤ length bytes → IsFault (role_of old.role) old.first (front (known_from old bytes)) c → Continues old bytes new rest (λ r. ends (H3 c))
+pub continues_fault : (old new : FrameCursor) (bytes rest : List ℕ) (c : ErrorCode) → old.skip_remaining ≤ length bytes → IsFault (role_of old.role) old.first (front (known_from old bytes)) c → Continues old bytes new rest (λ r. ends (H3 c))
 continues_fault old new bytes rest c l h = λ more tail t.
     from_known old bytes more tail t l ∙ fault_case (role_of old.role) old.first (known_from old bytes) more tail c (front (known_from old bytes)) refl h
 
@@ -112,29 +112,29 @@ skip_more d xs more l = elim (cases_lt (length more) (d - length xs)) [
 ]
 
 -- fewer bytes than are due
-pub continues_due : (old : FrameCursor) (bytes : List ℕ) → length bytes < old.due → Continues old bytes (record old { due = old.due - length bytes }) [] (λ r. r)
+pub continues_due : (old : FrameCursor) (bytes : List ℕ) → length bytes < old.skip_remaining → Continues old bytes (record old { skip_remaining = old.skip_remaining - length bytes }) [] (λ r. r)
 continues_due old bytes l = λ more tail t.
-    same_run (role_of old.role) old.first (skipping old.due) (skipping (old.due - length bytes)) (bytes ++ more) more tail t
-    (front_due [] old.due (bytes ++ more) (omega arith) ∙ skip_more old.due bytes more l ∙ sym (front_due [] (old.due - length bytes) more (omega arith)))
+    same_run (role_of old.role) old.first (skipping old.skip_remaining) (skipping (old.skip_remaining - length bytes)) (bytes ++ more) more tail t
+    (front_due [] old.skip_remaining (bytes ++ more) (omega arith) ∙ skip_more old.skip_remaining bytes more l ∙ sym (front_due [] (old.skip_remaining - length bytes) more (omega arith)))
     (omega arith) (omega arith)
 
-lacks_front : (bytes more : List ℕ) (n : ℕ) → Lacks bytes n → 0 < n → front (bytes ++ more) ≡ skip_front n more
+lacks_front : (bytes more : List ℕ) (n : ℕ) → TooShort bytes n → 0 < n → front (bytes ++ more) ≡ skip_front n more
 lacks_front bytes more n h some =
     let numbers : HasNumbers (bytes ++ more) h.id h.size (h.mid ++ more) (h.rest ++ more) =
     record { first = number_at-more h.id bytes h.mid more h.numbers.first; second = number_at-more h.size h.mid h.rest more h.numbers.second } in
     unknown_front (bytes ++ more) (h.mid ++ more) (h.rest ++ more) h.id h.size numbers h.no_kind
-    ∙ skip_more h.size h.rest more (omega (arith, h.due, some))
-    ∙ ap (λ (k : ℕ). skip_front k more) (omega (arith, h.due))
+    ∙ skip_more h.size h.rest more (omega (arith, h.skip_remaining, some))
+    ∙ ap (λ (k : ℕ). skip_front k more) (omega (arith, h.skip_remaining))
 
 none_empty : (v : ℕ) (rest : List ℕ) → number_at [] ≡ Some (v, rest) → ⊥
 unfolding number_at
 none_empty v rest e = cc
 
-lacks_some : (bytes : List ℕ) (n : ℕ) → Lacks bytes n → 0 < length bytes
+lacks_some : (bytes : List ℕ) (n : ℕ) → TooShort bytes n → 0 < length bytes
 lacks_some [] n h = absurd (none_empty h.id h.mid h.numbers.first)
 lacks_some (b ∷ bytes) n h = omega arith
 
-lacks_run : (role : Role) (first : Bool) (bytes more : List ℕ) (n : ℕ) (tail : Tail) → tail ≢ MayGoOn → Lacks bytes n → 0 < n → run role first (bytes ++ more) tail ≡ run_held role first (skipping n) more tail
+lacks_run : (role : Role) (first : Bool) (bytes more : List ℕ) (n : ℕ) (tail : Tail) → tail ≢ MayGoOn → TooShort bytes n → 0 < n → run role first (bytes ++ more) tail ≡ run_held role first (skipping n) more tail
 lacks_run role first bytes more n tail t h some =
     sym (none_due role first 0 (bytes ++ more) tail t refl)
     ∙ same_run role first (skipping 0) (skipping n) (bytes ++ more) more tail t
@@ -142,13 +142,13 @@ lacks_run role first bytes more n tail t h some =
     (omega (arith, length-append bytes more, lacks_some bytes n h)) (omega arith)
 
 -- an unknown frame begins, which the bytes cut
-pub continues_cut : (old : FrameCursor) (bytes : List ℕ) (n : ℕ) → old.due ≤ length bytes → n ≡ due_in (known_from old bytes) → 0 < n → Continues old bytes (record old { due = n }) [] (λ r. r)
+pub continues_cut : (old : FrameCursor) (bytes : List ℕ) (n : ℕ) → old.skip_remaining ≤ length bytes → n ≡ due_in (known_from old bytes) → 0 < n → Continues old bytes (record old { skip_remaining = n }) [] (λ r. r)
 continues_cut old bytes n l d some = λ more tail t.
     from_known old bytes more tail t l
-    ∙ lacks_run (role_of old.role) old.first (known_from old bytes) more n tail t (subst (λ (k : ℕ). Lacks (known_from old bytes) k) (sym d) (lacks_due (known_from old bytes) (omega (arith, d, some)))) some
+    ∙ lacks_run (role_of old.role) old.first (known_from old bytes) more n tail t (subst (λ (k : ℕ). TooShort (known_from old bytes) k) (sym d) (lacks_due (known_from old bytes) (omega (arith, d, some)))) some
 
 -- another frame begins, or none
-pub continues_left : (old : FrameCursor) (bytes : List ℕ) (n : ℕ) → old.due ≤ length bytes → n ≡ 0 → Continues old bytes (record old { due = n }) (known_from old bytes) (λ r. r)
+pub continues_left : (old : FrameCursor) (bytes : List ℕ) (n : ℕ) → old.skip_remaining ≤ length bytes → n ≡ 0 → Continues old bytes (record old { skip_remaining = n }) (known_from old bytes) (λ r. r)
 continues_left old bytes n l z = λ more tail t.
     from_known old bytes more tail t l ∙ sym (none_due (role_of old.role) old.first n (known_from old bytes ++ more) tail t z)
 
@@ -175,8 +175,8 @@ rest-drop : (n : ℕ) (bytes : List ℕ) → IsRest (drop n bytes) bytes
 rest-drop n bytes = record { taken = take n bytes; parts = sym (take-append-drop n bytes) }
 
 pub known_rest : (c : FrameCursor) (bytes : List ℕ) → IsRest (known_from c bytes) bytes
-unfolding past_unknown
-known_rest c bytes = rest-rest (known_from c bytes) (drop c.due bytes) bytes (past_within-rest (length (drop c.due bytes)) (drop c.due bytes)) (rest-drop c.due bytes)
+unfolding skip_unknown
+known_rest c bytes = rest-rest (known_from c bytes) (drop c.skip_remaining bytes) bytes (past_within-rest (length (drop c.skip_remaining bytes)) (drop c.skip_remaining bytes)) (rest-drop c.skip_remaining bytes)
 
 -- the payload of the frame is right in front of the rest
 record Precedes (f : Content) (rest bytes : List ℕ) : Type 0 where
@@ -223,13 +223,13 @@ content_is (PlainOf kind payload) = refl
 content_is (WebTransportOf id) = refl
 
 -- what a place is of, in these bytes
-pub record AtPlace (p : FramePlace) (f : Content) (bytes rest : List ℕ) : Type 0 where
+pub record AtPlace (p : FrameSpan) (f : Content) (bytes rest : List ℕ) : Type 0 where
   pub within : p.end ≤ length bytes
   pub payload : payload_at p bytes ≡ payload_in f
   pub frame : frame_at p bytes ≡ f
   pub left : drop p.end bytes ≡ rest
 
-pub at_place : (p : FramePlace) (f : Content) (bytes known rest : List ℕ) → IsRest known bytes → front known ≡ Framed f rest → IsPlaceOf p f (length bytes - length rest) → AtPlace p f bytes rest
+pub at_place : (p : FrameSpan) (f : Content) (bytes known rest : List ℕ) → IsRest known bytes → front known ≡ Framed f rest → IsPlaceOf p f (length bytes - length rest) → AtPlace p f bytes rest
 at_place p f bytes known rest r e h =
     let l = placed f rest bytes (precedes_whole bytes known rest f r (framed_precedes known rest f e)) in
     let size : p.end - p.start ≡ length (payload_in f) = omega (arith, h.start, h.end, l.sizes) in

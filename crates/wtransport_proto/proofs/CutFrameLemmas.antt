@@ -2,7 +2,7 @@
 use Rattle.std.proofs.Common.{◌≡◌, ◌≢◌, ℕ, ◌+◌, ◌-◌, ◌<◌, ◌≤◌, ◌==◌, ◌%◌, Bool, true, false, List, length, drop, take, refl, sym, ◌∙◌, arith, Option, Some, None, inl, inr, length-drop, subst, append_assoc, append-nil, ap, ◌++◌, []}
 use Rattle.std.proofs.lemmas.Bool.{cases_lt, le-ltb, lt-ltb}
 use Rattle.wtp_core.specs.Varint.{Encodes, bytes_at, number_at}
-use Rattle.wtp_core.specs.VarintNeed.{varint_need, varint_need_range}
+use Rattle.wtp_core.specs.VarintLenNeeded.{varint_len_needed, varint_need_range}
 use Rattle.wtp_core.proofs.EncodingLemmas.{number_at-encoding, number_at-encodes}
 use Rattle.wtp_core.proofs.NeedLemmas.{number_at-full}
 use Rattle.wtp_wire.specs.declared.frame.kind.FrameKind.{FrameKind}
@@ -27,25 +27,25 @@ pub unknown_front : (bytes mid rest : List ℕ) (id n : ℕ) → HasNumbers byte
 unknown_front bytes mid rest id n h none = front-head bytes rest _ (head_at-numbers bytes mid rest id n h.first h.second) ∙ rw none refl
 
 -- an unknown frame begins, and n bytes of its payload are missing
-pub record Lacks (bytes : List ℕ) (n : ℕ) : Type 0 where
+pub record TooShort (bytes : List ℕ) (n : ℕ) : Type 0 where
   pub id : ℕ
   pub size : ℕ
   pub mid : List ℕ
   pub rest : List ℕ
   pub numbers : HasNumbers bytes id size mid rest
   pub no_kind : kind_of id ≡ None
-  pub due : length rest + n ≡ size
+  pub skip_remaining : length rest + n ≡ size
 
-pub lacks_due : (bytes : List ℕ) → 0 < due_in bytes → Lacks bytes (due_in bytes)
+pub lacks_due : (bytes : List ℕ) → 0 < due_in bytes → TooShort bytes (due_in bytes)
 unfolding due_in
 lacks_due bytes l = first (number_at bytes) refl l
   where
-    second : (id : ℕ) (mid : List ℕ) (k : Option FrameKind) (o : Option (ℕ × List ℕ)) → number_at bytes ≡ Some (id, mid) → kind_of id ≡ k → number_at mid ≡ o → 0 < due_second k o → Lacks bytes (due_second k o)
+    second : (id : ℕ) (mid : List ℕ) (k : Option FrameKind) (o : Option (ℕ × List ℕ)) → number_at bytes ≡ Some (id, mid) → kind_of id ≡ k → number_at mid ≡ o → 0 < due_second k o → TooShort bytes (due_second k o)
     second id mid k None e f g l = absurd (omega (arith, l))
     second id mid (Some kind) (Some size) e f g l = absurd (omega (arith, l))
-    second id mid None (Some size) e f g l = record { id = id; size = size.0; mid = mid; rest = size.1; numbers = record { first = e; second = g }; no_kind = f; due = omega (arith, l) }
+    second id mid None (Some size) e f g l = record { id = id; size = size.0; mid = mid; rest = size.1; numbers = record { first = e; second = g }; no_kind = f; skip_remaining = omega (arith, l) }
 
-    first : (o : Option (ℕ × List ℕ)) → number_at bytes ≡ o → 0 < due_first o → Lacks bytes (due_first o)
+    first : (o : Option (ℕ × List ℕ)) → number_at bytes ≡ o → 0 < due_first o → TooShort bytes (due_first o)
     first None e l = absurd (omega (arith, l))
     first (Some id) e l = second id.0 id.1 (kind_of id.0) (number_at id.1) e refl refl l
 
@@ -55,7 +55,7 @@ due_is bytes mid rest id n h none = rw (h.first, none, h.second) refl
 
 -- ---- what is computed is what the grammar says
 
-lacks_begins : (bytes : List ℕ) (n : ℕ) → Lacks bytes n → BeginsUnknown bytes n []
+lacks_begins : (bytes : List ℕ) (n : ℕ) → TooShort bytes n → BeginsUnknown bytes n []
 lacks_begins bytes n h =
     let (first, typed, one) = number_at-encodes h.id bytes h.mid h.numbers.first in
     let (second, number, two) = number_at-encodes h.size h.mid h.rest h.numbers.second in
@@ -66,7 +66,7 @@ lacks_begins bytes n h =
       is_head = record {
         id = h.id;
         no_kind = λ kind is. none_some kind (kind_of h.id) h.no_kind (kind_of-is kind h.id is);
-        encoded = record { first = first; second = second; parts = refl; type_number = typed; number = subst (λ (k : ℕ). Encodes k second) (sym h.due) number };
+        encoded = record { first = first; second = second; parts = refl; type_number = typed; number = subst (λ (k : ℕ). Encodes k second) (sym h.skip_remaining) number };
       };
     }
   where
@@ -137,16 +137,16 @@ few_second (Some WebTransport) bytes mid rest id n h k s d = absurd (session_is 
 few_second (Some kind) bytes mid rest id n h k s d = few_plain kind bytes mid rest id n h k (λ e. cc) s
 
 pub few_left : (bytes : List ℕ) → front bytes ≡ Short → due_in bytes ≡ 0 → length bytes ≤ 4111
-few_left bytes s d = elim (cases_lt (length bytes) (varint_need bytes)) [
+few_left bytes s d = elim (cases_lt (length bytes) (varint_len_needed bytes)) [
   | inl cut ↦ omega (arith, cut, (varint_need_range bytes).1)
   | inr full ↦
-      let mid = drop (varint_need bytes) bytes in
+      let mid = drop (varint_len_needed bytes) bytes in
       let (id, e) = number_at-full bytes full in
-      elim (cases_lt (length mid) (varint_need mid)) [
-        | inl cut ↦ omega (arith, cut, (varint_need_range mid).1, (varint_need_range bytes).1, length-drop (varint_need bytes) bytes)
+      elim (cases_lt (length mid) (varint_len_needed mid)) [
+        | inl cut ↦ omega (arith, cut, (varint_need_range mid).1, (varint_need_range bytes).1, length-drop (varint_len_needed bytes) bytes)
         | inr there ↦
             let (n, f) = number_at-full mid there in
-            let less = few_second (kind_of id) bytes mid (drop (varint_need mid) mid) id n (record { first = e; second = f }) refl s d in
-            omega (arith, less, (varint_need_range mid).1, (varint_need_range bytes).1, length-drop (varint_need mid) mid, length-drop (varint_need bytes) bytes)
+            let less = few_second (kind_of id) bytes mid (drop (varint_len_needed mid) mid) id n (record { first = e; second = f }) refl s d in
+            omega (arith, less, (varint_need_range mid).1, (varint_need_range bytes).1, length-drop (varint_len_needed mid) mid, length-drop (varint_len_needed bytes) bytes)
       ]
 ]

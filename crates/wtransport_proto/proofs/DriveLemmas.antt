@@ -3,8 +3,8 @@ use Rattle.std.proofs.Common.{◌≡◌, ℕ, ◌+◌, ◌*◌, ◌<◌, ◌≤�
 use Rattle.std.proofs.Math.Seq.{drop-append_seam}
 use Rattle.std.proofs.lemmas.List.{drop-append-le}
 use Rattle.wtp_core.specs.declared.bytes.polled.Polled.TheVariants.{Ready, Pending, Again, NoMemory}
-use Rattle.wtp_core.specs.Source.{Source, Telling}
-use Rattle.wtp_core.specs.Polled.{Asks}
+use Rattle.wtp_core.specs.Source.{Source, HasModel}
+use Rattle.wtp_core.specs.Polled.{PollsAtMost}
 use Rattle.wtp_core.proofs.TellingLemmas.{telling_map, telling_same, telling_then, telling_both}
 use Rattle.wtp_wire.specs.Content.{Content}
 use Rattle.wtp_wire.specs.Held.{Held, IsUnfinished, Leaves}
@@ -60,7 +60,7 @@ after_none fs r e = rw e refl
 after_more : (fs : List Content) (f : Content) (r : Run) → after fs (after (f ∷ []) r) ≡ after (fs ++ f ∷ []) r
 after_more fs f r = ap (λ (l : List Content). record { frames = l; ending = r.ending }) (sym (append_assoc fs (f ∷ []) r.frames))
 
-pub asks_more : (n : ℕ) (a b c : Source) → Asks (4112 * n) a b → Asks 4112 b c → Asks (4112 * (n + 1)) a c
+pub asks_more : (n : ℕ) (a b c : Source) → PollsAtMost (4112 * n) a b → PollsAtMost 4112 b c → PollsAtMost (4112 * (n + 1)) a c
 asks_more n a b c g k = record {
   asked = let one = g.asked in let two = k.asked in omega arith;
   no_less = let one = g.no_less in let two = k.no_less in omega arith;
@@ -68,7 +68,7 @@ asks_more n a b c g k = record {
   waits = let one = g.waits in let two = k.waits in omega arith;
 }
 
-asks_within : (n m : ℕ) (a b : Source) → n ≤ m → Asks (4112 * n) a b → Asks (4112 * m) a b
+asks_within : (n m : ℕ) (a b : Source) → n ≤ m → PollsAtMost (4112 * n) a b → PollsAtMost (4112 * m) a b
 asks_within n m a b l g = record {
   asked = let one = g.asked in omega arith;
   no_less = g.no_less;
@@ -76,7 +76,7 @@ asks_within n m a b l g = record {
   waits = g.waits;
 }
 
-pub asks_last : (n polls : ℕ) (a b c : Source) → n < polls → Asks (4112 * n) a b → Asks 4112 b c → Asks (4112 * polls) a c
+pub asks_last : (n polls : ℕ) (a b c : Source) → n < polls → PollsAtMost (4112 * n) a b → PollsAtMost 4112 b c → PollsAtMost (4112 * polls) a c
 asks_last n polls a b c lt g k = asks_within (n + 1) polls a c (omega arith) (asks_more n a b c g k)
 
 pub drove_start : (role : Role) (first : Bool) (h : Held) (fs : List Content) (a : Source) → fs ≡ [] → Drove role first first h h fs 0 a a
@@ -88,7 +88,7 @@ drove_start role first h fs a none = record {
   series = series_start TakesSome role first h fs a none;
 }
 
-drove_frame : (role : Role) (f0 f1 f2 : Bool) (old mid new : Held) (fs fs' : List Content) (f : Content) (n : ℕ) (a b c : Source) → fs' ≡ fs ++ f ∷ [] → Drove role f0 f1 old mid fs n a b → StreamTakesFrame role f1 f2 mid new f b c → Asks 4112 b c → Drove role f0 f2 old new fs' (n + 1) a c
+drove_frame : (role : Role) (f0 f1 f2 : Bool) (old mid new : Held) (fs fs' : List Content) (f : Content) (n : ℕ) (a b c : Source) → fs' ≡ fs ++ f ∷ [] → Drove role f0 f1 old mid fs n a b → StreamTakesFrame role f1 f2 mid new f b c → PollsAtMost 4112 b c → Drove role f0 f2 old new fs' (n + 1) a c
 drove_frame role f0 f1 f2 old mid new fs fs' f n a b c is g t k = record {
   run = g.run ∙ ap (after fs) (frame_run role f1 f2 mid new f b c t k.ending) ∙ after_more fs f (run_of role f2 new c) ∙ ap (λ (l : List Content). after l (run_of role f2 new c)) (sym is);
   place = same_then (place_of role f0 old a) (place_of role f1 mid b) (place_of role f2 new c) g.place (frame_place role f1 f2 mid new f b c t);
@@ -97,7 +97,7 @@ drove_frame role f0 f1 f2 old mid new fs fs' f n a b c is g t k = record {
   series = series_on TakesSome role fs fs' n (Ready (Ok f)) f0 f1 f2 old mid new a b c is tt g.series t;
 }
 
-drove_unknown : (role : Role) (f0 f1 f2 : Bool) (old mid new : Held) (fs : List Content) (n : ℕ) (a b c : Source) → IsUnfinished mid → Drove role f0 f1 old mid fs n a b → PassesUnknown f1 f2 mid new b c → Asks 4112 b c → Drove role f0 f2 old new fs (n + 1) a c
+drove_unknown : (role : Role) (f0 f1 f2 : Bool) (old mid new : Held) (fs : List Content) (n : ℕ) (a b c : Source) → IsUnfinished mid → Drove role f0 f1 old mid fs n a b → PassesUnknown f1 f2 mid new b c → PollsAtMost 4112 b c → Drove role f0 f2 old new fs (n + 1) a c
 drove_unknown role f0 f1 f2 old mid new fs n a b c u g t k = record {
   run = g.run ∙ ap (after fs) (unknown_run role f1 f2 mid new b c t k.ending);
   place = same_then (place_of role f0 old a) (place_of role f1 mid b) (place_of role f2 new c) g.place (unknown_place role f1 f2 mid new b c u t);
@@ -106,13 +106,13 @@ drove_unknown role f0 f1 f2 old mid new fs n a b c u g t k = record {
   series = series_on TakesSome role fs fs n Again f0 f1 f2 old mid new a b c (sym (append-nil fs)) tt g.series t;
 }
 
-runs_after : (role : Role) (f0 f1 f2 : Bool) (old mid new : Held) (fs : List Content) (n : ℕ) (a b c : Source) → Drove role f0 f1 old mid fs n a b → Leaves mid new b c → f2 ≡ f1 → Asks 4112 b c → RunsOn role f0 f2 old new fs a c
+runs_after : (role : Role) (f0 f1 f2 : Bool) (old mid new : Held) (fs : List Content) (n : ℕ) (a b c : Source) → Drove role f0 f1 old mid fs n a b → Leaves mid new b c → f2 ≡ f1 → PollsAtMost 4112 b c → RunsOn role f0 f2 old new fs a c
 runs_after role f0 f1 f2 old mid new fs n a b c g v e k = g.run ∙ ap (after fs) (leaves_run role f1 mid new b c v k.ending ∙ ap (λ (x : Bool). run_of role x new c) (sym e))
 
 place_after : (role : Role) (f0 f1 f2 : Bool) (old mid new : Held) (fs : List Content) (n : ℕ) (a b c : Source) → IsUnfinished mid → Drove role f0 f1 old mid fs n a b → Leaves mid new b c → f2 ≡ f1 → KeepsPlace role f0 f2 old new a c
 place_after role f0 f1 f2 old mid new fs n a b c u g v e = same_then (place_of role f0 old a) (place_of role f1 mid b) (place_of role f2 new c) g.place (leaves_place role f1 f2 mid new b c u v e)
 
-keeps_after : (role : Role) (f0 f1 : Bool) (old mid new : Held) (fs : List Content) (n polls : ℕ) (a b c : Source) → n < polls → Drove role f0 f1 old mid fs n a b → size_of new c ≤ size_of mid b → Asks 4112 b c → DriveKeeps old new polls a c
+keeps_after : (role : Role) (f0 f1 : Bool) (old mid new : Held) (fs : List Content) (n polls : ℕ) (a b c : Source) → n < polls → Drove role f0 f1 old mid fs n a b → size_of new c ≤ size_of mid b → PollsAtMost 4112 b c → DriveKeeps old new polls a c
 keeps_after role f0 f1 old mid new fs n polls a b c lt g s k = record {
   size = let one = g.shorter in omega arith;
   asks = asks_last n polls a b c lt g.asks k;
@@ -127,39 +127,39 @@ ended role f0 f1 f2 old mid new fs x n a b c g t = record {
 -- ---- each result of one more poll
 
 pub told_full : (s t : Option Source) (role : Role) (f0 f1 : Bool) (r0 r1 : Held) (fs : List Content) (n polls : ℕ) → n < polls
-    → Telling s t (Drove role f0 f1 r0 r1 fs n)
-    → Telling s t (DriveDid role driven.NoMemory f0 f1 r0 r1 fs polls)
+    → HasModel s t (Drove role f0 f1 r0 r1 fs n)
+    → HasModel s t (DriveDid role driven.NoMemory f0 f1 r0 r1 fs polls)
 told_full s t role f0 f1 r0 r1 fs n polls l p =
     telling_map s t (Drove role f0 f1 r0 r1 fs n) (DriveDid role driven.NoMemory f0 f1 r0 r1 fs polls)
     (λ a b g. (g.run, record { size = let one = g.shorter in omega arith; asks = asks_within n polls a b (omega arith) g.asks }, g.place, (n, l, inl g.series))) p
 
 pub told_spent : (s t : Option Source) (role : Role) (f0 f1 : Bool) (r0 r1 : Held) (fs : List Content) (polls : ℕ)
-    → Telling s t (Drove role f0 f1 r0 r1 fs polls)
-    → Telling s t (DriveDid role driven.Spent f0 f1 r0 r1 fs polls)
+    → HasModel s t (Drove role f0 f1 r0 r1 fs polls)
+    → HasModel s t (DriveDid role driven.Spent f0 f1 r0 r1 fs polls)
 told_spent s t role f0 f1 r0 r1 fs polls p =
     telling_map s t (Drove role f0 f1 r0 r1 fs polls) (DriveDid role driven.Spent f0 f1 r0 r1 fs polls)
     (λ a b g. (g.run, g.shorter, record { size = let one = g.shorter in omega arith; asks = g.asks }, g.place, g.series)) p
 
 pub told_still : (s t u : Option Source) (role : Role) (f0 f1 f2 : Bool) (r0 r1 r2 : Held) (fs : List Content) (n polls : ℕ) → n < polls → IsUnfinished r1
-    → Telling s t (Drove role f0 f1 r0 r1 fs n)
-    → Telling t u (StreamPolled role NoMemory f1 f2 r1 r2) → Telling t u (Asks 4112)
-    → Telling s u (DriveDid role driven.NoMemory f0 f2 r0 r2 fs polls)
+    → HasModel s t (Drove role f0 f1 r0 r1 fs n)
+    → HasModel t u (StreamPolled role NoMemory f1 f2 r1 r2) → HasModel t u (PollsAtMost 4112)
+    → HasModel s u (DriveDid role driven.NoMemory f0 f2 r0 r2 fs polls)
 told_still s t u role f0 f1 f2 r0 r1 r2 fs n polls lt unfinished p q k =
-    telling_then s t u (Drove role f0 f1 r0 r1 fs n) (λ b c. StreamPolled role NoMemory f1 f2 r1 r2 b c × Asks 4112 b c) (DriveDid role driven.NoMemory f0 f2 r0 r2 fs polls)
+    telling_then s t u (Drove role f0 f1 r0 r1 fs n) (λ b c. StreamPolled role NoMemory f1 f2 r1 r2 b c × PollsAtMost 4112 b c) (DriveDid role driven.NoMemory f0 f2 r0 r2 fs polls)
     (λ a b c g h. (
       runs_after role f0 f1 f2 r0 r1 r2 fs n a b c g h.0.leaves h.0.flag h.1,
       keeps_after role f0 f1 r0 r1 r2 fs n polls a b c lt g (leaves_size r1 r2 b c h.0.leaves) h.1,
       place_after role f0 f1 f2 r0 r1 r2 fs n a b c unfinished g h.0.leaves h.0.flag,
       (n, lt, inr (series_end TakesSome role fs n NoMemory f0 f1 f2 r0 r1 r2 a b c g.series h.0)),
     ))
-    p (telling_both t u (StreamPolled role NoMemory f1 f2 r1 r2) (Asks 4112) q k)
+    p (telling_both t u (StreamPolled role NoMemory f1 f2 r1 r2) (PollsAtMost 4112) q k)
 
 pub told_waiting : (s t u : Option Source) (role : Role) (f0 f1 f2 : Bool) (r0 r1 r2 : Held) (fs : List Content) (n polls : ℕ) → n < polls → IsUnfinished r1
-    → Telling s t (Drove role f0 f1 r0 r1 fs n)
-    → Telling t u (StreamPolled role Pending f1 f2 r1 r2) → Telling t u (Asks 4112)
-    → Telling s u (DriveDid role driven.Waiting f0 f2 r0 r2 fs polls)
+    → HasModel s t (Drove role f0 f1 r0 r1 fs n)
+    → HasModel t u (StreamPolled role Pending f1 f2 r1 r2) → HasModel t u (PollsAtMost 4112)
+    → HasModel s u (DriveDid role driven.Waiting f0 f2 r0 r2 fs polls)
 told_waiting s t u role f0 f1 f2 r0 r1 r2 fs n polls lt unfinished p q k =
-    telling_then s t u (Drove role f0 f1 r0 r1 fs n) (λ b c. StreamPolled role Pending f1 f2 r1 r2 b c × Asks 4112 b c) (DriveDid role driven.Waiting f0 f2 r0 r2 fs polls)
+    telling_then s t u (Drove role f0 f1 r0 r1 fs n) (λ b c. StreamPolled role Pending f1 f2 r1 r2 b c × PollsAtMost 4112 b c) (DriveDid role driven.Waiting f0 f2 r0 r2 fs polls)
     (λ a b c g h. (
       runs_after role f0 f1 f2 r0 r1 r2 fs n a b c g h.0.0 h.0.1 h.1,
       let one = g.asks.waits in let two = h.0.2 in omega arith,
@@ -167,14 +167,14 @@ told_waiting s t u role f0 f1 f2 r0 r1 r2 fs n polls lt unfinished p q k =
       place_after role f0 f1 f2 r0 r1 r2 fs n a b c unfinished g h.0.0 h.0.1,
       (n, lt, series_end TakesSome role fs n Pending f0 f1 f2 r0 r1 r2 a b c g.series h.0),
     ))
-    p (telling_both t u (StreamPolled role Pending f1 f2 r1 r2) (Asks 4112) q k)
+    p (telling_both t u (StreamPolled role Pending f1 f2 r1 r2) (PollsAtMost 4112) q k)
 
 pub told_ended : (s t u : Option Source) (role : Role) (f0 f1 f2 : Bool) (r0 r1 r2 : Held) (fs : List Content) (x : IoReadError) (n polls : ℕ) → n < polls → IsUnfinished r1
-    → Telling s t (Drove role f0 f1 r0 r1 fs n)
-    → Telling t u (StreamPolled role (Ready (Err x)) f1 f2 r1 r2) → Telling t u (Asks 4112)
-    → Telling s u (DriveDid role (driven.Ended x) f0 f2 r0 r2 fs polls)
+    → HasModel s t (Drove role f0 f1 r0 r1 fs n)
+    → HasModel t u (StreamPolled role (Ready (Err x)) f1 f2 r1 r2) → HasModel t u (PollsAtMost 4112)
+    → HasModel s u (DriveDid role (driven.Ended x) f0 f2 r0 r2 fs polls)
 told_ended s t u role f0 f1 f2 r0 r1 r2 fs x n polls lt unfinished p q k =
-    telling_then s t u (Drove role f0 f1 r0 r1 fs n) (λ b c. Faults role f1 f2 r1 r2 x b c × Asks 4112 b c) (DriveDid role (driven.Ended x) f0 f2 r0 r2 fs polls)
+    telling_then s t u (Drove role f0 f1 r0 r1 fs n) (λ b c. Faults role f1 f2 r1 r2 x b c × PollsAtMost 4112 b c) (DriveDid role (driven.Ended x) f0 f2 r0 r2 fs polls)
     (λ a b c g h. (
       ended role f0 f1 f2 r0 r1 r2 fs x n a b c g h.0,
       h.0.dry,
@@ -182,25 +182,25 @@ told_ended s t u role f0 f1 f2 r0 r1 r2 fs x n polls lt unfinished p q k =
       fault_place role f1 f2 (place_of role f0 r0 a) r1 r2 x b c unfinished g.place h.0,
       (n, lt, series_end TakesSome role fs n (Ready (Err x)) f0 f1 f2 r0 r1 r2 a b c g.series h.0),
     ))
-    p (telling_both t u (Faults role f1 f2 r1 r2 x) (Asks 4112) q k)
+    p (telling_both t u (Faults role f1 f2 r1 r2 x) (PollsAtMost 4112) q k)
 
 pub told_frame : (s t u : Option Source) (role : Role) (f0 f1 f2 : Bool) (r0 r1 r2 : Held) (fs fs' : List Content) (f : Content) (n : ℕ) → fs' ≡ fs ++ f ∷ []
-    → Telling s t (Drove role f0 f1 r0 r1 fs n)
-    → Telling t u (StreamPolled role (Ready (Ok f)) f1 f2 r1 r2) → Telling t u (Asks 4112)
-    → Telling s u (Drove role f0 f2 r0 r2 fs' (n + 1))
+    → HasModel s t (Drove role f0 f1 r0 r1 fs n)
+    → HasModel t u (StreamPolled role (Ready (Ok f)) f1 f2 r1 r2) → HasModel t u (PollsAtMost 4112)
+    → HasModel s u (Drove role f0 f2 r0 r2 fs' (n + 1))
 told_frame s t u role f0 f1 f2 r0 r1 r2 fs fs' f n is p q k =
-    telling_then s t u (Drove role f0 f1 r0 r1 fs n) (λ b c. StreamTakesFrame role f1 f2 r1 r2 f b c × Asks 4112 b c) (Drove role f0 f2 r0 r2 fs' (n + 1))
+    telling_then s t u (Drove role f0 f1 r0 r1 fs n) (λ b c. StreamTakesFrame role f1 f2 r1 r2 f b c × PollsAtMost 4112 b c) (Drove role f0 f2 r0 r2 fs' (n + 1))
     (λ a b c g h. drove_frame role f0 f1 f2 r0 r1 r2 fs fs' f n a b c is g h.0 h.1)
-    p (telling_both t u (StreamTakesFrame role f1 f2 r1 r2 f) (Asks 4112) q k)
+    p (telling_both t u (StreamTakesFrame role f1 f2 r1 r2 f) (PollsAtMost 4112) q k)
 
 pub told_unknown : (s t u : Option Source) (role : Role) (f0 f1 f2 : Bool) (r0 r1 r2 : Held) (fs : List Content) (n : ℕ) → IsUnfinished r1
-    → Telling s t (Drove role f0 f1 r0 r1 fs n)
-    → Telling t u (StreamPolled role Again f1 f2 r1 r2) → Telling t u (Asks 4112)
-    → Telling s u (Drove role f0 f2 r0 r2 fs (n + 1))
+    → HasModel s t (Drove role f0 f1 r0 r1 fs n)
+    → HasModel t u (StreamPolled role Again f1 f2 r1 r2) → HasModel t u (PollsAtMost 4112)
+    → HasModel s u (Drove role f0 f2 r0 r2 fs (n + 1))
 told_unknown s t u role f0 f1 f2 r0 r1 r2 fs n unfinished p q k =
-    telling_then s t u (Drove role f0 f1 r0 r1 fs n) (λ b c. PassesUnknown f1 f2 r1 r2 b c × Asks 4112 b c) (Drove role f0 f2 r0 r2 fs (n + 1))
+    telling_then s t u (Drove role f0 f1 r0 r1 fs n) (λ b c. PassesUnknown f1 f2 r1 r2 b c × PollsAtMost 4112 b c) (Drove role f0 f2 r0 r2 fs (n + 1))
     (λ a b c g h. drove_unknown role f0 f1 f2 r0 r1 r2 fs n a b c unfinished g h.0 h.1)
-    p (telling_both t u (PassesUnknown f1 f2 r1 r2) (Asks 4112) q k)
+    p (telling_both t u (PassesUnknown f1 f2 r1 r2) (PollsAtMost 4112) q k)
 
-pub told_start : (s : Option Source) (role : Role) (first : Bool) (h : Held) (fs : List Content) → fs ≡ [] → Telling s s (Drove role first first h h fs 0)
+pub told_start : (s : Option Source) (role : Role) (first : Bool) (h : Held) (fs : List Content) → fs ≡ [] → HasModel s s (Drove role first first h h fs 0)
 told_start s role first h fs none = telling_same s (Drove role first first h h fs 0) (λ a. drove_start role first h fs a none)

@@ -16,7 +16,7 @@ use Rattle.wtp_wire.specs.Run.{Run, Tail, MayGoOn, Ended, WasReset, Lost, Ending
 use Rattle.wtp_wire.specs.Run as stopping
 use Rattle.wtransport_proto.specs.HeldRun.{tail_of, stop_of, run_by, count_held, run_held, run_of, size_of}
 use Rattle.wtransport_proto.specs.StreamPolling.{StreamTakesFrame, PassesUnknown}
-use Rattle.wtp_wire.proofs.RunLemmas.{run-step, past_unknown-framed, past_unknown-bad, past_unknown-big, past_unknown-short}
+use Rattle.wtp_wire.proofs.RunLemmas.{run-step, skip_unknown-framed, skip_unknown-bad, skip_unknown-big, skip_unknown-short}
 use Rattle.wtransport_proto.proofs.ReadingLemmas.{run-unknown}
 
 -- ---- if no bytes are still to be skipped
@@ -45,9 +45,9 @@ skip_not_read d xs c e h = not_read (bytes_at d xs) c (split (bytes_at d xs) ∙
     split (Some x) = refl
 
 pub read_front : (h : Held) (xs : List ℕ) (c : Front) → front_held h xs ≡ c → IsRead c → front (h.taken ++ xs) ≡ c
-read_front h xs c e r = elim (cases_lt 0 h.due) [
-  | inl l ↦ absurd (skip_not_read h.due xs c (sym (front_due h.taken h.due xs l) ∙ e) r)
-  | inr l ↦ sym (front_none h.taken h.due xs (omega arith)) ∙ e
+read_front h xs c e r = elim (cases_lt 0 h.skip_remaining) [
+  | inl l ↦ absurd (skip_not_read h.skip_remaining xs c (sym (front_due h.taken h.skip_remaining xs l) ∙ e) r)
+  | inr l ↦ sym (front_none h.taken h.skip_remaining xs (omega arith)) ∙ e
 ]
 
 -- ---- sizes
@@ -77,24 +77,24 @@ skips_size : (old new : Held) (a b : Source) (s : Skips old new a b) → size_of
 skips_size old new a b s = omega (arith, ap length s.parts, length-append (s.head ++ s.payload) b.ahead, length-append s.head s.payload, length-append new.taken b.ahead, ap length s.empty)
 
 -- an unknown frame that is begun has a byte
-head_some : (old new : Held) (a b : Source) (s : Skips old new a b) → old.due ≡ 0 → 0 < length s.head
-head_some old new a b s z = let h = s.begun z in head_not_empty h.id (length s.payload + new.due) s.head h.encoded
+head_some : (old new : Held) (a b : Source) (s : Skips old new a b) → old.skip_remaining ≡ 0 → 0 < length s.head
+head_some old new a b s z = let h = s.begun z in head_not_empty h.id (length s.payload + new.skip_remaining) s.head h.encoded
 
 skips_some : (old new : Held) (a b : Source) → Skips old new a b → 0 < count_held old a.ahead
-skips_some old new a b s = elim (cases_lt 0 old.due) [
+skips_some old new a b s = elim (cases_lt 0 old.skip_remaining) [
   | inl l ↦ omega arith
   | inr l ↦ omega (arith, skips_size old new a b s, head_some old new a b s (omega arith))
 ]
 
 pub leaves_size : (old new : Held) (a b : Source) → Leaves old new a b → size_of new b ≤ size_of old a
-leaves_size old new a b v = elim (cases_lt 0 new.due) [
+leaves_size old new a b v = elim (cases_lt 0 new.skip_remaining) [
   | inl l ↦ let s = v.skips l in omega (arith, skips_size old new a b s.0)
   | inr l ↦ let k = v.kept (omega arith) in omega (arith, ap length k.1)
 ]
 
 pub unknown_size : (first next : Bool) (old new : Held) (a b : Source) → PassesUnknown first next old new a b → size_of new b < size_of old a
-unknown_size first next old new a b p = elim (cases_lt 0 old.due) [
-  | inl l ↦ elim (cases_lt 0 new.due) [
+unknown_size first next old new a b p = elim (cases_lt 0 old.skip_remaining) [
+  | inl l ↦ elim (cases_lt 0 new.skip_remaining) [
     | inl m ↦ let w = p.part m in let size = w.1 in omega (arith, skips_size old new a b p.skips)
     | inr m ↦ let w = p.skips.going l in let all = w.1 in omega (arith, skips_size old new a b p.skips)
   ]
@@ -133,16 +133,16 @@ stop_is bytes Lost = stop_lost bytes
 -- the run of whole bytes goes by their first frame
 run_by_front : (role : Role) (first : Bool) (tail : Tail) (bytes : List ℕ) (c : Front) → tail ≢ MayGoOn → front bytes ≡ c → run_by role first tail (length bytes) c ≡ run role first bytes tail
 run_by_front role first tail bytes (Unknown rest) t e = sym (run-unknown role first bytes rest tail t e)
-run_by_front role first tail bytes (Framed f rest) t e = sym (run-step role first bytes tail ∙ rw (past_unknown-framed bytes rest f e, e) refl)
-run_by_front role first tail bytes (BadId rest) t e = sym (run-step role first bytes tail ∙ rw (past_unknown-bad bytes rest e, e) refl)
-run_by_front role first tail bytes (TooBig rest) t e = sym (run-step role first bytes tail ∙ rw (past_unknown-big bytes rest e, e) refl)
-run_by_front role first tail bytes Short t e = sym (run-step role first bytes tail ∙ rw (past_unknown-short bytes e, e) (ap (λ (x : Ending). ends x) (stop_is bytes tail)))
+run_by_front role first tail bytes (Framed f rest) t e = sym (run-step role first bytes tail ∙ rw (skip_unknown-framed bytes rest f e, e) refl)
+run_by_front role first tail bytes (BadId rest) t e = sym (run-step role first bytes tail ∙ rw (skip_unknown-bad bytes rest e, e) refl)
+run_by_front role first tail bytes (TooBig rest) t e = sym (run-step role first bytes tail ∙ rw (skip_unknown-big bytes rest e, e) refl)
+run_by_front role first tail bytes Short t e = sym (run-step role first bytes tail ∙ rw (skip_unknown-short bytes e, e) (ap (λ (x : Ending). ends x) (stop_is bytes tail)))
 
 -- if no bytes are still to be skipped it is the run of all bytes
-pub run_held-run : (role : Role) (first : Bool) (h : Held) (xs : List ℕ) (tail : Tail) → tail ≢ MayGoOn → h.due ≡ 0 → run_held role first h xs tail ≡ run role first (h.taken ++ xs) tail
+pub run_held-run : (role : Role) (first : Bool) (h : Held) (xs : List ℕ) (tail : Tail) → tail ≢ MayGoOn → h.skip_remaining ≡ 0 → run_held role first h xs tail ≡ run role first (h.taken ++ xs) tail
 run_held-run role first h xs tail t z =
     let n : count_held h xs ≡ length (h.taken ++ xs) = omega arith in
-    run_case role first h xs tail (front (h.taken ++ xs)) (front_none h.taken h.due xs z)
+    run_case role first h xs tail (front (h.taken ++ xs)) (front_none h.taken h.skip_remaining xs z)
     ∙ ap (λ (k : ℕ). run_by role first tail k (front (h.taken ++ xs))) n
     ∙ run_by_front role first tail (h.taken ++ xs) (front (h.taken ++ xs)) t refl
 
@@ -176,13 +176,13 @@ run_same role first old new a b same ending e =
     ∙ ap (λ (x : source.SourceEnding). run_held role first new b.ahead (tail_of x)) (sym ending)
 
 pub leaves_run : (role : Role) (first : Bool) (old new : Held) (a b : Source) → Leaves old new a b → b.ending ≡ a.ending → run_of role first old a ≡ run_of role first new b
-leaves_run role first old new a b v ending = elim (cases_lt 0 new.due) [
+leaves_run role first old new a b v ending = elim (cases_lt 0 new.skip_remaining) [
   | inl l ↦ let s = v.skips l in run_same role first old new a b v.same ending (stop_some a.ending (count_held old a.ahead) (count_held new b.ahead) (skips_some old new a b s.0) (omega arith))
-  | inr l ↦ let z : new.due ≡ 0 = omega arith in let k = v.kept z in run_same role first old new a b v.same ending (ap (λ (n : ℕ). stop_of n (tail_of a.ending)) (let d = k.0 in omega (arith, ap length k.1)))
+  | inr l ↦ let z : new.skip_remaining ≡ 0 = omega arith in let k = v.kept z in run_same role first old new a b v.same ending (ap (λ (n : ℕ). stop_of n (tail_of a.ending)) (let d = k.0 in omega (arith, ap length k.1)))
 ]
 
 pub unknown_run : (role : Role) (first next : Bool) (old new : Held) (a b : Source) → PassesUnknown first next old new a b → b.ending ≡ a.ending → run_of role first old a ≡ run_of role next new b
-unknown_run role first next old new a b p ending = rw p.flag (elim (cases_lt 0 new.due) [
+unknown_run role first next old new a b p ending = rw p.flag (elim (cases_lt 0 new.skip_remaining) [
   | inl l ↦ let w = p.part l in run_same role first old new a b w.0 ending (stop_some a.ending (count_held old a.ahead) (count_held new b.ahead) (skips_some old new a b p.skips) (omega arith))
   | inr l ↦ let d = p.whole (omega arith) in
       run_case role first old a.ahead (tail_of a.ending) (Unknown b.ahead) d.front
@@ -206,8 +206,8 @@ skip_short : (d : ℕ) (xs : List ℕ) → length xs < d → skip_front d xs ≡
 unfolding bytes_at
 skip_short d xs l = rw (lt-ltb (length xs) d l) refl
 
-pub run_held-due : (role : Role) (first : Bool) (h : Held) (xs : List ℕ) (tail : Tail) → 0 < h.due → h.due ≤ length xs → run_held role first h xs tail ≡ run role first (drop h.due xs) tail
-run_held-due role first h xs tail l there = run_case role first h xs tail (Unknown (drop h.due xs)) (front_due h.taken h.due xs l ∙ skip_there h.due xs there)
+pub run_held-skip_remaining : (role : Role) (first : Bool) (h : Held) (xs : List ℕ) (tail : Tail) → 0 < h.skip_remaining → h.skip_remaining ≤ length xs → run_held role first h xs tail ≡ run role first (drop h.skip_remaining xs) tail
+run_held-skip_remaining role first h xs tail l there = run_case role first h xs tail (Unknown (drop h.skip_remaining xs)) (front_due h.taken h.skip_remaining xs l ∙ skip_there h.skip_remaining xs there)
 
-pub run_held-lacks : (role : Role) (first : Bool) (h : Held) (xs : List ℕ) (tail : Tail) → length xs < h.due → run_held role first h xs tail ≡ ends (stop_of (count_held h xs) tail)
-run_held-lacks role first h xs tail l = run_case role first h xs tail Short (front_due h.taken h.due xs (omega arith) ∙ skip_short h.due xs l)
+pub run_held-lacks : (role : Role) (first : Bool) (h : Held) (xs : List ℕ) (tail : Tail) → length xs < h.skip_remaining → run_held role first h xs tail ≡ ends (stop_of (count_held h xs) tail)
+run_held-lacks role first h xs tail l = run_case role first h xs tail Short (front_due h.taken h.skip_remaining xs (omega arith) ∙ skip_short h.skip_remaining xs l)

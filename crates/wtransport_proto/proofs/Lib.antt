@@ -7,7 +7,7 @@ pub mod PollsLemmas
 pub mod DriveLemmas
 pub mod AgreeLemmas
 pub mod SendLemmas
-pub mod JourneyLemmas
+pub mod ExchangeLemmas
 pub mod AcceptLemmas
 pub mod CutFrameLemmas
 pub mod CursorLemmas

@@ -9,11 +9,11 @@ use Rattle.wtp_wire.specs.Held.{Held, new_held, front_held, IsUnfinished, Skips,
 use Rattle.wtp_wire.proofs.FramePollLemmas.{front_none}
 use Rattle.wtransport_proto.specs.declared.stream.polled.IoReadError.{IoReadError}
 use Rattle.wtp_wire.specs.Rule.{Role, rule}
-use Rattle.wtp_wire.specs.Run.{Run, past_unknown, follows}
+use Rattle.wtp_wire.specs.Run.{Run, skip_unknown, follows}
 use Rattle.wtransport_proto.specs.HeldRun.{tail_of, run_of}
 use Rattle.wtransport_proto.specs.StreamPolling.{Faults, StreamTakesFrame, PassesUnknown, SourceIsAfter}
-use Rattle.wtransport_proto.specs.Place.{Place, if_allowed, remainder, place_after, place_by, place_held, place_of, BeginsUnknown, ComesDue, Remains, SamePlace, LeftAfter, StopsAt}
-use Rattle.wtp_wire.proofs.RunLemmas.{past_unknown-framed, past_unknown-bad, past_unknown-big, past_unknown-short}
+use Rattle.wtransport_proto.specs.Place.{Place, if_allowed, remainder, place_after, place_by, place_held, place_of, BeginsUnknown, SkipAdvances, Remains, SamePlace, LeftByFault, AtFault}
+use Rattle.wtp_wire.proofs.RunLemmas.{skip_unknown-framed, skip_unknown-bad, skip_unknown-big, skip_unknown-short}
 use Rattle.wtransport_proto.proofs.RemainderLemmas.{after-unknown, after-known}
 use Rattle.wtransport_proto.proofs.HeldRunLemmas.{run_framed}
 
@@ -23,27 +23,27 @@ pub place_case : (role : Role) (first : Bool) (h : Held) (xs : List ℕ) (c : Fr
 unfolding place_held
 place_case role first h xs c e = rw e refl
 
-here_allowed : (o : Option ErrorCode) (first : Bool) (onward : Place) (bytes : List ℕ) → past_unknown bytes ≡ bytes → if_allowed o onward (record { first = first; held = new_held; ahead = bytes }) ≡ if_allowed o onward (record { first = first; held = new_held; ahead = past_unknown bytes })
+here_allowed : (o : Option ErrorCode) (first : Bool) (onward : Place) (bytes : List ℕ) → skip_unknown bytes ≡ bytes → if_allowed o onward (record { first = first; held = new_held; ahead = bytes }) ≡ if_allowed o onward (record { first = first; held = new_held; ahead = skip_unknown bytes })
 here_allowed None first onward bytes e = refl
 here_allowed (Some c) first onward bytes e = ap (λ (l : List ℕ). record { first = first; held = new_held; ahead = l }) (sym e)
 
 -- what a place is after a choice
-after_choice : (o : Option ErrorCode) (first : Bool) (role : Role) (rest bytes : List ℕ) → place_after (if_allowed o (remainder role false rest) (record { first = first; bytes = bytes })) ≡ if_allowed o (place_after (remainder role false rest)) (record { first = first; held = new_held; ahead = past_unknown bytes })
+after_choice : (o : Option ErrorCode) (first : Bool) (role : Role) (rest bytes : List ℕ) → place_after (if_allowed o (remainder role false rest) (record { first = first; bytes = bytes })) ≡ if_allowed o (place_after (remainder role false rest)) (record { first = first; held = new_held; ahead = skip_unknown bytes })
 after_choice None first role rest bytes = refl
 after_choice (Some c) first role rest bytes = refl
 
-here_same : (first : Bool) (bytes : List ℕ) → past_unknown bytes ≡ bytes → record { first = first; held = new_held; ahead = bytes } ≡ place_after (record { first = first; bytes = bytes })
+here_same : (first : Bool) (bytes : List ℕ) → skip_unknown bytes ≡ bytes → record { first = first; held = new_held; ahead = bytes } ≡ place_after (record { first = first; bytes = bytes })
 here_same first bytes e = ap (λ (l : List ℕ). record { first = first; held = new_held; ahead = l }) (sym e)
 
 by_new : (role : Role) (first : Bool) (bytes : List ℕ) (c : Front) → front bytes ≡ c → place_by role first new_held bytes c ≡ place_after (remainder role first bytes)
 by_new role first bytes (Framed f rest) e =
-    let known : past_unknown bytes ≡ bytes = past_unknown-framed bytes rest f e in
+    let known : skip_unknown bytes ≡ bytes = skip_unknown-framed bytes rest f e in
     here_allowed (rule role first (kind_in f)) first (place_after (remainder role false rest)) bytes known
     ∙ sym (after-known role first bytes (Framed f rest) known e ∙ after_choice (rule role first (kind_in f)) first role rest bytes)
 by_new role first bytes (Unknown rest) e = sym (after-unknown role first bytes rest e)
-by_new role first bytes (BadId rest) e = let known : past_unknown bytes ≡ bytes = past_unknown-bad bytes rest e in here_same first bytes known ∙ sym (after-known role first bytes (BadId rest) known e)
-by_new role first bytes (TooBig rest) e = let known : past_unknown bytes ≡ bytes = past_unknown-big bytes rest e in here_same first bytes known ∙ sym (after-known role first bytes (TooBig rest) known e)
-by_new role first bytes Short e = let known : past_unknown bytes ≡ bytes = past_unknown-short bytes e in here_same first bytes known ∙ sym (after-known role first bytes Short known e)
+by_new role first bytes (BadId rest) e = let known : skip_unknown bytes ≡ bytes = skip_unknown-bad bytes rest e in here_same first bytes known ∙ sym (after-known role first bytes (BadId rest) known e)
+by_new role first bytes (TooBig rest) e = let known : skip_unknown bytes ≡ bytes = skip_unknown-big bytes rest e in here_same first bytes known ∙ sym (after-known role first bytes (TooBig rest) known e)
+by_new role first bytes Short e = let known : skip_unknown bytes ≡ bytes = skip_unknown-short bytes e in here_same first bytes known ∙ sym (after-known role first bytes Short known e)
 
 -- if nothing is held it is the place after the frames of the bytes
 pub place_new : (role : Role) (first : Bool) (bytes : List ℕ) → place_held role first new_held bytes ≡ place_after (remainder role first bytes)
@@ -75,14 +75,14 @@ remains_same h xs = record {
   going = λ l. (refl, record { payload = []; parts = refl; counts = omega arith });
 }
 
-comes_then : (d m n : ℕ) (xs ys zs : List ℕ) → ComesDue d xs m ys → ComesDue m ys n zs → ComesDue d xs n zs
+comes_then : (d m n : ℕ) (xs ys zs : List ℕ) → SkipAdvances d xs m ys → SkipAdvances m ys n zs → SkipAdvances d xs n zs
 comes_then d m n xs ys zs p q = record {
   payload = p.payload ++ q.payload;
   parts = p.parts ∙ ap (λ l. p.payload ++ l) q.parts ∙ sym (append_assoc p.payload q.payload zs);
   counts = omega (arith, p.counts, q.counts, length-append p.payload q.payload);
 }
 
-begins_then : (whole ys zs : List ℕ) (m n : ℕ) → BeginsUnknown whole m ys → ComesDue m ys n zs → BeginsUnknown whole n zs
+begins_then : (whole ys zs : List ℕ) (m n : ℕ) → BeginsUnknown whole m ys → SkipAdvances m ys n zs → BeginsUnknown whole n zs
 begins_then whole ys zs m n p q = record {
   head = p.head;
   payload = p.payload ++ q.payload;
@@ -94,22 +94,22 @@ pub remains_then : (old mid new : Held) (xs ys zs : List ℕ) → Remains old mi
 remains_then old mid new xs ys zs p q = record {
   same = q.same ∙ p.same;
   kept = λ z. let m = q.kept z in let o = p.kept m.0 in (o.0, m.1 ∙ o.1);
-  begun = λ z l. elim (cases_lt 0 mid.due) [
-    | inl some ↦ let b = p.begun z some in let g = q.going some in (g.0 ∙ b.0, begins_then (old.taken ++ xs) ys zs mid.due new.due b.1 g.1)
-    | inr none ↦ let m : mid.due ≡ 0 = omega arith in let k = p.kept m in let b = q.begun m l in (b.0, rw k.1 at b.1)
+  begun = λ z l. elim (cases_lt 0 mid.skip_remaining) [
+    | inl some ↦ let b = p.begun z some in let g = q.going some in (g.0 ∙ b.0, begins_then (old.taken ++ xs) ys zs mid.skip_remaining new.skip_remaining b.1 g.1)
+    | inr none ↦ let m : mid.skip_remaining ≡ 0 = omega arith in let k = p.kept m in let b = q.begun m l in (b.0, rw k.1 at b.1)
   ];
-  going = λ l. elim (cases_lt 0 mid.due) [
-    | inl some ↦ let g = p.going l in let h = q.going some in (h.0 ∙ g.0, comes_then old.due mid.due new.due xs ys zs g.1 h.1)
-    | inr none ↦ let m : mid.due ≡ 0 = omega arith in let k = p.kept m in let z = k.0 in absurd (omega arith)
+  going = λ l. elim (cases_lt 0 mid.skip_remaining) [
+    | inl some ↦ let g = p.going l in let h = q.going some in (h.0 ∙ g.0, comes_then old.skip_remaining mid.skip_remaining new.skip_remaining xs ys zs g.1 h.1)
+    | inr none ↦ let m : mid.skip_remaining ≡ 0 = omega arith in let k = p.kept m in let z = k.0 in absurd (omega arith)
   ];
 }
 
 -- ---- polls
 
-skips_begun : (old new : Held) (a b : Source) → Skips old new a b → old.due ≡ 0 → (new.taken ≡ []) × BeginsUnknown (old.taken ++ a.ahead) new.due b.ahead
+skips_begun : (old new : Held) (a b : Source) → Skips old new a b → old.skip_remaining ≡ 0 → (new.taken ≡ []) × BeginsUnknown (old.taken ++ a.ahead) new.skip_remaining b.ahead
 skips_begun old new a b s z = (s.empty, record { head = s.head; payload = s.payload; parts = s.parts; is_head = s.begun z })
 
-skips_going : (old new : Held) (a b : Source) → IsUnfinished old → Skips old new a b → 0 < old.due → (new.taken ≡ old.taken) × ComesDue old.due a.ahead new.due b.ahead
+skips_going : (old new : Held) (a b : Source) → IsUnfinished old → Skips old new a b → 0 < old.skip_remaining → (new.taken ≡ old.taken) × SkipAdvances old.skip_remaining a.ahead new.skip_remaining b.ahead
 skips_going old new a b u s l =
     let none : old.taken ≡ [] = u.alone l in
     let g = s.going l in (
@@ -126,13 +126,13 @@ leaves_remains old new a b u v = record {
   same = v.same;
   kept = v.kept;
   begun = λ z l. let s = v.skips l in skips_begun old new a b s.0 z;
-  going = λ l. elim (cases_lt 0 new.due) [
+  going = λ l. elim (cases_lt 0 new.skip_remaining) [
     | inl some ↦ let s = v.skips some in skips_going old new a b u s.0 l
-    | inr none ↦ let z : new.due ≡ 0 = omega arith in let k = v.kept z in let y = k.0 in absurd (omega arith)
+    | inr none ↦ let z : new.skip_remaining ≡ 0 = omega arith in let k = v.kept z in let y = k.0 in absurd (omega arith)
   ];
 }
 
-part_remains : (first next : Bool) (old new : Held) (a b : Source) → IsUnfinished old → PassesUnknown first next old new a b → 0 < new.due → Remains old new a.ahead b.ahead
+part_remains : (first next : Bool) (old new : Held) (a b : Source) → IsUnfinished old → PassesUnknown first next old new a b → 0 < new.skip_remaining → Remains old new a.ahead b.ahead
 part_remains first next old new a b u p l = let w = p.part l in record {
   same = w.0;
   kept = λ z. absurd (omega arith);
@@ -169,7 +169,7 @@ pub leaves_place : (role : Role) (first next : Bool) (old new : Held) (a b : Sou
 leaves_place role first next old new a b u v e = rw e (remains_place role first old new a.ahead b.ahead (leaves_remains old new a b u v))
 
 pub unknown_place : (role : Role) (first next : Bool) (old new : Held) (a b : Source) → IsUnfinished old → PassesUnknown first next old new a b → SamePlace (place_of role first old a) (place_of role next new b)
-unknown_place role first next old new a b u p = rw p.flag (elim (cases_lt 0 new.due) [
+unknown_place role first next old new a b u p = rw p.flag (elim (cases_lt 0 new.skip_remaining) [
   | inl l ↦ remains_place role first old new a.ahead b.ahead (part_remains first next old new a b u p l)
   | inr l ↦ let d = p.whole (omega arith) in same_of (place_of role first old a) (place_of role first new b) (place-unknown role first old a.ahead b.ahead d.front ∙ ap (λ (h : Held). place_held role first h b.ahead) (sym d.empty))
 ])
@@ -200,14 +200,14 @@ fault_here role first next old new x a b (BadId rest) e t = place_case role firs
 fault_here role first next old new x a b (TooBig rest) e t = place_case role first old a.ahead (TooBig rest) e
 fault_here role first next old new x a b Short e t = place_case role first old a.ahead Short e
 
-left_after : (p : Place) (old new : Held) (a b : Source) (c : Front) → IsUnfinished old → Remains p.held old p.ahead a.ahead → SourceIsAfter c old new a b → LeftAfter p c new b.ahead
+left_after : (p : Place) (old new : Held) (a b : Source) (c : Front) → IsUnfinished old → Remains p.held old p.ahead a.ahead → SourceIsAfter c old new a b → LeftByFault p c new b.ahead
 left_after p old new a b (Framed f rest) u r s = (s.0, sym s.1)
 left_after p old new a b (Unknown rest) u r s = s
 left_after p old new a b (BadId rest) u r s = (s.0, sym s.1)
 left_after p old new a b (TooBig rest) u r s = (s.0, sym s.1)
 left_after p old new a b Short u r s = (s.1, remains_then p.held old new p.ahead a.ahead [] r (rw s.1 at (leaves_remains old new a b u s.0)))
 
-pub fault_place : (role : Role) (first next : Bool) (p : Place) (old new : Held) (x : IoReadError) (a b : Source) → IsUnfinished old → SamePlace p (place_of role first old a) → Faults role first next old new x a b → StopsAt role p next new b.ahead
+pub fault_place : (role : Role) (first next : Bool) (p : Place) (old new : Held) (x : IoReadError) (a b : Source) → IsUnfinished old → SamePlace p (place_of role first old a) → Faults role first next old new x a b → AtFault role p next new b.ahead
 fault_place role first next p old new x a b u q t =
     let here = fault_here role first next old new x a b (front_held old a.ahead) refl t in
     let s : SamePlace p (record { first = first; held = old; ahead = a.ahead }) = rw here at q in

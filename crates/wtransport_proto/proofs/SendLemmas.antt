@@ -6,7 +6,7 @@ use Rattle.wtp_core.specs.declared.bytes.polled.Polled.TheVariants.{Ready, Pendi
 use Rattle.wtp_core.specs.declared.bytes.polled.IoWriteError.{IoWriteError}
 use Rattle.wtp_core.specs.declared.bytes.polled.IoWriteError.TheVariants as fault
 use Rattle.wtp_core.specs.Varint.{shortest}
-use Rattle.wtp_core.specs.Source.{Telling}
+use Rattle.wtp_core.specs.Source.{HasModel}
 use Rattle.wtp_core.specs.Sink.{Sink, Took}
 use Rattle.wtp_core.specs.Put.{Writing, WritePolled, between}
 use Rattle.wtp_core.specs.Writer.{joined}
@@ -16,9 +16,9 @@ use Rattle.wtp_wire.specs.declared.frame.kind.FrameKind.TheVariants.{WebTranspor
 use Rattle.wtp_wire.specs.Kind.{frame_type_of}
 use Rattle.wtp_wire.specs.Content.{Content, PlainOf, WebTransportOf}
 use Rattle.wtp_wire.specs.Wire.{wire}
-use Rattle.wtransport_proto.specs.declared.journey.SendError.{SendError}
-use Rattle.wtransport_proto.specs.declared.journey.SendError.TheVariants as send
-use Rattle.wtransport_proto.specs.Journey.{TookPart, GaveUp, SendDid}
+use Rattle.wtransport_proto.specs.declared.exchange.SendError.{SendError}
+use Rattle.wtransport_proto.specs.declared.exchange.SendError.TheVariants as send
+use Rattle.wtransport_proto.specs.Exchange.{TookPart, Abandoned, SendDid}
 
 -- a frame has a byte
 shortest_some : (v : ℕ) → 0 < length (shortest v)
@@ -44,7 +44,7 @@ wire_some (WebTransportOf id) = first_some (frame_type_of WebTransport) (shortes
 abbrev pub Waited : List ℕ → ℕ → ℕ → Sink → Sink → Type 0
 Waited whole sent turns a b = Took a b (take sent whole) turns 0 0
 
-pub told_none : (s : Option Sink) (whole : List ℕ) → Telling s s (Waited whole 0 0)
+pub told_none : (s : Option Sink) (whole : List ℕ) → HasModel s s (Waited whole 0 0)
 told_none s whole = telling_same s (Waited whole 0 0) (λ a. record { taken = sym (append-nil a.taken); waits_is = omega arith; stops_is = omega arith; losses_is = omega arith })
 
 -- the bytes that were sent before and those of this poll, and the counts of both
@@ -62,7 +62,7 @@ on whole n w x l old new a b c same forward g t =
     }
 
 pub told_more : (s t u : Option Sink) (whole : List ℕ) (turns : ℕ) (old new : Writing) → old.bytes ≡ whole → old.sent ≤ new.sent
-    → Telling s t (Waited whole old.sent turns) → Telling t u (WritePolled {U = Unit {0}} Pending old new) → Telling s u (Waited whole new.sent (turns + 1))
+    → HasModel s t (Waited whole old.sent turns) → HasModel t u (WritePolled {U = Unit {0}} Pending old new) → HasModel s u (Waited whole new.sent (turns + 1))
 told_more s t u whole turns old new same forward p q =
     telling_then s t u (Waited whole old.sent turns) (WritePolled {U = Unit {0}} Pending old new) (Waited whole new.sent (turns + 1))
     (λ a b c g h. on whole turns 1 0 0 old new a b c same forward g h) p q
@@ -72,20 +72,20 @@ last : (whole : List ℕ) (n x l : ℕ) (old new : Writing) (a b c : Sink) → o
 last whole n x l old new a b c same forward g t = let none : n + 0 ≡ n = omega arith in rw none at (on whole n 0 x l old new a b c same forward g t)
 
 told_halted : (s t u : Option Sink) (whole : List ℕ) (n turns x l : ℕ) (e : SendError) (old new : Writing) → old.bytes ≡ whole → old.sent ≤ new.sent → new.sent < length whole
-    → ((a c : Sink) → TookPart whole n x l a c → GaveUp e whole turns a c)
-    → Telling s t (Waited whole old.sent n) → Telling t u (λ b c. Took b c (between old new) 0 x l) → Telling s u (SendDid {U = Unit {0}} whole turns (Err e))
+    → ((a c : Sink) → TookPart whole n x l a c → Abandoned e whole turns a c)
+    → HasModel s t (Waited whole old.sent n) → HasModel t u (λ b c. Took b c (between old new) 0 x l) → HasModel s u (SendDid {U = Unit {0}} whole turns (Err e))
 told_halted s t u whole n turns x l e old new same forward part h p q =
     telling_then s t u (Waited whole old.sent n) (λ b c. Took b c (between old new) 0 x l) (SendDid {U = Unit {0}} whole turns (Err e))
     (λ a b c g k. h a c (record { sent = new.sent; part = part; took = last whole n x l old new a b c same forward g k })) p q
 
 pub told_fault : (s t u : Option Sink) (whole : List ℕ) (n turns : ℕ) (x : IoWriteError) (old new : Writing) → n < turns → old.bytes ≡ whole → old.sent ≤ new.sent → new.sent < length whole
-    → Telling s t (Waited whole old.sent n) → Telling t u (WritePolled {U = Unit {0}} (Ready (Err x)) old new) → Telling s u (SendDid {U = Unit {0}} whole turns (Err (send.IO x)))
+    → HasModel s t (Waited whole old.sent n) → HasModel t u (WritePolled {U = Unit {0}} (Ready (Err x)) old new) → HasModel s u (SendDid {U = Unit {0}} whole turns (Err (send.IO x)))
 told_fault s t u whole n turns fault.Stopped old new fewer same forward part p q =
     told_halted s t u whole n turns 1 0 (send.IO fault.Stopped) old new same forward part (λ a c k. (n, fewer, k)) p q
 told_fault s t u whole n turns fault.NotConnected old new fewer same forward part p q =
     told_halted s t u whole n turns 0 1 (send.IO fault.NotConnected) old new same forward part (λ a c k. (n, fewer, k)) p q
 
 pub told_memory : (s t u : Option Sink) (whole : List ℕ) (n turns : ℕ) (old new : Writing) → n < turns → old.bytes ≡ whole → old.sent ≤ new.sent → new.sent < length whole
-    → Telling s t (Waited whole old.sent n) → Telling t u (WritePolled {U = Unit {0}} NoMemory old new) → Telling s u (SendDid {U = Unit {0}} whole turns (Err send.Memory))
+    → HasModel s t (Waited whole old.sent n) → HasModel t u (WritePolled {U = Unit {0}} NoMemory old new) → HasModel s u (SendDid {U = Unit {0}} whole turns (Err send.Memory))
 told_memory s t u whole n turns old new fewer same forward part p q =
     told_halted s t u whole n turns 0 0 send.Memory old new same forward part (λ a c k. (n, fewer, k)) p q

@@ -7,7 +7,7 @@ use Rattle.wtp_core.specs.declared.bytes.polled.Polled.{Polled}
 use Rattle.wtp_core.specs.declared.bytes.polled.Polled.TheVariants.{Ready, Again}
 use Rattle.wtp_core.specs.declared.bytes.polled.IoReadError as bytes
 use Rattle.wtp_core.specs.declared.bytes.polled.IoReadError.TheVariants as io
-use Rattle.wtp_core.specs.Source.{Source, AtEnd, AtReset, AtDisconnection, Telling}
+use Rattle.wtp_core.specs.Source.{Source, AtEnd, AtReset, AtDisconnection, HasModel}
 use Rattle.wtp_core.specs.Source as source
 use Rattle.wtp_core.specs.Polled.{stop, polled_waits}
 use Rattle.wtp_core.proofs.TellingLemmas.{telling_map}
@@ -25,7 +25,7 @@ use Rattle.wtransport_proto.specs.declared.stream.polled.IoReadError.TheVariants
 use Rattle.wtp_wire.specs.Rule.{Role, rule}
 use Rattle.wtp_wire.specs.Run.{Run, H3, ends}
 use Rattle.wtransport_proto.specs.HeldRun.{tail_of, stop_of, count_held, run_of}
-use Rattle.wtransport_proto.specs.StreamPolling.{IsStreamFault, IsDry, stream_fault, EndsSo, Faults, PassesUnknown, StreamTakesFrame, StreamPolled, JudgesPolled, first_after, without_frame}
+use Rattle.wtransport_proto.specs.StreamPolling.{IsStreamFault, Exhausted, stream_fault, EndsSo, Faults, PassesUnknown, StreamTakesFrame, StreamPolled, JudgesPolled, first_after, without_frame}
 use Rattle.wtransport_proto.specs.Reading.{permitted}
 use Rattle.wtransport_proto.proofs.HeldRunLemmas.{read_front, framed_size, bad_size, big_size, size_new, leaves_size, run_refused, run_case}
 
@@ -66,7 +66,7 @@ fault_at AtEnd n = elim (cases_lt 0 n) [ inl l ↦ rw (ne_eqb n 0 (λ z. omega a
 fault_at AtReset n = refl
 fault_at AtDisconnection n = refl
 
-is_dry : (e : bytes.IoReadError) (b : Source) → b.ahead ≡ [] → IsDry (stream_fault e) b
+is_dry : (e : bytes.IoReadError) (b : Source) → b.ahead ≡ [] → Exhausted (stream_fault e) b
 is_dry io.ImmediateFin b e = e
 is_dry io.UnexpectedFin b e = tt
 is_dry io.Reset b e = e
@@ -122,11 +122,11 @@ io_judges role r x first e = rw e (λ s t old new p. telling_map s t (FramePolle
 
 pub again_judges : (role : Role) (r : Polled (Result Content IoReadError)) (first : Bool) → r ≡ Again → JudgesPolled role r Again first (first_after first r)
 again_judges role r first e = rw e (λ s t old new p. telling_map s t (FramePolled Again old new) (PassesUnknown first first old new)
-    (λ a b d. record { skips = d.skips; whole = λ z. let some = d.due in absurd (omega arith); part = λ _. (d.same, d.most); flag = refl }) p)
+    (λ a b d. record { skips = d.skips; whole = λ z. let some = d.skip_remaining in absurd (omega arith); part = λ _. (d.same, d.most); flag = refl }) p)
 
 unknown_judges : (role : Role) (r : Polled (Result Content IoReadError)) (first : Bool) → r ≡ Ready (Err (reading.Parse parse.UnknownFrame)) → JudgesPolled role r Again first first
 unknown_judges role r first e = λ s t old new p. telling_map s t (λ a b. Decided old new a b Unknown × Skips old new a b) (PassesUnknown first first old new)
-    (λ a b d. record { skips = d.1; whole = λ z. d.0; part = λ some. let none : new.due ≡ 0 = ap (λ (h : Held). h.due) d.0.empty in absurd (omega arith); flag = refl }) (rw e at p)
+    (λ a b d. record { skips = d.1; whole = λ z. d.0; part = λ some. let none : new.skip_remaining ≡ 0 = ap (λ (h : Held). h.skip_remaining) d.0.empty in absurd (omega arith); flag = refl }) (rw e at p)
 
 -- by the code of bytes that are no frame
 code_same : (role : Role) (r : Polled (Result Content IoReadError)) (fault : ParseError) (first : Bool) → r ≡ Ready (Err (reading.Parse fault)) → JudgesPolled role r (without_frame (frame_code fault)) first first

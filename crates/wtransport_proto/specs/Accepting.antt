@@ -21,10 +21,10 @@ use Rattle.wtransport_proto.specs.declared.stream.accepting.BiAccepting.{BiAccep
 use Rattle.wtransport_proto.specs.declared.stream.polled.IoReadError.{IoReadError}
 use Rattle.wtransport_proto.specs.declared.stream.polled.IoReadError.TheVariants as stream
 use Rattle.wtp_wire.specs.Rule.{RemoteBi}
-use Rattle.wtp_wire.specs.Run.{Run, Tail, Ending, H3, past_unknown}
+use Rattle.wtp_wire.specs.Run.{Run, Tail, Ending, H3, skip_unknown}
 use Rattle.wtransport_proto.specs.HeldRun.{tail_of, run_held, run_of, size_of}
 use Rattle.wtransport_proto.specs.Reading.{FirstAfter}
-use Rattle.wtransport_proto.specs.StreamPolling.{IsStreamFault, IsDry, StreamTakesFrame, SourceIsAfter, Faults, PassesUnknown, LacksMemory, CodeGiven, PassGiven}
+use Rattle.wtransport_proto.specs.StreamPolling.{IsStreamFault, Exhausted, StreamTakesFrame, SourceIsAfter, Faults, PassesUnknown, LacksMemory, CodeGiven, PassGiven}
 use Rattle.wtransport_proto.specs.Streams.{first_of, session_of}
 
 -- ---- what opens a stream
@@ -57,7 +57,7 @@ opening_by first case r = request_in r.frames r.ending
 -- the first frame that is not unknown, given the first frame
 abbrev pub known_by : Front → Front
 known_by (Framed f rest) = Framed f rest
-known_by (Unknown rest) = front (past_unknown rest)
+known_by (Unknown rest) = front (skip_unknown rest)
 known_by (BadId rest) = BadId rest
 known_by (TooBig rest) = TooBig rest
 known_by Short = Short
@@ -130,7 +130,7 @@ pub record FailsToOpen (first next : Bool) (old new : Held) (x : IoReadError) (a
   pub size : size_of new b ≤ size_of old a
   pub flag : FirstAfter RemoteBi first (front_held old a.ahead) next
   pub place : SourceIsAfter (front_held old a.ahead) old new a b
-  pub dry : IsDry x b
+  pub dry : Exhausted x b
 
 -- the effect of one poll, by its result, on the state and on the model of the source
 abbrev pub BiAcceptPolled : BiAccepted → Bool → Held → Source → Source → Type 0
@@ -189,7 +189,7 @@ BiAcceptGiven (accepted.Again p) first old =
 BiAcceptGiven (accepted.Pending p) first old = KeepsHeld old p.reading × (first_of p.stream ≡ first)
 BiAcceptGiven (accepted.NoMemory p) first old =
     KeepsHeld old p.reading
-    × (p.reading.due ≡ 0)
+    × (p.reading.skip_remaining ≡ 0)
     × HoldsHead p.reading.taken
     × (first_of p.stream ≡ first)
 BiAcceptGiven (accepted.Failed p (stream.H3 c)) first old =

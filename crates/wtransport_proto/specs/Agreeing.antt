@@ -7,7 +7,7 @@ use Rattle.wtp_core.specs.Reader.{IsRest}
 use Rattle.wtp_wire.specs.Content.{kind_in}
 use Rattle.wtp_wire.specs.Front.{Front, Framed, Unknown, BadId, TooBig, Short, front}
 use Rattle.wtp_wire.specs.Rule.{Role, rule}
-use Rattle.wtp_wire.specs.Run.{Run, Tail, MayGoOn, Ending, H3, past_unknown, run_stop}
+use Rattle.wtp_wire.specs.Run.{Run, Tail, MayGoOn, Ending, H3, skip_unknown, run_stop}
 use Rattle.wtransport_proto.specs.Place.{Remainder, remainder}
 
 -- The ending, given the first frame of the bytes left that is not unknown: the error code of a
@@ -19,11 +19,11 @@ EndsBy role tail left (Framed f rest) ending =
 EndsBy role tail left (Unknown rest) ending = ⊥
 EndsBy role tail left (BadId rest) ending = ending ≡ H3 Id
 EndsBy role tail left (TooBig rest) ending = ending ≡ H3 ExcessiveLoad
-EndsBy role tail left Short ending = ending ≡ run_stop left.bytes (past_unknown left.bytes) tail
+EndsBy role tail left Short ending = ending ≡ run_stop left.bytes (skip_unknown left.bytes) tail
 
 -- the same for the remainder of a run
 abbrev pub EndsAfter : Role → Tail → Remainder → Ending → Type 0
-EndsAfter role tail left ending = EndsBy role tail left (front (past_unknown left.bytes)) ending
+EndsAfter role tail left ending = EndsBy role tail left (front (skip_unknown left.bytes)) ending
 
 -- Both runs have the same frames, and end at the bytes left after these: with the same error code;
 -- or, if the bytes are too few, the first run is open with exactly these left, and the second ends

@@ -2,7 +2,7 @@
 use Rattle.std.specs.Prelude.{◌≡◌, ℕ, ◌+◌, ◌*◌, ◌<◌, ◌≤◌, ◌⊎◌, Bool, false, List, [], ◌∷◌, ◌++◌, Err}
 use Rattle.wtp_core.specs.declared.bytes.polled.Polled.TheVariants.{Ready, Pending, NoMemory}
 use Rattle.wtp_core.specs.Source.{Source}
-use Rattle.wtp_core.specs.Polled.{Asks}
+use Rattle.wtp_core.specs.Polled.{PollsAtMost}
 use Rattle.wtp_wire.specs.Content.{Content}
 use Rattle.wtp_wire.specs.Held.{Held}
 use Rattle.wtransport_proto.specs.declared.stream.driving.Driven.{Driven}
@@ -10,8 +10,8 @@ use Rattle.wtransport_proto.specs.declared.stream.driving.Driven.TheVariants as 
 use Rattle.wtp_wire.specs.Rule.{Role}
 use Rattle.wtp_wire.specs.Run.{Run}
 use Rattle.wtransport_proto.specs.HeldRun.{run_of, size_of}
-use Rattle.wtransport_proto.specs.Place.{place_of, SamePlace, StopsAt}
-use Rattle.wtransport_proto.specs.StreamPolling.{EndsSo, IsDry}
+use Rattle.wtransport_proto.specs.Place.{place_of, SamePlace, AtFault}
+use Rattle.wtransport_proto.specs.StreamPolling.{EndsSo, Exhausted}
 use Rattle.wtransport_proto.specs.Polls.{TakesSome, Series}
 
 -- A stream changed only in whether its next frame is the first one, and only from true to false.
@@ -30,7 +30,7 @@ RunsOn role first next old new fs a b = run_of role first old a ≡ after fs (ru
 -- this many polls made at most 4112 calls each, and the number of bytes held and ahead did not grow
 pub record DriveKeeps (old new : Held) (polls : ℕ) (a b : Source) : Type 0 where
   pub size : size_of new b ≤ size_of old a
-  pub asks : Asks (4112 * polls) a b
+  pub asks : PollsAtMost (4112 * polls) a b
 
 -- The position where the run ends is unchanged: no byte was lost, not even one after a later error.
 abbrev pub KeepsPlace : Role → Bool → Bool → Held → Held → Source → Source → Type 0
@@ -47,9 +47,9 @@ abbrev pub DriveDid :
     Role → Driven → Bool → Bool → Held → Held → List Content → ℕ → Source → Source → Type 0
 DriveDid role (driven.Ended x) first next old new fs polls a b =
     EndsSo (run_of role first old a) fs x
-    × IsDry x b
+    × Exhausted x b
     × DriveKeeps old new polls a b
-    × StopsAt role (place_of role first old a) next new b.ahead
+    × AtFault role (place_of role first old a) next new b.ahead
     × ((n : ℕ) × (n < polls)
     × Series TakesSome role fs n (Ready (Err x) ∷ []) first next old new a b)
 DriveDid role driven.Waiting first next old new fs polls a b =
@@ -78,5 +78,5 @@ pub record Drove (role : Role) (first next : Bool) (old new : Held) (fs : List C
   pub run : RunsOn role first next old new fs a b
   pub place : KeepsPlace role first next old new a b
   pub shorter : size_of new b + polls ≤ size_of old a
-  pub asks : Asks (4112 * polls) a b
+  pub asks : PollsAtMost (4112 * polls) a b
   pub series : Series TakesSome role fs polls [] first next old new a b

@@ -9,16 +9,16 @@ use Rattle.wtransport_proto.specs.CutFrame.{due_in}
 use Rattle.wtransport_proto.specs.HeldRun.{run_held}
 use Rattle.wtp_wire.specs.Role.{role_of}
 use Rattle.wtp_wire.specs.Rule.{Role, rule}
-use Rattle.wtp_wire.specs.Run.{Run, Tail, MayGoOn, Ending, H3, ImmediateFin, ends, follows, past_unknown}
+use Rattle.wtp_wire.specs.Run.{Run, Tail, MayGoOn, Ending, H3, ImmediateFin, ends, follows, skip_unknown}
 use Rattle.wtransport_proto.specs.declared.stream.cursor.FrameCursor.{FrameCursor}
-use Rattle.wtransport_proto.specs.declared.stream.cursor.FramePlace.{FramePlace}
+use Rattle.wtransport_proto.specs.declared.stream.cursor.FrameSpan.{FrameSpan}
 use Rattle.wtransport_proto.specs.declared.stream.cursor.CursorStep.{CursorStep}
 use Rattle.wtransport_proto.specs.declared.stream.cursor.CursorStep.TheVariants.{Frame, More, Fault}
 
 -- a cursor as a reading state: it holds no bytes, only the number of payload bytes of an unknown
 -- frame left to skip
 abbrev pub held_by : FrameCursor → Held
-held_by c = record { taken = []; due = c.due }
+held_by c = record { taken = []; skip_remaining = c.skip_remaining }
 
 -- the run of the bytes at a cursor
 abbrev pub run_from : FrameCursor → List ℕ → Tail → Run
@@ -26,49 +26,49 @@ run_from c bytes tail = run_held (role_of c.role) c.first (held_by c) bytes tail
 
 -- the bytes from the first frame on that is not unknown
 abbrev pub known_from : FrameCursor → List ℕ → List ℕ
-known_from c bytes = past_unknown (drop c.due bytes)
+known_from c bytes = skip_unknown (drop c.skip_remaining bytes)
 
 -- ---- a frame
 
 -- the payload at a position
-abbrev pub payload_at : FramePlace → List ℕ → List ℕ
+abbrev pub payload_at : FrameSpan → List ℕ → List ℕ
 payload_at p bytes = take (p.end - p.start) (drop p.start bytes)
 
 -- the frame at a position
-abbrev pub frame_at : FramePlace → List ℕ → Content
+abbrev pub frame_at : FrameSpan → List ℕ → Content
 frame_at p bytes = content p.kind (payload_at p bytes) p.session_id
 
 -- this is the position of a frame that ends at this offset
-pub record IsPlaceOf (p : FramePlace) (f : Content) (n : ℕ) : Type 0 where
+pub record IsPlaceOf (p : FrameSpan) (f : Content) (n : ℕ) : Type 0 where
   pub kind : p.kind ≡ kind_in f
   pub session : p.session_id ≡ session_in f
   pub start : p.start ≡ n - length (payload_in f)
   pub end : p.end ≡ n
 
 -- The frame at this position is the first one that is not unknown, and the stream allows it.
-pub record TakesFrame (p : FramePlace) (old : FrameCursor) (bytes : List ℕ) (new : FrameCursor) :
+pub record TakesFrame (p : FrameSpan) (old : FrameCursor) (bytes : List ℕ) (new : FrameCursor) :
     Type 0 where
   pub within : p.end ≤ length bytes
   pub found : front (known_from old bytes) ≡ Framed (frame_at p bytes) (drop p.end bytes)
   pub proper : IsProper p.kind (payload_at p bytes) p.session_id
   pub allowed : rule (role_of old.role) old.first p.kind ≡ None
-  pub cursor : new ≡ record old { first = false; due = 0 }
+  pub cursor : new ≡ record old { first = false; skip_remaining = 0 }
 
 -- ---- more bytes
 
 -- the number of payload bytes of an unknown frame left to skip after these bytes
 abbrev pub due_after : FrameCursor → List ℕ → ℕ
 due_after c bytes =
-    if nat_lt (length bytes) c.due then c.due - length bytes else due_in (known_from c bytes)
+    if nat_lt (length bytes) c.skip_remaining then c.skip_remaining - length bytes else due_in (known_from c bytes)
 
 -- The first frame that is not unknown is incomplete, and not an error. The bytes from there on are
 -- left, at most 4111; or none, if they are those of an unknown frame.
 pub record WantsMore (n : ℕ) (old : FrameCursor) (bytes : List ℕ) (new : FrameCursor) : Type 0 where
   pub within : n ≤ length bytes
   pub short : front (known_from old bytes) ≡ Short
-  pub cursor : new ≡ record old { due = due_after old bytes }
-  pub left : new.due ≡ 0 → drop n bytes ≡ known_from old bytes
-  pub skipped : 0 < new.due → n ≡ length bytes
+  pub cursor : new ≡ record old { skip_remaining = due_after old bytes }
+  pub left : new.skip_remaining ≡ 0 → drop n bytes ≡ known_from old bytes
+  pub skipped : 0 < new.skip_remaining → n ≡ length bytes
   pub few : length (drop n bytes) ≤ 4111
   pub still : front_held (held_by new) (drop n bytes) ≡ Short
 

@@ -37,7 +37,7 @@ run_by role first tail n Short = ends (stop_of n tail)
 
 -- the number of bytes held and ahead, plus the number left to skip
 abbrev pub count_held : Held → List ℕ → ℕ
-count_held h ahead = h.due + length (h.taken ++ ahead)
+count_held h ahead = h.skip_remaining + length (h.taken ++ ahead)
 
 -- the run of the bytes held and ahead
 unfoldable pub run_held : Role → Bool → Held → List ℕ → Tail → Run

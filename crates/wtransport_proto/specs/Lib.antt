@@ -12,7 +12,7 @@ pub mod StreamWriting
 pub mod UpgradeSteps
 pub mod Accepting
 pub mod Agreeing
-pub mod Journey
+pub mod Exchange
 pub mod StreamCodes
 pub use Rattle.wtp_core.specs.Varint
 pub use Rattle.wtp_core.specs.Reader
@@ -22,11 +22,11 @@ pub use Rattle.wtp_core.specs.BufferWriter
 pub use Rattle.wtp_core.specs.Ids
 pub use Rattle.wtp_core.specs.Source
 pub use Rattle.wtp_core.specs.Polled
-pub use Rattle.wtp_core.specs.VarintNeed
+pub use Rattle.wtp_core.specs.VarintLenNeeded
 pub use Rattle.wtp_core.specs.Get
 pub use Rattle.wtp_core.specs.GetBuffer
 pub use Rattle.wtp_core.specs.Fill
-pub use Rattle.wtp_core.specs.Passing
+pub use Rattle.wtp_core.specs.SkipAhead
 pub use Rattle.wtp_core.specs.Sink
 pub use Rattle.wtp_core.specs.Put
 pub use Rattle.wtp_core.specs.ErrorCodes

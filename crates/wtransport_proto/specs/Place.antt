@@ -10,7 +10,7 @@ use Rattle.wtp_wire.specs.Content.{kind_in}
 use Rattle.wtp_wire.specs.Front.{Front, Framed, Unknown, BadId, TooBig, Short, front}
 use Rattle.wtp_wire.specs.Held.{Held, new_held, front_held, IsUnknownHead}
 use Rattle.wtp_wire.specs.Rule.{Role, rule}
-use Rattle.wtp_wire.specs.Run.{past_unknown}
+use Rattle.wtp_wire.specs.Run.{skip_unknown}
 use Rattle.wtransport_proto.specs.Reading.{FirstAfter}
 
 -- onward if there is no error code, otherwise here
@@ -44,7 +44,7 @@ abbrev pub remainder_within : ℕ → Role → Bool → List ℕ → Remainder
 remainder_within zero role first bytes = remainder_here first bytes
 remainder_within (suc n) role first bytes =
     next_remainder (λ f rest. remainder_within n role f rest) role first bytes
-    (front (past_unknown bytes))
+    (front (skip_unknown bytes))
 
 -- the remainder of a run
 unfoldable pub remainder : Role → Bool → List ℕ → Remainder
@@ -65,7 +65,7 @@ place_here first h ahead = record { first = first; held = h; ahead = ahead }
 
 -- the position after the unknown frames of a remainder, where no byte is held
 abbrev pub place_after : Remainder → Place
-place_after r = record { first = r.first; held = new_held; ahead = past_unknown r.bytes }
+place_after r = record { first = r.first; held = new_held; ahead = skip_unknown r.bytes }
 
 -- the position where the run ends, given the first frame
 abbrev pub place_by : Role → Bool → Held → List ℕ → Front → Place
@@ -89,26 +89,26 @@ place_of role first h s = place_held role first h s.ahead
 
 -- the bytes are the head and a first part of the payload of an unknown frame, followed by left; due
 -- more payload bytes are left to skip
-pub record BeginsUnknown (whole : List ℕ) (due : ℕ) (left : List ℕ) : Type 0 where
+pub record BeginsUnknown (whole : List ℕ) (skip_remaining : ℕ) (left : List ℕ) : Type 0 where
   pub head : List ℕ
   pub payload : List ℕ
   pub parts : whole ≡ (head ++ payload) ++ left
-  pub is_head : IsUnknownHead (length payload + due) head
+  pub is_head : IsUnknownHead (length payload + skip_remaining) head
 
 -- of due bytes left to skip, some were received, and now is the number left after that
-pub record ComesDue (due : ℕ) (ahead : List ℕ) (now : ℕ) (left : List ℕ) : Type 0 where
+pub record SkipAdvances (skip_remaining : ℕ) (ahead : List ℕ) (now : ℕ) (left : List ℕ) : Type 0 where
   pub payload : List ℕ
   pub parts : ahead ≡ payload ++ left
-  pub counts : due ≡ length payload + now
+  pub counts : skip_remaining ≡ length payload + now
 
 -- The bytes held and ahead are the same before and after, except that bytes of an unknown frame
 -- were skipped and more of it are left to skip.
 pub record Remains (old new : Held) (ahead left : List ℕ) : Type 0 where
   pub same : front_held new left ≡ front_held old ahead
-  pub kept : new.due ≡ 0 → (old.due ≡ 0) × (new.taken ++ left ≡ old.taken ++ ahead)
+  pub kept : new.skip_remaining ≡ 0 → (old.skip_remaining ≡ 0) × (new.taken ++ left ≡ old.taken ++ ahead)
   pub begun :
-      old.due ≡ 0 → 0 < new.due → (new.taken ≡ []) × BeginsUnknown (old.taken ++ ahead) new.due left
-  pub going : 0 < old.due → (new.taken ≡ old.taken) × ComesDue old.due ahead new.due left
+      old.skip_remaining ≡ 0 → 0 < new.skip_remaining → (new.taken ≡ []) × BeginsUnknown (old.taken ++ ahead) new.skip_remaining left
+  pub going : 0 < old.skip_remaining → (new.taken ≡ old.taken) × SkipAdvances old.skip_remaining ahead new.skip_remaining left
 
 -- Two positions are the same: no byte was lost between them.
 pub record SamePlace (old new : Place) : Type 0 where
@@ -120,16 +120,16 @@ pub record SamePlace (old new : Place) : Type 0 where
 -- The bytes left after an error, given the first frame at its position: a frame that is not
 -- allowed, or an invalid head, was taken completely, and no byte after it; if the bytes are too
 -- few, none is ahead, and all bytes received are held.
-abbrev pub LeftAfter : Place → Front → Held → List ℕ → Type 0
-LeftAfter p (Framed f rest) new left = (new ≡ new_held) × (left ≡ rest)
-LeftAfter p (Unknown rest) new left = ⊥
-LeftAfter p (BadId rest) new left = (new ≡ new_held) × (left ≡ rest)
-LeftAfter p (TooBig rest) new left = (new ≡ new_held) × (left ≡ rest)
-LeftAfter p Short new left = (left ≡ []) × Remains p.held new p.ahead []
+abbrev pub LeftByFault : Place → Front → Held → List ℕ → Type 0
+LeftByFault p (Framed f rest) new left = (new ≡ new_held) × (left ≡ rest)
+LeftByFault p (Unknown rest) new left = ⊥
+LeftByFault p (BadId rest) new left = (new ≡ new_held) × (left ≡ rest)
+LeftByFault p (TooBig rest) new left = (new ≡ new_held) × (left ≡ rest)
+LeftByFault p Short new left = (left ≡ []) × Remains p.held new p.ahead []
 
 -- The state after the error at this position: new is the reading state, these bytes are ahead, and
 -- next is whether the next frame is the first one of its stream.
-pub record StopsAt (role : Role) (p : Place) (next : Bool) (new : Held) (ahead : List ℕ) : Type
+pub record AtFault (role : Role) (p : Place) (next : Bool) (new : Held) (ahead : List ℕ) : Type
     0 where
   pub flag : FirstAfter role p.first (front_held p.held p.ahead) next
-  pub left : LeftAfter p (front_held p.held p.ahead) new ahead
+  pub left : LeftByFault p (front_held p.held p.ahead) new ahead

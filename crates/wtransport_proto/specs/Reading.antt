@@ -5,7 +5,7 @@ use Rattle.wtp_core.specs.declared.error.ErrorCode.TheVariants.{Id, ExcessiveLoa
 use Rattle.wtp_wire.specs.Content.{Content, kind_in}
 use Rattle.wtp_wire.specs.Front.{Front, Framed, Unknown, BadId, TooBig, Short, front}
 use Rattle.wtp_wire.specs.Rule.{Role, rule}
-use Rattle.wtp_wire.specs.Run.{MayGoOn, Open, H3, ends, follows, past_unknown, run}
+use Rattle.wtp_wire.specs.Run.{MayGoOn, Open, H3, ends, follows, skip_unknown, run}
 
 -- a frame, or the fault that refuses it
 abbrev pub permitted : Option ErrorCode → Content → Result Content ErrorCode
@@ -65,9 +65,9 @@ AnswersRun role first old (Err c) next new =
 abbrev pub ReaderIsAfter :
     Role → Bool → List ℕ → Result (Option Content) ErrorCode → Bool → List ℕ → Type 0
 ReaderIsAfter role first old (Ok (Some f)) next new =
-    (front (past_unknown old) ≡ Framed f new) × (rule role first (kind_in f) ≡ None)
+    (front (skip_unknown old) ≡ Framed f new) × (rule role first (kind_in f) ≡ None)
     × (next ≡ false)
 ReaderIsAfter role first old (Ok None) next new =
-    (front (past_unknown old) ≡ Short) × (next ≡ first) × (new ≡ old)
+    (front (skip_unknown old) ≡ Short) × (next ≡ first) × (new ≡ old)
 ReaderIsAfter role first old (Err c) next new =
-    FirstAfter role first (front (past_unknown old)) next × (new ≡ old)
+    FirstAfter role first (front (skip_unknown old)) next × (new ≡ old)

@@ -4,10 +4,10 @@ use Rattle.wtp_core.specs.declared.error.ErrorCode.{ErrorCode}
 use Rattle.wtp_core.specs.declared.error.ErrorCode.TheVariants.{FrameUnexpected}
 use Rattle.wtp_core.specs.ErrorScope.{code_in}
 use Rattle.wtp_wire.specs.declared.frame.kind.FrameKind.TheVariants.{Data}
-use Rattle.wtransport_proto.specs.declared.journey.JourneyError.{JourneyError}
-use Rattle.wtransport_proto.specs.declared.journey.JourneyError.TheVariants.{Receive}
-use Rattle.wtransport_proto.specs.declared.journey.ReceiveError.{ReceiveError}
-use Rattle.wtransport_proto.specs.declared.journey.ReceiveError.TheVariants.{Stream, OtherKind, Section}
+use Rattle.wtransport_proto.specs.declared.exchange.ExchangeError.{ExchangeError}
+use Rattle.wtransport_proto.specs.declared.exchange.ExchangeError.TheVariants.{Receive}
+use Rattle.wtransport_proto.specs.declared.exchange.ReceiveError.{ReceiveError}
+use Rattle.wtransport_proto.specs.declared.exchange.ReceiveError.TheVariants.{Stream, OtherKind, Section}
 use Rattle.wtransport_proto.specs.declared.stream.polled.IoReadError.{IoReadError}
 use Rattle.wtransport_proto.specs.declared.stream.polled.IoReadError.TheVariants.{H3, IO}
 
@@ -25,6 +25,6 @@ receive_code (OtherKind Data) = Some FrameUnexpected  -- RFC 9114, section 4.1
 receive_code _ = None
 
 -- the error code of a failed exchange, or None if nothing invalid was received
-abbrev pub journey_code : JourneyError → Option ErrorCode
-journey_code (Receive error) = receive_code error
-journey_code _ = None
+abbrev pub exchange_code : ExchangeError → Option ErrorCode
+exchange_code (Receive error) = receive_code error
+exchange_code _ = None

@@ -6,7 +6,7 @@ use Rattle.wtp_core.specs.declared.bytes.polled.Polled.{Polled}
 use Rattle.wtp_core.specs.declared.bytes.polled.Polled.TheVariants.{Ready, Pending, Again, NoMemory}
 use Rattle.wtp_core.specs.declared.bytes.polled.IoReadError as bytes
 use Rattle.wtp_core.specs.declared.bytes.polled.IoReadError.TheVariants as io
-use Rattle.wtp_core.specs.Source.{Source, Telling}
+use Rattle.wtp_core.specs.Source.{Source, HasModel}
 use Rattle.wtp_wire.specs.declared.frame.reading.IoReadError as wire
 use Rattle.wtp_wire.specs.Content.{Content, kind_in}
 use Rattle.wtp_wire.specs.Front.{Front, Framed, Unknown, BadId, TooBig, Short}
@@ -43,9 +43,9 @@ pub record EndsSo (r : Run) (fs : List Content) (x : IoReadError) : Type 0 where
   pub fault : IsStreamFault x r.ending
 
 -- a fault of the source follows all bytes ahead
-abbrev pub IsDry : IoReadError → Source → Type 0
-IsDry (stream.H3 c) b = Unit {0}
-IsDry (stream.IO e) b = b.ahead ≡ []
+abbrev pub Exhausted : IoReadError → Source → Type 0
+Exhausted (stream.H3 c) b = Unit {0}
+Exhausted (stream.IO e) b = b.ahead ≡ []
 
 -- ---- what one poll did to a source with a model
 
@@ -72,22 +72,22 @@ pub record Faults (role : Role) (first next : Bool) (old new : Held) (x : IoRead
   pub size : size_of new b ≤ size_of old a
   pub flag : FirstAfter role first (front_held old a.ahead) next
   pub place : SourceIsAfter (front_held old a.ahead) old new a b
-  pub dry : IsDry x b
+  pub dry : Exhausted x b
 
 -- an unknown frame was skipped; or 4096 bytes of its payload, and some are still to be skipped
 pub record PassesUnknown (first next : Bool) (old new : Held) (a b : Source) : Type 0 where
   pub skips : Skips old new a b
-  pub whole : new.due ≡ 0 → Decided old new a b Unknown
+  pub whole : new.skip_remaining ≡ 0 → Decided old new a b Unknown
   pub part :
-      0 < new.due
+      0 < new.skip_remaining
       → (front_held new b.ahead ≡ front_held old a.ahead) × (length skips.payload ≡ 4096)
   pub flag : next ≡ first
 
 -- allocation failed for the payload of a frame, none of whose bytes was held
 pub record LacksMemory (first next : Bool) (old new : Held) (a b : Source) : Type 0 where
   pub leaves : Leaves old new a b
-  pub none_due : old.due ≡ 0
-  pub none_due_now : new.due ≡ 0
+  pub none_due : old.skip_remaining ≡ 0
+  pub none_due_now : new.skip_remaining ≡ 0
   pub wants : WantsPayload (old.taken ++ a.ahead) (length old.taken)
   pub flag : next ≡ first
 
@@ -116,7 +116,7 @@ CodeGiven role first next old new c =
 
 -- an unknown frame was given completely, or a part of its payload
 abbrev pub PassGiven : Held → Held → Type 0
-PassGiven old new = Answered old new Unknown ⊎ (KeepsHeld old new × (0 < new.due))
+PassGiven old new = Answered old new Unknown ⊎ (KeepsHeld old new × (0 < new.skip_remaining))
 
 abbrev pub StreamGiven :
     Role → Polled (Result Content IoReadError) → Bool → Bool → Held → Held → Type 0
@@ -129,7 +129,7 @@ StreamGiven role (Ready (Err (stream.IO e))) first next old new =
 StreamGiven role Pending first next old new = KeepsHeld old new × (next ≡ first)
 StreamGiven role Again first next old new = PassGiven old new × (next ≡ first)
 StreamGiven role NoMemory first next old new =
-    KeepsHeld old new × (new.due ≡ 0) × HoldsHead new.taken × (next ≡ first)
+    KeepsHeld old new × (new.skip_remaining ≡ 0) × HoldsHead new.taken × (next ≡ first)
 
 -- ---- the result of a stream for the result of its reading
 
@@ -153,8 +153,8 @@ abbrev pub JudgesPolled :
     Role → Polled (Result Content wire.IoReadError) → Polled (Result Content IoReadError) → Bool
     → Bool → Type 0
 JudgesPolled role answer result first next =
-    (s t : Option Source) (old new : Held) → Telling s t (FramePolled answer old new)
-    → Telling s t (StreamPolled role result first next old new)
+    (s t : Option Source) (old new : Held) → HasModel s t (FramePolled answer old new)
+    → HasModel s t (StreamPolled role result first next old new)
 
 -- the same of every source, also of one without a model
 abbrev pub JudgesGiven :

@@ -1,14 +1,14 @@
 //! The error codes of stream errors and of failed exchanges.
 ghost use Rattle.std.specs.Prelude.{◌≡◌};
-ghost use Rattle.wtransport_proto.specs.StreamCodes.{stream_code, receive_code, journey_code};
+ghost use Rattle.wtransport_proto.specs.StreamCodes.{stream_code, receive_code, exchange_code};
 
-use crate::journey::{JourneyError, ReceiveError};
+use crate::exchange::{ExchangeError, ReceiveError};
 use crate::stream::IoReadError;
 use wtp_core::error::ErrorCode;
 use wtp_wire::frame::FrameKind;
 
 impl IoReadError {
-    /// Returns the error code, or `None` if the source gave no more bytes. Not in the Rust crate.
+    /// Returns the error code, or `None` if the source gave no more bytes.
     pub fn code(&self) -> Option<ErrorCode>
         ensures { result ≡ stream_code self.now }
     {
@@ -21,7 +21,7 @@ impl IoReadError {
 
 impl ReceiveError {
     /// Returns the error code if what was received is invalid. A DATA frame before the HEADERS
-    /// frame of a message is not permitted (RFC 9114, section 4.1). Not in the Rust crate.
+    /// frame of a message is not permitted (RFC 9114, section 4.1).
     ///
     /// Returns `None` if nothing invalid was received: the source was not ready or gave no more
     /// bytes, memory allocation failed, or the frame is of another kind.
@@ -37,15 +37,15 @@ impl ReceiveError {
     }
 }
 
-impl JourneyError {
+impl ExchangeError {
     /// Returns the error code if what was received is invalid, as [`ReceiveError::code`] does, or
-    /// `None` if the exchange ended before anything was received. Not in the Rust crate.
+    /// `None` if the exchange ended before anything was received.
     pub fn code(&self) -> Option<ErrorCode>
-        ensures { result ≡ journey_code self.now }
+        ensures { result ≡ exchange_code self.now }
     {
         match self {
-            JourneyError::Receive(error) => error.code(),
-            JourneyError::Frame(_) | JourneyError::Send(_) => None,
+            ExchangeError::Receive(error) => error.code(),
+            ExchangeError::Frame(_) | ExchangeError::Send(_) => None,
         }
     }
 }

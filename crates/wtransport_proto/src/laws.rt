@@ -13,7 +13,7 @@ ghost use Rattle.wtp_wire.specs.Held.{Held};
 ghost use Rattle.wtp_wire.specs.Wire.{wire};
 ghost use Rattle.wtp_wire.specs.declared.frame.kind.FrameKind.{FrameKind};
 ghost use Rattle.wtp_wire.specs.Rule.{Role, RemoteBi, RemoteUni, rule};
-ghost use Rattle.wtp_wire.specs.Run.{Tail, MayGoOn, H3, past_unknown, run, ends, follows, run_stop, counted};
+ghost use Rattle.wtp_wire.specs.Run.{Tail, MayGoOn, H3, skip_unknown, run, ends, follows, run_stop, counted};
 ghost use Rattle.wtransport_proto.specs.Agreeing.{Agrees};
 ghost use Rattle.wtransport_proto.specs.HeldRun.{run_held, stop_of, count_held};
 
@@ -55,9 +55,9 @@ pub fn run_passes_unknown()
 /// The bytes after the unknown frames at the start, given by the first frame.
 pub fn past_unknown_by_front()
     ensures unknown { (bytes rest : List ℕ) → front bytes ≡ Unknown rest
-        → past_unknown bytes ≡ past_unknown rest }
+        → skip_unknown bytes ≡ skip_unknown rest }
     ensures known { (bytes : List ℕ) → ((rest : List ℕ) → front bytes ≢ Unknown rest)
-        → past_unknown bytes ≡ bytes }
+        → skip_unknown bytes ≡ bytes }
 {}
 
 /// Only bidirectional streams that the peer opened distinguish the first frame from later ones.
@@ -73,13 +73,13 @@ pub fn only_remote_bi_counts()
 /// those. If there are fewer bytes ahead, it has no frame.
 pub fn run_held_by_bytes()
     ensures held { (role : Role) (first : Bool) (h : Held) (ahead : List ℕ) (tail : Tail)
-        → tail ≢ MayGoOn → h.due ≡ 0
+        → tail ≢ MayGoOn → h.skip_remaining ≡ 0
         → run_held role first h ahead tail ≡ run role first (h.taken ++ ahead) tail }
-    ensures due { (role : Role) (first : Bool) (h : Held) (ahead : List ℕ) (tail : Tail) → 0 < h.due
-        → h.due ≤ length ahead
-        → run_held role first h ahead tail ≡ run role first (drop h.due ahead) tail }
+    ensures skip_remaining { (role : Role) (first : Bool) (h : Held) (ahead : List ℕ) (tail : Tail) → 0 < h.skip_remaining
+        → h.skip_remaining ≤ length ahead
+        → run_held role first h ahead tail ≡ run role first (drop h.skip_remaining ahead) tail }
     ensures lacking { (role : Role) (first : Bool) (h : Held) (ahead : List ℕ) (tail : Tail)
-        → length ahead < h.due
+        → length ahead < h.skip_remaining
         → run_held role first h ahead tail ≡ ends (stop_of (count_held h ahead) tail) }
 {}
 

@@ -19,7 +19,7 @@
 //! - [`capsule`]: the capsule that closes a session, in DATA frames.
 //! - [`error`]: the error codes with which a stream or the connection is closed.
 //! - [`varint`], [`ids`]: variable-length integers, stream and session IDs, status codes.
-//! - [`journey`]: sending a frame, and sending or receiving a header map, in a bounded number of
+//! - [`exchange`]: sending a frame, and sending or receiving a header map, in a bounded number of
 //!   polls.
 //! - [`laws`]: facts about the definitions that the contracts cite, for users' proofs.
 //!
@@ -31,7 +31,7 @@ pub use wtp_fields::{fields, headers, huffman, qpack, session};
 pub use wtp_wire::{capsule, datagram, frame, settings, stream_header};
 
 mod codes;
-pub mod journey;
+pub mod exchange;
 pub mod laws;
 pub mod stream;
 

@@ -29,7 +29,7 @@ pub mod uniremote;
 mod upgrading;
 
 pub use accepting::{BiAccepted, BiAccepting, UniAccepting};
-pub use cursor::{CursorStep, FrameCursor, FramePlace};
+pub use cursor::{CursorStep, FrameCursor, FrameSpan};
 pub use driving::{Driven, ReadsFrames, drive};
 pub use polled::IoReadError;
 pub use upgrading::{BiUpgrading, UniUpgrading};

@@ -3,7 +3,7 @@ ghost use Rattle.std.specs.Prelude.{◌≡◌, IfOk};
 
 use crate::reading::{Phase, Reading};
 use std::alloc::AllocError;
-use wt_items::item::FrameName;
+use wt_inspection_model::item::FrameName;
 use wtp_core::varint::VarInt;
 use wtp_wire::frame::FrameKind;
 use wtp_wire::rules::StreamRole;

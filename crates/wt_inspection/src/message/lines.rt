@@ -1,6 +1,6 @@
 //! What is wrong with a single field line.
 
-use wt_items::item::Line;
+use wt_inspection_model::item::Line;
 
 /// Returns what is wrong with the name or the value of a field line.
 pub(crate) fn warning_of_line(line: &Line) -> Option<&'static str> {

@@ -1,7 +1,7 @@
 //! Pseudo-header fields (RFC 9114, section 4.3).
 
 use crate::message::Purpose;
-use wt_items::item::Line;
+use wt_inspection_model::item::Line;
 
 /// The pseudo-header fields of a section so far.
 #[derive(Clone, Copy)]

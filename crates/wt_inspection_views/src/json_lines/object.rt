@@ -10,7 +10,7 @@ use std::alloc::{AllocError, Global};
 use std::marker::Model;
 
 /// How many bytes an object has room for before it grows.
-const ROOM: usize = 256;
+const INITIAL_CAPACITY: usize = 256;
 
 /// Lines of JSON. They remember a failed allocation, so what adds lines returns nothing.
 #[derive(Drop)]
@@ -101,7 +101,7 @@ impl Object {
         ensures { IsAt (in_object []) result }
     {
         let mut text = Vec::new(alloc);
-        let reserved = text.reserve(ROOM);
+        let reserved = text.reserve(INITIAL_CAPACITY);
         let mut out = Writer::new(text);
         let begun = out.begin_object();
         Object {
@@ -113,7 +113,7 @@ impl Object {
 
     /// Remembers that an allocation failed.
     #[tactic(auto, unfolding(crate::specs::Objects::IsAt))]
-    fn lose(&mut self)
+    fn mark_failed(&mut self)
         ensures { (place : Place) → IsAt place self.new }
     {
         self.is_whole = false;
@@ -166,12 +166,12 @@ impl Object {
     }
 
     /// Adds a member that is a string for which memory was allocated.
-    pub(super) fn add_made(&mut self, name: &str, text: Result<String, AllocError>)
+    pub(super) fn add_formatted(&mut self, name: &str, text: Result<String, AllocError>)
         ensures { AddsMembers self.old self.new }
     {
         match text {
             Ok(text) => self.add_text(name, text.as_str()),
-            Err(_) => self.lose(),
+            Err(_) => self.mark_failed(),
         }
     }
 
@@ -180,7 +180,7 @@ impl Object {
         ensures { AddsMembers self.old self.new }
     {
         let digits = digits_of(self.alloc, bytes);
-        self.add_made(name, digits);
+        self.add_formatted(name, digits);
     }
 
     /// Adds the name of a member. Its value is added next.

@@ -4,8 +4,8 @@ ghost use Rattle.wt_inspection_views.specs.Objects.{AddsElements, AddsMembers};
 
 use super::object::Object;
 use crate::text::parts::name_setting;
-use wt_items::item::{
-    CapsuleItem, CloseReason, FieldSection, Line, SectionFault, SettingFlag, SettingLine,
+use wt_inspection_model::item::{
+    CapsuleItem, CloseReason, FieldSection, Line, SectionFault, SettingIssue, SettingLine,
 };
 
 /// Adds the lines of a field section, and why they end early, if they do.
@@ -48,7 +48,7 @@ fn add_stop(object: &mut Object, fault: SectionFault, insert_count: Option<u64>)
     match fault {
         SectionFault::NeedsDynamicTable => add_dynamic(object, insert_count),
         SectionFault::Malformed(fault) => {
-            object.add_made("stopped", format!(in object.alloc; "{fault}"))
+            object.add_formatted("stopped", format!(in object.alloc; "{fault}"))
         }
     }
 }
@@ -89,20 +89,20 @@ fn add_setting(object: &mut Object, setting: &SettingLine)
 {
     object.begin_object();
     object.add_number("id", setting.id);
-    object.add_made("name", name_setting(object.alloc, setting));
+    object.add_formatted("name", name_setting(object.alloc, setting));
     object.add_number("value", setting.value);
     add_flag(object, setting.flag);
     object.end_object()
 }
 
 /// Adds what is wrong with a setting.
-fn add_flag(object: &mut Object, flag: Option<SettingFlag>)
+fn add_flag(object: &mut Object, flag: Option<SettingIssue>)
     ensures { AddsMembers object.old object.new }
 {
     match flag {
         None => {}
-        Some(SettingFlag::Reserved) => object.add_text("fault", "reserved"),
-        Some(SettingFlag::Repeated) => object.add_text("fault", "repeated"),
+        Some(SettingIssue::Reserved) => object.add_text("fault", "reserved"),
+        Some(SettingIssue::Repeated) => object.add_text("fault", "repeated"),
     }
 }
 

@@ -31,7 +31,7 @@ impl Lines {
     }
 
     /// Remembers that an allocation failed.
-    pub(super) fn lose(&mut self)
+    pub(super) fn mark_failed(&mut self)
         ensures { self.new.is_whole ≡ false }
     {
         self.is_whole = false;
@@ -42,17 +42,17 @@ impl Lines {
         ensures { Gains 1 self.old self.new }
     {
         if self.text.add_line(words).is_err() {
-            self.lose();
+            self.mark_failed();
         }
     }
 
     /// Adds a line of words for which memory was allocated.
-    pub(super) fn add_made(&mut self, words: Result<String, AllocError>)
+    pub(super) fn add_formatted(&mut self, words: Result<String, AllocError>)
         ensures { Gains 1 self.old self.new }
     {
         match words {
             Ok(words) => self.add(words.as_str()),
-            Err(_) => self.lose(),
+            Err(_) => self.mark_failed(),
         }
     }
 
@@ -61,8 +61,8 @@ impl Lines {
         ensures { Gains 1 self.old self.new }
     {
         match more {
-            Ok(more) => self.add_made(format!(in self.alloc; "{at:<5} {what:<18} {more}")),
-            Err(_) => self.lose(),
+            Ok(more) => self.add_formatted(format!(in self.alloc; "{at:<5} {what:<18} {more}")),
+            Err(_) => self.mark_failed(),
         }
     }
 

@@ -6,8 +6,8 @@ ghost use Rattle.wt_inspection_views.specs.TextLines.{capsule_lines, close_lines
 use super::lines::Lines;
 use crate::escaped::{add_escaped, add_hex_byte};
 use std::alloc::{AllocError, Global};
-use wt_items::item::{
-    CapsuleItem, CloseReason, FieldSection, Line, SectionFault, SettingFlag, SettingLine, Warning,
+use wt_inspection_model::item::{
+    CapsuleItem, CloseReason, FieldSection, Line, SectionFault, SettingIssue, SettingLine, Warning,
 };
 use wtp_wire::settings::SettingId;
 
@@ -27,7 +27,7 @@ pub(super) fn add_fields(text: &mut Lines, section: &FieldSection)
     ensures { Gains (field_lines section.now) text.old text.new }
 {
     for line in &section.lines {
-        text.add_made(words_of_field(text.alloc, line));
+        text.add_formatted(words_of_field(text.alloc, line));
     }
     add_stop(text, section)
 }
@@ -48,12 +48,12 @@ fn add_fault(text: &mut Lines, fault: SectionFault, insert_count: Option<u64>)
 {
     match (fault, insert_count) {
         (SectionFault::Malformed(fault), _) => {
-            text.add_made(format!(in text.alloc; "        malformed: {fault}"))
+            text.add_formatted(format!(in text.alloc; "        malformed: {fault}"))
         }
         (SectionFault::NeedsDynamicTable, None) => text.add("        needs the dynamic table"),
         (SectionFault::NeedsDynamicTable, Some(count)) => {
             let words = "needs the dynamic table, encoded Required Insert Count";
-            text.add_made(format!(in text.alloc; "        {words} {count}"))
+            text.add_formatted(format!(in text.alloc; "        {words} {count}"))
         }
     }
 }
@@ -72,7 +72,7 @@ pub(super) fn add_settings(text: &mut Lines, settings: &[SettingLine])
     ensures { Gains (length settings.now) text.old text.new }
 {
     for setting in settings {
-        text.add_made(words_of_setting(text.alloc, setting));
+        text.add_formatted(words_of_setting(text.alloc, setting));
     }
 }
 
@@ -85,11 +85,11 @@ fn words_of_setting(alloc: Global, setting: &SettingLine) -> Result<String, Allo
 }
 
 /// Returns what a line says of a setting with this flag.
-fn words_of_flag(flag: Option<SettingFlag>) -> &'static str {
+fn words_of_flag(flag: Option<SettingIssue>) -> &'static str {
     match flag {
         None => "",
-        Some(SettingFlag::Reserved) => ", which must not be sent (RFC 9114, section 7.2.4.1)",
-        Some(SettingFlag::Repeated) => ", which is repeated (RFC 9114, section 7.2.4)",
+        Some(SettingIssue::Reserved) => ", which must not be sent (RFC 9114, section 7.2.4.1)",
+        Some(SettingIssue::Repeated) => ", which is repeated (RFC 9114, section 7.2.4)",
     }
 }
 
@@ -98,7 +98,7 @@ pub(crate) fn name_setting(alloc: Global, setting: &SettingLine) -> Result<Strin
     match (setting.setting(), setting.flag) {
         (Some(SettingId::Exercise(_)), _) => String::from_str(alloc, "reserved"),
         (Some(known), _) => format!(in alloc; "{known}"),
-        (None, Some(SettingFlag::Reserved)) => String::from_str(alloc, "HTTP/2 setting"),
+        (None, Some(SettingIssue::Reserved)) => String::from_str(alloc, "HTTP/2 setting"),
         (None, _) => String::from_str(alloc, "unknown"),
     }
 }
@@ -118,7 +118,7 @@ fn add_capsule_head(text: &mut Lines, at: Option<usize>, capsule: &CapsuleItem)
     let more = words_of_capsule(text.alloc, capsule);
     match at {
         Some(at) => text.add_head(at, "capsule", more),
-        None => text.add_made(indented(text.alloc, more)),
+        None => text.add_formatted(indented(text.alloc, more)),
     }
 }
 
@@ -154,8 +154,8 @@ fn add_reason(text: &mut Lines, close: &CloseReason)
     ensures { Gains 2 text.old text.new }
 {
     let code = close.code;
-    text.add_made(format!(in text.alloc; "            code = {code}"));
-    text.add_made(words_of_reason(text.alloc, close));
+    text.add_formatted(format!(in text.alloc; "            code = {code}"));
+    text.add_formatted(words_of_reason(text.alloc, close));
 }
 
 /// Returns the line of the reason for which a session is closed.
@@ -182,9 +182,9 @@ fn add_warning(text: &mut Lines, warning: &Warning)
     match warning.line {
         Some(line) => {
             let place = line.saturating_add(1);
-            text.add_made(format!(in text.alloc; "        warning: field {place}: {why}"))
+            text.add_formatted(format!(in text.alloc; "        warning: field {place}: {why}"))
         }
-        None => text.add_made(format!(in text.alloc; "        warning: {why}")),
+        None => text.add_formatted(format!(in text.alloc; "        warning: {why}")),
     }
 }
 
@@ -195,7 +195,7 @@ pub(super) fn add_hex(text: &mut Lines, bytes: &[u8])
     for row in 0..bytes.len().div_ceil(BYTES_PER_LINE) {
         let start = row * BYTES_PER_LINE;
         let end = bytes.len().min(start + BYTES_PER_LINE);
-        text.add_made(hex_line(text.alloc, &bytes[start..end]));
+        text.add_formatted(hex_line(text.alloc, &bytes[start..end]));
     }
 }
 

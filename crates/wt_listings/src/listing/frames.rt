@@ -5,7 +5,7 @@ ghost use Rattle.wtransport_proto.specs.Run.{run, MayGoOn};
 ghost use Rattle.wtransport_proto.specs.Streams.{header_of};
 ghost use Rattle.wt_listings.specs.Lines.{run_listing};
 ghost use Rattle.wt_listings.specs.Frames.{recorded_run};
-ghost use Rattle.wt_listings.specs.Listing.{Says};
+ghost use Rattle.wt_listings.specs.Listing.{HasText};
 
 use crate::listing::lines::Lines;
 use crate::listing::{ListKind, Listing};
@@ -21,7 +21,7 @@ use wtransport_proto::stream::uniremote::{MaybeUpgradeH3, StreamUniRemoteH3, Str
 ///
 /// Returns [`AllocError`] if allocation fails.
 pub fn list_frames(alloc: Global, kind: ListKind, input: &[u8]) -> Result<Listing, AllocError>
-    ensures listing { IfOk result (λ l. Says l (run_listing (recorded_run kind input.now))) }
+    ensures listing { IfOk result (λ l. HasText l (run_listing (recorded_run kind input.now))) }
     ensures status { IfOk result (λ l. (l.status ≡ 0) ⊎ (l.status ≡ 2)) }
 {
     match kind {
@@ -39,7 +39,7 @@ fn list_stream<S: ReadsFrames + Drop>(
 ) -> Result<Listing, AllocError>
     requires { S.can stream }
     ensures listing { IfOk result (λ l.
-        Says l (run_listing (run S.role (S.first stream) input.now MayGoOn))) }
+        HasText l (run_listing (run S.role (S.first stream) input.now MayGoOn))) }
     ensures status { IfOk result (λ l. (l.status ≡ 0) ⊎ (l.status ≡ 2)) }
 {
     let mut reader = BufferReader::new(input);

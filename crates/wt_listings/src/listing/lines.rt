@@ -1,7 +1,7 @@
 //! Making a listing line by line.
 ghost use Rattle.std.specs.Prelude.{◌≡◌, ℕ, List, [], ◌++◌, IfOk, codes, string_bytes};
 ghost use Rattle.wt_listings.specs.Lines.{line, with_ending};
-ghost use Rattle.wt_listings.specs.Listing.{Says};
+ghost use Rattle.wt_listings.specs.Listing.{HasText};
 ghost use Rattle.wt_listings.specs.Request.{field_line};
 ghost use Rattle.wtransport_proto.specs.Run.{Open, H3};
 
@@ -76,7 +76,7 @@ impl Lines {
 
     /// Returns the listing with a last line that says how many bytes come after the last frame.
     pub fn end(mut self, rest: usize) -> Result<Listing, AllocError>
-        ensures { IfOk result (λ l. Says l (with_ending self (Open rest))) }
+        ensures { IfOk result (λ l. HasText l (with_ending self (Open rest))) }
     {
         writeln!(self.text, "END {rest}")?;
         Ok(Listing {
@@ -87,7 +87,7 @@ impl Lines {
 
     /// Returns the listing with a last line that says which fault ends the stream.
     pub fn fault(mut self, code: ErrorCode) -> Result<Listing, AllocError>
-        ensures { IfOk result (λ l. Says l (with_ending self (H3 code))) }
+        ensures { IfOk result (λ l. HasText l (with_ending self (H3 code))) }
     {
         let number = code.to_code().into_inner();
         writeln!(self.text, "FAULT {code} {number}")?;

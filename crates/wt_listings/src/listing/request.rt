@@ -1,6 +1,6 @@
 //! The listing of the request for a session.
 ghost use Rattle.std.specs.Prelude.{◌≡◌, ◌⊎◌, IfOk};
-ghost use Rattle.wt_listings.specs.Listing.{Says};
+ghost use Rattle.wt_listings.specs.Listing.{HasText};
 ghost use Rattle.wt_listings.specs.Request.{fields_listing, result_listing, request_listing};
 ghost use Rattle.wtransport_proto.specs.Field.{fields_of};
 ghost use Rattle.wtransport_proto.specs.Run.{Open};
@@ -22,7 +22,7 @@ use wtransport_proto::stream::biremote::StreamBiRemoteQuic;
 ///
 /// Returns [`AllocError`] if allocation fails.
 pub fn list_request(alloc: Global, input: &[u8]) -> Result<Listing, AllocError>
-    ensures listing { IfOk result (λ l. Says l (request_listing input.now)) }
+    ensures listing { IfOk result (λ l. HasText l (request_listing input.now)) }
     ensures status { IfOk result (λ l. (l.status ≡ 0) ⊎ (l.status ≡ 2)) }
 {
     let mut stream = StreamBiRemoteQuic::accept_bi().upgrade();
@@ -36,7 +36,7 @@ pub fn list_request(alloc: Global, input: &[u8]) -> Result<Listing, AllocError>
 
 /// Returns the listing of the request in a frame, with this many bytes after it.
 fn list_frame(alloc: Global, frame: &Frame<'_>, rest: usize) -> Result<Listing, AllocError>
-    ensures listing { IfOk result (λ l. Says l (result_listing (request_in frame.now) rest)) }
+    ensures listing { IfOk result (λ l. HasText l (result_listing (request_in frame.now) rest)) }
     ensures status { IfOk result (λ l. (l.status ≡ 0) ⊎ (l.status ≡ 2)) }
 {
     match request_of_frame(alloc, frame) {
@@ -52,7 +52,7 @@ fn list_fields(
     fields: &BTreeMap<String, String>,
     rest: usize,
 ) -> Result<Listing, AllocError>
-    ensures { IfOk result (λ l. Says l (fields_listing (fields_of fields.now) (Open rest))) }
+    ensures { IfOk result (λ l. HasText l (fields_listing (fields_of fields.now) (Open rest))) }
 {
     let mut lines = Lines::new(alloc);
     for (name, value) in fields {

@@ -4,7 +4,7 @@ ghost use Rattle.std.specs.List.{flat_map};
 ghost use Rattle.wtransport_proto.specs.Run.{Ending};
 ghost use Rattle.wtransport_proto.specs.StreamPolling.{IsStreamFault};
 ghost use Rattle.wt_listings.specs.Lines.{line, run_listing, with_ending};
-ghost use Rattle.wt_listings.specs.Listing.{Says};
+ghost use Rattle.wt_listings.specs.Listing.{HasText};
 ghost use Rattle.wt_listings.specs.Stepped.{stepped_run};
 ghost use Rattle.wt_listings.specs.Stepped.{ClosesStream};
 
@@ -30,7 +30,7 @@ const POLLS: u32 = 1024;
 /// Returns [`AllocError`] if allocation fails.
 pub fn list_stepped(alloc: Global, k: usize, input: &[u8]) -> Result<Listing, AllocError>
     requires { 0 < k }
-    ensures listing { IfOk result (λ l. Says l (run_listing (stepped_run input.now))) }
+    ensures listing { IfOk result (λ l. HasText l (run_listing (stepped_run input.now))) }
     ensures status { IfOk result (λ l. (l.status ≡ 0) ⊎ (l.status ≡ 2)) }
 {
     let mut stream = StreamBiRemoteQuic::accept_bi().upgrade();
@@ -65,7 +65,7 @@ fn add_lines(lines: &mut Lines, frames: &[FrameOwned]) -> Result<(), AllocError>
 fn close(lines: Lines, fault: IoReadError) -> Result<Listing, AllocError>
     requires { ClosesStream fault }
     ensures listing { (e : Ending) → IsStreamFault fault e
-        → IfOk result (λ l. Says l (with_ending lines e)) }
+        → IfOk result (λ l. HasText l (with_ending lines e)) }
     ensures status { IfOk result (λ l. (l.status ≡ 0) ⊎ (l.status ≡ 2)) }
 {
     match fault {

@@ -7,7 +7,7 @@ use crate::bytes::buffer_reader::BufferReader;
 use crate::bytes::reader::BytesReader;
 use crate::varint::{VarInt, first_varint};
 
-/// A reader that a child may move, such as `BufferReader`. Not in the Rust crate.
+/// A reader that a child may move, such as `BufferReader`.
 ///
 /// Make a function that uses a child generic over `P: ParentReader<'a>`. Its contract can then say
 /// where `commit`, or dropping the child, leaves the parent. Callers may pass a `BufferReader`.

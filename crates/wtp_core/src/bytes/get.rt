@@ -1,9 +1,9 @@
 //! Polled reading of a variable-length integer, or into a buffer.
 ghost use Rattle.std.specs.Prelude.{◌≡◌, ℕ, ◌<◌, ◌≤◌, List, [], None, length, take, Ok};
-ghost use Rattle.wtp_core.specs.Source.{Telling};
-ghost use Rattle.wtp_core.specs.Polled.{Asks, WaitsAs};
+ghost use Rattle.wtp_core.specs.Source.{HasModel};
+ghost use Rattle.wtp_core.specs.Polled.{PollsAtMost, WaitsAs};
 ghost use Rattle.wtp_core.specs.Varint.{number_at};
-ghost use Rattle.wtp_core.specs.VarintNeed.{varint_need, IsCutNumber, varint_need_most, varint_need_grows};
+ghost use Rattle.wtp_core.specs.VarintLenNeeded.{varint_len_needed, IsCutNumber, varint_need_most, varint_need_grows};
 ghost use Rattle.wtp_core.specs.Get.{VarintPolled, VarintGiven, BufferPolled, BufferGiven};
 
 use crate::bytes::polled::{IoReadError, Polled};
@@ -14,10 +14,10 @@ use crate::varint::{VarInt, first_varint};
 use std::marker::Model;
 
 /// Returns how many bytes the encoding of a variable-length integer needs, given its first bytes
-/// `held`: 1 if none is held yet. Not in the Rust crate.
+/// `held`: 1 if none is held yet.
 #[inline(always)]
-pub fn varint_need(held: &[u8]) -> usize
-    ensures { result ≡ varint_need held.now }
+pub fn varint_len_needed(held: &[u8]) -> usize
+    ensures { result ≡ varint_len_needed held.now }
 {
     match held.first() {
         None => 1,
@@ -29,12 +29,12 @@ pub fn varint_need(held: &[u8]) -> usize
 struct VarintHead;
 
 impl Head for VarintHead {
-    ghost need = { varint_need };
+    ghost len_needed = { varint_len_needed };
 
     ghost most = { 8 };
 
-    fn need(held: &[u8]) -> usize {
-        varint_need(held)
+    fn len_needed(held: &[u8]) -> usize {
+        varint_len_needed(held)
     }
 
     ghost need_most = { varint_need_most };
@@ -60,7 +60,7 @@ impl Model for GetVarint {
 }
 
 impl GetVarint {
-    /// Creates a state that has read nothing. Not in the Rust crate.
+    /// Creates a state that has read nothing.
     pub fn new() -> Self
         ensures { result ≡ [] }
     {
@@ -80,10 +80,10 @@ impl GetVarint {
         ensures was_cut { number_at self.old ≡ None }
         ensures cut { number_at self.new ≡ None }
         ensures given { VarintGiven result self.old self.new }
-        ensures polled { Telling (S.tells source.old) (S.tells source.new)
+        ensures polled { HasModel (S.tells source.old) (S.tells source.new)
             (VarintPolled result self.old self.new) }
-        ensures waits { Telling (S.tells source.old) (S.tells source.new) (WaitsAs result) }
-        ensures asks { Telling (S.tells source.old) (S.tells source.new) (Asks 8) }
+        ensures waits { HasModel (S.tells source.old) (S.tells source.new) (WaitsAs result) }
+        ensures asks { HasModel (S.tells source.old) (S.tells source.new) (PollsAtMost 8) }
     {
         match fill_head::<VarintHead, S>(source, &mut self.bytes, &mut self.len) {
             Ok(()) => {}
@@ -111,7 +111,7 @@ pub struct GetBuffer<'a> {
 impl<'a> GetBuffer<'a> {
     ghost use Rattle.wtp_core.specs.GetBuffer.{buffer_of, taken_of, room_of, loan_in};
 
-    /// Creates a state that has read nothing. Not in the Rust crate.
+    /// Creates a state that has read nothing.
     pub fn new(buffer: &'a mut [u8]) -> Self
         ensures taken { taken_of result ≡ [] }
         ensures buffer { buffer_of result ≡ buffer.old }
@@ -131,10 +131,10 @@ impl<'a> GetBuffer<'a> {
         ensures room { room_of self.new ≡ room_of self.old }
         ensures given { BufferGiven result (room_of self.old) (taken_of self.old)
             (taken_of self.new) }
-        ensures polled { Telling (S.tells source.old) (S.tells source.new)
+        ensures polled { HasModel (S.tells source.old) (S.tells source.new)
             (BufferPolled result (taken_of self.old) (taken_of self.new)) }
-        ensures waits { Telling (S.tells source.old) (S.tells source.new) (WaitsAs result) }
-        ensures asks { Telling (S.tells source.old) (S.tells source.new) (Asks (room_of self.old)) }
+        ensures waits { HasModel (S.tells source.old) (S.tells source.new) (WaitsAs result) }
+        ensures asks { HasModel (S.tells source.old) (S.tells source.new) (PollsAtMost (room_of self.old)) }
         ensures finished { length (taken_of self.old) ≡ room_of self.old
             → (source.new ≡ source.old) × (result ≡ Polled.Ready (Ok tt))
             × (buffer_of self.new ≡ buffer_of self.old) }

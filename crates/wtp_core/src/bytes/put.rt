@@ -1,13 +1,13 @@
 //! Polled writing of a variable-length integer or a buffer.
 ghost use Rattle.std.specs.Prelude.{◌≡◌, ◌≤◌, length, Ok};
-ghost use Rattle.wtp_core.specs.Source.{Telling};
+ghost use Rattle.wtp_core.specs.Source.{HasModel};
 ghost use Rattle.wtp_core.specs.Varint.{shortest};
 ghost use Rattle.wtp_core.specs.Put.{Writing, unsent, GoesOn, IsSent, WritePolled};
 
 use crate::bytes::polled::{IoWriteError, Polled};
 use crate::bytes::sink::AsyncWrite;
 use crate::polling::drain::drain;
-use crate::polling::encoded::Encoded;
+use crate::polling::encoded::VarintWriting;
 use crate::varint::VarInt;
 use std::marker::Model;
 
@@ -16,7 +16,7 @@ use std::marker::Model;
 /// It counts the bytes sent, and sends none of them twice.
 #[derive(Debug, Drop)]
 pub struct PutVarint {
-    encoded: Encoded,
+    encoded: VarintWriting,
 }
 
 impl Model for PutVarint {
@@ -26,12 +26,12 @@ impl Model for PutVarint {
 }
 
 impl PutVarint {
-    /// Creates a state that has sent nothing. Not in the Rust crate.
+    /// Creates a state that has sent nothing.
     pub fn new(varint: VarInt) -> Self
         ensures { result ≡ unsent (shortest varint) }
     {
         PutVarint {
-            encoded: Encoded::one(varint),
+            encoded: VarintWriting::one(varint),
         }
     }
 
@@ -43,7 +43,7 @@ impl PutVarint {
     pub fn poll<W: AsyncWrite>(&mut self, sink: &mut W) -> Polled<Result<(), IoWriteError>>
         ensures on { GoesOn self.old self.new }
         ensures whole { IsSent result self.new }
-        ensures polled { Telling (W.tells sink.old) (W.tells sink.new)
+        ensures polled { HasModel (W.tells sink.old) (W.tells sink.new)
             (WritePolled result self.old self.new) }
         ensures finished { self.old.sent ≡ length self.old.bytes
             → (sink.new ≡ sink.old) × (result ≡ Polled.Ready (Ok tt)) }
@@ -70,7 +70,7 @@ impl<'a> Model for PutBuffer<'a> {
 }
 
 impl<'a> PutBuffer<'a> {
-    /// Creates a state that has sent nothing. Not in the Rust crate.
+    /// Creates a state that has sent nothing.
     pub fn new(bytes: &'a [u8]) -> Self
         ensures { result ≡ unsent bytes.now }
     {
@@ -85,7 +85,7 @@ impl<'a> PutBuffer<'a> {
     pub fn poll<W: AsyncWrite>(&mut self, sink: &mut W) -> Polled<Result<(), IoWriteError>>
         ensures on { GoesOn self.old self.new }
         ensures whole { IsSent result self.new }
-        ensures polled { Telling (W.tells sink.old) (W.tells sink.new)
+        ensures polled { HasModel (W.tells sink.old) (W.tells sink.new)
             (WritePolled result self.old self.new) }
         ensures finished { self.old.sent ≡ length self.old.bytes
             → (sink.new ≡ sink.old) × (result ≡ Polled.Ready (Ok tt)) }

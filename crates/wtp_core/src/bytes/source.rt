@@ -1,6 +1,6 @@
 //! The `AsyncRead` trait of polled sources, and its implementation for slices.
 ghost use Rattle.std.specs.Prelude.{◌≡◌, Option, Some, None, ◌≤◌, ◌↔◌, length, min, false, IsTrue};
-ghost use Rattle.wtp_core.specs.Source.{Source, StepKeepsLengths, StepTells, Telling, Shows, TakesBuffered, all_ahead};
+ghost use Rattle.wtp_core.specs.Source.{Source, StepKeepsLengths, StepTells, HasModel, Shows, TakesBuffered, all_ahead};
 
 /// The result of one call of a source.
 #[derive(Clone, Copy, Debug, PartialEq, Eq)]
@@ -36,7 +36,7 @@ pub trait AsyncRead {
         ensures tells { StepTells result buf.new (tells self.old) (tells self.new) };
 
     /// Returns buffered bytes without taking them: a prefix of the bytes ahead. A source may return
-    /// none here; all bytes then come from `poll_read`. Not in the Rust crate.
+    /// none here; all bytes then come from `poll_read`.
     fn buffered(&self) -> &[u8]
         ensures shows { Shows result.now (tells self.now) }
     {
@@ -48,7 +48,7 @@ pub trait AsyncRead {
     /// in the Rust crate.
     fn take_buffered(&mut self, count: usize) -> bool
         ensures taken { IsTrue result
-            → Telling (tells self.old) (tells self.new) (TakesBuffered count) }
+            → HasModel (tells self.old) (tells self.new) (TakesBuffered count) }
         ensures none { result ≡ false → self.new ≡ self.old }
     {
         let _ = count;

@@ -2,7 +2,7 @@
 ghost use Rattle.std.specs.Prelude.{◌≡◌, ℕ, List, Option, None, Bool, true};
 ghost use Rattle.std.specs.Borrow.{GName};
 ghost use Rattle.wtp_core.specs.Varint.{shortest};
-ghost use Rattle.wtp_core.specs.Writer.{Puts};
+ghost use Rattle.wtp_core.specs.Writer.{WritesPrefix};
 
 use crate::varint::VarInt;
 
@@ -37,7 +37,7 @@ pub trait BytesWriter {
     /// Returns `EndOfBuffer` exactly if too little space is left, and `Memory` only if memory
     /// allocation failed.
     fn put_bytes(&mut self, bytes: &[u8]) -> Result<(), PutError>
-        ensures puts { Puts grows bytes.now result (written self.old) (room self.old)
+        ensures puts { WritesPrefix grows bytes.now result (written self.old) (room self.old)
             (written self.new) (room self.new) }
         ensures target { target self.new ≡ target self.old };
 
@@ -45,7 +45,7 @@ pub trait BytesWriter {
     /// nothing. Returns the errors of `put_bytes`.
     #[tactic(auto, unfolding(crate::specs::Varint::shortest))]
     fn put_varint(&mut self, varint: VarInt) -> Result<(), PutError>
-        ensures puts { Puts grows (shortest varint) result (written self.old) (room self.old)
+        ensures puts { WritesPrefix grows (shortest varint) result (written self.old) (room self.old)
             (written self.new) (room self.new) }
         ensures target { target self.new ≡ target self.old }
     {

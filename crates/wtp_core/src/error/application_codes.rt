@@ -1,5 +1,5 @@
 //! Conversion between the error codes with which applications reset WebTransport streams and HTTP/3
-//! error codes (WebTransport over HTTP/3, "Resetting Data Streams"). Not in the Rust crate.
+//! error codes (WebTransport over HTTP/3, "Resetting Data Streams").
 
 ghost use Rattle.std.specs.Prelude.{◌≡◌, ◌≢◌, ℕ, ◌<◌, ◌^◌, MatchResult};
 ghost use Rattle.wtp_core.specs.ApplicationCodes.{http3_number};

@@ -1,4 +1,4 @@
-//! Any error code of HTTP/3, by its number (RFC 9114, section 8.1). Not in the Rust crate.
+//! Any error code of HTTP/3, by its number (RFC 9114, section 8.1).
 
 ghost use Rattle.std.specs.Prelude.{◌≡◌, None, Some, MatchOption};
 ghost use Rattle.wtp_core.specs.Codes.{code_name, code_description, code_scope};

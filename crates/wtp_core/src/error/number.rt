@@ -38,8 +38,7 @@ impl TryFrom<VarInt> for ErrorCode {
     ghost try_from_gives = { λ number result. MatchResult result (λ code. number ≡ code_number code)
         (λ _. (code : ErrorCode) → number ≢ code_number code) };
 
-    /// Returns the code with this number, the inverse of [`ErrorCode::to_code`]. Not in the Rust
-    /// crate.
+    /// Returns the code with this number, the inverse of [`ErrorCode::to_code`].
     ///
     /// Returns an error if no code has this number.
     fn try_from(number: VarInt) -> Result<Self, UnknownErrorCode> {

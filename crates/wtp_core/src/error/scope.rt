@@ -7,7 +7,7 @@ ghost use Rattle.wtp_core.specs.ErrorScope.{scope_of, code_in};
 use super::{ErrorCode, Refused, UnknownErrorCode};
 use crate::ids::{InvalidQStreamId, InvalidSessionId, InvalidStatusCode};
 
-/// What an error code ends (RFC 9114, section 8). Not in the Rust crate.
+/// What an error code ends (RFC 9114, section 8).
 #[derive(Clone, Copy, Debug, PartialEq, Eq)]
 pub enum ErrorScope {
     /// One stream, which is reset or no longer read. The connection stays open.
@@ -21,7 +21,7 @@ pub enum ErrorScope {
 
 impl ErrorCode {
     /// Returns what the code ends. A stream error may also be treated as a connection error (RFC
-    /// 9114, section 8). Not in the Rust crate.
+    /// 9114, section 8).
     pub fn scope(self) -> ErrorScope
         ensures { result ≡ scope_of self }
     {
@@ -46,7 +46,7 @@ impl ErrorCode {
 }
 
 impl Refused {
-    /// Returns the error code, or `None` if memory allocation failed. Not in the Rust crate.
+    /// Returns the error code, or `None` if memory allocation failed.
     pub fn code(&self) -> Option<ErrorCode>
         ensures { result ≡ code_in self.now }
     {
@@ -61,7 +61,7 @@ impl From<InvalidSessionId> for ErrorCode {
     ghost from_gives = { λ _ code. code ≡ Id };
 
     /// Returns [`ErrorCode::Id`]: an invalid session ID ends the connection (WebTransport over
-    /// HTTP/3, "Session IDs"). Not in the Rust crate.
+    /// HTTP/3, "Session IDs").
     fn from(_error: InvalidSessionId) -> ErrorCode {
         ErrorCode::Id
     }
@@ -70,7 +70,7 @@ impl From<InvalidSessionId> for ErrorCode {
 impl From<InvalidQStreamId> for ErrorCode {
     ghost from_gives = { λ _ code. code ≡ Datagram };
 
-    /// Returns [`ErrorCode::Datagram`] (RFC 9297, section 2.1). Not in the Rust crate.
+    /// Returns [`ErrorCode::Datagram`] (RFC 9297, section 2.1).
     fn from(_error: InvalidQStreamId) -> ErrorCode {
         ErrorCode::Datagram
     }
@@ -80,7 +80,7 @@ impl From<InvalidStatusCode> for ErrorCode {
     ghost from_gives = { λ _ code. code ≡ Message };
 
     /// Returns [`ErrorCode::Message`]: a response with an invalid `:status` is malformed (RFC 9114,
-    /// sections 4.1.2 and 4.3.2). Not in the Rust crate.
+    /// sections 4.1.2 and 4.3.2).
     fn from(_error: InvalidStatusCode) -> ErrorCode {
         ErrorCode::Message
     }
@@ -90,7 +90,7 @@ impl From<UnknownErrorCode> for ErrorCode {
     ghost from_gives = { λ _ code. code ≡ NoError };
 
     /// Returns [`ErrorCode::NoError`]: unknown error codes are treated as this one (RFC 9114,
-    /// section 8). Not in the Rust crate.
+    /// section 8).
     fn from(_error: UnknownErrorCode) -> ErrorCode {
         ErrorCode::NoError
     }

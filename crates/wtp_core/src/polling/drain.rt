@@ -1,6 +1,6 @@
 //! Writing a buffer to a sink until the sink accepts no more.
 ghost use Rattle.std.specs.Prelude.{◌≡◌, ◌≤◌, length, Ok};
-ghost use Rattle.wtp_core.specs.Source.{Telling};
+ghost use Rattle.wtp_core.specs.Source.{HasModel};
 ghost use Rattle.wtp_core.specs.Put.{writing, GoesOn, IsSent, WritePolled};
 
 use crate::bytes::polled::{IoWriteError, Polled};
@@ -24,7 +24,7 @@ pub fn drain<W: AsyncWrite>(
     requires { sent.old ≤ length bytes.now }
     ensures on { GoesOn (writing bytes.now sent.old) (writing bytes.now sent.new) }
     ensures whole { IsSent result (writing bytes.now sent.new) }
-    ensures polled { Telling (W.tells sink.old) (W.tells sink.new)
+    ensures polled { HasModel (W.tells sink.old) (W.tells sink.new)
         (WritePolled result (writing bytes.now sent.old) (writing bytes.now sent.new)) }
     ensures finished { sent.old ≡ length bytes.now
         → (sink.new ≡ sink.old) × (result ≡ Polled.Ready (Ok tt)) }

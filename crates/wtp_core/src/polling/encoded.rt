@@ -1,6 +1,6 @@
 //! Polled writing of one or two variable-length integers.
 ghost use Rattle.std.specs.Prelude.{◌≡◌, ◌≤◌, ◌++◌, length, take, drop, Ok};
-ghost use Rattle.wtp_core.specs.Source.{Telling};
+ghost use Rattle.wtp_core.specs.Source.{HasModel};
 ghost use Rattle.wtp_core.specs.Varint.{shortest};
 ghost use Rattle.wtp_core.specs.Put.{Writing, unsent, GoesOn, IsSent, WritePolled};
 
@@ -13,15 +13,15 @@ use crate::varint::VarInt;
 use std::marker::Model;
 
 /// The shortest encodings of one or two numbers (RFC 9000, section 16), and how many of their bytes
-/// are sent. It sends no byte twice. Not in the Rust crate.
+/// are sent. It sends no byte twice.
 #[derive(Debug, Drop)]
-pub struct Encoded {
+pub struct VarintWriting {
     bytes: [u8; 16],
     len: usize,
     sent: usize,
 }
 
-impl Model for Encoded {
+impl Model for VarintWriting {
     ghost Value = { Writing };
 
     ghost view = { λ s. record { bytes = take s.len s.bytes; sent = s.sent } };
@@ -29,14 +29,14 @@ impl Model for Encoded {
     ghost invariant = { λ s. (s.len ≤ 16) × (s.sent ≤ s.len) };
 }
 
-impl Encoded {
+impl VarintWriting {
     /// Encodes one number. Nothing is sent yet.
     pub fn one(number: VarInt) -> Self
         ensures { result ≡ unsent (shortest number) }
     {
         let mut bytes = [0; 16];
         let len = encode(number, &mut bytes);
-        Encoded {
+        VarintWriting {
             bytes,
             len,
             sent: 0,
@@ -50,7 +50,7 @@ impl Encoded {
         let mut bytes = [0; 16];
         let one = encode(first, &mut bytes);
         let two = encode(second, &mut bytes[one..]);
-        Encoded {
+        VarintWriting {
             bytes,
             len: one + two,
             sent: 0,
@@ -69,7 +69,7 @@ impl Encoded {
     pub fn poll<W: AsyncWrite>(&mut self, sink: &mut W) -> Polled<Result<(), IoWriteError>>
         ensures on { GoesOn self.old self.new }
         ensures whole { IsSent result self.new }
-        ensures polled { Telling (W.tells sink.old) (W.tells sink.new)
+        ensures polled { HasModel (W.tells sink.old) (W.tells sink.new)
             (WritePolled result self.old self.new) }
         ensures finished { self.old.sent ≡ length self.old.bytes
             → (sink.new ≡ sink.old) × (result ≡ Polled.Ready (Ok tt)) }

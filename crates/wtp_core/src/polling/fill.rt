@@ -1,6 +1,6 @@
 //! Reading from a source into a buffer until it is full or the source gives no more.
 ghost use Rattle.std.specs.Prelude.{◌≡◌, ◌≤◌, length, take};
-ghost use Rattle.wtp_core.specs.Source.{Telling};
+ghost use Rattle.wtp_core.specs.Source.{HasModel};
 ghost use Rattle.wtp_core.specs.Fill.{FillKeepsLengths, FillTells, HaltWaits, halt_fault, HaltsAs};
 
 use crate::bytes::polled::{IoReadError, Polled};
@@ -8,7 +8,7 @@ use crate::bytes::source::{AsyncRead, ReadStep};
 
 /// The reason why a buffer was not filled.
 #[derive(Clone, Copy, Debug)]
-pub enum Halt {
+pub enum Interrupted {
     /// The source was not ready.
     NotReady,
     /// The source ended.
@@ -28,28 +28,28 @@ pub enum Halt {
 ///   received are still ahead.
 /// - `Fin`, `Reset`, `NotConnected`: the source ended in this way, and has no bytes ahead.
 #[inline(always)]
-pub fn fill<S: AsyncRead>(source: &mut S, buf: &mut [u8], at: &mut usize) -> Result<(), Halt>
+pub fn fill<S: AsyncRead>(source: &mut S, buf: &mut [u8], at: &mut usize) -> Result<(), Interrupted>
     requires { at.old ≤ length buf.old }
     ensures front { take at.old buf.new ≡ take at.old buf.old }
     ensures forward { at.old ≤ at.new }
     ensures lengths { FillKeepsLengths result at.new (length buf.new) }
     ensures tells { FillTells result (take at.old buf.old) (take at.new buf.new)
         (S.tells source.old) (S.tells source.new) }
-    ensures waits { Telling (S.tells source.old) (S.tells source.new) (HaltWaits result) }
+    ensures waits { HasModel (S.tells source.old) (S.tells source.new) (HaltWaits result) }
 {
     while *at < buf.len() {
         match source.poll_read(&mut buf[*at..]) {
-            ReadStep::Bytes(0) => return Err(Halt::Fin),
+            ReadStep::Bytes(0) => return Err(Interrupted::Fin),
             ReadStep::Bytes(n) => *at += n,
-            ReadStep::NotReady => return Err(Halt::NotReady),
-            ReadStep::Reset => return Err(Halt::Reset),
-            ReadStep::NotConnected => return Err(Halt::NotConnected),
+            ReadStep::NotReady => return Err(Interrupted::NotReady),
+            ReadStep::Reset => return Err(Interrupted::Reset),
+            ReadStep::NotConnected => return Err(Interrupted::NotConnected),
         }
     }
     Ok(())
 }
 
-impl Halt {
+impl Interrupted {
     /// Converts the reason to a read error, or returns `None` if the source was not ready. `taken`
     /// is the number of bytes received of the item: `Fin` becomes `ImmediateFin` if it is 0, and
     /// `UnexpectedFin` otherwise. The others become the errors of the same names.
@@ -57,18 +57,18 @@ impl Halt {
         ensures { result ≡ halt_fault self taken }
     {
         match self {
-            Halt::NotReady => None,
-            Halt::Fin if taken == 0 => Some(IoReadError::ImmediateFin),
-            Halt::Fin => Some(IoReadError::UnexpectedFin),
-            Halt::Reset => Some(IoReadError::Reset),
-            Halt::NotConnected => Some(IoReadError::NotConnected),
+            Interrupted::NotReady => None,
+            Interrupted::Fin if taken == 0 => Some(IoReadError::ImmediateFin),
+            Interrupted::Fin => Some(IoReadError::UnexpectedFin),
+            Interrupted::Reset => Some(IoReadError::Reset),
+            Interrupted::NotConnected => Some(IoReadError::NotConnected),
         }
     }
 }
 
 /// Returns the result of a poll that stopped after `taken` bytes: `Pending` if the source was not
-/// ready, and otherwise the error that `Halt::fault` returns.
-pub fn halt_result<T, E: From<IoReadError>>(halt: Halt, taken: usize) -> Polled<Result<T, E>>
+/// ready, and otherwise the error that `Interrupted::fault` returns.
+pub fn halt_result<T, E: From<IoReadError>>(halt: Interrupted, taken: usize) -> Polled<Result<T, E>>
     ensures { HaltsAs E.from_gives (halt_fault halt taken) result }
 {
     match halt.fault(taken) {

@@ -1,29 +1,29 @@
 //! Reading the head of an item: the bytes in front of its payload. The first bytes of a head
 //! determine its length.
 ghost use Rattle.std.specs.Prelude.{◌≡◌, ℕ, ◌<◌, ◌≤◌, List, ◌++◌, length, take, OnOk, OnErr};
-ghost use Rattle.wtp_core.specs.Source.{Telling};
+ghost use Rattle.wtp_core.specs.Source.{HasModel};
 ghost use Rattle.wtp_core.specs.Fill.{FillTells, HaltWaits};
 
 use crate::bytes::source::AsyncRead;
-use crate::polling::fill::{Halt, fill};
+use crate::polling::fill::{Interrupted, fill};
 
 /// A kind of head, given by the length that the bytes received so far determine.
 pub trait Head {
     // The minimum length of a head that starts with these bytes.
-    ghost need: { List ℕ → ℕ };
+    ghost len_needed: { List ℕ → ℕ };
 
-    // An upper bound of `need`.
+    // An upper bound of `len_needed`.
     ghost most: { ℕ };
 
     /// Returns the minimum length of a head that starts with the bytes `held`.
-    fn need(held: &[u8]) -> usize
-        requires { length held.now ≤ need held.now }
-        ensures { result ≡ need held.now };
+    fn len_needed(held: &[u8]) -> usize
+        requires { length held.now ≤ len_needed held.now }
+        ensures { result ≡ len_needed held.now };
 
-    ghost need_most: { (h : List ℕ) → need h ≤ most };
+    ghost need_most: { (h : List ℕ) → len_needed h ≤ most };
 
     // It does not decrease when more bytes are received.
-    ghost need_grows: { (h t : List ℕ) → need h ≤ need (h ++ t) };
+    ghost need_grows: { (h t : List ℕ) → len_needed h ≤ len_needed (h ++ t) };
 }
 
 /// Reads into `buf` from index `len` on until the head is complete, and takes no byte after it. A
@@ -37,27 +37,27 @@ pub fn fill_head<H: Head, S: AsyncRead>(
     source: &mut S,
     buf: &mut [u8],
     len: &mut usize,
-) -> Result<(), Halt>
-    requires within { len.old ≤ H.need (take len.old buf.old) }
+) -> Result<(), Interrupted>
+    requires within { len.old ≤ H.len_needed (take len.old buf.old) }
     requires room { H.most ≤ length buf.old }
-    ensures whole { OnOk result (H.need (take len.new buf.new) ≡ len.new) }
-    ensures cut { OnErr result (len.new < H.need (take len.new buf.new)) }
+    ensures whole { OnOk result (H.len_needed (take len.new buf.new) ≡ len.new) }
+    ensures cut { OnErr result (len.new < H.len_needed (take len.new buf.new)) }
     ensures forward { len.old ≤ len.new }
     ensures front { take len.old buf.new ≡ take len.old buf.old }
     ensures room { len.new ≤ length buf.new }
     // A complete head is left unchanged.
-    ensures stays { H.need (take len.old buf.old) ≡ len.old
+    ensures stays { H.len_needed (take len.old buf.old) ≡ len.old
         → (len.new ≡ len.old) × (buf.new ≡ buf.old) }
     ensures tells { FillTells result (take len.old buf.old) (take len.new buf.new)
         (S.tells source.old) (S.tells source.new) }
-    ensures waits { Telling (S.tells source.old) (S.tells source.new) (HaltWaits result) }
+    ensures waits { HasModel (S.tells source.old) (S.tells source.new) (HaltWaits result) }
 {
     loop {
-        let need = H::need(&buf[..*len]);
-        if *len >= need {
+        let len_needed = H::len_needed(&buf[..*len]);
+        if *len >= len_needed {
             return Ok(());
         }
-        match fill(source, &mut buf[..need], len) {
+        match fill(source, &mut buf[..len_needed], len) {
             Ok(()) => {}
             Err(halt) => return Err(halt),
         }

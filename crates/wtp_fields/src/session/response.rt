@@ -116,7 +116,7 @@ impl SessionResponse {
         text.parse::<StatusCode>().unwrap()
     }
 
-    /// Returns the value of a field. Not in the Rust crate.
+    /// Returns the value of a field.
     pub fn get(&self, name: &str) -> Option<&str>
         ensures { option_copied result ≡ field_value name.now self.now }
     {
@@ -186,7 +186,7 @@ impl TryFrom<Headers> for SessionResponse {
 }
 
 /// Returns the response in a HEADERS frame, with all of its fields (RFC 9114, sections 4.1.2 and
-/// 4.3.2). Not in the Rust crate.
+/// 4.3.2).
 ///
 /// Returns [`Refused::Code`] with [`ErrorCode::FrameUnexpected`] for a frame of another kind, with
 /// [`ErrorCode::Decompression`] for a payload that is not a field section, and with

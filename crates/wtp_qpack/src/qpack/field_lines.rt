@@ -1,5 +1,5 @@
 //! Field lines one by one, in their order and with repeated names, as bytes (RFC 9204, section
-//! 4.5). Not in the Rust crate.
+//! 4.5).
 
 ghost use Rattle.std.specs.Prelude.{◌≡◌, ◌*◌, ◌<◌, length, IsTrue, IfSome, OnOk, Some, Err};
 ghost use Rattle.wtp_qpack.specs.declared.qpack.DecodingError.TheVariants.{Memory};
@@ -21,16 +21,16 @@ use std::marker::Model;
 /// and allocates only in that case, to at least that size: at most once for each section. The
 /// contract of `next_line` does not say so.
 #[derive(Debug, Drop)]
-pub struct FieldRoom {
+pub struct FieldBuffer {
     texts: Vec<u8>,
 }
 
-impl FieldRoom {
+impl FieldBuffer {
     /// Creates an empty room. Nothing is allocated.
     pub fn new(alloc: Global) -> Self
         ensures { IsEmptyRoom result }
     {
-        FieldRoom {
+        FieldBuffer {
             texts: Vec::new(alloc),
         }
     }
@@ -84,7 +84,7 @@ impl<'a> FieldLines<'a> {
     #[tactic(auto, using(crate::proofs::SectionReading::line_shorter))]
     pub fn next_line<'r>(
         &mut self,
-        room: &'r mut FieldRoom,
+        room: &'r mut FieldBuffer,
     ) -> Option<Result<FieldLine<'r>, DecodingError>>
     where
         'a: 'r,

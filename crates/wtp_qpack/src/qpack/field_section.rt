@@ -12,13 +12,13 @@ use std::alloc::{AllocError, Global};
 use std::collections::BTreeMap;
 
 /// The initial capacity for a section; it grows for a longer one.
-const ROOM: usize = 512;
+const INITIAL_CAPACITY: usize = 512;
 
 /// Returns the empty prefix, with room for lines after it.
 pub fn empty_prefix(alloc: Global) -> Result<Vec<u8>, AllocError>
     ensures { IfOk result (λ v. v.items ≡ 0 ∷ 0 ∷ []) }
 {
-    let mut out = Vec::with_capacity(alloc, ROOM)?;
+    let mut out = Vec::with_capacity(alloc, INITIAL_CAPACITY)?;
     out.extend_from_slice(&[0, 0])?;
     Ok(out)
 }

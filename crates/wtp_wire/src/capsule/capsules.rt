@@ -33,7 +33,7 @@ impl CloseWebTransportSession {
     // The longest reason, in bytes.
     const MAX_REASON_LEN: usize = 1024;
 
-    /// Creates a close with this code and reason. Not in the Rust crate.
+    /// Creates a close with this code and reason.
     ///
     /// Returns `TooLong` if the reason has more than 1024 bytes, before it allocates. Returns
     /// `Memory` if allocation failed; only a reason that is not empty allocates.
@@ -98,7 +98,7 @@ impl CloseWebTransportSession {
     {
         self.reason.as_str()
     }
-    /// Writes the capsule, each number in its shortest encoding. Not in the Rust crate.
+    /// Writes the capsule, each number in its shortest encoding.
     ///
     /// The parts are the type, the length, the code in four bytes, most significant first, and the
     /// reason. On an error the writer holds the parts before the one that it refused.
@@ -124,7 +124,7 @@ impl CloseWebTransportSession {
         writer.put_bytes(self.reason.as_bytes())
     }
 
-    /// Returns the number of bytes that `write` writes. Not in the Rust crate.
+    /// Returns the number of bytes that `write` writes.
     pub fn write_size(&self) -> usize
         ensures size { result ≡ length (close_wire self.now) }
         ensures writable { IsWritableClose self.now }

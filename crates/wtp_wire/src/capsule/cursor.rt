@@ -1,26 +1,24 @@
-//! Reading capsules from bytes that the caller holds, with no memory. Not in the Rust crate.
+//! Reading capsules from bytes that the caller holds, with no memory.
 ghost use Rattle.std.specs.Prelude.{◌≡◌, ◌≤◌, ◌-◌, ◌↔◌, length, IsOk};
 
 use crate::capsule::reading::value_len;
-use crate::capsule::{CapsuleKind, CutCapsule};
+use crate::capsule::{CapsuleKind, TruncatedCapsule};
 use crate::head::{first_pair, missing_bytes};
 use wtp_core::varint::VarInt;
 
-/// All that reading the capsules of a stream's data remembers between two calls. Not in the Rust
-/// crate.
+/// All that reading the capsules of a stream's data remembers between two calls.
 ///
 /// It holds no bytes: the caller does, and gives those after the ones that were consumed. Each
 /// value is a valid one.
 #[derive(Clone, Copy, Debug, PartialEq, Eq)]
 pub struct CapsuleCursor {
     /// How many bytes of an unknown capsule's value are still to be skipped.
-    pub due: u64,
+    pub skip_remaining: u64,
 }
 
-/// A capsule by its place in the bytes given to `CapsuleCursor::next` or `next_any`. Not in the Rust
-/// crate.
+/// A capsule by its place in the bytes given to `CapsuleCursor::next` or `next_any`.
 #[derive(Clone, Copy, Debug, PartialEq, Eq)]
-pub struct CapsulePlace {
+pub struct CapsuleSpan {
     /// The kind.
     pub kind: CapsuleKind,
     /// The offset of the value.
@@ -30,11 +28,11 @@ pub struct CapsulePlace {
     ghost ordered: { start ≤ end },
 }
 
-/// What a cursor finds next. Not in the Rust crate.
+/// What a cursor finds next.
 #[derive(Clone, Copy, Debug, PartialEq, Eq)]
 pub enum CapsuleStep {
     /// A capsule of a known kind. The bytes up to its end are consumed.
-    Capsule(CapsulePlace),
+    Capsule(CapsuleSpan),
     /// More bytes are needed, after this many that are consumed.
     More(usize),
     /// A value that is too long. No byte is consumed.
@@ -42,7 +40,7 @@ pub enum CapsuleStep {
 }
 
 /// A capsule of an unknown type, by its type, its length and the place of its value in the bytes
-/// given to `CapsuleCursor::next_any`. Not in the Rust crate.
+/// given to `CapsuleCursor::next_any`.
 #[derive(Clone, Copy, Debug, PartialEq, Eq)]
 pub struct UnknownCapsule {
     /// The type.
@@ -53,11 +51,11 @@ pub struct UnknownCapsule {
     pub start: usize,
 }
 
-/// What a cursor finds next, if capsules of unknown types count. Not in the Rust crate.
+/// What a cursor finds next, if capsules of unknown types count.
 #[derive(Clone, Copy, Debug, PartialEq, Eq)]
 pub enum AnyCapsule {
     /// A capsule of a known kind. The bytes up to its end are consumed.
-    Known(CapsulePlace),
+    Known(CapsuleSpan),
     /// A capsule of an unknown type. The bytes up to its value are consumed.
     Unknown(UnknownCapsule),
     /// More bytes are needed, after this many that are consumed.
@@ -66,7 +64,7 @@ pub enum AnyCapsule {
     TooLong,
 }
 
-impl CapsulePlace {
+impl CapsuleSpan {
     ghost use Rattle.wtp_wire.specs.CapsuleCursor.{capsule_value};
 
     /// Returns the value of the capsule. Requires that these are the bytes given to
@@ -87,9 +85,9 @@ impl CapsuleCursor {
 
     /// Creates a cursor at the first capsule of a stream's data.
     pub fn new() -> Self
-        ensures { result ≡ record { due = 0 } }
+        ensures { result ≡ record { skip_remaining = 0 } }
     {
-        CapsuleCursor { due: 0 }
+        CapsuleCursor { skip_remaining: 0 }
     }
 
     /// Finds the next capsule of a known kind in the bytes that follow those consumed before. It
@@ -101,7 +99,7 @@ impl CapsuleCursor {
     /// - `Capsule(place)`: the next capsule. The bytes up to `place.end` are consumed.
     /// - `More(n)`: there is no complete capsule. The first `n` bytes are consumed; at most 1043
     ///   are left, which have to be given again with more bytes after them.
-    /// - `TooLong`: the value of the next capsule is longer than `CapsuleKind::longest_value`. The
+    /// - `TooLong`: the value of the next capsule is longer than `CapsuleKind::max_value_len`. The
     ///   cursor does not change.
     ///
     /// However the data is cut into pieces, the capsules are the same, and so is the ending.
@@ -122,7 +120,7 @@ impl CapsuleCursor {
             match self.first(bytes.split_at(at).1) {
                 AnyCapsule::Unknown(unknown) => at += unknown.start,
                 AnyCapsule::Known(place) => {
-                    return CapsuleStep::Capsule(CapsulePlace {
+                    return CapsuleStep::Capsule(CapsuleSpan {
                         kind: place.kind,
                         start: at + place.start,
                         end: at + place.end,
@@ -140,20 +138,20 @@ impl CapsuleCursor {
     /// Finds the next capsule of any type in the bytes that follow those consumed before. It does
     /// not allocate.
     ///
-    /// The bytes are the payloads of DATA frames, joined. The first `due` of them are skipped: they
+    /// The bytes are the payloads of DATA frames, joined. The first `skip_remaining` of them are skipped: they
     /// are the rest of an unknown capsule's value.
     ///
     /// - `Known(place)`: the next capsule, of a known kind. The bytes up to `place.end` are
     ///   consumed.
     /// - `Unknown(capsule)`: the next capsule, of an unknown type. The bytes up to `capsule.start`
-    ///   are consumed, and `due` is the length of its value, which later calls skip, also piece by
+    ///   are consumed, and `skip_remaining` is the length of its value, which later calls skip, also piece by
     ///   piece (RFC 9297, section 3.2). Whoever takes bytes of the value instead subtracts their
-    ///   number from `due`.
+    ///   number from `skip_remaining`.
     /// - `More(n)`: there is no complete type and length, or they are those of a known kind and its
     ///   value is not complete. The first `n` bytes are consumed: those that were to be skipped, as
     ///   far as they came. At most 1043 are left, which have to be given again with more bytes after
     ///   them.
-    /// - `TooLong`: the value of the next capsule is longer than `CapsuleKind::longest_value`. The
+    /// - `TooLong`: the value of the next capsule is longer than `CapsuleKind::max_value_len`. The
     ///   cursor does not change.
     pub fn next_any(&mut self, bytes: &[u8]) -> AnyCapsule
         ensures first { AnyIs result self.old bytes.now self.new }
@@ -166,16 +164,16 @@ impl CapsuleCursor {
     fn first(&mut self, bytes: &[u8]) -> AnyCapsule
         ensures { AnyIs result self.old bytes.now self.new }
     {
-        let due = self.due;
+        let skip_remaining = self.skip_remaining;
         let left = bytes.len() as u64;
-        if due > left {
-            self.due = due - left;
+        if skip_remaining > left {
+            self.skip_remaining = skip_remaining - left;
             return AnyCapsule::More(bytes.len());
         }
-        let at = due as usize;
+        let at = skip_remaining as usize;
         match Start::read(bytes.split_at(at).1) {
             Start::Unknown(number, announced, start) => {
-                self.due = announced.into_inner();
+                self.skip_remaining = announced.into_inner();
                 AnyCapsule::Unknown(UnknownCapsule {
                     number,
                     announced,
@@ -183,8 +181,8 @@ impl CapsuleCursor {
                 })
             }
             Start::Value(kind, start, end) => {
-                self.due = 0;
-                AnyCapsule::Known(CapsulePlace {
+                self.skip_remaining = 0;
+                AnyCapsule::Known(CapsuleSpan {
                     kind,
                     start: at + start,
                     end: at + end,
@@ -192,7 +190,7 @@ impl CapsuleCursor {
             }
             Start::TooLong => AnyCapsule::TooLong,
             Start::Cut => {
-                self.due = 0;
+                self.skip_remaining = 0;
                 AnyCapsule::More(at)
             }
         }
@@ -204,8 +202,8 @@ impl CapsuleCursor {
     pub fn missing(&self, rest: &[u8]) -> u64
         ensures { result ≡ missing_from self.now rest.now }
     {
-        if self.due > 0 {
-            return self.due;
+        if self.skip_remaining > 0 {
+            return self.skip_remaining;
         }
         match first_pair(rest) {
             None => missing_bytes(rest) as u64,
@@ -219,16 +217,16 @@ impl CapsuleCursor {
     /// Returns an error if the data may not end here, with `rest` left over, because a capsule has
     /// begun (RFC 9297, section 3.3). The rest are the bytes after the first `n`, after `More(n)`.
     #[tactic(auto, using(crate::proofs::CapsuleCursorLemmas::endings))]
-    pub fn finish(&self, rest: &[u8]) -> Result<(), CutCapsule>
-        ensures clean { IsOk result ↔ ((self.now.due ≡ 0) × (length rest.now ≡ 0)) }
+    pub fn finish(&self, rest: &[u8]) -> Result<(), TruncatedCapsule>
+        ensures clean { IsOk result ↔ ((self.now.skip_remaining ≡ 0) × (length rest.now ≡ 0)) }
         ensures ending { IsLeftOver self.now rest.now
             → capsules_from self.now rest.now ≡ ends (ending_of result) }
     {
-        if self.due > 0 {
-            return Err(CutCapsule);
+        if self.skip_remaining > 0 {
+            return Err(TruncatedCapsule);
         }
         if rest.len() > 0 {
-            return Err(CutCapsule);
+            return Err(TruncatedCapsule);
         }
         Ok(())
     }

@@ -1,6 +1,6 @@
-//! Reading the capsules of a stream's data, piece by piece. Not in the Rust crate.
+//! Reading the capsules of a stream's data, piece by piece.
 ghost use Rattle.std.specs.Prelude.{◌≡◌, ◌-◌, ◌<◌, ◌≤◌, ◌++◌, ◌↔◌, List, ℕ, [], length, take, drop, true, false, vec_len, vec_capacity, IsTrue, IsOk, Ok, OnErr, MatchOption, nat_lt};
-ghost use Rattle.wtp_wire.specs.CapsuleFront.{End, longest_value};
+ghost use Rattle.wtp_wire.specs.CapsuleFront.{End, max_value_len};
 ghost use Rattle.wtp_wire.specs.CapsuleStream.{NextGiven, capsules_held, next_held, with_result};
 ghost use Rattle.wtp_wire.specs.CapsuleSteps.{Advanced, HasRoom, IsPart, Stepped, head_says, holding};
 ghost use Rattle.wtp_wire.specs.FrameNeed.{frame_need};
@@ -19,13 +19,13 @@ use wtp_core::varint::VarInt;
 /// The data ended within a capsule.
 #[derive(Debug, Drop, PartialEq, Eq, thiserror::Error)]
 #[error("data ends within a capsule")]
-pub struct CutCapsule;
+pub struct TruncatedCapsule;
 
 /// Reads the capsules of known kinds from the data of a stream, which are the payloads of its DATA
-/// frames, cut anywhere (RFC 9297, section 3.2). Not in the Rust crate.
+/// frames, cut anywhere (RFC 9297, section 3.2).
 ///
 /// It skips capsules of unknown types, which take no memory. The memory for the value of another is
-/// allocated before its first byte; its length has a limit: `CapsuleKind::longest_value`.
+/// allocated before its first byte; its length has a limit: `CapsuleKind::max_value_len`.
 #[derive(Drop)]
 pub struct CapsuleReading {
     alloc: Global,
@@ -40,7 +40,7 @@ struct CapsulePart {
     len: usize,
     // The bytes that are held of a value.
     value: Vec<u8>,
-    due: u64,
+    skip_remaining: u64,
 }
 
 // The number of bytes held, and the number of bytes still to be skipped.
@@ -49,7 +49,7 @@ impl fmt::Debug for CapsuleReading {
         f.debug_struct("CapsuleReading")
             .field("head_bytes", &self.part.len)
             .field("value_bytes", &self.part.value.len())
-            .field("due_bytes", &self.part.due)
+            .field("due_bytes", &self.part.skip_remaining)
             .finish_non_exhaustive()
     }
 }
@@ -57,10 +57,10 @@ impl fmt::Debug for CapsuleReading {
 impl Model for CapsuleReading {
     ghost Value = { Held };
 
-    ghost view = { λ s. holding (take s.part.len s.part.head) s.part.value.items s.part.due };
+    ghost view = { λ s. holding (take s.part.len s.part.head) s.part.value.items s.part.skip_remaining };
 
     ghost invariant = { λ s. (length s.part.head ≡ 16) × (s.part.len ≤ 16)
-        × IsPart (take s.part.len s.part.head) s.part.value.items s.part.due
+        × IsPart (take s.part.len s.part.head) s.part.value.items s.part.skip_remaining
         × HasRoom (head_says (take s.part.len s.part.head)) (vec_len s.part.value)
         (vec_capacity s.part.value) };
 }
@@ -76,7 +76,7 @@ impl CapsuleReading {
                 head: [0; 16],
                 len: 0,
                 value: Vec::new(alloc),
-                due: 0,
+                skip_remaining: 0,
             },
         }
     }
@@ -103,11 +103,11 @@ impl CapsuleReading {
 
     /// Returns an error if the data may not end here, because a capsule has begun (RFC 9297,
     /// section 3.3).
-    pub fn finish(&self) -> Result<(), CutCapsule>
+    pub fn finish(&self) -> Result<(), TruncatedCapsule>
         ensures { IsOk result ↔ (next_held self.now [] ≡ End) }
     {
-        if self.part.len > 0 || self.part.due > 0 {
-            return Err(CutCapsule);
+        if self.part.len > 0 || self.part.skip_remaining > 0 {
+            return Err(TruncatedCapsule);
         }
         Ok(())
     }
@@ -153,7 +153,7 @@ impl CapsulePart {
     fn advance(&mut self, bytes: &mut &[u8]) -> Reached
         requires long { length self.old.head ≡ 16 }
         requires fits { self.old.len ≤ 16 }
-        requires part { IsPart (take self.old.len self.old.head) self.old.value.items self.old.due }
+        requires part { IsPart (take self.old.len self.old.head) self.old.value.items self.old.skip_remaining }
         requires room { HasRoom (head_says (take self.old.len self.old.head))
             (vec_len self.old.value) (vec_capacity self.old.value) }
         ensures long { length self.new.head ≡ 16 }
@@ -161,12 +161,12 @@ impl CapsulePart {
         ensures room { HasRoom (head_says (take self.new.len self.new.head))
             (vec_len self.new.value) (vec_capacity self.new.value) }
         ensures advanced { Advanced result
-            (holding (take self.old.len self.old.head) self.old.value.items self.old.due)
+            (holding (take self.old.len self.old.head) self.old.value.items self.old.skip_remaining)
             bytes.old.now
-            (take self.new.len self.new.head) self.new.value.items self.new.due bytes.new.now }
+            (take self.new.len self.new.head) self.new.value.items self.new.skip_remaining bytes.new.now }
     {
-        skip(bytes, &mut self.due);
-        if self.due > 0 {
+        skip(bytes, &mut self.skip_remaining);
+        if self.skip_remaining > 0 {
             return Reached::More;
         }
         if !take_head(bytes, &mut self.head, &mut self.len) {
@@ -177,7 +177,7 @@ impl CapsulePart {
             CapsuleHead::TooLong => Reached::TooLong,
             CapsuleHead::Skip(size) => {
                 self.len = 0;
-                self.due = size;
+                self.skip_remaining = size;
                 Reached::Skipping
             }
             CapsuleHead::Keep(kind, size) => match take_value(bytes, &mut self.value, size) {
@@ -189,17 +189,17 @@ impl CapsulePart {
     }
 }
 
-/// Skips `due` bytes, or all if there are fewer, and subtracts their number from `due`.
-fn skip(bytes: &mut &[u8], due: &mut u64)
-    ensures due { due.new ≡ due.old - length bytes.old.now }
-    ensures rest { bytes.new.now ≡ drop due.old bytes.old.now }
+/// Skips `skip_remaining` bytes, or all if there are fewer, and subtracts their number from `skip_remaining`.
+fn skip(bytes: &mut &[u8], skip_remaining: &mut u64)
+    ensures skip_remaining { skip_remaining.new ≡ skip_remaining.old - length bytes.old.now }
+    ensures rest { bytes.new.now ≡ drop skip_remaining.old bytes.old.now }
 {
     let len = bytes.len() as u64;
-    if *due < len {
-        *bytes = bytes.split_at(*due as usize).1;
-        *due = 0;
+    if *skip_remaining < len {
+        *bytes = bytes.split_at(*skip_remaining as usize).1;
+        *skip_remaining = 0;
     } else {
-        *due -= len;
+        *skip_remaining -= len;
         *bytes = bytes.split_at(bytes.len()).1;
     }
 }
@@ -259,11 +259,11 @@ fn read_head(held: &[u8]) -> CapsuleHead
 
 /// Returns the length of a value of this kind, or `None` if it is too long.
 pub(crate) fn value_len(kind: CapsuleKind, announced: VarInt) -> Option<usize>
-    ensures { MatchOption result (nat_lt (longest_value kind) announced ≡ true)
-        (λ len. (len ≡ announced) × (nat_lt (longest_value kind) announced ≡ false)) }
+    ensures { MatchOption result (nat_lt (max_value_len kind) announced ≡ true)
+        (λ len. (len ≡ announced) × (nat_lt (max_value_len kind) announced ≡ false)) }
 {
     let len = announced.into_inner() as usize;
-    if len > kind.longest_value() {
+    if len > kind.max_value_len() {
         return None;
     }
     Some(len)

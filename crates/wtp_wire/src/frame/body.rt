@@ -2,7 +2,7 @@
 ghost use Rattle.std.specs.Prelude.{◌≡◌, ◌≤◌, None, length, take, IsSome, IfSome};
 ghost use Rattle.wtp_wire.specs.Body.{payload_of, session_of};
 
-use crate::frame::short::Room;
+use crate::frame::short::InlinePayload;
 use std::alloc::Global;
 use std::borrow::CowSlice;
 use wtp_core::ids::SessionId;
@@ -15,7 +15,7 @@ pub(crate) enum Body<'a> {
     /// A payload in a vector.
     Owned(Vec<u8>),
     /// A payload stored in the frame itself: its length, and its bytes.
-    Short(u8, Room),
+    Short(u8, InlinePayload),
     /// The session ID of a WebTransport frame.
     Session(SessionId),
 }
@@ -70,7 +70,7 @@ impl Body<'static> {
         ensures plain { IfSome result (λ b. session_of b ≡ None) }
         ensures short { len ≤ 40 → 40 ≤ length bytes.now → IsSome result }
     {
-        if let Some(room) = Room::front_of(bytes, len) {
+        if let Some(room) = InlinePayload::copy_from_prefix(bytes, len) {
             return Some(Body::Short(len as u8, room));
         }
         let (payload, _) = bytes.split_at_checked(len)?;

@@ -37,12 +37,12 @@ pub(crate) enum Announcement {
 pub(crate) struct FrameHead;
 
 impl Head for FrameHead {
-    ghost need = { frame_need };
+    ghost len_needed = { frame_need };
 
     ghost most = { 16 };
 
     #[inline(always)]
-    fn need(held: &[u8]) -> usize {
+    fn len_needed(held: &[u8]) -> usize {
         pair_size(held)
     }
 

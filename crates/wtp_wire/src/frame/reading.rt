@@ -1,7 +1,7 @@
 //! Polled reading of frames.
 ghost use Rattle.std.specs.Prelude.{◌≡◌, length, None, IfSome};
-ghost use Rattle.wtp_core.specs.Source.{Telling};
-ghost use Rattle.wtp_core.specs.Polled.{Asks, WaitsAs};
+ghost use Rattle.wtp_core.specs.Source.{HasModel};
+ghost use Rattle.wtp_core.specs.Polled.{PollsAtMost, WaitsAs};
 ghost use Rattle.wtp_wire.specs.Held.{new_held, IsUnfinished};
 ghost use Rattle.wtp_wire.specs.FramePolling.{FramePolled, FrameGiven};
 ghost use Rattle.wtp_wire.specs.FrameSteps.{CanAnswer, IsAnswer, IsFramed, TakesFrame, PassedOn, PassedPlain};
@@ -11,8 +11,8 @@ mod part;
 use crate::frame::body::Body;
 use crate::frame::head::Announcement;
 use crate::frame::kind::KindNumber;
-use crate::frame::reading::part::{FramePart, Stop};
-use crate::frame::whole::front_frame;
+use crate::frame::reading::part::{PartialFrame, ReadInterrupted};
+use crate::frame::whole::parse_buffered;
 use crate::frame::{Frame, FrameOwned, ParseError};
 use std::alloc::Global;
 use std::fmt;
@@ -20,7 +20,7 @@ use std::marker::Model;
 use wtp_core::bytes;
 use wtp_core::bytes::{AsyncRead, Polled};
 use wtp_core::polling::fill::halt_result;
-use wtp_core::polling::passing::pass;
+use wtp_core::polling::skip_ahead::skip_bytes;
 
 /// The reason why no frame was read from a source.
 ///
@@ -63,8 +63,8 @@ impl<'a> Frame<'a> {
 #[derive(Drop)]
 pub struct FrameReading {
     alloc: Global,
-    part: FramePart,
-    due: u64,
+    part: PartialFrame,
+    skip_remaining: u64,
 }
 
 // Prints the number of bytes held, and the number of bytes left to skip.
@@ -73,32 +73,32 @@ impl fmt::Debug for FrameReading {
         f.debug_struct("FrameReading")
             .field("head_bytes", &self.part.head_len())
             .field("payload_bytes", &self.part.payload_len())
-            .field("due_bytes", &self.due)
+            .field("due_bytes", &self.skip_remaining)
             .finish_non_exhaustive()
     }
 }
 
 impl Model for FrameReading {
     ghost use Rattle.std.specs.Prelude.{◌≡◌, ◌<◌, []};
-    ghost use Rattle.wtp_wire.specs.FramePart.{bytes_in, IsReading};
+    ghost use Rattle.wtp_wire.specs.PartialFrame.{bytes_in, IsReading};
     ghost use Rattle.wtp_wire.specs.Held.{Held};
 
     ghost Value = { Held };
 
-    ghost view = { λ s. record { taken = bytes_in s.part; due = s.due } };
+    ghost view = { λ s. record { taken = bytes_in s.part; skip_remaining = s.skip_remaining } };
 
-    ghost invariant = { λ s. IsReading s.part × (0 < s.due → s.part.head ≡ []) };
+    ghost invariant = { λ s. IsReading s.part × (0 < s.skip_remaining → s.part.head ≡ []) };
 }
 
 impl FrameReading {
-    /// Creates a state that has read nothing. Not in the Rust crate.
+    /// Creates a state that has read nothing.
     pub fn new(alloc: Global) -> Self
         ensures { result ≡ new_held }
     {
         FrameReading {
             alloc,
-            part: FramePart::new(alloc),
-            due: 0,
+            part: PartialFrame::new(alloc),
+            skip_remaining: 0,
         }
     }
 
@@ -126,12 +126,12 @@ impl FrameReading {
         ensures was_unfinished { IsUnfinished self.old }
         ensures unfinished { IsUnfinished self.new }
         ensures given { FrameGiven result self.old self.new }
-        ensures polled { Telling (S.tells source.old) (S.tells source.new)
+        ensures polled { HasModel (S.tells source.old) (S.tells source.new)
             (FramePolled result self.old self.new) }
-        ensures waits { Telling (S.tells source.old) (S.tells source.new) (WaitsAs result) }
-        ensures asks { Telling (S.tells source.old) (S.tells source.new) (Asks 4112) }
+        ensures waits { HasModel (S.tells source.old) (S.tells source.new) (WaitsAs result) }
+        ensures asks { HasModel (S.tells source.old) (S.tells source.new) (PollsAtMost 4112) }
     {
-        if self.due == 0 && self.part.head_len() == 0 {
+        if self.skip_remaining == 0 && self.part.head_len() == 0 {
             if let Some(frame) = take_buffered_frame(self.alloc, source) {
                 return Polled::Ready(Ok(frame));
             }
@@ -144,24 +144,24 @@ impl FrameReading {
         ensures was_unfinished { IsUnfinished self.old }
         ensures unfinished { IsUnfinished self.new }
         ensures given { FrameGiven result self.old self.new }
-        ensures polled { Telling (S.tells source.old) (S.tells source.new)
+        ensures polled { HasModel (S.tells source.old) (S.tells source.new)
             (FramePolled result self.old self.new) }
-        ensures waits { Telling (S.tells source.old) (S.tells source.new) (WaitsAs result) }
-        ensures asks { Telling (S.tells source.old) (S.tells source.new) (Asks 4112) }
+        ensures waits { HasModel (S.tells source.old) (S.tells source.new) (WaitsAs result) }
+        ensures asks { HasModel (S.tells source.old) (S.tells source.new) (PollsAtMost 4112) }
     {
-        if self.due > 0 {
-            return pass_on(source, &mut self.due);
+        if self.skip_remaining > 0 {
+            return skip_payload(source, &mut self.skip_remaining);
         }
         let announcement = match self.part.advance(source) {
             Ok(announcement) => announcement,
-            Err(Stop::Source(halt)) => return halt_result(halt, self.part.len()),
-            Err(Stop::NoMemory) => return Polled::NoMemory,
+            Err(ReadInterrupted::Source(halt)) => return halt_result(halt, self.part.len()),
+            Err(ReadInterrupted::NoMemory) => return Polled::NoMemory,
         };
         let payload = self.part.take_payload(self.alloc);
         match announcement {
             Announcement::Skip(size) => {
-                self.due = size;
-                pass_on(source, &mut self.due)
+                self.skip_remaining = size;
+                skip_payload(source, &mut self.skip_remaining)
             }
             _ => Polled::Ready(answer(announcement, payload)),
         }
@@ -174,10 +174,10 @@ impl FrameReading {
 fn take_buffered_frame<S: AsyncRead>(alloc: Global, source: &mut S) -> Option<FrameOwned>
     ensures framed { IfSome result IsFramed }
     ensures takes { IfSome result
-        (λ f. Telling (S.tells source.old) (S.tells source.new) (TakesFrame f)) }
+        (λ f. HasModel (S.tells source.old) (S.tells source.new) (TakesFrame f)) }
     ensures none { result ≡ None → source.new ≡ source.old }
 {
-    let (frame, size) = front_frame(alloc, source.buffered())?;
+    let (frame, size) = parse_buffered(alloc, source.buffered())?;
     if source.take_buffered(size) {
         Some(frame)
     } else {
@@ -203,16 +203,19 @@ fn answer(announcement: Announcement, payload: Vec<u8>) -> Result<FrameOwned, Io
     }
 }
 
-/// Skips `due` payload bytes of an unknown frame, up to 4096 in one poll.
-fn pass_on<S: AsyncRead>(source: &mut S, due: &mut u64) -> Polled<Result<FrameOwned, IoReadError>>
-    ensures plain { PassedPlain result due.old due.new }
-    ensures passed { Telling (S.tells source.old) (S.tells source.new)
-        (PassedOn result due.old due.new) }
-    ensures waits { Telling (S.tells source.old) (S.tells source.new) (WaitsAs result) }
+/// Skips `skip_remaining` payload bytes of an unknown frame, up to 4096 in one poll.
+fn skip_payload<S: AsyncRead>(
+    source: &mut S,
+    skip_remaining: &mut u64,
+) -> Polled<Result<FrameOwned, IoReadError>>
+    ensures plain { PassedPlain result skip_remaining.old skip_remaining.new }
+    ensures passed { HasModel (S.tells source.old) (S.tells source.new)
+        (PassedOn result skip_remaining.old skip_remaining.new) }
+    ensures waits { HasModel (S.tells source.old) (S.tells source.new) (WaitsAs result) }
 {
-    match pass(source, due) {
+    match skip_bytes(source, skip_remaining) {
         Ok(()) => {
-            if *due == 0 {
+            if *skip_remaining == 0 {
                 Polled::Ready(Err(IoReadError::Parse(ParseError::UnknownFrame)))
             } else {
                 Polled::Again

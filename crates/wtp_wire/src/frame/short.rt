@@ -8,7 +8,7 @@ pub(crate) const MAX_SHORT: usize = 40;
 
 /// Storage for a payload of at most 40 bytes. The length is stored separately.
 #[derive(Drop)]
-pub(crate) struct Room {
+pub(crate) struct InlinePayload {
     // The payload, followed by bytes that are not part of it.
     bytes: [u8; MAX_SHORT],
     // Takes no space, but aligns the bytes, so that they are copied eight at a time. A one-byte
@@ -16,19 +16,19 @@ pub(crate) struct Room {
     aligned: [u64; 0],
 }
 
-impl Model for Room {
+impl Model for InlinePayload {
     ghost Value = { List ℕ };
 
     ghost view = { λ r. r.bytes };
 }
 
-impl Room {
+impl InlinePayload {
     /// Copies the first `len` bytes. Returns `None` if `len` is above 40 or if fewer than 40 bytes
     /// are given.
     ///
     /// Always copies 40 bytes, because a copy of constant length needs no function call.
     #[inline(always)]
-    pub(crate) fn front_of(bytes: &[u8], len: usize) -> Option<Self>
+    pub(crate) fn copy_from_prefix(bytes: &[u8], len: usize) -> Option<Self>
         ensures front { IfSome result (λ r. take len r ≡ take len bytes.now) }
         ensures room { IsSome result ↔ ((len ≤ 40) × (40 ≤ length bytes.now)) }
     {
@@ -36,7 +36,7 @@ impl Room {
             return None;
         }
         let front = bytes.first_chunk::<MAX_SHORT>()?;
-        Some(Room {
+        Some(InlinePayload {
             bytes: *front,
             aligned: [],
         })

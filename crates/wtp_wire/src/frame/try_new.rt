@@ -1,4 +1,4 @@
-//! Constructors of frames that check the length of the payload. Not in the Rust crate.
+//! Constructors of frames that check the length of the payload.
 ghost use Rattle.std.specs.Prelude.{◌≡◌, ◌<◌, ◌^◌, ◌↔◌, length, IsTrue, IsOk, IfOk, OnErr, Err};
 ghost use Rattle.std.specs.Cow.{cow_slice_items};
 ghost use Rattle.wtp_wire.specs.Content.{DataOf, HeadersOf, SettingsOf};
@@ -19,8 +19,7 @@ fn fits(payload: &CowSlice<'_, u8>) -> bool
 }
 
 impl<'a> Frame<'a> {
-    /// Creates a HEADERS frame (RFC 9114, section 7.2.2) from a payload of any length. Not in the
-    /// Rust crate.
+    /// Creates a HEADERS frame (RFC 9114, section 7.2.2) from a payload of any length.
     ///
     /// Returns `PayloadTooLong` exactly if the payload has 2^62 bytes or more.
     pub fn try_new_headers(payload: CowSlice<'a, u8>) -> Result<Self, GenerateError>
@@ -34,8 +33,7 @@ impl<'a> Frame<'a> {
         Ok(Frame::new_headers(payload))
     }
 
-    /// Creates a SETTINGS frame (RFC 9114, section 7.2.4) from a payload of any length. Not in the
-    /// Rust crate.
+    /// Creates a SETTINGS frame (RFC 9114, section 7.2.4) from a payload of any length.
     ///
     /// Returns `PayloadTooLong` exactly if the payload has 2^62 bytes or more.
     pub fn try_new_settings(payload: CowSlice<'a, u8>) -> Result<Self, GenerateError>
@@ -49,8 +47,7 @@ impl<'a> Frame<'a> {
         Ok(Frame::new_settings(payload))
     }
 
-    /// Creates a DATA frame (RFC 9114, section 7.2.1) from a payload of any length. Not in the Rust
-    /// crate.
+    /// Creates a DATA frame (RFC 9114, section 7.2.1) from a payload of any length.
     ///
     /// Returns `PayloadTooLong` exactly if the payload has 2^62 bytes or more.
     pub fn try_new_data(payload: CowSlice<'a, u8>) -> Result<Self, GenerateError>

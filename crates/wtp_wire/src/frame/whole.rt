@@ -15,7 +15,7 @@ use std::alloc::Global;
 /// Returns `None` if the input does not start with a complete valid frame, or if allocation failed.
 /// A payload of at most 40 bytes is copied without allocation if at least 40 bytes follow the head.
 #[inline(always)]
-pub(crate) fn front_frame(alloc: Global, bytes: &[u8]) -> Option<(FrameOwned, usize)>
+pub(crate) fn parse_buffered(alloc: Global, bytes: &[u8]) -> Option<(FrameOwned, usize)>
     ensures size { IfSome result (λ x. x.1 ≤ length bytes.now) }
     ensures front { IfSome result (λ x. front bytes.now ≡ Framed x.0 (drop x.1 bytes.now)) }
     ensures short { (f : Content) (rest : List ℕ) → front bytes.now ≡ Framed f rest

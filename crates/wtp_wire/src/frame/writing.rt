@@ -1,6 +1,6 @@
 //! Polled writing of frames.
 ghost use Rattle.std.specs.Prelude.{◌≡◌, ◌+◌, ◌<◌, ◌≤◌, ◌++◌, length, Ok};
-ghost use Rattle.wtp_core.specs.Source.{Telling};
+ghost use Rattle.wtp_core.specs.Source.{HasModel};
 ghost use Rattle.wtp_core.specs.Put.{Writing, unsent, GoesOn, IsSent, WritePolled};
 
 use crate::frame::{Frame, FrameKind};
@@ -9,7 +9,7 @@ use std::marker::Model;
 use wtp_core::bytes::{AsyncWrite, IoWriteError, Polled};
 use wtp_core::ids::SessionId;
 use wtp_core::polling::drain::drain;
-use wtp_core::polling::encoded::Encoded;
+use wtp_core::polling::encoded::VarintWriting;
 use wtp_core::varint::VarInt;
 
 impl<'a> Frame<'a> {
@@ -25,7 +25,7 @@ impl<'a> Frame<'a> {
             None => VarInt::from_u64_unchecked(self.body.payload().len() as u64),
         };
         FrameWriting {
-            head: Encoded::two(self.kind.id(), second),
+            head: VarintWriting::two(self.kind.id(), second),
             payload: self.body.payload(),
             payload_sent: 0,
         }
@@ -43,7 +43,7 @@ impl FrameWriting<'static> {
     {
         let kind = FrameKind::WebTransport;
         FrameWriting {
-            head: Encoded::two(kind.id(), session_id.into_varint()),
+            head: VarintWriting::two(kind.id(), session_id.into_varint()),
             payload: &[],
             payload_sent: 0,
         }
@@ -55,7 +55,7 @@ impl FrameWriting<'static> {
 /// It counts the bytes sent, and sends no byte twice. It does not allocate, but the sink may.
 #[derive(Drop)]
 pub struct FrameWriting<'a> {
-    head: Encoded,
+    head: VarintWriting,
     payload: &'a [u8],
     payload_sent: usize,
 }
@@ -91,7 +91,7 @@ impl<'a> FrameWriting<'a> {
     pub fn poll<W: AsyncWrite>(&mut self, sink: &mut W) -> Polled<Result<(), IoWriteError>>
         ensures on { GoesOn self.old self.new }
         ensures whole { IsSent result self.new }
-        ensures polled { Telling (W.tells sink.old) (W.tells sink.new)
+        ensures polled { HasModel (W.tells sink.old) (W.tells sink.new)
             (WritePolled result self.old self.new) }
         ensures finished { self.old.sent ≡ length self.old.bytes
             → (sink.new ≡ sink.old) × (result ≡ Polled.Ready (Ok tt)) }

@@ -102,11 +102,11 @@ pub fn pieces_make_no_difference()
 /// are the state after them, for which `finish` returns the ending.
 pub fn held_pieces_make_no_difference()
     ensures end { (events : List CursorEvent) (cursor : CapsuleCursor) (rest : List ℕ)
-        (ending : CapsuleEnding) → LeadsTo events (record { due = 0 }) [] cursor rest
+        (ending : CapsuleEnding) → LeadsTo events (record { skip_remaining = 0 }) [] cursor rest
         → capsules_from cursor rest ≡ ends ending
         → capsules (data_in events) ≡ record { found = found_in events []; ending = ending } }
     ensures too_long { (events : List CursorEvent) (old new : CapsuleCursor) (rest more : List ℕ)
-        → LeadsTo events (record { due = 0 }) [] old rest → StepIs CapsuleStep.TooLong old rest new
+        → LeadsTo events (record { skip_remaining = 0 }) [] old rest → StepIs CapsuleStep.TooLong old rest new
         → capsules (data_in events ++ more)
         ≡ record { found = found_in events []; ending = AtTooLong } }
 {}

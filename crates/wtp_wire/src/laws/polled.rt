@@ -7,7 +7,7 @@ ghost use Rattle.wtp_wire.specs.Held.{Held, front_held, Skips};
 /// If no byte is left to skip, the first frame is that of the bytes held followed by the bytes
 /// ahead.
 pub fn held_is_in_front()
-    ensures { (h : Held) (ahead : List ℕ) → h.due ≡ 0
+    ensures { (h : Held) (ahead : List ℕ) → h.skip_remaining ≡ 0
         → front_held h ahead ≡ front (h.taken ++ ahead) }
 {}
 
@@ -15,7 +15,7 @@ pub fn held_is_in_front()
 /// frame; or, if bytes were left to skip before, exactly that many bytes.
 pub fn passed_is_unknown()
     ensures begun { (old new : Held) (a b : Source) (s : Skips old new a b) (z : List ℕ)
-        → length z ≡ new.due → old.due ≡ 0 → IsUnknown ((s.head ++ s.payload) ++ z) }
+        → length z ≡ new.skip_remaining → old.skip_remaining ≡ 0 → IsUnknown ((s.head ++ s.payload) ++ z) }
     ensures going { (old new : Held) (a b : Source) (s : Skips old new a b) (z : List ℕ)
-        → length z ≡ new.due → 0 < old.due → length ((s.head ++ s.payload) ++ z) ≡ old.due }
+        → length z ≡ new.skip_remaining → 0 < old.skip_remaining → length ((s.head ++ s.payload) ++ z) ≡ old.skip_remaining }
 {}

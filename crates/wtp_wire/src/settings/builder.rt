@@ -53,8 +53,7 @@ impl SettingsBuilder {
         self.set(setting_ids::SETTINGS_QPACK_MAX_TABLE_CAPACITY, value)
     }
 
-    /// Sets the maximum size of a field section, in bytes (RFC 9114, section 7.2.4.1). Not in the
-    /// Rust crate.
+    /// Sets the maximum size of a field section, in bytes (RFC 9114, section 7.2.4.1).
     ///
     /// Returns `AllocError` if allocation failed; the builder is then dropped. This cannot happen
     /// if the setting was set before.

@@ -1,4 +1,4 @@
-//! Iteration over settings. Not in the Rust crate.
+//! Iteration over settings.
 
 ghost use Rattle.std.specs.Prelude.{◌≡◌, length, ⊤, IfSome};
 ghost use Rattle.std.specs.Iterator.{UpTo, YieldsFirst, at_most};
@@ -13,8 +13,7 @@ use std::iter::FusedIterator;
 use std::marker::Model;
 use wtp_core::varint::VarInt;
 
-/// An iterator over settings in ascending order of identifiers. See [`Settings::iter`]. Not in the
-/// Rust crate.
+/// An iterator over settings in ascending order of identifiers. See [`Settings::iter`].
 #[derive(Drop)]
 pub struct SettingsIter<'a> {
     entries: Iter<'a, VarInt, VarInt>,
@@ -38,7 +37,7 @@ impl Settings {
     ghost use Rattle.wtp_wire.specs.Settings.{IsSettings};
 
     /// Returns an iterator over the settings that are set and their values, in ascending order of
-    /// identifiers. Not in the Rust crate.
+    /// identifiers.
     pub fn iter(&self) -> SettingsIter<'_>
         ensures listed { result ≡ settings_list self.now }
         ensures settings { IsSettings self.now }

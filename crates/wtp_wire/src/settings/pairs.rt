@@ -1,4 +1,4 @@
-//! The settings of a payload as pairs, including unknown ones. Not in the Rust crate.
+//! The settings of a payload as pairs, including unknown ones.
 
 ghost use Rattle.std.specs.Prelude.{◌≡◌, length, Some, None, MatchOption};
 ghost use Rattle.std.specs.Iterator.{YieldsFirst, at_most};
@@ -13,8 +13,7 @@ use wtp_core::bytes::BytesReader;
 use wtp_core::error::ErrorCode;
 use wtp_core::varint::VarInt;
 
-/// A setting in a payload: its identifier, which may be unknown, and its value. Not in the Rust
-/// crate.
+/// A setting in a payload: its identifier, which may be unknown, and its value.
 #[derive(Clone, Copy, Debug, PartialEq, Eq)]
 pub struct SettingPair {
     /// The identifier.
@@ -25,7 +24,7 @@ pub struct SettingPair {
 
 /// An iterator over the settings in the payload of a SETTINGS frame (RFC 9114, sections 7.1, 7.2.4
 /// and 7.2.4.1), in the order of the payload. It returns known, reserved and unknown identifiers,
-/// and does not allocate. Not in the Rust crate.
+/// and does not allocate.
 ///
 /// Each item is a pair or the first error, after which the iterator ends:
 ///

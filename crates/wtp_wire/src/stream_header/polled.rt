@@ -1,7 +1,7 @@
 //! Polled reading and writing of stream headers.
 ghost use Rattle.std.specs.Prelude.{◌≡◌, ℕ, ◌+◌, ◌<◌, ◌≤◌, List, [], length, take, Ok};
-ghost use Rattle.wtp_core.specs.Source.{Telling};
-ghost use Rattle.wtp_core.specs.Polled.{Asks, WaitsAs};
+ghost use Rattle.wtp_core.specs.Source.{HasModel};
+ghost use Rattle.wtp_core.specs.Polled.{PollsAtMost, WaitsAs};
 ghost use Rattle.wtp_core.specs.Put.{Writing, unsent, GoesOn, IsSent, WritePolled};
 ghost use Rattle.wtp_wire.specs.HeaderFront.{Short, header_front};
 ghost use Rattle.wtp_wire.specs.HeaderNeed.{header_need, header_need_most, header_need_grows};
@@ -11,9 +11,9 @@ use crate::stream_header::{ParseError, StreamHeader, StreamKind};
 use std::fmt;
 use std::marker::Model;
 use wtp_core::bytes;
-use wtp_core::bytes::get::varint_need;
+use wtp_core::bytes::get::varint_len_needed;
 use wtp_core::bytes::{AsyncRead, AsyncWrite, IoWriteError, Polled};
-use wtp_core::polling::encoded::Encoded;
+use wtp_core::polling::encoded::VarintWriting;
 use wtp_core::polling::fill::halt_result;
 use wtp_core::polling::head::{Head, fill_head};
 use wtp_core::varint::first_varint;
@@ -59,8 +59,8 @@ impl StreamHeader {
         ensures { result ≡ unsent (header_wire self.now) }
     {
         let encoded = match self.session_id {
-            Some(session_id) => Encoded::two(self.kind.id(), session_id.into_varint()),
-            None => Encoded::one(self.kind.id()),
+            Some(session_id) => VarintWriting::two(self.kind.id(), session_id.into_varint()),
+            None => VarintWriting::one(self.kind.id()),
         };
         HeaderWriting { encoded }
     }
@@ -70,18 +70,18 @@ impl StreamHeader {
 struct HeaderHead;
 
 impl Head for HeaderHead {
-    ghost need = { header_need };
+    ghost len_needed = { header_need };
 
     ghost most = { 16 };
 
     #[tactic(auto, unfolding(crate::specs::HeaderNeed::header_need))]
-    fn need(held: &[u8]) -> usize {
-        let first = varint_need(held);
+    fn len_needed(held: &[u8]) -> usize {
+        let first = varint_len_needed(held);
         let Some((id, size)) = first_varint(held) else {
             return first;
         };
         match StreamKind::parse(id) {
-            Some(kind) if kind.has_session() => first + varint_need(&held[size..]),
+            Some(kind) if kind.has_session() => first + varint_len_needed(&held[size..]),
             _ => first,
         }
     }
@@ -119,7 +119,7 @@ impl Model for HeaderReading {
 }
 
 impl HeaderReading {
-    /// Creates a state that has read nothing. Not in the Rust crate.
+    /// Creates a state that has read nothing.
     pub fn new() -> Self
         ensures { result ≡ [] }
     {
@@ -148,10 +148,10 @@ impl HeaderReading {
         ensures was_cut { header_front self.old ≡ Short }
         ensures cut { header_front self.new ≡ Short }
         ensures given { HeaderGiven result self.old self.new }
-        ensures polled { Telling (S.tells source.old) (S.tells source.new)
+        ensures polled { HasModel (S.tells source.old) (S.tells source.new)
             (HeaderPolled result self.old self.new) }
-        ensures waits { Telling (S.tells source.old) (S.tells source.new) (WaitsAs result) }
-        ensures asks { Telling (S.tells source.old) (S.tells source.new) (Asks 16) }
+        ensures waits { HasModel (S.tells source.old) (S.tells source.new) (WaitsAs result) }
+        ensures asks { HasModel (S.tells source.old) (S.tells source.new) (PollsAtMost 16) }
     {
         match fill_head::<HeaderHead, S>(source, &mut self.bytes, &mut self.len) {
             Ok(()) => {}
@@ -181,7 +181,7 @@ fn read_whole(bytes: &[u8]) -> Result<StreamHeader, IoReadError>
 /// It counts the bytes sent, and sends no byte twice. It does not allocate, but the sink may.
 #[derive(Drop)]
 pub struct HeaderWriting {
-    encoded: Encoded,
+    encoded: VarintWriting,
 }
 
 // Prints the number of bytes sent.
@@ -205,7 +205,7 @@ impl HeaderWriting {
     pub fn poll<W: AsyncWrite>(&mut self, sink: &mut W) -> Polled<Result<(), IoWriteError>>
         ensures on { GoesOn self.old self.new }
         ensures whole { IsSent result self.new }
-        ensures polled { Telling (W.tells sink.old) (W.tells sink.new)
+        ensures polled { HasModel (W.tells sink.old) (W.tells sink.new)
             (WritePolled result self.old self.new) }
         ensures finished { self.old.sent ≡ length self.old.bytes
             → (sink.new ≡ sink.old) × (result ≡ Polled.Ready (Ok tt)) }

@@ -5,7 +5,7 @@ ghost use Rattle.wtp_wire.specs.Content.{Content, kind_in};
 ghost use Rattle.wtp_wire.specs.Front.{Framed, Unknown, BadId, TooBig, Short, front};
 ghost use Rattle.wtp_wire.specs.Held.{Held, new_held, front_held};
 ghost use Rattle.wtp_wire.specs.Rule.{Role, rule};
-ghost use Rattle.wtp_wire.specs.Run.{Tail, past_unknown, run};
+ghost use Rattle.wtp_wire.specs.Run.{Tail, skip_unknown, run};
 ghost use Rattle.wtransport_proto.specs.Agreeing.{EndsAfter};
 ghost use Rattle.wtransport_proto.specs.Place.{remainder, remainder_here, place_held, place_here, place_after};
 
@@ -13,14 +13,14 @@ ghost use Rattle.wtransport_proto.specs.Place.{remainder, remainder_here, place_
 /// frames, they are those left of the bytes after it; otherwise they are all of the bytes.
 pub fn remainder_by_front()
     ensures allowed { (role : Role) (first : Bool) (bytes rest : List ℕ) (f : Content)
-        → front (past_unknown bytes) ≡ Framed f rest → rule role first (kind_in f) ≡ None
+        → front (skip_unknown bytes) ≡ Framed f rest → rule role first (kind_in f) ≡ None
         → remainder role first bytes ≡ remainder role false rest }
     ensures refused { (role : Role) (first : Bool) (bytes rest : List ℕ) (f : Content)
         (code : ErrorCode)
-        → front (past_unknown bytes) ≡ Framed f rest → rule role first (kind_in f) ≡ Some code
+        → front (skip_unknown bytes) ≡ Framed f rest → rule role first (kind_in f) ≡ Some code
         → remainder role first bytes ≡ remainder_here first bytes }
     ensures no_frame { (role : Role) (first : Bool) (bytes : List ℕ)
-        → ((f : Content) (rest : List ℕ) → front (past_unknown bytes) ≢ Framed f rest)
+        → ((f : Content) (rest : List ℕ) → front (skip_unknown bytes) ≢ Framed f rest)
         → remainder role first bytes ≡ remainder_here first bytes }
 {}
 

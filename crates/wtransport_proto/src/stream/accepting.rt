@@ -12,7 +12,7 @@ use wtp_wire::stream_header;
 use wtp_wire::stream_header::HeaderReading;
 
 /// Reads the header of a unidirectional stream, poll by poll, and converts the stream to one of
-/// HTTP/3. Not in the Rust crate.
+/// HTTP/3.
 #[derive(Debug, Drop)]
 pub struct UniAccepting {
     pub(crate) stream: StreamUniRemoteQuic,
@@ -20,8 +20,8 @@ pub struct UniAccepting {
 }
 
 impl UniAccepting {
-    ghost use Rattle.wtp_core.specs.Source.{Telling};
-    ghost use Rattle.wtp_core.specs.Polled.{Asks};
+    ghost use Rattle.wtp_core.specs.Source.{HasModel};
+    ghost use Rattle.wtp_core.specs.Polled.{PollsAtMost};
     ghost use Rattle.wtransport_proto.specs.UpgradeSteps.{AcceptPolled, AcceptWaits, AcceptGiven};
 
     /// Reads until the header is complete or the source gives no more. Calls the source at most 16
@@ -43,10 +43,10 @@ impl UniAccepting {
         source: &mut S,
     ) -> Stepped<Self, StreamUniRemoteH3, IoReadError>
         ensures given { AcceptGiven result self }
-        ensures polled { Telling (S.tells source.old) (S.tells source.new)
+        ensures polled { HasModel (S.tells source.old) (S.tells source.new)
             (AcceptPolled result self.reading) }
-        ensures waits { Telling (S.tells source.old) (S.tells source.new) (AcceptWaits result) }
-        ensures asks { Telling (S.tells source.old) (S.tells source.new) (Asks 16) }
+        ensures waits { HasModel (S.tells source.old) (S.tells source.new) (AcceptWaits result) }
+        ensures asks { HasModel (S.tells source.old) (S.tells source.new) (PollsAtMost 16) }
     {
         match self.reading.poll(source) {
             Polled::Ready(Ok(header)) => Stepped::Done(Stream {
@@ -69,14 +69,14 @@ impl UniAccepting {
 }
 
 /// Reads the start of a bidirectional stream, poll by poll, to find out whether it is a stream of a
-/// WebTransport session or that of a request. Not in the Rust crate.
+/// WebTransport session or that of a request.
 #[derive(Debug, Drop)]
 pub struct BiAccepting {
     pub(crate) stream: StreamBiRemoteH3,
     pub(crate) reading: FrameReading,
 }
 
-/// The result of a poll of [`BiAccepting`]. Not in the Rust crate.
+/// The result of a poll of [`BiAccepting`].
 #[derive(Debug, Drop)]
 pub enum BiAccepted {
     /// A WebTransport frame came first. The bytes after it are application data, not frames.
@@ -95,8 +95,8 @@ pub enum BiAccepted {
 
 impl BiAccepting {
     ghost use Rattle.std.specs.Prelude.{◌≡◌, Bool, None};
-    ghost use Rattle.wtp_core.specs.Source.{Telling};
-    ghost use Rattle.wtp_core.specs.Polled.{Asks};
+    ghost use Rattle.wtp_core.specs.Source.{HasModel};
+    ghost use Rattle.wtp_core.specs.Polled.{PollsAtMost};
     ghost use Rattle.wtp_wire.specs.Content.{kind_in};
     ghost use Rattle.wtp_wire.specs.Held.{IsUnfinished};
     ghost use Rattle.wtp_wire.specs.Rule.{RemoteBi, rule};
@@ -129,10 +129,10 @@ impl BiAccepting {
         ensures was_unfinished { IsUnfinished self.reading }
         ensures unfinished { IsUnfinished (held_in result) }
         ensures given { BiAcceptGiven result (first_of self.stream) self.reading }
-        ensures polled { Telling (S.tells source.old) (S.tells source.new)
+        ensures polled { HasModel (S.tells source.old) (S.tells source.new)
             (BiAcceptPolled result (first_of self.stream) self.reading) }
-        ensures waits { Telling (S.tells source.old) (S.tells source.new) (BiAcceptWaits result) }
-        ensures asks { Telling (S.tells source.old) (S.tells source.new) (Asks 4112) }
+        ensures waits { HasModel (S.tells source.old) (S.tells source.new) (BiAcceptWaits result) }
+        ensures asks { HasModel (S.tells source.old) (S.tells source.new) (PollsAtMost 4112) }
     {
         match self.stream.read_frame_async(&mut self.reading, source) {
             Polled::Ready(Ok(frame)) => self.judge(frame),

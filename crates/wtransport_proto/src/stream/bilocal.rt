@@ -2,8 +2,8 @@
 ghost use Rattle.std.specs.Prelude.{◌≡◌, ◌≢◌, ◌≤◌, ◌↔◌, true, false, length, Err, IsTrue, IfOk, IfErr, IsOk, OnOk, OnErr, Ok};
 ghost use Rattle.wtp_core.specs.Reader.{IsRest};
 ghost use Rattle.wtp_core.specs.Cursor.{left_of, whole_of};
-ghost use Rattle.wtp_core.specs.Source.{Telling};
-ghost use Rattle.wtp_core.specs.Polled.{Asks, WaitsAs};
+ghost use Rattle.wtp_core.specs.Source.{HasModel};
+ghost use Rattle.wtp_core.specs.Polled.{PollsAtMost, WaitsAs};
 ghost use Rattle.wtp_core.specs.Writer.{PutsParts, LacksRoom};
 ghost use Rattle.wtp_core.specs.BufferWriter.{room_in, loan_of, IsUnwritten, Wrote};
 ghost use Rattle.wtp_core.specs.Put.{GoesOn, IsSent, WritePolled, unsent};
@@ -12,7 +12,7 @@ ghost use Rattle.wtp_wire.specs.Front.{front};
 ghost use Rattle.wtp_wire.specs.Held.{IsUnfinished};
 ghost use Rattle.wtp_wire.specs.Wire.{parts_of, wire};
 ghost use Rattle.wtp_wire.specs.Rule.{LocalBi};
-ghost use Rattle.wtp_wire.specs.Run.{past_unknown};
+ghost use Rattle.wtp_wire.specs.Run.{skip_unknown};
 ghost use Rattle.wtransport_proto.specs.Reading.{AnswersFrame, AnswersRun, ReaderIsAfter};
 ghost use Rattle.wtransport_proto.specs.StreamPolling.{StreamPolled, StreamGiven};
 ghost use Rattle.wtransport_proto.specs.StreamWriting.{WritesPlain, Begun};
@@ -79,7 +79,7 @@ impl StreamBiLocalH3 {
         &self,
         reader: &mut R,
     ) -> Result<Option<Frame<'a>>, ErrorCode>
-        ensures answer { AnswersFrame LocalBi false (front (past_unknown (R.left reader.old)))
+        ensures answer { AnswersFrame LocalBi false (front (skip_unknown (R.left reader.old)))
             result false (R.left reader.new) }
         ensures rest { IsRest (R.left reader.new) (R.left reader.old) }
         ensures kept { R.kept reader.new ≡ R.kept reader.old }
@@ -122,10 +122,10 @@ impl StreamBiLocalH3 {
         ensures was_unfinished { IsUnfinished reading.old }
         ensures unfinished { IsUnfinished reading.new }
         ensures given { StreamGiven LocalBi result false false reading.old reading.new }
-        ensures polled { Telling (S.tells source.old) (S.tells source.new)
+        ensures polled { HasModel (S.tells source.old) (S.tells source.new)
             (StreamPolled LocalBi result false false reading.old reading.new) }
-        ensures waits { Telling (S.tells source.old) (S.tells source.new) (WaitsAs result) }
-        ensures asks { Telling (S.tells source.old) (S.tells source.new) (Asks 4112) }
+        ensures waits { HasModel (S.tells source.old) (S.tells source.new) (WaitsAs result) }
+        ensures asks { HasModel (S.tells source.old) (S.tells source.new) (PollsAtMost 4112) }
     {
         polled::apply_rule::<Self>(false, reading.poll(source))
     }
@@ -192,7 +192,7 @@ impl StreamBiLocalH3 {
         requires { WritesPlain writing.old }
         ensures on { GoesOn writing.old writing.new }
         ensures whole { IsSent result writing.new }
-        ensures polled { Telling (W.tells sink.old) (W.tells sink.new)
+        ensures polled { HasModel (W.tells sink.old) (W.tells sink.new)
             (WritePolled result writing.old writing.new) }
         ensures finished { writing.old.sent ≡ length writing.old.bytes
             → (sink.new ≡ sink.old) × (result ≡ Polled.Ready (Ok tt)) }

@@ -2,8 +2,8 @@
 ghost use Rattle.std.specs.Prelude.{◌≡◌, ◌≤◌, ◌↔◌, true, length, Err, IsOk, OnOk, OnErr, Ok};
 ghost use Rattle.wtp_core.specs.Reader.{IsRest};
 ghost use Rattle.wtp_core.specs.Cursor.{left_of, whole_of};
-ghost use Rattle.wtp_core.specs.Source.{Telling};
-ghost use Rattle.wtp_core.specs.Polled.{Asks, WaitsAs};
+ghost use Rattle.wtp_core.specs.Source.{HasModel};
+ghost use Rattle.wtp_core.specs.Polled.{PollsAtMost, WaitsAs};
 ghost use Rattle.wtp_core.specs.Writer.{PutsParts, LacksRoom};
 ghost use Rattle.wtp_core.specs.BufferWriter.{room_in, loan_of, IsUnwritten, Wrote};
 ghost use Rattle.wtp_core.specs.Put.{GoesOn, IsSent, WritePolled};
@@ -12,7 +12,7 @@ ghost use Rattle.wtp_wire.specs.Held.{IsUnfinished};
 ghost use Rattle.wtp_wire.specs.Wire.{parts_of, wire};
 ghost use Rattle.wtp_wire.specs.Rule.{RemoteBi};
 ghost use Rattle.wtransport_proto.specs.Driving.{ChangesFirst};
-ghost use Rattle.wtp_wire.specs.Run.{past_unknown};
+ghost use Rattle.wtp_wire.specs.Run.{skip_unknown};
 ghost use Rattle.wtransport_proto.specs.Reading.{AnswersFrame, AnswersRun, ReaderIsAfter};
 ghost use Rattle.wtransport_proto.specs.StreamPolling.{StreamPolled, StreamGiven};
 ghost use Rattle.wtransport_proto.specs.Streams.{first_of, request_of, session_of};
@@ -82,7 +82,7 @@ impl StreamBiRemoteH3 {
     ) -> Result<Option<Frame<'a>>, ErrorCode>
         ensures changes { ChangesFirst first_of self.old self.new }
         ensures answer { AnswersFrame RemoteBi (first_of self.old)
-            (front (past_unknown (R.left reader.old))) result (first_of self.new)
+            (front (skip_unknown (R.left reader.old))) result (first_of self.new)
             (R.left reader.new) }
         ensures rest { IsRest (R.left reader.new) (R.left reader.old) }
         ensures kept { R.kept reader.new ≡ R.kept reader.old }
@@ -133,11 +133,11 @@ impl StreamBiRemoteH3 {
         ensures unfinished { IsUnfinished reading.new }
         ensures given { StreamGiven RemoteBi result (first_of self.old) (first_of self.new)
             reading.old reading.new }
-        ensures polled { Telling (S.tells source.old) (S.tells source.new)
+        ensures polled { HasModel (S.tells source.old) (S.tells source.new)
             (StreamPolled RemoteBi result (first_of self.old) (first_of self.new) reading.old
             reading.new) }
-        ensures waits { Telling (S.tells source.old) (S.tells source.new) (WaitsAs result) }
-        ensures asks { Telling (S.tells source.old) (S.tells source.new) (Asks 4112) }
+        ensures waits { HasModel (S.tells source.old) (S.tells source.new) (WaitsAs result) }
+        ensures asks { HasModel (S.tells source.old) (S.tells source.new) (PollsAtMost 4112) }
     {
         let first = !self.stage.first_frame_done;
         let answer = reading.poll(source);
@@ -148,7 +148,7 @@ impl StreamBiRemoteH3 {
     }
 
     /// Returns a state that reads the first frame, poll by poll, by the rules of `read_frame`: of a
-    /// session, or of a request. The reading may hold bytes of it already. Not in the Rust crate.
+    /// session, or of a request. The reading may hold bytes of it already.
     ///
     /// A server accepts each bidirectional stream that its peer opened so: a reader of frames would
     /// take the bytes after a WebTransport frame, which are the application's, for frames.
@@ -205,7 +205,7 @@ impl StreamBiRemoteH3 {
     ) -> Polled<Result<(), IoWriteError>>
         ensures on { GoesOn writing.old writing.new }
         ensures whole { IsSent result writing.new }
-        ensures polled { Telling (W.tells sink.old) (W.tells sink.new)
+        ensures polled { HasModel (W.tells sink.old) (W.tells sink.new)
             (WritePolled result writing.old writing.new) }
         ensures finished { writing.old.sent ≡ length writing.old.bytes
             → (sink.new ≡ sink.old) × (result ≡ Polled.Ready (Ok tt)) }

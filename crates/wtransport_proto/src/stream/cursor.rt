@@ -1,9 +1,8 @@
-//! Reading frames from bytes owned by the caller, without a source and without allocation. Not in
-//! the Rust crate.
+//! Reading frames from bytes owned by the caller, without a source and without allocation.
 ghost use Rattle.std.specs.Prelude.{◌≡◌, ◌≤◌, ◌-◌, ◌↔◌, length, Ok, None, true, IsOk, OnErr, Err};
 ghost use Rattle.wtp_core.specs.Reader.{IsRest};
 ghost use Rattle.wtp_wire.specs.Front.{front};
-ghost use Rattle.wtp_wire.specs.Run.{past_unknown};
+ghost use Rattle.wtp_wire.specs.Run.{skip_unknown};
 ghost use Rattle.wtransport_proto.specs.CutFrame.{due_in};
 ghost use Rattle.wtransport_proto.specs.Reading.{AnswersKnown};
 
@@ -13,7 +12,7 @@ use wtp_core::ids::SessionId;
 use wtp_wire::frame::{Frame, FrameKind};
 use wtp_wire::rules::{StreamRole, fault_of};
 
-/// The state of an incremental frame reader over bytes owned by the caller. Not in the Rust crate.
+/// The state of an incremental frame reader over bytes owned by the caller.
 ///
 /// It stores no bytes. The caller passes the unconsumed bytes again, followed by new ones. Every
 /// combination of field values is valid.
@@ -24,13 +23,12 @@ pub struct FrameCursor {
     /// Whether the next frame is the first one of the stream, not counting unknown frames.
     pub first: bool,
     /// The number of payload bytes of an unknown frame left to skip.
-    pub due: u64,
+    pub skip_remaining: u64,
 }
 
-/// A frame, given by its position in the bytes passed to [`FrameCursor::next`]. Not in the Rust
-/// crate.
+/// A frame, given by its position in the bytes passed to [`FrameCursor::next`].
 #[derive(Clone, Copy, Debug, PartialEq, Eq)]
-pub struct FramePlace {
+pub struct FrameSpan {
     /// The kind.
     pub kind: FrameKind,
     /// The session ID, if the kind is WebTransport.
@@ -42,18 +40,18 @@ pub struct FramePlace {
     ghost ordered: { start ≤ end },
 }
 
-/// The result of [`FrameCursor::next`]. Not in the Rust crate.
+/// The result of [`FrameCursor::next`].
 #[derive(Clone, Copy, Debug, PartialEq, Eq)]
 pub enum CursorStep {
     /// A complete frame. The bytes up to its end are consumed.
-    Frame(FramePlace),
+    Frame(FrameSpan),
     /// More bytes are needed. This many bytes are consumed.
     More(usize),
     /// An error of the stream, with its code. No byte is consumed.
     Fault(ErrorCode),
 }
 
-impl FramePlace {
+impl FrameSpan {
     ghost use Rattle.wtp_wire.specs.Content.{payload_in, IsProper};
     ghost use Rattle.wtransport_proto.specs.FrameCursor.{payload_at, IsPlaceOf};
 
@@ -64,7 +62,7 @@ impl FramePlace {
         ensures proper { IsProper result.kind (payload_in frame.now) result.session_id }
     {
         let len = frame.payload().len();
-        FramePlace {
+        FrameSpan {
             kind: frame.kind(),
             session_id: frame.session_id(),
             start: end - len,
@@ -90,12 +88,12 @@ impl FrameCursor {
 
     /// Creates a cursor at the start of a stream with this role.
     pub fn new(role: StreamRole) -> Self
-        ensures { result ≡ record { role = role; first = true; due = 0 } }
+        ensures { result ≡ record { role = role; first = true; skip_remaining = 0 } }
     {
         FrameCursor {
             role,
             first: true,
-            due: 0,
+            skip_remaining: 0,
         }
     }
 
@@ -117,23 +115,23 @@ impl FrameCursor {
         ensures run { RunGoesOn result self.old bytes.now self.new }
     {
         let len = bytes.len();
-        if self.due > len as u64 {
-            self.due -= len as u64;
+        if self.skip_remaining > len as u64 {
+            self.skip_remaining -= len as u64;
             return CursorStep::More(len);
         }
-        let (_, mut rest) = bytes.split_at(self.due as usize);
+        let (_, mut rest) = bytes.split_at(self.skip_remaining as usize);
         match take_known(&mut rest) {
             Ok(Some(frame)) => match fault_of(self.role, self.first, frame.kind()) {
                 None => {
                     self.first = false;
-                    self.due = 0;
-                    CursorStep::Frame(FramePlace::of(&frame, len - rest.len()))
+                    self.skip_remaining = 0;
+                    CursorStep::Frame(FrameSpan::of(&frame, len - rest.len()))
                 }
                 Some(code) => CursorStep::Fault(code),
             },
             Ok(None) => {
-                self.due = payload_due(rest);
-                if self.due > 0 {
+                self.skip_remaining = payload_due(rest);
+                if self.skip_remaining > 0 {
                     return CursorStep::More(len);
                 }
                 CursorStep::More(len - rest.len())
@@ -149,12 +147,12 @@ impl FrameCursor {
     /// empty, or if bytes of an unknown frame are left to skip.
     #[tactic(auto, using(crate::proofs::CursorStepLemmas::endings))]
     pub fn finish(&self, rest: &[u8]) -> Result<(), ErrorCode>
-        ensures clean { IsOk result ↔ ((self.now.due ≡ 0) × (length rest.now ≡ 0)) }
+        ensures clean { IsOk result ↔ ((self.now.skip_remaining ≡ 0) × (length rest.now ≡ 0)) }
         ensures code { OnErr result (result ≡ Err ErrorCode.Frame) }
         ensures run { front_held (held_by self.now) rest.now ≡ Short
             → run_from self.now rest.now Ended ≡ ends (ending_of result) }
     {
-        if self.due > 0 {
+        if self.skip_remaining > 0 {
             return Err(ErrorCode::Frame);
         }
         if rest.len() > 0 {
@@ -168,8 +166,8 @@ impl FrameCursor {
 /// `None` if the bytes after the unknown frames are too few for a frame; `rest` then contains these
 /// bytes.
 fn take_known<'a>(rest: &mut &'a [u8]) -> Result<Option<Frame<'a>>, ErrorCode>
-    ensures answer { AnswersKnown (front (past_unknown rest.old.now)) result rest.new.now }
-    ensures short { result ≡ Ok None → rest.new.now ≡ past_unknown rest.old.now }
+    ensures answer { AnswersKnown (front (skip_unknown rest.old.now)) result rest.new.now }
+    ensures short { result ≡ Ok None → rest.new.now ≡ skip_unknown rest.old.now }
     ensures rest { IsRest rest.new.now rest.old.now }
 {
     'frames: loop {

@@ -1,8 +1,8 @@
 //! Driving a stream: reading its frames poll by poll, as far as its source goes.
 ghost use Rattle.std.specs.Prelude.{◌≡◌, ◌≤◌, Bool, IsTrue, ◌↔◌, ◌++◌, length, drop, false};
 ghost use Rattle.wtp_core.specs.Cursor.{left_of, whole_of};
-ghost use Rattle.wtp_core.specs.Source.{Telling};
-ghost use Rattle.wtp_core.specs.Polled.{Asks, WaitsAs};
+ghost use Rattle.wtp_core.specs.Source.{HasModel};
+ghost use Rattle.wtp_core.specs.Polled.{PollsAtMost, WaitsAs};
 ghost use Rattle.wtp_wire.specs.Held.{IsUnfinished};
 ghost use Rattle.wtp_wire.specs.Rule.{Role, RemoteBi, LocalBi, RemoteUni, InSession};
 ghost use Rattle.wtransport_proto.specs.Streams.{first_of, CanRead};
@@ -19,7 +19,7 @@ use wtp_core::bytes::{AsyncRead, BufferReader, Polled};
 use wtp_core::error::ErrorCode;
 use wtp_wire::frame::{Frame, FrameOwned, FrameReading};
 
-/// A stream from which frames are read. Not in the Rust crate.
+/// A stream from which frames are read.
 pub trait ReadsFrames {
     // The reading state.
     ghost role: { Role };
@@ -63,10 +63,10 @@ pub trait ReadsFrames {
         ensures unfinished { IsUnfinished reading.new }
         ensures given { StreamGiven role result (first self.old) (first self.new) reading.old
             reading.new }
-        ensures polled { Telling (S.tells source.old) (S.tells source.new)
+        ensures polled { HasModel (S.tells source.old) (S.tells source.new)
             (StreamPolled role result (first self.old) (first self.new) reading.old reading.new) }
-        ensures waits { Telling (S.tells source.old) (S.tells source.new) (WaitsAs result) }
-        ensures asks { Telling (S.tells source.old) (S.tells source.new) (Asks 4112) };
+        ensures waits { HasModel (S.tells source.old) (S.tells source.new) (WaitsAs result) }
+        ensures asks { HasModel (S.tells source.old) (S.tells source.new) (PollsAtMost 4112) };
 }
 
 impl ReadsFrames for StreamBiRemoteH3 {
@@ -185,7 +185,7 @@ impl ReadsFrames for StreamSession {
     }
 }
 
-/// The way a drive ended. Not in the Rust crate.
+/// The way a drive ended.
 #[derive(Debug, Drop, PartialEq, Eq)]
 pub enum Driven {
     /// The stream gives no more frames.
@@ -198,7 +198,7 @@ pub enum Driven {
     NoMemory,
 }
 
-/// Polls the stream at most `polls` times, and appends each frame to `out`. Not in the Rust crate.
+/// Polls the stream at most `polls` times, and appends each frame to `out`.
 ///
 /// - `Ended(fault)`: the first fault. As after the poll that found it, the source is positioned
 ///   right after a refused frame, or after the bytes that decided, and nothing is held; if the
@@ -232,7 +232,7 @@ pub fn drive<K: ReadsFrames, S: AsyncRead>(
     ensures unfinished { IsUnfinished reading.old → IsUnfinished reading.new }
     ensures appends { out.new.items ≡ out.old.items ++ drop (length out.old.items) out.new.items }
     ensures most { length (drop (length out.old.items) out.new.items) ≤ polls }
-    ensures did { Telling (S.tells source.old) (S.tells source.new)
+    ensures did { HasModel (S.tells source.old) (S.tells source.new)
         (DriveDid K.role result (K.first stream.old) (K.first stream.new)
         reading.old reading.new (drop (length out.old.items) out.new.items) polls) }
     ensures none { polls ≡ 0

@@ -5,7 +5,7 @@ ghost use Rattle.wtp_core.specs.Reader.{IsRest};
 ghost use Rattle.wtp_wire.specs.Content.{kind_in};
 ghost use Rattle.wtp_wire.specs.Front.{front};
 ghost use Rattle.wtp_wire.specs.Rule.{Role, rule};
-ghost use Rattle.wtp_wire.specs.Run.{past_unknown};
+ghost use Rattle.wtp_wire.specs.Run.{skip_unknown};
 ghost use Rattle.wtransport_proto.specs.Reading.{AnswersFrame, AnswersKnown, AnswersRun, MovesPast, ReaderIsAfter, permitted};
 
 use std::mem;
@@ -26,7 +26,7 @@ pub(crate) trait Rule {
 /// Reads the first frame of a known or exercise kind; unknown frames before it are skipped.
 #[inline(always)]
 fn read_known<'a, R: BytesReader<'a>>(reader: &mut R) -> Result<Option<Frame<'a>>, ErrorCode>
-    ensures answer { AnswersKnown (front (past_unknown (R.left reader.old))) result
+    ensures answer { AnswersKnown (front (skip_unknown (R.left reader.old))) result
         (R.left reader.new) }
     ensures rest { IsRest (R.left reader.new) (R.left reader.old) }
     ensures kept { R.kept reader.new ≡ R.kept reader.old }
@@ -60,7 +60,7 @@ pub(crate) fn read_frame<'a, K: Rule, R: BytesReader<'a>>(
     reader: &mut R,
 ) -> Result<Option<Frame<'a>>, ErrorCode>
     ensures answer { AnswersFrame K.role (not first_frame_done.old)
-        (front (past_unknown (R.left reader.old))) result (not first_frame_done.new)
+        (front (skip_unknown (R.left reader.old))) result (not first_frame_done.new)
         (R.left reader.new) }
     ensures stays { first_frame_done.old ≡ true → first_frame_done.new ≡ true }
     ensures rest { IsRest (R.left reader.new) (R.left reader.old) }
@@ -78,7 +78,7 @@ pub(crate) fn read_frame<'a, K: Rule, R: BytesReader<'a>>(
 pub(crate) fn read_later_frame<'a, K: Rule, R: BytesReader<'a>>(
     reader: &mut R,
 ) -> Result<Option<Frame<'a>>, ErrorCode>
-    ensures answer { AnswersFrame K.role false (front (past_unknown (R.left reader.old))) result
+    ensures answer { AnswersFrame K.role false (front (skip_unknown (R.left reader.old))) result
         false (R.left reader.new) }
     ensures rest { IsRest (R.left reader.new) (R.left reader.old) }
     ensures kept { R.kept reader.new ≡ R.kept reader.old }

@@ -1,6 +1,6 @@
 //! Unidirectional streams that this endpoint opened.
 ghost use Rattle.std.specs.Prelude.{◌≡◌, ◌≤◌, ◌↔◌, length, Err, IfOk, IfErr, IsOk, OnOk, OnErr, Ok};
-ghost use Rattle.wtp_core.specs.Source.{Telling};
+ghost use Rattle.wtp_core.specs.Source.{HasModel};
 ghost use Rattle.wtp_core.specs.Writer.{PutsParts, LacksRoom};
 ghost use Rattle.wtp_core.specs.BufferWriter.{room_in, loan_of, IsUnwritten, Wrote};
 ghost use Rattle.wtp_core.specs.Put.{GoesOn, IsSent, WritePolled, unsent};
@@ -140,7 +140,7 @@ impl StreamUniLocalH3 {
         requires { CanWrite self.old }
         ensures on { GoesOn writing.old writing.new }
         ensures whole { IsSent result writing.new }
-        ensures polled { Telling (W.tells sink.old) (W.tells sink.new)
+        ensures polled { HasModel (W.tells sink.old) (W.tells sink.new)
             (WritePolled result writing.old writing.new) }
         ensures finished { writing.old.sent ≡ length writing.old.bytes
             → (sink.new ≡ sink.old) × (result ≡ Polled.Ready (Ok tt)) }

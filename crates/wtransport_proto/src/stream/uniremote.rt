@@ -2,13 +2,13 @@
 ghost use Rattle.std.specs.Prelude.{◌≡◌, ◌↔◌, [], false, IsTrue};
 ghost use Rattle.wtp_core.specs.Reader.{IsRest};
 ghost use Rattle.wtp_core.specs.Cursor.{left_of, whole_of};
-ghost use Rattle.wtp_core.specs.Source.{Telling};
-ghost use Rattle.wtp_core.specs.Polled.{Asks, WaitsAs};
+ghost use Rattle.wtp_core.specs.Source.{HasModel};
+ghost use Rattle.wtp_core.specs.Polled.{PollsAtMost, WaitsAs};
 ghost use Rattle.wtp_wire.specs.Front.{front};
 ghost use Rattle.wtp_wire.specs.Held.{IsUnfinished};
 ghost use Rattle.wtp_wire.specs.HeaderFront.{header_front};
 ghost use Rattle.wtp_wire.specs.Rule.{RemoteUni};
-ghost use Rattle.wtp_wire.specs.Run.{past_unknown};
+ghost use Rattle.wtp_wire.specs.Run.{skip_unknown};
 ghost use Rattle.wtransport_proto.specs.Reading.{AnswersFrame, AnswersRun, ReaderIsAfter};
 ghost use Rattle.wtransport_proto.specs.StreamPolling.{StreamPolled, StreamGiven};
 ghost use Rattle.wtransport_proto.specs.Streams.{CanRead};
@@ -115,7 +115,7 @@ impl StreamUniRemoteH3 {
         reader: &mut R,
     ) -> Result<Option<Frame<'a>>, ErrorCode>
         requires { CanRead self.old }
-        ensures answer { AnswersFrame RemoteUni false (front (past_unknown (R.left reader.old)))
+        ensures answer { AnswersFrame RemoteUni false (front (skip_unknown (R.left reader.old)))
             result false (R.left reader.new) }
         ensures rest { IsRest (R.left reader.new) (R.left reader.old) }
         ensures kept { R.kept reader.new ≡ R.kept reader.old }
@@ -164,10 +164,10 @@ impl StreamUniRemoteH3 {
         ensures was_unfinished { IsUnfinished reading.old }
         ensures unfinished { IsUnfinished reading.new }
         ensures given { StreamGiven RemoteUni result false false reading.old reading.new }
-        ensures polled { Telling (S.tells source.old) (S.tells source.new)
+        ensures polled { HasModel (S.tells source.old) (S.tells source.new)
             (StreamPolled RemoteUni result false false reading.old reading.new) }
-        ensures waits { Telling (S.tells source.old) (S.tells source.new) (WaitsAs result) }
-        ensures asks { Telling (S.tells source.old) (S.tells source.new) (Asks 4112) }
+        ensures waits { HasModel (S.tells source.old) (S.tells source.new) (WaitsAs result) }
+        ensures asks { HasModel (S.tells source.old) (S.tells source.new) (PollsAtMost 4112) }
         ensures same { self.new ≡ self.old }
         ensures readable { CanRead self.new }
     {

@@ -8,8 +8,7 @@ use wtp_core::ids::SessionId;
 use wtp_wire::frame::FrameWriting;
 use wtp_wire::stream_header::{HeaderWriting, StreamHeader};
 
-/// Writes a WebTransport frame, poll by poll, and converts the stream to one of the session. Not in
-/// the Rust crate.
+/// Writes a WebTransport frame, poll by poll, and converts the stream to one of the session.
 #[derive(Debug, Drop)]
 pub struct BiUpgrading {
     pub(crate) stream: StreamBiLocalH3,
@@ -18,7 +17,7 @@ pub struct BiUpgrading {
 }
 
 impl BiUpgrading {
-    ghost use Rattle.wtp_core.specs.Source.{Telling};
+    ghost use Rattle.wtp_core.specs.Source.{HasModel};
     ghost use Rattle.wtransport_proto.specs.UpgradeSteps.{BiStepped, StepSends, bi_writing};
 
     /// Writes until all bytes are sent or the sink accepts no more, as `FrameWriting` does. Returns
@@ -31,7 +30,7 @@ impl BiUpgrading {
         sink: &mut W,
     ) -> Stepped<Self, StreamBiLocalWT, IoWriteError>
         ensures stepped { BiStepped result self }
-        ensures sends { Telling (W.tells sink.old) (W.tells sink.new)
+        ensures sends { HasModel (W.tells sink.old) (W.tells sink.new)
             (StepSends bi_writing result self.writing) }
     {
         match self.writing.poll(sink) {
@@ -49,8 +48,7 @@ impl BiUpgrading {
     }
 }
 
-/// Writes the header of a stream, poll by poll, and converts it to a stream of HTTP/3. Not in the
-/// Rust crate.
+/// Writes the header of a stream, poll by poll, and converts it to a stream of HTTP/3.
 #[derive(Debug, Drop)]
 pub struct UniUpgrading {
     pub(crate) stream: StreamUniLocalQuic,
@@ -59,7 +57,7 @@ pub struct UniUpgrading {
 }
 
 impl UniUpgrading {
-    ghost use Rattle.wtp_core.specs.Source.{Telling};
+    ghost use Rattle.wtp_core.specs.Source.{HasModel};
     ghost use Rattle.wtransport_proto.specs.UpgradeSteps.{UniStepped, StepSends, uni_writing};
 
     /// Writes until all bytes are sent or the sink accepts no more, as `HeaderWriting` does.
@@ -72,7 +70,7 @@ impl UniUpgrading {
         sink: &mut W,
     ) -> Stepped<Self, StreamUniLocalH3, IoWriteError>
         ensures stepped { UniStepped result self }
-        ensures sends { Telling (W.tells sink.old) (W.tells sink.new)
+        ensures sends { HasModel (W.tells sink.old) (W.tells sink.new)
             (StepSends uni_writing result self.writing) }
     {
         match self.writing.poll(sink) {

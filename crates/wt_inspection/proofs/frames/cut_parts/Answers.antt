@@ -1,5 +1,5 @@
 use Rattle.std.proofs.Common.{◌≡◌, false, Err, sym, ◌∙◌}
-use Rattle.wt_items.specs.Names.{frame_name_of}
+use Rattle.wt_inspection_model.specs.Names.{frame_name_of}
 use Rattle.wt_inspection.specs.Recording.{is_data}
 use Rattle.wt_inspection.proofs.WalkLemmas.{opaque_leads}
 use Rattle.wt_inspection.proofs.frames.cut_parts.Goals as goal

@@ -1,7 +1,7 @@
 use Rattle.std.proofs.Common.{Ok, Err}
-use Rattle.wt_items.specs.Names.{frame_name_of}
+use Rattle.wt_inspection_model.specs.Names.{frame_name_of}
 use Rattle.wt_inspection.specs.Recording.{name_fault, still_first}
-use Rattle.wt_items.specs.declared.item.Parts.TheVariants.{Opaque}
+use Rattle.wt_inspection_model.specs.declared.item.Parts.TheVariants.{Opaque}
 use Rattle.wt_inspection.specs.declared.reading.Next.TheVariants.{Frames}
 use Rattle.wt_inspection.proofs.WalkLemmas.{refused_takes}
 use Rattle.wt_inspection.proofs.frames.judged_parts.Goals as goal

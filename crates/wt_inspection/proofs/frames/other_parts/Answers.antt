@@ -1,5 +1,5 @@
 use Rattle.std.proofs.Common.{Ok}
-use Rattle.wt_items.specs.Names.{frame_name_of}
+use Rattle.wt_inspection_model.specs.Names.{frame_name_of}
 use Rattle.wt_inspection.proofs.WalkLemmas.{ok_map, settings_leads}
 use Rattle.wt_inspection.proofs.frames.other_parts.Goals as goal
 

@@ -1,8 +1,8 @@
 //! The bytes received of one frame: those of its head (its first two numbers) and those of its
 //! payload.
 ghost use Rattle.std.specs.Prelude.{◌≡◌, ◌<◌, length, false, IsTrue};
-ghost use Rattle.wtp_core.specs.Source.{Telling};
-ghost use Rattle.wtp_wire.specs.FramePart.{Part, new_part, bytes_in, IsReading};
+ghost use Rattle.wtp_core.specs.Source.{HasModel};
+ghost use Rattle.wtp_wire.specs.PartialFrame.{Part, new_part, bytes_in, IsReading};
 ghost use Rattle.wtp_wire.specs.FrameSteps.{LacksPayloadRoom, PayloadKeeps, AdvanceKeeps, StopMoves, StopWaits, Grew};
 
 use crate::frame::head::{Announcement, FrameHead, read_head};
@@ -10,7 +10,7 @@ use std::alloc::Global;
 use std::marker::Model;
 use std::mem;
 use wtp_core::bytes::AsyncRead;
-use wtp_core::polling::fill::{Halt, fill};
+use wtp_core::polling::fill::{Interrupted, fill};
 use wtp_core::polling::head::fill_head;
 
 // The maximum length of a head in bytes: two numbers of at most 8 bytes.
@@ -18,16 +18,16 @@ const MAX_HEAD: usize = 16;
 
 /// The reason why reading a frame stopped.
 #[derive(Clone, Copy)]
-pub(super) enum Stop {
+pub(super) enum ReadInterrupted {
     /// The source gave no more bytes.
-    Source(Halt),
+    Source(Interrupted),
     /// Memory allocation failed for the payload.
     NoMemory,
 }
 
 /// The bytes received of one frame.
 #[derive(Drop)]
-pub(super) struct FramePart {
+pub(super) struct PartialFrame {
     head: [u8; MAX_HEAD],
     len: usize,
     // Has the full length of the payload once that is allocated, and is empty before.
@@ -35,9 +35,9 @@ pub(super) struct FramePart {
     filled: usize,
 }
 
-impl Model for FramePart {
+impl Model for PartialFrame {
     ghost use Rattle.std.specs.Prelude.{◌≡◌, ◌≤◌, length, take, vec_len};
-    ghost use Rattle.wtp_wire.specs.FramePart.{Part};
+    ghost use Rattle.wtp_wire.specs.PartialFrame.{Part};
     ghost use Rattle.wtp_wire.specs.Limits.{max_head};
 
     ghost Value = { Part };
@@ -53,12 +53,12 @@ impl Model for FramePart {
         × (p.filled ≤ vec_len p.payload) };
 }
 
-impl FramePart {
+impl PartialFrame {
     /// Creates a part that holds no bytes.
     pub(super) fn new(alloc: Global) -> Self
         ensures { result ≡ new_part }
     {
-        FramePart {
+        PartialFrame {
             head: [0; MAX_HEAD],
             len: 0,
             payload: Vec::new(alloc),
@@ -94,17 +94,20 @@ impl FramePart {
     ///
     /// The payload is allocated in full before its first byte is read. All bytes received are held,
     /// even if this returns an error.
-    pub(super) fn advance<S: AsyncRead>(&mut self, source: &mut S) -> Result<Announcement, Stop>
+    pub(super) fn advance<S: AsyncRead>(
+        &mut self,
+        source: &mut S,
+    ) -> Result<Announcement, ReadInterrupted>
         requires { IsReading self.old }
         ensures keeps { AdvanceKeeps result self.old self.new }
         ensures grew { Grew (bytes_in self.old) (bytes_in self.new) }
-        ensures moves { Telling (S.tells source.old) (S.tells source.new)
+        ensures moves { HasModel (S.tells source.old) (S.tells source.new)
             (StopMoves result (bytes_in self.old) (bytes_in self.new)) }
-        ensures waits { Telling (S.tells source.old) (S.tells source.new) (StopWaits result) }
+        ensures waits { HasModel (S.tells source.old) (S.tells source.new) (StopWaits result) }
     {
         match fill_head::<FrameHead, S>(source, &mut self.head, &mut self.len) {
             Ok(()) => {}
-            Err(halt) => return Err(Stop::Source(halt)),
+            Err(halt) => return Err(ReadInterrupted::Source(halt)),
         }
         let announcement = read_head(&self.head[..self.len]);
         match announcement {
@@ -118,21 +121,25 @@ impl FramePart {
 
     /// Reads until all `size` bytes of the payload are held.
     #[inline(always)]
-    fn fill_payload<S: AsyncRead>(&mut self, source: &mut S, size: usize) -> Result<(), Stop>
+    fn fill_payload<S: AsyncRead>(
+        &mut self,
+        source: &mut S,
+        size: usize,
+    ) -> Result<(), ReadInterrupted>
         requires { 0 < self.old.room → self.old.room ≡ size }
         ensures head { self.new.head ≡ self.old.head }
         ensures keeps { PayloadKeeps result size self.old self.new }
         ensures grew { Grew self.old.payload self.new.payload }
-        ensures moves { Telling (S.tells source.old) (S.tells source.new)
+        ensures moves { HasModel (S.tells source.old) (S.tells source.new)
             (StopMoves result self.old.payload self.new.payload) }
-        ensures waits { Telling (S.tells source.old) (S.tells source.new) (StopWaits result) }
+        ensures waits { HasModel (S.tells source.old) (S.tells source.new) (StopWaits result) }
     {
         if !self.take_room(size) {
-            return Err(Stop::NoMemory);
+            return Err(ReadInterrupted::NoMemory);
         }
         match fill(source, self.payload.as_mut_slice(), &mut self.filled) {
             Ok(()) => Ok(()),
-            Err(halt) => Err(Stop::Source(halt)),
+            Err(halt) => Err(ReadInterrupted::Source(halt)),
         }
     }
 

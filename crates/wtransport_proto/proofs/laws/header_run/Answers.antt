@@ -1,5 +1,5 @@
 use Rattle.wtp_fields.proofs.Payloads.{payload_again}
-use Rattle.wtransport_proto.proofs.JourneyLemmas.{headers-run}
+use Rattle.wtransport_proto.proofs.ExchangeLemmas.{headers-run}
 use Rattle.wtransport_proto.proofs.laws.header_run.Goals as goal
 
 pub returns : goal.returns

@@ -4,18 +4,18 @@ use Rattle.wt_inspection.proofs.WalkLemmas.{bad_known, close_known, holds_none, 
 use Rattle.wt_inspection.proofs.capsules.CapsuleWalk.complete.Goals as goal
 
 pub returns-in-Other : goal.returns-in-Other
-returns-in-Other c = λ unknown due k.
+returns-in-Other c = λ unknown skip_remaining k.
     absurd (other_known c.args.found.kind _ _ k (rw (c.in-Other.is, c.as_slice.ensures.value) at c.in_ok-closing.ensures))
 
 pub returns-in-Close : goal.returns-in-Close
-returns-in-Close c = λ unknown due k.
+returns-in-Close c = λ unknown skip_remaining k.
     let held = c.args.self.now.held.items in
     let size : c.args.found.end - c.args.found.start ≡ length (capsule_value c.args.found held) = omega (arith, c.requires, length-take (c.args.found.end - c.args.found.start) (drop c.args.found.start held), length-drop c.args.found.start held) in (
       close_known c.args.found.kind _ held c.in-Close.close c.capsule_of-item.result (c.capsule_of-item.ensures.number ∙ c.id-number.ensures) (c.capsule_of-item.ensures.announced ∙ size) c.capsule_of-item.ensures.close k
           (rw (c.in-Close.is, c.as_slice.ensures.value) at c.in_ok-closing.ensures),
-      holds_none _ _ _ unknown due c.clear.ensures.items,
+      holds_none _ _ _ unknown skip_remaining c.clear.ensures.items,
     )
 
 pub returns-in-Bad : goal.returns-in-Bad
-returns-in-Bad c = λ unknown due k.
+returns-in-Bad c = λ unknown skip_remaining k.
     bad_known c.args.found.kind _ _ c.in-Bad.code c.fault_at.result c.fault_at.ensures k (rw (c.in-Bad.is, c.as_slice.ensures.value) at c.in_ok-closing.ensures)

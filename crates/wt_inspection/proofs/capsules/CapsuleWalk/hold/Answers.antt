@@ -24,6 +24,6 @@ returns-in-Known c =
     ok_map _ _ c.complete.result
     (λ turn turns. λ came h.
     let f = rw all at c.in-Known.ensures.first in
-    let (same, due, k) = holds_known c.args.self.now _ came c.args.front.now c.in-Known.found c.requires.none c.requires.fits f h in
-    subst (λ (x : List ℕ). Turned turn c.complete.new.self x) (c.in_ok-extend_from_slice.ensures.items ∙ same) (turns c.requires.none due (rw c.in_ok-extend_from_slice.ensures.items k)))
+    let (same, skip_remaining, k) = holds_known c.args.self.now _ came c.args.front.now c.in-Known.found c.requires.none c.requires.fits f h in
+    subst (λ (x : List ℕ). Turned turn c.complete.new.self x) (c.in_ok-extend_from_slice.ensures.items ∙ same) (turns c.requires.none skip_remaining (rw c.in_ok-extend_from_slice.ensures.items k)))
     c.complete.ensures

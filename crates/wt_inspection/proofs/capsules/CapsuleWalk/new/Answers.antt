@@ -4,4 +4,4 @@ use Rattle.wt_inspection.proofs.WalkLemmas.{holds_none}
 use Rattle.wt_inspection.proofs.capsules.CapsuleWalk.new.Goals as goal
 
 pub returns : goal.returns
-returns c = holds_none None _ _ refl (ap (λ (x : CapsuleCursor). x.due) c.new.ensures) cc
+returns c = holds_none None _ _ refl (ap (λ (x : CapsuleCursor). x.skip_remaining) c.new.ensures) cc

@@ -1,11 +1,11 @@
 use Rattle.std.proofs.Common.{◌-◌, ◌++◌, length, take, sym, ◌∙◌, arith, length-append, length-take}
-use Rattle.wtp_core.specs.declared.polling.fill.Halt.TheVariants as halt
+use Rattle.wtp_core.specs.declared.polling.fill.Interrupted.TheVariants as halt
 use Rattle.wtp_core.specs.Fill.{Gains, HaltIsTrue}
 use borrow.Rule.Slice.PartMut.{post_of}
 use Rattle.wtp_core.specs.declared.bytes.source.ReadStep.TheVariants.{Bytes}
 use Rattle.wtp_core.proofs.TellingLemmas.{telling_then, telling_map}
 use Rattle.wtp_core.proofs.WaitLemmas.{step_waited, waits_then, none_waits}
-use Rattle.wtp_core.proofs.FillLemmas.{front_kept, front_stays, gains_bytes, gains_none}
+use Rattle.wtp_core.proofs.FillLemmas.{front_kept, front_is_stable, gains_bytes, gains_none}
 use Rattle.wtp_core.proofs.polling.fill.fill.Goals as goal
 
 pub loop-at-preserved : goal.loop-at-preserved
@@ -16,7 +16,7 @@ loop-at-preserved g c =
     let part = c.poll_read.new.buf in
     let rest = post_of at (length buf - at) buf in
     record {
-      front = front_kept _ at _ buf _ inv.forward (front_stays at buf _ inv.within) inv.front;
+      front = front_kept _ at _ buf _ inv.forward (front_is_stable at buf _ inv.within) inv.front;
       forward = omega arith;
       within = omega (arith, c.in-Bytes.ensures.lengths, length-take at buf, length-append (take at buf) (part ++ rest), length-append part rest);
       waits = none_waits _ _ (waits_then 0 _ _ _ inv.waits (telling_map _ _ _ _ (λ x y q. step_waited (Bytes c.in-Bytes.n) _ x y q.1) c.in-Bytes.ensures.tells));

@@ -1,5 +1,5 @@
 use Rattle.std.proofs.Common.{◌≡◌, ◌≤◌, length, take, ◌-◌}
-use Rattle.wtp_core.specs.Source.{Telling}
+use Rattle.wtp_core.specs.Source.{HasModel}
 use Rattle.wtp_core.specs.Fill.{Gains}
 use Rattle.wtp_core.proofs.polling.fill.fill.Given as goal
 
@@ -8,8 +8,8 @@ invariant-loop-at g l = record {
   front : take l.fn.at l.buf ≡ take l.fn.at l.fn.buf;
   forward : l.fn.at ≤ l.at;
   within : l.at ≤ length l.buf;
-  waits : Telling (g.S.AsyncRead.tells l.fn.source) (g.S.AsyncRead.tells l.source) (λ a b. b.waits ≡ a.waits);
-  tells : Telling (g.S.AsyncRead.tells l.fn.source) (g.S.AsyncRead.tells l.source) (λ a b. Gains (take l.fn.at l.fn.buf) (take l.at l.buf) a b 0);
+  waits : HasModel (g.S.AsyncRead.tells l.fn.source) (g.S.AsyncRead.tells l.source) (λ a b. b.waits ≡ a.waits);
+  tells : HasModel (g.S.AsyncRead.tells l.fn.source) (g.S.AsyncRead.tells l.source) (λ a b. Gains (take l.fn.at l.fn.buf) (take l.at l.buf) a b 0);
 }
 
 abbrev pub decreases-loop-at : goal.decreases-loop-at

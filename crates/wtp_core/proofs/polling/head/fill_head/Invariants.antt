@@ -1,16 +1,16 @@
 use Rattle.std.proofs.Common.{◌≡◌, ◌≤◌, take, ◌-◌}
-use Rattle.wtp_core.specs.Source.{Telling}
+use Rattle.wtp_core.specs.Source.{HasModel}
 use Rattle.wtp_core.specs.Fill.{Gains}
 use Rattle.wtp_core.proofs.polling.head.fill_head.Given as goal
 
 abbrev pub invariant-loop-len : goal.invariant-loop-len
 invariant-loop-len g l = record {
-  within : l.len ≤ g.H.Head.need (take l.len l.buf);
+  within : l.len ≤ g.H.Head.len_needed (take l.len l.buf);
   forward : l.fn.len ≤ l.len;
-  waits : Telling (g.S.AsyncRead.tells l.fn.source) (g.S.AsyncRead.tells l.source) (λ a b. b.waits ≡ a.waits);
+  waits : HasModel (g.S.AsyncRead.tells l.fn.source) (g.S.AsyncRead.tells l.source) (λ a b. b.waits ≡ a.waits);
   front : take l.fn.len l.buf ≡ take l.fn.len l.fn.buf;
-  stays : g.H.Head.need (take l.fn.len l.fn.buf) ≡ l.fn.len → (l.len ≡ l.fn.len) × (l.buf ≡ l.fn.buf);
-  tells : Telling (g.S.AsyncRead.tells l.fn.source) (g.S.AsyncRead.tells l.source) (λ a b. Gains (take l.fn.len l.fn.buf) (take l.len l.buf) a b 0);
+  stays : g.H.Head.len_needed (take l.fn.len l.fn.buf) ≡ l.fn.len → (l.len ≡ l.fn.len) × (l.buf ≡ l.fn.buf);
+  tells : HasModel (g.S.AsyncRead.tells l.fn.source) (g.S.AsyncRead.tells l.source) (λ a b. Gains (take l.fn.len l.fn.buf) (take l.len l.buf) a b 0);
 }
 
 abbrev pub decreases-loop-len : goal.decreases-loop-len

@@ -1,5 +1,5 @@
-use Rattle.wtp_wire.proofs.CapsuleFrontLemmas.{one_front}
+use Rattle.wtp_wire.proofs.CapsuleFrontLemmas.{front_is_unique}
 use Rattle.wtp_wire.proofs.laws.capsule.one_capsule_front.Goals as goal
 
 pub returns : goal.returns
-returns c = λ bytes. one_front bytes
+returns c = λ bytes. front_is_unique bytes

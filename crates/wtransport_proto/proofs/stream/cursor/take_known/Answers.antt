@@ -2,7 +2,7 @@ use Rattle.std.proofs.Common.{Some, None, sym, ◌∙◌}
 use Rattle.wtp_core.proofs.RestLemmas.{rest-rest}
 use Rattle.wtp_wire.proofs.FrontLemmas.{unknown-shorter}
 use Rattle.wtransport_proto.proofs.ReadingLemmas.{passes-none, passes-one, known-ok, known-code, unknown-code}
-use Rattle.wtp_wire.proofs.RunLemmas.{past_unknown-short}
+use Rattle.wtp_wire.proofs.RunLemmas.{skip_unknown-short}
 use Rattle.wtransport_proto.proofs.stream.cursor.take_known.Goals as goal
 
 pub returns-in-Ok-Some : goal.returns-in-Ok-Some
@@ -15,7 +15,7 @@ returns-in-Ok-Some c = record {
 pub returns-in-Ok-None : goal.returns-in-Ok-None
 returns-in-Ok-None c = record {
   answer = known-ok _ c.frames.rest.now c.frames.rest.now None c.frames.invariant.known (rw c.in-Ok-None.field-0-is at c.in-Ok-None.ensures.answer);
-  short = λ _. sym (c.frames.invariant.known ∙ past_unknown-short c.frames.rest.now (rw c.in-Ok-None.field-0-is at c.in-Ok-None.ensures.answer));
+  short = λ _. sym (c.frames.invariant.known ∙ skip_unknown-short c.frames.rest.now (rw c.in-Ok-None.field-0-is at c.in-Ok-None.ensures.answer));
   rest = c.frames.invariant.rest;
 }
 

@@ -1,5 +1,5 @@
 use Rattle.std.proofs.Common.{◌≡◌, ◌++◌, ◌≤◌, length, drop}
-use Rattle.wtp_core.specs.Source.{Telling}
+use Rattle.wtp_core.specs.Source.{HasModel}
 use Rattle.wtp_wire.specs.Held.{IsUnfinished}
 use Rattle.wtransport_proto.specs.Driving.{ChangesFirst, Drove}
 use Rattle.wtransport_proto.proofs.stream.driving.drive.Given as goal
@@ -11,7 +11,7 @@ invariant-loop-turn g l = record {
   unfinished : IsUnfinished l.fn.reading → IsUnfinished l.reading;
   appends : l.out.items ≡ l.fn.out.items ++ drop (length l.fn.out.items) l.out.items;
   most : length (drop (length l.fn.out.items) l.out.items) ≤ l._turn;
-  tells : Telling (g.S.AsyncRead.tells l.fn.source) (g.S.AsyncRead.tells l.source) (Drove g.K.ReadsFrames.role (g.K.ReadsFrames.first l.fn.stream) (g.K.ReadsFrames.first l.stream)
+  tells : HasModel (g.S.AsyncRead.tells l.fn.source) (g.S.AsyncRead.tells l.source) (Drove g.K.ReadsFrames.role (g.K.ReadsFrames.first l.fn.stream) (g.K.ReadsFrames.first l.stream)
       l.fn.reading l.reading (drop (length l.fn.out.items) l.out.items) l._turn);
   none : l._turn ≡ 0 → (l.stream ≡ l.fn.stream) × (l.reading ≡ l.fn.reading) × (l.source ≡ l.fn.source) × (l.out ≡ l.fn.out);
 }

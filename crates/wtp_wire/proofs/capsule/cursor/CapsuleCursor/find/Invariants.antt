@@ -4,7 +4,7 @@ use Rattle.wtp_wire.proofs.CapsuleCursorLemmas.{HasPassed}
 use Rattle.wtp_wire.proofs.capsule.cursor.CapsuleCursor.find.Given as goal
 
 abbrev pub invariant-capsules : goal.invariant-capsules
-invariant-capsules l = HasPassed (held_by l.fn.self) l.bytes l.self.due l.at
+invariant-capsules l = HasPassed (held_by l.fn.self) l.bytes l.self.skip_remaining l.at
 
 abbrev pub decreases-capsules : goal.decreases-capsules
 decreases-capsules l = length l.bytes - l.at

@@ -3,7 +3,7 @@ use Rattle.wtp_core.proofs.TellingLemmas.{telling_map}
 use Rattle.wtp_core.proofs.WaitLemmas.{waits_none}
 use Rattle.wtp_wire.specs.FrameSteps.{TakesFrame}
 use Rattle.wtp_core.specs.declared.bytes.polled.Polled.TheVariants.{Ready}
-use Rattle.wtp_wire.specs.FramePart.{bytes_in}
+use Rattle.wtp_wire.specs.PartialFrame.{bytes_in}
 use Rattle.wtp_wire.proofs.FrameReadingLemmas.{no_items}
 use Rattle.wtp_wire.proofs.FramePollLemmas.{hold, polls_as}
 use Rattle.wtp_wire.proofs.WholeLemmas.{whole_polls}
@@ -12,7 +12,7 @@ use Rattle.wtp_wire.proofs.frame.reading.FrameReading.poll.Goals as goal
 pub returns-in-Some : goal.returns-in-Some
 returns-in-Some g c =
     let old = c.self.inside.part in
-    let d = c.self.inside.due in
+    let d = c.self.inside.skip_remaining in
     let s = g.S.AsyncRead.tells c.args.source.now in
     let t = g.S.AsyncRead.tells c.take_buffered_frame.new.source in
     let q = polls_as s t (Ready (Ok c.in-Some.frame)) (hold (bytes_in old) d) c.args.self.now (hold (bytes_in old) d) c.args.self.now c.self.view_is c.self.view_is

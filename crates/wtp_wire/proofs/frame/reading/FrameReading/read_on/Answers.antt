@@ -1,9 +1,9 @@
 use Rattle.std.proofs.Common.{[], refl, sym, ap, arith, Ok, Err}
 use Rattle.wtp_core.specs.declared.bytes.polled.Polled.TheVariants.{Ready, NoMemory}
-use Rattle.wtp_core.specs.Source.{Telling}
+use Rattle.wtp_core.specs.Source.{HasModel}
 use Rattle.wtp_wire.specs.declared.frame.head.Announcement.{Announcement}
-use Rattle.wtp_wire.specs.declared.frame.reading.part.Stop.TheVariants as stopped
-use Rattle.wtp_wire.specs.FramePart.{Part, bytes_in}
+use Rattle.wtp_wire.specs.declared.frame.reading.part.ReadInterrupted.TheVariants as stopped
+use Rattle.wtp_wire.specs.PartialFrame.{Part, bytes_in}
 use Rattle.wtp_wire.specs.FrameSteps.{StopMoves}
 use Rattle.wtp_wire.proofs.FramePollLemmas.{hold, reading_new, can_answer, answer_polls, halted_polls, no_memory_polls, polls_as}
 use Rattle.wtp_core.specs.Polled.{polled_waits}
@@ -15,22 +15,22 @@ use Rattle.wtp_wire.proofs.frame.reading.FrameReading.read_on.Goals as goal
 pub returns-then-self-gt0 : goal.returns-then-self-gt0
 returns-then-self-gt0 g c =
     let old = c.self.inside.part in
-    let d = c.self.inside.due in
+    let d = c.self.inside.skip_remaining in
     let s = g.S.AsyncRead.tells c.args.source.now in
-    let t = g.S.AsyncRead.tells c.pass_on.new.source in
-    let q = polls_as s t c.pass_on.result (hold (bytes_in old) d) c.args.self.now (hold (bytes_in old) c.pass_on.new.due) (hold (bytes_in old) c.pass_on.new.due) c.self.view_is refl
-    (due_polls s t c.pass_on.result old d c.pass_on.new.due c.if-self-gt0.true c.self.invariant.0 (c.self.invariant.1 c.if-self-gt0.true) c.pass_on.ensures.plain c.pass_on.ensures.passed) in
-    record { was_unfinished = q.was_unfinished; unfinished = q.unfinished; given = q.given; polled = q.polled; waits = c.pass_on.ensures.waits; asks = q.asks }
+    let t = g.S.AsyncRead.tells c.skip_payload.new.source in
+    let q = polls_as s t c.skip_payload.result (hold (bytes_in old) d) c.args.self.now (hold (bytes_in old) c.skip_payload.new.skip_remaining) (hold (bytes_in old) c.skip_payload.new.skip_remaining) c.self.view_is refl
+    (due_polls s t c.skip_payload.result old d c.skip_payload.new.skip_remaining c.if-self-gt0.true c.self.invariant.0 (c.self.invariant.1 c.if-self-gt0.true) c.skip_payload.ensures.plain c.skip_payload.ensures.passed) in
+    record { was_unfinished = q.was_unfinished; unfinished = q.unfinished; given = q.given; polled = q.polled; waits = c.skip_payload.ensures.waits; asks = q.asks }
 
 pub returns-in-Err-Source : goal.returns-in-Err-Source
 returns-in-Err-Source g c =
     let old = c.self.inside.part in
-    let d = c.self.inside.due in
+    let d = c.self.inside.skip_remaining in
     let new = c.advance.new.self in
     let s = g.S.AsyncRead.tells c.args.source.now in
     let t = g.S.AsyncRead.tells c.advance.new.source in
     let halt = c.in-Err-Source.halt in
-    let moves : Telling s t (λ a b. StopMoves {U = Announcement} (Err (stopped.Source halt)) (bytes_in old) (bytes_in new) a b) =
+    let moves : HasModel s t (λ a b. StopMoves {U = Announcement} (Err (stopped.Source halt)) (bytes_in old) (bytes_in new) a b) =
     (rw c.in-Err-Source.field-0-is at c.in-Err-Source.ensures.moves) in
     let q = polls_as s t c.halt_result.result (hold (bytes_in old) d) c.args.self.now (hold (bytes_in new) d) (hold (bytes_in new) d) c.self.view_is refl
     (halted_polls s t halt c.len.result c.halt_result.result old new d (omega arith) c.len.ensures c.halt_result.ensures c.self.invariant.0 (rw c.in-Err-Source.field-0-is at c.in-Err-Source.ensures.keeps) c.advance.ensures.grew moves) in
@@ -39,11 +39,11 @@ returns-in-Err-Source g c =
 pub returns-in-Err-NoMemory : goal.returns-in-Err-NoMemory
 returns-in-Err-NoMemory g c =
     let old = c.self.inside.part in
-    let d = c.self.inside.due in
+    let d = c.self.inside.skip_remaining in
     let new = c.advance.new.self in
     let s = g.S.AsyncRead.tells c.args.source.now in
     let t = g.S.AsyncRead.tells c.advance.new.source in
-    let moves : Telling s t (λ a b. StopMoves {U = Announcement} (Err stopped.NoMemory) (bytes_in old) (bytes_in new) a b) =
+    let moves : HasModel s t (λ a b. StopMoves {U = Announcement} (Err stopped.NoMemory) (bytes_in old) (bytes_in new) a b) =
     (rw c.in-Err-NoMemory.field-0-is at c.in-Err-NoMemory.ensures.moves) in
     let k = rw c.in-Err-NoMemory.field-0-is at c.in-Err-NoMemory.ensures.keeps in
     let q = polls_as s t NoMemory (hold (bytes_in old) d) c.args.self.now (hold (bytes_in new) d) (hold (bytes_in new) d) c.self.view_is refl
@@ -62,28 +62,28 @@ invariant_of-self-in_default g c = rw c.take_payload-payload.ensures.empty (read
 pub returns-in-Skip : goal.returns-in-Skip
 returns-in-Skip g c =
     let old = c.self.inside.part in
-    let d = c.self.inside.due in
+    let d = c.self.inside.skip_remaining in
     let new = c.advance.new.self in
     let s = g.S.AsyncRead.tells c.args.source.now in
     let t = g.S.AsyncRead.tells c.advance.new.source in
-    let u = g.S.AsyncRead.tells c.pass_on-in-Skip.new.source in
+    let u = g.S.AsyncRead.tells c.skip_payload-in-Skip.new.source in
     let m = c.in-Skip.size in
-    let d' = c.pass_on-in-Skip.new.due in
-    let moves : Telling s t (λ a b. StopMoves (Ok c.in-Ok.announcement) (bytes_in old) (bytes_in new) a b) =
+    let d' = c.skip_payload-in-Skip.new.skip_remaining in
+    let moves : HasModel s t (λ a b. StopMoves (Ok c.in-Ok.announcement) (bytes_in old) (bytes_in new) a b) =
     c.in-Ok.ensures.moves in
-    let q = polls_as s u c.pass_on-in-Skip.result (hold (bytes_in old) d) c.args.self.now (hold [] d') (hold (bytes_in c.take_payload-payload.new.self) d') c.self.view_is
+    let q = polls_as s u c.skip_payload-in-Skip.result (hold (bytes_in old) d) c.args.self.now (hold [] d') (hold (bytes_in c.take_payload-payload.new.self) d') c.self.view_is
     (ap (λ (x : Part). hold (bytes_in x) d') (sym c.take_payload-payload.ensures.empty))
-    (skip_polls s t u c.pass_on-in-Skip.result old new m d d' (omega arith) c.self.invariant.0 (rw c.in-Skip.is at c.in-Ok.ensures.keeps) c.advance.ensures.grew moves c.pass_on-in-Skip.ensures.plain c.pass_on-in-Skip.ensures.passed) in
-    record { was_unfinished = q.was_unfinished; unfinished = q.unfinished; given = q.given; polled = q.polled; waits = waits_then (polled_waits c.pass_on-in-Skip.result) s t u (none_waits s t c.in-Ok.ensures.waits) c.pass_on-in-Skip.ensures.waits; asks = q.asks }
+    (skip_polls s t u c.skip_payload-in-Skip.result old new m d d' (omega arith) c.self.invariant.0 (rw c.in-Skip.is at c.in-Ok.ensures.keeps) c.advance.ensures.grew moves c.skip_payload-in-Skip.ensures.plain c.skip_payload-in-Skip.ensures.passed) in
+    record { was_unfinished = q.was_unfinished; unfinished = q.unfinished; given = q.given; polled = q.polled; waits = waits_then (polled_waits c.skip_payload-in-Skip.result) s t u (none_waits s t c.in-Ok.ensures.waits) c.skip_payload-in-Skip.ensures.waits; asks = q.asks }
 
 pub returns-in_default : goal.returns-in_default
 returns-in_default g c =
     let old = c.self.inside.part in
-    let d = c.self.inside.due in
+    let d = c.self.inside.skip_remaining in
     let new = c.advance.new.self in
     let s = g.S.AsyncRead.tells c.args.source.now in
     let t = g.S.AsyncRead.tells c.advance.new.source in
-    let moves : Telling s t (λ a b. StopMoves (Ok c.in-Ok.announcement) (bytes_in old) (bytes_in new) a b) =
+    let moves : HasModel s t (λ a b. StopMoves (Ok c.in-Ok.announcement) (bytes_in old) (bytes_in new) a b) =
     c.in-Ok.ensures.moves in
     let q = polls_as s t (Ready c.answer.result) (hold (bytes_in old) d) c.args.self.now (hold [] d) (hold (bytes_in c.take_payload-payload.new.self) d) c.self.view_is
     (ap (λ (x : Part). hold (bytes_in x) d) (sym c.take_payload-payload.ensures.empty))

@@ -1,5 +1,5 @@
 use Rattle.std.proofs.Common.{arith, []}
-use Rattle.wtp_core.specs.VarintNeed.{varint_need_range}
+use Rattle.wtp_core.specs.VarintLenNeeded.{varint_need_range}
 use Rattle.wtp_wire.specs.HeaderNeed.{header_need_is}
 use Rattle.wtp_wire.proofs.stream_header.polled.HeaderReading.new.Goals as goal
 

@@ -1,6 +1,6 @@
 use Rattle.std.proofs.Common.{◌≡◌, ℕ, ◌≤◌, List, [], take, ◌∙◌, arith, length-take}
 use Rattle.std.proofs.lemmas.List.{take-take}
-use Rattle.wtp_core.specs.VarintNeed.{varint_need_range}
+use Rattle.wtp_core.specs.VarintLenNeeded.{varint_need_range}
 use Rattle.wtp_wire.specs.HeaderNeed.{header_need_is}
 use Rattle.wtp_wire.proofs.HeaderPollLemmas.{header_cut, halted_header, whole_told, whole_given, halted_told, halted_given, asks_halted}
 use Rattle.wtp_wire.proofs.stream_header.polled.HeaderReading.poll.Goals as goal

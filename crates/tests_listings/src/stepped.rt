@@ -1,0 +1,212 @@
+//! Listings of recorded streams that come a few bytes at a time and then end.
+ghost use Rattle.std.specs.Prelude.{◌<◌};
+
+use crate::rows::{Row, check_listing, join};
+use crate::same::same;
+use std::alloc::{AllocError, Global};
+use std::process::Abort;
+use wt_listings::{Listing, list_stepped};
+
+const CUT: &str = "FAULT FrameError 262\n";
+
+static ROWS: [Row; 20] = [
+    (
+        b"\x40\x41\x04\x00\x01a",
+        "WEBTRANSPORT 4\nDATA 1\nEND 0\n",
+        0,
+        "a session, then data",
+    ),
+    (b"", "END 0\n", 0, "nothing"),
+    (b"\x00", CUT, 2, "a type alone"),
+    (b"\x00\x05a", CUT, 2, "a cut frame"),
+    (
+        b"\x21\x07Payload\x40\x41\x00",
+        "EXERCISE 33 7\nFAULT FrameError 262\n",
+        2,
+        "a late session",
+    ),
+    (
+        b"\x04\x02\x33\x01\x40\x41\x00",
+        "FAULT FrameUnexpectedError 261\n",
+        2,
+        "settings",
+    ),
+    (
+        b"\x04\x00\x07\x01\x00\x04\x00",
+        "FAULT FrameUnexpectedError 261\n",
+        2,
+        "empty settings",
+    ),
+    (
+        b"\x00\x50\x01",
+        "FAULT ExcessiveLoad 263\n",
+        2,
+        "length 4097",
+    ),
+    (b"\x40\x41\x01", "FAULT IdError 264\n", 2, "no session"),
+    (
+        b"\x40\x41\x00",
+        "WEBTRANSPORT 0\nEND 0\n",
+        0,
+        "a session alone",
+    ),
+    (
+        b"\x01\x02ab\x00\x00",
+        "HEADERS 2\nDATA 0\nEND 0\n",
+        0,
+        "headers, then data",
+    ),
+    (b"\x0a", CUT, 2, "an unknown type alone"),
+    (
+        b"\x0a\x00\x00\x01a",
+        "DATA 1\nEND 0\n",
+        0,
+        "unknown and empty",
+    ),
+    (b"\x0a\x40\x41\x00", CUT, 2, "unknown, of length 65"),
+    (
+        b"\x0a\x01x\x40\x41\x00",
+        "WEBTRANSPORT 0\nEND 0\n",
+        0,
+        "unknown, then a session",
+    ),
+    (
+        b"\x02\x00\x06\x01x\x00\x01a",
+        "DATA 1\nEND 0\n",
+        0,
+        "two unknown ones",
+    ),
+    (b"\x0a\x05a", CUT, 2, "a cut unknown one"),
+    (b"\x0a\x0a\x00\x00", CUT, 2, "another cut unknown one"),
+    (
+        b"\x0a\xff\xff\xff\xff\xff\xff\xff\xff",
+        CUT,
+        2,
+        "the largest unknown one",
+    ),
+    (
+        b"\x00\x01a\x0a\x01x",
+        "DATA 1\nEND 0\n",
+        0,
+        "an unknown one after a frame",
+    ),
+];
+
+/// Asserts the listing of an input that comes k bytes a call.
+fn check_step<R: Abort + AllocGlobal>(
+    rt: &R,
+    k: usize,
+    input: &[u8],
+    text: &str,
+    status: u8,
+    shows: &str,
+)
+    requires { 0 < k }
+{
+    let listing = list_stepped(rt.alloc(), k, input).expect(rt, "memory");
+    let came = (k, listing.text.as_slice(), listing.status);
+    same(rt, came, (k, text.as_bytes(), status), shows);
+}
+
+/// Asserts that the listing of the input is the same for each number of bytes a call.
+fn check<R: Abort + AllocGlobal>(rt: &R, input: &[u8], text: &str, status: u8, shows: &str) {
+    for k in 1..14 {
+        check_step(rt, k, input, text, status, shows);
+    }
+}
+
+#[test]
+fn streams_are_listed_step_by_step(rt: HostRuntime) {
+    for (input, text, status, word) in &ROWS {
+        check(&rt, input, text, *status, word);
+    }
+}
+
+/// So many bytes of an exercise frame and a late session, the listing and the status.
+type ReadInterrupted = (usize, &'static str, u8);
+
+/// Each place at which the frames may end.
+static STOPS: [ReadInterrupted; 13] = [
+    (0, "END 0\n", 0),
+    (1, CUT, 2),
+    (2, CUT, 2),
+    (3, CUT, 2),
+    (4, CUT, 2),
+    (5, CUT, 2),
+    (6, CUT, 2),
+    (7, CUT, 2),
+    (8, CUT, 2),
+    (9, "EXERCISE 33 7\nEND 0\n", 0),
+    (10, "EXERCISE 33 7\nFAULT FrameError 262\n", 2),
+    (11, "EXERCISE 33 7\nFAULT FrameError 262\n", 2),
+    (12, "EXERCISE 33 7\nFAULT FrameError 262\n", 2),
+];
+
+/// Asserts the listing of so many bytes of an exercise frame and a late session.
+fn check_stop<R: Abort + AllocGlobal>(rt: &R, size: usize, text: &str, status: u8) {
+    let bytes = b"\x21\x07Payload\x40\x41\x00";
+    let input = bytes.get(..size).expect(rt, "so many bytes");
+    check(rt, input, text, status, "an end");
+}
+
+#[test]
+fn streams_that_end_at_each_place_are_listed(rt: HostRuntime) {
+    for (size, text, status) in &STOPS {
+        check_stop(&rt, *size, text, *status);
+    }
+}
+
+/// Inputs in parts, their listings, and their status.
+type Long = (&'static [&'static [u8]], &'static str, u8);
+
+/// Inputs of thousands of bytes.
+static LONG: [Long; 5] = [
+    (&[b"\x00\x50\x00", &[0; 4096]], "DATA 4096\nEND 0\n", 0),
+    (
+        &[b"\x0a\x50\x00", &[0; 4096], b"\x00\x00"],
+        "DATA 0\nEND 0\n",
+        0,
+    ),
+    (
+        &[b"\x0a\x50\x01", &[0; 4097], b"\x00\x00"],
+        "DATA 0\nEND 0\n",
+        0,
+    ),
+    (
+        &[b"\x0a\x60\x00", &[0; 8192], b"\x00\x00"],
+        "DATA 0\nEND 0\n",
+        0,
+    ),
+    (&[b"\x0a\x50\x01", &[0; 4096]], CUT, 2),
+];
+
+/// Asserts the listing of a row.
+fn check_long<R: Abort + AllocGlobal>(rt: &R, row: &Long) {
+    let (parts, text, status) = *row;
+    let input = join(rt, parts);
+    check(rt, input.as_slice(), text, status, "zeros");
+}
+
+#[test]
+fn the_longest_payloads_are_listed_step_by_step(rt: HostRuntime) {
+    for row in &LONG {
+        check_long(&rt, row);
+    }
+}
+
+/// The listing of the input, two bytes a call; a second time where memory was refused. Nothing is
+/// left after a refusal, and the next call is whole.
+fn listed(alloc: Global, input: &[u8]) -> Result<Listing, AllocError> {
+    match list_stepped(alloc, 2, input) {
+        Ok(listing) => Ok(listing),
+        Err(_) => list_stepped(alloc, 2, input),
+    }
+}
+
+#[test]
+fn refused_memory_gives_no_stepped_listing(rt: HostRuntime) {
+    let input = b"\x40\x41\x04\x21\x01a\x00\x01a\x04\x00";
+    let listing = listed(rt.alloc(), input).expect(&rt, "memory");
+    let text = "WEBTRANSPORT 4\nEXERCISE 33 1\nDATA 1\nFAULT FrameUnexpectedError 261\n";
+    check_listing(&rt, listing, text, 2, "each kind of line");
+}

@@ -1,0 +1,350 @@
+//! Field lines one by one, as bytes: worked rows, recordings, faults, and refused memory.
+use crate::same::same;
+use std::alloc::Global;
+use std::process::Abort;
+use wtp_qpack::qpack::{DecodingError, FieldBuffer, FieldLine, FieldLines};
+
+/// What the next call answers: nothing, a fault, or whether the line is this field.
+type Taken = Option<Result<bool, DecodingError>>;
+
+/// Whether a line is this field.
+fn is_field(line: FieldLine<'_>, name: &[u8], value: &[u8]) -> bool {
+    line.name == name && line.value == value
+}
+
+/// Takes the next line.
+fn take_once(
+    lines: &mut FieldLines<'_>,
+    room: &mut FieldBuffer,
+    name: &[u8],
+    value: &[u8],
+) -> Taken {
+    match lines.next_line(room)? {
+        Ok(line) => Some(Ok(is_field(line, name, value))),
+        Err(fault) => Some(Err(fault)),
+    }
+}
+
+/// Takes the next line; once more where memory was refused, if it may be refused.
+fn take(
+    lines: &mut FieldLines<'_>,
+    room: &mut FieldBuffer,
+    name: &[u8],
+    value: &[u8],
+    may_lack: bool,
+) -> Taken {
+    match take_once(lines, room, name, value) {
+        Some(Err(DecodingError::Memory)) if may_lack => take_once(lines, room, name, value),
+        outcome => outcome,
+    }
+}
+
+/// What a row shows, a section, its fields up to the first fault or to the end, and what is
+/// answered there.
+type Row = (
+    &'static str,
+    &'static [u8],
+    &'static [(&'static [u8], &'static [u8])],
+    Taken,
+);
+
+/// Asserts that the next lines are the fields of a row. What comes after the last line comes again.
+/// Memory may be refused for a line, or may not.
+fn assert_lines(
+    rt: &impl Abort,
+    lines: &mut FieldLines<'_>,
+    room: &mut FieldBuffer,
+    row: &Row,
+    may_lack: bool,
+) {
+    let (shows, _, wanted, end) = row;
+    for (name, value) in *wanted {
+        let taken = take(lines, room, name, value, may_lack);
+        same(rt, taken, Some(Ok(true)), shows);
+    }
+    same(rt, take(lines, room, b"", b"", may_lack), *end, shows);
+    same(rt, take(lines, room, b"", b"", may_lack), *end, shows);
+}
+
+/// Asserts that a section has the lines of a row.
+fn assert_section(rt: &impl Abort, room: &mut FieldBuffer, row: &Row, may_lack: bool) {
+    match FieldLines::new(row.1) {
+        Ok(mut lines) => assert_lines(rt, &mut lines, room, row, may_lack),
+        Err(_) => panic!(rt; "{}: no prefix", row.0),
+    }
+}
+
+/// Asserts it of each row, in a new room.
+fn assert_rows(rt: &impl Abort, alloc: Global, rows: &[Row]) {
+    for row in rows {
+        assert_section(rt, &mut FieldBuffer::new(alloc), row, true);
+    }
+}
+
+/// Sections without a fault. Texts in the Huffman code are those of RFC 7541, appendix C.4; indices
+/// are those of RFC 9204, appendix A.
+static LINES: [Row; 11] = [
+    ("no line", b"\x00\x00", &[], None),
+    (
+        "a static entry",
+        b"\x00\x00\xd9",
+        &[(b":status", b"200")],
+        None,
+    ),
+    (
+        "a static name",
+        b"\x00\x00\x50\x0bexample.com",
+        &[(b":authority", b"example.com")],
+        None,
+    ),
+    (
+        "a name and a value",
+        b"\x00\x00\x23abc\x03def",
+        &[(b"abc", b"def")],
+        None,
+    ),
+    ("empty texts", b"\x00\x00\x20\x00", &[(b"", b"")], None),
+    (
+        "both texts in the Huffman code",
+        b"\x00\x00\x2f\x01\x25\xa8\x49\xe9\x5b\xa9\x7d\x7f\x89\x25\xa8\x49\xe9\x5b\xb8\xe8\xb4\xbf",
+        &[(b"custom-key", b"custom-value")],
+        None,
+    ),
+    (
+        "a Huffman text, a shorter one, and none",
+        b"\x00\x00\x23abc\x89\x25\xa8\x49\xe9\x5b\xb8\xe8\xb4\xbf\x2a\x64\x02\x01d\x23abc\x01e",
+        &[(b"abc", b"custom-value"), (b"302", b"d"), (b"abc", b"e")],
+        None,
+    ),
+    (
+        "a name again, with another value",
+        b"\x00\x00\x23abc\x01b\xd9\x23abc\x01a",
+        &[(b"abc", b"b"), (b":status", b"200"), (b"abc", b"a")],
+        None,
+    ),
+    (
+        "the same line again",
+        b"\x00\x00\xd9\xd9",
+        &[(b":status", b"200"), (b":status", b"200")],
+        None,
+    ),
+    (
+        "a value that is not UTF-8",
+        b"\x00\x00\x23abc\x01\xff",
+        &[(b"abc", b"\xff")],
+        None,
+    ),
+    (
+        "a name that is not UTF-8",
+        b"\x00\x00\x21\xff\x01a",
+        &[(b"\xff", b"a")],
+        None,
+    ),
+];
+
+#[test]
+fn lines_past_refused_memory(rt: HostRuntime) {
+    assert_rows(&rt, rt.alloc(), &LINES);
+}
+
+/// Sections with a fault.
+static FAULTS: [Row; 10] = [
+    (
+        "a value is cut",
+        b"\x00\x00\xd9\x23abc\x05de",
+        &[(b":status", b"200")],
+        Some(Err(DecodingError::UnexpectedFin)),
+    ),
+    (
+        "a name is cut",
+        b"\x00\x00\x23ab",
+        &[],
+        Some(Err(DecodingError::UnexpectedFin)),
+    ),
+    (
+        "a name that is not UTF-8, and a cut value",
+        b"\x00\x00\x21\xff\x02a",
+        &[],
+        Some(Err(DecodingError::UnexpectedFin)),
+    ),
+    (
+        "an entry of the dynamic table, and no more is read",
+        b"\x00\x00\xd9\xbf",
+        &[(b":status", b"200")],
+        Some(Err(DecodingError::DynamicNotSupported)),
+    ),
+    (
+        "a name of the dynamic table",
+        b"\x00\x00\x40\x01a",
+        &[],
+        Some(Err(DecodingError::DynamicNotSupported)),
+    ),
+    (
+        "an entry past the base",
+        b"\x00\x00\x10",
+        &[],
+        Some(Err(DecodingError::DynamicNotSupported)),
+    ),
+    (
+        "a name past the base",
+        b"\x00\x00\x00\x01a",
+        &[],
+        Some(Err(DecodingError::DynamicNotSupported)),
+    ),
+    (
+        "index 99",
+        b"\x00\x00\xff\x24",
+        &[],
+        Some(Err(DecodingError::IndexNotfound)),
+    ),
+    (
+        "padding of zeros",
+        b"\x00\x00\x23abc\x81\x00",
+        &[],
+        Some(Err(DecodingError::InvalidString)),
+    ),
+    (
+        "a length above 2^64",
+        b"\x00\x00\x23abc\x7f\xff\xff\xff\xff\xff\xff\xff\xff\xff\xff\x01",
+        &[],
+        Some(Err(DecodingError::IntegerOverflow)),
+    ),
+];
+
+#[test]
+fn faults_of_lines_past_refused_memory(rt: HostRuntime) {
+    assert_rows(&rt, rt.alloc(), &FAULTS);
+}
+
+/// Sections whose first line has a fault before any Huffman text that is there, so no memory is
+/// needed to find it: lengths of Huffman texts past the end (RFC 7541, section 5.2), and an index
+/// that the static table lacks before a Huffman value (RFC 9204, appendix A).
+static FAULTS_BEFORE_TEXTS: [Row; 3] = [
+    (
+        "a Huffman name is cut",
+        b"\x00\x00\x2b\x25",
+        &[],
+        Some(Err(DecodingError::UnexpectedFin)),
+    ),
+    (
+        "a Huffman value is cut",
+        b"\x00\x00\x23abc\x85\x25",
+        &[],
+        Some(Err(DecodingError::UnexpectedFin)),
+    ),
+    (
+        "index 99, and a Huffman value",
+        b"\x00\x00\x5f\x54\x82\x64\x02",
+        &[],
+        Some(Err(DecodingError::IndexNotfound)),
+    ),
+];
+
+/// A room with no memory is enough for these, also where memory is refused.
+#[test]
+fn faults_before_texts_need_no_memory(rt: HostRuntime) {
+    let mut room = FieldBuffer::new(rt.alloc());
+    assert_served(&rt, &mut room, &FAULTS_BEFORE_TEXTS, false);
+}
+
+/// Prefixes with a fault: no byte, one integer, and an integer without an end.
+static PREFIXES: [(&str, &[u8], DecodingError); 4] = [
+    ("no byte", b"", DecodingError::UnexpectedFin),
+    ("one integer", b"\x00", DecodingError::UnexpectedFin),
+    (
+        "an integer without an end",
+        b"\xff\x80",
+        DecodingError::UnexpectedFin,
+    ),
+    (
+        "an integer above 2^64",
+        b"\x00\x7f\xff\xff\xff\xff\xff\xff\xff\xff\xff\xff\x01",
+        DecodingError::IntegerOverflow,
+    ),
+];
+
+#[test]
+fn prefixes_have_faults(rt: HostRuntime) {
+    for (shows, section, fault) in &PREFIXES {
+        same(&rt, FieldLines::new(section).err(), Some(*fault), shows);
+    }
+}
+
+/// Sections that nghttp3 1.8.0 sent, and the fields that were given to it: repeated ones, and a
+/// value of ISO 8859-1.
+static RECORDED: [Row; 3] = [
+    (
+        "a response with two cookies",
+        // recorded: nghttp3static-s2c-8.bin, bytes 2 to 24
+        b"\x00\x00\xd9\x5f\x4d\x84\xae\xc3\xc6\x5f\xf4\x5e\x82\x1c\x01\x5e\x03\x62\x3d\x32\xff\x14",
+        &[
+            (b":status", b"200"),
+            (b"server", b"probe"),
+            (b"content-type", b"text/html; charset=utf-8"),
+            (b"set-cookie", b"a=1"),
+            (b"set-cookie", b"b=2"),
+            (b"alt-svc", b"clear"),
+        ],
+        None,
+    ),
+    (
+        "a request with two cookies",
+        // recorded: nghttp3static-c2s-24.bin, bytes 3 to 90
+        b"\x00\x00\xcf\x2f\x00\xb9\x5d\x87\x49\xc8\x7a\x3f\x89\xf0\x58\xd3\x60\xea\x45\x67\xb1\x3f\xd7\x50\x88\x2f\x91\xd3\x5d\x05\x5c\x87\xa7\xc1\x55\x82\x1c\x01\x55\x03\x62\x3d\x32\x2f\x09\xf0\x95\x87\xdc\x66\xa0\x71\xd0\x55\xab\xb0\xe9\x39\x0f\x42\x3f\x03\x22\x61\x22\x2f\x09\xf0\x95\x87\xdc\x66\xa0\x71\xd0\x55\xab\xb0\xe9\x39\x0f\x42\x3f\x03\x22\x62\x22",
+        &[
+            (b":method", b"CONNECT"),
+            (b":protocol", b"webtransport"),
+            (b":scheme", b"https"),
+            (b":authority", b"example.com"),
+            (b":path", b"/"),
+            (b"cookie", b"a=1"),
+            (b"cookie", b"b=2"),
+            (b"wt-available-protocols", b"\"a\""),
+            (b"wt-available-protocols", b"\"b\""),
+        ],
+        None,
+    ),
+    (
+        "a request with a value that is not UTF-8",
+        // recorded: nghttp3static-c2s-16.bin, bytes 3 to 107
+        b"\x00\x00\xcf\x2f\x00\xb9\x5d\x87\x49\xc8\x7a\x3f\x89\xf0\x58\xd3\x60\xea\x45\x67\xb1\x3f\xd7\x50\x8c\x2f\x91\xd3\x5d\x05\x5c\x87\xa6\xe3\x4d\x32\xcf\x51\x86\x63\xc2\x7f\xce\xd0\x07\x5f\x4b\x8e\x9d\x29\xad\x17\x18\x60\xbe\x47\x4d\x74\x15\x72\x1e\x9f\x5f\x50\x87\xae\xc3\xc6\x56\x02\xb8\x3f\x7f\x45\x89\xba\x51\xd8\x5b\x14\x41\x49\x61\x53\x2e\xf2\xb1\x69\xad\x3e\xbf\x00\x2d\xf2\xb5\x03\x49\xaa\x05\x77\xf6\x72\x6c\x64",
+        &[
+            (b":method", b"CONNECT"),
+            (b":protocol", b"webtransport"),
+            (b":scheme", b"https"),
+            (b":authority", b"example.com:4433"),
+            (b":path", b"/wt?q=1"),
+            (b"origin", b"https://example.com"),
+            (b"user-agent", b"probe/1.0"),
+            (b"authorization", b"Bearer secret"),
+            (b"x-empty", b""),
+            (b"x-latin", b"w\xf6rld"),
+        ],
+        None,
+    ),
+];
+
+/// Those sections. Each use of a table is proved, so the tests share this one.
+fn recorded() -> &'static [Row] {
+    &RECORDED
+}
+
+#[test]
+fn recorded_lines_past_refused_memory(rt: HostRuntime) {
+    assert_rows(&rt, rt.alloc(), recorded());
+}
+
+/// Asserts that each section has the lines of its row, all in one room.
+fn assert_served(rt: &impl Abort, room: &mut FieldBuffer, rows: &[Row], may_lack: bool) {
+    for row in rows {
+        assert_section(rt, room, row, may_lack);
+    }
+}
+
+/// A room that served some sections serves them again, and takes no memory.
+#[test]
+fn a_room_serves_again_past_refused_memory(rt: HostRuntime) {
+    let mut room = FieldBuffer::new(rt.alloc());
+    assert_served(&rt, &mut room, recorded(), true);
+    assert_served(&rt, &mut room, recorded(), false);
+}

@@ -1,0 +1,299 @@
+//! Driving streams.
+use crate::answers::{number_and_payload, pad};
+use crate::opened::{control, of_session, opened_here, opened_there};
+use crate::same::same;
+use std::alloc::Global;
+use std::process::Abort;
+use test_io::{End, OneByteSource};
+use wtransport_proto::bytes::{AsyncRead, BufferReader, IoReadError as Fault};
+use wtransport_proto::error::ErrorCode;
+use wtransport_proto::frame::{Frame, FrameOwned, FrameReading};
+use wtransport_proto::stream::biremote::StreamBiRemoteH3;
+use wtransport_proto::stream::{Driven, IoReadError, ReadsFrames, drive};
+
+const FIN: Driven = Driven::Ended(IoReadError::IO(Fault::ImmediateFin));
+
+const CUT: Driven = Driven::Ended(IoReadError::H3(ErrorCode::Frame));
+
+/// Drives the stream; where allocation failed, once more.
+fn drive_again<K: ReadsFrames, S: AsyncRead>(
+    stream: &mut K,
+    reading: &mut FrameReading,
+    source: &mut S,
+    out: &mut Vec<FrameOwned>,
+    polls: u32,
+) -> Driven
+    requires { K.can stream.old }
+{
+    match drive(stream, reading, source, out, polls) {
+        Driven::NoMemory => drive(stream, reading, source, out, polls),
+        driven => driven,
+    }
+}
+
+/// The frames put out are these, by type number and payload.
+fn check_frames<R: Abort>(rt: &R, out: &Vec<FrameOwned>, frames: &[(u64, &[u8])]) {
+    same(rt, out.len(), frames.len(), "frames put out");
+    for (place, wanted) in frames.iter().enumerate() {
+        same(rt, frame_at(out, place), Some(*wanted), place);
+    }
+}
+
+/// The frame that was put out at this place, by type number and payload.
+fn frame_at(out: &Vec<FrameOwned>, place: usize) -> Option<(u64, &[u8])> {
+    match out.get(place) {
+        Some(frame) => Some(number_and_payload(frame)),
+        None => None,
+    }
+}
+
+/// A stream that the peer opened, and what was driven out of it.
+#[derive(Drop)]
+struct Driving {
+    stream: StreamBiRemoteH3,
+    reading: FrameReading,
+    out: Vec<FrameOwned>,
+}
+
+impl Driving {
+    /// A new stream, of which nothing was read.
+    fn new(alloc: Global) -> Self {
+        Driving {
+            stream: opened_there(),
+            reading: Frame::read_async(alloc),
+            out: Vec::new(alloc),
+        }
+    }
+
+    /// Drives it on, with ten polls, and stops where allocation fails.
+    fn once<S: AsyncRead>(&mut self, source: &mut S) -> Driven {
+        drive(
+            &mut self.stream,
+            &mut self.reading,
+            source,
+            &mut self.out,
+            10,
+        )
+    }
+
+    /// Drives it on, with so many polls.
+    fn on<S: AsyncRead>(&mut self, source: &mut S, polls: u32) -> Driven {
+        drive_again(
+            &mut self.stream,
+            &mut self.reading,
+            source,
+            &mut self.out,
+            polls,
+        )
+    }
+
+    /// Drives it on by the part. Frames are counted since the stream was new.
+    fn check<R: Abort>(&mut self, rt: &R, bytes: &mut &[u8], part: &Part, shows: &str) {
+        let (polls, end, count, left) = part;
+        let came = self.on(bytes, *polls);
+        let came = (&came, self.out.len(), bytes.len());
+        same(rt, came, (end, *count, *left), shows);
+    }
+}
+
+/// How many polls are made, how the drive ends, how many frames were put out then, and how many
+/// bytes are left.
+type Part = (u32, Driven, usize, usize);
+
+const TWO: &[u8] = b"\x00\x01a\x00\x01b";
+
+static TWO_FRAMES: [(u64, &[u8]); 2] = [(0x00, b"a"), (0x00, b"b")];
+
+/// Drives the stream on; where memory for a frame was refused, it is not put out, and a second drive
+/// goes on.
+fn drive_frames<R: Abort>(rt: &R, driving: &mut Driving, source: &mut &[u8]) -> Driven {
+    match driving.once(source) {
+        Driven::NoMemory => {
+            same(rt, driving.out.len() < 2, true, "one is not put out");
+            driving.once(source)
+        }
+        end => end,
+    }
+}
+
+#[test]
+fn refused_memory_loses_no_frame(rt: HostRuntime) {
+    let mut driving = Driving::new(rt.alloc());
+    let mut source = TWO;
+    let end = drive_frames(&rt, &mut driving, &mut source);
+    same(&rt, end, FIN, "the end");
+    check_frames(&rt, &driving.out, &TWO_FRAMES);
+}
+
+/// The drives of a new stream over the bytes, one for each part, and the frames put out of them.
+fn check_parts<R: Abort + AllocGlobal>(
+    rt: &R,
+    bytes: &[u8],
+    parts: &[Part],
+    frames: &[(u64, &[u8])],
+) {
+    let mut driving = Driving::new(rt.alloc());
+    let mut rest = bytes;
+    for part in parts {
+        driving.check(rt, &mut rest, part, "part");
+    }
+    check_frames(rt, &driving.out, frames);
+}
+
+static ONE_BY_ONE: [Part; 3] = [
+    (1, Driven::Spent, 1, 3),
+    (1, Driven::Spent, 2, 0),
+    (1, FIN, 2, 0),
+];
+
+#[test]
+fn polls_are_spent_one_by_one(rt: HostRuntime) {
+    check_parts(&rt, TWO, &ONE_BY_ONE, &TWO_FRAMES);
+}
+
+#[test]
+fn a_cut_unknown_frame_ends_it(rt: HostRuntime) {
+    check_parts(&rt, b"\x0a\x0a\x00\x00", &[(2, CUT, 0, 0)], &[]);
+}
+
+/// The drives over an unknown frame of 8192 bytes and a data frame of none, one for each part.
+fn check_unknown<R: Abort + AllocGlobal>(rt: &R, parts: &[Part]) {
+    let unknown = pad(rt, rt.alloc(), &[0x0a, 0x60, 0x00], 3 + 8192 + 2);
+    check_parts(rt, unknown.as_slice(), parts, &[(0x00, b"")]);
+}
+
+static IN_PARTS: [Part; 4] = [
+    (0, Driven::Spent, 0, 8197),
+    (1, Driven::Spent, 0, 4098),
+    (1, Driven::Spent, 0, 2),
+    (1, Driven::Spent, 1, 0),
+];
+
+#[test]
+fn each_part_of_an_unknown_frame_is_a_poll(rt: HostRuntime) {
+    check_unknown(&rt, &IN_PARTS);
+    check_unknown(&rt, &[(3, Driven::Spent, 1, 0)]);
+}
+
+/// How a drive ends, and where it does.
+type EndRow = (Driven, &'static str);
+
+/// The drive ends by the row.
+fn check_end<R: Abort>(
+    rt: &R,
+    driving: &mut Driving,
+    source: &mut OneByteSource<'_>,
+    row: &EndRow,
+) {
+    let (end, shows) = row;
+    same(rt, &driving.on(source, 10), end, shows);
+}
+
+static WAITING: EndRow = (Driven::Waiting, "a wait");
+
+static AFTER_WAITS: EndRow = (CUT, "after all waits");
+
+#[test]
+fn waits_lose_no_frame(rt: HostRuntime) {
+    let mut driving = Driving::new(rt.alloc());
+    let mut source = OneByteSource::new(b"\x21\x07Payload\x40\x41\x00", End::Fin);
+    for _turn in 0..12 {
+        check_end(&rt, &mut driving, &mut source, &WAITING);
+    }
+    check_end(&rt, &mut driving, &mut source, &AFTER_WAITS);
+    check_frames(&rt, &driving.out, &[(0x21, b"Payload")]);
+}
+
+/// The drives over a source of one byte and a reset.
+static CUT_SOURCE: [EndRow; 3] = [
+    (Driven::Waiting, "before the byte"),
+    (Driven::Waiting, "before the end"),
+    (Driven::Ended(IoReadError::IO(Fault::Reset)), "at the end"),
+];
+
+/// The drive over a second source, of one byte more.
+static SECOND: Part = (10, FIN, 1, 0);
+
+#[test]
+fn a_drive_goes_on_over_a_second_source(rt: HostRuntime) {
+    let mut driving = Driving::new(rt.alloc());
+    let mut source = OneByteSource::new(b"\x00", End::Reset);
+    for row in &CUT_SOURCE {
+        check_end(&rt, &mut driving, &mut source, row);
+    }
+    let mut bytes = b"\x01a".as_slice();
+    driving.check(&rt, &mut bytes, &SECOND, "the second source");
+    check_frames(&rt, &driving.out, &[(0x00, b"a")]);
+}
+
+/// The bytes of a stream, the frames put out of them, how a drive ends, and the stream's name.
+type Row = (
+    &'static [u8],
+    &'static [(u64, &'static [u8])],
+    Driven,
+    &'static str,
+);
+
+/// Driven over the bytes of the row, the stream puts out its frames and ends by it.
+fn check_driven<R: Abort + AllocGlobal, K: ReadsFrames>(rt: &R, stream: &mut K, row: &Row) {
+    let (bytes, frames, wanted, word) = row;
+    let mut reading = Frame::read_async(rt.alloc());
+    let mut out = Vec::new(rt.alloc());
+    let mut source = *bytes;
+    assert!(rt; stream.can_read());
+    let end = drive_again(stream, &mut reading, &mut source, &mut out, 10);
+    same(rt, &end, wanted, word);
+    check_frames(rt, &out, frames);
+}
+
+/// Read from a buffer, the stream gives the first of the row's frames, or none.
+fn check_buffered<R: Abort, K: ReadsFrames>(rt: &R, stream: &mut K, row: &Row) {
+    let (bytes, frames, _, word) = row;
+    assert!(rt; stream.can_read());
+    let first = match stream.read_frame_from_buffer(&mut BufferReader::new(bytes)) {
+        Ok(Some(frame)) => Some(frame),
+        Ok(None) | Err(_) => None,
+    };
+    let came = first.as_ref().map(number_and_payload);
+    same(rt, came, frames.first().copied(), word);
+}
+
+/// A frame came that may not.
+const UNEXPECTED: Driven = Driven::Ended(IoReadError::H3(ErrorCode::FrameUnexpected));
+
+/// A session frame, and another.
+const SESSIONS: &[u8] = b"\x40\x41\x00\x40\x41\x00";
+
+static THERE: Row = (SESSIONS, &[(0x41, b"")], CUT, "opened there");
+
+static HERE: Row = (SESSIONS, &[], UNEXPECTED, "opened here");
+
+static SESSION: Row = (
+    b"\x01\x01a\x04\x00",
+    &[(0x01, b"a")],
+    UNEXPECTED,
+    "of a session",
+);
+
+static CONTROL: Row = (
+    b"\x04\x00\x07\x01\x00\x04\x00",
+    &[(0x04, b""), (0x04, b"")],
+    FIN,
+    "control",
+);
+
+#[test]
+fn each_reading_state_is_driven(rt: HostRuntime) {
+    check_driven(&rt, &mut opened_there(), &THERE);
+    check_driven(&rt, &mut opened_here(), &HERE);
+    check_driven(&rt, &mut of_session(&rt, rt.alloc()), &SESSION);
+    check_driven(&rt, &mut control(&rt), &CONTROL);
+}
+
+#[test]
+fn each_reading_state_is_read_from_a_buffer(rt: HostRuntime) {
+    check_buffered(&rt, &mut opened_there(), &THERE);
+    check_buffered(&rt, &mut opened_here(), &HERE);
+    check_buffered(&rt, &mut of_session(&rt, rt.alloc()), &SESSION);
+    check_buffered(&rt, &mut control(&rt), &CONTROL);
+}

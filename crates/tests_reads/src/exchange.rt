@@ -1,0 +1,203 @@
+//! A header map's way over streams: sent whole into a vector, and read back from the same bytes.
+use crate::same::same;
+use std::alloc::{AllocError, Global};
+use std::process::Abort;
+use wtransport_proto::bytes::IoReadError;
+use wtransport_proto::error::{ErrorCode, Refused};
+use wtransport_proto::exchange::{self, ExchangeError, ReceiveError, SendError};
+use wtransport_proto::frame::{FrameKind, GenerateError};
+use wtransport_proto::headers::Headers;
+use wtransport_proto::session::{SessionRequest, UrlParseError};
+use wtransport_proto::stream;
+use wtransport_proto::stream::ReadsFrames;
+use wtransport_proto::stream::bilocal::StreamBiLocalQuic;
+use wtransport_proto::stream::biremote::StreamBiRemoteQuic;
+
+const PAIRS: [(&str, &str); 3] = [("b", "1"), (":z", "2"), ("a", "3")];
+
+/// The HEADERS frame of the pairs.
+const FRAME: &[u8] = b"\x01\x0f\x00\x00\x22:z\x012\x21a\x013\x21b\x011";
+
+/// An unknown frame, the frame of the pairs, and a DATA frame.
+const BYTES: &[u8] = b"\x0a\x01!\x01\x0f\x00\x00\x22:z\x012\x21a\x013\x21b\x011\x00\x01x";
+
+/// The DATA frame.
+const REST: &[u8] = b"\x00\x01x";
+
+/// The map of the pairs.
+fn made_once(alloc: Global) -> Result<Headers, AllocError> {
+    Headers::from_iter(alloc, PAIRS.iter().copied())
+}
+
+/// The map of the pairs, made once more where memory was refused.
+fn made(alloc: Global) -> Result<Headers, AllocError> {
+    match made_once(alloc) {
+        Err(AllocError) => made_once(alloc),
+        outcome => outcome,
+    }
+}
+
+/// A request, made once more where memory was refused.
+fn request(alloc: Global) -> Result<SessionRequest, UrlParseError> {
+    match SessionRequest::new(alloc, "https://example.com") {
+        Err(UrlParseError::Memory) => SessionRequest::new(alloc, "https://example.com"),
+        outcome => outcome,
+    }
+}
+
+/// The map that came back, or why none did.
+type Way = Result<Headers, ExchangeError>;
+
+/// Whether an allocation failed on the way.
+fn lacks_memory(way: &Way) -> bool {
+    match way {
+        Ok(_) => false,
+        Err(error) => is_out_of_memory(error),
+    }
+}
+
+/// Whether an allocation failed in the way to the sink, or in the way back.
+fn is_out_of_memory(error: &ExchangeError) -> bool {
+    match error {
+        ExchangeError::Frame(error) => *error == GenerateError::Memory,
+        ExchangeError::Send(error) => *error == SendError::Memory,
+        ExchangeError::Receive(error) => is_receive_out_of_memory(error),
+    }
+}
+
+/// Whether an allocation failed in the way back.
+fn is_receive_out_of_memory(error: &ReceiveError) -> bool {
+    match error {
+        ReceiveError::Memory => true,
+        ReceiveError::Section(error) => *error == Refused::Memory,
+        _ => false,
+    }
+}
+
+/// Sends the map into the vector, and reads one back from the bytes, in so many turns.
+fn travel<K: ReadsFrames>(
+    alloc: Global,
+    headers: &Headers,
+    sink: &mut Vec<u8>,
+    stream: &mut K,
+    source: &mut &[u8],
+    turns: u32,
+) -> Way
+    requires { K.can stream.old }
+    ensures { K.can stream.new }
+{
+    exchange::send_and_receive(alloc, headers, sink, stream, source, turns)
+}
+
+/// Goes the way; where memory was refused, once more.
+fn travel_again<K: ReadsFrames>(
+    rt: &impl Abort,
+    alloc: Global,
+    headers: &Headers,
+    sink: &mut Vec<u8>,
+    stream: &mut K,
+    source: &mut &[u8],
+) -> Way
+    requires { K.can stream.old }
+{
+    let way = travel(alloc, headers, sink, stream, source, 2);
+    if !lacks_memory(&way) {
+        return way;
+    }
+    let is_front = FRAME.starts_with(sink.as_slice());
+    same(rt, is_front, true, "what was sent before");
+    sink.clear();
+    *source = BYTES;
+    travel(alloc, headers, sink, stream, source, 2)
+}
+
+/// Asserts that the map is that of the pairs.
+fn check_back<R: Abort>(rt: &R, back: &Headers, word: &str) {
+    same(rt, back.as_ref().len(), 3, word);
+    let came = (back.get("b"), back.get(":z"), back.get("a"));
+    same(rt, came, (Some("1"), Some("2"), Some("3")), word);
+}
+
+/// Asserts that the map goes whole into a vector and comes back from the bytes.
+fn travels<K: ReadsFrames>(
+    rt: &impl Abort,
+    alloc: Global,
+    headers: &Headers,
+    stream: &mut K,
+    word: &str,
+)
+    requires { K.can stream.old }
+{
+    let mut sink = Vec::new(alloc);
+    let mut source = BYTES;
+    let way = travel_again(rt, alloc, headers, &mut sink, stream, &mut source);
+    same(rt, (sink.as_slice(), source), (FRAME, REST), word);
+    check_back(rt, &way.expect(rt, "a map"), word);
+}
+
+#[test]
+fn a_map_comes_back(rt: HostRuntime) {
+    let headers = made(rt.alloc()).expect(&rt, "memory");
+    let mut remote = StreamBiRemoteQuic::accept_bi().upgrade();
+    travels(&rt, rt.alloc(), &headers, &mut remote, "the peer's stream");
+    let mut local = StreamBiLocalQuic::open_bi().upgrade();
+    travels(&rt, rt.alloc(), &headers, &mut local, "an own stream");
+    let mut session = local.into_session(request(rt.alloc()).expect(&rt, "a request"));
+    travels(
+        &rt,
+        rt.alloc(),
+        &headers,
+        &mut session,
+        "a session's stream",
+    );
+}
+
+/// Asserts that no turn was left to send in; or that memory for the frame was refused.
+fn check_waiting<R: Abort>(rt: &R, error: Option<ExchangeError>) {
+    let waiting = Some(ExchangeError::Send(SendError::Waiting));
+    match error {
+        Some(ExchangeError::Frame(error)) => same(rt, error, GenerateError::Memory, "the frame"),
+        error => same(rt, error, waiting, "the way"),
+    }
+}
+
+#[test]
+fn no_turn_touches_nothing(rt: HostRuntime) {
+    let headers = made(rt.alloc()).expect(&rt, "memory");
+    let mut stream = StreamBiRemoteQuic::accept_bi().upgrade();
+    let mut sink = Vec::new(rt.alloc());
+    let mut source = BYTES;
+    let way = travel(rt.alloc(), &headers, &mut sink, &mut stream, &mut source, 0);
+    check_waiting(&rt, way.err());
+    same(&rt, (sink.is_empty(), source), (true, BYTES), "both ends");
+}
+
+/// Asserts why no map is read from bytes that take no memory, on a stream that the peer opened.
+fn check_refusal<R: Abort + AllocGlobal>(
+    rt: &R,
+    bytes: &[u8],
+    turns: u32,
+    wanted: ReceiveError,
+    word: &str,
+) {
+    let mut stream = StreamBiRemoteQuic::accept_bi().upgrade();
+    let mut source = bytes;
+    let outcome = exchange::receive(rt.alloc(), &mut stream, &mut source, turns);
+    same(rt, outcome.err(), Some(wanted), word);
+}
+
+#[test]
+fn other_bytes_are_no_map(rt: HostRuntime) {
+    check_refusal(&rt, FRAME, 0, ReceiveError::Waiting, "no turn");
+    check_refusal(&rt, b"\x0a\x00", 1, ReceiveError::Waiting, "unknown");
+    let ended = ReceiveError::Stream(stream::IoReadError::IO(IoReadError::ImmediateFin));
+    check_refusal(&rt, b"", 1, ended, "nothing");
+    let cut = ReceiveError::Stream(stream::IoReadError::H3(ErrorCode::Frame));
+    check_refusal(&rt, b"\x01", 1, cut, "a cut frame");
+    let unexpected = ReceiveError::Stream(stream::IoReadError::H3(ErrorCode::FrameUnexpected));
+    check_refusal(&rt, b"\x04\x00", 1, unexpected, "settings");
+    let other = ReceiveError::OtherKind(FrameKind::Data);
+    check_refusal(&rt, b"\x00\x00", 1, other, "data");
+    let section = ReceiveError::Section(Refused::Code(ErrorCode::Decompression));
+    check_refusal(&rt, b"\x01\x00", 1, section, "empty headers");
+}

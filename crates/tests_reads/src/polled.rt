@@ -1,0 +1,320 @@
+//! Reading frames from streams, poll by poll.
+use crate::answers::{Answer, CUT, ENDS, FIN, PollAnswer, check_answer, pad};
+use crate::opened::opened_there;
+use crate::reads::{Reads, check_poll, check_polls, check_source};
+use crate::same::same;
+use std::alloc::Global;
+use std::process::Abort;
+use test_io::{Answers, End, OneByteSource};
+use wtransport_proto::bytes::{IoReadError as Fault, Polled, ReadStep};
+use wtransport_proto::error::ErrorCode;
+use wtransport_proto::frame::{Frame, FrameReading};
+use wtransport_proto::stream::IoReadError;
+use wtransport_proto::stream::biremote::StreamBiRemoteH3;
+
+/// What a source gives, and in which steps; the answers of the polls, and what the row shows.
+type Row = (
+    &'static [u8],
+    &'static [ReadStep],
+    &'static [Answer<'static>],
+    &'static str,
+);
+
+static ROWS: [Row; 9] = [
+    (b"", &[], &[FIN], "nothing"),
+    (b"\x00", &[], &[CUT], "a cut frame"),
+    (
+        b"\x00",
+        &[ReadStep::Bytes(1), ReadStep::Reset],
+        &[Answer::Fault(IoReadError::IO(Fault::Reset))],
+        "a cut frame and a reset",
+    ),
+    (b"\x0a", &[], &[CUT], "an unknown type alone"),
+    (
+        b"\x0a\x00\x00\x01a",
+        &[],
+        &[Answer::Again, Answer::Frame(0x00, b"a"), FIN],
+        "unknown and empty, then data",
+    ),
+    (
+        b"\x04\x02\x33\x01\x40\x41\x00",
+        &[],
+        &[
+            Answer::Fault(IoReadError::H3(ErrorCode::FrameUnexpected)),
+            CUT,
+            FIN,
+        ],
+        "a refused frame counts as the first",
+    ),
+    (
+        b"\x0a\xff\xff\xff\xff\xff\xff\xff\xff",
+        &[],
+        &[CUT],
+        "unknown, of the largest length",
+    ),
+    (
+        b"\x0a\x05abcde\x00\x00",
+        &[ReadStep::Bytes(3), ReadStep::NotReady],
+        &[
+            Answer::Pending,
+            Answer::Again,
+            Answer::Frame(0x00, b""),
+            FIN,
+        ],
+        "not ready inside an unknown frame",
+    ),
+    (
+        b"\x00\x01a",
+        &[
+            ReadStep::Reset,
+            ReadStep::Bytes(1),
+            ReadStep::NotConnected,
+            ReadStep::Bytes(1),
+            ReadStep::Reset,
+        ],
+        &[
+            Answer::Fault(IoReadError::IO(Fault::Reset)),
+            Answer::Fault(IoReadError::IO(Fault::NotConnected)),
+            Answer::Fault(IoReadError::IO(Fault::Reset)),
+            Answer::Frame(0x00, b"a"),
+            FIN,
+        ],
+        "faults that pass",
+    ),
+];
+
+/// The polls of a stream that the peer opened answer by the row.
+fn check_row<R: Abort>(rt: &R, alloc: Global, row: &Row) {
+    let (bytes, steps, answers, word) = *row;
+    let mut stream = opened_there();
+    let mut reading = Frame::read_async(alloc);
+    let mut source = Answers::new(bytes, steps);
+    check_polls(rt, &mut stream, &mut reading, &mut source, answers, word);
+}
+
+#[test]
+fn polls_answer_by_the_bytes(rt: HostRuntime) {
+    for row in &ROWS {
+        check_row(&rt, rt.alloc(), row);
+    }
+}
+
+/// The front of the bytes, after which come zeros, how many bytes there are in all, the answers of
+/// the polls, and what the row shows.
+type LongRow = ([u8; 3], usize, &'static [Answer<'static>], &'static str);
+
+/// A data frame of no bytes is two zeros.
+static LONG: [LongRow; 4] = [
+    (
+        [0x0a, 0x50, 0x00],
+        3 + 4096 + 2,
+        &[Answer::Again, Answer::Frame(0x00, b""), FIN],
+        "4096 bytes are one part",
+    ),
+    (
+        [0x0a, 0x50, 0x01],
+        3 + 4097 + 2,
+        &[Answer::Again, Answer::Again, Answer::Frame(0x00, b""), FIN],
+        "4097 bytes are two parts",
+    ),
+    (
+        [0x0a, 0x60, 0x00],
+        3 + 8192 + 2,
+        &[Answer::Again, Answer::Again, Answer::Frame(0x00, b""), FIN],
+        "8192 bytes are two parts",
+    ),
+    (
+        [0x0a, 0x50, 0x01],
+        3 + 4096,
+        &[Answer::Again, CUT],
+        "the last byte is missing",
+    ),
+];
+
+/// The polls of a stream that the peer opened answer by the row.
+fn check_long<R: Abort + AllocGlobal>(rt: &R, row: &LongRow) {
+    let (front, len, answers, word) = row;
+    let bytes = pad(rt, rt.alloc(), front, *len);
+    check_source(rt, &mut opened_there(), &(bytes.as_slice(), answers, word));
+}
+
+#[test]
+fn long_unknown_frames_are_passed_in_parts(rt: HostRuntime) {
+    for row in &LONG {
+        check_long(&rt, row);
+    }
+}
+
+/// A byte has not come yet.
+static WAIT: Answer<'static> = Answer::Pending;
+
+/// After so many waits, the next poll answers this.
+fn check_late<R: Abort>(
+    rt: &R,
+    stream: &mut StreamBiRemoteH3,
+    reading: &mut FrameReading,
+    source: &mut OneByteSource<'_>,
+    waits: usize,
+    answer: &Answer<'_>,
+) {
+    for _turn in 0..waits {
+        check_poll(rt, stream, reading, source, &WAIT, ("late", 0));
+    }
+    check_poll(rt, stream, reading, source, answer, ("there", 0));
+}
+
+/// How often the source is not ready, and what the next poll answers.
+type LateRow = (usize, Answer<'static>);
+
+static LATE: [LateRow; 3] = [(9, Answer::Frame(0x21, b"Payload")), (3, CUT), (1, FIN)];
+
+#[test]
+fn each_byte_may_come_late(rt: HostRuntime) {
+    let mut stream = opened_there();
+    let mut reading = Frame::read_async(rt.alloc());
+    let mut source = OneByteSource::new(EXERCISE_THEN_SESSION, End::Fin);
+    for (waits, answer) in &LATE {
+        check_late(&rt, &mut stream, &mut reading, &mut source, *waits, answer);
+    }
+}
+
+/// A source that is reset inside an unknown frame.
+static RESET_INSIDE: [ReadStep; 2] = [ReadStep::Bytes(3), ReadStep::Reset];
+
+/// What is answered over it.
+static RESET: [Answer<'static>; 1] = [Answer::Fault(IoReadError::IO(Fault::Reset))];
+
+/// What is answered over the rest of the frame, and an empty data frame.
+static REST: [Answer<'static>; 3] = [Answer::Again, Answer::Frame(0x00, b""), FIN];
+
+#[test]
+fn a_second_source_goes_on(rt: HostRuntime) {
+    let mut stream = opened_there();
+    let mut reading = Frame::read_async(rt.alloc());
+    let mut source = Answers::new(b"\x0a\x05a", &RESET_INSIDE);
+    check_polls(&rt, &mut stream, &mut reading, &mut source, &RESET, "first");
+    let mut source = b"bcde\x00\x00".as_slice();
+    check_polls(&rt, &mut stream, &mut reading, &mut source, &REST, "second");
+}
+
+/// An exercise frame of nine bytes, and a frame of session 0 that comes too late.
+const EXERCISE_THEN_SESSION: &[u8] = b"\x21\x07Payload\x40\x41\x00";
+
+/// What a stream answers last over the first so many of these bytes, which end so.
+fn last_answer(len: usize, end: End) -> Answer<'static> {
+    match (len, end) {
+        (12, _) => CUT,
+        (0 | 9, End::Fin) => FIN,
+        (_, End::Fin) => CUT,
+        (_, End::Reset) => Answer::Fault(IoReadError::IO(Fault::Reset)),
+        (_, End::NotConnected) => Answer::Fault(IoReadError::IO(Fault::NotConnected)),
+    }
+}
+
+/// The next answer but that the source is not ready, or that allocation failed.
+fn next_answer(
+    stream: &mut StreamBiRemoteH3,
+    reading: &mut FrameReading,
+    source: &mut OneByteSource<'_>,
+) -> PollAnswer {
+    for _turn in 0..20 {
+        match stream.read_frame_async(reading, source) {
+            Polled::Pending | Polled::NoMemory => {}
+            answered => return answered,
+        }
+    }
+    Polled::Pending
+}
+
+/// The next such answer is this one.
+fn check_next<R: Abort>(
+    rt: &R,
+    stream: &mut StreamBiRemoteH3,
+    reading: &mut FrameReading,
+    source: &mut OneByteSource<'_>,
+    answer: &Answer<'_>,
+    place: (&str, usize),
+) {
+    let (word, len) = place;
+    let came = next_answer(stream, reading, source);
+    check_answer(rt, &came, answer, word, len);
+}
+
+/// The frame that comes first.
+static FIRST: Answer<'static> = Answer::Frame(0x21, b"Payload");
+
+/// If the frame has come, it is the next answer.
+fn check_first<R: Abort>(
+    rt: &R,
+    stream: &mut StreamBiRemoteH3,
+    reading: &mut FrameReading,
+    source: &mut OneByteSource<'_>,
+    len: usize,
+) {
+    if len >= 9 {
+        check_next(rt, stream, reading, source, &FIRST, ("first", len));
+    }
+}
+
+/// The stream answers last by the table; and then the same again, unless a late session came.
+fn check_last<R: Abort>(
+    rt: &R,
+    stream: &mut StreamBiRemoteH3,
+    reading: &mut FrameReading,
+    source: &mut OneByteSource<'_>,
+    (len, end): (usize, End),
+) {
+    let last = last_answer(len, end);
+    check_next(rt, stream, reading, source, &last, ("last", len));
+    if len < 12 {
+        check_next(rt, stream, reading, source, &last, ("again", len));
+    }
+}
+
+/// Over the first so many of the bytes the stream answers by the table.
+fn check_stop<R: Abort + AllocGlobal>(rt: &R, len: usize, end: End) {
+    let mut stream = opened_there();
+    let mut reading = Frame::read_async(rt.alloc());
+    let mut source = OneByteSource::new(EXERCISE_THEN_SESSION.get(..len).unwrap_or(&[]), end);
+    check_first(rt, &mut stream, &mut reading, &mut source, len);
+    check_last(rt, &mut stream, &mut reading, &mut source, (len, end));
+}
+
+#[test]
+fn bytes_may_stop_at_each_place(rt: HostRuntime) {
+    for len in 0..13usize {
+        for end in &ENDS {
+            check_stop(&rt, len, *end);
+        }
+    }
+}
+
+/// What the next poll answers; where memory for the payload was refused, its head is held, and the
+/// poll is made again.
+fn poll_payload<R: Abort>(
+    rt: &R,
+    stream: &mut StreamBiRemoteH3,
+    reading: &mut FrameReading,
+    source: &mut &[u8],
+) -> PollAnswer {
+    match stream.poll(reading, source) {
+        Polled::NoMemory => {
+            same(rt, *source, b"abc".as_slice(), "rest of the source");
+            stream.poll(reading, source)
+        }
+        answered => answered,
+    }
+}
+
+/// The data frame that is read then.
+static DATA: Answer<'static> = Answer::Frame(0x00, b"abc");
+
+#[test]
+fn refused_memory_for_a_payload_is_asked_for_again(rt: HostRuntime) {
+    let mut stream = opened_there();
+    let mut reading = Frame::read_async(rt.alloc());
+    let mut source = b"\x00\x03abc".as_slice();
+    let answered = poll_payload(&rt, &mut stream, &mut reading, &mut source);
+    check_answer(&rt, &answered, &DATA, "data", 0);
+    same(&rt, source.len(), 0, "bytes left");
+}

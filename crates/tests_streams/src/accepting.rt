@@ -1,0 +1,431 @@
+//! Accepting a bidirectional stream: what comes first in it decides whether it is a stream of a
+//! session or of a request. What a poll found is dropped by a call of `drop`, since at the end of a
+//! block it is proved for each variant and field.
+use crate::opened::{front, opened_there, rest, stop_fault};
+use crate::same::same;
+use std::alloc::Global;
+use std::fmt::Display;
+use std::mem::drop;
+use std::process::Abort;
+use test_io::{Answers, End, OneByteSource};
+use wtransport_proto::bytes::{AsyncRead, IoReadError as Fault, Polled, ReadStep};
+use wtransport_proto::error::ErrorCode;
+use wtransport_proto::frame::{Frame, FrameOwned, FrameReading};
+use wtransport_proto::stream::biremote::StreamBiRemoteH3;
+use wtransport_proto::stream::{BiAccepted, BiAccepting, IoReadError};
+
+/// What a stream is found to be: one of this session, with no section, or that of a request with
+/// this section; or its fault.
+type Outcome<'a> = Result<(Option<u64>, &'a [u8]), &'a IoReadError>;
+
+/// What was found. Where nothing was, it is what no row wants.
+fn outcome_of(accepted: &BiAccepted) -> Outcome<'_> {
+    match accepted {
+        BiAccepted::WebTransport(stream) => Ok((Some(stream.session_id().into_u64()), &[])),
+        BiAccepted::Request(_, _, frame) => Ok((None, frame.payload())),
+        BiAccepted::Failed(_, fault) => Err(fault),
+        _ => Err(&NOTHING),
+    }
+}
+
+/// A new stream that the peer opened.
+fn accepting(alloc: Global) -> BiAccepting {
+    opened_there().accept_async(Frame::read_async(alloc))
+}
+
+/// Polls until the stream is found to be something, or is at fault.
+fn poll_on<S: AsyncRead>(mut accepting: BiAccepting, source: &mut S) -> BiAccepted {
+    for _turn in 0..100 {
+        match accepting.poll(source) {
+            BiAccepted::Again(state) | BiAccepted::Pending(state) | BiAccepted::NoMemory(state) => {
+                accepting = state;
+            }
+            found => return found,
+        }
+    }
+    BiAccepted::Pending(accepting)
+}
+
+/// A fault of the stream.
+const UNEXPECTED: IoReadError = IoReadError::H3(ErrorCode::FrameUnexpected);
+
+const LATE: IoReadError = IoReadError::H3(ErrorCode::Frame);
+
+const BAD_SESSION: IoReadError = IoReadError::H3(ErrorCode::Id);
+
+const TOO_BIG: IoReadError = IoReadError::H3(ErrorCode::ExcessiveLoad);
+
+const FIN: IoReadError = IoReadError::IO(Fault::ImmediateFin);
+
+const NOTHING: IoReadError = IoReadError::H3(ErrorCode::NoError);
+
+/// The bytes of a stream, what it is found to be, what is left in the source then, and what the row
+/// shows.
+type Row = (&'static [u8], Outcome<'static>, &'static [u8], &'static str);
+
+static ROWS: [Row; 21] = [
+    (
+        b"\x40\x41\x04\x00\x01a",
+        Ok((Some(4), b"")),
+        b"\x00\x01a",
+        "a session, and bytes that look like a frame",
+    ),
+    (b"\x40\x41\x00", Ok((Some(0), b"")), b"", "a session alone"),
+    (
+        b"\x80\x00\x00\x41\x44\x04a",
+        Ok((Some(1028), b"")),
+        b"a",
+        "a session in longer numbers",
+    ),
+    (
+        b"\x0a\x02xy\x0b\x00\x40\x41\x04\xff",
+        Ok((Some(4), b"")),
+        b"\xff",
+        "a session after unknown frames",
+    ),
+    (
+        b"\x21\x01a\x40\x41\x04",
+        Err(&LATE),
+        b"",
+        "a session after a reserved frame",
+    ),
+    (
+        b"\x01\x02ab\x00\x01c",
+        Ok((None, b"ab")),
+        b"\x00\x01c",
+        "a request and its data",
+    ),
+    (
+        b"\x01\x00\x40\x41\x04",
+        Ok((None, b"")),
+        b"\x40\x41\x04",
+        "a request of no fields",
+    ),
+    (
+        b"\x21\x07Payload\x01\x01a",
+        Ok((None, b"a")),
+        b"",
+        "a request after a reserved frame",
+    ),
+    (
+        b"\x0a\x01x\x21\x00\x40\x5f\x00\x0b\x00\x01\x01a\x01",
+        Ok((None, b"a")),
+        b"\x01",
+        "a request after unknown and reserved frames",
+    ),
+    (
+        b"\x00\x01a\x01\x00",
+        Err(&UNEXPECTED),
+        b"\x01\x00",
+        "data first",
+    ),
+    (
+        b"\x21\x00\x00\x00\x01",
+        Err(&UNEXPECTED),
+        b"\x01",
+        "data after a reserved frame",
+    ),
+    (
+        b"\x04\x00\x01\x00",
+        Err(&UNEXPECTED),
+        b"\x01\x00",
+        "settings first",
+    ),
+    (
+        b"\x40\x41\x01\x01",
+        Err(&BAD_SESSION),
+        b"\x01",
+        "an invalid session ID",
+    ),
+    (
+        b"\x21\x00\x40\x41\x01\x01",
+        Err(&BAD_SESSION),
+        b"\x01",
+        "an invalid session ID after a reserved frame",
+    ),
+    (
+        b"\x01\x50\x01abc",
+        Err(&TOO_BIG),
+        b"abc",
+        "a request of 4097 bytes",
+    ),
+    (b"", Err(&FIN), b"", "nothing"),
+    (b"\x21\x00", Err(&FIN), b"", "a reserved frame alone"),
+    (b"\x0a\x00", Err(&FIN), b"", "an unknown frame alone"),
+    (b"\x40", Err(&LATE), b"", "half a type"),
+    (b"\x40\x41", Err(&LATE), b"", "half a session frame"),
+    (b"\x01\x02a", Err(&LATE), b"", "half a request"),
+];
+
+/// The stream is found to be this.
+fn check_found<R: Abort, S: AsyncRead, N: Display + Drop>(
+    rt: &R,
+    accepting: BiAccepting,
+    source: &mut S,
+    wanted: Outcome<'static>,
+    shows: N,
+) {
+    let found = poll_on(accepting, source);
+    same(rt, outcome_of(&found), wanted, shows);
+    drop(found);
+}
+
+/// Over the bytes of a row in a slice the stream is found to be what it says.
+fn check_slice<R: Abort + AllocGlobal>(rt: &R, row: &Row) {
+    let (mut source, outcome, left, shows) = *row;
+    check_found(rt, accepting(rt.alloc()), &mut source, outcome, shows);
+    same(rt, source, left, shows);
+}
+
+/// The same over bytes that come one by one, each of them late.
+fn check_trickle<R: Abort + AllocGlobal>(rt: &R, row: &Row) {
+    let (bytes, outcome, left, shows) = *row;
+    let mut source = OneByteSource::new(bytes, End::Fin);
+    check_found(rt, accepting(rt.alloc()), &mut source, outcome, shows);
+    same(rt, source.rest(), left, shows);
+}
+
+/// The same over a source that gives its bytes in these steps.
+fn check_steps<R: Abort + AllocGlobal>(rt: &R, steps: &[ReadStep], row: &Row) {
+    let (bytes, outcome, left, shows) = *row;
+    let mut source = Answers::new(bytes, steps);
+    check_found(rt, accepting(rt.alloc()), &mut source, outcome, shows);
+    same(rt, source.rest(), left, shows);
+}
+
+/// Two bytes a call, not ready before each; the rest then comes at once.
+static BY_TWO: [[ReadStep; 2]; 12] = [[ReadStep::NotReady, ReadStep::Bytes(2)]; 12];
+
+/// Three bytes a call, not ready before each; the rest then comes at once.
+static BY_THREE: [[ReadStep; 2]; 12] = [[ReadStep::NotReady, ReadStep::Bytes(3)]; 12];
+
+/// The stream is found to be what the row says, over bytes that are cut in twos and threes.
+fn check_cuts<R: Abort + AllocGlobal>(rt: &R, row: &Row) {
+    check_steps(rt, BY_TWO.as_flattened(), row);
+    check_steps(rt, BY_THREE.as_flattened(), row);
+}
+
+/// The stream is found to be what each row says, over bytes that are there, that trickle and that
+/// are cut.
+fn check_each<R: Abort + AllocGlobal>(rt: &R, rows: &[Row]) {
+    for row in rows {
+        check_slice(rt, row);
+        check_trickle(rt, row);
+        check_cuts(rt, row);
+    }
+}
+
+#[test]
+fn the_first_frame_decides_however_cut(rt: HostRuntime) {
+    check_each(&rt, &ROWS);
+}
+
+/// A state that a poll hands back since it skipped a frame, was not ready, found no memory, or
+/// failed.
+fn state_of<R: Abort>(rt: &R, accepted: BiAccepted) -> BiAccepting {
+    match accepted {
+        BiAccepted::Again(state)
+        | BiAccepted::Pending(state)
+        | BiAccepted::NoMemory(state)
+        | BiAccepted::Failed(state, _) => state,
+        BiAccepted::WebTransport(_) | BiAccepted::Request(_, _, _) => rt.panic("a state"),
+    }
+}
+
+/// How often the source was not ready, and how many frames were skipped, or parts of them.
+type Turns = (usize, usize);
+
+/// Polls as `poll_on` does, and counts.
+fn count_turns<S: AsyncRead>(mut accepting: BiAccepting, source: &mut S) -> Turns {
+    let (mut waits, mut skipped) = (0usize, 0usize);
+    for _turn in 0..100 {
+        match accepting.poll(source) {
+            BiAccepted::Again(state) => {
+                skipped = skipped.saturating_add(1);
+                accepting = state;
+            }
+            BiAccepted::Pending(state) => {
+                waits = waits.saturating_add(1);
+                accepting = state;
+            }
+            BiAccepted::NoMemory(state) => accepting = state,
+            found => {
+                drop(found);
+                return (waits, skipped);
+            }
+        }
+    }
+    (waits, skipped)
+}
+
+/// Bytes that come one by one and are waited for once each, how many they are, and how many frames
+/// are skipped.
+type TurnRow = (&'static [u8], Turns, &'static str);
+
+/// What a new stream takes.
+static TURNS: [TurnRow; 4] = [
+    (b"\x40\x41\x04", (3, 0), "a session"),
+    (b"\x0a\x02xy\x0b\x00\x40\x41\x04", (9, 2), "unknown frames"),
+    (b"\x21\x07Payload\x01\x01a", (12, 1), "a reserved frame"),
+    (b"\x21\x00\x00\x00", (4, 1), "data"),
+];
+
+/// Over a source of these bytes, one by one and each of them late, a new stream takes these turns.
+fn check_turns<R: Abort + AllocGlobal>(rt: &R, row: &TurnRow) {
+    let (bytes, wanted, shows) = *row;
+    let mut source = OneByteSource::new(bytes, End::Fin);
+    let turns = count_turns(accepting(rt.alloc()), &mut source);
+    same(rt, turns, wanted, shows);
+}
+
+#[test]
+fn each_poll_takes_one_frame(rt: HostRuntime) {
+    for row in &TURNS {
+        check_turns(&rt, row);
+    }
+}
+
+/// An unknown frame of 8192 bytes, and the frame of a session.
+#[test]
+fn a_long_unknown_frame_is_skipped_in_parts(rt: HostRuntime) {
+    let mut bytes = Vec::from_slice(rt.alloc(), &[0x0a, 0x60, 0x00]).expect(&rt, "memory");
+    bytes.resize(3 + 8192, 0).expect(&rt, "memory");
+    let session = bytes.extend_from_slice(b"\x40\x41\x04rest");
+    session.expect(&rt, "memory");
+    let mut source = bytes.as_slice();
+    let turns = count_turns(accepting(rt.alloc()), &mut source);
+    same(&rt, turns, (0, 2), "parts");
+    same(&rt, source, b"rest".as_slice(), "bytes left");
+}
+
+/// The stream fails with this fault, and is handed back.
+fn check_fault<R: Abort, S: AsyncRead>(
+    rt: &R,
+    accepting: BiAccepting,
+    source: &mut S,
+    fault: &IoReadError,
+    len: usize,
+) -> BiAccepting {
+    let found = poll_on(accepting, source);
+    same(rt, outcome_of(&found), Err(fault), len);
+    state_of(rt, found)
+}
+
+/// The frame of session 4, and a byte after it.
+const SESSION_4: &[u8] = b"\x40\x41\x04a";
+
+/// The first so many of its bytes, each of them late, and then this end, twice; then the others,
+/// and what follows them.
+fn check_stop<R: Abort + AllocGlobal>(rt: &R, len: usize, end: End) {
+    let mut source = OneByteSource::new(front(SESSION_4, len), end);
+    let fault = stop_fault(len, end);
+    let state = check_fault(rt, accepting(rt.alloc()), &mut source, &fault, len);
+    let state = check_fault(rt, state, &mut source, &fault, len);
+    let mut source = rest(SESSION_4, len);
+    check_found(rt, state, &mut source, Ok((Some(4), b"")), len);
+    same(rt, source, b"a".as_slice(), len);
+}
+
+/// Every ending of a source.
+static ENDS: [End; 3] = End::EACH;
+
+#[test]
+fn a_second_source_goes_on(rt: HostRuntime) {
+    for len in 0..3usize {
+        for end in &ENDS {
+            check_stop(&rt, len, *end);
+        }
+    }
+}
+
+/// A reserved frame was read by the stream's own call, before it is accepted.
+#[test]
+fn frames_read_before_count(rt: HostRuntime) {
+    let mut stream = opened_there();
+    let mut reading = Frame::read_async(rt.alloc());
+    let _read = stream.read_frame_async(&mut reading, &mut b"\x21\x00".as_slice());
+    let accepting = stream.accept_async(Frame::read_async(rt.alloc()));
+    let mut source = b"\x40\x41\x04".as_slice();
+    check_found(&rt, accepting, &mut source, Err(&LATE), "late");
+}
+
+/// Half a type was read by the stream's own call, before it is accepted.
+#[test]
+fn bytes_held_before_count(rt: HostRuntime) {
+    let mut stream = opened_there();
+    let mut reading = Frame::read_async(rt.alloc());
+    let _cut = stream.read_frame_async(&mut reading, &mut b"\x40".as_slice());
+    let accepting = stream.accept_async(reading);
+    let mut source = b"\x41\x04".as_slice();
+    check_found(&rt, accepting, &mut source, Ok((Some(4), b"")), "held");
+}
+
+/// A reserved frame, and a HEADERS frame of 48 bytes and a byte after it.
+const LONG: &[u8] = b"\x21\x00\x01\x30aaaaaaaabbbbbbbbccccccccddddddddeeeeeeeeffffffff\x07";
+
+/// Polls on; where memory for the request was refused, its head is held, and a second poll goes on.
+fn poll_again<R: Abort>(rt: &R, state: BiAccepting, source: &mut &[u8]) -> BiAccepted {
+    match state.poll(source) {
+        BiAccepted::NoMemory(state) => {
+            same(rt, *source, rest(LONG, 4), "the head is held");
+            state.poll(source)
+        }
+        found => found,
+    }
+}
+
+#[test]
+fn refused_memory_leaves_the_request(rt: HostRuntime) {
+    let mut source = LONG;
+    let state = state_of(&rt, accepting(rt.alloc()).poll(&mut source));
+    let left = rest(LONG, 2);
+    same(&rt, source, left, "the reserved frame is skipped");
+    let found = poll_again(&rt, state, &mut source);
+    same(&rt, source, b"\x07".as_slice(), "bytes left");
+    let section = match &found {
+        BiAccepted::Request(_, _, frame) => frame.payload(),
+        _ => &[],
+    };
+    same(&rt, section, front(rest(LONG, 4), 48), "the request");
+    drop(found);
+}
+
+/// The stream of a request, and what reads on from it.
+fn request_of<R: Abort>(rt: &R, found: BiAccepted) -> (StreamBiRemoteH3, FrameReading) {
+    match found {
+        BiAccepted::Request(stream, reading, frame) => {
+            drop(frame);
+            (stream, reading)
+        }
+        _ => rt.panic("a request"),
+    }
+}
+
+/// The answer of one poll for a frame.
+type PollAnswer = Polled<Result<FrameOwned, IoReadError>>;
+
+/// Polls for the next frame; where memory for it was refused, once more.
+fn read_again(
+    stream: &mut StreamBiRemoteH3,
+    reading: &mut FrameReading,
+    source: &mut &[u8],
+) -> PollAnswer {
+    match stream.read_frame_async(reading, source) {
+        Polled::NoMemory => stream.read_frame_async(reading, source),
+        read => read,
+    }
+}
+
+#[test]
+fn a_request_is_read_on(rt: HostRuntime) {
+    let mut source = b"\x01\x01a\x00\x01b".as_slice();
+    let found = poll_on(accepting(rt.alloc()), &mut source);
+    let (mut stream, mut reading) = request_of(&rt, found);
+    let read = read_again(&mut stream, &mut reading, &mut source);
+    let payload = match &read {
+        Polled::Ready(Ok(frame)) => frame.payload(),
+        _ => &[],
+    };
+    same(&rt, payload, b"b".as_slice(), "data");
+    same(&rt, source, [].as_slice(), "bytes left");
+}

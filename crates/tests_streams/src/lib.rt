@@ -1,0 +1,28 @@
+//! Streams of each kind: opened, accepted, upgraded and written, whole and poll by poll. What is
+//! read of them is in `tests_reads`. There is no product code here.
+#![tactic(auto)]
+
+#[cfg(test)]
+mod accepting;
+#[cfg(test)]
+mod bilocal;
+#[cfg(test)]
+mod biremote;
+#[cfg(test)]
+mod opened;
+#[cfg(test)]
+mod printed;
+#[cfg(test)]
+mod refused;
+#[cfg(test)]
+mod same;
+#[cfg(test)]
+mod session;
+#[cfg(test)]
+mod stepped;
+#[cfg(test)]
+mod unilocal;
+#[cfg(test)]
+mod uniremote;
+#[cfg(test)]
+mod written;

@@ -1,0 +1,317 @@
+//! Writing frames to streams, poll by poll and in a loop. What each poll requires holds after the
+//! one before it, so a struct keeps it.
+ghost use Rattle.wtransport_proto.specs.StreamWriting.{WritesPlain};
+ghost use Rattle.wtransport_proto.specs.Streams.{CanWrite};
+
+use crate::opened::{front, open_session, opened_here, opened_there, rest};
+use crate::same::same;
+use std::borrow::CowSlice;
+use std::mem::drop;
+use std::process::Abort;
+use test_io::{ScriptedSink, stops_after};
+use wtransport_proto::bytes::{AsyncWrite, IoWriteError, Polled, Stepped, WriteStep};
+use wtransport_proto::frame::{Frame, FrameWriting};
+use wtransport_proto::stream::bilocal::StreamBiLocalH3;
+use wtransport_proto::stream::biremote::StreamBiRemoteH3;
+use wtransport_proto::stream::session::StreamSession;
+use wtransport_proto::stream::unilocal::{StreamUniLocalH3, StreamUniLocalQuic};
+use wtransport_proto::stream_header::StreamHeader;
+
+/// The answer of one poll.
+type SendAnswer = Polled<Result<(), IoWriteError>>;
+
+const DONE: SendAnswer = Polled::Ready(Ok(()));
+
+/// A frame on its way to a stream, which writes it by its own call.
+trait Sends {
+    fn send<W: AsyncWrite>(&mut self, sink: &mut W) -> SendAnswer;
+}
+
+/// A frame on its way to a stream in both directions that this end opened.
+#[derive(Drop)]
+struct ToBoth<'a> {
+    stream: StreamBiLocalH3,
+    writing: FrameWriting<'a>,
+    ghost plain: { WritesPlain writing },
+}
+
+impl Sends for ToBoth<'_> {
+    fn send<W: AsyncWrite>(&mut self, sink: &mut W) -> SendAnswer {
+        self.stream.write_frame_async(&mut self.writing, sink)
+    }
+}
+
+/// A frame on its way to a stream in one direction.
+#[derive(Drop)]
+struct ToOne<'a> {
+    stream: StreamUniLocalH3,
+    writing: FrameWriting<'a>,
+    ghost writable: { CanWrite stream },
+}
+
+impl Sends for ToOne<'_> {
+    fn send<W: AsyncWrite>(&mut self, sink: &mut W) -> SendAnswer {
+        self.stream.write_frame_async(&mut self.writing, sink)
+    }
+}
+
+/// A frame on its way to a stream in both directions that the peer opened.
+#[derive(Drop)]
+struct ToPeer<'a> {
+    stream: StreamBiRemoteH3,
+    writing: FrameWriting<'a>,
+}
+
+impl Sends for ToPeer<'_> {
+    fn send<W: AsyncWrite>(&mut self, sink: &mut W) -> SendAnswer {
+        self.stream.write_frame_async(&mut self.writing, sink)
+    }
+}
+
+/// A frame on its way to the stream of a session.
+#[derive(Drop)]
+struct ToSession<'a> {
+    stream: StreamSession,
+    writing: FrameWriting<'a>,
+}
+
+impl Sends for ToSession<'_> {
+    fn send<W: AsyncWrite>(&mut self, sink: &mut W) -> SendAnswer {
+        self.stream.write_frame_async(&mut self.writing, sink)
+    }
+}
+
+/// Sends the frame; where allocation failed, a second poll sends it on.
+fn send_again<K: Sends, W: AsyncWrite>(sending: &mut K, sink: &mut W) -> SendAnswer {
+    match sending.send(sink) {
+        Polled::NoMemory => sending.send(sink),
+        answer => answer,
+    }
+}
+
+/// All is sent, and these bytes came.
+fn check_sent<R: Abort>(rt: &R, answer: SendAnswer, came: &[u8], wire: &'static [u8]) {
+    same(rt, (answer, came), (DONE, wire), "all is sent");
+}
+
+/// What is left of the frame goes to a vector, as these bytes.
+fn check_rest<R: Abort + AllocGlobal, K: Sends>(rt: &R, sending: &mut K, wire: &'static [u8]) {
+    let mut vector = Vec::new(rt.alloc());
+    let answer = send_again(sending, &mut vector);
+    check_sent(rt, answer, vector.as_slice(), wire);
+}
+
+/// A data frame of the bytes `abc`.
+const DATA: &[u8] = b"\x00\x03abc";
+
+/// Of a data frame so many bytes go to a sink that stops, and the others elsewhere. The stream can
+/// be upgraded until all are sent.
+fn check_stop<R: Abort + AllocGlobal>(rt: &R, room: usize) {
+    let frame = Frame::new_data(CowSlice::Borrowed(b"abc"));
+    let mut sending = ToBoth {
+        stream: opened_here(),
+        writing: frame.write_async(),
+    };
+    let mut sink = ScriptedSink::new(rt.alloc(), stops_after(room));
+    let answer = sending.send(&mut sink);
+    let came = (answer, sink.output(), sending.stream.can_upgrade());
+    let stopped = Polled::Ready(Err(IoWriteError::Stopped));
+    same(rt, came, (stopped, front(DATA, room), true), room);
+    check_rest(rt, &mut sending, rest(DATA, room));
+    same(rt, sending.stream.can_upgrade(), false, room);
+}
+
+#[test]
+fn a_frame_goes_on_elsewhere(rt: HostRuntime) {
+    for room in 0..5usize {
+        check_stop(&rt, room);
+    }
+}
+
+/// What a poll answers over a sink that halts, whether the stream can be upgraded after it, and
+/// what the poll does.
+type HaltRow = (SendAnswer, bool, &'static str);
+
+/// A poll answers by its row.
+fn check_halt<R: Abort>(
+    rt: &R,
+    sending: &mut ToBoth<'_>,
+    sink: &mut ScriptedSink<'_>,
+    row: &HaltRow,
+) {
+    let (answer, can_upgrade, shows) = row;
+    let came = sending.send(sink);
+    let upgradable = sending.stream.can_upgrade();
+    same(rt, (&came, upgradable), (answer, *can_upgrade), shows);
+}
+
+/// The polls over a sink that halts.
+static HALTING: [HaltRow; 5] = [
+    (Polled::Pending, true, "not ready"),
+    (Polled::Pending, true, "two bytes, and not ready"),
+    (
+        Polled::Ready(Err(IoWriteError::NotConnected)),
+        true,
+        "not connected",
+    ),
+    (DONE, false, "the last byte"),
+    (DONE, false, "all is sent"),
+];
+
+/// A sink that halts, and would stop after the last byte.
+static HALTS: [WriteStep; 6] = [
+    WriteStep::NotReady,
+    WriteStep::Bytes(2),
+    WriteStep::NotReady,
+    WriteStep::NotConnected,
+    WriteStep::Bytes(1),
+    WriteStep::Stopped,
+];
+
+/// Once all is sent, the sink is not called any more.
+#[test]
+fn a_frame_that_was_written_ends_upgrading(rt: HostRuntime) {
+    let frame = Frame::new_data(CowSlice::Borrowed(b"a"));
+    let mut sending = ToBoth {
+        stream: opened_here(),
+        writing: frame.write_async(),
+    };
+    let mut sink = ScriptedSink::new(rt.alloc(), &HALTS);
+    for row in &HALTING {
+        check_halt(&rt, &mut sending, &mut sink, row);
+    }
+    same(&rt, sink.left(), 1, "the sink is not called");
+    same(&rt, sink.output(), b"\x00\x01a".as_slice(), "the sink");
+}
+
+/// Sends the frame; where memory was refused, the stream can still be upgraded, and a second poll
+/// sends the frame on.
+fn send_refused<R: Abort>(rt: &R, sending: &mut ToBoth<'_>, vector: &mut Vec<u8>) -> SendAnswer {
+    match sending.send(vector) {
+        Polled::NoMemory => {
+            same(rt, sending.stream.can_upgrade(), true, "refused");
+            sending.send(vector)
+        }
+        answer => answer,
+    }
+}
+
+#[test]
+fn refused_memory_for_a_frame_is_asked_for_again(rt: HostRuntime) {
+    let frame = Frame::new_data(CowSlice::Borrowed(b"abc"));
+    let mut sending = ToBoth {
+        stream: opened_here(),
+        writing: frame.write_async(),
+    };
+    let mut vector = Vec::new(rt.alloc());
+    let answer = send_refused(&rt, &mut sending, &mut vector);
+    check_sent(&rt, answer, vector.as_slice(), DATA);
+    same(&rt, sending.stream.can_upgrade(), false, "written");
+}
+
+#[test]
+fn a_frame_is_written_whole(rt: HostRuntime) {
+    let frame = Frame::new_data(CowSlice::Borrowed(b"a"));
+    let mut sending = ToBoth {
+        stream: opened_here(),
+        writing: frame.write_async(),
+    };
+    check_rest(&rt, &mut sending, b"\x00\x01a");
+    same(&rt, sending.stream.can_upgrade(), false, "written whole");
+}
+
+#[test]
+fn a_stream_that_was_opened_there_is_written(rt: HostRuntime) {
+    let frame = Frame::new_data(CowSlice::Borrowed(b"abc"));
+    let mut sending = ToPeer {
+        stream: opened_there(),
+        writing: frame.write_async(),
+    };
+    check_rest(&rt, &mut sending, DATA);
+}
+
+/// A headers frame goes to the stream of a session.
+#[test]
+fn the_stream_of_a_session_is_written(rt: HostRuntime) {
+    let frame = Frame::new_headers(CowSlice::Borrowed(&[0x00, 0x00]));
+    let mut sending = ToSession {
+        stream: open_session(rt.alloc()).expect(&rt, "memory"),
+        writing: frame.write_async(),
+    };
+    check_rest(&rt, &mut sending, &[0x01, 0x02, 0x00, 0x00]);
+    drop(sending);
+}
+
+/// A frame on its way to a control stream, whose type goes to the vector.
+fn to_control<'a, R: Abort>(rt: &R, frame: &'a Frame<'_>, vector: &mut Vec<u8>) -> ToOne<'a> {
+    let upgrading = StreamUniLocalQuic::open_uni().upgrade_async(StreamHeader::new_control());
+    let Stepped::Done(stream) = upgrading.poll(vector) else {
+        rt.panic("a control stream")
+    };
+    ToOne {
+        stream,
+        writing: frame.write_async(),
+    }
+}
+
+/// A control stream: its type, and a settings frame of one setting.
+const CONTROL: &[u8] = &[0x00, 0x04, 0x02, 0x33, 0x01];
+
+/// A settings frame of one setting.
+fn settings() -> Frame<'static> {
+    Frame::new_settings(CowSlice::Borrowed(&[0x33, 0x01]))
+}
+
+/// The type of the stream and the settings go to one vector.
+#[test]
+fn a_control_stream_is_written(rt: HostRuntime) {
+    let mut vector = Vec::new(rt.alloc());
+    let frame = settings();
+    let mut sending = to_control(&rt, &frame, &mut vector);
+    let answer = send_again(&mut sending, &mut vector);
+    check_sent(&rt, answer, vector.as_slice(), CONTROL);
+}
+
+/// How often a sink may wait.
+const TURNS: usize = 20;
+
+/// A sink that waits twice.
+static WAITS: [WriteStep; 3] = [
+    WriteStep::NotReady,
+    WriteStep::Bytes(2),
+    WriteStep::NotReady,
+];
+
+/// Writes the frame, while the sink waits.
+fn write_on<K: Sends, W: AsyncWrite>(sending: &mut K, sink: &mut W) -> SendAnswer {
+    for _turn in 0..TURNS {
+        match sending.send(sink) {
+            Polled::Pending | Polled::NoMemory => {}
+            answer => return answer,
+        }
+    }
+    Polled::Pending
+}
+
+#[test]
+fn a_frame_is_written_in_a_loop(rt: HostRuntime) {
+    let mut sink = ScriptedSink::new(rt.alloc(), &WAITS);
+    let frame = Frame::new_data(CowSlice::Borrowed(b"abc"));
+    let mut sending = ToBoth {
+        stream: opened_here(),
+        writing: frame.write_async(),
+    };
+    let answer = write_on(&mut sending, &mut sink);
+    check_sent(&rt, answer, sink.output(), DATA);
+    same(&rt, sending.stream.can_upgrade(), false, "written");
+}
+
+/// The type of the stream goes elsewhere.
+#[test]
+fn settings_are_written_in_a_loop(rt: HostRuntime) {
+    let mut sink = ScriptedSink::new(rt.alloc(), &WAITS);
+    let frame = settings();
+    let mut sending = to_control(&rt, &frame, &mut Vec::new(rt.alloc()));
+    let answer = write_on(&mut sending, &mut sink);
+    check_sent(&rt, answer, sink.output(), rest(CONTROL, 1));
+}

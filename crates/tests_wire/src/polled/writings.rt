@@ -1,0 +1,153 @@
+//! What every writing does, whatever it writes, into vectors and into sinks that wait or stop.
+use crate::polled::readings::same_of;
+use crate::same::same;
+use std::fmt::Display;
+use std::process::Abort;
+use test_io::{BYTE_BY_BYTE, ScriptedSink, stops_after};
+use wtp_core::bytes::{AsyncWrite, IoWriteError, Polled, PutBuffer, PutVarint};
+use wtp_wire::frame::FrameWriting;
+use wtp_wire::stream_header::HeaderWriting;
+
+/// What a poll of a writing answers.
+pub(crate) type Written = Polled<Result<(), IoWriteError>>;
+
+/// All is written.
+pub(crate) const DONE: Written = Polled::Ready(Ok(()));
+
+/// A writing of a number, a buffer, a frame or a header.
+pub(crate) trait Writing {
+    /// One poll.
+    fn write_on<W: AsyncWrite>(&mut self, sink: &mut W) -> Written;
+}
+
+impl Writing for PutVarint {
+    fn write_on<W: AsyncWrite>(&mut self, sink: &mut W) -> Written {
+        self.poll(sink)
+    }
+}
+
+impl Writing for PutBuffer<'_> {
+    fn write_on<W: AsyncWrite>(&mut self, sink: &mut W) -> Written {
+        self.poll(sink)
+    }
+}
+
+impl Writing for FrameWriting<'_> {
+    fn write_on<W: AsyncWrite>(&mut self, sink: &mut W) -> Written {
+        self.poll(sink)
+    }
+}
+
+impl Writing for HeaderWriting {
+    fn write_on<W: AsyncWrite>(&mut self, sink: &mut W) -> Written {
+        self.poll(sink)
+    }
+}
+
+/// One poll, whose answer is wanted.
+fn check_poll<R: Abort, K: Writing, W: AsyncWrite, S: Display + Drop>(
+    rt: &R,
+    writing: &mut K,
+    sink: &mut W,
+    row: &[u8],
+    wanted: &Written,
+    shows: S,
+) {
+    let came = writing.write_on(sink);
+    same_of(rt, row, &came, wanted, shows);
+}
+
+/// One poll, whose answer is wanted, and the sink has then taken so many bytes.
+pub(crate) fn check_taken<R: Abort, K: Writing>(
+    rt: &R,
+    writing: &mut K,
+    sink: &mut ScriptedSink<'_>,
+    (bytes, sent): (&[u8], usize),
+    wanted: &Written,
+) {
+    check_poll(rt, writing, sink, bytes, wanted, sent);
+    same(rt, Some(sink.output()), bytes.get(..sent), sent);
+}
+
+/// A writing, or the rest of one, into a vector, polled twice.
+fn check_whole<R: Abort + AllocGlobal, K: Writing>(rt: &R, writing: &mut K, bytes: &[u8]) {
+    let mut vector = Vec::new(rt.alloc());
+    check_poll(rt, writing, &mut vector, bytes, &DONE, "whole");
+    check_poll(rt, writing, &mut vector, bytes, &DONE, "finished");
+    same(rt, vector.as_slice(), bytes, "whole");
+}
+
+/// A writing into a sink that takes a byte a poll, which is polled until all is taken.
+fn check_slow<R: Abort + AllocGlobal, K: Writing>(rt: &R, writing: &mut K, bytes: &[u8]) {
+    let mut sink = ScriptedSink::new(rt.alloc(), BYTE_BY_BYTE.as_flattened());
+    for at in 0..bytes.len() {
+        check_taken(rt, writing, &mut sink, (bytes, at), &Polled::Pending);
+    }
+    check_taken(rt, writing, &mut sink, (bytes, bytes.len()), &DONE);
+}
+
+/// A writing into a vector, polled twice, and another into a sink that takes a byte a poll.
+pub(crate) fn check_written<R: Abort + AllocGlobal, K: Writing>(
+    rt: &R,
+    whole: &mut K,
+    slow: &mut K,
+    bytes: &[u8],
+) {
+    check_whole(rt, whole, bytes);
+    check_slow(rt, slow, bytes);
+}
+
+/// The sink stopped.
+pub(crate) const STOPPED: Written = Polled::Ready(Err(IoWriteError::Stopped));
+
+/// The sink is lost.
+const LOST: Written = Polled::Ready(Err(IoWriteError::NotConnected));
+
+/// A writing into a sink that takes so many bytes, one a call, then stops, and is then lost; and
+/// the rest into a vector.
+pub(crate) fn check_stopped<R: Abort + AllocGlobal, K: Writing>(
+    rt: &R,
+    writing: &mut K,
+    bytes: &[u8],
+    sent: usize,
+) {
+    let mut sink = ScriptedSink::new(rt.alloc(), stops_after(sent));
+    check_taken(rt, writing, &mut sink, (bytes, sent), &STOPPED);
+    check_taken(rt, writing, &mut sink, (bytes, sent), &LOST);
+    check_whole(rt, writing, bytes.get(sent..).expect(rt, "the rest"));
+}
+
+/// Where memory was refused, nothing was sent, or the head.
+fn check_sent<R: Abort>(rt: &R, sent: &[u8], head: &[u8]) {
+    assert!(rt; sent.is_empty() || sent == head);
+}
+
+/// What a poll into a vector answers, or another where memory was refused.
+fn write_again<R: Abort, K: Writing>(
+    rt: &R,
+    writing: &mut K,
+    vector: &mut Vec<u8>,
+    head: &[u8],
+) -> Written {
+    match writing.write_on(vector) {
+        Polled::NoMemory => {
+            check_sent(rt, vector.as_slice(), head);
+            writing.write_on(vector)
+        }
+        answer => answer,
+    }
+}
+
+/// A writing into a vector, polled again where memory was refused, before the head or after it.
+pub(crate) fn check_refused<R: Abort + AllocGlobal, K: Writing>(
+    rt: &R,
+    writing: &mut K,
+    head: &[u8],
+    rest: &[u8],
+) {
+    let mut vector = Vec::new(rt.alloc());
+    let answer = write_again(rt, writing, &mut vector, head);
+    let written = vector.as_slice().split_at_checked(head.len());
+    let wanted = (DONE, Some((head, rest)));
+    same(rt, (answer, written), wanted, "written: the head, the rest");
+}

@@ -1,0 +1,77 @@
+-- The names of frame types (RFC 9114, section 7.2; RFC 9218, section 7.2) and of stream types (RFC
+-- 9114, section 6.2).
+use Rattle.std.specs.Prelude.{ℕ, Bool, ◌||◌, ◌==◌, if◌then◌else◌, List, codes, Option, Some, None}
+use Rattle.wtp_wire.specs.Kind.{kind_of}
+use Rattle.wtp_wire.specs.declared.frame.kind.FrameKind.{FrameKind}
+use Rattle.wtp_wire.specs.declared.frame.kind.FrameKind.TheVariants as kind-is
+use Rattle.wtp_wire.specs.StreamKind.{stream_kind_of}
+use Rattle.wtp_wire.specs.declared.stream_header.StreamKind.{StreamKind}
+use Rattle.wtp_wire.specs.declared.stream_header.StreamKind.TheVariants as stream-kind-is
+use Rattle.wt_inspection_model.specs.declared.item.names.StreamName.{StreamName}
+use Rattle.wt_inspection_model.specs.declared.item.names.StreamName.TheVariants as stream-name-is
+use Rattle.wt_inspection_model.specs.declared.item.names.FrameName.{FrameName}
+use Rattle.wt_inspection_model.specs.declared.item.names.FrameName.TheVariants.{Read, CancelPush, PushPromise, Goaway, MaxPushId, PriorityUpdate, Http2, Unknown}
+
+-- the types of HTTP/2 that must not be sent (RFC 9114, section 7.2.8)
+abbrev pub is_http2 : ℕ → Bool
+is_http2 n = (n == 0x02) || (n == 0x06) || (n == 0x08) || (n == 0x09)
+
+-- the name of a type that has no kind
+abbrev pub other_name : ℕ → FrameName
+other_name n =
+    if is_http2 n
+    then Http2
+    else (if n == 0x03
+    then CancelPush
+    else (if n == 0x05
+    then PushPromise
+    else (if n == 0x07
+    then Goaway
+    else (if n == 0x0d
+    then MaxPushId
+    else (if (n == 0xf0700) || (n == 0xf0701) then PriorityUpdate else Unknown)))))
+
+abbrev pub named : Option FrameKind → ℕ → FrameName
+named (Some kind) n = Read kind
+named None n = other_name n
+
+-- the name of a type
+unfoldable pub frame_name_of : ℕ → FrameName
+frame_name_of n = named (kind_of n) n
+
+abbrev pub stream_named : Option StreamKind → ℕ → StreamName
+stream_named (Some kind) n = stream-name-is.Read kind
+stream_named None n = if n == 0x01 then stream-name-is.Push else stream-name-is.Unknown
+
+-- the name of the type of a unidirectional stream
+unfoldable pub stream_name_of : ℕ → StreamName
+stream_name_of n = stream_named (stream_kind_of n) n
+
+-- ---- texts
+
+-- the text of the name of a frame type (RFC 9114, section 7.2; RFC 9218, section 7.2;
+-- draft-ietf-webtrans-http3-02, section 9.4)
+abbrev pub frame_name_text : FrameName → List ℕ
+frame_name_text (Read kind-is.Data) = codes "DATA"
+frame_name_text (Read kind-is.Headers) = codes "HEADERS"
+frame_name_text (Read kind-is.Settings) = codes "SETTINGS"
+frame_name_text (Read kind-is.WebTransport) = codes "WEBTRANSPORT_STREAM"
+frame_name_text (Read (kind-is.Exercise number)) = codes "reserved"
+frame_name_text CancelPush = codes "CANCEL_PUSH"
+frame_name_text PushPromise = codes "PUSH_PROMISE"
+frame_name_text Goaway = codes "GOAWAY"
+frame_name_text MaxPushId = codes "MAX_PUSH_ID"
+frame_name_text PriorityUpdate = codes "PRIORITY_UPDATE"
+frame_name_text Http2 = codes "HTTP/2"
+frame_name_text Unknown = codes "unknown"
+
+-- the text of the name of the type of a unidirectional stream (RFC 9114, section 6.2; RFC 9204,
+-- section 4.2)
+abbrev pub stream_name_text : StreamName → List ℕ
+stream_name_text (stream-name-is.Read stream-kind-is.Control) = codes "control"
+stream_name_text (stream-name-is.Read stream-kind-is.QPackEncoder) = codes "QPACK encoder"
+stream_name_text (stream-name-is.Read stream-kind-is.QPackDecoder) = codes "QPACK decoder"
+stream_name_text (stream-name-is.Read stream-kind-is.WebTransport) = codes "WebTransport"
+stream_name_text (stream-name-is.Read (stream-kind-is.Exercise number)) = codes "reserved"
+stream_name_text stream-name-is.Push = codes "push"
+stream_name_text stream-name-is.Unknown = codes "unknown"

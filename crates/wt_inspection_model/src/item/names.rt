@@ -1,0 +1,112 @@
+//! Names of frame types and stream types.
+ghost use Rattle.std.specs.Prelude.{◌≡◌};
+ghost use Rattle.wt_inspection_model.specs.Names.{frame_name_of, frame_name_text, stream_name_of, stream_name_text};
+
+use wtp_core::varint::VarInt;
+use wtp_wire::frame::FrameKind;
+use wtp_wire::stream_header::StreamKind;
+
+/// The name of a frame type.
+#[derive(Clone, Copy, Debug, PartialEq, Eq)]
+pub enum FrameName {
+    /// A type that the library reads, or a reserved one.
+    Read(FrameKind),
+    /// CANCEL_PUSH (RFC 9114, section 7.2.3).
+    CancelPush,
+    /// PUSH_PROMISE (RFC 9114, section 7.2.5).
+    PushPromise,
+    /// GOAWAY (RFC 9114, section 7.2.6).
+    Goaway,
+    /// MAX_PUSH_ID (RFC 9114, section 7.2.7).
+    MaxPushId,
+    /// PRIORITY_UPDATE of a request or of a push (RFC 9218, section 7.2).
+    PriorityUpdate,
+    /// A type of HTTP/2 that must not be sent (RFC 9114, section 7.2.8).
+    Http2,
+    /// A type that is not known.
+    Unknown,
+}
+
+impl FrameName {
+    /// Returns the name of this type.
+    #[tactic(auto, unfolding(crate::specs::Names::frame_name_of))]
+    pub fn of(number: VarInt) -> Self
+        ensures { result ≡ frame_name_of number }
+    {
+        if let Some(kind) = FrameKind::parse(number) {
+            return FrameName::Read(kind);
+        }
+        match number.into_inner() {
+            0x02 | 0x06 | 0x08 | 0x09 => FrameName::Http2,
+            0x03 => FrameName::CancelPush,
+            0x05 => FrameName::PushPromise,
+            0x07 => FrameName::Goaway,
+            0x0d => FrameName::MaxPushId,
+            0xf_0700 | 0xf_0701 => FrameName::PriorityUpdate,
+            _ => FrameName::Unknown,
+        }
+    }
+
+    /// Returns the text of the name: as the RFCs write it, `reserved`, `unknown`, or `HTTP/2`.
+    pub fn as_str(self) -> &'static str
+        ensures { result.now ≡ frame_name_text self }
+    {
+        match self {
+            FrameName::Read(FrameKind::Data) => "DATA",
+            FrameName::Read(FrameKind::Headers) => "HEADERS",
+            FrameName::Read(FrameKind::Settings) => "SETTINGS",
+            FrameName::Read(FrameKind::WebTransport) => "WEBTRANSPORT_STREAM",
+            FrameName::Read(FrameKind::Exercise(_)) => "reserved",
+            FrameName::CancelPush => "CANCEL_PUSH",
+            FrameName::PushPromise => "PUSH_PROMISE",
+            FrameName::Goaway => "GOAWAY",
+            FrameName::MaxPushId => "MAX_PUSH_ID",
+            FrameName::PriorityUpdate => "PRIORITY_UPDATE",
+            FrameName::Http2 => "HTTP/2",
+            FrameName::Unknown => "unknown",
+        }
+    }
+}
+
+/// The name of the type of a unidirectional stream.
+#[derive(Clone, Copy, Debug, PartialEq, Eq)]
+pub enum StreamName {
+    /// A type that the library reads, or a reserved one.
+    Read(StreamKind),
+    /// A push stream (RFC 9114, section 6.2.2).
+    Push,
+    /// A type that is not known.
+    Unknown,
+}
+
+impl StreamName {
+    /// Returns the name of this type.
+    #[tactic(auto, unfolding(crate::specs::Names::stream_name_of))]
+    pub fn of(number: VarInt) -> Self
+        ensures { result ≡ stream_name_of number }
+    {
+        if let Some(kind) = StreamKind::parse(number) {
+            return StreamName::Read(kind);
+        }
+        if number.into_inner() == 1 {
+            StreamName::Push
+        } else {
+            StreamName::Unknown
+        }
+    }
+
+    /// Returns the text of the name: that of the stream's purpose, `reserved`, or `unknown`.
+    pub fn as_str(self) -> &'static str
+        ensures { result.now ≡ stream_name_text self }
+    {
+        match self {
+            StreamName::Read(StreamKind::Control) => "control",
+            StreamName::Read(StreamKind::QPackEncoder) => "QPACK encoder",
+            StreamName::Read(StreamKind::QPackDecoder) => "QPACK decoder",
+            StreamName::Read(StreamKind::WebTransport) => "WebTransport",
+            StreamName::Read(StreamKind::Exercise(_)) => "reserved",
+            StreamName::Push => "push",
+            StreamName::Unknown => "unknown",
+        }
+    }
+}

@@ -1,0 +1,39 @@
+//! Settings.
+ghost use Rattle.std.specs.Prelude.{◌≡◌, ◌<◌, ◌^◌};
+ghost use Rattle.wtp_wire.specs.SettingId.{setting_id_of};
+
+use wtp_core::varint::VarInt;
+use wtp_wire::settings::SettingId;
+
+/// A setting as a SETTINGS frame has it (RFC 9114, section 7.2.4).
+#[derive(Clone, Copy, Debug, PartialEq, Eq)]
+pub struct SettingLine {
+    /// The identifier.
+    pub id: u64,
+    /// The value.
+    pub value: u64,
+    /// What is wrong with it.
+    pub flag: Option<SettingIssue>,
+}
+
+impl SettingLine {
+    /// Returns the setting of the identifier, whose name is its `Display`, or `None` if it is
+    /// unknown.
+    pub fn setting(&self) -> Option<SettingId>
+        ensures { self.now.id < 2 ^ 62 → result ≡ setting_id_of self.now.id }
+    {
+        match VarInt::try_from_u64(self.id) {
+            Ok(id) => SettingId::parse(id),
+            Err(_) => None,
+        }
+    }
+}
+
+/// What is wrong with a setting.
+#[derive(Clone, Copy, Debug, PartialEq, Eq)]
+pub enum SettingIssue {
+    /// The identifier is one of HTTP/2 that must not be sent (RFC 9114, section 7.2.4.1).
+    Reserved,
+    /// An earlier setting has the same identifier (RFC 9114, section 7.2.4).
+    Repeated,
+}
