@@ -195,6 +195,7 @@ pub fn entry(index: u64) -> Option<(&'static str, &'static str)>
 }
 
 /// Returns the names that start with a byte, in byte order.
+#[tactic(auto, unfolding(crate::specs::StaticNames::static_names, crate::specs::StaticNames::static_names_of))]
 fn names_of(first: u8) -> &'static [(&'static str, usize)]
     ensures { name_indices result.now ≡ static_names_of first }
 {
