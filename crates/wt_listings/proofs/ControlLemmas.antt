@@ -1,4 +1,4 @@
--- The header of a control stream is its type number.
+-- The header of a control stream is its stream type.
 use Rattle.std.proofs.Common.{◌≡◌, List, ℕ, [], ◌∷◌, Ok, Err, refl, inl, inr}
 use Rattle.wtransport_proto.specs.declared.error.ErrorCode.{ErrorCode}
 use Rattle.wtransport_proto.specs.declared.stream.Stream.{Stream}
@@ -14,20 +14,20 @@ use Rattle.wtransport_proto.specs.HeaderFront.{header_front, Headed}
 use Rattle.wtransport_proto.specs.Streams.{header_of}
 use Rattle.wtransport_proto.specs.Upgrading.{AnswersUpgrade}
 
--- the type number is the header
+-- the stream type is the whole header
 control_front : (bytes : List ℕ) → bytes ≡ 0 ∷ [] → header_front bytes ≡ Headed ControlHeader []
 unfolding header_front number_at value_of stream_kind_of
 control_front bytes e = rw e refl
 
--- so the returned stream has the header of a control stream
+-- the returned stream has the header of a control stream
 pub control_header : (bytes left : List ℕ) (old : Stream UniRemote Quic) (r : MaybeUpgradeH3) (s : Stream UniRemote (H3 Header)) → bytes ≡ 0 ∷ [] → r ≡ maybe.H3 s → AnswersUpgrade (header_front bytes) old (Ok r) left → header_of s ≡ ControlHeader
 control_header bytes left old r s e is answer = let front : header_front bytes ≡ Headed (header_of s) left = rw is at answer in cc (control_front bytes e)
 
--- its bytes are not too few
+-- the bytes of the header are complete
 pub control_whole : (bytes left : List ℕ) (old s : Stream UniRemote Quic) (r : MaybeUpgradeH3) → bytes ≡ 0 ∷ [] → r ≡ maybe.Quic s → AnswersUpgrade (header_front bytes) old (Ok r) left → ⊥
 control_whole bytes left old s r e is answer = let (short, same) = rw is at answer in cc (control_front bytes e)
 
--- and have no fault
+-- the bytes of the header are valid
 pub control_good : (bytes left : List ℕ) (old : Stream UniRemote Quic) (c : ErrorCode) → bytes ≡ 0 ∷ [] → AnswersUpgrade (header_front bytes) old (Err c) left → ⊥
 control_good bytes left old c e (inl (code, is)) = cc (control_front bytes e)
 control_good bytes left old c e (inr (code, is)) = cc (control_front bytes e)

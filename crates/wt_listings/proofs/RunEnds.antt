@@ -1,4 +1,4 @@
--- How the runs of streams end whose bytes end.
+-- The endings of runs of streams that have ended.
 use Rattle.std.proofs.Common.{◌≡◌, ℕ, zero, suc, Bool, List, [], ◌∷◌, length, Option, Some, None, subst}
 use Rattle.wtransport_proto.specs.declared.error.ErrorCode.{ErrorCode}
 use Rattle.wtransport_proto.specs.declared.bytes.polled.IoReadError.TheVariants as io
@@ -11,7 +11,7 @@ use Rattle.wtransport_proto.specs.Run.{Run, Ending, Open, H3, ImmediateFin, Rese
 use Rattle.wtransport_proto.specs.StreamPolling.{IsStreamFault}
 use Rattle.wt_listings.specs.Stepped.{ClosesStream}
 
--- a code, or an end after the last frame
+-- the ending is an error code, or an end after the last frame
 abbrev pub IsClosed : Ending → Type 0
 IsClosed (Open n) = ⊥
 IsClosed (H3 code) = Unit {0}

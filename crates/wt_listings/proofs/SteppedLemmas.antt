@@ -28,7 +28,7 @@ use Rattle.wt_listings.proofs.ListingLemmas.{IsBegun}
 
 -- ---- the last line
 
--- an end after a frame is listed as no bytes after it
+-- the end of a stream after a frame has the same line as a listing with no bytes left
 pub says_end : (E : Type 0) (r : Result Listing E) (lines : List ℕ) → IfOk r (λ l. HasText l (with_ending lines (Open 0))) → IfOk r (λ l. HasText l (with_ending lines ImmediateFin))
 says_end E (Ok l) lines says = record {
   text = says.text ∙ ap (λ (zero : List ℕ). lines ++ (codes "END " ++ zero ++ codes "\n")) (decimal_digit 0 (omega arith));
@@ -56,17 +56,17 @@ begun_lines text items fs r left whole begun is grown = record {
   ending = ap (λ (x : Run). x.ending) (sym is) ∙ begun.ending;
 }
 
--- the list was empty before the drive
+-- the list of frames was empty before the drive
 pub lines_of_all : (text items : List ℕ) (old new shown : List Content) → old ≡ [] → shown ≡ new → items ≡ text ++ flat_map line shown → items ≡ text ++ flat_map line (drop (length old) new)
 lines_of_all text items old new shown none same grown = rw (none, ← same) grown
 
--- before the first drive the whole run is left
+-- before the first drive, the whole run is left
 pub begun_whole : (items : List ℕ) (first : Bool) (h : Held) (bytes : List ℕ) (left : ℕ) (input : List ℕ) → items ≡ [] → first ≡ true → h ≡ new_held → bytes ≡ input → IsBegun items (run_of RemoteBi first h (source_of bytes left)) (stepped_run input)
 begun_whole items first h bytes left input none is_first fresh same =
     let is : run_of RemoteBi first h (source_of bytes left) ≡ run RemoteBi true input Ended = run_new RemoteBi first h (source_of bytes left) fresh ∙ rw (is_first, same) refl in
     rw (none, is) (record { lines = refl; ending = refl })
 
--- after the last drive only the last line is left
+-- after the last drive, only the last line is left
 says_whole : (l : Listing) (text items : List ℕ) (fs : List Content) (x : IoReadError) (left whole : Run) → IsBegun text left whole → EndsSo left fs x → items ≡ text ++ flat_map line fs
     → HasText l (with_ending items left.ending) → HasText l (run_listing whole)
 says_whole l text items fs x left whole begun ends grown says = record {
@@ -82,14 +82,14 @@ pub says_listed : (E : Type 0) (r : Result Listing E) (text items : List ℕ) (f
 says_listed E (Ok l) text items fs x left whole begun ends grown says = says_whole l text items fs x left whole begun ends grown says
 says_listed E (Err e) text items fs x left whole begun ends grown says = tt
 
--- ---- what a drive did that has to be called again
+-- ---- the effect of a drive that must be called again
 
 pub goes_on : (d : Driven) (role : Role) (first next : Bool) (old new : Held) (fs : List Content) (polls : ℕ) (xs ys : List ℕ) (m n : ℕ) → (d ≡ driven.Waiting) ⊎ (d ≡ driven.Spent)
     → DriveDid role d first next old new fs polls (source_of xs m) (source_of ys n) → RunsOn role first next old new fs (source_of xs m) (source_of ys n)
 goes_on d role first next old new fs polls xs ys m n (inl e) did = let h = rw e at did in h.0
 goes_on d role first next old new fs polls xs ys m n (inr e) did = let h = rw e at did in h.0
 
--- it waited, or took bytes
+-- the drive waited, or consumed bytes
 pub less_left : (d : Driven) (role : Role) (first next : Bool) (old new : Held) (fs : List Content) (polls : ℕ) (xs ys : List ℕ) (m n : ℕ) → (d ≡ driven.Waiting) ⊎ (d ≡ driven.Spent) → 0 < polls → m < 2 ^ 64
     → DriveDid role d first next old new fs polls (source_of xs m) (source_of ys n) → (n ≤ m) × (n + size_of new (source_of ys n) < m + size_of old (source_of xs m))
 less_left d role first next old new fs polls xs ys m n (inl e) some fits did = let h = rw e at did in let waited = h.1 in let size = h.2.size in (omega arith, omega arith)

@@ -1,19 +1,20 @@
--- A source that gives few bytes a call and has to be waited for.
+-- A source that returns few bytes per call and is not always ready.
 use Rattle.std.specs.Prelude.{◌≡◌, ℕ, ◌-◌, ◌^◌, ◌<◌, ◌≤◌, Bool, true, false, List}
 use Rattle.wtransport_proto.specs.declared.bytes.source.ReadStep.{ReadStep}
 use Rattle.wtransport_proto.specs.declared.bytes.source.ReadStep.TheVariants.{Bytes, NotReady}
 use Rattle.wtransport_proto.specs.declared.bytes.source.ReadStep.TheVariants.{Reset, NotConnected}
 use Rattle.wtransport_proto.specs.Source.{Source, AtEnd}
 
--- Its model: these bytes, and an end. The waits are counted from a number that leaves room for
--- those that may still come.
+-- the model of the source: these bytes, then an end of the stream; its wait count starts at a
+-- number that leaves room for the waits to come
 abbrev pub source_of : List ℕ → ℕ → Source
 source_of bytes waits_left =
     record { ahead = bytes; ending = AtEnd; asked = 0; waits = 2 ^ 64 - waits_left }
 
--- The result of one call, into a buffer of so much room. Where the source is ready: at most so many
--- bytes, and it is not ready for the next ones; or an end, which it can give again. Where it is not
--- ready it says so, and is ready then.
+-- the result of one call, by the room in the buffer, the most bytes per call, and whether the
+-- source is ready before and after it. A ready source returns at most that many bytes and is then
+-- not ready, or returns its end and stays ready. A source that is not ready returns `NotReady`
+-- and is then ready
 abbrev pub Cuts : ReadStep → ℕ → ℕ → Bool → Bool → Type 0
 Cuts (Bytes n) room most ready next =
     (n ≤ most) × (0 < room → ready ≡ true) × (0 < n → next ≡ false) × (n ≡ 0 → next ≡ ready)

@@ -1,4 +1,4 @@
--- A listing by its text and status.
+-- The text and status of a listing.
 use Rattle.std.specs.Prelude.{◌≡◌}
 use Rattle.wt_listings.specs.declared.listing.Listing.{Listing}
 use Rattle.wt_listings.specs.Lines.{ListingText}

@@ -1,4 +1,4 @@
--- The run of a stream that is read poll by poll, and how its listing ends.
+-- The run of a stream that is read poll by poll, and its possible errors.
 use Rattle.std.specs.Prelude.{true, List, ℕ}
 use Rattle.wtransport_proto.specs.declared.bytes.polled.IoReadError.TheVariants as io
 use Rattle.wtransport_proto.specs.declared.stream.polled.IoReadError.{IoReadError}
@@ -6,11 +6,11 @@ use Rattle.wtransport_proto.specs.declared.stream.polled.IoReadError.TheVariants
 use Rattle.wtransport_proto.specs.Rule.{RemoteBi}
 use Rattle.wtransport_proto.specs.Run.{Run, run, Ended}
 
--- the run of a stream in both directions that the peer opened, from its start to its end
+-- the complete run of a bidirectional stream that the peer opened
 abbrev pub stepped_run : List ℕ → Run
 stepped_run input = run RemoteBi true input Ended
 
--- the faults of a stream whose source ends: a code, or an end after its last frame
+-- the errors of a stream whose source ends: an error code, or an end after its last frame
 abbrev pub ClosesStream : IoReadError → Type 0
 ClosesStream (stream.H3 c) = Unit {0}
 ClosesStream (stream.IO io.ImmediateFin) = Unit {0}

@@ -1,14 +1,15 @@
-//! Recorded bytes as a source that gives few at a time and is not always ready.
+//! A source over recorded bytes that returns few bytes per call and is not always ready.
 ghost use Rattle.std.specs.Prelude.{◌≡◌, ◌+◌, ◌^◌, ◌<◌, ◌≤◌, length, Some, false, if◌then◌else◌};
 ghost use Rattle.wtransport_proto.specs.Source.{StepKeepsLengths, StepTells};
 ghost use Rattle.wt_listings.specs.CutSource.{source_of, Cuts};
 
 use wtransport_proto::bytes::{AsyncRead, ReadStep};
 
-/// A stream that was recorded whole: its bytes, at most this many per call, and then an end.
+/// A source over a completely recorded stream. It returns at most `most` bytes per call, then the
+/// end of the stream.
 ///
-/// It is not ready once before each call that gives bytes, and once before its first end, and at no
-/// other time. So it waits at most once more than it has bytes.
+/// It is not ready once before each call that returns bytes, and once before the first end. It
+/// waits at no other time, so the number of waits is at most the number of bytes plus one.
 #[derive(Drop)]
 pub(crate) struct CutSource<'a> {
     rest: &'a [u8],
@@ -20,7 +21,8 @@ pub(crate) struct CutSource<'a> {
 }
 
 impl<'a> CutSource<'a> {
-    /// Creates the source of these bytes, at most `most` per call, which is at least 1.
+    /// Creates a source over `bytes` that returns at most `most` bytes per call. `most` is at
+    /// least 1.
     pub(crate) fn new(bytes: &'a [u8], most: usize) -> Self
         requires { 0 < most }
         ensures bytes { result.rest.now ≡ bytes.now }

@@ -1,4 +1,4 @@
-//! Making a listing line by line.
+//! Builds a listing line by line.
 ghost use Rattle.std.specs.Prelude.{◌≡◌, ℕ, List, [], ◌++◌, IfOk, codes, string_bytes};
 ghost use Rattle.wt_listings.specs.Lines.{line, with_ending};
 ghost use Rattle.wt_listings.specs.Listing.{HasText};
@@ -11,9 +11,9 @@ use std::marker::Model;
 use wtransport_proto::error::ErrorCode;
 use wtransport_proto::frame::{Frame, FrameKind};
 
-/// The lines of a listing so far. Each is written straight into the text of the listing.
+/// The lines of a listing so far, written directly into its text.
 ///
-/// The text and the status of a listing are set together, by the call that writes the last line:
+/// The call that writes the last line sets both the text and the status of the listing:
 /// [`end`](Lines::end) or [`fault`](Lines::fault).
 #[derive(Drop)]
 pub struct Lines {
@@ -28,7 +28,7 @@ impl Model for Lines {
 }
 
 impl Lines {
-    /// Creates a listing without lines.
+    /// Creates an empty listing.
     pub fn new(alloc: Global) -> Self
         ensures { result ≡ [] }
     {
@@ -37,7 +37,9 @@ impl Lines {
         }
     }
 
-    /// Adds the line of a frame.
+    /// Appends the line of a frame.
+    ///
+    /// Returns [`AllocError`] if allocation fails. The line may then be incomplete.
     pub fn frame(&mut self, frame: &Frame<'_>) -> Result<(), AllocError>
         ensures { IfOk result (λ _. self.new ≡ self.old ++ line frame.now) }
     {
@@ -58,23 +60,27 @@ impl Lines {
         }
     }
 
-    /// Adds a line of these words, which have no line feed.
+    /// Appends `words` as a line. It must not contain a line feed.
     ///
-    /// Returns [`AllocError`] if allocation fails; then the line may be there in part.
+    /// Returns [`AllocError`] if allocation fails. The line may then be incomplete.
     pub fn add(&mut self, words: &str) -> Result<(), AllocError>
         ensures { IfOk result (λ _. self.new ≡ self.old ++ words.now ++ codes "\n") }
     {
         writeln!(self.text, "{words}")
     }
 
-    /// Adds the line of a field.
+    /// Appends the line of a field.
+    ///
+    /// Returns [`AllocError`] if allocation fails. The line may then be incomplete.
     pub fn field(&mut self, name: &str, value: &str) -> Result<(), AllocError>
         ensures { IfOk result (λ _. self.new ≡ self.old ++ field_line (name.now, value.now)) }
     {
         writeln!(self.text, "FIELD {name}={value}")
     }
 
-    /// Returns the listing with a last line that says how many bytes come after the last frame.
+    /// Returns the listing, ended by a line with the number of bytes after the last frame.
+    ///
+    /// Returns [`AllocError`] if allocation fails.
     pub fn end(mut self, rest: usize) -> Result<Listing, AllocError>
         ensures { IfOk result (λ l. HasText l (with_ending self (Open rest))) }
     {
@@ -85,7 +91,9 @@ impl Lines {
         })
     }
 
-    /// Returns the listing with a last line that says which fault ends the stream.
+    /// Returns the listing, ended by a line with the error code that ends the stream.
+    ///
+    /// Returns [`AllocError`] if allocation fails.
     pub fn fault(mut self, code: ErrorCode) -> Result<Listing, AllocError>
         ensures { IfOk result (λ l. HasText l (with_ending self (H3 code))) }
     {

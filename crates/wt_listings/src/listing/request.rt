@@ -1,4 +1,4 @@
-//! The listing of the request for a session.
+//! Lists the request for a session.
 ghost use Rattle.std.specs.Prelude.{◌≡◌, ◌⊎◌, IfOk};
 ghost use Rattle.wt_listings.specs.Listing.{HasText};
 ghost use Rattle.wt_listings.specs.Request.{fields_listing, result_listing, request_listing};
@@ -16,9 +16,9 @@ use wtransport_proto::frame::Frame;
 use wtransport_proto::session::request_of_frame;
 use wtransport_proto::stream::biremote::StreamBiRemoteQuic;
 
-/// Returns the listing of the fields of the request for a session that is the first frame of a
-/// stream that the peer opened, in the byte order of their names. The last line says how many bytes
-/// come after that frame, how many bytes there are if there is no frame, or which fault there is.
+/// Lists the fields of a session request, in byte order of their names. The request is the first
+/// frame of a stream that the peer opened. The last line gives the number of bytes after that
+/// frame, or the number of bytes left if there is no frame, or the error code.
 ///
 /// Returns [`AllocError`] if allocation fails.
 pub fn list_request(alloc: Global, input: &[u8]) -> Result<Listing, AllocError>
@@ -34,7 +34,7 @@ pub fn list_request(alloc: Global, input: &[u8]) -> Result<Listing, AllocError>
     }
 }
 
-/// Returns the listing of the request in a frame, with this many bytes after it.
+/// Returns the listing of the request in a frame that is followed by `rest` bytes.
 fn list_frame(alloc: Global, frame: &Frame<'_>, rest: usize) -> Result<Listing, AllocError>
     ensures listing { IfOk result (λ l. HasText l (result_listing (request_in frame.now) rest)) }
     ensures status { IfOk result (λ l. (l.status ≡ 0) ⊎ (l.status ≡ 2)) }
@@ -46,7 +46,7 @@ fn list_frame(alloc: Global, frame: &Frame<'_>, rest: usize) -> Result<Listing, 
     }
 }
 
-/// Returns the listing of a header map, with this many bytes after its frame.
+/// Returns the listing of a header map whose frame is followed by `rest` bytes.
 fn list_fields(
     alloc: Global,
     fields: &BTreeMap<String, String>,

@@ -1,4 +1,4 @@
-//! The listing of frames that are read poll by poll.
+//! Lists frames that are read poll by poll.
 ghost use Rattle.std.specs.Prelude.{◌≡◌, ◌⊎◌, ◌++◌, ◌<◌, IfOk};
 ghost use Rattle.std.specs.List.{flat_map};
 ghost use Rattle.wtransport_proto.specs.Run.{Ending};
@@ -17,15 +17,15 @@ use wtransport_proto::frame::{FrameOwned, FrameReading};
 use wtransport_proto::stream::biremote::StreamBiRemoteQuic;
 use wtransport_proto::stream::{Driven, IoReadError, drive};
 
-/// The number of polls of one drive.
+/// The maximum number of polls per drive.
 const POLLS: u32 = 1024;
 
-/// Returns the listing of the frames of a stream in both directions that the peer opened, recorded
-/// from its start to its end. They are read poll by poll from a source that gives at most `k` bytes
-/// per call, and is not ready once before each of these calls and once before its end. The listing
-/// is the same for each `k`, which is at least 1.
+/// Lists the frames of a bidirectional stream that the peer opened, recorded from its start to
+/// its end. The frames are read poll by poll, from a source that returns at most `k` bytes per
+/// call and is not ready once before each of these calls and once before its end. `k` is at least
+/// 1; the listing does not depend on it.
 ///
-/// The last line says that the stream ends after a frame, or which fault ends it.
+/// The last line says that the stream ends after a frame, or gives the error code that ends it.
 ///
 /// Returns [`AllocError`] if allocation fails.
 pub fn list_stepped(alloc: Global, k: usize, input: &[u8]) -> Result<Listing, AllocError>
@@ -38,7 +38,7 @@ pub fn list_stepped(alloc: Global, k: usize, input: &[u8]) -> Result<Listing, Al
     let mut source = CutSource::new(input, k);
     let mut frames = Vec::new(alloc);
     let mut lines = Lines::new(alloc);
-    // Each drive waits or takes bytes, and the source waits at most once more than it has bytes.
+    // Each drive waits or consumes bytes. The source waits at most once more than it has bytes.
     'drives: loop {
         let driven = drive(&mut stream, &mut reading, &mut source, &mut frames, POLLS);
         add_lines(&mut lines, frames.as_slice())?;
@@ -51,7 +51,7 @@ pub fn list_stepped(alloc: Global, k: usize, input: &[u8]) -> Result<Listing, Al
     }
 }
 
-/// Adds the lines of these frames.
+/// Appends the lines of `frames`.
 fn add_lines(lines: &mut Lines, frames: &[FrameOwned]) -> Result<(), AllocError>
     ensures { IfOk result (λ _. lines.new ≡ lines.old ++ flat_map line frames.now) }
 {
@@ -61,7 +61,8 @@ fn add_lines(lines: &mut Lines, frames: &[FrameOwned]) -> Result<(), AllocError>
     Ok(())
 }
 
-/// Returns the listing whose last line says how the stream ended: after a frame, or with a code.
+/// Returns the listing with a last line for the end of the stream: after a frame, or with an
+/// error code.
 fn close(lines: Lines, fault: IoReadError) -> Result<Listing, AllocError>
     requires { ClosesStream fault }
     ensures listing { (e : Ending) → IsStreamFault fault e

@@ -1,25 +1,26 @@
-//! The arguments of the program, and what they name.
+//! Parses the arguments of the program.
 ghost use Rattle.std.specs.Prelude.{◌≡◌, ◌≢◌, ℕ, [], ◌∷◌, IfSome, IfNone};
 ghost use Rattle.wt_listings.specs.Program.{kind_name, texts_of, Names, NamesNone, WritesSize};
 ghost use Rattle.wt_listings.specs.declared.listing.ListKind.{ListKind};
 
 use crate::listing::ListKind;
 
-/// The greatest number of bytes per call.
+/// The maximum number of bytes per call.
 const MAX_SIZE: usize = 1_048_576;
 
-/// What the program lists.
+/// What to list.
 #[derive(Clone, Copy, Debug, PartialEq, Eq)]
 pub enum Command {
     /// The frames of a recorded stream.
     Buffer(ListKind),
-    /// The frames of a stream that gives at most this many bytes per call: from 1 to 1048576.
+    /// The frames of a stream, read from a source that returns at most this many bytes per call:
+    /// 1 to 1048576.
     Stepped(usize),
     /// The request for a session.
     Request,
 }
 
-/// Returns the command that the arguments name, if they name one.
+/// Parses the arguments. Returns `None` if they do not name a command.
 pub(crate) fn named_command(arguments: &[String]) -> Option<Command>
     ensures named { IfSome result (Names (texts_of arguments.now)) }
     ensures none { IfNone result (NamesNone (texts_of arguments.now)) }
@@ -32,7 +33,7 @@ pub(crate) fn named_command(arguments: &[String]) -> Option<Command>
     }
 }
 
-/// Returns the command that a single argument names.
+/// Returns the command with this name and no further argument.
 fn plain_command(name: &str) -> Option<Command>
     ensures named { IfSome result (Names (name.now ∷ [])) }
     ensures none { IfNone result (NamesNone (name.now ∷ [])) }
@@ -44,7 +45,7 @@ fn plain_command(name: &str) -> Option<Command>
     }
 }
 
-/// Returns the command that two arguments name.
+/// Returns the command with this name and this second argument.
 fn detailed_command(name: &str, detail: &str) -> Option<Command>
     ensures named { IfSome result (Names (name.now ∷ detail.now ∷ [])) }
     ensures none { IfNone result (NamesNone (name.now ∷ detail.now ∷ [])) }
@@ -56,7 +57,7 @@ fn detailed_command(name: &str, detail: &str) -> Option<Command>
     }
 }
 
-/// Returns the stream of this name.
+/// Returns the kind of stream with this name.
 fn named_kind(name: &str) -> Option<ListKind>
     ensures named { IfSome result (λ kind. name.now ≡ kind_name kind) }
     ensures none { IfNone result ((kind : ListKind) → name.now ≢ kind_name kind) }
@@ -69,12 +70,12 @@ fn named_kind(name: &str) -> Option<ListKind>
     }
 }
 
-/// Returns the number of bytes that the digits are.
+/// Parses a number of bytes in decimal digits.
 fn written_size(digits: &str) -> Option<usize>
     ensures named { IfSome result (WritesSize digits.now) }
     ensures none { IfNone result ((k : ℕ) → ¬ WritesSize digits.now k) }
 {
-    // A plus sign is not a digit, but `parse` accepts one.
+    // `parse` accepts a plus sign, which is not a digit.
     if digits.starts_with('+') {
         return None;
     }

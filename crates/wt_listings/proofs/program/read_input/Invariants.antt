@@ -5,6 +5,6 @@ use Rattle.wt_listings.proofs.program.read_input.Given as goal
 abbrev pub invariant-turns : goal.invariant-turns
 invariant-turns g l = Consumes (g.R.Read.remaining l.fn.input) (g.R.Read.remaining l.input) l.bytes.items × (length l.bytes.items ≤ 1048576)
 
--- how many bytes may still come before the input is too long
+-- the number of bytes that may still be read before the input is too long
 abbrev pub decreases-turns : goal.decreases-turns
 decreases-turns g l = 1048577 - length l.bytes.items

@@ -4,7 +4,7 @@ use Rattle.wtransport_proto.specs.Run.{MayGoOn}
 use Rattle.wtransport_proto.proofs.RunLaws.{run-first}
 use Rattle.wt_listings.proofs.listing.frames.list_frames.Goals as goal
 
--- these streams treat the first frame as all others
+-- these streams do not treat the first frame differently
 pub returns-in-BiLocal-clause-listing : goal.returns-in-BiLocal-clause-listing
 returns-in-BiLocal-clause-listing c = rw (c.in-BiLocal.is, run-first LocalBi true false c.args.input.now MayGoOn (λ e. cc)) c.list_stream-in-BiLocal.ensures.listing
 

@@ -14,6 +14,7 @@ invariant-drives l = record {
   fits : l.source.waits_left < 2 ^ 64;
 }
 
--- how often the source may still wait, and how many bytes are buffered and ahead: it may wait once more than it has bytes
+-- the number of waits left, plus the bytes buffered and ahead: the source waits at most once more
+-- than it has bytes
 abbrev pub decreases-drives : goal.decreases-drives
 decreases-drives l = l.source.waits_left + size_of l.reading (source_of l.source.rest.now l.source.waits_left)
