@@ -12,11 +12,11 @@ use Rattle.wt_inspection_model.specs.declared.item.names.StreamName.TheVariants 
 use Rattle.wt_inspection_model.specs.declared.item.names.FrameName.{FrameName}
 use Rattle.wt_inspection_model.specs.declared.item.names.FrameName.TheVariants.{Read, CancelPush, PushPromise, Goaway, MaxPushId, PriorityUpdate, Http2, Unknown}
 
--- the types of HTTP/2 that must not be sent (RFC 9114, section 7.2.8)
+-- the frame type belongs to HTTP/2 and must not be sent (RFC 9114, section 7.2.8)
 abbrev pub is_http2 : ℕ → Bool
 is_http2 n = (n == 0x02) || (n == 0x06) || (n == 0x08) || (n == 0x09)
 
--- the name of a type that has no kind
+-- the name of a frame type that has no frame kind
 abbrev pub other_name : ℕ → FrameName
 other_name n =
     if is_http2 n
@@ -31,25 +31,27 @@ other_name n =
     then MaxPushId
     else (if (n == 0xf0700) || (n == 0xf0701) then PriorityUpdate else Unknown)))))
 
+-- the name of a frame type with this frame kind, if it has one
 abbrev pub named : Option FrameKind → ℕ → FrameName
 named (Some kind) n = Read kind
 named None n = other_name n
 
--- the name of a type
+-- the name of a frame type
 unfoldable pub frame_name_of : ℕ → FrameName
 frame_name_of n = named (kind_of n) n
 
+-- the name of a stream type with this stream kind, if it has one
 abbrev pub stream_named : Option StreamKind → ℕ → StreamName
 stream_named (Some kind) n = stream-name-is.Read kind
 stream_named None n = if n == 0x01 then stream-name-is.Push else stream-name-is.Unknown
 
--- the name of the type of a unidirectional stream
+-- the name of a type of unidirectional stream
 unfoldable pub stream_name_of : ℕ → StreamName
 stream_name_of n = stream_named (stream_kind_of n) n
 
 -- ---- texts
 
--- the text of the name of a frame type (RFC 9114, section 7.2; RFC 9218, section 7.2;
+-- the text of a frame type name (RFC 9114, section 7.2; RFC 9218, section 7.2;
 -- draft-ietf-webtrans-http3-02, section 9.4)
 abbrev pub frame_name_text : FrameName → List ℕ
 frame_name_text (Read kind-is.Data) = codes "DATA"
@@ -65,8 +67,7 @@ frame_name_text PriorityUpdate = codes "PRIORITY_UPDATE"
 frame_name_text Http2 = codes "HTTP/2"
 frame_name_text Unknown = codes "unknown"
 
--- the text of the name of the type of a unidirectional stream (RFC 9114, section 6.2; RFC 9204,
--- section 4.2)
+-- the text of a stream type name (RFC 9114, section 6.2; RFC 9204, section 4.2)
 abbrev pub stream_name_text : StreamName → List ℕ
 stream_name_text (stream-name-is.Read stream-kind-is.Control) = codes "control"
 stream_name_text (stream-name-is.Read stream-kind-is.QPackEncoder) = codes "QPACK encoder"

@@ -1,4 +1,4 @@
-//! The items of an inspection.
+//! The items that an inspection finds.
 
 pub mod capsule;
 pub mod ending;
@@ -12,85 +12,85 @@ pub use fields::{FieldSection, Line, SectionFault};
 pub use names::{FrameName, StreamName};
 pub use settings::{SettingIssue, SettingLine};
 
-/// What bytes contain: the items, and how they end.
+/// The contents of the input: its items, and how it ends.
 #[derive(Drop)]
 pub struct Inspection {
-    /// The items in order. Each byte of the input belongs to exactly one.
+    /// The items in order. Each byte of the input belongs to exactly one item.
     pub items: Vec<Item>,
-    /// What looks wrong, in order of the places. Reading goes on after each.
+    /// Protocol violations that do not stop reading, in order of their offsets.
     pub warnings: Vec<Warning>,
-    /// How the bytes end.
+    /// How the input ends.
     pub end: End,
 }
 
-/// Bytes that belong together.
+/// A range of bytes with one meaning.
 #[derive(Drop)]
 pub struct Item {
-    /// The place: how many bytes are before it.
+    /// The offset of the first byte.
     pub at: usize,
-    /// How many bytes it has.
+    /// The number of bytes.
     pub length: usize,
-    /// What the bytes are.
+    /// The meaning of the bytes.
     pub content: Content,
 }
 
-/// What the bytes of an item are.
+/// The meaning of the bytes of an item.
 #[derive(Drop)]
 pub enum Content {
-    /// The type of a unidirectional stream, and the session ID that follows it on a WebTransport
-    /// stream (RFC 9114, section 6.2).
+    /// The stream type of a unidirectional stream and, on a WebTransport stream, the session ID
+    /// after it (RFC 9114, section 6.2).
     Stream(StreamHead),
-    /// A frame: its head, and what is present of its payload (RFC 9114, section 7.1).
+    /// A frame: its header, and the part of its payload that is present (RFC 9114, section 7.1).
     Frame(FrameItem),
-    /// The type and the session ID that begin a bidirectional WebTransport stream
+    /// The frame type and session ID at the start of a bidirectional WebTransport stream
     /// (draft-ietf-webtrans-http3-02, section 4.2). The value is the session ID.
     Session(u64),
-    /// Bytes of an application, or of a stream whose bytes are not frames. They are not read.
+    /// Application data, or bytes of a stream without frames. They are not interpreted.
     Payload,
-    /// A capsule that no DATA frame contains (RFC 9297, section 3.2).
+    /// A capsule outside a DATA frame (RFC 9297, section 3.2).
     Capsule(CapsuleItem),
-    /// An HTTP datagram (RFC 9297, section 2.1).
+    /// An HTTP Datagram (RFC 9297, section 2.1).
     Datagram(DatagramHead),
     /// An encoded field section (RFC 9204, section 4.5).
     Section(FieldSection),
     /// The payload of a SETTINGS frame (RFC 9114, section 7.2.4).
     Settings(Vec<SettingLine>),
-    /// Bytes that were not read: too few for an item, or a fault is before or in them.
+    /// Bytes that were not read: too few for an item, or at or after an error.
     Unread,
 }
 
-/// The head of a unidirectional stream.
+/// The header of a unidirectional stream.
 #[derive(Clone, Copy, Debug, PartialEq, Eq)]
 pub struct StreamHead {
-    /// The type.
+    /// The stream type.
     pub number: u64,
-    /// The name of the type.
+    /// The name of the stream type.
     pub name: StreamName,
     /// The session ID, on a WebTransport stream.
     pub session: Option<u64>,
 }
 
-/// A frame other than that of a WebTransport stream.
+/// A frame, other than the one that starts a WebTransport stream.
 #[derive(Drop)]
 pub struct FrameItem {
-    /// The type.
+    /// The frame type.
     pub number: u64,
-    /// The name of the type.
+    /// The name of the frame type.
     pub name: FrameName,
-    /// How many bytes the type and the length have. The payload follows them.
+    /// The length of the frame header (type and length), in bytes. The payload follows it.
     pub head: usize,
-    /// The length that the frame announces, in bytes.
+    /// The declared length of the payload, in bytes.
     pub announced: u64,
-    /// How many bytes of the payload are present.
+    /// The number of payload bytes that are present.
     pub present: usize,
-    /// What the payload contains.
+    /// The contents of the payload.
     pub parts: Parts,
 }
 
-/// What the payload of a frame contains.
+/// The contents of a frame payload.
 #[derive(Drop)]
 pub enum Parts {
-    /// Bytes that are not read.
+    /// Bytes that are not interpreted.
     Opaque,
     /// The field lines of a HEADERS frame.
     Fields(FieldSection),
@@ -100,13 +100,13 @@ pub enum Parts {
     Capsules(Vec<CapsuleItem>),
 }
 
-/// The head of a datagram. The payload follows it in the same item.
+/// The header of a datagram. The payload follows it in the same item.
 #[derive(Clone, Copy, Debug, PartialEq, Eq)]
 pub struct DatagramHead {
     /// The quarter stream ID.
     pub quarter: u64,
     /// The session ID, which is four times the quarter stream ID.
     pub session: u64,
-    /// How many bytes the payload has.
+    /// The length of the payload, in bytes.
     pub payload: usize,
 }

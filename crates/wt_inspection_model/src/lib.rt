@@ -1,8 +1,8 @@
 //! The items of an inspection: the types that `wt_inspection` returns, and the names of frame and
 //! stream types.
 //!
-//! A crate of its own, so that what writes an inspection can be proved at the same time as what
-//! makes it. `wt_inspection` passes [`item`] on.
+//! They are a separate crate so that the code that displays an inspection can be proved in
+//! parallel with the code that produces it. `wt_inspection` re-exports [`item`].
 #![tactic(auto)]
 
 pub mod item;

@@ -1,24 +1,24 @@
 //! Capsules.
 
-/// A capsule by its type and its length (RFC 9297, section 3.2).
+/// The type and length of a capsule (RFC 9297, section 3.2).
 #[derive(Drop)]
 pub struct CapsuleItem {
-    /// The place of its first byte.
+    /// The offset of the first byte.
     pub at: usize,
     /// The type.
     pub number: u64,
     /// The name of the type: `CLOSE_WEBTRANSPORT_SESSION`, `DATAGRAM`, `reserved` or `unknown`.
     pub name: &'static str,
-    /// The length that it announces, in bytes.
+    /// The declared length of the value, in bytes.
     pub announced: u64,
-    /// The code and the reason, once a capsule that closes its session is complete.
+    /// The error code and reason, if this is a complete capsule that closes its session.
     pub close: Option<CloseReason>,
 }
 
 /// Why a session is closed (draft-ietf-webtrans-http3-02, section 5).
 #[derive(Drop)]
 pub struct CloseReason {
-    /// The error code of the application.
+    /// The application error code.
     pub code: u64,
     /// The reason.
     pub reason: String,

@@ -1,50 +1,50 @@
-//! How bytes end, and what looks wrong in them.
+//! How the input ends, and warnings about it.
 
 use wtp_core::error::ErrorCode;
 
-/// How the bytes end.
+/// How the input ends.
 #[derive(Clone, Copy, Debug, PartialEq, Eq)]
 pub enum End {
     /// After a complete item.
     Whole,
-    /// Within an item, though more bytes may follow.
+    /// Within an item that more bytes may complete.
     Cut(Cut),
-    /// At the first fault. The bytes from the item with the fault on are not read further.
+    /// At the first error. Reading stops at the item that contains it.
     Fault(Fault),
 }
 
-/// An item that the bytes cut.
+/// An item that the input truncates.
 #[derive(Clone, Copy, Debug, PartialEq, Eq)]
 pub struct Cut {
-    /// The place of the item.
+    /// The offset of the item.
     pub at: usize,
-    /// What it is, as `frame` or `capsule`.
+    /// The kind of item, such as `frame` or `capsule`.
     pub item: &'static str,
-    /// How many bytes are missing at least.
+    /// The least number of bytes that are missing.
     pub missing: u64,
 }
 
-/// The first fault.
+/// The first error.
 #[derive(Clone, Copy, Debug, PartialEq, Eq)]
 pub struct Fault {
-    /// The place of the item with the fault.
+    /// The offset of the item with the error.
     pub at: usize,
     /// The error code.
     pub code: ErrorCode,
-    /// Why, in one sentence with the section of the standard.
+    /// The reason, as one sentence that cites the section of the standard.
     pub why: &'static str,
-    /// How many bytes are missing at least, if the fault is that the stream ends within the item;
-    /// otherwise 0.
+    /// The least number of bytes that are missing if the stream ends within the item; otherwise
+    /// 0.
     pub missing: u64,
 }
 
-/// What looks wrong but does not end the reading.
+/// A protocol violation that does not stop reading.
 #[derive(Clone, Copy, Debug, PartialEq, Eq)]
 pub struct Warning {
-    /// The place of the item.
+    /// The offset of the item.
     pub at: usize,
-    /// Which field line of the item, counted from 0, if it is one.
+    /// The index of the field line within the item, from 0, if the warning is about one.
     pub line: Option<usize>,
-    /// What is wrong, in one sentence with the section of the standard.
+    /// The violation, as one sentence that cites the section of the standard.
     pub why: &'static str,
 }

@@ -9,7 +9,7 @@ use wtp_wire::stream_header::StreamKind;
 /// The name of a frame type.
 #[derive(Clone, Copy, Debug, PartialEq, Eq)]
 pub enum FrameName {
-    /// A type that the library reads, or a reserved one.
+    /// A frame type that the library reads, or a reserved one.
     Read(FrameKind),
     /// CANCEL_PUSH (RFC 9114, section 7.2.3).
     CancelPush,
@@ -19,11 +19,11 @@ pub enum FrameName {
     Goaway,
     /// MAX_PUSH_ID (RFC 9114, section 7.2.7).
     MaxPushId,
-    /// PRIORITY_UPDATE of a request or of a push (RFC 9218, section 7.2).
+    /// PRIORITY_UPDATE for a request or a push (RFC 9218, section 7.2).
     PriorityUpdate,
-    /// A type of HTTP/2 that must not be sent (RFC 9114, section 7.2.8).
+    /// An HTTP/2 frame type, which must not be sent (RFC 9114, section 7.2.8).
     Http2,
-    /// A type that is not known.
+    /// An unknown type.
     Unknown,
 }
 
@@ -47,7 +47,7 @@ impl FrameName {
         }
     }
 
-    /// Returns the text of the name: as the RFCs write it, `reserved`, `unknown`, or `HTTP/2`.
+    /// Returns the text of the name: the name in the RFC, `reserved`, `unknown` or `HTTP/2`.
     pub fn as_str(self) -> &'static str
         ensures { result.now ≡ frame_name_text self }
     {
@@ -68,14 +68,14 @@ impl FrameName {
     }
 }
 
-/// The name of the type of a unidirectional stream.
+/// The name of a type of unidirectional stream.
 #[derive(Clone, Copy, Debug, PartialEq, Eq)]
 pub enum StreamName {
-    /// A type that the library reads, or a reserved one.
+    /// A stream type that the library reads, or a reserved one.
     Read(StreamKind),
     /// A push stream (RFC 9114, section 6.2.2).
     Push,
-    /// A type that is not known.
+    /// An unknown type.
     Unknown,
 }
 
@@ -95,7 +95,7 @@ impl StreamName {
         }
     }
 
-    /// Returns the text of the name: that of the stream's purpose, `reserved`, or `unknown`.
+    /// Returns the text of the name: the purpose of the stream, `reserved` or `unknown`.
     pub fn as_str(self) -> &'static str
         ensures { result.now ≡ stream_name_text self }
     {
