@@ -1,4 +1,4 @@
-//! The program `wt_frames`: lists the frames of a recorded stream that is read from standard input.
+//! Lists the frames of a recorded stream that is read from standard input.
 #![tactic(auto)]
 
 use std::env::{self, Env};
@@ -25,7 +25,7 @@ fn main(rt: HostRuntime) -> ExitCode {
     ExitCode::from(status)
 }
 
-/// The arguments after the program's name.
+/// Returns the program's arguments, without its name.
 fn arguments<R: Env + AllocGlobal>(rt: &R) -> io::Result<Vec<String>> {
     let arguments = env::args(rt)?.skip(1).collect(rt.alloc())?;
     Ok(arguments)
