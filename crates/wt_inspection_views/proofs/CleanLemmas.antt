@@ -1,4 +1,4 @@
--- Texts without control characters: what is shown of bytes has none, and a line has only its line
+-- Texts without control characters: escaped bytes contain none, and a line contains only its line
 -- feed.
 use Rattle.std.proofs.Common.{arith, suc, inl, inr, ◌≡◌, ℕ, ◌+◌, ◌<◌, ◌≤◌, ◌/◌, ◌%◌, ◌^◌, ◌&&◌, not, cond, Bool, true, false, nat_eq, nat_lt, nat_le, List, [], ◌∷◌, ◌++◌, get_or, refl, sym, ap, subst}
 use Rattle.std.specs.Char.{is_control}

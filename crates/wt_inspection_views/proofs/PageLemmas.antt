@@ -1,4 +1,4 @@
--- Pieces of a page after pieces of a page.
+-- Concatenation of the pieces of a page.
 use Rattle.std.proofs.Common.{arith, ◌≡◌, ℕ, Bool, true, false, cond, IsTrue, List, [], ◌∷◌, ◌++◌, sym, subst, ap, ◌∙◌}
 use Rattle.std.specs.List.{flat_map}
 use Rattle.std.proofs.lemmas.List.{flat_map_more}
@@ -16,7 +16,7 @@ BeginsPage-pushed old new piece false o e = subst BeginsPage (sym e) o
 pub IsPage-ended : (old new : List ℕ) → BeginsPage old → new ≡ old ++ piece_bytes (markup Tail) → IsPage new
 IsPage-ended old new o e = (o.0, e ∙ rw o.1 (flat_map_more piece_bytes [] (markup Head ∷ o.0) (markup Tail)))
 
--- the head after no bytes, if it was added
+-- an empty page begins with the head once it is appended
 pub BeginsPage-begun : (old new : List ℕ) (added ok : Bool) → old ≡ [] → new ≡ cond added (old ++ piece_bytes (markup Head)) old → ok ≡ added → IsTrue ok → BeginsPage new
 BeginsPage-begun old new added ok n e k w = begun old new added n e (subst IsTrue k w)
   where

@@ -1,4 +1,4 @@
--- Bytes of which the same is shown are the same bytes.
+-- Different bytes have different displayed forms.
 use Rattle.std.proofs.Common.{arith, suc, inl, inr, ◌≡◌, ℕ, ◌+◌, ◌<◌, ◌/◌, ◌%◌, ◌^◌, cond, Bool, true, false, nat_eq, nat_lt, List, [], ◌∷◌, ◌++◌, get_or, drop, All, refl, sym, ap, ap₂, ◌∙◌, subst}
 use Rattle.std.specs.List.{flat_map, list_any}
 use Rattle.std.proofs.lemmas.Bool.{or_parts, ltb-true}
@@ -33,7 +33,7 @@ head_same b c m n e = ap (λ (l : List ℕ). get_or l 0 0) e
 tail_same : (b c : ℕ) (m n : List ℕ) → b ∷ m ≡ c ∷ n → m ≡ n
 tail_same b c m n e = ap (λ (l : List ℕ). drop 1 l) e
 
--- a byte, or its escape, before what comes after it
+-- the plain or escaped form of a byte, followed by more bytes
 abbrev shown_before : ℕ → Bool → List ℕ → List ℕ
 shown_before b p more = cond p (b ∷ []) (92 ∷ 120 ∷ digit_of (b / 16) ∷ digit_of (b % 16) ∷ []) ++ more
 

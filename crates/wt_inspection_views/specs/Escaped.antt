@@ -1,19 +1,19 @@
--- Bytes as a part of one line, and texts without control characters.
+-- Bytes displayed within a line, and texts without control characters.
 use Rattle.std.specs.Prelude.{◌≡◌, ◌⊎◌, ℕ, ◌+◌, ◌/◌, ◌%◌, if◌then◌else◌, Bool, false, ◌&&◌, not}
 use Rattle.std.specs.Prelude.{List, [], ◌∷◌, ◌++◌, nat_eq, nat_lt, nat_le, count_by, codes}
 use Rattle.std.specs.Char.{is_control}
 use Rattle.std.specs.List.{flat_map, list_any}
 use Rattle.std.specs.Str.{NoCharPasses}
 
--- a hexadecimal digit, as a character
+-- the character of a hexadecimal digit
 abbrev pub digit_of : ℕ → ℕ
 digit_of n = if nat_lt n 10 then 48 + n else 87 + n
 
--- a printable byte of ASCII, and not a backslash
+-- the byte is printable ASCII other than a backslash
 abbrev pub is_plain_byte : ℕ → Bool
 is_plain_byte b = nat_le 32 b && nat_lt b 127 && not (nat_eq b 92)
 
--- a byte: as it is, if it is plain; otherwise \xNN
+-- the escaped form of a byte: itself if it is plain, otherwise \xNN
 abbrev pub escaped_byte : ℕ → List ℕ
 escaped_byte b =
     if is_plain_byte b then b ∷ [] else codes "\\x" ++ digit_of (b / 16) ∷ digit_of (b % 16) ∷ []
@@ -22,14 +22,14 @@ escaped_byte b =
 abbrev pub HasNoBackslash : List ℕ → Type 0
 HasNoBackslash bytes = list_any (λ b. nat_eq b 92) bytes ≡ false
 
--- what is shown of bytes: these bytes, which only a text with neither control characters nor
--- backslashes is; or each byte escaped
+-- the displayed form of bytes: the bytes themselves, if they contain no control characters and no
+-- backslashes, or each byte in its escaped form
 abbrev pub IsShown : List ℕ → List ℕ → Type 0
 IsShown bytes shown =
     ((shown ≡ bytes) × NoCharPasses is_control bytes × HasNoBackslash bytes)
     ⊎ (shown ≡ flat_map escaped_byte bytes)
 
--- what is shown of bytes was added to a line
+-- the displayed form of these bytes was appended to a line
 abbrev pub AddsShown : List ℕ → List ℕ → List ℕ → Type 0
 AddsShown bytes old new = (shown : List ℕ) × IsShown bytes shown × (new ≡ old ++ shown)
 
@@ -37,23 +37,23 @@ AddsShown bytes old new = (shown : List ℕ) × IsShown bytes shown × (new ≡ 
 abbrev pub is_hidden : ℕ → Bool
 is_hidden c = is_control c && not (nat_eq c 10)
 
--- a text whose only control characters are line feeds
+-- the text contains no control characters other than line feeds
 abbrev pub IsClean : List ℕ → Type 0
 IsClean = NoCharPasses is_hidden
 
--- what a line has of these words: the words, if they have no control characters; otherwise what is
--- shown of them
+-- the displayed form of words in a line: the words themselves, if they contain no control
+-- characters, or their form as displayed bytes
 abbrev pub IsPlain : List ℕ → List ℕ → Type 0
 IsPlain words plain = ((plain ≡ words) × NoCharPasses is_control words) ⊎ IsShown words plain
 
--- a line of these words, with its line feed
+-- the line contains the displayed form of these words and ends with a line feed
 abbrev pub IsLine : List ℕ → List ℕ → Type 0
 IsLine words line = (plain : List ℕ) × IsPlain words plain × (line ≡ plain ++ codes "\n")
 
--- a line of these words was added to a text
+-- a line with these words was appended to a text
 abbrev pub AddsLine : List ℕ → List ℕ → List ℕ → Type 0
 AddsLine words old new = (line : List ℕ) × IsLine words line × (new ≡ old ++ line)
 
--- the line feeds of a text, each of which ends a line
+-- the number of lines in a text, each ended by a line feed
 abbrev pub line_count : List ℕ → ℕ
 line_count = count_by (λ b. nat_eq b 10)

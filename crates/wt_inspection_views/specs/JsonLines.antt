@@ -1,13 +1,13 @@
--- Lines of JSON, each of which is one object.
+-- Lines of JSON, one object per line.
 use Rattle.std.specs.Prelude.{◌≡◌, ℕ, Bool, true, false, List, [], ◌∷◌, ◌++◌, ◌&&◌, nat_le, fold}
 use Rattle.std.specs.List.{flat_map}
 use Rattle.json.specs.Token.{Token}
 use Rattle.json.specs.Lex.{tokens}
 use Rattle.json.specs.Print.{print}
 
--- where the tokens so far leave a text: before its object; in an object, where a member or the end
--- may come; after the name of a member; in an array; after the object; or not in JSON. The list has
--- the brackets around, the innermost first: whether each is that of an object
+-- the state of a JSON text after some tokens: before its object; in an object, before a member or
+-- the end; after the name of a member; in an array; after the object; or not valid JSON. The list
+-- gives the enclosing brackets, innermost first: true for an object, false for an array
 pub data Place : Type 0 where
   start : Place
   in_object : List Bool → Place
@@ -16,13 +16,14 @@ pub data Place : Type 0 where
   done : Place
   wrong : Place
 
--- after a value within these brackets
+-- the state after a value within these enclosing brackets
 abbrev pub after_value : List Bool → Place
 after_value [] = done
 after_value (true ∷ outer) = in_object outer
 after_value (false ∷ outer) = in_array outer
 
--- after a value that is a member of an object, or an element of an array, within these brackets
+-- the state after the first token of a value, which is the value of a member or an element of an
+-- array, within these enclosing brackets
 abbrev pub value_place : Bool → List Bool → Token → Place
 value_place is_member outer Token.begin_object = in_object (is_member ∷ outer)
 value_place is_member outer Token.begin_array = in_array (is_member ∷ outer)
@@ -32,23 +33,23 @@ value_place is_member outer (Token.boolean b) = after_value (is_member ∷ outer
 value_place is_member outer Token.null = after_value (is_member ∷ outer)
 value_place is_member outer other = wrong
 
--- in an object, its next token
+-- the state after a token inside an object
 abbrev pub member_place : List Bool → Token → Place
 member_place outer (Token.key s) = after_name outer
 member_place outer Token.end_object = after_value outer
 member_place outer other = wrong
 
--- in an array, its next token
+-- the state after a token inside an array
 abbrev pub element_place : List Bool → Token → Place
 element_place outer Token.end_array = after_value outer
 element_place outer other = value_place false outer other
 
--- the first token
+-- the state after the first token
 abbrev pub first_place : Token → Place
 first_place Token.begin_object = in_object []
 first_place other = wrong
 
--- after one token more (RFC 8259, sections 2, 4 and 5)
+-- the state after one more token (RFC 8259, sections 2, 4 and 5)
 abbrev pub next_place : Place → Token → Place
 next_place start t = first_place t
 next_place (in_object outer) t = member_place outer t
@@ -57,7 +58,7 @@ next_place (in_array outer) t = element_place outer t
 next_place done t = wrong
 next_place wrong t = wrong
 
--- after these tokens
+-- the state after these tokens
 abbrev pub place_of : List Token → Place
 place_of = fold next_place start
 
@@ -65,29 +66,29 @@ place_of = fold next_place start
 abbrev pub IsObject : List Token → Type 0
 IsObject ts = place_of ts ≡ done
 
--- the line of these tokens: as the crate json writes them, and a line feed; a text among them is a
--- string with its escapes (RFC 8259, section 7)
+-- the line of these tokens: their text as the crate json prints it, with strings escaped (RFC
+-- 8259, section 7), and a line feed
 abbrev pub json_line : List Token → List ℕ
 json_line ts = print ts ++ 10 ∷ []
 
--- what is written of these tokens reads back as them
+-- the printed tokens parse to the same tokens
 abbrev pub ReadsBack : List Token → Type 0
 ReadsBack ts = tokens (print ts) ≡ ts
 
--- a line of JSON
+-- the bytes are one line of JSON, which contains an object and reads back as the same tokens
 abbrev pub IsJsonLine : List ℕ → Type 0
 IsJsonLine line = (ts : List Token) × (line ≡ json_line ts) × ReadsBack ts × IsObject ts
 
--- each is an object, and reads back
+-- each token list is an object and reads back as the same tokens
 abbrev pub AreObjects : List (List Token) → Type 0
 AreObjects [] = Unit {0}
 AreObjects (ts ∷ more) = (ReadsBack ts × IsObject ts) × AreObjects more
 
--- lines of JSON and nothing else
+-- the bytes are lines of JSON and nothing else
 abbrev pub AreJsonLines : List ℕ → Type 0
 AreJsonLines bytes =
     (lines : List (List Token)) × (bytes ≡ flat_map json_line lines) × AreObjects lines
 
--- a control character that JSON does not escape: DEL, and those from U+0080 on
+-- a control character that JSON does not escape: DEL, or U+0080 to U+009F
 abbrev pub is_late_control : ℕ → Bool
 is_late_control c = nat_le 127 c && nat_le c 159

@@ -1,4 +1,4 @@
-//! Bytes as a part of one line.
+//! Displays bytes within a line.
 ghost use Rattle.std.specs.Prelude.{◌≡◌, ◌<◌, ◌++◌, IfOk, IsTrue, string_bytes};
 ghost use Rattle.std.specs.Char.{is_control};
 ghost use Rattle.std.specs.Str.{NoCharPasses};
@@ -6,12 +6,13 @@ ghost use Rattle.wt_inspection_views.specs.Escaped.{AddsShown, HasNoBackslash, d
 
 use std::alloc::AllocError;
 
-/// Adds bytes to a line: as they are, if they are UTF-8 without control characters and without
-/// backslashes; otherwise each byte but the printable ones of ASCII as `\xNN`, a backslash too. So
-/// no control character is added, and different bytes are added differently
+/// Appends bytes to a line. They are appended unchanged if they are UTF-8 without control
+/// characters and backslashes. Otherwise each byte other than printable ASCII, and each
+/// backslash, is appended as `\xNN`. No control character is ever appended, and different bytes
+/// have different displayed forms
 /// ([`shown_bytes_are_told_apart`](crate::laws::shown_bytes_are_told_apart)).
 ///
-/// Returns [`AllocError`] if allocation fails; then a part of the bytes may be added.
+/// Returns [`AllocError`] if allocation fails. Some of the bytes may then be appended.
 pub fn add_escaped(line: &mut String, bytes: &[u8]) -> Result<(), AllocError>
     ensures { IfOk result (λ _.
         AddsShown bytes.now (string_bytes line.old) (string_bytes line.new)) }
@@ -27,7 +28,7 @@ pub fn add_escaped(line: &mut String, bytes: &[u8]) -> Result<(), AllocError>
     Ok(())
 }
 
-/// Returns whether a text has neither control characters nor backslashes.
+/// Returns whether a text contains no control characters and no backslashes.
 fn is_plain(text: &str) -> bool
     ensures control { IsTrue result → NoCharPasses is_control text.now }
     ensures backslash { IsTrue result → HasNoBackslash text.now }
@@ -35,14 +36,14 @@ fn is_plain(text: &str) -> bool
     has_no_control(text) && !text.as_bytes().contains(&b'\\')
 }
 
-/// Returns whether a text has no control characters.
+/// Returns whether a text contains no control characters.
 pub(crate) fn has_no_control(text: &str) -> bool
     ensures { IsTrue result → NoCharPasses is_control text.now }
 {
     !text.chars().any(|c| c.is_control())
 }
 
-/// Adds a byte, escaped unless it is plain.
+/// Appends a byte, escaped unless it is plain.
 fn add_byte(line: &mut String, byte: u8) -> Result<(), AllocError>
     ensures { IfOk result
         (λ _. string_bytes line.new ≡ string_bytes line.old ++ escaped_byte byte) }
@@ -55,20 +56,20 @@ fn add_byte(line: &mut String, byte: u8) -> Result<(), AllocError>
     line.push(hex_digit(byte % 16))
 }
 
-/// Returns whether a byte is a printable one of ASCII, and not a backslash.
+/// Returns whether a byte is printable ASCII other than a backslash.
 fn is_printable(byte: u8) -> bool
     ensures { result ≡ is_plain_byte byte }
 {
     byte >= 0x20 && byte < 0x7f && byte != b'\\'
 }
 
-/// Adds the two hexadecimal digits of a byte.
+/// Appends the two hexadecimal digits of a byte.
 pub(crate) fn add_hex_byte(words: &mut String, byte: u8) -> Result<(), AllocError> {
     words.push(hex_digit(byte / 16))?;
     words.push(hex_digit(byte % 16))
 }
 
-/// Returns a hexadecimal digit.
+/// Returns the character of a hexadecimal digit.
 fn hex_digit(value: u8) -> char
     requires { value < 16 }
     ensures digit { result ≡ digit_of value }

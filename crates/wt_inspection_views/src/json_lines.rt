@@ -1,4 +1,4 @@
-//! Inspections as JSON (RFC 8259), one object a line.
+//! Displays inspections as JSON (RFC 8259), one object per line.
 ghost use Rattle.std.specs.Prelude.{[], IfOk};
 ghost use Rattle.wt_inspection_views.specs.JsonLines.{AreJsonLines, in_object};
 ghost use Rattle.wt_inspection_views.specs.Objects.{AddsMembers, IsAt};
@@ -16,15 +16,15 @@ use wt_inspection_model::item::{
     Parts, SettingLine, StreamHead, Warning,
 };
 
-/// Returns the inspection of these bytes as JSON: an object for each item, warning and end, each on
-/// a line of its own, which ends with a line feed.
+/// Formats an inspection of `bytes` as JSON: one object for each item, one for each warning, and
+/// one for the end, each on its own line that ends with a line feed.
 ///
-/// - Each object has `at`, its place in bytes, and `item`, one of `stream`, `frame`, `session`,
-///   `payload`, `capsule`, `datagram`, `section`, `settings`, `unread`, `warning` and `end`. Items
-///   have their number of bytes as `length`, which together are all bytes of the input.
-/// - `end` has `state`, one of `whole`, `cut` with `missing`, and `fault` with `code` and `name`.
-/// - If `payload`, items with payload of an application have its hexadecimal digits as `hex`.
-/// - What a peer sent is a string if it is UTF-8 without DEL and without U+0080 to U+009F, and
+/// - Each object has `at`, its offset in bytes, and `item`, one of `stream`, `frame`, `session`,
+///   `payload`, `capsule`, `datagram`, `section`, `settings`, `unread`, `warning` and `end`.
+///   Items have their number of bytes as `length`; together they cover the whole input.
+/// - `end` has `state`: `whole`, `cut` with `missing`, or `fault` with `code` and `name`.
+/// - If `payload` is set, items with application data have its hexadecimal digits as `hex`.
+/// - Bytes from a peer are a string if they are UTF-8 without DEL and U+0080 to U+009F, and
 ///   otherwise `{"hex":".."}`.
 ///
 /// Returns [`AllocError`] if allocation fails.
@@ -47,8 +47,8 @@ pub fn write_json(
     lines.into_bytes()
 }
 
-/// Writes the lines of an item, with these bytes of its payload, and of those of these warnings that
-/// are about it. Returns the others.
+/// Appends the lines of an item, with `shown` as its payload bytes, and of the warnings about it.
+/// Returns the remaining warnings.
 fn write_all_of<'a>(
     lines: &mut Lines,
     item: &Item,
@@ -61,7 +61,7 @@ fn write_all_of<'a>(
     later
 }
 
-/// Writes the line of an item after these lines, with these bytes of its payload.
+/// Appends the line of an item, with `shown` as its payload bytes.
 fn write_item(lines: &mut Lines, item: &Item, shown: &[u8]) {
     let mut object = Object::new(lines.alloc);
     object.add_number("at", item.at as u64);
@@ -71,7 +71,7 @@ fn write_item(lines: &mut Lines, item: &Item, shown: &[u8]) {
     lines.add(object)
 }
 
-/// Adds these bytes of a payload, if there are some.
+/// Appends payload bytes, unless there are none.
 fn add_shown(object: &mut Object, shown: &[u8])
     ensures { AddsMembers object.old object.new }
 {
@@ -80,7 +80,7 @@ fn add_shown(object: &mut Object, shown: &[u8])
     }
 }
 
-/// Adds what an item is.
+/// Appends the contents of an item.
 fn add_content(object: &mut Object, content: &Content)
     ensures { AddsMembers object.old object.new }
 {
@@ -97,7 +97,7 @@ fn add_content(object: &mut Object, content: &Content)
     }
 }
 
-/// Adds the head of a bidirectional WebTransport stream.
+/// Appends the header of a bidirectional WebTransport stream.
 fn add_session(object: &mut Object, id: u64)
     ensures { AddsMembers object.old object.new }
 {
@@ -105,7 +105,7 @@ fn add_session(object: &mut Object, id: u64)
     object.add_number("session", id)
 }
 
-/// Adds a capsule that no DATA frame contains.
+/// Appends a capsule that is outside a DATA frame.
 fn add_capsule_item(object: &mut Object, capsule: &CapsuleItem)
     ensures { AddsMembers object.old object.new }
 {
@@ -113,7 +113,7 @@ fn add_capsule_item(object: &mut Object, capsule: &CapsuleItem)
     add_capsule(object, capsule)
 }
 
-/// Adds a field section that no HEADERS frame contains.
+/// Appends a field section that is outside a HEADERS frame.
 fn add_section_item(object: &mut Object, section: &FieldSection)
     ensures { AddsMembers object.old object.new }
 {
@@ -121,7 +121,7 @@ fn add_section_item(object: &mut Object, section: &FieldSection)
     add_section(object, section)
 }
 
-/// Adds settings that no SETTINGS frame contains.
+/// Appends settings that are outside a SETTINGS frame.
 fn add_settings_item(object: &mut Object, settings: &[SettingLine])
     ensures { AddsMembers object.old object.new }
 {
@@ -129,7 +129,7 @@ fn add_settings_item(object: &mut Object, settings: &[SettingLine])
     add_settings(object, settings)
 }
 
-/// Adds the head of a unidirectional stream.
+/// Appends the header of a unidirectional stream.
 fn add_stream(object: &mut Object, head: StreamHead)
     ensures { AddsMembers object.old object.new }
 {
@@ -142,7 +142,7 @@ fn add_stream(object: &mut Object, head: StreamHead)
     }
 }
 
-/// Adds a frame.
+/// Appends a frame.
 fn add_frame(object: &mut Object, frame: &FrameItem)
     ensures { AddsMembers object.old object.new }
 {
@@ -154,7 +154,7 @@ fn add_frame(object: &mut Object, frame: &FrameItem)
     add_parts(object, &frame.parts)
 }
 
-/// Adds how many bytes of a frame's payload are present, if not all.
+/// Appends the number of payload bytes that are present, unless all are.
 fn add_present(object: &mut Object, frame: &FrameItem)
     ensures { AddsMembers object.old object.new }
 {
@@ -163,7 +163,7 @@ fn add_present(object: &mut Object, frame: &FrameItem)
     }
 }
 
-/// Adds what a frame contains.
+/// Appends the contents of a frame.
 fn add_parts(object: &mut Object, parts: &Parts)
     ensures { AddsMembers object.old object.new }
 {
@@ -175,7 +175,7 @@ fn add_parts(object: &mut Object, parts: &Parts)
     }
 }
 
-/// Adds the head of a datagram.
+/// Appends the header of a datagram.
 fn add_datagram(object: &mut Object, head: DatagramHead)
     ensures { AddsMembers object.old object.new }
 {
@@ -185,14 +185,14 @@ fn add_datagram(object: &mut Object, head: DatagramHead)
     object.add_number("payload", head.payload as u64)
 }
 
-/// Writes the lines of warnings after these lines.
+/// Appends the lines of warnings.
 fn write_warnings(lines: &mut Lines, warnings: &[Warning]) {
     for warning in warnings {
         write_warning(lines, warning);
     }
 }
 
-/// Writes the line of a warning after these lines.
+/// Appends the line of a warning.
 fn write_warning(lines: &mut Lines, warning: &Warning) {
     let mut object = Object::new(lines.alloc);
     object.add_number("at", warning.at as u64);
@@ -202,7 +202,7 @@ fn write_warning(lines: &mut Lines, warning: &Warning) {
     lines.add(object)
 }
 
-/// Adds the field line that a warning is about, if it is about one.
+/// Appends the index of the field line that a warning is about, if there is one.
 fn add_place(object: &mut Object, line: Option<usize>)
     ensures { AddsMembers object.old object.new }
 {
@@ -212,14 +212,14 @@ fn add_place(object: &mut Object, line: Option<usize>)
     }
 }
 
-/// Writes the line of the end after these lines, where the input has this length.
+/// Appends the line that says how an input of this length ends.
 fn write_end(lines: &mut Lines, end: End, length: usize) {
     let mut object = Object::new(lines.alloc);
     add_end(&mut object, end, length);
     lines.add(object)
 }
 
-/// Adds how bytes of this length end.
+/// Appends how an input of this length ends.
 fn add_end(object: &mut Object, end: End, length: usize)
     ensures { AddsMembers object.old object.new }
 {
@@ -230,7 +230,7 @@ fn add_end(object: &mut Object, end: End, length: usize)
     }
 }
 
-/// Adds the end after this number of bytes.
+/// Appends an end after this number of bytes.
 fn add_whole(object: &mut Object, length: usize)
     ensures { AddsMembers object.old object.new }
 {
@@ -239,7 +239,7 @@ fn add_whole(object: &mut Object, length: usize)
     object.add_text("state", "whole")
 }
 
-/// Adds the end within an item.
+/// Appends an end within an item.
 fn add_cut(object: &mut Object, cut: Cut)
     ensures { AddsMembers object.old object.new }
 {
@@ -250,7 +250,7 @@ fn add_cut(object: &mut Object, cut: Cut)
     object.add_number("missing", cut.missing)
 }
 
-/// Adds the end at a fault.
+/// Appends an end at an error.
 fn add_fault(object: &mut Object, fault: Fault)
     ensures { AddsMembers object.old object.new }
 {

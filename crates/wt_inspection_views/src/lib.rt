@@ -1,8 +1,9 @@
-//! Inspections as text for people, as lines of JSON, and as a page of HTML.
+//! Displays inspections as text, as lines of JSON, and as an HTML page.
 //!
 //! [`write_text`](text::write_text), [`write_json`](json_lines::write_json) and
-//! [`write_html`](html::write_html) take an [`Inspection`](wt_inspection_model::item::Inspection) and the bytes
-//! that it is of. Each contract says what no byte of a peer can bring about.
+//! [`write_html`](html::write_html) take an [`Inspection`](wt_inspection_model::item::Inspection) and the
+//! bytes that were inspected. Their contracts state what bytes from a peer can never cause in the
+//! output.
 #![tactic(auto)]
 
 ghost use Rattle.std.specs.Prelude.{◌≡◌, ◌++◌};
@@ -17,7 +18,7 @@ pub mod text;
 
 use wt_inspection_model::item::{Item, Warning};
 
-/// Returns these bytes of the input, or none if they are not all there.
+/// Returns `length` bytes of the input from offset `at`, or no bytes if fewer are present.
 pub(crate) fn bytes_of(bytes: &[u8], at: usize, length: usize) -> &[u8]
     ensures { result.now ≡ bytes_at bytes.now at length }
 {
@@ -27,8 +28,8 @@ pub(crate) fn bytes_of(bytes: &[u8], at: usize, length: usize) -> &[u8]
     }
 }
 
-/// Splits warnings, in order of their places, after those about this item. The first must not be
-/// about an earlier one.
+/// Splits warnings into those about `item` and the remaining ones. They must be in order of their
+/// offsets, and none may be about an earlier item.
 pub(crate) fn split_warnings<'a>(
     item: &Item,
     warnings: &'a [Warning],

@@ -1,4 +1,4 @@
-//! Texts for a terminal.
+//! Text for a terminal.
 ghost use Rattle.std.specs.Prelude.{◌≡◌, ◌+◌, ℕ, List, [], IfOk, OnErr, string_bytes};
 ghost use Rattle.wt_inspection_views.specs.Escaped.{AddsLine, IsClean, IsLine, line_count};
 
@@ -6,7 +6,7 @@ use crate::escaped::{add_escaped, has_no_control};
 use std::alloc::{AllocError, Global};
 use std::marker::Model;
 
-/// A text whose only control characters are the line feeds that end its lines.
+/// A text whose only control characters are the line feeds at the ends of its lines.
 #[derive(Drop)]
 pub struct PlainText {
     alloc: Global,
@@ -33,10 +33,10 @@ impl PlainText {
         }
     }
 
-    /// Adds these words and a line feed. Words with control characters are added as
-    /// [`add_escaped`] adds them.
+    /// Appends a line with these words. If they contain control characters, they are appended as
+    /// by [`add_escaped`].
     ///
-    /// Returns [`AllocError`] if allocation fails; then the text is as it was.
+    /// Returns [`AllocError`] if allocation fails. The text is then unchanged.
     pub fn add_line(&mut self, words: &str) -> Result<(), AllocError>
         ensures added { IfOk result (λ _. AddsLine words.now self.old self.new) }
         ensures one_line { IfOk result (λ _. line_count self.new ≡ line_count self.old + 1) }
@@ -55,7 +55,7 @@ impl PlainText {
     }
 }
 
-/// Returns a line of these words, with its line feed.
+/// Returns a line with these words, ended by a line feed.
 fn line_of(alloc: Global, words: &str) -> Result<String, AllocError>
     ensures { IfOk result (λ l. IsLine words.now (string_bytes l)) }
 {

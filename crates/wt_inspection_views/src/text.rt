@@ -1,4 +1,4 @@
-//! Inspections as text for people.
+//! Displays inspections as text.
 ghost use Rattle.std.specs.Prelude.{◌≡◌, ◌+◌, IfOk, IsTrue, length, string_bytes, sum_by};
 ghost use Rattle.wt_inspection_views.specs.Escaped.{IsClean, line_count};
 ghost use Rattle.wt_inspection_views.specs.Lines.{Gains};
@@ -17,16 +17,17 @@ use wt_inspection_model::item::{
 };
 use wtp_wire::frame::FrameKind;
 
-/// Returns the inspection of these bytes as text for people.
+/// Formats an inspection of `bytes` as text.
 ///
-/// Each item has a line: its place, what it is, and its size. What it contains comes in further
-/// lines, which are indented. The last line says how the bytes end. If `payload`, the bytes of
-/// payloads are shown in hexadecimal digits.
+/// Each item has a line with its offset, its kind and its size. Its contents follow on further,
+/// indented lines. The last line says how the input ends. If `payload` is set, payload bytes are
+/// shown in hexadecimal.
 ///
-/// What a peer sent is shown as it is if it is UTF-8 without control characters and without
-/// backslashes; otherwise each byte but the printable ones of ASCII is `\xNN`. So the only control
-/// characters of the text are the line feeds at the ends of these lines, and their number is that of
-/// the items, the lines of what these contain, the warnings, and one.
+/// Bytes from a peer are shown unchanged if they are UTF-8 without control characters and
+/// backslashes. Otherwise each byte other than printable ASCII, and each backslash, is shown as
+/// `\xNN`. The only control characters of the text are therefore the line feeds at the ends of
+/// lines. The number of lines is that of the items, the lines of their contents, the warnings,
+/// and one.
 ///
 /// Returns [`AllocError`] if allocation fails.
 pub fn write_text(
@@ -50,8 +51,7 @@ pub fn write_text(
     text.into_text()
 }
 
-/// Adds the lines of an item, of these bytes of its payload, and of those of these warnings that are
-/// about it. Returns the others.
+/// Appends an item, its payload bytes and its warnings. Returns the remaining warnings.
 fn add_all_of<'a>(
     text: &mut Lines,
     item: &Item,
@@ -83,14 +83,14 @@ pub(crate) fn warning_lines(alloc: Global, warnings: &[Warning]) -> Result<Strin
     text.into_text()
 }
 
-/// Returns the line of how bytes of this length end.
+/// Returns the line that says how an input of this length ends.
 pub(crate) fn end_line(alloc: Global, end: End, length: usize) -> Result<String, AllocError> {
     let mut text = Lines::new(alloc);
     add_end(&mut text, end, length);
     text.into_text()
 }
 
-/// Returns the bytes of an item that are payload of an application, or none if payload is not shown.
+/// Returns the application data in an item, or no bytes if payload is not shown.
 pub(crate) fn shown_of<'a>(item: &Item, bytes: &'a [u8], payload: bool) -> &'a [u8]
     ensures { result.now ≡ shown_of_item payload bytes.now item.now }
 {
@@ -101,7 +101,7 @@ pub(crate) fn shown_of<'a>(item: &Item, bytes: &'a [u8], payload: bool) -> &'a [
     }
 }
 
-/// Returns the bytes of an item that are payload of an application.
+/// Returns the application data in an item.
 fn payload_of<'a>(item: &Item, bytes: &'a [u8]) -> &'a [u8]
     ensures { result.now ≡ payload_of_item bytes.now item.now item.now.content }
 {
@@ -118,7 +118,7 @@ fn payload_of<'a>(item: &Item, bytes: &'a [u8]) -> &'a [u8]
     }
 }
 
-/// Adds the lines of an item.
+/// Appends the lines of an item.
 fn add_item(text: &mut Lines, item: &Item)
     ensures { Gains (content_lines item.now.content) text.old text.new }
 {
@@ -147,7 +147,7 @@ fn add_item(text: &mut Lines, item: &Item)
     }
 }
 
-/// Returns the type of a unidirectional stream, and its session ID, if it has one.
+/// Returns the type of a unidirectional stream and its session ID, if it has one.
 fn words_of_stream(alloc: Global, head: StreamHead) -> Result<String, AllocError> {
     let name = head.name.as_str();
     let number = head.number;
@@ -157,7 +157,7 @@ fn words_of_stream(alloc: Global, head: StreamHead) -> Result<String, AllocError
     }
 }
 
-/// Adds the lines of a frame.
+/// Appends the lines of a frame.
 fn add_frame(text: &mut Lines, at: usize, frame: &FrameItem)
     ensures { Gains (1 + parts_lines frame.now.parts) text.old text.new }
 {
@@ -165,7 +165,7 @@ fn add_frame(text: &mut Lines, at: usize, frame: &FrameItem)
     add_parts(text, &frame.parts)
 }
 
-/// Adds the first line of a frame.
+/// Appends the first line of a frame.
 fn add_frame_head(text: &mut Lines, at: usize, frame: &FrameItem)
     ensures { Gains 1 text.old text.new }
 {
@@ -188,7 +188,7 @@ fn add_frame_head(text: &mut Lines, at: usize, frame: &FrameItem)
     }
 }
 
-/// Returns a name and the words of a size.
+/// Returns a name and a size as text.
 fn named_size(
     alloc: Global,
     name: &str,
@@ -198,7 +198,7 @@ fn named_size(
     format!(in alloc; "{name}, {size}")
 }
 
-/// Adds the line of a frame that the number of its type tells from others.
+/// Appends the line of a frame whose type has no unique name. It shows the number of the type.
 fn add_numbered(text: &mut Lines, at: usize, frame: &FrameItem, size: Result<String, AllocError>)
     ensures { Gains 1 text.old text.new }
 {
@@ -215,7 +215,7 @@ fn add_numbered(text: &mut Lines, at: usize, frame: &FrameItem, size: Result<Str
     }
 }
 
-/// Returns the number of a type and the words of a size.
+/// Returns the number of a type and a size as text.
 fn numbered_size(
     alloc: Global,
     number: u64,
@@ -225,7 +225,7 @@ fn numbered_size(
     format!(in alloc; "{number:#x}, {size}")
 }
 
-/// Returns the number of bytes of a frame's payload as text, and how many are present, if not all.
+/// Returns the payload length of a frame as text, and how many bytes are present unless all are.
 fn size_of_frame(alloc: Global, frame: &FrameItem) -> Result<String, AllocError> {
     let present = frame.present;
     let size = count_bytes(alloc, frame.announced)?;
@@ -236,7 +236,7 @@ fn size_of_frame(alloc: Global, frame: &FrameItem) -> Result<String, AllocError>
     }
 }
 
-/// Adds the lines of what a frame contains.
+/// Appends the lines of the contents of a frame.
 fn add_parts(text: &mut Lines, parts: &Parts)
     ensures { Gains (parts_lines parts.now) text.old text.new }
 {
@@ -248,7 +248,7 @@ fn add_parts(text: &mut Lines, parts: &Parts)
     }
 }
 
-/// Adds the lines of the capsules of a frame.
+/// Appends the lines of the capsules of a frame.
 fn add_capsules(text: &mut Lines, capsules: &[CapsuleItem])
     ensures { Gains (sum_by capsule_lines capsules.now) text.old text.new }
 {
@@ -257,8 +257,8 @@ fn add_capsules(text: &mut Lines, capsules: &[CapsuleItem])
     }
 }
 
-/// Returns what a field section is, by its pseudo-header fields (RFC 9114, section 4.3; RFC 8441,
-/// section 4).
+/// Returns the kind of a field section, by its pseudo-header fields (RFC 9114, section 4.3; RFC
+/// 8441, section 4).
 pub(crate) fn section_label(section: &FieldSection) -> &'static str {
     let lines = section.lines.as_slice();
     if lines
@@ -281,7 +281,7 @@ pub(crate) fn section_label(section: &FieldSection) -> &'static str {
     }
 }
 
-/// Returns what the line of a datagram says of it.
+/// Returns the details of a datagram.
 fn words_of_datagram(alloc: Global, head: DatagramHead) -> Result<String, AllocError> {
     let DatagramHead {
         quarter,
@@ -292,7 +292,7 @@ fn words_of_datagram(alloc: Global, head: DatagramHead) -> Result<String, AllocE
     format!(in alloc; "session {session}, quarter stream ID {quarter}, {size}")
 }
 
-/// Adds the line of how bytes of this length end.
+/// Appends the line that says how an input of this length ends.
 fn add_end(text: &mut Lines, end: End, length: usize)
     ensures { Gains 1 text.old text.new }
 {
@@ -303,14 +303,14 @@ fn add_end(text: &mut Lines, end: End, length: usize)
     }
 }
 
-/// Returns what the line of an item that is cut says of it.
+/// Returns the details of a truncated item.
 fn words_of_cut(alloc: Global, cut: Cut) -> Result<String, AllocError> {
     let Cut { item, missing, .. } = cut;
     let size = count_bytes(alloc, missing)?;
     format!(in alloc; "{item}, at least {size} missing")
 }
 
-/// Returns what the line of a fault says of it.
+/// Returns the details of an error.
 fn words_of_fault(alloc: Global, fault: Fault) -> Result<String, AllocError> {
     let Fault { code, why, .. } = fault;
     let number = code.to_code().into_inner();

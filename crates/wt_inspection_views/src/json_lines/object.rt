@@ -1,4 +1,4 @@
-//! Lines of JSON, each of which is one object.
+//! Lines of JSON, one object per line.
 ghost use Rattle.std.specs.Prelude.{◌≡◌, ℕ, Bool, true, false, List, [], ◌∷◌, ◌++◌, IfOk, IfSome, OnErr, OnOk, IsTrue};
 ghost use Rattle.std.specs.Str.{NoCharPasses};
 ghost use Rattle.json.specs.Token.{Token};
@@ -9,10 +9,11 @@ use json::Writer;
 use std::alloc::{AllocError, Global};
 use std::marker::Model;
 
-/// How many bytes an object has room for before it grows.
+/// The initial capacity of an object, in bytes.
 const INITIAL_CAPACITY: usize = 256;
 
-/// Lines of JSON. They remember a failed allocation, so what adds lines returns nothing.
+/// Lines of JSON. A failed allocation is recorded, and [`into_bytes`](Lines::into_bytes) reports
+/// it, so [`add`](Lines::add) returns nothing.
 #[derive(Drop)]
 pub(super) struct Lines {
     /// The allocator of the lines.
@@ -34,7 +35,7 @@ impl Lines {
     ghost use Rattle.wt_inspection_views.specs.JsonLines.{AreJsonLines, IsJsonLine, in_object};
     ghost use Rattle.wt_inspection_views.specs.Objects.{IsAt};
 
-    /// Creates no lines.
+    /// Creates an empty list of lines.
     pub(super) fn new(alloc: Global) -> Self
         ensures { result ≡ [] }
     {
@@ -45,7 +46,7 @@ impl Lines {
         }
     }
 
-    /// Ends an object, and adds it as a line.
+    /// Ends an object and appends it as a line. Records a failed allocation.
     pub(super) fn add(&mut self, object: Object)
         requires { IsAt (in_object []) object }
     {
@@ -54,9 +55,9 @@ impl Lines {
         }
     }
 
-    /// Ends an object, and adds it as a line.
+    /// Ends an object and appends it as a line.
     ///
-    /// Returns [`AllocError`] if allocation failed; then the lines are as they were.
+    /// Returns [`AllocError`] if an allocation failed. The lines are then unchanged.
     fn try_add(&mut self, object: Object) -> Result<(), AllocError>
         requires { IsAt (in_object []) object }
         ensures added { IfOk result
@@ -67,7 +68,7 @@ impl Lines {
         self.text.extend_from_slice(line.as_slice())
     }
 
-    /// Returns the lines, or [`AllocError`] if an allocation failed meanwhile.
+    /// Returns the lines, or [`AllocError`] if an allocation failed.
     pub(super) fn into_bytes(self) -> Result<Vec<u8>, AllocError>
         ensures { IfOk result (λ text. AreJsonLines text.items) }
     {
@@ -79,9 +80,10 @@ impl Lines {
     }
 }
 
-/// An object whose members are added in order. It remembers a failed allocation, so what adds
-/// members returns nothing. It has a writer of its own, since the kit's fills up to 16 KiB after a
-/// long text, and takes them back when it ends.
+/// A JSON object whose members are appended in order. A failed allocation is recorded, and
+/// [`into_line`](Object::into_line) reports it, so the methods that append members return
+/// nothing. The object has its own writer because the kit's writer may grow to 16 KiB for a long
+/// text, and frees this only when it ends.
 #[derive(Drop)]
 pub(super) struct Object {
     /// The allocator of the object.
@@ -95,7 +97,7 @@ impl Object {
     ghost use Rattle.wt_inspection_views.specs.JsonLines.{IsJsonLine, Place, in_object, in_array, after_name};
     ghost use Rattle.wt_inspection_views.specs.Objects.{AddsElements, AddsMembers, AddsName, AddsValue, IsAt};
 
-    /// Creates an object without members.
+    /// Creates an empty object.
     #[tactic(auto, unfolding(crate::specs::Objects::IsAt))]
     pub(super) fn new(alloc: Global) -> Self
         ensures { IsAt (in_object []) result }
@@ -111,7 +113,7 @@ impl Object {
         }
     }
 
-    /// Remembers that an allocation failed.
+    /// Records that an allocation failed.
     #[tactic(auto, unfolding(crate::specs::Objects::IsAt))]
     fn mark_failed(&mut self)
         ensures { (place : Place) → IsAt place self.new }
@@ -119,7 +121,7 @@ impl Object {
         self.is_whole = false;
     }
 
-    /// Remembers whether an addition failed.
+    /// Records whether `added` is an error.
     fn note(&mut self, added: Result<(), AllocError>)
         ensures tokens { self.new.out ≡ self.old.out }
         ensures whole { IsTrue self.new.is_whole → IsTrue self.old.is_whole }
@@ -130,7 +132,7 @@ impl Object {
         }
     }
 
-    /// Adds a member that is a number.
+    /// Appends a member with a number as its value.
     pub(super) fn add_number(&mut self, name: &str, number: u64)
         ensures { AddsMembers self.old self.new }
     {
@@ -138,7 +140,7 @@ impl Object {
         self.add_count(number)
     }
 
-    /// Adds the value of a member that is a number.
+    /// Appends a number as the value of a member.
     #[tactic(auto, unfolding(crate::specs::Objects::IsAt))]
     fn add_count(&mut self, number: u64)
         ensures { AddsValue self.old self.new }
@@ -147,7 +149,7 @@ impl Object {
         self.note(added);
     }
 
-    /// Adds a member that is a string.
+    /// Appends a member with a string as its value.
     pub(super) fn add_text(&mut self, name: &str, text: &str)
         ensures { AddsMembers self.old self.new }
     {
@@ -155,7 +157,7 @@ impl Object {
         self.add_string(text)
     }
 
-    /// Adds a value that is a string.
+    /// Appends a string as a value.
     #[tactic(auto, unfolding(crate::specs::Objects::IsAt))]
     fn add_string(&mut self, text: &str)
         ensures member { AddsValue self.old self.new }
@@ -165,7 +167,8 @@ impl Object {
         self.note(added);
     }
 
-    /// Adds a member that is a string for which memory was allocated.
+    /// Appends a member with an allocated string as its value. Records a failed allocation of the
+    /// string.
     pub(super) fn add_formatted(&mut self, name: &str, text: Result<String, AllocError>)
         ensures { AddsMembers self.old self.new }
     {
@@ -175,7 +178,7 @@ impl Object {
         }
     }
 
-    /// Adds a member that is the hexadecimal digits of bytes.
+    /// Appends a member whose value is the hexadecimal digits of `bytes`.
     pub(super) fn add_hex(&mut self, name: &str, bytes: &[u8])
         ensures { AddsMembers self.old self.new }
     {
@@ -183,7 +186,7 @@ impl Object {
         self.add_formatted(name, digits);
     }
 
-    /// Adds the name of a member. Its value is added next.
+    /// Appends the name of a member. Its value must be appended next.
     #[tactic(auto, unfolding(crate::specs::Objects::IsAt))]
     pub(super) fn add_name(&mut self, name: &str)
         ensures { AddsName self.old self.new }
@@ -192,7 +195,8 @@ impl Object {
         self.note(added);
     }
 
-    /// Adds what a peer sent as a value: a string, or an object with its hexadecimal digits.
+    /// Appends bytes from a peer as a value: a string, or an object with their hexadecimal
+    /// digits.
     pub(super) fn add_value(&mut self, bytes: &[u8])
         ensures member { AddsValue self.old self.new }
         ensures element { AddsElements self.old self.new }
@@ -203,7 +207,7 @@ impl Object {
         }
     }
 
-    /// Adds a value that is an object with the hexadecimal digits of bytes.
+    /// Appends an object with the hexadecimal digits of `bytes` as a value.
     fn add_hex_value(&mut self, bytes: &[u8])
         ensures member { AddsValue self.old self.new }
         ensures element { AddsElements self.old self.new }
@@ -213,7 +217,7 @@ impl Object {
         self.end_object();
     }
 
-    /// Begins a value that is a list.
+    /// Begins an array as a value.
     #[tactic(auto, unfolding(crate::specs::Objects::IsAt))]
     pub(super) fn begin_array(&mut self)
         ensures member { (outer : List Bool) → IsAt (after_name outer) self.old
@@ -225,7 +229,7 @@ impl Object {
         self.note(added);
     }
 
-    /// Ends a list.
+    /// Ends an array.
     #[tactic(auto, unfolding(crate::specs::Objects::IsAt))]
     pub(super) fn end_array(&mut self)
         ensures member { (outer : List Bool) → IsAt (in_array (true ∷ outer)) self.old
@@ -237,7 +241,7 @@ impl Object {
         self.note(added);
     }
 
-    /// Begins a value that is an object.
+    /// Begins an object as a value.
     #[tactic(auto, unfolding(crate::specs::Objects::IsAt))]
     pub(super) fn begin_object(&mut self)
         ensures member { (outer : List Bool) → IsAt (after_name outer) self.old
@@ -249,7 +253,7 @@ impl Object {
         self.note(added);
     }
 
-    /// Ends an object within this one.
+    /// Ends a nested object.
     #[tactic(auto, unfolding(crate::specs::Objects::IsAt))]
     pub(super) fn end_object(&mut self)
         ensures member { (outer : List Bool) → IsAt (in_object (true ∷ outer)) self.old
@@ -261,7 +265,7 @@ impl Object {
         self.note(added);
     }
 
-    /// Ends the object, and returns its line, or [`AllocError`] if an allocation failed meanwhile.
+    /// Ends the object and returns its line, or [`AllocError`] if an allocation failed.
     #[tactic(auto, unfolding(crate::specs::Objects::IsAt))]
     fn into_line(self) -> Result<Vec<u8>, AllocError>
         requires { IsAt (in_object []) self }
@@ -279,8 +283,8 @@ impl Object {
     }
 }
 
-/// Returns bytes as a text, if they are UTF-8 without DEL and without U+0080 to U+009F. A string of
-/// JSON has escapes for the other control characters.
+/// Returns bytes as text if they are UTF-8 without DEL and U+0080 to U+009F. JSON strings have
+/// escapes for the other control characters.
 fn shown_text(bytes: &[u8]) -> Option<&str>
     ensures { IfSome result (λ t. (t.now ≡ bytes.now) × NoCharPasses is_late_control t.now) }
 {
@@ -290,14 +294,14 @@ fn shown_text(bytes: &[u8]) -> Option<&str>
     }
 }
 
-/// Returns whether a text has DEL or one of U+0080 to U+009F.
+/// Returns whether a text contains DEL or a character from U+0080 to U+009F.
 fn has_late_control(text: &str) -> bool
     ensures { (result ≡ false) → NoCharPasses is_late_control text.now }
 {
     text.chars().any(|c| c >= '\u{7f}' && c <= '\u{9f}')
 }
 
-/// Returns the hexadecimal digits of bytes.
+/// Returns the hexadecimal digits of `bytes`.
 fn digits_of(alloc: Global, bytes: &[u8]) -> Result<String, AllocError> {
     let mut digits = String::new(alloc);
     for byte in bytes {

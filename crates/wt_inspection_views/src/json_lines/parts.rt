@@ -1,4 +1,4 @@
-//! Members that have parts of their own.
+//! Members with nested values.
 ghost use Rattle.std.specs.Prelude.{List, Bool};
 ghost use Rattle.wt_inspection_views.specs.Objects.{AddsElements, AddsMembers};
 
@@ -8,7 +8,7 @@ use wt_inspection_model::item::{
     CapsuleItem, CloseReason, FieldSection, Line, SectionFault, SettingIssue, SettingLine,
 };
 
-/// Adds the lines of a field section, and why they end early, if they do.
+/// Appends the lines of a field section and, if they end early, the reason.
 pub(super) fn add_section(object: &mut Object, section: &FieldSection)
     ensures { AddsMembers object.old object.new }
 {
@@ -22,7 +22,7 @@ pub(super) fn add_section(object: &mut Object, section: &FieldSection)
     }
 }
 
-/// Adds field lines as elements.
+/// Appends field lines as array elements.
 fn add_fields(object: &mut Object, lines: &[Line])
     ensures { AddsElements object.old object.new }
 {
@@ -31,7 +31,7 @@ fn add_fields(object: &mut Object, lines: &[Line])
     }
 }
 
-/// Adds a field line.
+/// Appends a field line.
 fn add_field(object: &mut Object, line: &Line)
     ensures { AddsElements object.old object.new }
 {
@@ -41,7 +41,7 @@ fn add_field(object: &mut Object, line: &Line)
     object.end_array()
 }
 
-/// Adds why the lines of a section end early.
+/// Appends the reason that the lines of a section end early.
 fn add_stop(object: &mut Object, fault: SectionFault, insert_count: Option<u64>)
     ensures { AddsMembers object.old object.new }
 {
@@ -53,7 +53,7 @@ fn add_stop(object: &mut Object, fault: SectionFault, insert_count: Option<u64>)
     }
 }
 
-/// Adds that a line needs the dynamic table, and the Required Insert Count, if it could be read.
+/// Appends that a line needs the dynamic table, and the Required Insert Count if it was decoded.
 fn add_dynamic(object: &mut Object, insert_count: Option<u64>)
     ensures { AddsMembers object.old object.new }
 {
@@ -64,7 +64,7 @@ fn add_dynamic(object: &mut Object, insert_count: Option<u64>)
     }
 }
 
-/// Adds settings.
+/// Appends settings.
 pub(super) fn add_settings(object: &mut Object, settings: &[SettingLine])
     ensures { AddsMembers object.old object.new }
 {
@@ -74,7 +74,7 @@ pub(super) fn add_settings(object: &mut Object, settings: &[SettingLine])
     object.end_array()
 }
 
-/// Adds settings as elements.
+/// Appends settings as array elements.
 fn add_each_setting(object: &mut Object, settings: &[SettingLine])
     ensures { AddsElements object.old object.new }
 {
@@ -83,7 +83,7 @@ fn add_each_setting(object: &mut Object, settings: &[SettingLine])
     }
 }
 
-/// Adds a setting.
+/// Appends a setting.
 fn add_setting(object: &mut Object, setting: &SettingLine)
     ensures { AddsElements object.old object.new }
 {
@@ -95,7 +95,7 @@ fn add_setting(object: &mut Object, setting: &SettingLine)
     object.end_object()
 }
 
-/// Adds what is wrong with a setting.
+/// Appends the problem with a setting.
 fn add_flag(object: &mut Object, flag: Option<SettingIssue>)
     ensures { AddsMembers object.old object.new }
 {
@@ -106,7 +106,7 @@ fn add_flag(object: &mut Object, flag: Option<SettingIssue>)
     }
 }
 
-/// Adds the capsules of a frame.
+/// Appends the capsules of a frame.
 pub(super) fn add_capsules(object: &mut Object, capsules: &[CapsuleItem])
     ensures { AddsMembers object.old object.new }
 {
@@ -116,7 +116,7 @@ pub(super) fn add_capsules(object: &mut Object, capsules: &[CapsuleItem])
     object.end_array()
 }
 
-/// Adds capsules as elements.
+/// Appends capsules as array elements.
 fn add_each_capsule(object: &mut Object, capsules: &[CapsuleItem])
     ensures { AddsElements object.old object.new }
 {
@@ -125,7 +125,7 @@ fn add_each_capsule(object: &mut Object, capsules: &[CapsuleItem])
     }
 }
 
-/// Adds an object that has the place of a capsule, and the capsule.
+/// Appends an object with the offset and the contents of a capsule.
 fn add_placed_capsule(object: &mut Object, capsule: &CapsuleItem)
     ensures { AddsElements object.old object.new }
 {
@@ -135,7 +135,7 @@ fn add_placed_capsule(object: &mut Object, capsule: &CapsuleItem)
     object.end_object()
 }
 
-/// Adds a capsule.
+/// Appends a capsule.
 pub(super) fn add_capsule(object: &mut Object, capsule: &CapsuleItem)
     ensures { AddsMembers object.old object.new }
 {
@@ -148,7 +148,7 @@ pub(super) fn add_capsule(object: &mut Object, capsule: &CapsuleItem)
     }
 }
 
-/// Adds why a session is closed.
+/// Appends the reason for closing a session.
 fn add_close(object: &mut Object, close: &CloseReason)
     ensures { AddsMembers object.old object.new }
 {

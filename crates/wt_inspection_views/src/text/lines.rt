@@ -1,4 +1,4 @@
-//! Lines of text that remember a failed allocation.
+//! Lines of text that record a failed allocation.
 ghost use Rattle.std.specs.Prelude.{◌≡◌, false, true, IfOk, IsTrue, string_bytes};
 ghost use Rattle.wt_inspection_views.specs.Escaped.{IsClean, line_count};
 ghost use Rattle.wt_inspection_views.specs.Lines.{Gains};
@@ -7,8 +7,8 @@ use super::parts::count_bytes;
 use crate::plain::PlainText;
 use std::alloc::{AllocError, Global};
 
-/// Lines that are added one after another. They remember a failed allocation, so what adds lines
-/// returns nothing.
+/// Lines of text. A failed allocation is recorded, and [`into_text`](Lines::into_text) reports
+/// it, so the methods that append lines return nothing.
 #[derive(Drop)]
 pub(super) struct Lines {
     /// The allocator of the lines.
@@ -18,7 +18,7 @@ pub(super) struct Lines {
 }
 
 impl Lines {
-    /// Creates no lines.
+    /// Creates an empty list of lines.
     pub(super) fn new(alloc: Global) -> Self
         ensures whole { result.is_whole ≡ true }
         ensures lines { line_count result.text ≡ 0 }
@@ -30,14 +30,14 @@ impl Lines {
         }
     }
 
-    /// Remembers that an allocation failed.
+    /// Records that an allocation failed.
     pub(super) fn mark_failed(&mut self)
         ensures { self.new.is_whole ≡ false }
     {
         self.is_whole = false;
     }
 
-    /// Adds a line of these words.
+    /// Appends a line with these words.
     pub(super) fn add(&mut self, words: &str)
         ensures { Gains 1 self.old self.new }
     {
@@ -46,7 +46,7 @@ impl Lines {
         }
     }
 
-    /// Adds a line of words for which memory was allocated.
+    /// Appends a line with allocated words. Records a failed allocation of the words.
     pub(super) fn add_formatted(&mut self, words: Result<String, AllocError>)
         ensures { Gains 1 self.old self.new }
     {
@@ -56,7 +56,7 @@ impl Lines {
         }
     }
 
-    /// Adds the line of an item: its place, what it is, and more of it.
+    /// Appends the first line of an item: its offset, its kind, and details.
     pub(super) fn add_head(&mut self, at: usize, what: &str, more: Result<String, AllocError>)
         ensures { Gains 1 self.old self.new }
     {
@@ -66,14 +66,14 @@ impl Lines {
         }
     }
 
-    /// Adds the line of an item with its number of bytes.
+    /// Appends the line of an item with its number of bytes.
     pub(super) fn add_size(&mut self, at: usize, what: &str, size: u64)
         ensures { Gains 1 self.old self.new }
     {
         self.add_head(at, what, count_bytes(self.alloc, size));
     }
 
-    /// Returns the text, or [`AllocError`] if an allocation failed meanwhile.
+    /// Returns the text, or [`AllocError`] if an allocation failed.
     pub(super) fn into_text(self) -> Result<String, AllocError>
         ensures clean { IfOk result (λ t. IsClean (string_bytes t)) }
         ensures lines { IfOk result (λ t. IsTrue self.is_whole × (line_count (string_bytes t) ≡ line_count self.text)) }

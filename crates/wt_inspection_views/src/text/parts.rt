@@ -1,4 +1,4 @@
-//! The lines below an item.
+//! The indented lines below an item.
 ghost use Rattle.std.specs.Prelude.{length};
 ghost use Rattle.wt_inspection_views.specs.Lines.{Gains};
 ghost use Rattle.wt_inspection_views.specs.TextLines.{capsule_lines, close_lines, field_lines, hex_lines, stop_lines};
@@ -11,10 +11,10 @@ use wt_inspection_model::item::{
 };
 use wtp_wire::settings::SettingId;
 
-/// How many bytes a line of a payload shows.
+/// The number of payload bytes per line.
 const BYTES_PER_LINE: usize = 32;
 
-/// Returns a number of bytes in words.
+/// Returns a number of bytes as text.
 pub(super) fn count_bytes(alloc: Global, count: u64) -> Result<String, AllocError> {
     match count {
         1 => String::from_str(alloc, "1 byte"),
@@ -22,7 +22,7 @@ pub(super) fn count_bytes(alloc: Global, count: u64) -> Result<String, AllocErro
     }
 }
 
-/// Adds the lines of a field section: a line for each field, and one for the fault that ends it.
+/// Appends the lines of a field section: one for each field, and one for the error that ends it.
 pub(super) fn add_fields(text: &mut Lines, section: &FieldSection)
     ensures { Gains (field_lines section.now) text.old text.new }
 {
@@ -32,7 +32,7 @@ pub(super) fn add_fields(text: &mut Lines, section: &FieldSection)
     add_stop(text, section)
 }
 
-/// Adds the line of why the lines of a section end early, if they do.
+/// Appends the reason that the lines of a section end early, if they do.
 fn add_stop(text: &mut Lines, section: &FieldSection)
     ensures { Gains (stop_lines section.now.fault) text.old text.new }
 {
@@ -42,7 +42,7 @@ fn add_stop(text: &mut Lines, section: &FieldSection)
     }
 }
 
-/// Adds the line of the fault of a section.
+/// Appends the line of an error in a section.
 fn add_fault(text: &mut Lines, fault: SectionFault, insert_count: Option<u64>)
     ensures { Gains 1 text.old text.new }
 {
@@ -67,7 +67,7 @@ fn words_of_field(alloc: Global, field: &Line) -> Result<String, AllocError> {
     Ok(words)
 }
 
-/// Adds the lines of settings.
+/// Appends the lines of settings.
 pub(super) fn add_settings(text: &mut Lines, settings: &[SettingLine])
     ensures { Gains (length settings.now) text.old text.new }
 {
@@ -84,7 +84,7 @@ fn words_of_setting(alloc: Global, setting: &SettingLine) -> Result<String, Allo
     format!(in alloc; "        {name} ({id:#x}) = {value}{flag}")
 }
 
-/// Returns what a line says of a setting with this flag.
+/// Returns the note for a setting with this flag.
 fn words_of_flag(flag: Option<SettingIssue>) -> &'static str {
     match flag {
         None => "",
@@ -93,7 +93,7 @@ fn words_of_flag(flag: Option<SettingIssue>) -> &'static str {
     }
 }
 
-/// Returns the name of a setting, or what is known of it.
+/// Returns the name of a setting, or a description if it has no name.
 pub(crate) fn name_setting(alloc: Global, setting: &SettingLine) -> Result<String, AllocError> {
     match (setting.setting(), setting.flag) {
         (Some(SettingId::Exercise(_)), _) => String::from_str(alloc, "reserved"),
@@ -103,7 +103,8 @@ pub(crate) fn name_setting(alloc: Global, setting: &SettingLine) -> Result<Strin
     }
 }
 
-/// Adds the lines of a capsule: indented, unless it is an item of its own with a place.
+/// Appends the lines of a capsule. They are indented, unless the capsule is an item with an
+/// offset.
 pub(super) fn add_capsule(text: &mut Lines, at: Option<usize>, capsule: &CapsuleItem)
     ensures { Gains (capsule_lines capsule.now) text.old text.new }
 {
@@ -111,7 +112,7 @@ pub(super) fn add_capsule(text: &mut Lines, at: Option<usize>, capsule: &Capsule
     add_close(text, &capsule.close)
 }
 
-/// Adds the first line of a capsule.
+/// Appends the first line of a capsule.
 fn add_capsule_head(text: &mut Lines, at: Option<usize>, capsule: &CapsuleItem)
     ensures { Gains 1 text.old text.new }
 {
@@ -122,7 +123,7 @@ fn add_capsule_head(text: &mut Lines, at: Option<usize>, capsule: &CapsuleItem)
     }
 }
 
-/// Returns the type of a capsule and its size.
+/// Returns the type and size of a capsule.
 fn words_of_capsule(alloc: Global, capsule: &CapsuleItem) -> Result<String, AllocError> {
     let name = capsule.name;
     let number = capsule.number;
@@ -133,13 +134,13 @@ fn words_of_capsule(alloc: Global, capsule: &CapsuleItem) -> Result<String, Allo
     }
 }
 
-/// Returns the line of a capsule without a place of its own, which ends with these words.
+/// Returns the indented line of a capsule, ended by `more`.
 fn indented(alloc: Global, more: Result<String, AllocError>) -> Result<String, AllocError> {
     let more = more?;
     format!(in alloc; "        capsule          {more}")
 }
 
-/// Adds the lines of why a session is closed, if it is.
+/// Appends the lines of the reason for closing a session, if there is one.
 fn add_close(text: &mut Lines, close: &Option<CloseReason>)
     ensures { Gains (close_lines close.now) text.old text.new }
 {
@@ -149,7 +150,7 @@ fn add_close(text: &mut Lines, close: &Option<CloseReason>)
     }
 }
 
-/// Adds the lines of the code and the reason for which a session is closed.
+/// Appends the lines of the error code and reason for closing a session.
 fn add_reason(text: &mut Lines, close: &CloseReason)
     ensures { Gains 2 text.old text.new }
 {
@@ -158,14 +159,14 @@ fn add_reason(text: &mut Lines, close: &CloseReason)
     text.add_formatted(words_of_reason(text.alloc, close));
 }
 
-/// Returns the line of the reason for which a session is closed.
+/// Returns the line of the reason for closing a session.
 fn words_of_reason(alloc: Global, close: &CloseReason) -> Result<String, AllocError> {
     let mut words = String::from_str(alloc, "            reason = ")?;
     add_escaped(&mut words, close.reason.as_bytes())?;
     Ok(words)
 }
 
-/// Adds the lines of warnings.
+/// Appends the lines of warnings.
 pub(super) fn add_warnings(text: &mut Lines, warnings: &[Warning])
     ensures { Gains (length warnings.now) text.old text.new }
 {
@@ -174,7 +175,7 @@ pub(super) fn add_warnings(text: &mut Lines, warnings: &[Warning])
     }
 }
 
-/// Adds the line of a warning. Field lines are counted from 1.
+/// Appends the line of a warning. Field lines are numbered from 1.
 fn add_warning(text: &mut Lines, warning: &Warning)
     ensures { Gains 1 text.old text.new }
 {
@@ -188,7 +189,7 @@ fn add_warning(text: &mut Lines, warning: &Warning)
     }
 }
 
-/// Adds lines of bytes in hexadecimal digits.
+/// Appends lines of bytes in hexadecimal.
 pub(super) fn add_hex(text: &mut Lines, bytes: &[u8])
     ensures { Gains (hex_lines (length bytes.now)) text.old text.new }
 {
@@ -199,7 +200,7 @@ pub(super) fn add_hex(text: &mut Lines, bytes: &[u8])
     }
 }
 
-/// Returns the line of some bytes.
+/// Returns the line of a row of bytes.
 fn hex_line(alloc: Global, row: &[u8]) -> Result<String, AllocError> {
     let mut words = String::with_capacity(alloc, 8 + 3 * BYTES_PER_LINE)?;
     words.push_str("       ")?;
@@ -207,7 +208,7 @@ fn hex_line(alloc: Global, row: &[u8]) -> Result<String, AllocError> {
     Ok(words)
 }
 
-/// Adds the hexadecimal digits of bytes, with a blank before each byte.
+/// Appends the hexadecimal digits of `bytes`, with a space before each byte.
 pub(crate) fn add_digits(words: &mut String, bytes: &[u8]) -> Result<(), AllocError> {
     for byte in bytes {
         words.push(' ')?;
