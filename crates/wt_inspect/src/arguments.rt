@@ -1,4 +1,4 @@
-//! The arguments.
+//! Parses the arguments.
 
 use clap::{Arg, ArgAction, ArgMatches, Command, Error};
 use std::alloc::Global;
@@ -7,7 +7,7 @@ use wt_inspection::Recorded;
 /// The version that the program names.
 const VERSION: &str = "0.8.0";
 
-/// What the help says after the arguments.
+/// The text of the help after the list of arguments.
 const MORE: &str = "\
 KIND says what the bytes are, from the first one on, in one direction of one stream:
   bi        a bidirectional stream, by the end that opened it: a request, or a WebTransport stream
@@ -38,36 +38,36 @@ The same, with the bytes as text:
 Exit status: 0 the bytes were shown, 1 wrong arguments, 2 the bytes have a fault, 3 input or output
 failed, 4 out of memory.";
 
-/// The names of what can be recorded.
+/// The names of the kinds of recordings.
 static KINDS: [&str; 7] = [
     "bi", "answer", "uni", "datagram", "capsules", "section", "settings",
 ];
 
-/// How an inspection is shown.
+/// The format of the output.
 #[derive(Clone, Copy)]
 pub enum Output {
-    /// As text for people.
+    /// Text for people.
     Text,
-    /// As JSON, one object a line.
+    /// JSON, one object per line.
     Json,
-    /// As a page of HTML.
+    /// An HTML page.
     Html,
 }
 
-/// What the arguments say.
+/// The parsed arguments.
 #[derive(Clone, Copy)]
 pub struct Arguments<'a> {
-    /// What was recorded.
+    /// The kind of recording.
     pub recorded: Recorded,
-    /// How it is shown.
+    /// The format of the output.
     pub output: Output,
     /// Whether the input is hexadecimal text.
     pub is_hex: bool,
     /// Whether more bytes may follow.
     pub is_open: bool,
-    /// Whether payload is shown.
+    /// Whether payload bytes are shown.
     pub has_payload: bool,
-    /// The file, or none for standard input.
+    /// The file to read, or `None` for standard input.
     pub file: Option<&'a str>,
 }
 
@@ -79,7 +79,7 @@ fn flag<'a>(alloc: Global, name: &'static str, help: &'static str) -> Arg<'a> {
         .help(help)
 }
 
-/// Returns the command line that the program takes.
+/// Returns the definition of the command line.
 pub fn command<'a>(alloc: Global) -> Result<Command<'a>, Error> {
     let kind = Arg::new(alloc, "kind")
         .value_name("KIND")
@@ -120,7 +120,7 @@ pub fn command<'a>(alloc: Global) -> Result<Command<'a>, Error> {
     Ok(command)
 }
 
-/// Returns what the arguments say.
+/// Returns the parsed arguments.
 pub fn read_arguments<'a>(matches: &ArgMatches<'a>) -> Arguments<'a> {
     Arguments {
         recorded: recorded_of(matches.get_str("kind")),
@@ -132,7 +132,7 @@ pub fn read_arguments<'a>(matches: &ArgMatches<'a>) -> Arguments<'a> {
     }
 }
 
-/// Returns what was recorded, by its name.
+/// Returns the kind of recording with this name.
 fn recorded_of(name: Option<&str>) -> Recorded {
     match name {
         Some("answer") => Recorded::Answer,
@@ -145,7 +145,7 @@ fn recorded_of(name: Option<&str>) -> Recorded {
     }
 }
 
-/// Returns how an inspection is shown.
+/// Returns the format of the output.
 fn output_of(json: bool, html: bool) -> Output {
     if json {
         Output::Json

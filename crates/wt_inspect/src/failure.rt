@@ -1,11 +1,11 @@
-//! Why the program shows nothing.
+//! Errors of the program.
 
 use std::alloc::AllocError;
 
-/// Why the program shows nothing.
+/// Why the program failed.
 #[derive(Clone, Copy, Debug, thiserror::Error)]
 pub enum Failure {
-    /// The arguments are not UTF-8, or could not be read.
+    /// The arguments could not be read or are not UTF-8.
     #[error("the arguments cannot be read as text")]
     Arguments,
     /// The file could not be opened.
@@ -29,7 +29,7 @@ pub enum Failure {
 }
 
 impl Failure {
-    /// Returns the status with which the program ends.
+    /// Returns the exit status.
     pub fn status(self) -> u8 {
         match self {
             Failure::Arguments => 1,

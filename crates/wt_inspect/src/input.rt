@@ -1,17 +1,20 @@
-//! The input.
+//! Reads the input.
 
 use crate::failure::Failure;
 use std::alloc::Global;
 use std::io::Read;
 
-/// The greatest number of bytes of input.
+/// The maximum length of the input, in bytes.
 const MAX_INPUT_LEN: usize = 67_108_864;
 
-/// Returns all bytes of a reader, if there are at most 67108864.
+/// Reads all bytes of a reader.
+///
+/// Returns [`Failure::TooLong`] if there are more than 67108864 bytes, [`Failure::Input`] if
+/// reading fails, and [`Failure::Memory`] if allocation fails.
 pub fn read_all<R: Read>(alloc: Global, input: &mut R) -> Result<Vec<u8>, Failure> {
     let mut bytes = Vec::new(alloc);
     let mut chunk = [0; 16_384];
-    // Each turn but the last adds at least one byte.
+    // Each iteration except the last appends at least one byte.
     for _ in 0..=MAX_INPUT_LEN {
         let count = input.read(&mut chunk).map_err(|_| Failure::Input)?;
         if count == 0 {
@@ -25,7 +28,7 @@ pub fn read_all<R: Read>(alloc: Global, input: &mut R) -> Result<Vec<u8>, Failur
     Err(Failure::TooLong)
 }
 
-/// Returns the bytes of hexadecimal text. Blanks, line ends and `0x` are ignored.
+/// Decodes hexadecimal text. Blanks, line ends and `0x` are ignored.
 pub fn read_hex(alloc: Global, text: &[u8]) -> Result<Vec<u8>, Failure> {
     let mut bytes = Vec::new(alloc);
     let mut half = None;
@@ -38,11 +41,12 @@ pub fn read_hex(alloc: Global, text: &[u8]) -> Result<Vec<u8>, Failure> {
     }
 }
 
-/// Takes the next byte of hexadecimal text, after this half of a byte. Returns the half that is left.
+/// Decodes the next byte of hexadecimal text. `half` is the pending high digit; the result is the
+/// new one.
 fn take_byte(bytes: &mut Vec<u8>, half: Option<u8>, byte: u8) -> Result<Option<u8>, Failure> {
     match byte {
         b' ' | b'\t' | b'\r' | b'\n' => Ok(half),
-        // The 0 before an x begins no byte.
+        // The 0 before an x is a prefix, not a digit.
         b'x' | b'X' if half == Some(0) => Ok(None),
         _ => match digit_of(byte) {
             Some(digit) => take_digit(bytes, half, digit),
@@ -51,7 +55,7 @@ fn take_byte(bytes: &mut Vec<u8>, half: Option<u8>, byte: u8) -> Result<Option<u
     }
 }
 
-/// Takes the next digit, after this half of a byte. Returns the half that is left.
+/// Decodes the next digit. `half` is the pending high digit; the result is the new one.
 fn take_digit(bytes: &mut Vec<u8>, half: Option<u8>, digit: u8) -> Result<Option<u8>, Failure> {
     match half {
         None => Ok(Some(digit)),

@@ -1,4 +1,4 @@
-//! The program `wt_inspect`: shows what the bytes of a recorded stream or datagram contain.
+//! Shows the contents of a recorded stream or datagram.
 #![tactic(auto)]
 
 mod arguments;
@@ -27,14 +27,14 @@ fn main(rt: HostRuntime) -> ExitCode {
     })
 }
 
-/// Shows what the arguments name, and returns the status with which the program ends: 0, 1 for
-/// wrong arguments, and 2 where the bytes have a fault.
+/// Runs the program and returns its exit status: 0, 1 for invalid arguments, or 2 if the input
+/// contains an error.
 fn run(rt: &HostRuntime) -> Result<u8, Failure> {
     let words = read_words(rt).map_err(|_| Failure::Arguments)?;
     run_words(rt, words.as_slice())
 }
 
-/// The same, where the name of the program and its arguments are these words.
+/// Runs the program with these words as its name and arguments.
 fn run_words<'a>(rt: &HostRuntime, words: &'a [String]) -> Result<u8, Failure> {
     let command = command(rt.alloc()).map_err(|_| Failure::Memory)?;
     match command.try_get_matches_from(words) {
@@ -46,8 +46,8 @@ fn run_words<'a>(rt: &HostRuntime, words: &'a [String]) -> Result<u8, Failure> {
     }
 }
 
-/// Shows the bytes that the arguments name, and returns the status: 0, or 2 where the bytes have a
-/// fault.
+/// Shows the input that the arguments name. Returns the exit status: 0, or 2 if the input
+/// contains an error.
 fn show_input(rt: &HostRuntime, arguments: &Arguments<'_>) -> Result<u8, Failure> {
     let alloc = rt.alloc();
     let bytes = read_input(rt, alloc, arguments)?;
@@ -60,13 +60,13 @@ fn show_input(rt: &HostRuntime, arguments: &Arguments<'_>) -> Result<u8, Failure
     Ok(status)
 }
 
-/// Returns the name of the program and its arguments.
+/// Returns the program's name and arguments.
 fn read_words(rt: &HostRuntime) -> io::Result<Vec<String>> {
     let words = env::args(rt)?.collect(rt.alloc())?;
     Ok(words)
 }
 
-/// Returns the bytes that the arguments name: those of a file, or of standard input.
+/// Reads the input that the arguments name: a file, or standard input.
 fn read_input(
     rt: &HostRuntime,
     alloc: Global,
@@ -80,7 +80,7 @@ fn read_input(
     }
 }
 
-/// Returns the bytes of a file, or of standard input if there is none.
+/// Reads a file, or standard input if `file` is `None`.
 fn read_bytes(rt: &HostRuntime, alloc: Global, file: Option<&str>) -> Result<Vec<u8>, Failure> {
     match file {
         Some(path) => {
@@ -91,14 +91,14 @@ fn read_bytes(rt: &HostRuntime, alloc: Global, file: Option<&str>) -> Result<Vec
     }
 }
 
-/// Returns what is written of the bytes, and the status with which the program ends.
+/// Returns the output for these bytes and the exit status.
 fn show(alloc: Global, arguments: &Arguments<'_>, bytes: &[u8]) -> Result<(Vec<u8>, u8), Failure> {
     let inspection = inspect(alloc, arguments.recorded, bytes, arguments.is_open)?;
     let text = write_inspection(alloc, arguments, &inspection, bytes)?;
     Ok((text, status_of(inspection.end)))
 }
 
-/// Returns what is written of the inspection of these bytes.
+/// Formats an inspection of these bytes.
 fn write_inspection(
     alloc: Global,
     arguments: &Arguments<'_>,
@@ -115,7 +115,7 @@ fn write_inspection(
     }
 }
 
-/// Returns the status of an inspection that ends so: 0, or 2 at a fault.
+/// Returns the exit status of an inspection with this end: 0, or 2 for an error.
 fn status_of(end: End) -> u8 {
     match end {
         End::Fault(_) => 2,
