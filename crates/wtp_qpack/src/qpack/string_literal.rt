@@ -91,7 +91,7 @@ fn decode(room: &mut Vec<u8>, most: usize, texts: Texts, body: &[u8]) -> Result<
 }
 
 /// Returns the flag H, the bit above the prefix.
-fn has_flag<const N: u32>(bytes: &[u8]) -> bool
+pub fn has_flag<const N: u32>(bytes: &[u8]) -> bool
     requires some { 1 ≤ N }
     requires few { N ≤ 7 }
     requires byte { 0 < length bytes.now }
