@@ -1,5 +1,5 @@
-//! Sources and sinks for the tests, which split what they give and take, are not ready, and stop.
-//! There is no product code here.
+//! Sources and sinks for the tests, which transfer data in pieces, are not ready, and stop. There
+//! is no product code here.
 #![tactic(auto)]
 
 mod sink;

@@ -6,7 +6,8 @@ ghost use Rattle.test_io.specs.Sink.{one_a_call};
 use std::alloc::Global;
 use wtp_core::bytes::{AsyncWrite, WriteStep};
 
-/// The results of a sink that takes eight bytes, one per call, then stops, and is then lost.
+/// The results of a sink that accepts eight bytes, one per call, then stops, and is then
+/// disconnected.
 static ONE_A_CALL: [WriteStep; 10] = [
     WriteStep::Bytes(1),
     WriteStep::Bytes(1),
@@ -20,8 +21,8 @@ static ONE_A_CALL: [WriteStep; 10] = [
     WriteStep::NotConnected,
 ];
 
-/// Returns the results of a sink that takes `bytes` bytes (8 at most), one per call, then stops,
-/// and is then lost.
+/// Returns the results of a sink that accepts `bytes` bytes (at most 8), one per call, then
+/// stops, and is then disconnected. For more than 8 the list is empty.
 pub fn stops_after(bytes: usize) -> &'static [WriteStep]
     ensures few { bytes ≤ 8 → result.now ≡ drop (8 - bytes) one_a_call }
     ensures more { 8 < bytes → result.now ≡ [] }
@@ -32,11 +33,12 @@ pub fn stops_after(bytes: usize) -> &'static [WriteStep]
     &ONE_A_CALL[8 - bytes..]
 }
 
-/// The results of a sink that is not ready before each byte and takes one per call, for 32 bytes.
+/// The results of a sink that accepts 32 bytes, one per call, and is not ready before each byte.
 pub static BYTE_BY_BYTE: [[WriteStep; 2]; 32] = [[WriteStep::NotReady, WriteStep::Bytes(1)]; 32];
 
-/// Returns the results of a list, where `Bytes(n)` takes at most n bytes, and at least one; then it
-/// takes all, as a vector does. It has a model of all that it takes.
+/// A sink that returns a list of results, where `Bytes(n)` accepts at most `n` bytes and at least
+/// one. After the list it accepts everything, as a vector does. It has a model of the bytes that
+/// it accepted.
 #[derive(Drop)]
 pub struct ScriptedSink<'a> {
     steps: &'a [WriteStep],
@@ -64,14 +66,14 @@ impl<'a> ScriptedSink<'a> {
         }
     }
 
-    /// Returns the bytes that it took.
+    /// Returns the bytes that were written.
     pub fn output(&self) -> &[u8]
         ensures { result.now ≡ self.now.taken.items }
     {
         self.taken.as_slice()
     }
 
-    /// Returns the number of results not returned yet.
+    /// Returns the number of results that have not been returned.
     pub fn left(&self) -> usize
         ensures { result ≡ length self.now.steps.now }
     {

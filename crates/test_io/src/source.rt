@@ -10,19 +10,19 @@ use wtp_core::bytes::{AsyncRead, IoReadError, ReadStep};
 /// How a source ends.
 #[derive(Clone, Copy, Debug, PartialEq, Eq)]
 pub enum End {
-    /// Its last byte was given.
+    /// It ends after its last byte.
     Fin,
-    /// It was reset.
+    /// It is reset.
     Reset,
-    /// The connection was lost.
+    /// The connection is lost.
     NotConnected,
 }
 
 impl End {
-    /// Every ending.
+    /// All endings.
     pub const EACH: [End; 3] = [End::Fin, End::Reset, End::NotConnected];
 
-    /// Returns the result of a reading at this end, after `taken` bytes of what it reads.
+    /// Returns the error of a read at this end, after `taken` bytes of the value being read.
     pub fn fault(self, taken: usize) -> IoReadError
         ensures { result ≡ stop taken (ending_of self) }
     {
@@ -35,8 +35,8 @@ impl End {
     }
 }
 
-/// Gives one byte per call, and is not ready once before each byte and once before its end, where
-/// it stays. It has a model of all that it gives.
+/// A source that returns one byte per call. It is not ready once before each byte and once before
+/// its end, which it then repeats. It has a model of its bytes.
 #[derive(Drop)]
 pub struct OneByteSource<'a> {
     rest: &'a [u8],
@@ -47,7 +47,7 @@ pub struct OneByteSource<'a> {
 }
 
 impl<'a> OneByteSource<'a> {
-    /// Creates a source of these bytes, followed by this end.
+    /// Creates a source over these bytes, followed by this end.
     pub fn new(bytes: &'a [u8], end: End) -> Self
         ensures { (result.rest.now ≡ bytes.now) × (result.end ≡ end) × (result.given ≡ 0)
             × (result.is_ready ≡ false) }
@@ -60,7 +60,7 @@ impl<'a> OneByteSource<'a> {
         }
     }
 
-    /// Returns the bytes not given yet.
+    /// Returns the bytes that have not been read.
     pub fn rest(&self) -> &'a [u8]
         ensures { result.now ≡ self.now.rest.now }
     {
@@ -100,9 +100,9 @@ impl AsyncRead for OneByteSource<'_> {
     }
 }
 
-/// Returns the results of a list, where `Bytes(n)` gives the next n bytes, in one call if they all
-/// fit into the buffer, and `Bytes(0)` is an end; then it gives the rest, as a slice does. It has
-/// no model.
+/// A source that returns a list of results, where `Bytes(n)` returns the next `n` bytes, in one
+/// call if the buffer has room for them, and `Bytes(0)` is an end. After the list it returns the
+/// remaining bytes, as a slice does. It has no model.
 #[derive(Drop)]
 pub struct Answers<'a> {
     rest: &'a [u8],
@@ -111,7 +111,7 @@ pub struct Answers<'a> {
 }
 
 impl<'a> Answers<'a> {
-    /// Creates a source of these bytes, with these results.
+    /// Creates a source over these bytes that returns these results.
     pub fn new(bytes: &'a [u8], steps: &'a [ReadStep]) -> Self
         ensures { (result.rest.now ≡ bytes.now) × (result.steps.now ≡ steps.now)
             × (result.piece ≡ 0) }
@@ -123,14 +123,14 @@ impl<'a> Answers<'a> {
         }
     }
 
-    /// Returns the bytes not given yet.
+    /// Returns the bytes that have not been read.
     pub fn rest(&self) -> &'a [u8]
         ensures { result.now ≡ self.now.rest.now }
     {
         self.rest
     }
 
-    /// Returns the number of results that it has not begun to give.
+    /// Returns the number of results that have not been started.
     pub fn left(&self) -> usize
         ensures { result ≡ length self.now.steps.now }
     {

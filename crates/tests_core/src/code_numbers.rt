@@ -1,15 +1,15 @@
-//! Error codes by their numbers, what they end, and the error codes of applications.
+//! Error codes by number, their scopes, and application error codes.
 use crate::same::same;
 use std::process::Abort;
 use wtp_core::error::{ErrorCode, ErrorScope, Refused, UnknownErrorCode, application_codes};
 use wtp_core::ids::{InvalidQStreamId, InvalidSessionId, InvalidStatusCode};
 use wtp_core::varint::{VarInt, VarIntBoundsExceeded};
 
-/// A number, its code (RFC 9114, section 8.1; RFC 9297, section 5.2; RFC 9204, section 6;
-/// WebTransport over HTTP/3), and what it shows.
+/// A number, its error code (RFC 9114, section 8.1; RFC 9297, section 5.2; RFC 9204, section 6;
+/// WebTransport over HTTP/3), and what the row shows.
 type NumberRow = (u64, Option<ErrorCode>, &'static str);
 
-/// Numbers that are codes, and others.
+/// Numbers of error codes, and other numbers.
 static NUMBERS: [NumberRow; 29] = [
     (0x33, Some(ErrorCode::Datagram), "H3_DATAGRAM_ERROR"),
     (0x100, Some(ErrorCode::NoError), "H3_NO_ERROR"),
@@ -74,7 +74,7 @@ static NUMBERS: [NumberRow; 29] = [
     (0x3fff_ffff_ffff_ffff, None, "the largest number"),
 ];
 
-/// The code of a number of QUIC.
+/// Returns the error code with this number.
 fn code_of(number: u64) -> Result<Option<ErrorCode>, VarIntBoundsExceeded> {
     Ok(ErrorCode::try_from(VarInt::try_from_u64(number)?).ok())
 }
@@ -86,10 +86,10 @@ fn numbers_are_those_of_codes(rt: HostRuntime) {
     }
 }
 
-/// A code, and what it ends (RFC 9114, section 8).
+/// An error code and its scope (RFC 9114, section 8).
 type ScopeRow = (ErrorCode, ErrorScope, &'static str);
 
-/// Each code.
+/// All error codes.
 static SCOPES: [ScopeRow; 15] = [
     (ErrorCode::Datagram, ErrorScope::Either, "Datagram"),
     (ErrorCode::NoError, ErrorScope::Either, "NoError"),
@@ -182,8 +182,8 @@ fn errors_have_their_codes(rt: HostRuntime) {
     );
 }
 
-/// An application's error code and its HTTP/3 error code: 0x52e4a40fa8db, plus the code, plus a
-/// thirtieth of it without the remainder.
+/// An application error code and its HTTP/3 error code, which is 0x52e4a40fa8db + code +
+/// floor(code / 30).
 static APPLICATION: [(u32, u64); 9] = [
     (0, 0x52e4_a40f_a8db),
     (1, 0x52e4_a40f_a8dc),
@@ -196,7 +196,7 @@ static APPLICATION: [(u32, u64); 9] = [
     (0xffff_ffff, 0x52e5_ac98_3162),
 ];
 
-/// Asserts an application's error code both ways.
+/// Asserts the conversion of an application error code in both directions.
 fn check_application<R: Abort>(rt: &R, code: u32, wanted: u64) {
     let number = application_codes::to_http3(code);
     same(rt, number.into_inner(), wanted, code);
@@ -215,7 +215,7 @@ fn applications_codes_are_numbers_of_http3(rt: HostRuntime) {
     }
 }
 
-/// A number that is not that of an application's error code, and why.
+/// A number that is not the HTTP/3 code of an application error code, and the reason.
 static OTHERS: [(u64, &str); 7] = [
     (0, "0"),
     (0x100, "H3_NO_ERROR"),
@@ -226,7 +226,7 @@ static OTHERS: [(u64, &str); 7] = [
     (0x3fff_ffff_ffff_ffff, "the largest number"),
 ];
 
-/// The application's error code of a number of QUIC.
+/// Returns the application error code for this HTTP/3 error code.
 fn application_of(number: u64) -> Result<Option<u32>, VarIntBoundsExceeded> {
     Ok(application_codes::from_http3(VarInt::try_from_u64(number)?).ok())
 }

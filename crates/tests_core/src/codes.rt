@@ -1,14 +1,14 @@
-//! Error codes: numbers and printed names.
+//! Error codes: their numbers and printed names.
 use crate::same::same;
 use crate::texts::{debugs, displays};
 use std::process::Abort;
 use wtp_core::error::{ErrorCode, Refused, h3_error_codes, qpack_error_codes, wt_error_codes};
 use wtp_core::varint::VarInt;
 
-/// A code, its number, its name, and what it prints for debugging.
+/// An error code, its number, its name, and its debug output.
 type CodeRow = (ErrorCode, u64, &'static str, &'static str);
 
-/// The codes of HTTP/3's streams, of its connections, and of QPACK and WebTransport.
+/// The error codes of HTTP/3 streams and connections, of QPACK, and of WebTransport.
 static CODES: [CodeRow; 15] = [
     (
         ErrorCode::Datagram,
@@ -92,7 +92,7 @@ static CODES: [CodeRow; 15] = [
     ),
 ];
 
-/// The constant of a code.
+/// Returns the constant of an error code.
 fn constant_of(code: ErrorCode) -> VarInt {
     match code {
         ErrorCode::Datagram => h3_error_codes::H3_DATAGRAM_ERROR,
@@ -113,7 +113,7 @@ fn constant_of(code: ErrorCode) -> VarInt {
     }
 }
 
-/// Asserts a code's number, its constant and what it prints.
+/// Asserts the number, the constant and the printed forms of an error code.
 fn check<R: Abort + AllocGlobal>(rt: &R, row: &CodeRow) {
     let (code, number, name, text) = *row;
     let constant = constant_of(code);

@@ -1,16 +1,16 @@
-//! The standard's examples and table, worked rows, and refused memory.
+//! The Huffman code: the standard's examples and table, worked rows, and failed allocations.
 use crate::same::same;
 use std::alloc::{AllocError, Global};
 use std::fmt::Display;
 use std::process::Abort;
 use wtp_huffman::huffman::{HuffmanError, decode, encode, encoded_len};
 
-/// Encodes a text.
+/// Encodes a string.
 fn encode_once(alloc: Global, text: &[u8]) -> Result<Vec<u8>, AllocError> {
     encode(alloc, text)
 }
 
-/// The same, and once more where memory was refused.
+/// Encodes a string, again if allocation failed.
 fn encode_again(alloc: Global, text: &[u8]) -> Result<Vec<u8>, AllocError> {
     match encode_once(alloc, text) {
         Ok(coded) => Ok(coded),
@@ -23,7 +23,7 @@ fn decode_once(alloc: Global, coded: &[u8]) -> Result<Vec<u8>, HuffmanError> {
     decode(alloc, coded)
 }
 
-/// The same, and once more where memory was refused.
+/// Decodes a string, again if allocation failed.
 fn decode_again(alloc: Global, coded: &[u8]) -> Result<Vec<u8>, HuffmanError> {
     match decode_once(alloc, coded) {
         Err(HuffmanError::Memory) => decode_once(alloc, coded),
@@ -31,10 +31,10 @@ fn decode_again(alloc: Global, coded: &[u8]) -> Result<Vec<u8>, HuffmanError> {
     }
 }
 
-/// What a row shows, a text, and the string that it and no other is coded to.
+/// What a row shows, a string, and its encoding, which no other string has.
 type TextRow = (&'static str, &'static [u8], &'static [u8]);
 
-/// Texts and their strings.
+/// Strings and their encodings.
 static TEXTS: [TextRow; 18] = [
     // RFC 7541, Appendix C.
     (
@@ -85,7 +85,7 @@ static TEXTS: [TextRow; 18] = [
     ("the longest word of a byte", b"\x16", b"\xff\xff\xff\xfb"),
 ];
 
-/// Asserts that a text is encoded to this string.
+/// Asserts that a string has this encoding.
 fn assert_encoded<S: Display + Drop>(
     rt: &impl Abort,
     alloc: Global,
@@ -97,7 +97,7 @@ fn assert_encoded<S: Display + Drop>(
     same(rt, came.as_slice(), coded, shows);
 }
 
-/// Asserts that a text is decoded from this string.
+/// Asserts that an encoding decodes to this string.
 fn assert_decoded<S: Display + Drop>(
     rt: &impl Abort,
     alloc: Global,
@@ -109,7 +109,7 @@ fn assert_decoded<S: Display + Drop>(
     same(rt, came.as_slice(), text, shows);
 }
 
-/// Asserts both, and that the length of the string is known before.
+/// Asserts both, and that `encoded_len` returns the length of the encoding.
 fn assert_measured(rt: &impl Abort, alloc: Global, text: &[u8], coded: &[u8], shows: &str) {
     same(rt, encoded_len(text), Some(coded.len()), shows);
     assert_encoded(rt, alloc, text, coded, shows);
@@ -123,7 +123,7 @@ fn texts_and_their_strings_past_refused_memory(rt: HostRuntime) {
     }
 }
 
-/// What a row shows, and a string that no text is coded to.
+/// What a row shows, and bytes that are not the encoding of any string.
 static REFUSED: [(&str, &[u8]); 6] = [
     ("a word and three zeros", b"\x00"),
     ("eight ones", b"\xff"),
@@ -133,7 +133,7 @@ static REFUSED: [(&str, &[u8]); 6] = [
     ("eight bits of a word of ten", b"\xfe"),
 ];
 
-/// Asserts that a string is refused.
+/// Asserts that bytes are rejected.
 fn assert_refused(rt: &impl Abort, alloc: Global, coded: &[u8], shows: &str) {
     same(
         rt,
@@ -150,8 +150,8 @@ fn refused_strings_past_refused_memory(rt: HostRuntime) {
     }
 }
 
-/// The first allocations of this test are the room that each call takes first, and growth where the
-/// code is longer than the text: each is refused in turn.
+/// The first allocations of this test are the initial capacity of each call, and growth where the
+/// encoding is longer than the string. Each of them fails in turn.
 #[test]
 fn refused_memory(rt: HostRuntime) {
     let coded = b"\xff\xff\xff\xf3\xff\xff\xff\xcf\xff\xff\xff\x3f\xff\xff\xfc";
@@ -160,8 +160,7 @@ fn refused_memory(rt: HostRuntime) {
     assert_decoded(&rt, rt.alloc(), b"\n\n\n\n", coded, shows);
 }
 
-/// Whether a text of one byte is coded to this string of one byte, which must be no text's string
-/// otherwise.
+/// Returns whether a byte is the encoding of a one-byte string. Otherwise it must be invalid.
 fn is_text(rt: &impl Abort, alloc: Global, byte: u8) -> bool {
     match decode_again(alloc, &[byte]) {
         Ok(text) => {
@@ -188,7 +187,7 @@ fn strings_of_one_byte_past_refused_memory(rt: HostRuntime) {
     same(&rt, (texts, refused), (74, 182), "all strings");
 }
 
-/// Asserts that a string of two bytes is refused, or is the string of what it is decoded to.
+/// Asserts that two bytes are invalid, or are the encoding of the string that they decode to.
 fn assert_only(rt: &impl Abort, alloc: Global, coded: [u8; 2]) {
     let number = u16::from_be_bytes(coded);
     match decode_again(alloc, &coded) {
@@ -206,7 +205,8 @@ fn strings_of_two_bytes_past_refused_memory(rt: HostRuntime) {
     }
 }
 
-/// A word at the front of 32 bits, with ones after it, and how many bytes it begins in.
+/// Returns a code word at the start of 32 bits, padded with ones, and the number of bytes that it
+/// extends into.
 fn pad(bits: u32, number: u32) -> ([u8; 4], usize) {
     let left = 32u32.saturating_sub(bits);
     let ones = 1u32.wrapping_shl(left).wrapping_sub(1);
@@ -214,10 +214,11 @@ fn pad(bits: u32, number: u32) -> ([u8; 4], usize) {
     (window.to_be_bytes(), bits.div_ceil(8) as usize)
 }
 
-/// A length, the first word that has it, and its symbols in the order of their words.
+/// A length, the first code word of this length, and its symbols in the order of their code
+/// words.
 type Length = (u32, u32, &'static [u8]);
 
-/// RFC 7541, Appendix B. The end of the string follows the last word.
+/// RFC 7541, Appendix B. EOS comes after the last code word.
 static LENGTHS: [Length; 21] = [
     (5, 0x0, b"012aceiost"),
     (6, 0x14, b" %-./3456789=A_bdfghlmnpru"),
@@ -286,7 +287,7 @@ static LENGTHS: [Length; 21] = [
     (30, 0x3ffffffc, &[10, 13, 22]),
 ];
 
-/// Asserts that a symbol has this word of so many bits.
+/// Asserts that a symbol has this code word, of `bits` bits.
 fn assert_word(rt: &impl Abort, alloc: Global, symbol: u8, bits: u32, number: u32) {
     let (window, len) = pad(bits, number);
     let coded = window.get(..len).expect(rt, "at most 30 bits");
@@ -294,8 +295,8 @@ fn assert_word(rt: &impl Abort, alloc: Global, symbol: u8, bits: u32, number: u3
     assert_decoded(rt, alloc, &[symbol], coded, symbol);
 }
 
-/// Asserts that symbols have words of so many bits, one after another from the first, and answers
-/// how many they are.
+/// Asserts that symbols have consecutive code words of `bits` bits, starting at `first`. Returns
+/// the number of symbols.
 fn assert_words(rt: &impl Abort, alloc: Global, row: &[u8], bits: u32, first: u32) -> u32 {
     let mut symbols = 0u32;
     for symbol in row {
@@ -327,7 +328,7 @@ fn end_of_the_string_past_refused_memory(rt: HostRuntime) {
     );
 }
 
-/// An error's text, asked for once more where memory was refused.
+/// Returns the text of an error, again if allocation failed.
 fn text_of(alloc: Global, error: HuffmanError) -> Result<String, AllocError> {
     match error.to_string(alloc) {
         Ok(text) => Ok(text),
@@ -335,7 +336,7 @@ fn text_of(alloc: Global, error: HuffmanError) -> Result<String, AllocError> {
     }
 }
 
-/// Asserts that an error has this text.
+/// Asserts the text of an error.
 fn assert_shown(rt: &impl Abort, alloc: Global, error: HuffmanError, text: &str) {
     let came = text_of(alloc, error).expect(rt, "memory");
     same(rt, came.as_str(), text, "a message");

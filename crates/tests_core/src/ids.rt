@@ -1,4 +1,4 @@
-//! Numbers of streams and sessions, and status codes.
+//! Stream IDs, session IDs and status codes.
 use crate::same::same;
 use crate::texts::{debugs, displays};
 use std::process::Abort;
@@ -9,7 +9,7 @@ use wtp_core::ids::{
 };
 use wtp_core::varint::VarInt;
 
-/// Who opened the stream and how it goes, by its two lowest bits.
+/// The initiator and direction of a stream, by its two lowest bits.
 static KINDS: [(u32, bool, bool); 4] = [
     (0, true, true),
     (1, false, true),
@@ -17,7 +17,7 @@ static KINDS: [(u32, bool, bool); 4] = [
     (3, false, false),
 ];
 
-/// Asserts what a stream says of itself.
+/// Asserts the properties of a stream ID.
 fn check_stream<A: Abort>(rt: &A, number: u32, by_client: bool, both_ways: bool) {
     let stream = StreamId::new(VarInt::from_u32(number));
     let kind = (stream.is_client_initiated(), stream.is_bidirectional());
@@ -39,8 +39,7 @@ fn the_two_lowest_bits_say_who_and_how(rt: HostRuntime) {
     }
 }
 
-/// Whether the stream is a session's; asserts that its session has all the numbers that it must
-/// have.
+/// Returns whether a stream ID is a session ID, and asserts the numbers of its session.
 fn is_session<A: Abort>(rt: &A, number: u32, quarter: u64) -> bool {
     let varint = VarInt::from_u32(number);
     let stream = StreamId::new(varint);
@@ -87,7 +86,7 @@ fn bounds_are_kept(rt: HostRuntime) {
     same(&rt, session.into_u64(), 8, "a session that is not checked");
 }
 
-/// Asserts that a number is a status code or not, from each type of number.
+/// Asserts whether a number is a valid status code, for each type of number.
 fn check_status<A: Abort>(rt: &A, number: u32, is_good: bool) {
     let code = StatusCode::try_from_u32(number);
     let same_width = StatusCode::try_from(number);
@@ -96,7 +95,7 @@ fn check_status<A: Abort>(rt: &A, number: u32, is_good: bool) {
     same(rt, came, (is_good, &code, &code), number);
 }
 
-/// A number, and whether it is a status code.
+/// A number, and whether it is a valid status code.
 static BOUNDS: [(u32, bool); 5] = [
     (0, false),
     (99, false),
@@ -129,7 +128,7 @@ fn status_codes_are_100_to_599(rt: HostRuntime) {
     same(&rt, came, (true, false), "success");
 }
 
-/// The number of the status code that a text says.
+/// Returns the status code in a text.
 fn status(text: &str) -> Option<u16> {
     match StatusCode::from_str(text) {
         Ok(code) => Some(code.into_inner()),
@@ -137,7 +136,7 @@ fn status(text: &str) -> Option<u16> {
     }
 }
 
-/// A text, and the status code that it says.
+/// A text and its status code.
 static TEXTS: [(&str, Option<u16>); 10] = [
     ("200", Some(200)),
     ("0200", Some(200)),

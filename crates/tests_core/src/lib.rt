@@ -1,5 +1,5 @@
-//! Numbers, readers, writers, IDs, error codes and Huffman text. Tests over the public crates;
-//! there is no product code here.
+//! Numbers, readers, writers, IDs, error codes and the Huffman code. Tests over the public
+//! crates; there is no product code here.
 #![tactic(auto)]
 
 #[cfg(test)]

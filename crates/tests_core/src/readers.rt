@@ -1,10 +1,10 @@
-//! Readers: slices, places in a slice, and their children.
+//! Readers: slices, readers of a buffer, and child readers.
 use crate::same::same;
 use crate::texts::{debugs, displays};
 use std::process::Abort;
 use wtp_core::bytes::{BufferReader, BytesReader, EndOfBuffer};
 
-/// The numbers 37, 15293, 494878333 and 151288809941952652, and a text.
+/// The encoded numbers 37, 15293, 494878333 and 151288809941952652, followed by a text.
 const BYTES: [u8; 27] = [
     0x25, 0x7b, 0xbd, 0x9d, 0x7f, 0x3e, 0x7d, 0xc2, 0x19, 0x7c, 0x5e, 0xff, 0x14, 0xe8, 0x8c, 87,
     101, 98, 84, 114, 97, 110, 115, 112, 111, 114, 116,
@@ -12,7 +12,7 @@ const BYTES: [u8; 27] = [
 
 static NUMBERS: [u64; 4] = [37, 15293, 494878333, 151288809941952652];
 
-/// The next number of a reader.
+/// Reads the next number.
 pub fn number<'a, R: BytesReader<'a>>(reader: &mut R) -> Option<u64> {
     match reader.get_varint() {
         Some(number) => Some(number.into_inner()),
@@ -20,14 +20,14 @@ pub fn number<'a, R: BytesReader<'a>>(reader: &mut R) -> Option<u64> {
     }
 }
 
-/// A reader of these bytes, after the first.
+/// Returns a reader over these bytes, positioned after the first.
 fn after_one<'a, R: Abort>(rt: &R, bytes: &'a [u8]) -> BufferReader<'a> {
     let mut reader = BufferReader::new(bytes);
     same(rt, reader.skip(1), Ok(()), "the first byte");
     reader
 }
 
-/// Asserts that the numbers and the text are read, and nothing after them.
+/// Asserts that the reader yields the numbers and the text, and then nothing.
 fn check_all_is_read<'a, A: Abort, R: BytesReader<'a>>(rt: &A, reader: &mut R, word: &str) {
     for wanted in &NUMBERS {
         same(rt, number(reader), Some(*wanted), word);
@@ -53,7 +53,7 @@ fn numbers_and_text_are_read(rt: HostRuntime) {
     );
 }
 
-/// Asserts that neither a number nor eight bytes are read from so few bytes.
+/// Asserts that neither a number nor eight bytes can be read from too few bytes.
 fn check_too_few<A: Abort>(rt: &A, front: &[u8], len: usize) {
     let mut reader = BufferReader::new(front);
     let number = number(&mut reader);

@@ -1,4 +1,4 @@
-//! Any error code by its number, and numbers that are reserved.
+//! Error codes with any number, and reserved numbers.
 use crate::same::same;
 use crate::texts::displays;
 use std::process::Abort;
@@ -6,11 +6,12 @@ use wtp_core::error::{Code, ErrorScope};
 use wtp_core::numbers::is_reserved;
 use wtp_core::varint::VarInt;
 
-/// A number, its name and its description in the registry of HTTP/3 error codes (RFC 9114, section
-/// 11.2.3; RFC 9204, section 8.3; RFC 9297, section 5.2; WebTransport over HTTP/3), and what it ends.
+/// A number, its name and description in the registry of HTTP/3 error codes (RFC 9114, section
+/// 11.2.3; RFC 9204, section 8.3; RFC 9297, section 5.2; WebTransport over HTTP/3), and its
+/// scope.
 type CodeRow = (u32, &'static str, &'static str, ErrorScope);
 
-/// Each registered code, and those of later drafts of WebTransport over HTTP/3.
+/// All registered codes, and those of later drafts of WebTransport over HTTP/3.
 static REGISTERED: [CodeRow; 25] = [
     (
         0x0033,
@@ -159,7 +160,7 @@ static REGISTERED: [CodeRow; 25] = [
     ),
 ];
 
-/// Asserts what a registered code is.
+/// Asserts the properties of a registered code.
 fn check<R: Abort + AllocGlobal>(rt: &R, row: &CodeRow) {
     let (number, name, description, scope) = *row;
     let code = Code::new(VarInt::from_u32(number));
@@ -177,10 +178,10 @@ fn codes_are_registered(rt: HostRuntime) {
     }
 }
 
-/// A number beside those that are registered, and how it is printed.
+/// A number that is not registered, and its printed form.
 type OtherRow = (u32, &'static str);
 
-/// Numbers that are not registered: they are treated as H3_NO_ERROR (RFC 9114, section 8).
+/// Numbers that are not registered. They are treated as H3_NO_ERROR (RFC 9114, section 8).
 static OTHERS: [OtherRow; 7] = [
     (0x00, "0x0"),
     (0x21, "0x21"),
@@ -191,7 +192,7 @@ static OTHERS: [OtherRow; 7] = [
     (0x3994_bd85, "0x3994bd85"),
 ];
 
-/// Asserts what a number is that is not registered.
+/// Asserts the properties of a number that is not registered.
 fn check_other<R: Abort + AllocGlobal>(rt: &R, row: &OtherRow) {
     let (number, text) = *row;
     let code = Code::new(VarInt::from_u32(number));
@@ -208,8 +209,8 @@ fn other_numbers_are_codes(rt: HostRuntime) {
     }
 }
 
-/// A number, and whether it is reserved: 0x21, 0x40, .. through 0x3ffffffffffffffe are (RFC 9114,
-/// sections 7.2.8 and 11.2.1).
+/// A number, whether it is reserved, and what the row shows. The reserved numbers are 0x21, 0x40,
+/// .. through 0x3ffffffffffffffe (RFC 9114, sections 7.2.8 and 11.2.1).
 type ReservedRow = (u64, bool, &'static str);
 
 static RESERVED: [ReservedRow; 8] = [

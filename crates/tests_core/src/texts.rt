@@ -1,15 +1,15 @@
-//! What the tests share: the checks of the texts that a value has, for display and for debugging.
+//! Checks of the display and debug output of a value.
 use crate::same::same;
 use std::fmt::{Debug, Display};
 use std::process::Abort;
 
-/// Asserts what a value displays.
+/// Asserts the display output of a value.
 pub fn displays<R: Abort + AllocGlobal, T: Display>(rt: &R, value: &T, wanted: &str) {
     let text = value.to_string(rt.alloc()).expect(rt, wanted);
     same(rt, text.as_str(), wanted, "for display");
 }
 
-/// Asserts what a value prints for debugging.
+/// Asserts the debug output of a value.
 pub fn debugs<R: Abort + AllocGlobal, T: Debug>(rt: &R, value: &T, wanted: &str) {
     let text = format!(in rt.alloc(); "{value:?}").expect(rt, wanted);
     same(rt, text.as_str(), wanted, "for debugging");

@@ -8,10 +8,10 @@ use wtp_core::varint::{VarInt, VarIntBoundsExceeded};
 
 const LARGEST: u64 = 4_611_686_018_427_387_903;
 
-/// Bytes, the number that is read, how many bytes are left, and what the row shows.
+/// Bytes, the number that is read, the number of bytes left, and what the row shows.
 type Encoding = (&'static [u8], Option<u64>, usize, &'static str);
 
-/// The standard's examples, and cut ones.
+/// The standard's examples, and truncated encodings.
 static ENCODINGS: [Encoding; 9] = [
     (&[0x25], Some(37), 0, "one byte"),
     (&[0x40, 0x25], Some(37), 0, "two bytes for a small number"),
@@ -39,7 +39,7 @@ static ENCODINGS: [Encoding; 9] = [
     ),
 ];
 
-/// Asserts what is read of an encoding, and how many bytes are left.
+/// Asserts the number read from an encoding, and the number of bytes left.
 fn check_encoding<R: Abort>(rt: &R, row: &Encoding) {
     let (bytes, wanted, left, word) = *row;
     let mut reader = bytes;
@@ -54,7 +54,7 @@ fn encodings_are_read(rt: HostRuntime) {
     }
 }
 
-/// A number, and the bytes of its shortest encoding.
+/// A number, and the length of its shortest encoding.
 static SIZES: [(u64, usize); 8] = [
     (0, 1),
     (63, 1),
@@ -66,7 +66,7 @@ static SIZES: [(u64, usize); 8] = [
     (LARGEST, 8),
 ];
 
-/// The size of a number, where there is one.
+/// Returns the length of the shortest encoding of a number, if it has one.
 fn size_of(number: u64) -> Option<usize> {
     match VarInt::try_from_u64(number) {
         Ok(varint) => Some(varint.size()),
@@ -74,7 +74,7 @@ fn size_of(number: u64) -> Option<usize> {
     }
 }
 
-/// A first byte, and how many bytes its encoding has.
+/// A first byte, and the length of its encoding.
 static FIRST_BYTES: [(u8, usize); 4] = [(0xc2, 8), (0x9d, 4), (0x7b, 2), (0x25, 1)];
 
 #[test]

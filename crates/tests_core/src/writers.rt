@@ -1,11 +1,11 @@
-//! Writers: vectors, and places in a slice.
+//! Writers: vectors, and writers into a slice.
 use crate::same::same;
 use crate::texts::displays;
 use std::process::Abort;
 use wtp_core::bytes::{BufferWriter, BytesWriter, PutError};
 use wtp_core::varint::{VarInt, VarIntBoundsExceeded};
 
-/// A number, its shortest encoding, and the room that this leaves of nine bytes.
+/// A number, its shortest encoding, and the room left of nine bytes.
 static ROWS: [(u64, &[u8], usize); 6] = [
     (37, &[0x25], 8),
     (15293, &[0x7b, 0xbd], 7),
@@ -19,7 +19,7 @@ static ROWS: [(u64, &[u8], usize); 6] = [
     (4611686018427387903, &[0xff; 8], 1),
 ];
 
-/// Asserts that the number is written as these bytes into a slice of nine.
+/// Asserts that a number is written as these bytes into a slice of nine bytes.
 fn check_slice<R: Abort>(rt: &R, varint: VarInt, bytes: &[u8], left: usize) {
     let mut buffer = [0; 9];
     let mut writer = BufferWriter::new(&mut buffer);
@@ -29,14 +29,14 @@ fn check_slice<R: Abort>(rt: &R, varint: VarInt, bytes: &[u8], left: usize) {
     same(rt, came, (Ok(()), bytes, (bytes.len(), left)), varint);
 }
 
-/// Asserts that the number is written as these bytes into a vector.
+/// Asserts that a number is written as these bytes into a vector.
 fn check_vector<R: Abort + AllocGlobal>(rt: &R, varint: VarInt, bytes: &[u8]) {
     let mut vector = Vec::new(rt.alloc());
     let outcome = vector.put_varint(varint);
     same(rt, (outcome, vector.as_slice()), (Ok(()), bytes), varint);
 }
 
-/// Asserts that the number is written as these bytes, and leaves so much of nine.
+/// Asserts that a number is written as these bytes, with `left` bytes left of nine.
 fn check_written<R: Abort + AllocGlobal>(rt: &R, number: u64, bytes: &[u8], left: usize) {
     match VarInt::try_from_u64(number) {
         Ok(varint) => {
@@ -77,7 +77,7 @@ fn too_little_room_changes_nothing(rt: HostRuntime) {
     same(&rt, number, TOO_LITTLE, "one into none");
 }
 
-/// Asserts that a refusal changed nothing.
+/// Asserts that a failed write changed nothing.
 fn check_refusal<R: Abort>(rt: &R, error: PutError, came: &[u8], wanted: &[u8], word: &str) {
     same(rt, (error, came), (PutError::Memory, wanted), word);
 }

@@ -1,11 +1,11 @@
-//! The error codes of faults of sections and of messages.
+//! The error codes for errors in field sections and messages.
 use crate::same::same;
 use wtp_core::error::ErrorCode;
 use wtp_fields::huffman::HuffmanError;
 use wtp_fields::qpack::DecodingError;
 use wtp_fields::session::HeadersParseError;
 
-/// A fault of a section, and its code (RFC 9204, section 6).
+/// An error in a field section, and its error code (RFC 9204, section 6).
 static SECTIONS: [(DecodingError, Option<ErrorCode>); 6] = [
     (DecodingError::UnexpectedFin, Some(ErrorCode::Decompression)),
     (
@@ -21,7 +21,7 @@ static SECTIONS: [(DecodingError, Option<ErrorCode>); 6] = [
     (DecodingError::Memory, None),
 ];
 
-/// A fault of a Huffman text is one of its section (RFC 7541, section 5.2; RFC 9204, section
+/// A Huffman error is an error of its field section (RFC 7541, section 5.2; RFC 9204, section
 /// 4.1.2).
 #[test]
 fn faults_of_huffman_texts_have_codes(rt: HostRuntime) {
@@ -38,7 +38,7 @@ fn faults_of_sections_have_codes(rt: HostRuntime) {
     }
 }
 
-/// A fault of a request or of a response, and its code (RFC 9114, section 4.1.2).
+/// An error in a request or response, and its error code (RFC 9114, section 4.1.2).
 static MESSAGES: [(HeadersParseError, Option<ErrorCode>); 11] = [
     (HeadersParseError::MissingMethod, Some(ErrorCode::Message)),
     (

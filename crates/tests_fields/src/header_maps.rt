@@ -1,4 +1,4 @@
-//! Payloads of header maps, faults of sections, inserted fields, and refused memory.
+//! Payloads of header maps, errors in field sections, inserted fields, and failed allocations.
 use crate::same::same;
 use std::alloc::{AllocError, Global};
 use std::borrow::CowSlice;
@@ -7,12 +7,12 @@ use wtp_core::error::{ErrorCode, Refused};
 use wtp_fields::headers::Headers;
 use wtp_wire::frame::{Frame, FrameKind, FrameOwned, GenerateError};
 
-/// The map of the pairs.
+/// Returns the map of these pairs.
 fn map_once(alloc: Global, pairs: &[(&str, &str)]) -> Result<Headers, AllocError> {
     Headers::from_iter(alloc, pairs.iter().copied())
 }
 
-/// The same, made once more where memory was refused.
+/// Returns the map of these pairs, built again if allocation failed.
 pub(crate) fn map_of(rt: &impl Abort, alloc: Global, pairs: &[(&str, &str)]) -> Headers {
     match map_once(alloc, pairs) {
         Ok(headers) => headers,
@@ -20,12 +20,12 @@ pub(crate) fn map_of(rt: &impl Abort, alloc: Global, pairs: &[(&str, &str)]) -> 
     }
 }
 
-/// The frame of a map.
+/// Returns the frame of a map.
 fn frame_once(alloc: Global, headers: &Headers) -> Result<FrameOwned, GenerateError> {
     headers.generate_frame(alloc)
 }
 
-/// The same, made once more where memory was refused.
+/// Returns the frame of a map, built again if allocation failed.
 pub(crate) fn frame_of(rt: &impl Abort, alloc: Global, headers: &Headers) -> FrameOwned {
     match frame_once(alloc, headers) {
         Err(GenerateError::Memory) => frame_once(alloc, headers),
@@ -34,13 +34,13 @@ pub(crate) fn frame_of(rt: &impl Abort, alloc: Global, headers: &Headers) -> Fra
     .expect(rt, "a frame")
 }
 
-/// The map of a payload.
+/// Decodes the map in a payload.
 fn read_once(rt: &impl Abort, alloc: Global, payload: &[u8]) -> Result<Headers, Refused> {
     assert!(rt; payload.len() < 64);
     Headers::with_frame(alloc, &Frame::new_headers(CowSlice::Borrowed(payload)))
 }
 
-/// The same, read once more where memory was refused.
+/// Decodes the map in a payload, again if allocation failed.
 fn read(rt: &impl Abort, alloc: Global, payload: &[u8]) -> Result<Headers, Refused> {
     match read_once(rt, alloc, payload) {
         Err(Refused::Memory) => read_once(rt, alloc, payload),
@@ -48,7 +48,7 @@ fn read(rt: &impl Abort, alloc: Global, payload: &[u8]) -> Result<Headers, Refus
     }
 }
 
-/// Asserts that a map has these fields and no other.
+/// Asserts that a map contains exactly these fields.
 pub(crate) fn assert_fields(
     rt: &impl Abort,
     headers: &Headers,
@@ -61,8 +61,8 @@ pub(crate) fn assert_fields(
     }
 }
 
-/// What a row shows, pairs, and the payload of their map, which is the map of these pairs and no
-/// others.
+/// What a row shows, pairs, and the payload of their map. The payload decodes to exactly these
+/// pairs.
 type PayloadRow = (
     &'static str,
     &'static [(&'static str, &'static str)],
@@ -89,7 +89,7 @@ static PAYLOADS: [PayloadRow; 4] = [
     ),
 ];
 
-/// Asserts that the map of the pairs has this payload.
+/// Asserts that the map of these pairs has this payload.
 fn assert_sent(
     rt: &impl Abort,
     alloc: Global,
@@ -103,7 +103,8 @@ fn assert_sent(
     same(rt, frame.payload(), payload, shows);
 }
 
-/// Asserts the same of a row, and that the map of this payload has these fields and no other.
+/// Asserts that the map of a row has its payload, and that the payload decodes to exactly its
+/// fields.
 fn assert_sent_and_read(rt: &impl Abort, alloc: Global, row: &PayloadRow) {
     let (shows, pairs, payload) = *row;
     assert_sent(rt, alloc, pairs, payload, shows);
@@ -118,7 +119,7 @@ fn payloads_past_refused_memory(rt: HostRuntime) {
     }
 }
 
-/// What a row shows, and a payload that is no field section.
+/// What a row shows, and a payload that is not a valid field section.
 static REFUSED: [(&str, &[u8]); 6] = [
     ("a cut prefix", b"\x00"),
     (
@@ -147,8 +148,8 @@ fn refused_sections_past_refused_memory(rt: HostRuntime) {
     }
 }
 
-/// Inserts a field. Where memory was refused the map must be as it was, and the field is inserted
-/// once more.
+/// Inserts a field. If allocation failed, asserts that the map is unchanged, and inserts the
+/// field again.
 pub(crate) fn insert(
     rt: &impl Abort,
     headers: &mut Headers,
@@ -161,7 +162,7 @@ pub(crate) fn insert(
     }
 }
 
-/// Asserts that a map comes back from its frame with these fields, in the order of their names.
+/// Asserts that the frame of a map decodes to these fields, in order of their names.
 fn assert_comes_back(rt: &impl Abort, alloc: Global, headers: &Headers, pairs: &[(&str, &str)]) {
     let frame = frame_of(rt, alloc, headers);
     let back = read(rt, alloc, frame.payload()).expect(rt, "refused");
@@ -171,19 +172,19 @@ fn assert_comes_back(rt: &impl Abort, alloc: Global, headers: &Headers, pairs: &
     }
 }
 
-/// Pairs, one name of which comes again.
+/// Pairs, two of which have the same name.
 static GIVEN: [(&str, &str); 3] = [("key1", "value0"), ("key1", "value1"), ("key2", "value2")];
 
 /// The fields of their map.
 static FIRST: [(&str, &str); 2] = [("key1", "value1"), ("key2", "value2")];
 
-/// The fields after a new value.
+/// The fields after a value was replaced.
 static CHANGED: [(&str, &str); 2] = [("key1", "other"), ("key2", "value2")];
 
-/// The fields after a new name.
+/// The fields after a new name was inserted.
 static LAST: [(&str, &str); 3] = [("key1", "other"), ("key2", "value2"), ("key3", "")];
 
-/// The map of the pairs that are given.
+/// Returns the map of `GIVEN`.
 fn first_map(rt: &impl Abort, alloc: Global) -> Headers {
     let headers = map_of(rt, alloc, &GIVEN);
     assert_fields(rt, &headers, &FIRST, "the last value of a name");
@@ -191,7 +192,7 @@ fn first_map(rt: &impl Abort, alloc: Global) -> Headers {
     headers
 }
 
-/// Asserts what a new value and a new name change in that map.
+/// Asserts the effect of a new value and of a new name on that map.
 fn assert_inserts(rt: &impl Abort, headers: &mut Headers) {
     insert(rt, headers, ("key1", "other"), &FIRST);
     assert_fields(rt, headers, &CHANGED, "a new value of an old name");

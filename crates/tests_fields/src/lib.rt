@@ -1,5 +1,5 @@
-//! Header maps and the messages of sessions. Tests over the public crates; there is no product code
-//! here.
+//! Header maps, and the requests and responses of sessions. Tests over the public crates; there
+//! is no product code here.
 #![tactic(auto)]
 
 #[cfg(test)]

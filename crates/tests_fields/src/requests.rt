@@ -1,4 +1,4 @@
-//! Requests for URLs and of header maps, their frames, their fields, and refused memory.
+//! Requests from URLs and from header maps, their frames, their fields, and failed allocations.
 use crate::header_maps::{assert_fields, frame_of, map_of};
 use crate::same::same;
 use std::alloc::Global;
@@ -11,7 +11,7 @@ use wtp_fields::session::{
 };
 use wtp_wire::frame::{Frame, FrameKind, FrameOwned};
 
-/// The request for a URL, made once more where memory was refused.
+/// Returns the request for a URL, built again if allocation failed.
 fn request_for(alloc: Global, url: &str) -> Result<SessionRequest, UrlParseError> {
     match SessionRequest::new(alloc, url) {
         Err(UrlParseError::Memory) => SessionRequest::new(alloc, url),
@@ -19,7 +19,8 @@ fn request_for(alloc: Global, url: &str) -> Result<SessionRequest, UrlParseError
     }
 }
 
-/// Asserts that a request has this authority and path, the other fields of any, and no more.
+/// Asserts that a request has this authority and path, the fields of every request, and no
+/// others.
 fn assert_request(
     rt: &impl Abort,
     request: &SessionRequest,
@@ -42,7 +43,7 @@ fn assert_request(
 /// What a row shows, a URL, and the authority and path of its request.
 type UrlRow = (&'static str, &'static str, &'static str, &'static str);
 
-/// URLs of requests.
+/// Valid URLs.
 static URLS: [UrlRow; 4] = [
     (
         "a port, and a query",
@@ -84,7 +85,7 @@ fn urls_past_refused_memory(rt: HostRuntime) {
     }
 }
 
-/// URLs of which there is no request, and why.
+/// Invalid URLs, and the error for each.
 static REFUSED_URLS: [(&str, UrlParseError); 9] = [
     ("http://localhost:4433", UrlParseError::SchemeNotHttps),
     ("wss://localhost", UrlParseError::SchemeNotHttps),
@@ -110,8 +111,8 @@ fn insert_once(request: &mut SessionRequest, name: &str, value: &str) -> Result<
     request.insert(name, value)
 }
 
-/// Inserts a field into a request. Where memory was refused the field must be as it was, and is
-/// inserted once more.
+/// Inserts a field into a request. If allocation failed, asserts that the field is unchanged, and
+/// inserts it again.
 fn insert(rt: &impl Abort, request: &mut SessionRequest, row: &InsertedRow) {
     let (name, value, before) = *row;
     match insert_once(request, name, value) {
@@ -124,7 +125,7 @@ fn insert(rt: &impl Abort, request: &mut SessionRequest, row: &InsertedRow) {
     .expect(rt, name);
 }
 
-/// Asserts what a request has in the fields that a client may give it.
+/// Asserts the values of the fields that a client may set.
 fn assert_given(
     rt: &impl Abort,
     request: &SessionRequest,
@@ -136,7 +137,7 @@ fn assert_given(
     same(rt, request.get("x"), x, shows);
 }
 
-/// A field, its value, and the value that it had before.
+/// A field name, its value, and its previous value.
 type InsertedRow = (&'static str, &'static str, Option<&'static str>);
 
 /// Fields that are inserted, one after another.
@@ -147,7 +148,7 @@ static INSERTED: [InsertedRow; 4] = [
     ("x", "z", Some("y")),
 ];
 
-/// The request for a URL, with the inserted fields.
+/// Returns a request for a URL, with the inserted fields.
 fn request_with_fields(rt: &impl Abort, alloc: Global) -> SessionRequest {
     let mut request = request_for(alloc, "https://example.com/").expect(rt, "no request");
     assert_given(rt, &request, (None, None, None), "no field is inserted");
@@ -157,10 +158,10 @@ fn request_with_fields(rt: &impl Abort, alloc: Global) -> SessionRequest {
     request
 }
 
-/// The names of the fields that a request sets itself.
+/// The names of the pseudo-header fields that a request sets itself.
 static RESERVED: [&str; 5] = [":method", ":scheme", ":protocol", ":authority", ":path"];
 
-/// Asserts that a name is reserved, and that no field of it is inserted.
+/// Asserts that a name is reserved, so a field with this name cannot be inserted.
 fn assert_reserved(rt: &impl Abort, request: &mut SessionRequest, name: &'static str) {
     same(
         rt,
@@ -195,19 +196,19 @@ fn fields_of_a_request_past_refused_memory(rt: HostRuntime) {
     assert_parts(&rt, &request, wanted, "no reserved field is changed");
 }
 
-/// Why there is no request with these fields.
+/// Returns why these fields are not a valid request.
 fn fault_of(headers: Headers) -> Option<HeadersParseError> {
     SessionRequest::try_from(headers).err()
 }
 
-/// What a row shows, pairs, and the fault of the request with these fields.
+/// What a row shows, pairs, and the error for the request with these fields.
 type FaultRow = (
     &'static str,
     &'static [(&'static str, &'static str)],
     Option<HeadersParseError>,
 );
 
-/// Faults are looked for in the order of the first five.
+/// Errors are checked in the order of the first five.
 static FAULTS: [FaultRow; 10] = [
     (
         "a request",
@@ -294,7 +295,7 @@ fn faults_of_requests_past_refused_memory(rt: HostRuntime) {
     }
 }
 
-/// The request of a frame, read once more where memory was refused.
+/// Reads the request in a frame, again if allocation failed.
 fn receive(alloc: Global, frame: &Frame<'_>) -> Result<SessionRequest, Refused> {
     match request_of_frame(alloc, frame) {
         Err(Refused::Memory) => request_of_frame(alloc, frame),
@@ -302,13 +303,13 @@ fn receive(alloc: Global, frame: &Frame<'_>) -> Result<SessionRequest, Refused> 
     }
 }
 
-/// The frame of the request for `https://example.com/`.
+/// Returns the frame of the request for `https://example.com/`.
 fn request_frame(rt: &impl Abort, alloc: Global) -> FrameOwned {
     let request = request_for(alloc, "https://example.com/").expect(rt, "no request");
     frame_of(rt, alloc, request.headers())
 }
 
-/// Asserts the authority and the path of a request, and how many fields it has.
+/// Asserts the authority, the path and the number of fields of a request.
 fn assert_parts(
     rt: &impl Abort,
     request: &SessionRequest,
@@ -334,7 +335,7 @@ fn sent_request_past_refused_memory(rt: HostRuntime) {
 static PAYLOAD: &[u8] =
     b"\x00\x00\x50\x88\x2f\x91\xd3\x5d\x05\x5c\x87\xa7\xcf\xc1\x2f\x00\xb9\x5d\x87\x49\xc8\x7a\x3f\x89\xf0\x58\xd3\x60\xea\x45\x67\xb1\x3f\x5f\x07\x84\x9d\x29\xad\x1f";
 
-/// What a row shows, the payload of a HEADERS frame that is no request, and why.
+/// What a row shows, the payload of a HEADERS frame that is not a request, and the error code.
 static REFUSED_PAYLOADS: [(&str, &[u8], ErrorCode); 3] = [
     (
         "a payload that is no section",
@@ -349,7 +350,7 @@ static REFUSED_PAYLOADS: [(&str, &[u8], ErrorCode); 3] = [
     ),
 ];
 
-/// Asserts that a frame is refused as a request, with this code.
+/// Asserts that a frame is rejected as a request, with this error code.
 fn assert_refused(rt: &impl Abort, alloc: Global, frame: Frame<'_>, code: ErrorCode, shows: &str) {
     same(
         rt,
@@ -359,7 +360,7 @@ fn assert_refused(rt: &impl Abort, alloc: Global, frame: Frame<'_>, code: ErrorC
     );
 }
 
-/// Asserts it of the HEADERS frame of a payload.
+/// Asserts that the HEADERS frame with this payload is rejected.
 fn assert_refused_payload(
     rt: &impl Abort,
     alloc: Global,

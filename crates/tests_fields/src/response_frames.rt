@@ -1,4 +1,4 @@
-//! Responses in frames, their fields, copies of header maps, and refused memory.
+//! Responses in frames, their fields, copies of header maps, and failed allocations.
 use crate::header_maps::{assert_fields, insert, map_of};
 use crate::same::same;
 use std::alloc::{AllocError, Global};
@@ -10,7 +10,7 @@ use wtp_fields::headers::Headers;
 use wtp_fields::session::{SessionResponse, response_of_frame};
 use wtp_wire::frame::Frame;
 
-/// The response of a frame, read once more where memory was refused.
+/// Reads the response in a frame, again if allocation failed.
 fn receive(alloc: Global, frame: &Frame<'_>) -> Result<SessionResponse, Refused> {
     match response_of_frame(alloc, frame) {
         Err(Refused::Memory) => response_of_frame(alloc, frame),
@@ -18,13 +18,13 @@ fn receive(alloc: Global, frame: &Frame<'_>) -> Result<SessionResponse, Refused>
     }
 }
 
-/// The response in the HEADERS frame of a payload.
+/// Reads the response in the HEADERS frame with this payload.
 fn response_of(rt: &impl Abort, alloc: Global, payload: &[u8]) -> Result<SessionResponse, Refused> {
     assert!(rt; payload.len() < 2048);
     receive(alloc, &Frame::new_headers(CowSlice::Borrowed(payload)))
 }
 
-/// What a row shows, a payload, the status code of its response, and all of its fields.
+/// What a row shows, a payload, the status code of its response, and all its fields.
 type ResponseRow = (
     &'static str,
     &'static [u8],
@@ -32,7 +32,7 @@ type ResponseRow = (
     &'static [(&'static str, &'static str)],
 );
 
-/// Payloads of responses. The last is what nghttp3 1.8.0 sent.
+/// Payloads of responses. nghttp3 1.8.0 sent the last one.
 static RESPONSES: [ResponseRow; 4] = [
     (
         "a static entry",
@@ -67,7 +67,7 @@ static RESPONSES: [ResponseRow; 4] = [
     ),
 ];
 
-/// Asserts the values of a response by their names.
+/// Asserts the values of a response by name.
 fn assert_values(
     rt: &impl Abort,
     response: &SessionResponse,
@@ -80,7 +80,7 @@ fn assert_values(
     same(rt, response.get("absent"), None, shows);
 }
 
-/// Asserts that the payload of a row is a response with its status code and its fields.
+/// Asserts that the payload of a row decodes to a response with its status code and fields.
 fn assert_response(rt: &impl Abort, alloc: Global, row: &ResponseRow) {
     let (shows, payload, code, fields) = *row;
     let response = response_of(rt, alloc, payload).expect(rt, shows);
@@ -96,7 +96,7 @@ fn received_responses_past_refused_memory(rt: HostRuntime) {
     }
 }
 
-/// What a row shows, a payload that is not a response, and why.
+/// What a row shows, a payload that is not a response, and the error code.
 static REFUSED_PAYLOADS: [(&str, &[u8], ErrorCode); 7] = [
     ("no section", b"\x00", ErrorCode::Decompression),
     (
@@ -135,7 +135,7 @@ fn other_frames_are_not_responses(rt: HostRuntime) {
     assert_unexpected(&rt, rt.alloc(), exercise, "a reserved frame");
 }
 
-/// The copy of a map, made once more where memory was refused.
+/// Returns a copy of a map, made again if allocation failed.
 fn copy(rt: &impl Abort, headers: &Headers) -> Headers {
     match headers.clone() {
         Ok(second) => second,
@@ -143,11 +143,11 @@ fn copy(rt: &impl Abort, headers: &Headers) -> Headers {
     }
 }
 
-/// The fields of the map that is copied.
+/// The fields of the copied map.
 static FIELDS: [(&str, &str); 3] = [(":status", "200"), ("a", "1"), ("b", "2")];
 
-/// Asserts that the copy of a map has its fields, and that a field of the copy is changed. Where
-/// memory was refused it is inserted once more.
+/// Asserts that a copy of a map has its fields, and that a field of the copy can be changed. If
+/// allocation failed, the field is inserted again.
 fn assert_copied(rt: &impl Abort, first: &Headers) {
     let mut second = copy(rt, first);
     assert_fields(rt, &second, &FIELDS, "the copy");

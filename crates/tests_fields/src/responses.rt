@@ -1,5 +1,5 @@
-//! Responses by their status codes and of header maps, their frames, their fields, and refused
-//! memory.
+//! Responses by status code and from header maps, their frames, their fields, and failed
+//! allocations.
 use crate::header_maps::{assert_fields, frame_of, map_of};
 use crate::same::same;
 use std::alloc::{AllocError, Global};
@@ -7,7 +7,7 @@ use std::process::Abort;
 use wtp_core::ids::StatusCode;
 use wtp_fields::session::{AddError, HeadersParseError, SessionResponse};
 
-/// The calls that make a response.
+/// The calls that create a response.
 #[derive(Clone, Copy)]
 enum Call {
     WithStatusCode,
@@ -17,7 +17,7 @@ enum Call {
     TooManyRequests,
 }
 
-/// What a call answers.
+/// Returns the result of a call.
 fn call_once(alloc: Global, call: Call) -> Result<SessionResponse, AllocError> {
     match call {
         Call::WithStatusCode => SessionResponse::with_status_code(alloc, StatusCode::OK),
@@ -28,7 +28,7 @@ fn call_once(alloc: Global, call: Call) -> Result<SessionResponse, AllocError> {
     }
 }
 
-/// The response of a call.
+/// Returns the response that a call creates.
 fn response(rt: &impl Abort, alloc: Global, call: Call) -> SessionResponse {
     match call_once(alloc, call) {
         Ok(response) => response,
@@ -36,10 +36,10 @@ fn response(rt: &impl Abort, alloc: Global, call: Call) -> SessionResponse {
     }
 }
 
-/// A call, and the status code and the payload of its response.
+/// A call, and the status code and payload of its response.
 type CallRow = (Call, u16, &'static [u8]);
 
-/// Each call.
+/// All calls.
 static CALLS: [CallRow; 5] = [
     (Call::WithStatusCode, 200, b"\x00\x00\x5f\x09\x82\x10\x01"),
     (Call::Ok, 200, b"\x00\x00\x5f\x09\x82\x10\x01"),
@@ -48,7 +48,7 @@ static CALLS: [CallRow; 5] = [
     (Call::TooManyRequests, 429, b"\x00\x00\x5f\x09\x03429"),
 ];
 
-/// Asserts that the response of the call of a row has its status code and its payload.
+/// Asserts that the call of a row creates a response with its status code and payload.
 fn assert_response(rt: &impl Abort, alloc: Global, row: &CallRow) {
     let (call, code, payload) = *row;
     let response = response(rt, alloc, call);
@@ -69,8 +69,8 @@ fn add_once(response: &mut SessionResponse, name: &str, value: &str) -> Result<(
     response.add(name, value)
 }
 
-/// Adds a field to a response. Where memory was refused the field must be as it was, and is added
-/// once more.
+/// Adds a field to a response. If allocation failed, asserts that the field is unchanged, and
+/// adds it again.
 fn add(
     rt: &impl Abort,
     response: &mut SessionResponse,
@@ -88,11 +88,10 @@ fn add(
     .expect(rt, name);
 }
 
-/// Texts that are no status codes.
+/// Texts that are not status codes.
 static NO_CODES: [&str; 7] = ["abc", "", "+", "99", "600", "65736", "2 00"];
 
-/// Asserts that a text is not added as the status of a response, whose status code is 200 before
-/// and after.
+/// Asserts that a text cannot be added as the status of a response, whose status code stays 200.
 fn assert_no_code(rt: &impl Abort, response: &mut SessionResponse, text: &str) {
     let outcome = add_once(response, ":status", text);
     same(rt, outcome, Err(AddError::InvalidStatusCode), text);
@@ -102,7 +101,7 @@ fn assert_no_code(rt: &impl Abort, response: &mut SessionResponse, text: &str) {
 /// The fields after a status and another field were added.
 static ADDED: [(&str, &str); 2] = [(":status", "0404"), ("x", "y")];
 
-/// Asserts that a status and another field are added to a response.
+/// Asserts that a status and another field can be added to a response.
 fn assert_added(rt: &impl Abort, response: &mut SessionResponse) {
     add(rt, response, ("x", "y"), None);
     add(rt, response, (":status", "0404"), Some("200"));
@@ -120,7 +119,7 @@ fn fields_of_a_response_past_refused_memory(rt: HostRuntime) {
     assert_added(&rt, &mut response);
 }
 
-/// The response of a map of the pairs.
+/// Returns the response with the map of these pairs.
 fn response_once(
     rt: &impl Abort,
     alloc: Global,
@@ -129,7 +128,7 @@ fn response_once(
     SessionResponse::try_from(map_of(rt, alloc, pairs))
 }
 
-/// The same, made once more where memory was refused.
+/// Returns the response with the map of these pairs, built again if allocation failed.
 fn response_of(
     rt: &impl Abort,
     alloc: Global,
@@ -141,14 +140,14 @@ fn response_of(
     }
 }
 
-/// What a row shows, pairs, and the fault of the response with these fields.
+/// What a row shows, pairs, and the error for the response with these fields.
 type NoResponseRow = (
     &'static str,
     &'static [(&'static str, &'static str)],
     HeadersParseError,
 );
 
-/// Maps of no response.
+/// Maps that are not valid responses.
 static NO_RESPONSES: [NoResponseRow; 4] = [
     (
         "no status",
@@ -172,10 +171,11 @@ static NO_RESPONSES: [NoResponseRow; 4] = [
     ),
 ];
 
-/// A text of a status, and its digits in the response.
+/// A status as text, and its digits in the response.
 static STATUSES: [(&str, &str); 3] = [("0200", "200"), ("+403", "403"), ("599", "599")];
 
-/// Asserts that the response of a map with this text as its status has these digits alone.
+/// Asserts that a map with this text as its status is a response with these digits and no other
+/// field.
 fn assert_status(rt: &impl Abort, alloc: Global, (text, digits): (&str, &str)) {
     let response = response_of(rt, alloc, &[(":status", text), ("x", "y")]).expect(rt, text);
     assert_fields(rt, response.headers(), &[(":status", digits)], text);

@@ -1,4 +1,4 @@
-//! Texts of the errors of requests, responses and their header maps, and refused memory.
+//! Texts of the errors of requests, responses and their header maps, and failed allocations.
 use crate::same::same;
 use std::alloc::{AllocError, Global};
 use std::fmt::Display;
@@ -7,7 +7,7 @@ use wtp_fields::session::{
     AddError, HeadersParseError, InsertError, ReservedHeader, UrlParseError,
 };
 
-/// An error's text, asked for once more where memory was refused.
+/// Returns the text of an error, again if allocation failed.
 fn text_of(alloc: Global, error: &impl Display) -> Result<String, AllocError> {
     match error.to_string(alloc) {
         Err(AllocError) => error.to_string(alloc),
@@ -15,20 +15,20 @@ fn text_of(alloc: Global, error: &impl Display) -> Result<String, AllocError> {
     }
 }
 
-/// Asserts that an error has this text.
+/// Asserts the text of an error.
 fn assert_shown(rt: &impl Abort, alloc: Global, error: &impl Display, text: &str) {
     let came = text_of(alloc, error).expect(rt, "memory");
     same(rt, came.as_str(), text, text);
 }
 
-/// Asserts it of each error.
+/// Asserts the text of each error.
 fn assert_texts<E: Display>(rt: &impl Abort, alloc: Global, rows: &[(E, &str)]) {
     for (error, text) in rows {
         assert_shown(rt, alloc, error, text);
     }
 }
 
-/// Errors of header maps, and their texts.
+/// Errors in header maps, and their texts.
 static ERRORS_OF_MAPS: [(HeadersParseError, &str); 11] = [
     (
         HeadersParseError::MissingMethod,
@@ -75,7 +75,7 @@ fn printed_errors_of_maps_past_refused_memory(rt: HostRuntime) {
     assert_texts(&rt, rt.alloc(), &ERRORS_OF_MAPS);
 }
 
-/// Errors of URLs, and their texts.
+/// Errors in URLs, and their texts.
 static ERRORS_OF_URLS: [(UrlParseError, &str); 13] = [
     (UrlParseError::EmptyHost, "host is missing in the URL"),
     (
@@ -115,7 +115,7 @@ fn printed_errors_of_urls_past_refused_memory(rt: HostRuntime) {
     assert_texts(&rt, rt.alloc(), &ERRORS_OF_URLS);
 }
 
-/// Errors of inserted fields, and their texts.
+/// Errors of inserting fields, and their texts.
 static ERRORS_OF_INSERTS: [(InsertError, &str); 2] = [
     (
         InsertError::Reserved(ReservedHeader),
@@ -124,7 +124,7 @@ static ERRORS_OF_INSERTS: [(InsertError, &str); 2] = [
     (InsertError::Memory, "no memory"),
 ];
 
-/// Errors of added fields, and their texts.
+/// Errors of adding fields, and their texts.
 static ERRORS_OF_ADDS: [(AddError, &str); 2] = [
     (AddError::InvalidStatusCode, "invalid HTTP status code"),
     (AddError::Memory, "no memory"),

@@ -1,13 +1,13 @@
-//! Inspections of recorded streams and datagrams. The recordings are those of
-//! `tools/recordings.d`, and the expected items are what their index says.
+//! Inspections of recorded streams and datagrams. The recordings are those in
+//! `tools/recordings.d`; the expected items are from their index.
 use crate::same::same;
 use std::alloc::Global;
 use std::process::Abort;
 use wt_inspection::item::Parts;
 use wt_inspection::{Content, End, Inspection, Item, Recorded, inspect};
 
-/// What was recorded, its bytes, whether more may follow, the place, the length and the name of
-/// each item, how it ends, and what the row shows.
+/// The kind of recording, its bytes, whether more may follow, the offset, length and name of each
+/// item, the end, and what the row shows.
 type Row = (
     Recorded,
     &'static [u8],
@@ -206,7 +206,7 @@ static STREAMS: [Row; 22] = [
     ),
 ];
 
-/// Returns what an item is called in the rows.
+/// Returns the name of an item in the rows.
 fn name_of(item: &Item) -> &'static str {
     match &item.content {
         Content::Stream(head) => head.name.as_str(),
@@ -221,7 +221,7 @@ fn name_of(item: &Item) -> &'static str {
     }
 }
 
-/// Returns the state of an end, and the error code of a fault.
+/// Returns the state of an end, and the error code if it is an error.
 fn state_of(end: End) -> (&'static str, u64) {
     match end {
         End::Whole => ("whole", 0),
@@ -230,7 +230,7 @@ fn state_of(end: End) -> (&'static str, u64) {
     }
 }
 
-/// Asserts the items of a row and its end.
+/// Asserts the items and the end of a row.
 fn check_row<R: Abort>(rt: &R, alloc: Global, row: &Row) {
     let (kind, bytes, open, items, end, shows) = *row;
     let found = inspect(alloc, kind, bytes, open).expect(rt, "memory");
@@ -249,7 +249,7 @@ fn streams_are_inspected(rt: HostRuntime) {
     }
 }
 
-/// Returns the close code of the capsules in the last item, and their number.
+/// Returns the number of capsules in the last item, and the error code of a close among them.
 fn capsules_in(found: &Inspection) -> (usize, Option<u64>) {
     let Some(item) = found.items.last() else {
         return (0, None);
@@ -264,8 +264,8 @@ fn capsules_in(found: &Inspection) -> (usize, Option<u64>) {
     (capsules.len(), close.map(|close| close.code))
 }
 
-/// The capsules that end in the last item of each of the first recordings: how many, and the code
-/// of a close.
+/// The capsules that end in the last item of each of the first recordings: their number, and the
+/// error code of a close.
 static CAPSULES: [(usize, Option<u64>); 4] = [(1, None), (1, Some(4660)), (0, None), (0, None)];
 
 /// Asserts the capsules in the last item of a row.

@@ -1,5 +1,5 @@
-//! Inspections of recorded bytes, and the text, JSON and pages that show them, as tests over the
-//! public crates. There is no product code here.
+//! Inspections of recorded bytes, and their display as text, JSON and pages. Tests over the
+//! public crates; there is no product code here.
 #![tactic(auto)]
 
 #[cfg(test)]

@@ -1,6 +1,6 @@
-//! What is shown of inspections: texts, JSON and pages of each kind, of values that a terminal, a
-//! reader of JSON or a browser would take for more than text, and past refused memory. What is
-//! expected follows from docs/INSPECTOR.md and the standards.
+//! The display of inspections as text, JSON and pages: of each kind of recording, of values that
+//! a terminal, a JSON parser or a browser might interpret, and after failed allocations. The
+//! expected output follows from docs/INSPECTOR.md and the standards.
 use crate::same::same;
 use json::{Reader, Scratch, Token, is_valid};
 use std::alloc::{AllocError, Global};
@@ -10,10 +10,10 @@ use wt_inspection_views::html::write_html;
 use wt_inspection_views::json_lines::write_json;
 use wt_inspection_views::text::write_text;
 
-/// Bytes, what was recorded, whether more may follow, and whether payload is shown.
+/// Bytes, the kind of recording, whether more may follow, and whether payload is shown.
 type Given<'a> = (&'a [u8], Recorded, bool, bool);
 
-/// What is shown of bytes.
+/// An inspection in each output format.
 #[derive(Drop)]
 struct Shown {
     text: String,
@@ -21,7 +21,7 @@ struct Shown {
     page: Vec<u8>,
 }
 
-/// Shows bytes in each form.
+/// Displays bytes in each format.
 fn show_once(alloc: Global, given: Given<'_>) -> Result<Shown, AllocError> {
     let (bytes, kind, open, payload) = given;
     let found = inspect(alloc, kind, bytes, open)?;
@@ -32,7 +32,7 @@ fn show_once(alloc: Global, given: Given<'_>) -> Result<Shown, AllocError> {
     })
 }
 
-/// Shows bytes in each form, and once more where memory was refused.
+/// Displays bytes in each format, again if allocation failed.
 fn show_again(alloc: Global, given: Given<'_>) -> Result<Shown, AllocError> {
     match show_once(alloc, given) {
         Ok(shown) => Ok(shown),
@@ -40,12 +40,12 @@ fn show_again(alloc: Global, given: Given<'_>) -> Result<Shown, AllocError> {
     }
 }
 
-/// Returns bytes as a text.
+/// Returns bytes as text.
 fn text_in(bytes: &[u8]) -> &str {
     str::from_utf8(bytes).unwrap_or("not UTF-8")
 }
 
-/// What is given, the text, the JSON, a part of the page, and what the row shows.
+/// The input, the text, the JSON, a part of the page, and what the row shows.
 type Row = (
     Given<'static>,
     &'static str,
@@ -197,7 +197,7 @@ static ROWS: [Row; 9] = [
     ),
 ];
 
-/// Returns whether each of these lines is JSON.
+/// Returns whether each line is valid JSON.
 fn are_json<R: Abort>(rt: &R, alloc: Global, lines: &str) -> bool {
     let mut scratch = Scratch::new(alloc);
     for line in lines.lines() {
@@ -208,12 +208,12 @@ fn are_json<R: Abort>(rt: &R, alloc: Global, lines: &str) -> bool {
     true
 }
 
-/// Returns whether a page has these bytes.
+/// Returns whether a page contains these bytes.
 fn has_part(page: &[u8], part: &[u8]) -> bool {
     page.windows(part.len().max(1)).any(|window| window == part)
 }
 
-/// Asserts what is shown of a row.
+/// Asserts the display of a row.
 fn check_row<R: Abort>(rt: &R, alloc: Global, row: &Row) {
     let (given, text, lines, part, shows) = *row;
     let shown = show_again(alloc, given).expect(rt, "memory");
@@ -234,8 +234,8 @@ fn each_kind_is_shown_past_refused_memory(rt: HostRuntime) {
     }
 }
 
-/// A section of a field `x`, the value as the text has it, the key of what JSON has of it, which is
-/// `hex` for digits, and what a reader of JSON finds there.
+/// A section with a field `x`, its value in the text, the key of its value in the JSON, which is
+/// `hex` for digits, and the string that a JSON parser finds there.
 type ValueRow = (&'static [u8], &'static str, &'static str, &'static str);
 
 static VALUES: [ValueRow; 10] = [
@@ -266,7 +266,7 @@ static VALUES: [ValueRow; 10] = [
     ),
 ];
 
-/// Returns the last key and the last string that a reader of JSON finds among its first tokens.
+/// Returns the last key and the last string that a JSON parser finds among its first tokens.
 fn last_words<'a>(reader: &mut Reader<'a>) -> (&'a str, &'a str) {
     let mut key = "";
     let mut text = "";
@@ -280,7 +280,7 @@ fn last_words<'a>(reader: &mut Reader<'a>) -> (&'a str, &'a str) {
     (key, text)
 }
 
-/// Asserts what a reader of JSON finds last in the first of these lines, and that each is JSON.
+/// Asserts the last key and string in the first line, and that each line is valid JSON.
 fn check_lines<R: Abort>(rt: &R, alloc: Global, lines: &str, wanted: (&str, &str)) {
     same(rt, are_json(rt, alloc, lines), true, wanted.1);
     let mut scratch = Scratch::new(alloc);
@@ -289,7 +289,7 @@ fn check_lines<R: Abort>(rt: &R, alloc: Global, lines: &str, wanted: (&str, &str
     same(rt, last_words(&mut reader), wanted, wanted.1);
 }
 
-/// Asserts what the text and a reader of JSON have of a value.
+/// Asserts the value in the text and in the parsed JSON.
 fn check_value<R: Abort>(rt: &R, alloc: Global, row: &ValueRow) {
     let (bytes, text, key, value) = *row;
     let given = (bytes, Recorded::Section, false, false);
@@ -306,10 +306,11 @@ fn values_are_shown_as_text(rt: HostRuntime) {
     }
 }
 
-/// The number of bytes of a long name.
+/// The length of a long name.
 const LONG: usize = 61_440;
 
-/// Returns a section of a field with a long name and no value (RFC 9204, section 4.5.6).
+/// Returns a section with a field that has a long name and an empty value (RFC 9204, section
+/// 4.5.6).
 fn long_section<R: Abort>(rt: &R, alloc: Global) -> Vec<u8> {
     // 61440 is 7 and 61433, which is 121 + 95 * 128 + 3 * 128 * 128.
     let head = b"\x00\x00\x27\xf9\xdf\x03";

@@ -1,5 +1,5 @@
-//! Listings of recorded streams and the program over them, as tests over the public crates. There
-//! is no product code here.
+//! Listings of recorded streams, and the program that prints them. Tests over the public crates;
+//! there is no product code here.
 #![tactic(auto)]
 
 #[cfg(test)]

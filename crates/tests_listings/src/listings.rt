@@ -175,7 +175,7 @@ fn control_streams_are_listed(rt: HostRuntime) {
     }
 }
 
-/// Inputs of a peer's stream in parts, their listings, and what the row shows.
+/// The parts of an input on a stream that the peer opened, its listing, and what the row shows.
 type Long = (&'static [&'static [u8]], &'static str, &'static str);
 
 /// Inputs of thousands of bytes.
@@ -188,7 +188,7 @@ static LONG: [Long; 2] = [
     ),
 ];
 
-/// Asserts the listing of a row.
+/// Asserts the listing of the input of a row.
 fn check_long<R: Abort + AllocGlobal>(rt: &R, row: &Long) {
     let (parts, text, word) = *row;
     let input = join(rt, parts);
@@ -202,8 +202,8 @@ fn the_longest_payloads_are_listed(rt: HostRuntime) {
     }
 }
 
-/// The listing of the input; a second time where memory was refused. Nothing is left after a
-/// refusal, and the next call is whole.
+/// Returns the listing of an input, built again if allocation failed. A failed call keeps
+/// nothing, so the next one is complete.
 fn listed(alloc: Global, input: &[u8]) -> Result<Listing, AllocError> {
     match list_frames(alloc, ListKind::BiRemote, input) {
         Ok(listing) => Ok(listing),

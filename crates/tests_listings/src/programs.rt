@@ -1,4 +1,4 @@
-//! The program, over readers and writers of the tests' own.
+//! The program, with readers and writers of the tests.
 use crate::rows::{REQUEST, REQUEST_LISTING};
 use crate::same::same;
 use std::alloc::{AllocError, Global};
@@ -6,7 +6,7 @@ use std::io::{self, Read, Write};
 use std::process::Abort;
 use wt_listings::run_program;
 
-/// Gives these bytes, so many a call, and then fails or ends.
+/// A reader that returns these bytes, at most `step` per call, and then fails or ends.
 #[derive(Drop)]
 struct Input<'a> {
     bytes: &'a [u8],
@@ -27,7 +27,7 @@ impl Read for Input<'_> {
     }
 }
 
-/// Takes so many bytes, and then fails.
+/// A writer that accepts a limited number of bytes and then fails.
 #[derive(Drop)]
 struct Output {
     bytes: Vec<u8>,
@@ -59,7 +59,7 @@ impl Write for Output {
     }
 }
 
-/// What a run of the program answered and wrote.
+/// The exit status and the output of a run of the program.
 #[derive(Drop)]
 struct Ran {
     status: u8,
@@ -67,7 +67,7 @@ struct Ran {
     errors: Vec<u8>,
 }
 
-/// The words, each as a text.
+/// Returns each argument as a string.
 fn texts(alloc: Global, words: &[&str]) -> Result<Vec<String>, AllocError> {
     let mut texts = Vec::new(alloc);
     for word in words {
@@ -76,7 +76,7 @@ fn texts(alloc: Global, words: &[&str]) -> Result<Vec<String>, AllocError> {
     Ok(texts)
 }
 
-/// One run of the program, with so much room for what it writes and for its errors.
+/// Runs the program once, with this much room for its output and for its errors.
 fn run(alloc: Global, words: &[String], input: &mut Input<'_>, rooms: (usize, usize)) -> Ran {
     let (room, error_room) = rooms;
     let mut output = Output::new(alloc, room);
@@ -89,7 +89,7 @@ fn run(alloc: Global, words: &[String], input: &mut Input<'_>, rooms: (usize, us
     }
 }
 
-/// Asserts the status, the output and the errors of a run by these words.
+/// Asserts the exit status, the output and the errors of a run with these arguments.
 fn check<R: Abort + AllocGlobal>(
     rt: &R,
     words: &[&str],
@@ -119,10 +119,10 @@ const FAULT: &str = "FAULT FrameUnexpectedError 261\n";
 
 const CUT: &str = "FAULT FrameError 262\n";
 
-/// Words that name a listing, input, status and text.
+/// The arguments of a command, its input, its exit status and its output.
 type Named = (&'static [&'static str], &'static [u8], u8, &'static str);
 
-/// Each listing.
+/// All commands.
 static NAMED: [Named; 17] = [
     (&[], &INPUT, 0, LISTING),
     (&["buffer"], &INPUT, 0, LISTING),
@@ -148,7 +148,8 @@ static NAMED: [Named; 17] = [
     (&["request"], &INPUT, 2, FAULT),
 ];
 
-/// Asserts the status and the listing of a run by these words, over an input of one byte a call.
+/// Asserts the exit status and the listing of a run with these arguments, whose input has one
+/// byte per call.
 fn check_listing<R: Abort + AllocGlobal>(
     rt: &R,
     words: &[&str],
@@ -171,7 +172,7 @@ fn the_words_choose_the_listing(rt: HostRuntime) {
     }
 }
 
-/// Words that name none.
+/// Arguments that do not name a command.
 static OTHERS: [&[&str]; 21] = [
     &["buffer", "bi-remote", "x"],
     &["buffer", "bi-local", ""],
@@ -196,7 +197,7 @@ static OTHERS: [&[&str]; 21] = [
     &["stepped", "1", "1"],
 ];
 
-/// Asserts that a run by these words lists nothing and reads nothing.
+/// Asserts that a run with these arguments reads nothing and lists nothing.
 fn check_usage<R: Abort + AllocGlobal>(rt: &R, words: &[&str]) {
     let mut input = Input {
         bytes: &INPUT,
@@ -237,10 +238,10 @@ fn a_failing_read_ends_the_run(rt: HostRuntime) {
     check(&rt, &[], &mut input, (100, 100), wanted);
 }
 
-/// Room of an output that is too short, and what it takes.
+/// The room of an output that is too small, and the bytes that it accepts.
 static ROOMS: [(usize, &str); 3] = [(0, ""), (5, "WEBTR"), (27, "WEBTRANSPORT 4\nDATA 1\nEND 0")];
 
-/// Asserts that a run fails where its output takes so many bytes, which are these.
+/// Asserts that a run fails if its output has only this room, and that it wrote this text.
 fn check_cut<R: Abort + AllocGlobal>(rt: &R, room: usize, text: &str) {
     let mut input = Input {
         bytes: &INPUT,
@@ -268,7 +269,7 @@ fn a_fault_of_the_error_output_is_ignored(rt: HostRuntime) {
     check(&rt, &["x"], &mut input, (100, 3), (1, "", "wt_"));
 }
 
-/// Asserts what a run over so many bytes of unknown frames answers. Each frame has four bytes.
+/// Asserts the result of a run over this many bytes of unknown frames, each of four bytes.
 fn check_long<R: Abort + AllocGlobal>(rt: &R, size: usize, wanted: (u8, &str, &str)) {
     let bytes = vec![in rt.alloc(); 2; size].expect(rt, "memory");
     let mut input = Input {
@@ -281,12 +282,12 @@ fn check_long<R: Abort + AllocGlobal>(rt: &R, size: usize, wanted: (u8, &str, &s
 
 #[test]
 fn long_input_is_refused(rt: HostRuntime) {
-    // No frame of a known type is in it, so all bytes are left.
+    // There is no frame of a known type, so all bytes are left.
     check_long(&rt, 1048576, (0, "END 1048576\n", ""));
     check_long(&rt, 1048577, (3, "", "wt_frames: input too long\n"));
 }
 
-/// One run of the program, with room for all that it writes.
+/// Runs the program once, with room for all that it writes.
 fn run_once(alloc: Global, words: &[String], bytes: &[u8]) -> Ran {
     let mut input = Input {
         bytes,
@@ -296,7 +297,7 @@ fn run_once(alloc: Global, words: &[String], bytes: &[u8]) -> Ran {
     run(alloc, words, &mut input, (200, 100))
 }
 
-/// Asserts what a run answered that met a refusal of memory.
+/// Asserts the result of a run in which allocation may have failed.
 fn check_status<R: Abort>(rt: &R, ran: &Ran, text: &str) {
     if ran.status == 4 {
         let no_memory = b"wt_frames: no memory\n".as_slice();
@@ -305,7 +306,7 @@ fn check_status<R: Abort>(rt: &R, ran: &Ran, text: &str) {
     }
 }
 
-/// The words, each as a text; a second time where memory was refused.
+/// Returns each argument as a string, again if allocation failed.
 fn texts_again(alloc: Global, words: &[&str]) -> Result<Vec<String>, AllocError> {
     match texts(alloc, words) {
         Ok(words) => Ok(words),
@@ -313,8 +314,8 @@ fn texts_again(alloc: Global, words: &[&str]) -> Result<Vec<String>, AllocError>
     }
 }
 
-/// Where memory is refused, the program answers status 4 and lists nothing, or the test's own
-/// output took none, which is a fault of writing; another run lists all.
+/// Asserts that a run in which allocation fails returns status 4 and lists nothing, or status 3
+/// if the allocation of the test's own output failed, and that another run lists everything.
 fn check_refused<R: Abort + AllocGlobal>(rt: &R, words: &[&str], bytes: &[u8], text: &str) {
     let words = texts_again(rt.alloc(), words).expect(rt, "memory");
     let mut ran = run_once(rt.alloc(), words.as_slice(), bytes);

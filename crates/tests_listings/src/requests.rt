@@ -1,4 +1,4 @@
-//! Listings of the request for a session.
+//! Listings of session requests.
 use crate::rows::{REQUEST, REQUEST_LISTING, Row, check_listing, join};
 use crate::same::same;
 use std::alloc::{AllocError, Global};
@@ -84,7 +84,7 @@ fn frames_that_are_no_request(rt: HostRuntime) {
     }
 }
 
-/// Asserts that the parts of an input list these fields, and then this end.
+/// Asserts that an input, given in parts, lists these fields, followed by this end.
 fn check_fields<R: Abort + AllocGlobal>(
     rt: &R,
     parts: &[&[u8]],
@@ -103,7 +103,8 @@ fn check_fields<R: Abort + AllocGlobal>(
 const FIELDS: &str =
     "FIELD :authority=example.com\nFIELD :method=CONNECT\nFIELD :path=/\nFIELD :protocol=webtransport\nFIELD :scheme=https\n";
 
-/// The request and what is before and after it, the end of the listing, and what the row shows.
+/// The request with the bytes before and after it, the last line of the listing, and what the row
+/// shows.
 type Around = (&'static [&'static [u8]], &'static str, &'static str);
 
 /// The request among other frames.
@@ -138,7 +139,8 @@ fn fields_and_what_stands_after(rt: HostRuntime) {
     }
 }
 
-/// Asserts that the request with this head and these lines more lists these fields.
+/// Asserts that the request with this frame header and these additional field lines lists these
+/// fields.
 fn check_more<R: Abort + AllocGlobal>(rt: &R, head: &[u8], more: &[u8], fields: &str, shows: &str) {
     let parts = [head, &REQUEST[2..], more];
     check_fields(rt, &parts, fields, "END 0\n", shows);
@@ -157,7 +159,7 @@ fn other_fields_in_their_order(rt: HostRuntime) {
     check_more(&rt, b"\x01\x2e", b"\x21!\x00\x21a\x00", fields, word);
 }
 
-/// The HEADERS frame of a request that is made anew.
+/// Returns the HEADERS frame of a newly built request.
 fn request_frame<R: Abort + AllocGlobal>(rt: &R) -> FrameOwned {
     let request = SessionRequest::new(rt.alloc(), "https://example.com/").expect(rt, "a request");
     let headers = request.headers();
@@ -173,8 +175,8 @@ fn a_request_that_was_made_is_listed(rt: HostRuntime) {
     check_listing(&rt, listing, REQUEST_LISTING, 0, "its listing");
 }
 
-/// The listing of the request; a second time where memory was refused. Nothing is left after a
-/// refusal, and the next call is whole.
+/// Returns the listing of the request, built again if allocation failed. A failed call keeps
+/// nothing, so the next one is complete.
 fn listed(alloc: Global) -> Result<Listing, AllocError> {
     match list_request(alloc, &REQUEST) {
         Ok(listing) => Ok(listing),

@@ -1,4 +1,4 @@
-//! Listings of recorded streams that come a few bytes at a time and then end.
+//! Listings of recorded streams that arrive a few bytes at a time and then end.
 ghost use Rattle.std.specs.Prelude.{◌<◌};
 
 use crate::rows::{Row, check_listing, join};
@@ -92,7 +92,7 @@ static ROWS: [Row; 20] = [
     ),
 ];
 
-/// Asserts the listing of an input that comes k bytes a call.
+/// Asserts the listing of an input that arrives in at most k bytes per call.
 fn check_step<R: Abort + AllocGlobal>(
     rt: &R,
     k: usize,
@@ -108,7 +108,7 @@ fn check_step<R: Abort + AllocGlobal>(
     same(rt, came, (k, text.as_bytes(), status), shows);
 }
 
-/// Asserts that the listing of the input is the same for each number of bytes a call.
+/// Asserts that the listing of an input is the same for each number of bytes per call.
 fn check<R: Abort + AllocGlobal>(rt: &R, input: &[u8], text: &str, status: u8, shows: &str) {
     for k in 1..14 {
         check_step(rt, k, input, text, status, shows);
@@ -122,10 +122,11 @@ fn streams_are_listed_step_by_step(rt: HostRuntime) {
     }
 }
 
-/// So many bytes of an exercise frame and a late session, the listing and the status.
+/// A number of bytes of an exercise frame and a late session frame, their listing, and its
+/// status.
 type ReadInterrupted = (usize, &'static str, u8);
 
-/// Each place at which the frames may end.
+/// Each offset at which the frames may end.
 static STOPS: [ReadInterrupted; 13] = [
     (0, "END 0\n", 0),
     (1, CUT, 2),
@@ -142,7 +143,7 @@ static STOPS: [ReadInterrupted; 13] = [
     (12, "EXERCISE 33 7\nFAULT FrameError 262\n", 2),
 ];
 
-/// Asserts the listing of so many bytes of an exercise frame and a late session.
+/// Asserts the listing of the first bytes of an exercise frame and a late session frame.
 fn check_stop<R: Abort + AllocGlobal>(rt: &R, size: usize, text: &str, status: u8) {
     let bytes = b"\x21\x07Payload\x40\x41\x00";
     let input = bytes.get(..size).expect(rt, "so many bytes");
@@ -156,7 +157,7 @@ fn streams_that_end_at_each_place_are_listed(rt: HostRuntime) {
     }
 }
 
-/// Inputs in parts, their listings, and their status.
+/// The parts of an input, its listing, and its status.
 type Long = (&'static [&'static [u8]], &'static str, u8);
 
 /// Inputs of thousands of bytes.
@@ -180,7 +181,7 @@ static LONG: [Long; 5] = [
     (&[b"\x0a\x50\x01", &[0; 4096]], CUT, 2),
 ];
 
-/// Asserts the listing of a row.
+/// Asserts the listing of the input of a row.
 fn check_long<R: Abort + AllocGlobal>(rt: &R, row: &Long) {
     let (parts, text, status) = *row;
     let input = join(rt, parts);
@@ -194,8 +195,8 @@ fn the_longest_payloads_are_listed_step_by_step(rt: HostRuntime) {
     }
 }
 
-/// The listing of the input, two bytes a call; a second time where memory was refused. Nothing is
-/// left after a refusal, and the next call is whole.
+/// Returns the listing of an input that arrives two bytes per call, built again if allocation
+/// failed. A failed call keeps nothing, so the next one is complete.
 fn listed(alloc: Global, input: &[u8]) -> Result<Listing, AllocError> {
     match list_stepped(alloc, 2, input) {
         Ok(listing) => Ok(listing),

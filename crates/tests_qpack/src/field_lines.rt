@@ -1,18 +1,20 @@
-//! Field lines one by one, as bytes: worked rows, recordings, faults, and refused memory.
+//! Field lines read one by one, as bytes: worked rows, recordings, errors, and failed
+//! allocations.
 use crate::same::same;
 use std::alloc::Global;
 use std::process::Abort;
 use wtp_qpack::qpack::{DecodingError, FieldBuffer, FieldLine, FieldLines};
 
-/// What the next call answers: nothing, a fault, or whether the line is this field.
+/// The result of reading the next line: none, an error, or whether the line is the expected
+/// field.
 type Taken = Option<Result<bool, DecodingError>>;
 
-/// Whether a line is this field.
+/// Returns whether a line is this field.
 fn is_field(line: FieldLine<'_>, name: &[u8], value: &[u8]) -> bool {
     line.name == name && line.value == value
 }
 
-/// Takes the next line.
+/// Reads the next line.
 fn take_once(
     lines: &mut FieldLines<'_>,
     room: &mut FieldBuffer,
@@ -25,7 +27,7 @@ fn take_once(
     }
 }
 
-/// Takes the next line; once more where memory was refused, if it may be refused.
+/// Reads the next line, again if allocation failed where it may fail.
 fn take(
     lines: &mut FieldLines<'_>,
     room: &mut FieldBuffer,
@@ -39,8 +41,8 @@ fn take(
     }
 }
 
-/// What a row shows, a section, its fields up to the first fault or to the end, and what is
-/// answered there.
+/// What a row shows, a section, its fields up to the first error or the end, and the result after
+/// them.
 type Row = (
     &'static str,
     &'static [u8],
@@ -48,8 +50,8 @@ type Row = (
     Taken,
 );
 
-/// Asserts that the next lines are the fields of a row. What comes after the last line comes again.
-/// Memory may be refused for a line, or may not.
+/// Asserts that the next lines are the fields of a row, and that the result after the last line
+/// repeats. `may_lack` says whether allocation may fail for a line.
 fn assert_lines(
     rt: &impl Abort,
     lines: &mut FieldLines<'_>,
@@ -66,7 +68,7 @@ fn assert_lines(
     same(rt, take(lines, room, b"", b"", may_lack), *end, shows);
 }
 
-/// Asserts that a section has the lines of a row.
+/// Asserts that a section has the lines of its row.
 fn assert_section(rt: &impl Abort, room: &mut FieldBuffer, row: &Row, may_lack: bool) {
     match FieldLines::new(row.1) {
         Ok(mut lines) => assert_lines(rt, &mut lines, room, row, may_lack),
@@ -74,15 +76,15 @@ fn assert_section(rt: &impl Abort, room: &mut FieldBuffer, row: &Row, may_lack: 
     }
 }
 
-/// Asserts it of each row, in a new room.
+/// Asserts the lines of each row, with a new buffer.
 fn assert_rows(rt: &impl Abort, alloc: Global, rows: &[Row]) {
     for row in rows {
         assert_section(rt, &mut FieldBuffer::new(alloc), row, true);
     }
 }
 
-/// Sections without a fault. Texts in the Huffman code are those of RFC 7541, appendix C.4; indices
-/// are those of RFC 9204, appendix A.
+/// Valid sections. Huffman strings are those of RFC 7541, appendix C.4; indices are those of RFC
+/// 9204, appendix A.
 static LINES: [Row; 11] = [
     ("no line", b"\x00\x00", &[], None),
     (
@@ -147,7 +149,7 @@ fn lines_past_refused_memory(rt: HostRuntime) {
     assert_rows(&rt, rt.alloc(), &LINES);
 }
 
-/// Sections with a fault.
+/// Sections with an error.
 static FAULTS: [Row; 10] = [
     (
         "a value is cut",
@@ -216,9 +218,9 @@ fn faults_of_lines_past_refused_memory(rt: HostRuntime) {
     assert_rows(&rt, rt.alloc(), &FAULTS);
 }
 
-/// Sections whose first line has a fault before any Huffman text that is there, so no memory is
-/// needed to find it: lengths of Huffman texts past the end (RFC 7541, section 5.2), and an index
-/// that the static table lacks before a Huffman value (RFC 9204, appendix A).
+/// Sections whose first line has an error before any complete Huffman string, so the error is
+/// found without allocation: lengths of Huffman strings past the end (RFC 7541, section 5.2), and
+/// an index outside the static table before a Huffman value (RFC 9204, appendix A).
 static FAULTS_BEFORE_TEXTS: [Row; 3] = [
     (
         "a Huffman name is cut",
@@ -240,14 +242,14 @@ static FAULTS_BEFORE_TEXTS: [Row; 3] = [
     ),
 ];
 
-/// A room with no memory is enough for these, also where memory is refused.
+/// A buffer without memory is enough for these rows, even if allocation fails.
 #[test]
 fn faults_before_texts_need_no_memory(rt: HostRuntime) {
     let mut room = FieldBuffer::new(rt.alloc());
     assert_served(&rt, &mut room, &FAULTS_BEFORE_TEXTS, false);
 }
 
-/// Prefixes with a fault: no byte, one integer, and an integer without an end.
+/// Invalid section prefixes: no byte, one integer, and an incomplete integer.
 static PREFIXES: [(&str, &[u8], DecodingError); 4] = [
     ("no byte", b"", DecodingError::UnexpectedFin),
     ("one integer", b"\x00", DecodingError::UnexpectedFin),
@@ -270,8 +272,8 @@ fn prefixes_have_faults(rt: HostRuntime) {
     }
 }
 
-/// Sections that nghttp3 1.8.0 sent, and the fields that were given to it: repeated ones, and a
-/// value of ISO 8859-1.
+/// Sections that nghttp3 1.8.0 sent, and the fields that it was given, including repeated fields
+/// and an ISO 8859-1 value.
 static RECORDED: [Row; 3] = [
     (
         "a response with two cookies",
@@ -324,7 +326,7 @@ static RECORDED: [Row; 3] = [
     ),
 ];
 
-/// Those sections. Each use of a table is proved, so the tests share this one.
+/// Returns the rows of `RECORDED`. Each use of a table is proved, so the tests share this one.
 fn recorded() -> &'static [Row] {
     &RECORDED
 }
@@ -334,14 +336,14 @@ fn recorded_lines_past_refused_memory(rt: HostRuntime) {
     assert_rows(&rt, rt.alloc(), recorded());
 }
 
-/// Asserts that each section has the lines of its row, all in one room.
+/// Asserts that each section has the lines of its row, with one buffer for all.
 fn assert_served(rt: &impl Abort, room: &mut FieldBuffer, rows: &[Row], may_lack: bool) {
     for row in rows {
         assert_section(rt, room, row, may_lack);
     }
 }
 
-/// A room that served some sections serves them again, and takes no memory.
+/// A buffer can be used again for sections that it already served, without allocation.
 #[test]
 fn a_room_serves_again_past_refused_memory(rt: HostRuntime) {
     let mut room = FieldBuffer::new(rt.alloc());

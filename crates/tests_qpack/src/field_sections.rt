@@ -1,5 +1,5 @@
-//! Worked rows of field sections: encoded, decoded and refused, what comes back, texts of errors,
-//! and refused memory.
+//! Worked rows of field sections: encoding, decoding, round trips, error texts, and failed
+//! allocations.
 use crate::same::same;
 use crate::sections::{
     FaultRow, assert_come_back, assert_decoded, assert_encoded, assert_faults, assert_map,
@@ -13,7 +13,7 @@ use wtp_qpack::qpack::{Decoder, DecodingError, Encoder};
 /// Pairs of names and values.
 type Pairs = &'static [(&'static str, &'static str)];
 
-/// What a row shows, pairs, and their section.
+/// What a row shows, pairs, and their encoded section.
 type EncodedRow = (&'static str, Pairs, &'static [u8]);
 
 /// Pairs that are encoded.
@@ -78,7 +78,7 @@ fn encoded_fields_past_refused_memory(rt: HostRuntime) {
     }
 }
 
-/// What a row shows, a section, and its fields in the order of their names.
+/// What a row shows, a section, and its fields in order of their names.
 type DecodedRow = (&'static str, &'static [u8], Pairs);
 
 /// Sections that are decoded.
@@ -159,7 +159,7 @@ fn decoded_sections_past_refused_memory(rt: HostRuntime) {
     }
 }
 
-/// Sections that are refused.
+/// Sections that are rejected.
 static REFUSED: [FaultRow; 24] = [
     ("nothing", b"", Some(DecodingError::UnexpectedFin)),
     (
@@ -284,7 +284,7 @@ fn refused_sections_past_refused_memory(rt: HostRuntime) {
     assert_faults(&rt, rt.alloc(), &REFUSED);
 }
 
-/// What a row shows, pairs, and the fields that come back, in the order of their names.
+/// What a row shows, pairs, and the fields after encoding and decoding, in order of their names.
 type SentRow = (&'static str, Pairs, Pairs);
 
 /// Pairs that are encoded and decoded.
@@ -317,7 +317,7 @@ fn encoded_fields_come_back_past_refused_memory(rt: HostRuntime) {
     }
 }
 
-/// What the law of sections answers, asked for once more where memory was refused.
+/// Returns the result of the law of sections, again if allocation failed.
 fn law_answer(
     alloc: Global,
     pairs: &[(&str, &str)],
@@ -328,7 +328,7 @@ fn law_answer(
     }
 }
 
-/// Pairs with names that come again.
+/// Pairs with repeated names.
 static REPEATED: [(&str, &str); 5] = [
     ("key1", "a"),
     ("key1", "b"),
@@ -337,7 +337,7 @@ static REPEATED: [(&str, &str); 5] = [
     (":status", "404"),
 ];
 
-/// The last value of each of these names, in the order of the names.
+/// The last value of each of these names, in order of the names.
 static LAST: [(&str, &str); 3] = [(":status", "404"), ("key1", "b"), ("key2", "")];
 
 #[test]

@@ -1,14 +1,14 @@
-//! Each first byte of a field line: what the line is by bits 7 to 4 (RFC 9204, sections 4.5.2 to
-//! 4.5.6), and what its low bits say.
+//! Every first byte of a field line: its representation by bits 7 to 4 (RFC 9204, sections 4.5.2
+//! to 4.5.6), and the meaning of the low bits.
 use crate::same::same;
 use crate::sections::{assert_decoded, decode, join};
 use std::alloc::Global;
 use std::process::Abort;
 use wtp_qpack::qpack::DecodingError;
 
-/// What a line is, its least and its greatest first byte, and what is answered where nothing
-/// follows the byte: a line of the dynamic table is refused by its first byte, and any other is
-/// whole or cut.
+/// A representation, its least and greatest first byte, and the result for a section that ends
+/// after the first byte. Lines that refer to the dynamic table are rejected by their first byte.
+/// Other lines are complete or truncated.
 static FORMS: [(&str, u8, u8, Option<DecodingError>); 10] = [
     (
         "a name past the base",
@@ -67,8 +67,8 @@ static FORMS: [(&str, u8, u8, Option<DecodingError>); 10] = [
     ),
 ];
 
-/// Asserts what is answered to each section whose last byte is the first of a line of this form,
-/// from the least to the greatest, and answers how many they are.
+/// Asserts the result for each section that ends after the first byte of a line with this
+/// representation, from the least to the greatest. Returns the number of first bytes.
 fn assert_forms(
     rt: &impl Abort,
     alloc: Global,
@@ -98,22 +98,22 @@ fn first_bytes_past_refused_memory(rt: HostRuntime) {
 /// The first byte of a line, the rest of the line, and its field.
 type Row = (u8, &'static [u8], &'static str, &'static str);
 
-/// Asserts that the section of one line is decoded to its field.
+/// Asserts that a section with this line decodes to its field.
 fn assert_line(rt: &impl Abort, alloc: Global, row: &Row) {
     let (first, rest, name, value) = *row;
     let section = join(rt, alloc, [b"\x00\x00", &[first], rest]);
     assert_decoded(rt, alloc, section.as_slice(), &[(name, value)], first);
 }
 
-/// Asserts it of each row.
+/// Asserts that each line decodes to its field.
 fn assert_lines(rt: &impl Abort, alloc: Global, rows: &[Row]) {
     for row in rows {
         assert_line(rt, alloc, row);
     }
 }
 
-/// The first byte of a line of a literal name, the rest of the line, and its field. The byte `&` is
-/// as long in the Huffman code, where it is 0xf8.
+/// The first byte of a line with a literal name, the rest of the line, and its field. The byte
+/// `&` has the same length in the Huffman code, where it is 0xf8.
 #[rattlefmt::skip]
 static LITERAL: [Row; 32] = [
     (0x20, b"\x01v", "", "v"),
@@ -155,7 +155,7 @@ fn lines_of_literal_names_past_refused_memory(rt: HostRuntime) {
     assert_lines(&rt, rt.alloc(), &LITERAL);
 }
 
-/// The same of lines of the name of a static entry.
+/// The same for lines with a static name reference.
 #[rattlefmt::skip]
 static NAMED: [Row; 32] = [
     (0x50, b"\x01v", ":authority", "v"),
@@ -197,7 +197,7 @@ fn lines_of_static_names_past_refused_memory(rt: HostRuntime) {
     assert_lines(&rt, rt.alloc(), &NAMED);
 }
 
-/// The same of lines of a static entry.
+/// The same for indexed lines of the static table.
 #[rattlefmt::skip]
 static INDEXED: [Row; 64] = [
     (0xc0, b"", ":authority", ""),

@@ -1,5 +1,5 @@
-//! Field sections: the first bytes of lines, prefixed integers, string literals, the static table.
-//! Tests over the public crate; there is no product code here.
+//! Field sections: the first bytes of lines, prefixed integers, string literals, and the static
+//! table. Tests over the public crate; there is no product code here.
 #![tactic(auto)]
 
 #[cfg(test)]

@@ -1,23 +1,23 @@
-//! Prefixed integers (RFC 7541, section 5.1) as the integers of sections, lengths and indices, and
-//! string literals whose lengths they are.
+//! Prefixed integers (RFC 7541, section 5.1) in sections, as lengths and indices, and string
+//! literals of these lengths.
 use crate::same::same;
 use crate::sections::{FaultRow, assert_come_back, assert_decoded, assert_faults, encode, join};
 use std::alloc::Global;
 use std::process::Abort;
 use wtp_qpack::qpack::DecodingError;
 
-/// Letters whose text is as long in the Huffman code, where each is 0xfd.
+/// Letters that have the same length in the Huffman code, where each is 0xfd.
 static Z: [u8; 2139] = [b'Z'; 2139];
 
-/// Letters of five bits in the Huffman code.
+/// Letters that have five bits in the Huffman code.
 static A: [u8; 2139] = [b'a'; 2139];
 
-/// The letters of a text of `a` or `Z`.
+/// Returns the array of the letter `a` or `Z`.
 fn letters_of(letter: u8) -> &'static [u8] {
     if letter == b'a' { &A } else { &Z }
 }
 
-/// The text of a letter, `a` or `Z`, so many times.
+/// Returns a text of the letter `a` or `Z`, repeated `len` times.
 fn text_of(rt: &impl Abort, letter: u8, len: usize) -> &'static str {
     let letters = letters_of(letter).get(..len).unwrap_or(b"");
     let text = str::from_utf8(letters).unwrap_or("");
@@ -25,11 +25,11 @@ fn text_of(rt: &impl Abort, letter: u8, len: usize) -> &'static str {
     text
 }
 
-/// What a row shows, the letter of a name and how many, the same of a value, the front of the
+/// What a row shows, the letter and length of a name, those of a value, the first bytes of the
 /// section of this field, and the length of the section.
 type WrittenRow = (&'static str, (u8, usize), (u8, usize), &'static [u8], usize);
 
-/// Integers that are written.
+/// Integers that are encoded.
 static WRITTEN: [WrittenRow; 12] = [
     ("no letter", (b'Z', 0), (b'Z', 0), b"\x00\x00\x20\x00", 4),
     ("a name of 6", (b'Z', 6), (b'Z', 0), b"\x00\x00\x26Z", 10),
@@ -105,7 +105,7 @@ static WRITTEN: [WrittenRow; 12] = [
     ),
 ];
 
-/// Asserts that the section of a field has this front and this length.
+/// Asserts that the section of a field has these first bytes and this length.
 fn assert_written(
     rt: &impl Abort,
     alloc: Global,
@@ -119,7 +119,8 @@ fn assert_written(
     same(rt, section.len(), len, shows);
 }
 
-/// Asserts the same of a row, and that its field comes back.
+/// Asserts that the section of a row has its first bytes and its length, and decodes to its
+/// field.
 fn assert_written_and_read(rt: &impl Abort, alloc: Global, row: &WrittenRow) {
     let (shows, name, value, front, len) = *row;
     let field = (text_of(rt, name.0, name.1), text_of(rt, value.0, value.1));
@@ -134,7 +135,8 @@ fn written_integers_past_refused_memory(rt: HostRuntime) {
     }
 }
 
-/// What a row shows, and a section up to an integer of 1337, and a byte that follows so many times.
+/// What a row shows, a section up to an integer with the value 1337, and a byte that follows 1337
+/// times.
 type FlagRow = (&'static str, &'static [u8], u8);
 
 /// Names of 1337 bytes.
@@ -145,7 +147,7 @@ static NAMES_OF_1337: [FlagRow; 4] = [
     ("the same in the code", b"\x00\x00\x3f\xb2\x0a", 0xfd),
 ];
 
-/// The same of values.
+/// Values of 1337 bytes.
 static VALUES_OF_1337: [FlagRow; 6] = [
     ("a value", b"\x00\x00\x20\x7f\xba\x09", b'Z'),
     ("a value in the code", b"\x00\x00\x20\xff\xba\x09", 0xfd),
@@ -159,12 +161,12 @@ static VALUES_OF_1337: [FlagRow; 6] = [
     ("both in the code", b"\x00\x00\x38\xff\xba\x09", 0xfd),
 ];
 
-/// A section with a byte 1337 times in it.
+/// Returns a section that contains a byte 1337 times.
 fn section_of(rt: &impl Abort, alloc: Global, (front, byte, end): (&[u8], u8, &[u8])) -> Vec<u8> {
     join(rt, alloc, [front, &[byte; 1337], end])
 }
 
-/// Asserts that a section with a byte 1337 times in it is decoded to this field.
+/// Asserts that a section that contains a byte 1337 times decodes to this field.
 fn assert_read(rt: &impl Abort, alloc: Global, row: &FlagRow, end: &[u8], field: (&str, &str)) {
     let (shows, front, byte) = *row;
     let section = section_of(rt, alloc, (front, byte, end));
@@ -182,8 +184,8 @@ fn integers_under_each_flag_past_refused_memory(rt: HostRuntime) {
     }
 }
 
-/// What a row shows, a section, and the fault of its last integer; none of 2^64 - 1 in the prefix
-/// of a section, where each integer is passed over.
+/// What a row shows, a section, and the error in its last integer. An integer of 2^64 - 1 in the
+/// section prefix is not an error, since these integers are skipped.
 static ANSWERS: [FaultRow; 27] = [
     ("nothing", b"", Some(DecodingError::UnexpectedFin)),
     ("no group", b"\xff", Some(DecodingError::UnexpectedFin)),
@@ -319,13 +321,13 @@ fn cut_and_great_integers_past_refused_memory(rt: HostRuntime) {
     assert_faults(&rt, rt.alloc(), &ANSWERS);
 }
 
-/// Lengths within the prefixes of names and values, at their edges, and of one and two groups after
-/// them.
+/// Lengths that fit in the prefixes of names and values, at their limits, and with one or two
+/// more groups.
 static LENGTHS: [usize; 18] = [
     0, 1, 6, 7, 8, 30, 31, 32, 126, 127, 128, 134, 135, 158, 159, 254, 255, 1023,
 ];
 
-/// Asserts that a name and a value of a letter so many times come back.
+/// Asserts that a name and a value of `len` letters survive encoding and decoding.
 fn assert_string(rt: &impl Abort, alloc: Global, letter: u8, len: usize) {
     let text = text_of(rt, letter, len);
     assert_come_back(rt, alloc, &[(text, text)], &[(text, text)], len);

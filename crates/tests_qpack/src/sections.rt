@@ -1,5 +1,5 @@
-//! What tests of field sections share: the calls, once more where memory was refused, and checks of
-//! what they answer.
+//! Shared parts of the field section tests: calls that are repeated after a failed allocation,
+//! and checks of their results.
 use crate::same::same;
 use std::alloc::{AllocError, Global};
 use std::collections::BTreeMap;
@@ -10,7 +10,7 @@ use wtp_qpack::qpack::{Decoder, DecodingError, Encoder};
 /// The fields of a section.
 type Fields = BTreeMap<String, String>;
 
-/// Decodes a section; once more where memory was refused.
+/// Decodes a section, again if allocation failed.
 pub(crate) fn decode(alloc: Global, section: &[u8]) -> Result<Fields, DecodingError> {
     match Decoder::decode(alloc, section) {
         Err(DecodingError::Memory) => Decoder::decode(alloc, section),
@@ -18,12 +18,12 @@ pub(crate) fn decode(alloc: Global, section: &[u8]) -> Result<Fields, DecodingEr
     }
 }
 
-/// The section of the pairs.
+/// Encodes pairs as a section.
 fn encode_once(alloc: Global, pairs: &[(&str, &str)]) -> Result<Vec<u8>, AllocError> {
     Encoder::encode(alloc, pairs.iter().copied())
 }
 
-/// The same, encoded once more where memory was refused.
+/// Encodes pairs as a section, again if allocation failed.
 pub(crate) fn encode(rt: &impl Abort, alloc: Global, pairs: &[(&str, &str)]) -> Vec<u8> {
     match encode_once(alloc, pairs) {
         Ok(section) => section,
@@ -31,7 +31,7 @@ pub(crate) fn encode(rt: &impl Abort, alloc: Global, pairs: &[(&str, &str)]) -> 
     }
 }
 
-/// The parts, one after another.
+/// Returns the concatenation of the parts.
 fn join_once(alloc: Global, parts: &[&[u8]]) -> Result<Vec<u8>, AllocError> {
     let mut bytes = Vec::new(alloc);
     for part in parts {
@@ -40,7 +40,7 @@ fn join_once(alloc: Global, parts: &[&[u8]]) -> Result<Vec<u8>, AllocError> {
     Ok(bytes)
 }
 
-/// The same, made once more where memory was refused.
+/// Returns the concatenation of the parts, built again if allocation failed.
 pub(crate) fn join(rt: &impl Abort, alloc: Global, parts: [&[u8]; 3]) -> Vec<u8> {
     match join_once(alloc, &parts) {
         Ok(bytes) => bytes,
@@ -48,7 +48,7 @@ pub(crate) fn join(rt: &impl Abort, alloc: Global, parts: [&[u8]; 3]) -> Vec<u8>
     }
 }
 
-/// Asserts that a map has these fields, in the order of their names, and no others.
+/// Asserts that a map contains exactly these fields, in order of their names.
 pub(crate) fn assert_map<S: Copy + Display + Drop>(
     rt: &impl Abort,
     fields: &Fields,
@@ -61,8 +61,7 @@ pub(crate) fn assert_map<S: Copy + Display + Drop>(
     }
 }
 
-/// Asserts that a section is decoded to these fields, in the order of their names, and to no
-/// others.
+/// Asserts that a section decodes to exactly these fields, in order of their names.
 pub(crate) fn assert_decoded<S: Copy + Display + Drop>(
     rt: &impl Abort,
     alloc: Global,
@@ -74,7 +73,7 @@ pub(crate) fn assert_decoded<S: Copy + Display + Drop>(
     assert_map(rt, &fields, wanted, shows);
 }
 
-/// Asserts that pairs are encoded to this section.
+/// Asserts that pairs encode to this section.
 pub(crate) fn assert_encoded(
     rt: &impl Abort,
     alloc: Global,
@@ -85,8 +84,8 @@ pub(crate) fn assert_encoded(
     same(rt, encode(rt, alloc, pairs).as_slice(), section, shows);
 }
 
-/// Asserts that the section of the pairs is decoded to these fields, in the order of their names,
-/// and to no others.
+/// Asserts that the section of these pairs decodes to exactly these fields, in order of their
+/// names.
 pub(crate) fn assert_come_back<S: Copy + Display + Drop>(
     rt: &impl Abort,
     alloc: Global,
@@ -98,10 +97,10 @@ pub(crate) fn assert_come_back<S: Copy + Display + Drop>(
     assert_decoded(rt, alloc, section.as_slice(), wanted, shows);
 }
 
-/// What a row shows, a section, and its fault, if it has one.
+/// What a row shows, a section, and its error, if it has one.
 pub(crate) type FaultRow = (&'static str, &'static [u8], Option<DecodingError>);
 
-/// Asserts what fault is found in the section of each row.
+/// Asserts the error in the section of each row.
 pub(crate) fn assert_faults(rt: &impl Abort, alloc: Global, rows: &[FaultRow]) {
     for (shows, section, fault) in rows {
         same(rt, decode(alloc, section).err(), *fault, shows);

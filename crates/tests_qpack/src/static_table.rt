@@ -1,4 +1,4 @@
-//! All 99 entries of the static table and all 52 names, by lines that refer to them.
+//! All 99 entries and all 52 names of the static table, by lines that refer to them.
 use crate::same::same;
 use crate::sections::{FaultRow, assert_decoded, assert_encoded, assert_faults, join};
 use std::alloc::Global;
@@ -8,7 +8,7 @@ use wtp_qpack::qpack::DecodingError;
 /// The names and values of a table.
 type Entries = &'static [(&'static str, &'static str)];
 
-/// The static table as RFC 9204, Appendix A, lists it.
+/// The static table of RFC 9204, Appendix A.
 static APPENDIX_A: [(&str, &str); 99] = [
     (":authority", ""),
     (":path", "/"),
@@ -120,22 +120,23 @@ static APPENDIX_A: [(&str, &str); 99] = [
     ("x-frame-options", "sameorigin"),
 ];
 
-/// Its entries.
+/// Returns the entries of the static table.
 fn entries() -> Entries {
     &APPENDIX_A
 }
 
-/// The first byte of lines of whole entries, and the greatest integer in its low bits.
+/// The first byte of indexed lines, and the greatest integer in its low bits.
 const WHOLE: (u8, u8) = (0xc0, 63);
 
-/// The same of lines of the name of an entry.
+/// The first byte of lines with a static name reference, and the greatest integer in its low
+/// bits.
 const NAMED: (u8, u8) = (0x50, 15);
 
-/// The value `~`, which no entry has.
+/// The value `~`, which is in no entry.
 const VALUE: &[u8] = b"\x01~";
 
-/// The section of one line that refers to an index, which takes a byte more where the low bits are
-/// too few, and then has this value.
+/// Returns a section with one line that refers to an index, followed by this value. The index
+/// takes one more byte if it does not fit in the low bits.
 fn line_of(
     rt: &impl Abort,
     alloc: Global,
@@ -152,7 +153,7 @@ fn line_of(
     }
 }
 
-/// Asserts that the line of an index and a value is decoded to this field.
+/// Asserts that the line with this index and value decodes to this field.
 fn assert_line(
     rt: &impl Abort,
     alloc: Global,
@@ -163,19 +164,19 @@ fn assert_line(
     assert_decoded(rt, alloc, section.as_slice(), &[field], index);
 }
 
-/// Asserts that an index refers to this entry, as a whole and by its name.
+/// Asserts that an index refers to this entry, both as a whole and by name.
 fn assert_entry(rt: &impl Abort, alloc: Global, index: usize, (name, value): (&str, &str)) {
     assert_line(rt, alloc, (WHOLE, index, b""), (name, value));
     assert_line(rt, alloc, (NAMED, index, VALUE), (name, "~"));
 }
 
-/// Asserts that a name is encoded by the index of its first entry.
+/// Asserts that a name is encoded with the index of its first entry.
 fn assert_first_entry(rt: &impl Abort, alloc: Global, first: usize, name: &str) {
     let section = line_of(rt, alloc, NAMED, first, VALUE);
     assert_encoded(rt, alloc, &[(name, "~")], section.as_slice(), name);
 }
 
-/// Lines of an index after the last.
+/// Lines with an index after the last entry.
 static NO_ENTRIES: [FaultRow; 2] = [
     (
         "index 99",
@@ -189,7 +190,7 @@ static NO_ENTRIES: [FaultRow; 2] = [
     ),
 ];
 
-/// Asserts it of each entry, by its place.
+/// Asserts that each index refers to its entry.
 fn assert_entries(rt: &impl Abort, alloc: Global, entries: Entries) {
     for (index, entry) in entries.iter().enumerate() {
         assert_entry(rt, alloc, index, *entry);
@@ -202,7 +203,7 @@ fn whole_table_past_refused_memory(rt: HostRuntime) {
     assert_faults(&rt, rt.alloc(), &NO_ENTRIES);
 }
 
-/// The first entry of a name.
+/// Returns the index of the first entry with this name.
 fn first_entry(entries: Entries, name: &str) -> Option<usize> {
     for (index, entry) in entries.iter().enumerate() {
         if entry.0 == name {
@@ -212,8 +213,8 @@ fn first_entry(entries: Entries, name: &str) -> Option<usize> {
     None
 }
 
-/// Asserts that a name is encoded by the index of its first entry, and answers whether this is that
-/// entry.
+/// Asserts that a name is encoded with the index of its first entry. Returns whether this entry
+/// is the first.
 fn assert_name(
     rt: &impl Abort,
     alloc: Global,
@@ -225,7 +226,8 @@ fn assert_name(
     first == index
 }
 
-/// Asserts it of the name of each entry, and answers how many names there are.
+/// Asserts that the name of each entry is encoded with the index of its first entry. Returns the
+/// number of distinct names.
 fn assert_names(rt: &impl Abort, alloc: Global, entries: Entries) -> u8 {
     let mut names = 0u8;
     for (index, entry) in entries.iter().enumerate() {
@@ -242,7 +244,7 @@ fn names_past_refused_memory(rt: HostRuntime) {
     same(&rt, names, 52, "names");
 }
 
-/// What a row shows, a name of no entry, and the section of this name with the value `~`.
+/// What a row shows, a name that is in no entry, and the section of this name with the value `~`.
 static UNKNOWN: [(&str, &str, &[u8]); 3] = [
     ("before all", "", b"\x00\x00\x20\x01~"),
     ("after all", "zz", b"\x00\x00\x22zz\x01~"),

@@ -1,10 +1,10 @@
-//! The check of the text of an error.
+//! Checks of error texts.
 use crate::same::same;
 use std::alloc::{AllocError, Global};
 use std::fmt::Display;
 use std::process::Abort;
 
-/// The text of an error; a second time where memory was refused.
+/// Returns the text of an error, again if allocation failed.
 fn text_of<E: Display>(alloc: Global, fault: &E) -> Result<String, AllocError> {
     match fault.to_string(alloc) {
         Ok(text) => Ok(text),
@@ -12,7 +12,7 @@ fn text_of<E: Display>(alloc: Global, fault: &E) -> Result<String, AllocError> {
     }
 }
 
-/// Asserts the text of an error, past refused memory.
+/// Asserts the text of an error. A failed allocation is repeated.
 pub fn has_text<R: Abort + AllocGlobal, E: Display>(rt: &R, fault: &E, wanted: &str) {
     let text = text_of(rt.alloc(), fault).expect(rt, "memory");
     same(rt, text.as_str(), wanted, "its text");

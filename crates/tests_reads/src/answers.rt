@@ -1,4 +1,4 @@
-//! What polls of streams are to answer.
+//! Expected results of polls of streams.
 use crate::same::same;
 use std::alloc::Global;
 use std::process::Abort;
@@ -8,10 +8,10 @@ use wtransport_proto::error::ErrorCode;
 use wtransport_proto::frame::{Frame, FrameOwned};
 use wtransport_proto::stream::IoReadError;
 
-/// The answer of one poll.
+/// The result of one poll.
 pub(crate) type PollAnswer = Polled<Result<FrameOwned, IoReadError>>;
 
-/// What one poll is to answer: a frame by its type number and payload, or another answer.
+/// The expected result of one poll: a frame by its type and payload, or another result.
 #[derive(Drop)]
 pub(crate) enum Answer<'a> {
     Frame(u64, &'a [u8]),
@@ -20,26 +20,26 @@ pub(crate) enum Answer<'a> {
     Again,
 }
 
-/// The stream ends after a whole frame.
+/// The stream ends after a complete frame.
 pub(crate) const FIN: Answer<'static> = Answer::Fault(IoReadError::IO(Fault::ImmediateFin));
 
-/// The stream ends inside a frame, or a frame came too late.
+/// The stream ends inside a frame, or a frame arrives too late.
 pub(crate) const CUT: Answer<'static> = Answer::Fault(IoReadError::H3(ErrorCode::Frame));
 
-/// Every ending of a source.
+/// All endings of a source.
 pub(crate) static ENDS: [End; 3] = End::EACH;
 
-/// These bytes, and zeros after them, so many in all.
+/// Returns these bytes, padded with zeros to a length of `len`.
 pub(crate) fn pad<R: Abort>(rt: &R, alloc: Global, front: &[u8], len: usize) -> Vec<u8> {
     let mut bytes = Vec::from_slice(alloc, front).expect(rt, "memory");
     bytes.resize(len, 0).expect(rt, "memory");
     bytes
 }
 
-/// The answer of a poll, or what it is to answer, as a value that is compared.
+/// The result or expected result of a poll, in a form that can be compared.
 type AnswerValue<'a> = Polled<Result<(u64, &'a [u8]), &'a IoReadError>>;
 
-/// What a poll answered.
+/// Returns the result of a poll in this form.
 fn answer_of(answered: &PollAnswer) -> AnswerValue<'_> {
     match answered {
         Polled::Ready(Ok(frame)) => Polled::Ready(Ok(number_and_payload(frame))),
@@ -50,7 +50,7 @@ fn answer_of(answered: &PollAnswer) -> AnswerValue<'_> {
     }
 }
 
-/// What a poll is to answer.
+/// Returns the expected result of a poll in this form.
 fn wanted_of<'a>(answer: &'a Answer<'_>) -> AnswerValue<'a> {
     match answer {
         Answer::Frame(number, payload) => Polled::Ready(Ok((*number, payload))),
@@ -60,7 +60,8 @@ fn wanted_of<'a>(answer: &'a Answer<'_>) -> AnswerValue<'a> {
     }
 }
 
-/// The answer is this one. What the row shows and the place in it are for the message.
+/// Asserts the result of a poll. A failure message gives what the row shows and the position in
+/// the row.
 pub(crate) fn check_answer<R: Abort>(
     rt: &R,
     answered: &PollAnswer,
@@ -76,7 +77,7 @@ pub(crate) fn check_answer<R: Abort>(
     );
 }
 
-/// The frame's type number and payload.
+/// Returns the type and payload of a frame.
 pub(crate) fn number_and_payload<'a>(frame: &'a Frame<'_>) -> (u64, &'a [u8]) {
     (frame.kind().id().into_inner(), frame.payload())
 }

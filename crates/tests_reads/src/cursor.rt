@@ -1,4 +1,4 @@
-//! Reading frames from bytes that the caller holds, however they are cut.
+//! Reading frames from bytes that the caller holds, split in every way.
 use crate::answers::{PollAnswer, number_and_payload, pad};
 use crate::opened::{control, of_session, opened_here, opened_there};
 use crate::reads::Reads;
@@ -10,18 +10,17 @@ use wtransport_proto::error::ErrorCode;
 use wtransport_proto::frame::{Frame, FrameReading};
 use wtransport_proto::stream::{CursorStep, FrameCursor, IoReadError, StreamRole};
 
-/// How the reading of a stream ends: cleanly, or with the code of its first fault. An end inside a
-/// frame is the fault `Frame` (RFC 9114, section 7.1).
+/// How reading a stream ends: without an error, or with the code of its first error. An end
+/// inside a frame is the error `Frame` (RFC 9114, section 7.1).
 type Ending = Result<(), ErrorCode>;
 
 /// A frame by its type and payload, or how the stream ends.
 type Next<'a> = Result<(u64, &'a [u8]), Ending>;
 
-/// The bytes of a stream, its frames by their type and payload, how they end, and what the row
-/// shows.
+/// The bytes of a stream, its frames by type and payload, how it ends, and what the row shows.
 type Row<'a> = (&'a [u8], &'a [(u64, &'a [u8])], Ending, &'a str);
 
-/// The bytes of a stream, of which some have come, and the first of those are consumed.
+/// The bytes of a stream, some of which have arrived, and some of those are consumed.
 #[derive(Drop)]
 struct Coming<'a> {
     bytes: &'a [u8],
@@ -31,7 +30,7 @@ struct Coming<'a> {
 }
 
 impl<'a> Coming<'a> {
-    /// No byte has come yet.
+    /// Creates a stream from which no byte has arrived.
     fn new(bytes: &'a [u8], role: StreamRole) -> Self {
         Coming {
             bytes,
@@ -41,13 +40,12 @@ impl<'a> Coming<'a> {
         }
     }
 
-    /// The bytes that the caller holds.
+    /// Returns the bytes that have arrived and are not consumed.
     fn held(&self) -> &'a [u8] {
         self.bytes.get(self.consumed..self.come).unwrap_or(&[])
     }
 
-    /// One call over the bytes that the caller holds: a frame by its type and payload, a fault, or
-    /// nothing.
+    /// Calls the cursor once. Returns a frame by its type and payload, an error, or nothing.
     fn step(&mut self) -> Option<Next<'a>> {
         let held = self.held();
         match self.cursor.next(held) {
@@ -63,7 +61,7 @@ impl<'a> Coming<'a> {
         }
     }
 
-    /// So many bytes come. If all have come, this is how the stream ends.
+    /// Receives up to `size` more bytes. If all have arrived, returns how the stream ends.
     fn receive(&mut self, size: usize) -> Option<Ending> {
         if self.come >= self.bytes.len() {
             return Some(self.cursor.finish(self.held()));
@@ -72,7 +70,7 @@ impl<'a> Coming<'a> {
         None
     }
 
-    /// The next frame, or how the stream ends. Bytes come so many at a time.
+    /// Returns the next frame, or how the stream ends. At most `size` bytes arrive at a time.
     fn next<R: Abort>(&mut self, rt: &R, size: usize) -> Next<'a> {
         for _turn in 0..10000 {
             if let Some(found) = self.step() {
@@ -86,13 +84,13 @@ impl<'a> Coming<'a> {
         Err(Err(ErrorCode::NoError))
     }
 
-    /// The next frame is this one, or the stream ends so.
+    /// Asserts the next frame, or how the stream ends.
     fn check<R: Abort>(&mut self, rt: &R, size: usize, wanted: Next<'_>, shows: &str) {
         same(rt, (self.next(rt, size), size), (wanted, size), shows);
     }
 }
 
-/// The stream has the row's frames and ending where its bytes come so many at a time.
+/// Asserts the frames and the end of a row whose bytes arrive at most `size` at a time.
 fn check_cut<R: Abort>(rt: &R, role: StreamRole, row: &Row<'_>, size: usize) {
     let (bytes, frames, ending, shows) = *row;
     let mut coming = Coming::new(bytes, role);
@@ -102,7 +100,7 @@ fn check_cut<R: Abort>(rt: &R, role: StreamRole, row: &Row<'_>, size: usize) {
     coming.check(rt, size, Err(ending), shows);
 }
 
-/// The stream has each row's frames and ending, cut in pieces of each size.
+/// Asserts the frames and the end of each row, for pieces of each size.
 fn check_rows<R: Abort>(rt: &R, role: StreamRole, rows: &[Row<'_>]) {
     for row in rows {
         for size in 1..=row.0.len() {
@@ -111,7 +109,8 @@ fn check_rows<R: Abort>(rt: &R, role: StreamRole, rows: &[Row<'_>]) {
     }
 }
 
-/// What one poll answered, as a frame or an end. Where it is neither, it is what no row wants.
+/// Returns the result of one poll as a frame or an end, or a sentinel that matches no row if it
+/// is neither.
 fn next_of(answered: &PollAnswer) -> Next<'_> {
     match answered {
         Polled::Ready(Ok(frame)) => Ok(number_and_payload(frame)),
@@ -121,7 +120,7 @@ fn next_of(answered: &PollAnswer) -> Next<'_> {
     }
 }
 
-/// The next answer of a poll, but that a frame was skipped or that allocation failed.
+/// Returns the result of the next poll that neither skipped a frame nor failed to allocate.
 fn poll_next<K: Reads>(
     stream: &mut K,
     reading: &mut FrameReading,
@@ -136,7 +135,7 @@ fn poll_next<K: Reads>(
     Polled::Pending
 }
 
-/// The next frame that is polled is this one, or the stream ends so.
+/// Asserts the next polled frame, or how the stream ends.
 fn check_next<R: Abort, K: Reads>(
     rt: &R,
     stream: &mut K,
@@ -149,7 +148,7 @@ fn check_next<R: Abort, K: Reads>(
     same(rt, next_of(&answered), wanted, shows);
 }
 
-/// The polls of the stream read the row's frames, and then its ending.
+/// Asserts that polling the stream reads the frames of a row, and then its end.
 fn check_polled<R: Abort + AllocGlobal, K: Reads>(rt: &R, stream: &mut K, row: &Row<'_>) {
     let (mut bytes, frames, ending, shows) = *row;
     let mut reading = Frame::read_async(rt.alloc());
@@ -159,14 +158,14 @@ fn check_polled<R: Abort + AllocGlobal, K: Reads>(rt: &R, stream: &mut K, row: &
     check_next(rt, stream, &mut reading, &mut bytes, Err(ending), shows);
 }
 
-/// The polls of the stream read each row.
+/// Asserts that polling the stream reads each row.
 fn check_polled_rows<R: Abort + AllocGlobal, K: Reads>(rt: &R, stream: &mut K, rows: &[Row<'_>]) {
     for row in rows {
         check_polled(rt, stream, row);
     }
 }
 
-/// A stream that the peer opened: a session may come first, and not after another frame.
+/// A stream that the peer opened. A session frame may come first, but not after another frame.
 static OPENED_THERE: [Row<'static>; 16] = [
     (b"\x00\x01a", &[(0x00, b"a")], Ok(()), "data"),
     (
@@ -246,7 +245,8 @@ static OPENED_THERE: [Row<'static>; 16] = [
     (b"\x0a\x02ab\x0a\x00", &[], Ok(()), "unknown frames alone"),
 ];
 
-/// These rows. A table is proved where it is used, so the tests share this use.
+/// Returns the rows of `OPENED_THERE`. Each use of a table is proved, so the tests share this
+/// one.
 fn rows_there() -> &'static [Row<'static>] {
     &OPENED_THERE
 }
@@ -263,7 +263,7 @@ fn a_stream_opened_there_is_polled_so(rt: HostRuntime) {
     }
 }
 
-/// A stream in both directions that was opened here, or that has its session.
+/// A bidirectional stream that this end opened, or that already belongs to a session.
 static OPENED_HERE: [Row<'static>; 5] = [
     (
         b"\x01\x01a\x00\x01b\x21\x01c",
@@ -292,7 +292,7 @@ static OPENED_HERE: [Row<'static>; 5] = [
     ),
 ];
 
-/// These rows, for each test that uses them.
+/// Returns the rows of `OPENED_HERE`, for each test that uses them.
 fn rows_here() -> &'static [Row<'static>] {
     &OPENED_HERE
 }
@@ -334,7 +334,7 @@ static CONTROL: [Row<'static>; 6] = [
     ),
 ];
 
-/// These rows, for each test that uses them.
+/// Returns the rows of `CONTROL`, for each test that uses them.
 fn rows_of_control() -> &'static [Row<'static>] {
     &CONTROL
 }
@@ -349,10 +349,10 @@ fn a_control_stream_is_polled_so(rt: HostRuntime) {
     check_polled_rows(&rt, &mut control(&rt), rows_of_control());
 }
 
-/// How many bytes come at a time.
+/// The numbers of bytes that arrive at a time.
 static SIZES: [usize; 9] = [1, 2, 7, 100, 4096, 4111, 4999, 5003, 9105];
 
-/// An unknown frame of 5000 bytes, a data frame of 4096, and a headers frame of one.
+/// Returns an unknown frame of 5000 bytes, a DATA frame of 4096, and a HEADERS frame of one.
 fn long_bytes<R: Abort>(rt: &R, alloc: Global) -> Vec<u8> {
     let mut bytes = pad(rt, alloc, b"\x0a\x53\x88", 5003);
     bytes

@@ -1,4 +1,4 @@
-//! Single calls of a cursor over bytes, and the rule of each stream.
+//! Single calls of a cursor over bytes, and the rules of each kind of stream.
 use crate::same::same;
 use std::process::Abort;
 use wtransport_proto::error::ErrorCode;
@@ -7,11 +7,11 @@ use wtransport_proto::ids::SessionId;
 use wtransport_proto::stream::{CursorStep, FrameCursor, FrameSpan, StreamRole, fault_of};
 use wtransport_proto::varint::VarInt;
 
-/// What one call answers: the frame that it finds, by its type, its session and the place of its
-/// payload, and how many bytes are consumed; or a code.
+/// The result of one call: the type, session ID and payload offset of a frame, if one is found,
+/// and the number of bytes consumed; or an error code.
 type Step = Result<(Option<(u64, Option<u64>, usize)>, usize), ErrorCode>;
 
-/// What one call answered.
+/// Returns the result of one call in this form.
 fn step_of(step: CursorStep) -> Step {
     match step {
         CursorStep::Frame(place) => {
@@ -23,19 +23,19 @@ fn step_of(step: CursorStep) -> Step {
     }
 }
 
-/// The frame's type, its session and the place of its payload.
+/// Returns the type, session ID and payload offset of a frame.
 fn found_at(place: FrameSpan) -> (u64, Option<u64>, usize) {
     let session = number_of(place.session_id);
     (place.kind.id().into_inner(), session, place.start)
 }
 
-/// The number of a session.
+/// Returns the number of a session ID.
 fn number_of(session: Option<SessionId>) -> Option<u64> {
     Some(session?.into_u64())
 }
 
-/// Whether no frame was read and the bytes due before a call, its bytes, its answer, the same two
-/// after it, and what the row shows. The stream was opened by the peer.
+/// Whether no frame was read and how many bytes are left to skip before a call, its bytes, its
+/// result, the same two values after it, and what the row shows. The peer opened the stream.
 type StepRow = ((bool, u64), &'static [u8], Step, (bool, u64), &'static str);
 
 static STEPS: [StepRow; 15] = [
@@ -134,7 +134,7 @@ static STEPS: [StepRow; 15] = [
     ),
 ];
 
-/// One call answers by its row.
+/// Asserts the result of one call by its row.
 fn check_step<R: Abort>(rt: &R, row: &StepRow) {
     let (before, bytes, answer, after, shows) = *row;
     let role = StreamRole::BiRemote;
@@ -165,8 +165,8 @@ fn one_call_answers_by_the_first_frame(rt: HostRuntime) {
     }
 }
 
-/// The type of a frame, whether it is the first, and its faults: on a stream that the peer opened,
-/// on one that was opened here, and on a control stream.
+/// The type of a frame, whether it is the first, and its error on a stream that the peer opened,
+/// on a stream that this end opened, and on a control stream.
 type RuleRow = (
     u32,
     bool,
@@ -177,7 +177,7 @@ type RuleRow = (
 
 const UNEXPECTED: Option<ErrorCode> = Some(ErrorCode::FrameUnexpected);
 
-/// RFC 9114, table 1, and the WebTransport frame.
+/// RFC 9114, table 1, and the WEBTRANSPORT_STREAM frame.
 static RULES: [RuleRow; 7] = [
     (0x00, true, None, None, UNEXPECTED),
     (0x01, true, None, None, UNEXPECTED),
@@ -188,7 +188,8 @@ static RULES: [RuleRow; 7] = [
     (0x21, false, None, None, None),
 ];
 
-/// The fault of a frame of this type, or what no row wants if the type is unknown.
+/// Returns the error for a frame of this type, or a sentinel that matches no row if the type is
+/// unknown.
 fn fault(role: StreamRole, first: bool, id: u32) -> Option<ErrorCode> {
     match FrameKind::parse(VarInt::from_u32(id)) {
         Some(kind) => fault_of(role, first, kind),

@@ -6,7 +6,7 @@ use wtransport_proto::datagram::Datagram;
 use wtransport_proto::error::ErrorCode;
 use wtransport_proto::ids::QStreamId;
 
-/// Asserts the parts and the sizes of a datagram with the largest number.
+/// Asserts the parts and the sizes of a datagram with the largest quarter stream ID.
 fn check_parts<R: Abort>(rt: &R, datagram: &Datagram<'_>, payload: &[u8], size: usize) {
     let number = datagram.qstream_id();
     let came = (number, datagram.payload());
@@ -16,7 +16,7 @@ fn check_parts<R: Abort>(rt: &R, datagram: &Datagram<'_>, payload: &[u8], size: 
     same(rt, came, (8, payload.len(), size), size);
 }
 
-/// Asserts what writing a datagram answers, and what the buffer holds then.
+/// Asserts the result of writing a datagram, and the bytes then in the buffer.
 fn check_write<R: Abort>(
     rt: &R,
     datagram: &Datagram<'_>,
@@ -28,7 +28,7 @@ fn check_write<R: Abort>(
     same(rt, (outcome, &*buffer), wanted, word);
 }
 
-/// The largest number and the payload `x`.
+/// The largest quarter stream ID and the payload `x`.
 const SHORT: [u8; 9] = [0xcf, 0xff, 0xff, 0xff, 0xff, 0xff, 0xff, 0xff, 0x78];
 
 #[test]
@@ -62,14 +62,14 @@ fn one_byte_too_little_room_leaves_the_buffer(rt: HostRuntime) {
     check_write(&rt, &short, &mut [7; 8], wanted, "8 bytes for 9");
 }
 
-/// Bytes that are no datagram, and what the row shows.
+/// Bytes that are not a datagram, and what the row shows.
 static FAULTS: [(&[u8], &str); 3] = [
     (&[], "nothing"),
     (&[0xcf], "a cut number"),
     (&[0xd0, 0, 0, 0, 0, 0, 0, 0], "a number of 2^60"),
 ];
 
-/// Why the bytes are no datagram.
+/// Returns the error for bytes that are not a datagram.
 fn fault(bytes: &[u8]) -> Option<ErrorCode> {
     match Datagram::read(bytes) {
         Ok(_) => None,

@@ -15,7 +15,7 @@ const FIN: Driven = Driven::Ended(IoReadError::IO(Fault::ImmediateFin));
 
 const CUT: Driven = Driven::Ended(IoReadError::H3(ErrorCode::Frame));
 
-/// Drives the stream; where allocation failed, once more.
+/// Drives the stream, again if allocation failed.
 fn drive_again<K: ReadsFrames, S: AsyncRead>(
     stream: &mut K,
     reading: &mut FrameReading,
@@ -31,7 +31,7 @@ fn drive_again<K: ReadsFrames, S: AsyncRead>(
     }
 }
 
-/// The frames put out are these, by type number and payload.
+/// Asserts the frames in the output, by type and payload.
 fn check_frames<R: Abort>(rt: &R, out: &Vec<FrameOwned>, frames: &[(u64, &[u8])]) {
     same(rt, out.len(), frames.len(), "frames put out");
     for (place, wanted) in frames.iter().enumerate() {
@@ -39,7 +39,7 @@ fn check_frames<R: Abort>(rt: &R, out: &Vec<FrameOwned>, frames: &[(u64, &[u8])]
     }
 }
 
-/// The frame that was put out at this place, by type number and payload.
+/// Returns the frame at this index of the output, by type and payload.
 fn frame_at(out: &Vec<FrameOwned>, place: usize) -> Option<(u64, &[u8])> {
     match out.get(place) {
         Some(frame) => Some(number_and_payload(frame)),
@@ -47,7 +47,7 @@ fn frame_at(out: &Vec<FrameOwned>, place: usize) -> Option<(u64, &[u8])> {
     }
 }
 
-/// A stream that the peer opened, and what was driven out of it.
+/// A stream that the peer opened, and the frames that it has output.
 #[derive(Drop)]
 struct Driving {
     stream: StreamBiRemoteH3,
@@ -56,7 +56,7 @@ struct Driving {
 }
 
 impl Driving {
-    /// A new stream, of which nothing was read.
+    /// Creates a new stream.
     fn new(alloc: Global) -> Self {
         Driving {
             stream: opened_there(),
@@ -65,7 +65,7 @@ impl Driving {
         }
     }
 
-    /// Drives it on, with ten polls, and stops where allocation fails.
+    /// Drives the stream with at most ten polls, and stops if allocation fails.
     fn once<S: AsyncRead>(&mut self, source: &mut S) -> Driven {
         drive(
             &mut self.stream,
@@ -76,7 +76,7 @@ impl Driving {
         )
     }
 
-    /// Drives it on, with so many polls.
+    /// Drives the stream with at most `polls` polls.
     fn on<S: AsyncRead>(&mut self, source: &mut S, polls: u32) -> Driven {
         drive_again(
             &mut self.stream,
@@ -87,7 +87,7 @@ impl Driving {
         )
     }
 
-    /// Drives it on by the part. Frames are counted since the stream was new.
+    /// Asserts the result of one drive. Frames are counted from the start of the stream.
     fn check<R: Abort>(&mut self, rt: &R, bytes: &mut &[u8], part: &Part, shows: &str) {
         let (polls, end, count, left) = part;
         let came = self.on(bytes, *polls);
@@ -96,16 +96,16 @@ impl Driving {
     }
 }
 
-/// How many polls are made, how the drive ends, how many frames were put out then, and how many
-/// bytes are left.
+/// The number of polls, the result of the drive, the number of frames then in the output, and the
+/// number of bytes left.
 type Part = (u32, Driven, usize, usize);
 
 const TWO: &[u8] = b"\x00\x01a\x00\x01b";
 
 static TWO_FRAMES: [(u64, &[u8]); 2] = [(0x00, b"a"), (0x00, b"b")];
 
-/// Drives the stream on; where memory for a frame was refused, it is not put out, and a second drive
-/// goes on.
+/// Drives the stream. If allocation for a frame failed, the frame is not output, and a second
+/// drive continues.
 fn drive_frames<R: Abort>(rt: &R, driving: &mut Driving, source: &mut &[u8]) -> Driven {
     match driving.once(source) {
         Driven::NoMemory => {
@@ -125,7 +125,8 @@ fn refused_memory_loses_no_frame(rt: HostRuntime) {
     check_frames(&rt, &driving.out, &TWO_FRAMES);
 }
 
-/// The drives of a new stream over the bytes, one for each part, and the frames put out of them.
+/// Asserts the results of the drives of a new stream over these bytes, one for each part, and the
+/// frames in the output.
 fn check_parts<R: Abort + AllocGlobal>(
     rt: &R,
     bytes: &[u8],
@@ -156,7 +157,8 @@ fn a_cut_unknown_frame_ends_it(rt: HostRuntime) {
     check_parts(&rt, b"\x0a\x0a\x00\x00", &[(2, CUT, 0, 0)], &[]);
 }
 
-/// The drives over an unknown frame of 8192 bytes and a data frame of none, one for each part.
+/// Asserts the results of the drives over an unknown frame of 8192 bytes and an empty DATA frame,
+/// one for each part.
 fn check_unknown<R: Abort + AllocGlobal>(rt: &R, parts: &[Part]) {
     let unknown = pad(rt, rt.alloc(), &[0x0a, 0x60, 0x00], 3 + 8192 + 2);
     check_parts(rt, unknown.as_slice(), parts, &[(0x00, b"")]);
@@ -175,10 +177,10 @@ fn each_part_of_an_unknown_frame_is_a_poll(rt: HostRuntime) {
     check_unknown(&rt, &[(3, Driven::Spent, 1, 0)]);
 }
 
-/// How a drive ends, and where it does.
+/// The result of a drive, and what the row shows.
 type EndRow = (Driven, &'static str);
 
-/// The drive ends by the row.
+/// Asserts the result of a drive by its row.
 fn check_end<R: Abort>(
     rt: &R,
     driving: &mut Driving,
@@ -204,14 +206,14 @@ fn waits_lose_no_frame(rt: HostRuntime) {
     check_frames(&rt, &driving.out, &[(0x21, b"Payload")]);
 }
 
-/// The drives over a source of one byte and a reset.
+/// The drives over a source of one byte followed by a reset.
 static CUT_SOURCE: [EndRow; 3] = [
     (Driven::Waiting, "before the byte"),
     (Driven::Waiting, "before the end"),
     (Driven::Ended(IoReadError::IO(Fault::Reset)), "at the end"),
 ];
 
-/// The drive over a second source, of one byte more.
+/// The drive over a second source with one more byte.
 static SECOND: Part = (10, FIN, 1, 0);
 
 #[test]
@@ -226,7 +228,8 @@ fn a_drive_goes_on_over_a_second_source(rt: HostRuntime) {
     check_frames(&rt, &driving.out, &[(0x00, b"a")]);
 }
 
-/// The bytes of a stream, the frames put out of them, how a drive ends, and the stream's name.
+/// The bytes of a stream, the frames in the output, the result of the drive, and the name of the
+/// stream.
 type Row = (
     &'static [u8],
     &'static [(u64, &'static [u8])],
@@ -234,7 +237,8 @@ type Row = (
     &'static str,
 );
 
-/// Driven over the bytes of the row, the stream puts out its frames and ends by it.
+/// Asserts that driving the stream over the bytes of a row outputs its frames and returns its
+/// result.
 fn check_driven<R: Abort + AllocGlobal, K: ReadsFrames>(rt: &R, stream: &mut K, row: &Row) {
     let (bytes, frames, wanted, word) = row;
     let mut reading = Frame::read_async(rt.alloc());
@@ -258,10 +262,10 @@ fn check_buffered<R: Abort, K: ReadsFrames>(rt: &R, stream: &mut K, row: &Row) {
     same(rt, came, frames.first().copied(), word);
 }
 
-/// A frame came that may not.
+/// The result for a frame that the stream does not permit.
 const UNEXPECTED: Driven = Driven::Ended(IoReadError::H3(ErrorCode::FrameUnexpected));
 
-/// A session frame, and another.
+/// Two session frames.
 const SESSIONS: &[u8] = b"\x40\x41\x00\x40\x41\x00";
 
 static THERE: Row = (SESSIONS, &[(0x41, b"")], CUT, "opened there");

@@ -1,4 +1,5 @@
-//! A header map's way over streams: sent whole into a vector, and read back from the same bytes.
+//! Sending a header map over a stream, completely into a vector, and reading it back from the
+//! same bytes.
 use crate::same::same;
 use std::alloc::{AllocError, Global};
 use std::process::Abort;
@@ -18,18 +19,18 @@ const PAIRS: [(&str, &str); 3] = [("b", "1"), (":z", "2"), ("a", "3")];
 /// The HEADERS frame of the pairs.
 const FRAME: &[u8] = b"\x01\x0f\x00\x00\x22:z\x012\x21a\x013\x21b\x011";
 
-/// An unknown frame, the frame of the pairs, and a DATA frame.
+/// An unknown frame, the HEADERS frame of the pairs, and a DATA frame.
 const BYTES: &[u8] = b"\x0a\x01!\x01\x0f\x00\x00\x22:z\x012\x21a\x013\x21b\x011\x00\x01x";
 
 /// The DATA frame.
 const REST: &[u8] = b"\x00\x01x";
 
-/// The map of the pairs.
+/// Returns the map of the pairs.
 fn made_once(alloc: Global) -> Result<Headers, AllocError> {
     Headers::from_iter(alloc, PAIRS.iter().copied())
 }
 
-/// The map of the pairs, made once more where memory was refused.
+/// Returns the map of the pairs, built again if allocation failed.
 fn made(alloc: Global) -> Result<Headers, AllocError> {
     match made_once(alloc) {
         Err(AllocError) => made_once(alloc),
@@ -37,7 +38,7 @@ fn made(alloc: Global) -> Result<Headers, AllocError> {
     }
 }
 
-/// A request, made once more where memory was refused.
+/// Returns a request, built again if allocation failed.
 fn request(alloc: Global) -> Result<SessionRequest, UrlParseError> {
     match SessionRequest::new(alloc, "https://example.com") {
         Err(UrlParseError::Memory) => SessionRequest::new(alloc, "https://example.com"),
@@ -45,10 +46,10 @@ fn request(alloc: Global) -> Result<SessionRequest, UrlParseError> {
     }
 }
 
-/// The map that came back, or why none did.
+/// The map that was read back, or the error.
 type Way = Result<Headers, ExchangeError>;
 
-/// Whether an allocation failed on the way.
+/// Returns whether an allocation failed.
 fn lacks_memory(way: &Way) -> bool {
     match way {
         Ok(_) => false,
@@ -56,7 +57,7 @@ fn lacks_memory(way: &Way) -> bool {
     }
 }
 
-/// Whether an allocation failed in the way to the sink, or in the way back.
+/// Returns whether an allocation failed while sending or receiving.
 fn is_out_of_memory(error: &ExchangeError) -> bool {
     match error {
         ExchangeError::Frame(error) => *error == GenerateError::Memory,
@@ -65,7 +66,7 @@ fn is_out_of_memory(error: &ExchangeError) -> bool {
     }
 }
 
-/// Whether an allocation failed in the way back.
+/// Returns whether an allocation failed while receiving.
 fn is_receive_out_of_memory(error: &ReceiveError) -> bool {
     match error {
         ReceiveError::Memory => true,
@@ -74,7 +75,8 @@ fn is_receive_out_of_memory(error: &ReceiveError) -> bool {
     }
 }
 
-/// Sends the map into the vector, and reads one back from the bytes, in so many turns.
+/// Sends the map into the vector and reads a map back from the bytes, each in a bounded number of
+/// turns.
 fn travel<K: ReadsFrames>(
     alloc: Global,
     headers: &Headers,
@@ -89,7 +91,7 @@ fn travel<K: ReadsFrames>(
     exchange::send_and_receive(alloc, headers, sink, stream, source, turns)
 }
 
-/// Goes the way; where memory was refused, once more.
+/// Sends and reads back, again if allocation failed.
 fn travel_again<K: ReadsFrames>(
     rt: &impl Abort,
     alloc: Global,
@@ -111,14 +113,14 @@ fn travel_again<K: ReadsFrames>(
     travel(alloc, headers, sink, stream, source, 2)
 }
 
-/// Asserts that the map is that of the pairs.
+/// Asserts that the map contains the pairs.
 fn check_back<R: Abort>(rt: &R, back: &Headers, word: &str) {
     same(rt, back.as_ref().len(), 3, word);
     let came = (back.get("b"), back.get(":z"), back.get("a"));
     same(rt, came, (Some("1"), Some("2"), Some("3")), word);
 }
 
-/// Asserts that the map goes whole into a vector and comes back from the bytes.
+/// Asserts that the map is sent completely into a vector and is read back from the bytes.
 fn travels<K: ReadsFrames>(
     rt: &impl Abort,
     alloc: Global,
@@ -152,7 +154,7 @@ fn a_map_comes_back(rt: HostRuntime) {
     );
 }
 
-/// Asserts that no turn was left to send in; or that memory for the frame was refused.
+/// Asserts that there were too few turns to send, or that allocation for the frame failed.
 fn check_waiting<R: Abort>(rt: &R, error: Option<ExchangeError>) {
     let waiting = Some(ExchangeError::Send(SendError::Waiting));
     match error {
@@ -172,7 +174,8 @@ fn no_turn_touches_nothing(rt: HostRuntime) {
     same(&rt, (sink.is_empty(), source), (true, BYTES), "both ends");
 }
 
-/// Asserts why no map is read from bytes that take no memory, on a stream that the peer opened.
+/// Asserts the error of reading a map from bytes that need no allocation, on a stream that the
+/// peer opened.
 fn check_refusal<R: Abort + AllocGlobal>(
     rt: &R,
     bytes: &[u8],

@@ -1,4 +1,4 @@
-//! The error codes of errors of streams and of exchanges.
+//! The error codes for errors of streams and of exchanges.
 use crate::same::same;
 use std::process::Abort;
 use wtransport_proto::bytes::{IoReadError, IoWriteError};
@@ -7,22 +7,22 @@ use wtransport_proto::exchange::{ExchangeError, ReceiveError, SendError};
 use wtransport_proto::frame::{FrameKind, GenerateError};
 use wtransport_proto::stream;
 
-/// The end of a source.
+/// Returns the error for the end of a source.
 fn ended() -> ReceiveError {
     ReceiveError::Stream(stream::IoReadError::IO(IoReadError::ImmediateFin))
 }
 
-/// A fault by the rules of a stream.
+/// Returns the error for a violated rule of a stream.
 fn broken(code: ErrorCode) -> ReceiveError {
     ReceiveError::Stream(stream::IoReadError::H3(code))
 }
 
-/// A section that was refused.
+/// Returns the error for a rejected section.
 fn refused(code: ErrorCode) -> ReceiveError {
     ReceiveError::Section(Refused::Code(code))
 }
 
-/// Asserts the code of what was received, and that the exchange has the same.
+/// Asserts the error code of a receive error, and that the exchange reports the same code.
 fn check<R: Abort>(rt: &R, error: ReceiveError, code: Option<ErrorCode>, shows: &str) {
     same(rt, error.code(), code, shows);
     same(rt, ExchangeError::Receive(error).code(), code, shows);

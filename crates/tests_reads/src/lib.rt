@@ -1,7 +1,6 @@
-//! The frames that are read from a stream of each kind: from a buffer or a slice, poll by poll,
-//! driven, and by a cursor over bytes cut anywhere. Datagrams, the way of a header map over
-//! streams, the first steps of a server, and recordings of real stacks. There is no product code
-//! here.
+//! Reading frames from streams of each kind: from a buffer or a slice, poll by poll, driven, and
+//! with a cursor over bytes that are split anywhere. Also datagrams, header maps over streams,
+//! the first steps of a server, and recordings of real stacks. There is no product code here.
 #![tactic(auto)]
 
 #[cfg(test)]

@@ -1,4 +1,4 @@
-//! Reading in a loop. What each poll requires holds after the one before it, so a struct keeps it.
+//! Reading in a loop. A struct preserves the precondition of each poll.
 ghost use Rattle.wtransport_proto.specs.Streams.{CanRead};
 
 use crate::answers::{Answer, PollAnswer, check_answer};
@@ -11,10 +11,10 @@ use wtransport_proto::bytes::{AsyncRead, Polled};
 use wtransport_proto::frame::{Frame, FrameReading};
 use wtransport_proto::stream::uniremote::StreamUniRemoteH3;
 
-/// How often a source may wait.
+/// The maximum number of waits of a source.
 const TURNS: usize = 20;
 
-/// A stream in one direction, from which frames are read.
+/// A unidirectional stream from which frames are read.
 #[derive(Drop)]
 struct FromOne {
     stream: StreamUniRemoteH3,
@@ -23,13 +23,13 @@ struct FromOne {
 }
 
 impl FromOne {
-    /// What one poll of the stream answers.
+    /// Polls the stream once.
     fn poll<S: AsyncRead>(&mut self, source: &mut S) -> PollAnswer {
         self.stream.read_frame_async(&mut self.reading, source)
     }
 }
 
-/// Reads the next frame, while the source waits.
+/// Reads the next frame, and polls again while the source is not ready.
 fn read_one<S: AsyncRead>(receiving: &mut FromOne, source: &mut S) -> PollAnswer {
     for _turn in 0..TURNS {
         match receiving.poll(source) {
@@ -40,7 +40,7 @@ fn read_one<S: AsyncRead>(receiving: &mut FromOne, source: &mut S) -> PollAnswer
     Polled::Pending
 }
 
-/// A control stream, of which no frame was read.
+/// Returns a control stream from which no frame was read.
 fn receiving<R: Abort>(rt: &R, alloc: Global) -> FromOne {
     let stream = control(rt);
     assert!(rt; stream.can_read());
@@ -53,7 +53,7 @@ fn receiving<R: Abort>(rt: &R, alloc: Global) -> FromOne {
 /// The frame that is read.
 static SETTINGS: Answer<'static> = Answer::Frame(0x04, b"\x33\x01");
 
-/// The rest of the source.
+/// The bytes left in the source.
 const REST: &[u8] = &[0x0d, 0x00];
 
 /// No byte after the settings is read.

@@ -1,4 +1,4 @@
-//! Reading frames from streams, poll by poll.
+//! Reading frames from streams poll by poll.
 use crate::answers::{Answer, CUT, ENDS, FIN, PollAnswer, check_answer, pad};
 use crate::opened::opened_there;
 use crate::reads::{Reads, check_poll, check_polls, check_source};
@@ -12,7 +12,8 @@ use wtransport_proto::frame::{Frame, FrameReading};
 use wtransport_proto::stream::IoReadError;
 use wtransport_proto::stream::biremote::StreamBiRemoteH3;
 
-/// What a source gives, and in which steps; the answers of the polls, and what the row shows.
+/// The bytes of a source and the steps in which it returns them, the results of the polls, and
+/// what the row shows.
 type Row = (
     &'static [u8],
     &'static [ReadStep],
@@ -83,7 +84,7 @@ static ROWS: [Row; 9] = [
     ),
 ];
 
-/// The polls of a stream that the peer opened answer by the row.
+/// Asserts the results of polling a stream that the peer opened.
 fn check_row<R: Abort>(rt: &R, alloc: Global, row: &Row) {
     let (bytes, steps, answers, word) = *row;
     let mut stream = opened_there();
@@ -99,11 +100,11 @@ fn polls_answer_by_the_bytes(rt: HostRuntime) {
     }
 }
 
-/// The front of the bytes, after which come zeros, how many bytes there are in all, the answers of
-/// the polls, and what the row shows.
+/// The first bytes, which are padded with zeros, the total length, the results of the polls, and
+/// what the row shows.
 type LongRow = ([u8; 3], usize, &'static [Answer<'static>], &'static str);
 
-/// A data frame of no bytes is two zeros.
+/// An empty DATA frame is two zeros.
 static LONG: [LongRow; 4] = [
     (
         [0x0a, 0x50, 0x00],
@@ -131,7 +132,7 @@ static LONG: [LongRow; 4] = [
     ),
 ];
 
-/// The polls of a stream that the peer opened answer by the row.
+/// Asserts the results of polling a stream that the peer opened.
 fn check_long<R: Abort + AllocGlobal>(rt: &R, row: &LongRow) {
     let (front, len, answers, word) = row;
     let bytes = pad(rt, rt.alloc(), front, *len);
@@ -145,10 +146,10 @@ fn long_unknown_frames_are_passed_in_parts(rt: HostRuntime) {
     }
 }
 
-/// A byte has not come yet.
+/// A byte has not arrived yet.
 static WAIT: Answer<'static> = Answer::Pending;
 
-/// After so many waits, the next poll answers this.
+/// Asserts the result of the next poll after a number of waits.
 fn check_late<R: Abort>(
     rt: &R,
     stream: &mut StreamBiRemoteH3,
@@ -163,7 +164,7 @@ fn check_late<R: Abort>(
     check_poll(rt, stream, reading, source, answer, ("there", 0));
 }
 
-/// How often the source is not ready, and what the next poll answers.
+/// How often the source is not ready, and the result of the next poll.
 type LateRow = (usize, Answer<'static>);
 
 static LATE: [LateRow; 3] = [(9, Answer::Frame(0x21, b"Payload")), (3, CUT), (1, FIN)];
@@ -181,10 +182,10 @@ fn each_byte_may_come_late(rt: HostRuntime) {
 /// A source that is reset inside an unknown frame.
 static RESET_INSIDE: [ReadStep; 2] = [ReadStep::Bytes(3), ReadStep::Reset];
 
-/// What is answered over it.
+/// The result of polling it.
 static RESET: [Answer<'static>; 1] = [Answer::Fault(IoReadError::IO(Fault::Reset))];
 
-/// What is answered over the rest of the frame, and an empty data frame.
+/// The results of polling the rest of the frame, followed by an empty DATA frame.
 static REST: [Answer<'static>; 3] = [Answer::Again, Answer::Frame(0x00, b""), FIN];
 
 #[test]
@@ -197,10 +198,10 @@ fn a_second_source_goes_on(rt: HostRuntime) {
     check_polls(&rt, &mut stream, &mut reading, &mut source, &REST, "second");
 }
 
-/// An exercise frame of nine bytes, and a frame of session 0 that comes too late.
+/// An exercise frame of nine bytes, and a late frame of session 0.
 const EXERCISE_THEN_SESSION: &[u8] = b"\x21\x07Payload\x40\x41\x00";
 
-/// What a stream answers last over the first so many of these bytes, which end so.
+/// Returns the last result of a stream over the first `len` bytes, followed by this end.
 fn last_answer(len: usize, end: End) -> Answer<'static> {
     match (len, end) {
         (12, _) => CUT,
@@ -211,7 +212,8 @@ fn last_answer(len: usize, end: End) -> Answer<'static> {
     }
 }
 
-/// The next answer but that the source is not ready, or that allocation failed.
+/// Returns the result of the next poll for which the source was ready and allocation did not
+/// fail.
 fn next_answer(
     stream: &mut StreamBiRemoteH3,
     reading: &mut FrameReading,
@@ -226,7 +228,7 @@ fn next_answer(
     Polled::Pending
 }
 
-/// The next such answer is this one.
+/// Asserts this next result.
 fn check_next<R: Abort>(
     rt: &R,
     stream: &mut StreamBiRemoteH3,
@@ -240,10 +242,10 @@ fn check_next<R: Abort>(
     check_answer(rt, &came, answer, word, len);
 }
 
-/// The frame that comes first.
+/// The first frame.
 static FIRST: Answer<'static> = Answer::Frame(0x21, b"Payload");
 
-/// If the frame has come, it is the next answer.
+/// Asserts that the first frame is the next result, if it has arrived.
 fn check_first<R: Abort>(
     rt: &R,
     stream: &mut StreamBiRemoteH3,
@@ -256,7 +258,7 @@ fn check_first<R: Abort>(
     }
 }
 
-/// The stream answers last by the table; and then the same again, unless a late session came.
+/// Asserts the last result, and that it repeats, except after a late session frame.
 fn check_last<R: Abort>(
     rt: &R,
     stream: &mut StreamBiRemoteH3,
@@ -271,7 +273,7 @@ fn check_last<R: Abort>(
     }
 }
 
-/// Over the first so many of the bytes the stream answers by the table.
+/// Asserts the results of a stream over the first `len` bytes.
 fn check_stop<R: Abort + AllocGlobal>(rt: &R, len: usize, end: End) {
     let mut stream = opened_there();
     let mut reading = Frame::read_async(rt.alloc());
@@ -289,8 +291,8 @@ fn bytes_may_stop_at_each_place(rt: HostRuntime) {
     }
 }
 
-/// What the next poll answers; where memory for the payload was refused, its head is held, and the
-/// poll is made again.
+/// Returns the result of the next poll. If allocation for the payload failed, the frame header is
+/// kept, and the poll is repeated.
 fn poll_payload<R: Abort>(
     rt: &R,
     stream: &mut StreamBiRemoteH3,
@@ -306,7 +308,7 @@ fn poll_payload<R: Abort>(
     }
 }
 
-/// The data frame that is read then.
+/// The DATA frame that is then read.
 static DATA: Answer<'static> = Answer::Frame(0x00, b"abc");
 
 #[test]

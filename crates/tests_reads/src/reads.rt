@@ -1,4 +1,4 @@
-//! Reading frames from a stream of each kind, so that one check goes over all of them.
+//! Reading frames from a stream of each kind, so that one check covers all kinds.
 use crate::answers::{Answer, PollAnswer, check_answer};
 use std::process::Abort;
 use wtransport_proto::bytes::{AsyncRead, BufferReader, Polled};
@@ -9,7 +9,7 @@ use wtransport_proto::stream::biremote::StreamBiRemoteH3;
 use wtransport_proto::stream::session::StreamSession;
 use wtransport_proto::stream::uniremote::StreamUniRemoteH3;
 
-/// The answer of one read.
+/// The result of one read.
 pub(crate) type Read<'a> = Result<Option<Frame<'a>>, ErrorCode>;
 
 /// A reading state, which reads by its own calls.
@@ -63,7 +63,7 @@ impl Reads for StreamSession {
     }
 }
 
-/// Where no frame may be read, each read answers what no row wants.
+/// If no frame may be read, each read returns a sentinel that matches no row.
 impl Reads for StreamUniRemoteH3 {
     fn read_buffer<'a>(&mut self, reader: &mut BufferReader<'a>) -> Read<'a> {
         if !self.can_read() {
@@ -87,8 +87,7 @@ impl Reads for StreamUniRemoteH3 {
     }
 }
 
-/// The next poll of the stream answers this. Where allocation failed for a payload, the poll is
-/// made again.
+/// Asserts the result of the next poll. If allocation for a payload failed, the poll is repeated.
 pub(crate) fn check_poll<R: Abort, K: Reads, S: AsyncRead>(
     rt: &R,
     stream: &mut K,
@@ -105,7 +104,7 @@ pub(crate) fn check_poll<R: Abort, K: Reads, S: AsyncRead>(
     check_answer(rt, &answered, answer, word, turn);
 }
 
-/// The polls of the stream answer this, one after the other.
+/// Asserts the results of the next polls.
 pub(crate) fn check_polls<R: Abort, K: Reads, S: AsyncRead>(
     rt: &R,
     stream: &mut K,
@@ -119,10 +118,10 @@ pub(crate) fn check_polls<R: Abort, K: Reads, S: AsyncRead>(
     }
 }
 
-/// What a source gives before its end, the answers of the polls, and what the row shows.
+/// The bytes of a source before its end, the results of the polls, and what the row shows.
 pub(crate) type PollRow = (&'static [u8], &'static [Answer<'static>], &'static str);
 
-/// The polls of the stream answer by the row, over bytes of which nothing was read yet.
+/// Asserts the results of polling the stream by a row, with a new reader.
 pub(crate) fn check_source<R: Abort + AllocGlobal, K: Reads>(
     rt: &R,
     stream: &mut K,
@@ -133,7 +132,7 @@ pub(crate) fn check_source<R: Abort + AllocGlobal, K: Reads>(
     check_polls(rt, stream, &mut reading, &mut bytes, answers, word);
 }
 
-/// The polls of the stream answer by each row.
+/// Asserts the results of polling the stream by each row.
 pub(crate) fn check_sources<R: Abort + AllocGlobal, K: Reads>(
     rt: &R,
     stream: &mut K,

@@ -1,4 +1,5 @@
-//! Streams and datagrams of real stacks, with what these stacks and an outside reader say of them.
+//! Streams and datagrams recorded from real stacks. The expected values come from these stacks
+//! and from an independent decoder.
 use crate::opened::{opened_here, opened_there};
 use crate::reads::{Read, Reads};
 use crate::same::same;
@@ -15,11 +16,11 @@ use wtransport_proto::stream_header::StreamHeader;
 /// The fields of a section.
 type Fields = &'static [(&'static [u8], &'static [u8])];
 
-/// The code and the reason with which a session is closed.
+/// The error code and reason of a closed session.
 type Close = (u64, &'static str);
 
-/// A row: what it shows, the bytes of a stream, its frames by their types and payload lengths, the
-/// fields of its section, and the close in its data, if there is one.
+/// What the row shows, the bytes of a stream, its frames by type and payload length, the fields
+/// of its section, and the close in its data, if there is one.
 type Row = (
     &'static str,
     &'static [u8],
@@ -64,7 +65,7 @@ fn check_close<R: Abort + AllocGlobal>(
     }
 }
 
-/// Asserts that the capsule is this close, and that nothing is after it.
+/// Asserts that the capsule is this close, and that nothing follows it.
 fn check_only<R: Abort + AllocGlobal>(
     rt: &R,
     capsule: &Capsule<'_>,
@@ -83,7 +84,7 @@ fn check_only<R: Abort + AllocGlobal>(
     same(rt, rest.len(), 0, shows);
 }
 
-/// Asserts what the frame contains. Returns whether the close is in it.
+/// Asserts the contents of a frame. Returns whether the close is in it.
 fn check_content<R: Abort + AllocGlobal>(
     rt: &R,
     reading: &mut CapsuleReading,
@@ -101,7 +102,7 @@ fn check_content<R: Abort + AllocGlobal>(
     }
 }
 
-/// The frame that was read, by its type and the length of its payload.
+/// Returns the type and payload length of the frame that was read.
 fn type_and_length(read: &Read<'_>) -> Option<(u64, usize)> {
     match read {
         Ok(Some(frame)) => Some((frame.kind().id().into_inner(), frame.payload().len())),
@@ -109,7 +110,7 @@ fn type_and_length(read: &Read<'_>) -> Option<(u64, usize)> {
     }
 }
 
-/// Streams of the end that opened them.
+/// Streams recorded from the end that opened them.
 static REQUESTS: [Row; 4] = [
     (
         "Chromium 156: a session with a reserved capsule and its close",
@@ -201,7 +202,7 @@ static REQUESTS: [Row; 4] = [
     ),
 ];
 
-/// Asserts the next frame of a row, and what it contains. Returns whether the close is in it.
+/// Asserts the next frame of a row and its contents. Returns whether the close is in it.
 fn check_next<R: Abort + AllocGlobal, K: Reads>(
     rt: &R,
     stream: &mut K,
@@ -218,7 +219,7 @@ fn check_next<R: Abort + AllocGlobal, K: Reads>(
     }
 }
 
-/// Asserts the frames of a stream, and that its data ends as the row says.
+/// Asserts the frames of a stream, and how its data ends.
 fn check_stream<R: Abort + AllocGlobal, K: Reads>(rt: &R, stream: &mut K, row: &Row) {
     let mut reading = CapsuleReading::new(rt.alloc());
     let mut reader = BufferReader::new(row.1);
@@ -237,7 +238,7 @@ fn requests_are_read(rt: HostRuntime) {
     }
 }
 
-/// Streams of the other end.
+/// Streams recorded from the other end.
 static RESPONSES: [Row; 2] = [
     (
         "aioquic 1.2.0: the response for a session",
@@ -287,8 +288,8 @@ fn responses_are_read(rt: HostRuntime) {
     }
 }
 
-/// Who sent a control stream, its bytes, and the settings that the library knows and those that are
-/// reserved, by rising identifier.
+/// The sender of a control stream, its bytes, and its known and reserved settings, in ascending
+/// order of their identifiers.
 type ControlRow = (&'static str, &'static [u8], &'static [(u64, u64)]);
 
 /// Recorded control streams.
@@ -323,7 +324,7 @@ static SETTINGS: [ControlRow; 3] = [
     ),
 ];
 
-/// The next setting, as numbers.
+/// Returns the next setting as numbers.
 fn next_pair(left: &mut SettingsIter<'_>) -> Option<(u64, u64)> {
     let (id, value) = left.next()?;
     Some((id.id().into_inner(), value.into_inner()))
@@ -344,7 +345,7 @@ fn check_settings<R: Abort + AllocGlobal>(
     check_pairs(rt, settings.iter(), wanted, sender);
 }
 
-/// Asserts that these are the settings, and no others.
+/// Asserts that these are exactly the settings.
 fn check_pairs<R: Abort>(rt: &R, mut left: SettingsIter<'_>, wanted: &[(u64, u64)], sender: &str) {
     for pair in wanted {
         same(rt, next_pair(&mut left), Some(*pair), sender);
@@ -368,18 +369,18 @@ fn settings_are_read(rt: HostRuntime) {
     }
 }
 
-/// Returns the session of a stream.
+/// Returns the session ID of a stream.
 fn session_of(header: &StreamHeader) -> Option<u64> {
     Some(header.session_id()?.into_u64())
 }
 
-/// Returns the type of a unidirectional stream, and its session.
+/// Returns the type and session ID of a unidirectional stream.
 fn type_and_session(header: Option<StreamHeader>) -> Option<(u64, Option<u64>)> {
     let header = header?;
     Some((header.kind().id().into_inner(), session_of(&header)))
 }
 
-/// Asserts the type of a unidirectional stream, and its session.
+/// Asserts the type and session ID of a unidirectional stream.
 fn check_header<R: Abort>(
     rt: &R,
     reader: &mut BufferReader<'_>,
@@ -390,7 +391,7 @@ fn check_header<R: Abort>(
     same(rt, type_and_session(header), Some(wanted), shows);
 }
 
-/// Asserts the header of a unidirectional stream, and how many bytes are after it.
+/// Asserts the header of a unidirectional stream, and the number of bytes after it.
 fn check_opening<R: Abort>(
     rt: &R,
     bytes: &[u8],
@@ -413,7 +414,7 @@ fn unidirectional_streams_are_read(rt: HostRuntime) {
     check_opening(&rt, b"\x02\x20", (0x02, None), 1, shows);
 }
 
-/// Who sent a datagram, its bytes, its quarter stream ID, and the length of its payload.
+/// The sender of a datagram, its bytes, its quarter stream ID, and the length of its payload.
 type DatagramRow = (&'static str, &'static [u8], u64, usize);
 
 /// Recorded datagrams.

@@ -1,4 +1,4 @@
-//! Reading frames by the rule of each state, poll by poll.
+//! Reading frames poll by poll, by the rules of each state.
 use crate::answers::{Answer, CUT, FIN};
 use crate::opened::{control, of_session, opened_here, opened_there};
 use crate::reads::{PollRow, check_source, check_sources};
@@ -13,7 +13,8 @@ const BAD_SESSION: Answer<'static> = Answer::Fault(IoReadError::H3(ErrorCode::Id
 
 const TOO_BIG: Answer<'static> = Answer::Fault(IoReadError::H3(ErrorCode::ExcessiveLoad));
 
-/// A stream that the peer opened: a session may come first, and not after a frame that was read.
+/// A stream that the peer opened. A session frame may come first, but not after a frame that was
+/// read.
 static OPENED_THERE: [PollRow; 10] = [
     (b"\x00\x01a", &[Answer::Frame(0x00, b"a"), FIN], "data"),
     (b"\x01\x01a", &[Answer::Frame(0x01, b"a"), FIN], "headers"),
@@ -58,7 +59,7 @@ fn a_stream_opened_there_keeps_its_rule(rt: HostRuntime) {
     }
 }
 
-/// A stream in both directions that was opened here, or that has its session.
+/// A bidirectional stream that this end opened, or that already belongs to a session.
 static OPENED_HERE: [PollRow; 8] = [
     (b"\x00\x01a", &[Answer::Frame(0x00, b"a"), FIN], "data"),
     (b"\x01\x01a", &[Answer::Frame(0x01, b"a"), FIN], "headers"),

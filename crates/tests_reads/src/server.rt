@@ -1,4 +1,4 @@
-//! A server's first steps over slices: a request is read and answered.
+//! A server's first steps over slices: reading a request and responding to it.
 use crate::same::same;
 use std::alloc::{AllocError, Global};
 use std::process::Abort;
@@ -9,8 +9,8 @@ use wtransport_proto::stream::bilocal::StreamBiLocalQuic;
 use wtransport_proto::stream::biremote::{StreamBiRemoteH3, StreamBiRemoteQuic};
 use wtransport_proto::stream::session::StreamSession;
 
-/// Answers the request in front of the bytes of a stream that the peer opened, and makes the stream
-/// that of its session; `None` where more bytes are needed.
+/// Responds to the request at the start of a stream that the peer opened. Returns the session's
+/// stream, or `None` if more bytes are needed.
 fn serve<R: Abort>(
     rt: &R,
     alloc: Global,
@@ -26,7 +26,7 @@ fn serve<R: Abort>(
     }
 }
 
-/// Answers the request, and makes the stream that of its session.
+/// Responds to the request. Returns the session's stream.
 fn respond<R: Abort>(
     rt: &R,
     alloc: Global,
@@ -55,7 +55,7 @@ fn write_response<R: Abort>(
     stream.write_frame(frame, answer).expect(rt, "memory");
 }
 
-/// The response for a path.
+/// Returns the response for a path.
 fn response_for(alloc: Global, path: &str) -> Result<SessionResponse, AllocError> {
     if path == "/chat" {
         return SessionResponse::ok(alloc);
@@ -63,7 +63,8 @@ fn response_for(alloc: Global, path: &str) -> Result<SessionResponse, AllocError
     SessionResponse::not_found(alloc)
 }
 
-/// The bytes that a client sends for this URL: the frame of the request, on a stream of its own.
+/// Returns the bytes that a client sends for this URL: the frame of the request, on its own
+/// stream.
 fn request_bytes<R: Abort>(rt: &R, alloc: Global, url: &str) -> Vec<u8> {
     let request = SessionRequest::new(alloc, url).expect(rt, "a request");
     let frame = request.headers().generate_frame(alloc).expect(rt, "memory");
@@ -73,12 +74,12 @@ fn request_bytes<R: Abort>(rt: &R, alloc: Global, url: &str) -> Vec<u8> {
     bytes
 }
 
-/// A client's URL, the path that the server sees, and the bytes that answer it: the name `:status`
-/// at index 24 of the static table (RFC 9204, appendix A), 200 in the Huffman code, and 404 plain,
-/// which is as short.
+/// A client's URL, the path that the server receives, and the bytes of the response: the name
+/// `:status` at index 24 of the static table (RFC 9204, appendix A), and 200 in the Huffman code
+/// or 404 without it, which has the same length.
 type AnswerRow = (&'static str, &'static str, &'static [u8]);
 
-/// Requests and their answers.
+/// Requests and their responses.
 static ANSWERS: [AnswerRow; 2] = [
     (
         "https://example.com/chat",
@@ -92,7 +93,7 @@ static ANSWERS: [AnswerRow; 2] = [
     ),
 ];
 
-/// Asserts how the request of a row is answered.
+/// Asserts the response to the request of a row.
 fn check_answer<R: Abort>(rt: &R, alloc: Global, row: &AnswerRow) {
     let (url, path, expected) = *row;
     let bytes = request_bytes(rt, alloc, url);

@@ -1,4 +1,4 @@
-//! What every reading state does over sources that wait, end, are reset or disconnect.
+//! Every reading state, with sources that wait, end, are reset or disconnect.
 use crate::answers::{Answer, CUT, ENDS, FIN, check_answer};
 use crate::opened::{control, of_session, opened_here, opened_there};
 use crate::reads::Reads;
@@ -8,8 +8,8 @@ use wtransport_proto::bytes::IoReadError as Fault;
 use wtransport_proto::frame::{Frame, FrameReading};
 use wtransport_proto::stream::IoReadError;
 
-/// An exercise frame of three bytes, an unknown frame of three, and an empty exercise frame of two,
-/// which every reading state takes.
+/// An exercise frame of three bytes, an unknown frame of three, and an empty exercise frame of
+/// two. Every reading state permits them.
 const BYTES: &[u8] = b"\x21\x01a\x0a\x01x\x21\x00";
 
 const WAIT: Answer<'static> = Answer::Pending;
@@ -20,13 +20,14 @@ const SKIP: Answer<'static> = Answer::Again;
 
 const LAST_FRAME: Answer<'static> = Answer::Frame(0x21, b"");
 
-/// What the polls answer over all bytes. Each byte, and the end, is waited for once.
+/// The results of polling all bytes. The source is not ready once before each byte and once
+/// before its end.
 static ANSWERS: [Answer<'static>; 12] = [
     WAIT, WAIT, WAIT, FRAME, WAIT, WAIT, WAIT, SKIP, WAIT, WAIT, LAST_FRAME, WAIT,
 ];
 
-/// How many of the bytes come, how many of the answers come until the end shows, and whether the
-/// bytes end with a whole frame.
+/// The number of bytes that arrive, the number of results before the end, and whether the bytes
+/// end after a complete frame.
 type Row = (usize, usize, bool);
 
 static ROWS: [Row; 9] = [
@@ -41,7 +42,7 @@ static ROWS: [Row; 9] = [
     (8, 12, true),
 ];
 
-/// What a stream answers at this end of the source, where the bytes end with a whole frame or not.
+/// Returns the last result of a stream with this end, after a complete frame or inside one.
 fn last_answer(end: End, is_whole: bool) -> Answer<'static> {
     match end {
         End::Fin if is_whole => FIN,
@@ -51,7 +52,7 @@ fn last_answer(end: End, is_whole: bool) -> Answer<'static> {
     }
 }
 
-/// The next poll answers this. It is not made again, so `NoMemory` fails the test.
+/// Asserts the result of the next poll. The poll is not repeated, so `NoMemory` fails the test.
 fn check_next<R: Abort, K: Reads>(
     rt: &R,
     stream: &mut K,
@@ -64,7 +65,7 @@ fn check_next<R: Abort, K: Reads>(
     check_answer(rt, &answered, wanted, "bytes come", len);
 }
 
-/// The stream answers one row by the table, and at the end the same again.
+/// Asserts the results for a row, and that the last one repeats.
 fn check_row<R: Abort + AllocGlobal, K: Reads>(rt: &R, stream: &mut K, row: Row, end: End) {
     let (len, polls, is_whole) = row;
     let mut reading = Frame::read_async(rt.alloc());
@@ -78,7 +79,7 @@ fn check_row<R: Abort + AllocGlobal, K: Reads>(rt: &R, stream: &mut K, row: Row,
     check_next(rt, stream, &mut reading, &mut source, &last, len);
 }
 
-/// The stream answers every row by the table, over each end.
+/// Asserts the results for each row and each end.
 fn check_rows<R: Abort + AllocGlobal, K: Reads>(rt: &R, stream: &mut K) {
     for end in &ENDS {
         for row in &ROWS {

@@ -1,4 +1,4 @@
-//! Reading frames from a buffer and from a slice, by the rule of each state.
+//! Reading frames from a buffer and from a slice, by the rules of each state.
 use crate::answers::number_and_payload;
 use crate::opened::{control, of_session, opened_here, opened_there};
 use crate::reads::{Read, Reads};
@@ -7,10 +7,10 @@ use std::process::Abort;
 use wtransport_proto::bytes::BufferReader;
 use wtransport_proto::error::ErrorCode;
 
-/// What one read is to answer: a frame by its type number and payload.
+/// The expected result of one read: a frame by its type and payload.
 type Wanted<'a> = Result<Option<(u64, &'a [u8])>, ErrorCode>;
 
-/// The frame that was read, by its type number and payload.
+/// Returns the frame that was read, by its type and payload.
 fn answer_of<'a>(read: &'a Read<'_>) -> Wanted<'a> {
     match read {
         Ok(Some(frame)) => Ok(Some(number_and_payload(frame))),
@@ -19,7 +19,7 @@ fn answer_of<'a>(read: &'a Read<'_>) -> Wanted<'a> {
     }
 }
 
-/// The next read from the buffer answers this, and the reader is here after it.
+/// Asserts the result of the next read from the buffer, and the offset of the reader after it.
 fn check_buffer<R: Abort, K: Reads>(
     rt: &R,
     stream: &mut K,
@@ -31,7 +31,7 @@ fn check_buffer<R: Abort, K: Reads>(
     same(rt, (answer_of(&read), reader.offset()), wanted, shows);
 }
 
-/// The next read from the slice answers this, and leaves so many bytes.
+/// Asserts the result of the next read from the slice, and the number of bytes left.
 fn check_slice<R: Abort, K: Reads>(
     rt: &R,
     stream: &mut K,
@@ -43,11 +43,11 @@ fn check_slice<R: Abort, K: Reads>(
     same(rt, (answer_of(&read), bytes.len()), wanted, shows);
 }
 
-/// Bytes of a frame, what a read of them answers, where the reader of a buffer is after it, and
-/// what the row shows. Of a slice nothing is left.
+/// The bytes of a frame, the result of reading them, the offset of a buffer's reader after it,
+/// and what the row shows. A slice has no bytes left.
 type ReadRow = (&'static [u8], Wanted<'static>, usize, &'static str);
 
-/// The stream reads the row from a buffer, and then from a slice.
+/// Asserts that the stream reads a row from a buffer, and then from a slice.
 fn check_both<R: Abort, K: Reads>(rt: &R, stream: &mut K, row: &ReadRow) {
     let (mut bytes, wanted, offset, shows) = *row;
     let mut reader = BufferReader::new(bytes);
@@ -55,14 +55,14 @@ fn check_both<R: Abort, K: Reads>(rt: &R, stream: &mut K, row: &ReadRow) {
     check_slice(rt, stream, &mut bytes, (wanted, 0), shows);
 }
 
-/// The stream reads each row.
+/// Asserts that the stream reads each row.
 fn check_rows<R: Abort, K: Reads>(rt: &R, stream: &mut K, rows: &[ReadRow]) {
     for row in rows {
         check_both(rt, stream, row);
     }
 }
 
-/// What is read of a stream in both directions that was opened here, or that has its session.
+/// Reads from a bidirectional stream that this end opened, or that already belongs to a session.
 static OF_BOTH: [ReadRow; 5] = [
     (b"\x00\x01a", Ok(Some((0x00, b"a"))), 3, "data"),
     (b"\x01\x01a", Ok(Some((0x01, b"a"))), 3, "headers"),
@@ -76,7 +76,7 @@ static OF_BOTH: [ReadRow; 5] = [
     (b"\x21\x01a", Ok(Some((0x21, b"a"))), 3, "exercise"),
 ];
 
-/// What is read of a control stream.
+/// Reads from a control stream.
 static OF_CONTROL: [ReadRow; 5] = [
     (b"\x00\x01a", Err(ErrorCode::FrameUnexpected), 0, "data"),
     (b"\x01\x01a", Err(ErrorCode::FrameUnexpected), 0, "headers"),
@@ -90,7 +90,7 @@ static OF_CONTROL: [ReadRow; 5] = [
     (b"\x21\x01a", Ok(Some((0x21, b"a"))), 3, "exercise"),
 ];
 
-/// The largest length that there is.
+/// The largest possible length.
 static LARGEST: [ReadRow; 1] = [(
     b"\x00\xff\xff\xff\xff\xff\xff\xff\xff",
     Err(ErrorCode::ExcessiveLoad),
@@ -116,14 +116,14 @@ fn frames_of_a_control_stream_are_read_by_the_rule(rt: HostRuntime) {
     same(&rt, stream.can_read(), true, "frames may still be read");
 }
 
-/// How many bytes are passed over before a read, what it answers, where the reader is after it, and
-/// what it shows.
+/// The number of bytes that are skipped before a read, its result, the offset of the reader after
+/// it, and what the row shows.
 type Step = (usize, Wanted<'static>, usize, &'static str);
 
-/// The bytes of a buffer, the reads of it, and how many bytes are left.
+/// The bytes of a buffer, its reads, and the number of bytes left.
 type BufferRow = (&'static [u8], &'static [Step], usize);
 
-/// One read of a buffer answers by its row.
+/// Asserts the result of one read from a buffer by its row.
 fn check_step<R: Abort, K: Reads>(
     rt: &R,
     stream: &mut K,
@@ -135,7 +135,7 @@ fn check_step<R: Abort, K: Reads>(
     check_buffer(rt, stream, reader, (wanted, offset), shows);
 }
 
-/// The reads of one buffer, one after the other.
+/// Asserts the results of the reads from one buffer.
 fn check_steps<R: Abort, K: Reads>(rt: &R, stream: &mut K, row: &BufferRow) {
     let (bytes, steps, left) = *row;
     let mut reader = BufferReader::new(bytes);
@@ -145,7 +145,7 @@ fn check_steps<R: Abort, K: Reads>(rt: &R, stream: &mut K, row: &BufferRow) {
     same(rt, reader.capacity(), left, "bytes left");
 }
 
-/// A stream that the peer opened, new for each row.
+/// A stream that the peer opened; each row has a new one.
 static THERE: [BufferRow; 2] = [
     (
         b"\x04\x02\x33\x01\x40\x41\x00",
@@ -172,7 +172,7 @@ fn each_frame_of_a_stream_opened_there_counts(rt: HostRuntime) {
     }
 }
 
-/// Too few bytes and faults, on a stream that was opened here: the reader stays before them.
+/// Too few bytes and errors, on a stream that this end opened. The reader does not move.
 static HERE: [BufferRow; 3] = [
     (
         b"\x0a\x00\x00\x05a",
@@ -199,7 +199,7 @@ fn too_few_bytes_and_faults_stay(rt: HostRuntime) {
     }
 }
 
-/// A control stream: an unknown frame between settings.
+/// A control stream with an unknown frame between SETTINGS frames.
 static BETWEEN: BufferRow = (
     b"\x04\x00\x07\x01\x00\x04\x00",
     &[
@@ -215,10 +215,10 @@ fn an_unknown_frame_between_settings_is_passed_over_whole(rt: HostRuntime) {
     check_steps(&rt, &mut control(&rt), &BETWEEN);
 }
 
-/// What a read answers, the bytes that it leaves, and what the row shows.
+/// The result of a read, the bytes left, and what the row shows.
 type LeftRow = (Wanted<'static>, &'static [u8], &'static str);
 
-/// The next read from the slice answers by the row.
+/// Asserts the result of the next read from the slice by its row.
 fn check_left<R: Abort, K: Reads>(rt: &R, stream: &mut K, bytes: &mut &[u8], row: &LeftRow) {
     let (wanted, left, shows) = *row;
     check_slice(rt, stream, bytes, (wanted, left.len()), shows);

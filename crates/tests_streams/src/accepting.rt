@@ -1,6 +1,6 @@
-//! Accepting a bidirectional stream: what comes first in it decides whether it is a stream of a
-//! session or of a request. What a poll found is dropped by a call of `drop`, since at the end of a
-//! block it is proved for each variant and field.
+//! Accepting a bidirectional stream: its first frame decides whether it belongs to a session or
+//! carries a request. The result of a poll is dropped by a call of `drop`, since a drop at the
+//! end of a block is proved for each variant and field.
 use crate::opened::{front, opened_there, rest, stop_fault};
 use crate::same::same;
 use std::alloc::Global;
@@ -14,11 +14,11 @@ use wtransport_proto::frame::{Frame, FrameOwned, FrameReading};
 use wtransport_proto::stream::biremote::StreamBiRemoteH3;
 use wtransport_proto::stream::{BiAccepted, BiAccepting, IoReadError};
 
-/// What a stream is found to be: one of this session, with no section, or that of a request with
-/// this section; or its fault.
+/// The result of accepting a stream: the session ID of a WebTransport stream, with no section; a
+/// request, with its field section; or the error.
 type Outcome<'a> = Result<(Option<u64>, &'a [u8]), &'a IoReadError>;
 
-/// What was found. Where nothing was, it is what no row wants.
+/// Returns the outcome, or a sentinel that matches no row if the stream was not decided.
 fn outcome_of(accepted: &BiAccepted) -> Outcome<'_> {
     match accepted {
         BiAccepted::WebTransport(stream) => Ok((Some(stream.session_id().into_u64()), &[])),
@@ -28,12 +28,12 @@ fn outcome_of(accepted: &BiAccepted) -> Outcome<'_> {
     }
 }
 
-/// A new stream that the peer opened.
+/// Returns a new stream that the peer opened.
 fn accepting(alloc: Global) -> BiAccepting {
     opened_there().accept_async(Frame::read_async(alloc))
 }
 
-/// Polls until the stream is found to be something, or is at fault.
+/// Polls until the stream is accepted or fails.
 fn poll_on<S: AsyncRead>(mut accepting: BiAccepting, source: &mut S) -> BiAccepted {
     for _turn in 0..100 {
         match accepting.poll(source) {
@@ -46,7 +46,7 @@ fn poll_on<S: AsyncRead>(mut accepting: BiAccepting, source: &mut S) -> BiAccept
     BiAccepted::Pending(accepting)
 }
 
-/// A fault of the stream.
+/// The error for a frame that the stream does not permit.
 const UNEXPECTED: IoReadError = IoReadError::H3(ErrorCode::FrameUnexpected);
 
 const LATE: IoReadError = IoReadError::H3(ErrorCode::Frame);
@@ -59,8 +59,7 @@ const FIN: IoReadError = IoReadError::IO(Fault::ImmediateFin);
 
 const NOTHING: IoReadError = IoReadError::H3(ErrorCode::NoError);
 
-/// The bytes of a stream, what it is found to be, what is left in the source then, and what the row
-/// shows.
+/// The bytes of a stream, the outcome, the bytes then left in the source, and what the row shows.
 type Row = (&'static [u8], Outcome<'static>, &'static [u8], &'static str);
 
 static ROWS: [Row; 21] = [
@@ -157,7 +156,7 @@ static ROWS: [Row; 21] = [
     (b"\x01\x02a", Err(&LATE), b"", "half a request"),
 ];
 
-/// The stream is found to be this.
+/// Asserts the outcome of accepting a stream.
 fn check_found<R: Abort, S: AsyncRead, N: Display + Drop>(
     rt: &R,
     accepting: BiAccepting,
@@ -170,14 +169,14 @@ fn check_found<R: Abort, S: AsyncRead, N: Display + Drop>(
     drop(found);
 }
 
-/// Over the bytes of a row in a slice the stream is found to be what it says.
+/// Asserts the outcome of a row whose bytes are in a slice.
 fn check_slice<R: Abort + AllocGlobal>(rt: &R, row: &Row) {
     let (mut source, outcome, left, shows) = *row;
     check_found(rt, accepting(rt.alloc()), &mut source, outcome, shows);
     same(rt, source, left, shows);
 }
 
-/// The same over bytes that come one by one, each of them late.
+/// Asserts the outcome of a row whose bytes arrive one by one, with a wait before each.
 fn check_trickle<R: Abort + AllocGlobal>(rt: &R, row: &Row) {
     let (bytes, outcome, left, shows) = *row;
     let mut source = OneByteSource::new(bytes, End::Fin);
@@ -185,7 +184,7 @@ fn check_trickle<R: Abort + AllocGlobal>(rt: &R, row: &Row) {
     same(rt, source.rest(), left, shows);
 }
 
-/// The same over a source that gives its bytes in these steps.
+/// Asserts the outcome of a row whose bytes arrive in these steps.
 fn check_steps<R: Abort + AllocGlobal>(rt: &R, steps: &[ReadStep], row: &Row) {
     let (bytes, outcome, left, shows) = *row;
     let mut source = Answers::new(bytes, steps);
@@ -193,20 +192,20 @@ fn check_steps<R: Abort + AllocGlobal>(rt: &R, steps: &[ReadStep], row: &Row) {
     same(rt, source.rest(), left, shows);
 }
 
-/// Two bytes a call, not ready before each; the rest then comes at once.
+/// Two bytes per call, not ready before each call; then the rest at once.
 static BY_TWO: [[ReadStep; 2]; 12] = [[ReadStep::NotReady, ReadStep::Bytes(2)]; 12];
 
-/// Three bytes a call, not ready before each; the rest then comes at once.
+/// Three bytes per call, not ready before each call; then the rest at once.
 static BY_THREE: [[ReadStep; 2]; 12] = [[ReadStep::NotReady, ReadStep::Bytes(3)]; 12];
 
-/// The stream is found to be what the row says, over bytes that are cut in twos and threes.
+/// Asserts the outcome of a row whose bytes arrive in twos and threes.
 fn check_cuts<R: Abort + AllocGlobal>(rt: &R, row: &Row) {
     check_steps(rt, BY_TWO.as_flattened(), row);
     check_steps(rt, BY_THREE.as_flattened(), row);
 }
 
-/// The stream is found to be what each row says, over bytes that are there, that trickle and that
-/// are cut.
+/// Asserts the outcome of each row for bytes that are available at once, arrive one by one, and
+/// arrive in pieces.
 fn check_each<R: Abort + AllocGlobal>(rt: &R, rows: &[Row]) {
     for row in rows {
         check_slice(rt, row);
@@ -220,7 +219,7 @@ fn the_first_frame_decides_however_cut(rt: HostRuntime) {
     check_each(&rt, &ROWS);
 }
 
-/// A state that a poll hands back since it skipped a frame, was not ready, found no memory, or
+/// Returns the state after a poll that skipped a frame, was not ready, ran out of memory, or
 /// failed.
 fn state_of<R: Abort>(rt: &R, accepted: BiAccepted) -> BiAccepting {
     match accepted {
@@ -232,7 +231,7 @@ fn state_of<R: Abort>(rt: &R, accepted: BiAccepted) -> BiAccepting {
     }
 }
 
-/// How often the source was not ready, and how many frames were skipped, or parts of them.
+/// How often the source was not ready, and the number of skipped frames, or parts of frames.
 type Turns = (usize, usize);
 
 /// Polls as `poll_on` does, and counts.
@@ -258,11 +257,11 @@ fn count_turns<S: AsyncRead>(mut accepting: BiAccepting, source: &mut S) -> Turn
     (waits, skipped)
 }
 
-/// Bytes that come one by one and are waited for once each, how many they are, and how many frames
-/// are skipped.
+/// Bytes that arrive one by one with a wait before each, the number of waits and of skipped
+/// frames, and what the row shows.
 type TurnRow = (&'static [u8], Turns, &'static str);
 
-/// What a new stream takes.
+/// The turns of a new stream.
 static TURNS: [TurnRow; 4] = [
     (b"\x40\x41\x04", (3, 0), "a session"),
     (b"\x0a\x02xy\x0b\x00\x40\x41\x04", (9, 2), "unknown frames"),
@@ -270,7 +269,7 @@ static TURNS: [TurnRow; 4] = [
     (b"\x21\x00\x00\x00", (4, 1), "data"),
 ];
 
-/// Over a source of these bytes, one by one and each of them late, a new stream takes these turns.
+/// Asserts the turns of a new stream whose bytes arrive one by one, with a wait before each.
 fn check_turns<R: Abort + AllocGlobal>(rt: &R, row: &TurnRow) {
     let (bytes, wanted, shows) = *row;
     let mut source = OneByteSource::new(bytes, End::Fin);
@@ -285,7 +284,7 @@ fn each_poll_takes_one_frame(rt: HostRuntime) {
     }
 }
 
-/// An unknown frame of 8192 bytes, and the frame of a session.
+/// An unknown frame of 8192 bytes, followed by a session frame.
 #[test]
 fn a_long_unknown_frame_is_skipped_in_parts(rt: HostRuntime) {
     let mut bytes = Vec::from_slice(rt.alloc(), &[0x0a, 0x60, 0x00]).expect(&rt, "memory");
@@ -298,7 +297,7 @@ fn a_long_unknown_frame_is_skipped_in_parts(rt: HostRuntime) {
     same(&rt, source, b"rest".as_slice(), "bytes left");
 }
 
-/// The stream fails with this fault, and is handed back.
+/// Asserts that the stream fails with this error. Returns its state.
 fn check_fault<R: Abort, S: AsyncRead>(
     rt: &R,
     accepting: BiAccepting,
@@ -311,11 +310,12 @@ fn check_fault<R: Abort, S: AsyncRead>(
     state_of(rt, found)
 }
 
-/// The frame of session 4, and a byte after it.
+/// The frame of session 4, followed by a byte.
 const SESSION_4: &[u8] = b"\x40\x41\x04a";
 
-/// The first so many of its bytes, each of them late, and then this end, twice; then the others,
-/// and what follows them.
+/// Asserts the error after the first `len` bytes, with a wait before each, and this end, twice.
+/// Then asserts that the stream is accepted with the remaining bytes, and that the byte after the
+/// frame is left.
 fn check_stop<R: Abort + AllocGlobal>(rt: &R, len: usize, end: End) {
     let mut source = OneByteSource::new(front(SESSION_4, len), end);
     let fault = stop_fault(len, end);
@@ -326,7 +326,7 @@ fn check_stop<R: Abort + AllocGlobal>(rt: &R, len: usize, end: End) {
     same(rt, source, b"a".as_slice(), len);
 }
 
-/// Every ending of a source.
+/// All endings of a source.
 static ENDS: [End; 3] = End::EACH;
 
 #[test]
@@ -338,7 +338,7 @@ fn a_second_source_goes_on(rt: HostRuntime) {
     }
 }
 
-/// A reserved frame was read by the stream's own call, before it is accepted.
+/// The stream's own call reads a reserved frame before it is accepted.
 #[test]
 fn frames_read_before_count(rt: HostRuntime) {
     let mut stream = opened_there();
@@ -349,7 +349,7 @@ fn frames_read_before_count(rt: HostRuntime) {
     check_found(&rt, accepting, &mut source, Err(&LATE), "late");
 }
 
-/// Half a type was read by the stream's own call, before it is accepted.
+/// The stream's own call reads half a frame type before it is accepted.
 #[test]
 fn bytes_held_before_count(rt: HostRuntime) {
     let mut stream = opened_there();
@@ -360,10 +360,11 @@ fn bytes_held_before_count(rt: HostRuntime) {
     check_found(&rt, accepting, &mut source, Ok((Some(4), b"")), "held");
 }
 
-/// A reserved frame, and a HEADERS frame of 48 bytes and a byte after it.
+/// A reserved frame, a HEADERS frame of 48 bytes, and a byte after it.
 const LONG: &[u8] = b"\x21\x00\x01\x30aaaaaaaabbbbbbbbccccccccddddddddeeeeeeeeffffffff\x07";
 
-/// Polls on; where memory for the request was refused, its head is held, and a second poll goes on.
+/// Polls once, and again if allocation for the request failed. The frame header is kept in
+/// between.
 fn poll_again<R: Abort>(rt: &R, state: BiAccepting, source: &mut &[u8]) -> BiAccepted {
     match state.poll(source) {
         BiAccepted::NoMemory(state) => {
@@ -390,7 +391,7 @@ fn refused_memory_leaves_the_request(rt: HostRuntime) {
     drop(found);
 }
 
-/// The stream of a request, and what reads on from it.
+/// Returns the stream of a request, and its frame reader.
 fn request_of<R: Abort>(rt: &R, found: BiAccepted) -> (StreamBiRemoteH3, FrameReading) {
     match found {
         BiAccepted::Request(stream, reading, frame) => {
@@ -401,10 +402,10 @@ fn request_of<R: Abort>(rt: &R, found: BiAccepted) -> (StreamBiRemoteH3, FrameRe
     }
 }
 
-/// The answer of one poll for a frame.
+/// The result of one poll for a frame.
 type PollAnswer = Polled<Result<FrameOwned, IoReadError>>;
 
-/// Polls for the next frame; where memory for it was refused, once more.
+/// Polls for the next frame, again if allocation failed.
 fn read_again(
     stream: &mut StreamBiRemoteH3,
     reading: &mut FrameReading,

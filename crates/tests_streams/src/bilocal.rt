@@ -1,4 +1,4 @@
-//! Streams in both directions that this end opened.
+//! Bidirectional streams that this end opened.
 use crate::opened::{front, opened_here, session_of_stream};
 use crate::same::same;
 use std::borrow::CowSlice;
@@ -8,11 +8,11 @@ use wtransport_proto::frame::Frame;
 use wtransport_proto::ids::SessionId;
 use wtransport_proto::stream::bilocal::{StreamBiLocalH3, StreamBiLocalWT};
 
-/// A data frame of one byte.
+/// A DATA frame of one byte.
 const DATA: &[u8] = b"\x00\x01a";
 
-/// A data frame of one byte is written to this room: the answer, what is written, and whether the
-/// stream can be upgraded.
+/// Asserts the result of writing a DATA frame of one byte with this much room, the bytes that are
+/// written, and whether the stream can then be upgraded.
 fn check_put<R: Abort>(
     rt: &R,
     stream: &mut StreamBiLocalH3,
@@ -35,7 +35,7 @@ fn a_frame_that_was_written_ends_upgrading(rt: HostRuntime) {
     check_put(&rt, &mut stream, &mut [0; 3], wanted, "room for all");
 }
 
-/// A headers frame of no byte.
+/// An empty HEADERS frame.
 const HEADERS: &[u8] = &[0x01, 0x00];
 
 #[test]
@@ -64,7 +64,7 @@ fn a_frame_that_was_written_whole_ends_upgrading(rt: HostRuntime) {
 /// The frame of session 0.
 const FRAME_0: &[u8] = &[0x40, 0x41, 0x00];
 
-/// The stream is handed back where there is too little room for its session frame.
+/// The stream is returned if there is too little room for its session frame.
 #[test]
 fn it_is_upgraded_where_there_is_room(rt: HostRuntime) {
     let session = session_of_stream(&rt, 0);
@@ -87,7 +87,7 @@ fn it_is_upgraded_where_there_is_room(rt: HostRuntime) {
 /// The frame of session 64.
 const FRAME_64: &[u8] = &[0x40, 0x41, 0x40, 0x40];
 
-/// Whether the bytes are whole parts of the frame of a session: none, or its type number.
+/// Returns whether the bytes are complete parts of a session frame: nothing, or its type.
 fn are_parts(written: &[u8]) -> bool {
     match written {
         [] | [0x40, 0x41] => true,
@@ -95,7 +95,7 @@ fn are_parts(written: &[u8]) -> bool {
     }
 }
 
-/// Upgrades the stream into the vector; where allocation failed, once more.
+/// Upgrades the stream into the vector, again if allocation failed.
 fn upgrade_again<R: Abort>(rt: &R, session: SessionId, vector: &mut Vec<u8>) -> StreamBiLocalWT {
     match opened_here().upgrade(session, vector) {
         Ok(stream) => stream,

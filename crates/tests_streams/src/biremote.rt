@@ -1,11 +1,11 @@
-//! Streams in both directions that the peer opened.
+//! Bidirectional streams that the peer opened.
 use crate::opened::{opened_there, session_of_stream};
 use crate::same::same;
 use std::borrow::CowSlice;
 use wtransport_proto::bytes::{BufferReader, BufferWriter, EndOfBuffer};
 use wtransport_proto::frame::{Frame, FrameKind};
 
-/// A data frame of the bytes `abc`.
+/// A DATA frame with the payload `abc`.
 const WIRE: &[u8] = b"\x00\x03abc";
 
 #[test]

@@ -1,5 +1,5 @@
-//! Streams of each kind: opened, accepted, upgraded and written, whole and poll by poll. What is
-//! read of them is in `tests_reads`. There is no product code here.
+//! Streams of each kind: opening, accepting, upgrading and writing them, from a buffer and poll
+//! by poll. Reading from them is tested in `tests_reads`. There is no product code here.
 #![tactic(auto)]
 
 #[cfg(test)]

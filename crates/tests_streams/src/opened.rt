@@ -1,5 +1,4 @@
-//! Streams of which nothing was read or written yet, a session, and the fault of a stream that
-//! stops.
+//! New streams, a session, and the error of a stream that stops.
 ghost use Rattle.std.specs.Prelude.{IsTrue};
 ghost use Rattle.wtransport_proto.specs.Streams.{can_upgrade};
 
@@ -16,18 +15,18 @@ use wtransport_proto::stream::biremote::{StreamBiRemoteH3, StreamBiRemoteQuic};
 use wtransport_proto::stream::session::StreamSession;
 use wtransport_proto::varint::VarInt;
 
-/// The first so many of these bytes.
+/// Returns the first `len` bytes.
 pub(crate) fn front(bytes: &[u8], len: usize) -> &[u8] {
     bytes.get(..len).unwrap_or(&[])
 }
 
-/// What follows the first so many of these bytes.
+/// Returns the bytes after the first `len`.
 pub(crate) fn rest(bytes: &[u8], len: usize) -> &[u8] {
     bytes.get(len..).unwrap_or(&[])
 }
 
-/// The fault of a stream after the first so many bytes of a header or a frame, which are too few
-/// and end so.
+/// Returns the error of a stream that ends after the first `len` bytes of a header or frame, if
+/// these are too few.
 pub(crate) fn stop_fault(len: usize, end: End) -> IoReadError {
     match (len, end) {
         (0, End::Fin) => IoReadError::IO(Fault::ImmediateFin),
@@ -37,30 +36,30 @@ pub(crate) fn stop_fault(len: usize, end: End) -> IoReadError {
     }
 }
 
-/// The session of this stream.
+/// Returns the session ID with this stream ID.
 pub(crate) fn session_of_stream<R: Abort>(rt: &R, id: u32) -> SessionId {
     let stream = StreamId::new(VarInt::from_u32(id));
     SessionId::try_from_session_stream(stream).expect(rt, "a session")
 }
 
-/// The session of stream 4.
+/// Returns the session ID 4.
 pub(crate) fn session_4<R: Abort>(rt: &R) -> SessionId {
     session_of_stream(rt, 4)
 }
 
-/// A stream in both directions that the peer opened.
+/// Returns a bidirectional stream that the peer opened.
 pub(crate) fn opened_there() -> StreamBiRemoteH3 {
     StreamBiRemoteQuic::accept_bi().upgrade()
 }
 
-/// A stream in both directions that this end opened.
+/// Returns a bidirectional stream that this end opened.
 pub(crate) fn opened_here() -> StreamBiLocalH3
     ensures { IsTrue (can_upgrade result) }
 {
     StreamBiLocalQuic::open_bi().upgrade()
 }
 
-/// The stream of a session, opened at this end.
+/// Returns the stream of a session that this end opened.
 pub(crate) fn open_session(alloc: Global) -> Result<StreamSession, UrlParseError> {
     let request = SessionRequest::new(alloc, "https://example.com/a?b")?;
     Ok(opened_here().into_session(request))

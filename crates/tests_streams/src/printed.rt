@@ -1,4 +1,4 @@
-//! What streams, upgrades and their answers print for debugging.
+//! Debug output of streams, upgrades and their results.
 use crate::opened::{opened_here, opened_there, session_4};
 use crate::same::same;
 use std::fmt::Debug;
@@ -11,7 +11,7 @@ use wtransport_proto::stream::bilocal::StreamBiLocalQuic;
 use wtransport_proto::stream::unilocal::StreamUniLocalQuic;
 use wtransport_proto::stream::uniremote::StreamUniRemoteQuic;
 
-/// It prints this for debugging.
+/// Asserts the debug output of a value.
 fn check_printed<R: Abort + AllocGlobal, T: Debug>(rt: &R, value: &T, wanted: &str) {
     let text = format!(in rt.alloc(); "{value:?}").expect(rt, "memory");
     same(rt, text.as_str(), wanted, "printed");

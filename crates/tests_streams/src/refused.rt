@@ -1,4 +1,4 @@
-//! What every writing state does into a vector whose allocation fails.
+//! Writing frames from each writing state into a vector whose allocation fails.
 use crate::opened::{front, open_session, opened_here, opened_there, rest};
 use crate::same::same;
 use std::alloc::Global;
@@ -17,7 +17,7 @@ use wtransport_proto::stream_header::{StreamHeader, StreamKind};
 /// The payload of the frame that is written.
 static PAYLOAD: [u8; 100] = [9; 100];
 
-/// A writing state, which puts a data frame of these 100 bytes by its own call.
+/// A writing state that writes a DATA frame of these 100 bytes by its own call.
 trait Writes {
     fn write(&mut self, out: &mut Vec<u8>) -> Result<(), PutError>;
 }
@@ -49,7 +49,8 @@ impl Writes for StreamUniLocalH3 {
     }
 }
 
-/// Whether the bytes are the first parts of the frame: its type number and its length.
+/// Returns whether the bytes are the first parts of the frame: nothing, its type, or its type and
+/// length.
 fn are_parts(written: &[u8]) -> bool {
     match written {
         [] | [0x00] | [0x00, 0x40, 0x64] => true,
@@ -57,11 +58,11 @@ fn are_parts(written: &[u8]) -> bool {
     }
 }
 
-/// The type number of the frame, and its length.
+/// The type and length of the frame.
 const HEAD: &[u8] = &[0x00, 0x40, 0x64];
 
-/// The state writes its frame into a vector; where memory was refused, whole parts of the frame are
-/// there, and the frame is written anew.
+/// Asserts that the state writes its frame into a vector. If allocation failed, asserts that
+/// complete parts of the frame were written, and writes the frame again.
 fn check_refused<R: Abort + AllocGlobal, K: Writes>(rt: &R, stream: &mut K) {
     let mut out = Vec::new(rt.alloc());
     if let Err(error) = stream.write(&mut out) {
@@ -79,8 +80,8 @@ fn refused_memory_writes_whole_parts_to_a_stream_opened_there(rt: HostRuntime) {
     check_refused(&rt, &mut opened_there());
 }
 
-/// The stream writes its frame; where memory was refused, it can still be upgraded, and writes its
-/// frame anew.
+/// Asserts that the stream writes its frame. If allocation failed, asserts that the stream can
+/// still be upgraded, and writes the frame again.
 fn check_left<R: Abort + AllocGlobal>(rt: &R, stream: &mut StreamBiLocalH3) {
     let mut out = Vec::new(rt.alloc());
     match stream.write(&mut out) {
@@ -101,7 +102,7 @@ fn refused_memory_leaves_a_stream_opened_here(rt: HostRuntime) {
     check_refused(&rt, &mut stream);
 }
 
-/// The stream of a session; where it was refused, another.
+/// Returns the stream of a session, created again if allocation failed.
 fn session_again(alloc: Global) -> Result<StreamSession, UrlParseError> {
     match open_session(alloc) {
         Ok(stream) => Ok(stream),

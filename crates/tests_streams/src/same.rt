@@ -2,8 +2,8 @@
 use std::fmt::{Debug, Display};
 use std::process::Abort;
 
-/// Asserts that what came is what was wanted. If it is not, the message says what the row shows,
-/// what came and what was wanted.
+/// Asserts that `came` equals `wanted`. A failure message gives what the row shows and both
+/// values.
 pub(crate) fn same<R: Abort, T: PartialEq + Debug + Drop, S: Display + Drop>(
     rt: &R,
     came: T,

@@ -1,4 +1,4 @@
-//! Streams that carry the request for a session.
+//! Streams that carry a session request.
 use crate::opened::{front, open_session, opened_there};
 use crate::same::same;
 use std::borrow::CowSlice;
@@ -22,11 +22,12 @@ fn it_keeps_its_request(rt: HostRuntime) {
     drop(stream);
 }
 
-/// What is written when the third frame has no room: the first frame, and a type number.
+/// The output if there is no room for the third frame: the first frame, and the type of the
+/// third.
 const WRITTEN: &[u8] = b"\x00\x01a\x01";
 
-/// Two data frames are written whole, of which the second has no room, and a headers frame is
-/// written in parts, of which one has room.
+/// Two DATA frames are written completely or not at all, and the second does not fit. A HEADERS
+/// frame is written in parts, one of which fits.
 #[test]
 fn frames_are_written(rt: HostRuntime) {
     let stream = open_session(rt.alloc()).expect(&rt, "memory");

@@ -1,4 +1,4 @@
-//! Upgrading streams, poll by poll.
+//! Upgrading streams poll by poll.
 use crate::opened::{front, opened_here, rest, session_4, stop_fault};
 use crate::same::same;
 use std::fmt::Display;
@@ -13,7 +13,7 @@ use wtransport_proto::stream::uniremote::StreamUniRemoteQuic;
 use wtransport_proto::stream::{BiUpgrading, IoReadError, UniAccepting, UniUpgrading};
 use wtransport_proto::stream_header::{StreamHeader, StreamKind};
 
-/// The state, handed back since its source or sink was not ready.
+/// Returns the state after a poll whose source or sink was not ready.
 fn take_pending<R: Abort, P: Drop, T: Drop, E: Drop>(rt: &R, stepped: Stepped<P, T, E>) -> P {
     match stepped {
         Stepped::Pending(state) => state,
@@ -21,7 +21,7 @@ fn take_pending<R: Abort, P: Drop, T: Drop, E: Drop>(rt: &R, stepped: Stepped<P,
     }
 }
 
-/// The state, handed back since it failed, and the fault.
+/// Returns the state and the error after a poll that failed.
 fn take_failed<R: Abort, P: Drop, T: Drop, E: Drop>(rt: &R, stepped: Stepped<P, T, E>) -> (P, E) {
     match stepped {
         Stepped::Failed(state, fault) => (state, fault),
@@ -29,7 +29,7 @@ fn take_failed<R: Abort, P: Drop, T: Drop, E: Drop>(rt: &R, stepped: Stepped<P, 
     }
 }
 
-/// What the state was to make.
+/// Returns the result of a completed upgrade.
 fn take_result<R: Abort, P: Drop, T: Drop, E: Drop>(rt: &R, stepped: Stepped<P, T, E>) -> T {
     match stepped {
         Stepped::Done(made) => made,
@@ -37,7 +37,7 @@ fn take_result<R: Abort, P: Drop, T: Drop, E: Drop>(rt: &R, stepped: Stepped<P, 
     }
 }
 
-/// Polls into the vector until it is done; twice, where allocation failed.
+/// Polls into the vector until the upgrade is complete, again if allocation failed.
 fn make_session<R: Abort>(rt: &R, upgrading: BiUpgrading, vector: &mut Vec<u8>) -> StreamBiLocalWT {
     match upgrading.poll(vector) {
         Stepped::NoMemory(upgrading) => take_result(rt, upgrading.poll(vector)),
@@ -45,7 +45,8 @@ fn make_session<R: Abort>(rt: &R, upgrading: BiUpgrading, vector: &mut Vec<u8>) 
     }
 }
 
-/// The state failed since its sink stopped, which took these bytes.
+/// Asserts that the upgrade failed because its sink stopped, and that the sink accepted these
+/// bytes.
 fn check_stopped<R: Abort, P: Drop, T: Drop>(
     rt: &R,
     stepped: Stepped<P, T, IoWriteError>,
@@ -58,7 +59,7 @@ fn check_stopped<R: Abort, P: Drop, T: Drop>(
     state
 }
 
-/// These bytes go to a vector, and the stream of session 4 is made.
+/// Asserts that these bytes are written to a vector, and that the stream of session 4 is created.
 fn check_session_made<R: Abort + AllocGlobal>(rt: &R, upgrading: BiUpgrading, wire: &'static [u8]) {
     let mut vector = Vec::new(rt.alloc());
     let stream = make_session(rt, upgrading, &mut vector);
@@ -72,12 +73,13 @@ const SESSION_FRAME: &[u8] = &[0x40, 0x41, 0x04];
 /// The header of session 4.
 const HEADER: &[u8] = &[0x40, 0x54, 0x04];
 
-/// The frame of session 4 on its way to a new stream.
+/// Returns an upgrade that writes the frame of session 4 to a new stream.
 fn session_frame_4<R: Abort>(rt: &R) -> BiUpgrading {
     opened_here().upgrade_async(session_4(rt))
 }
 
-/// Of the frame of session 4 so many bytes go to a sink that stops, and the others elsewhere.
+/// Asserts that the upgrade writes `room` bytes of the frame of session 4 to a sink that then
+/// stops, and the remaining bytes to another sink.
 fn check_bi_stop<R: Abort + AllocGlobal>(rt: &R, room: usize) {
     let mut sink = ScriptedSink::new(rt.alloc(), stops_after(room));
     let stepped = session_frame_4(rt).poll(&mut sink);
@@ -92,7 +94,7 @@ fn a_session_frame_goes_on_elsewhere(rt: HostRuntime) {
     }
 }
 
-/// Not ready, two bytes, not ready, a loss; then it takes all.
+/// Not ready, two bytes, not ready, disconnected; then the sink accepts everything.
 static HALTS: [WriteStep; 4] = [
     WriteStep::NotReady,
     WriteStep::Bytes(2),
@@ -118,7 +120,7 @@ fn refused_memory_hands_back_the_session_frame(rt: HostRuntime) {
     check_session_made(&rt, session_frame_4(&rt), SESSION_FRAME);
 }
 
-/// Polls into the vector until it is done; twice, where allocation failed.
+/// Polls into the vector until the header is written, again if allocation failed.
 fn write_header<R: Abort>(
     rt: &R,
     upgrading: UniUpgrading,
@@ -130,10 +132,10 @@ fn write_header<R: Abort>(
     }
 }
 
-/// What a stream in one direction is: its kind, and its session.
+/// The kind and session ID of a unidirectional stream.
 type Made = (StreamKind, Option<SessionId>);
 
-/// These bytes go to a vector, and such a stream is made.
+/// Asserts that these bytes are written to a vector, and that this stream is created.
 fn check_header_made<R: Abort + AllocGlobal>(
     rt: &R,
     upgrading: UniUpgrading,
@@ -147,18 +149,19 @@ fn check_header_made<R: Abort + AllocGlobal>(
     same(rt, came, wanted, wire.len());
 }
 
-/// The header of session 4 on its way to a new stream.
+/// Returns an upgrade that writes the header of session 4 to a new stream.
 fn header_4<R: Abort>(rt: &R) -> UniUpgrading {
     let header = StreamHeader::new_webtransport(session_4(rt));
     StreamUniLocalQuic::open_uni().upgrade_async(header)
 }
 
-/// A stream of session 4.
+/// Returns the kind and session ID of a stream of session 4.
 fn made_4<R: Abort>(rt: &R) -> Made {
     (StreamKind::WebTransport, Some(session_4(rt)))
 }
 
-/// Of the header of session 4 so many bytes go to a sink that stops, and the others elsewhere.
+/// Asserts that the upgrade writes `room` bytes of the header of session 4 to a sink that then
+/// stops, and the remaining bytes to another sink.
 fn check_uni_stop<R: Abort + AllocGlobal>(rt: &R, room: usize) {
     let mut sink = ScriptedSink::new(rt.alloc(), stops_after(room));
     let stepped = header_4(rt).poll(&mut sink);
@@ -192,7 +195,7 @@ fn refused_memory_hands_back_the_header(rt: HostRuntime) {
     check_header_made(&rt, upgrading, &[0x00], (StreamKind::Control, None));
 }
 
-/// The stream fails with this fault, and is handed back.
+/// Asserts that the stream fails with this error. Returns its state.
 fn check_failed<R: Abort, S: AsyncRead>(
     rt: &R,
     accepting: UniAccepting,
@@ -204,7 +207,7 @@ fn check_failed<R: Abort, S: AsyncRead>(
     accepting
 }
 
-/// The next poll makes such a stream.
+/// Asserts that the next poll creates this stream.
 fn check_accepted<R: Abort, N: Display + Drop>(
     rt: &R,
     accepting: UniAccepting,
@@ -216,10 +219,10 @@ fn check_accepted<R: Abort, N: Display + Drop>(
     same(rt, (stream.kind(), stream.session_id()), wanted, shows);
 }
 
-/// The bytes of a header and an end, the fault that refuses them, and what the row shows.
+/// The bytes of a header and its end, the error, and what the row shows.
 type FaultRow = (&'static [u8], IoReadError, &'static str);
 
-/// Headers that are refused.
+/// Headers that are rejected.
 static FAULTS: [FaultRow; 4] = [
     (b"", IoReadError::IO(Fault::ImmediateFin), "nothing"),
     (b"\x40\x54", IoReadError::H3(ErrorCode::Frame), "cut"),
@@ -235,7 +238,7 @@ static FAULTS: [FaultRow; 4] = [
     ),
 ];
 
-/// The header of the row is refused so, and no byte is left.
+/// Asserts that the header of a row is rejected with its error, and that no byte is left.
 fn check_refusal<R: Abort>(rt: &R, row: &FaultRow) {
     let (bytes, fault, shows) = row;
     let mut source = *bytes;
@@ -270,8 +273,8 @@ fn a_cut_header_is_accepted_from_a_second_source(rt: HostRuntime) {
     check_accepted(&rt, accepting, &mut rest(HEADER, 2), wanted, "a session");
 }
 
-/// The first so many bytes of the header of session 4, each of them late, as their end is, where
-/// the stream fails twice; then the others.
+/// Asserts the error after the first `len` bytes of the header of session 4, with a wait before
+/// each and before the end, twice. Then asserts that the header is read with the remaining bytes.
 fn check_header_stop<R: Abort>(rt: &R, len: usize, end: End) {
     let mut source = OneByteSource::new(front(HEADER, len), end);
     let mut accepting = StreamUniRemoteQuic::accept_uni().upgrade_async();
@@ -283,7 +286,7 @@ fn check_header_stop<R: Abort>(rt: &R, len: usize, end: End) {
     check_accepted(rt, accepting, &mut rest(HEADER, len), made_4(rt), len);
 }
 
-/// Every ending of a source.
+/// All endings of a source.
 static ENDS: [End; 3] = End::EACH;
 
 #[test]

@@ -1,4 +1,4 @@
-//! Streams in one direction that this end opened.
+//! Unidirectional streams that this end opened.
 use crate::opened::{front, session_4, session_of_stream};
 use crate::same::same;
 use std::borrow::CowSlice;
@@ -8,10 +8,10 @@ use wtransport_proto::frame::Frame;
 use wtransport_proto::stream::unilocal::{StreamUniLocalH3, StreamUniLocalQuic};
 use wtransport_proto::stream_header::{StreamHeader, StreamKind};
 
-/// A control stream: its type, and two empty settings frames.
+/// A control stream: its type, and two empty SETTINGS frames.
 const CONTROL: &[u8] = &[0x00, 0x04, 0x00, 0x04, 0x00];
 
-/// Settings are written in parts and whole, where there is room for two empty ones.
+/// Settings are written in parts and completely, if there is room for two empty SETTINGS frames.
 #[test]
 fn a_control_stream_writes_settings(rt: HostRuntime) {
     let header = StreamHeader::new_control();
@@ -46,7 +46,7 @@ fn a_control_stream_writes_settings(rt: HostRuntime) {
 /// The header of session 4.
 const HEADER: &[u8] = &[0x40, 0x54, 0x04];
 
-/// The stream is handed back where there is too little room for its header.
+/// The stream is returned if there is too little room for its header.
 #[test]
 fn it_is_upgraded_where_there_is_room(rt: HostRuntime) {
     let session = session_4(&rt);
@@ -75,7 +75,7 @@ fn it_is_upgraded_where_there_is_room(rt: HostRuntime) {
 /// The header of session 64.
 const HEADER_64: &[u8] = &[0x40, 0x54, 0x40, 0x40];
 
-/// Whether the bytes are whole parts of the header of a session: none, or its type.
+/// Returns whether the bytes are complete parts of the header of a session: nothing, or its type.
 fn are_parts(written: &[u8]) -> bool {
     match written {
         [] | [0x40, 0x54] => true,
@@ -83,7 +83,7 @@ fn are_parts(written: &[u8]) -> bool {
     }
 }
 
-/// Upgrades a stream into the vector; where allocation failed, once more.
+/// Upgrades a stream into the vector, again if allocation failed.
 fn upgrade_again<R: Abort>(rt: &R, header: StreamHeader, vector: &mut Vec<u8>) -> StreamUniLocalH3 {
     match StreamUniLocalQuic::open_uni().upgrade(header, vector) {
         Ok(stream) => stream,

@@ -1,4 +1,4 @@
-//! Streams in one direction that the peer opened.
+//! Unidirectional streams that the peer opened.
 use crate::opened::session_4;
 use crate::same::same;
 use std::process::Abort;
@@ -8,7 +8,7 @@ use wtransport_proto::stream::uniremote::{MaybeUpgradeH3, StreamUniRemoteH3, Str
 use wtransport_proto::stream_header::StreamKind;
 use wtransport_proto::varint::VarInt;
 
-/// The stream whose header is read from the front of the bytes.
+/// Returns the stream whose header is at the start of the bytes.
 fn read_header<R: Abort>(
     rt: &R,
     stream: StreamUniRemoteQuic,
@@ -20,10 +20,10 @@ fn read_header<R: Abort>(
     }
 }
 
-/// A stream's kind, its session, and whether frames may be read.
+/// The kind of a stream, its session ID, and whether frames may be read from it.
 type Summary = (StreamKind, Option<SessionId>, bool);
 
-/// From the bytes such a stream is made, and these are left.
+/// Asserts that the bytes start with the header of this stream, and which bytes are left.
 fn check_header<R: Abort>(rt: &R, mut bytes: &[u8], wanted: Summary, left: &[u8], shows: &str) {
     let stream = read_header(rt, StreamUniRemoteQuic::accept_uni(), &mut bytes);
     let came = (stream.kind(), stream.session_id(), stream.can_read());
@@ -45,8 +45,8 @@ fn headers_are_read(rt: HostRuntime) {
     check_header(&rt, b"\x21", exercise, b"", "exercise");
 }
 
-/// The stream is handed back, since the bytes are too few for a header, and so many of them are
-/// left; then a whole header is read.
+/// Asserts that the stream is returned if there are too few bytes for a header, and the number of
+/// bytes left. Then reads a complete header.
 fn check_cut<R: Abort>(rt: &R, mut bytes: &[u8], left: usize) {
     let Ok(MaybeUpgradeH3::Quic(stream)) = StreamUniRemoteQuic::accept_uni().upgrade(&mut bytes)
     else {
@@ -64,10 +64,10 @@ fn a_cut_header_is_read_on(rt: HostRuntime) {
     check_cut(&rt, b"\x40\x54", 0);
 }
 
-/// The bytes of a header, what refuses it, and what the row shows.
+/// The bytes of a header, the error code, and what the row shows.
 type FaultRow = (&'static [u8], ErrorCode, &'static str);
 
-/// Headers that are refused.
+/// Headers that are rejected.
 static FAULTS: [FaultRow; 3] = [
     (b"\x40\x54\x01", ErrorCode::Id, "no session"),
     (b"\x40\x42", ErrorCode::StreamCreation, "an unknown type"),
@@ -78,7 +78,7 @@ static FAULTS: [FaultRow; 3] = [
     ),
 ];
 
-/// The header of the row is refused so, and no byte is left.
+/// Asserts that the header of a row is rejected with its error code, and that no byte is left.
 fn check_refusal<R: Abort>(rt: &R, row: &FaultRow) {
     let (mut bytes, code, shows) = *row;
     let answer = StreamUniRemoteQuic::accept_uni().upgrade(&mut bytes);

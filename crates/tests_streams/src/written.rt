@@ -1,5 +1,5 @@
-//! Writing frames to streams, poll by poll and in a loop. What each poll requires holds after the
-//! one before it, so a struct keeps it.
+//! Writing frames to streams, poll by poll and in a loop. A struct preserves the precondition of
+//! each poll.
 ghost use Rattle.wtransport_proto.specs.StreamWriting.{WritesPlain};
 ghost use Rattle.wtransport_proto.specs.Streams.{CanWrite};
 
@@ -17,17 +17,17 @@ use wtransport_proto::stream::session::StreamSession;
 use wtransport_proto::stream::unilocal::{StreamUniLocalH3, StreamUniLocalQuic};
 use wtransport_proto::stream_header::StreamHeader;
 
-/// The answer of one poll.
+/// The result of one poll.
 type SendAnswer = Polled<Result<(), IoWriteError>>;
 
 const DONE: SendAnswer = Polled::Ready(Ok(()));
 
-/// A frame on its way to a stream, which writes it by its own call.
+/// A frame that is being written to a stream by the stream's own call.
 trait Sends {
     fn send<W: AsyncWrite>(&mut self, sink: &mut W) -> SendAnswer;
 }
 
-/// A frame on its way to a stream in both directions that this end opened.
+/// A frame that is being written to a bidirectional stream that this end opened.
 #[derive(Drop)]
 struct ToBoth<'a> {
     stream: StreamBiLocalH3,
@@ -41,7 +41,7 @@ impl Sends for ToBoth<'_> {
     }
 }
 
-/// A frame on its way to a stream in one direction.
+/// A frame that is being written to a unidirectional stream.
 #[derive(Drop)]
 struct ToOne<'a> {
     stream: StreamUniLocalH3,
@@ -55,7 +55,7 @@ impl Sends for ToOne<'_> {
     }
 }
 
-/// A frame on its way to a stream in both directions that the peer opened.
+/// A frame that is being written to a bidirectional stream that the peer opened.
 #[derive(Drop)]
 struct ToPeer<'a> {
     stream: StreamBiRemoteH3,
@@ -68,7 +68,7 @@ impl Sends for ToPeer<'_> {
     }
 }
 
-/// A frame on its way to the stream of a session.
+/// A frame that is being written to the stream of a session.
 #[derive(Drop)]
 struct ToSession<'a> {
     stream: StreamSession,
@@ -81,7 +81,7 @@ impl Sends for ToSession<'_> {
     }
 }
 
-/// Sends the frame; where allocation failed, a second poll sends it on.
+/// Polls once, and again if allocation failed.
 fn send_again<K: Sends, W: AsyncWrite>(sending: &mut K, sink: &mut W) -> SendAnswer {
     match sending.send(sink) {
         Polled::NoMemory => sending.send(sink),
@@ -89,23 +89,23 @@ fn send_again<K: Sends, W: AsyncWrite>(sending: &mut K, sink: &mut W) -> SendAns
     }
 }
 
-/// All is sent, and these bytes came.
+/// Asserts that the frame is sent, and that these bytes were written.
 fn check_sent<R: Abort>(rt: &R, answer: SendAnswer, came: &[u8], wire: &'static [u8]) {
     same(rt, (answer, came), (DONE, wire), "all is sent");
 }
 
-/// What is left of the frame goes to a vector, as these bytes.
+/// Asserts that the rest of the frame is written to a vector, as these bytes.
 fn check_rest<R: Abort + AllocGlobal, K: Sends>(rt: &R, sending: &mut K, wire: &'static [u8]) {
     let mut vector = Vec::new(rt.alloc());
     let answer = send_again(sending, &mut vector);
     check_sent(rt, answer, vector.as_slice(), wire);
 }
 
-/// A data frame of the bytes `abc`.
+/// A DATA frame with the payload `abc`.
 const DATA: &[u8] = b"\x00\x03abc";
 
-/// Of a data frame so many bytes go to a sink that stops, and the others elsewhere. The stream can
-/// be upgraded until all are sent.
+/// Asserts that `room` bytes of a DATA frame are written to a sink that then stops, and the
+/// remaining bytes to another sink. The stream can be upgraded until all bytes are sent.
 fn check_stop<R: Abort + AllocGlobal>(rt: &R, room: usize) {
     let frame = Frame::new_data(CowSlice::Borrowed(b"abc"));
     let mut sending = ToBoth {
@@ -128,11 +128,11 @@ fn a_frame_goes_on_elsewhere(rt: HostRuntime) {
     }
 }
 
-/// What a poll answers over a sink that halts, whether the stream can be upgraded after it, and
-/// what the poll does.
+/// The result of a poll with a sink that halts, whether the stream can be upgraded after it, and
+/// what the row shows.
 type HaltRow = (SendAnswer, bool, &'static str);
 
-/// A poll answers by its row.
+/// Asserts the result of a poll by its row.
 fn check_halt<R: Abort>(
     rt: &R,
     sending: &mut ToBoth<'_>,
@@ -145,7 +145,7 @@ fn check_halt<R: Abort>(
     same(rt, (&came, upgradable), (answer, *can_upgrade), shows);
 }
 
-/// The polls over a sink that halts.
+/// The polls with a sink that halts.
 static HALTING: [HaltRow; 5] = [
     (Polled::Pending, true, "not ready"),
     (Polled::Pending, true, "two bytes, and not ready"),
@@ -168,7 +168,7 @@ static HALTS: [WriteStep; 6] = [
     WriteStep::Stopped,
 ];
 
-/// Once all is sent, the sink is not called any more.
+/// Once the frame is sent, the sink is not called again.
 #[test]
 fn a_frame_that_was_written_ends_upgrading(rt: HostRuntime) {
     let frame = Frame::new_data(CowSlice::Borrowed(b"a"));
@@ -184,8 +184,8 @@ fn a_frame_that_was_written_ends_upgrading(rt: HostRuntime) {
     same(&rt, sink.output(), b"\x00\x01a".as_slice(), "the sink");
 }
 
-/// Sends the frame; where memory was refused, the stream can still be upgraded, and a second poll
-/// sends the frame on.
+/// Polls once. If allocation failed, asserts that the stream can still be upgraded, and polls
+/// again.
 fn send_refused<R: Abort>(rt: &R, sending: &mut ToBoth<'_>, vector: &mut Vec<u8>) -> SendAnswer {
     match sending.send(vector) {
         Polled::NoMemory => {
@@ -230,7 +230,7 @@ fn a_stream_that_was_opened_there_is_written(rt: HostRuntime) {
     check_rest(&rt, &mut sending, DATA);
 }
 
-/// A headers frame goes to the stream of a session.
+/// A HEADERS frame is written to the stream of a session.
 #[test]
 fn the_stream_of_a_session_is_written(rt: HostRuntime) {
     let frame = Frame::new_headers(CowSlice::Borrowed(&[0x00, 0x00]));
@@ -242,7 +242,8 @@ fn the_stream_of_a_session_is_written(rt: HostRuntime) {
     drop(sending);
 }
 
-/// A frame on its way to a control stream, whose type goes to the vector.
+/// Returns a frame that is being written to a control stream, whose type is written to the
+/// vector.
 fn to_control<'a, R: Abort>(rt: &R, frame: &'a Frame<'_>, vector: &mut Vec<u8>) -> ToOne<'a> {
     let upgrading = StreamUniLocalQuic::open_uni().upgrade_async(StreamHeader::new_control());
     let Stepped::Done(stream) = upgrading.poll(vector) else {
@@ -254,15 +255,15 @@ fn to_control<'a, R: Abort>(rt: &R, frame: &'a Frame<'_>, vector: &mut Vec<u8>) 
     }
 }
 
-/// A control stream: its type, and a settings frame of one setting.
+/// A control stream: its type, and a SETTINGS frame with one setting.
 const CONTROL: &[u8] = &[0x00, 0x04, 0x02, 0x33, 0x01];
 
-/// A settings frame of one setting.
+/// Returns a SETTINGS frame with one setting.
 fn settings() -> Frame<'static> {
     Frame::new_settings(CowSlice::Borrowed(&[0x33, 0x01]))
 }
 
-/// The type of the stream and the settings go to one vector.
+/// The stream type and the settings are written to one vector.
 #[test]
 fn a_control_stream_is_written(rt: HostRuntime) {
     let mut vector = Vec::new(rt.alloc());
@@ -272,17 +273,17 @@ fn a_control_stream_is_written(rt: HostRuntime) {
     check_sent(&rt, answer, vector.as_slice(), CONTROL);
 }
 
-/// How often a sink may wait.
+/// The maximum number of waits of a sink.
 const TURNS: usize = 20;
 
-/// A sink that waits twice.
+/// A sink that is not ready twice.
 static WAITS: [WriteStep; 3] = [
     WriteStep::NotReady,
     WriteStep::Bytes(2),
     WriteStep::NotReady,
 ];
 
-/// Writes the frame, while the sink waits.
+/// Writes the frame, and polls again while the sink is not ready.
 fn write_on<K: Sends, W: AsyncWrite>(sending: &mut K, sink: &mut W) -> SendAnswer {
     for _turn in 0..TURNS {
         match sending.send(sink) {
@@ -306,7 +307,7 @@ fn a_frame_is_written_in_a_loop(rt: HostRuntime) {
     same(&rt, sending.stream.can_upgrade(), false, "written");
 }
 
-/// The type of the stream goes elsewhere.
+/// The stream type is written to another sink.
 #[test]
 fn settings_are_written_in_a_loop(rt: HostRuntime) {
     let mut sink = ScriptedSink::new(rt.alloc(), &WAITS);

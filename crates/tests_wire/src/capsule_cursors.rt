@@ -1,10 +1,10 @@
-//! Capsules found in bytes that the caller holds, however they are cut.
+//! Capsules found in bytes that the caller holds, split in every way.
 use crate::capsule_readings::{Ending, RECORDED, ROWS};
 use crate::same::same;
 use std::process::Abort;
 use wtp_wire::capsule::{CapsuleCursor, CapsuleStep};
 
-/// Data of which some bytes have come, and the first of those are consumed.
+/// Data of which some bytes have arrived, and some of those are consumed.
 #[derive(Drop)]
 struct Coming<'a> {
     data: &'a [u8],
@@ -13,12 +13,13 @@ struct Coming<'a> {
 }
 
 impl<'a> Coming<'a> {
-    /// The bytes that the caller holds when so many have come.
+    /// Returns the bytes that the caller holds once the first `come` bytes have arrived.
     fn held(&self, come: usize) -> &'a [u8] {
         self.data.get(self.consumed..come).unwrap_or(&[])
     }
 
-    /// The value of the next capsule, or that the next value is too long; `None` for neither.
+    /// Returns the value of the next capsule, or the error that its value is too long, or `None`
+    /// for neither.
     fn next(&mut self, come: usize) -> Option<Result<&'a [u8], Ending>> {
         let held = self.held(come);
         match self.cursor.next(held) {
@@ -34,7 +35,7 @@ impl<'a> Coming<'a> {
         }
     }
 
-    /// How the data ends.
+    /// Returns how the data ends.
     fn finish(&self) -> Ending {
         match self.cursor.finish(self.held(self.data.len())) {
             Ok(()) => Ending::Clean,
@@ -42,7 +43,8 @@ impl<'a> Coming<'a> {
         }
     }
 
-    /// The next value and, if there is none, the ending. The data comes in two pieces.
+    /// Returns the next value or, if there is none, how the data ends. The data arrives in two
+    /// pieces.
     fn step(&mut self, cut: usize) -> Result<&'a [u8], Ending> {
         match self.next(cut) {
             Some(found) => found,
@@ -54,7 +56,7 @@ impl<'a> Coming<'a> {
     }
 }
 
-/// Asserts the values of the capsules in data that is cut here, and how it ends.
+/// Asserts the values of the capsules in data that is split at this offset, and how it ends.
 fn check_cut<R: Abort>(
     rt: &R,
     data: &[u8],
@@ -74,7 +76,7 @@ fn check_cut<R: Abort>(
     same(rt, (coming.step(cut), cut), (Err(ending), cut), shows);
 }
 
-/// Asserts these capsules and this ending, cut at each place.
+/// Asserts these capsules and this end for data that is split at each offset.
 fn check_cuts<R: Abort>(
     rt: &R,
     data: &[u8],
@@ -94,7 +96,7 @@ fn held_data_may_be_cut_anywhere(rt: HostRuntime) {
     }
 }
 
-/// Asserts the close in the payloads, cut at each place.
+/// Asserts the close in the payloads, split at each offset.
 fn check_close<R: Abort + AllocGlobal>(
     rt: &R,
     pieces: &[&[u8]],

@@ -1,4 +1,4 @@
-//! Capsules read from data that is cut anywhere, and close capsules that are written.
+//! Capsules read from data that is split anywhere, and close capsules that are written.
 use crate::same::same;
 use std::alloc::Global;
 use std::process::Abort;
@@ -14,15 +14,15 @@ pub enum Ending {
     TooLong,
 }
 
-/// What is read of a piece of data.
+/// The result of reading a piece of data.
 type Answer = Result<Option<CapsuleOwned>, CapsuleError>;
 
-/// The next capsule.
+/// Reads the next capsule.
 fn next_once(reading: &mut CapsuleReading, bytes: &mut &[u8]) -> Answer {
     reading.next(bytes)
 }
 
-/// The same; asked a second time if memory was refused.
+/// Reads the next capsule, again if allocation failed.
 fn next(reading: &mut CapsuleReading, bytes: &mut &[u8]) -> Answer {
     match next_once(reading, bytes) {
         Err(CapsuleError::Memory) => next_once(reading, bytes),
@@ -30,8 +30,8 @@ fn next(reading: &mut CapsuleReading, bytes: &mut &[u8]) -> Answer {
     }
 }
 
-/// Asserts the values of the capsules in a piece of data, which come after `count` others. Returns
-/// how many there are then, and whether a value is too long.
+/// Asserts the values of the capsules in a piece of data, which follow the first `count` ones.
+/// Returns the number of capsules so far, and whether a value is too long.
 fn check_piece<R: Abort>(
     rt: &R,
     reading: &mut CapsuleReading,
@@ -64,7 +64,7 @@ fn check_piece<R: Abort>(
     (count, false)
 }
 
-/// Asserts the values of the capsules in these pieces of data, and how it ends.
+/// Asserts the values of the capsules in these pieces of data, and how the data ends.
 fn check_pieces<R: Abort + AllocGlobal>(
     rt: &R,
     pieces: &[&[u8]],
@@ -86,7 +86,7 @@ fn check_pieces<R: Abort + AllocGlobal>(
     same(rt, came, (ending, values.len()), shows);
 }
 
-/// How data ends after which the reading is this one.
+/// Returns how data ends that leaves a reader in this state.
 fn ending_of(reading: &CapsuleReading) -> Ending {
     match reading.finish() {
         Ok(()) => Ending::Clean,
@@ -94,7 +94,7 @@ fn ending_of(reading: &CapsuleReading) -> Ending {
     }
 }
 
-/// A row: data, the values of its close capsules, how it ends, and what the row shows.
+/// Data, the values of its close capsules, how it ends, and what the row shows.
 pub type Row = (
     &'static [u8],
     &'static [&'static [u8]],
@@ -102,7 +102,7 @@ pub type Row = (
     &'static str,
 );
 
-/// Asserts a row cut at each place.
+/// Asserts a row that is split at each offset.
 fn check_cuts<R: Abort + AllocGlobal>(rt: &R, row: &Row) {
     let (bytes, values, ending, shows) = *row;
     for at in 0..=bytes.len() {
@@ -217,7 +217,7 @@ fn a_cut_close_is_found_past_refused_memory(rt: HostRuntime) {
     check_cuts(&rt, &CLOSE);
 }
 
-/// DATA frames' payloads of recorded sessions, and the values of their close capsules.
+/// The payloads of the DATA frames of recorded sessions, and the values of their close capsules.
 pub static RECORDED: [(&[&[u8]], &[u8], &str); 5] = [
     (
         &[
@@ -292,15 +292,15 @@ fn values_have_a_limit(rt: HostRuntime) {
     same(&rt, limit, 1028, "the limit");
 }
 
-/// What making a close answers.
+/// The result of creating a close.
 type Made = Result<CloseWebTransportSession, CapsuleError>;
 
-/// A close with this reason.
+/// Creates a close with this error code and reason.
 fn close_once(alloc: Global, code: u32, reason: &str) -> Made {
     CloseWebTransportSession::new(alloc, code, reason)
 }
 
-/// The same; asked a second time if memory was refused.
+/// Creates a close, again if allocation failed.
 fn close<R: AllocGlobal>(rt: &R, code: u32, reason: &str) -> Made {
     match close_once(rt.alloc(), code, reason) {
         Err(CapsuleError::Memory) => close_once(rt.alloc(), code, reason),
@@ -313,7 +313,7 @@ fn write_once(close: &CloseWebTransportSession, bytes: &mut Vec<u8>) -> Result<(
     close.write(bytes)
 }
 
-/// The same into an empty vector; from the start again if memory was refused.
+/// Writes a close into an empty vector, from the start again if allocation failed.
 fn write(close: &CloseWebTransportSession, bytes: &mut Vec<u8>) -> Result<(), PutError> {
     match write_once(close, bytes) {
         Err(PutError::Memory) => {
@@ -324,7 +324,7 @@ fn write(close: &CloseWebTransportSession, bytes: &mut Vec<u8>) -> Result<(), Pu
     }
 }
 
-/// Asserts the bytes of the close with this code and this reason.
+/// Asserts the bytes of the close with this error code and reason.
 fn check_written<R: Abort + AllocGlobal>(rt: &R, code: u32, reason: &str, wanted: &[u8]) {
     let close = close(rt, code, reason).expect(rt, reason);
     let mut bytes = Vec::new(rt.alloc());
@@ -333,7 +333,7 @@ fn check_written<R: Abort + AllocGlobal>(rt: &R, code: u32, reason: &str, wanted
     same(rt, came, (Ok(()), wanted, wanted.len()), reason);
 }
 
-/// Codes and reasons, and the bytes of their capsules.
+/// Error codes and reasons, and the bytes of their capsules.
 static WRITTEN: [(u32, &str, &[u8]); 3] = [
     (0, "", &[0x68, 0x43, 0x04, 0, 0, 0, 0]),
     (7, "end", &[0x68, 0x43, 0x07, 0, 0, 0, 7, 0x65, 0x6e, 0x64]),
@@ -351,7 +351,7 @@ fn closes_are_written_past_refused_memory(rt: HostRuntime) {
     }
 }
 
-/// The size of a close with these bytes as its reason.
+/// Returns the size of a close with this reason.
 fn size_of<R: AllocGlobal>(rt: &R, reason: &[u8]) -> Result<usize, CapsuleError> {
     match close(rt, 0, str::from_utf8(reason).unwrap_or("")) {
         Ok(close) => Ok(close.write_size()),

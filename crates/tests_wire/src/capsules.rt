@@ -1,4 +1,4 @@
-//! Worked rows of capsules, and what stands where memory is refused.
+//! Worked rows of capsules, and the effect of failed allocations.
 use crate::same::same;
 use std::borrow::CowSlice;
 use std::process::Abort;
@@ -8,7 +8,8 @@ use wtp_wire::capsule::capsules::CloseWebTransportSession;
 use wtp_wire::capsule::{Capsule, CapsuleKind, capsule_types};
 use wtp_wire::frame::Frame;
 
-/// What closing by this payload of a DATA frame answers, or `None` for no capsule.
+/// Returns the result of reading a close from this payload of a DATA frame, or `None` if it
+/// contains no capsule.
 fn read<R: Abort + AllocGlobal>(
     rt: &R,
     payload: &[u8],
@@ -23,7 +24,7 @@ fn read<R: Abort + AllocGlobal>(
     }
 }
 
-/// As `read`; a second time where memory was refused.
+/// Returns the result of `read`, again if allocation failed.
 fn answer<R: Abort + AllocGlobal>(
     rt: &R,
     payload: &[u8],
@@ -34,8 +35,8 @@ fn answer<R: Abort + AllocGlobal>(
     }
 }
 
-/// Asserts what closing by this payload of a DATA frame answers: the code and the reason, a fault,
-/// or `None` for no capsule.
+/// Asserts the result of reading a close from this payload of a DATA frame: the error code and
+/// reason, an error, or `None` if it contains no capsule.
 fn check<R: Abort + AllocGlobal>(
     rt: &R,
     payload: &[u8],
@@ -52,8 +53,7 @@ fn check<R: Abort + AllocGlobal>(
     }
 }
 
-/// Asserts the kind and the length of the payload of the close capsule in this payload of a DATA
-/// frame.
+/// Asserts the kind and value length of the close capsule in this payload of a DATA frame.
 fn check_close<R: Abort>(rt: &R, payload: &[u8], len: usize, shows: &str) {
     assert!(rt; payload.len() < 2048);
     let frame = Frame::new_data(CowSlice::Borrowed(payload));
@@ -63,7 +63,7 @@ fn check_close<R: Abort>(rt: &R, payload: &[u8], len: usize, shows: &str) {
     same(rt, came, (kind, len), shows);
 }
 
-/// Payloads that close a session, the code, the reason, and what the row shows.
+/// Payloads that close a session, the error code, the reason, and what the row shows.
 static CLOSES: [(&[u8], u64, &[u8], &str); 3] = [
     (
         &[0x68, 0x43, 0x05, 0x00, 0x00, 0x00, 0x07, 0x78, 0xff, 0xff],
@@ -100,8 +100,8 @@ fn the_close_capsule_has_its_number(rt: HostRuntime) {
     same(&rt, kind, CapsuleKind::CloseWebTransportSession, "the kind");
 }
 
-/// Types of capsules that are unknown here: DATAGRAM (RFC 9297, section 3.5), the numbers beside the
-/// known one, one that is reserved for exercise (section 5.4), and the largest.
+/// Unknown capsule types: DATAGRAM (RFC 9297, section 3.5), the numbers next to the known type, a
+/// reserved type (section 5.4), and the largest type.
 static UNKNOWN_TYPES: [u64; 5] = [0x00, 0x2842, 0x2844, 0x17, 0x3fff_ffff_ffff_ffff];
 
 #[test]
@@ -112,7 +112,7 @@ fn other_types_have_no_kind(rt: HostRuntime) {
     }
 }
 
-/// The answer to a payload that is at fault.
+/// The result of an invalid payload.
 const FAULT: Option<Result<(u64, &[u8]), Refused>> = Some(Err(Refused::Code(ErrorCode::Datagram)));
 
 #[test]
@@ -123,7 +123,7 @@ fn bad_closes_are_refused(rt: HostRuntime) {
     check(&rt, no_text, FAULT, "no UTF-8");
 }
 
-/// Payloads without a capsule, and what the row shows.
+/// Payloads without a complete known capsule, and what the row shows.
 static OTHERS: [(&[u8], &str); 5] = [
     (&[], "nothing"),
     (&[0x68, 0x43, 0x04, 0x00, 0x00, 0x00], "cut"),
@@ -142,7 +142,7 @@ fn other_payloads_are_no_capsules(rt: HostRuntime) {
     }
 }
 
-/// This head, and then 1025 bytes of a reason.
+/// Returns this capsule header, followed by a reason of 1025 bytes.
 fn long_payload(head: &[u8; 8]) -> [u8; 1033] {
     let mut payload = [0x61; 1033];
     payload[..8].copy_from_slice(head);

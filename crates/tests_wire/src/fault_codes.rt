@@ -1,12 +1,12 @@
-//! The error codes of faults of frames, of stream headers and of capsules.
+//! The error codes for errors of frames, stream headers and capsules.
 use crate::same::same;
 use wtp_core::bytes::IoReadError;
 use wtp_core::error::ErrorCode;
 use wtp_wire::capsule::{CapsuleError, TruncatedCapsule};
 use wtp_wire::{frame, stream_header};
 
-/// A fault of reading a frame, its code (RFC 9114, sections 7.1, 9 and 10.5; WebTransport over
-/// HTTP/3, "Session IDs"), and what the row shows.
+/// An error of reading a frame, its error code (RFC 9114, sections 7.1, 9 and 10.5; WebTransport
+/// over HTTP/3, "Session IDs"), and what the row shows.
 static FRAMES: [(frame::IoReadError, Option<ErrorCode>, &str); 7] = [
     (
         frame::IoReadError::Parse(frame::ParseError::UnknownFrame),
@@ -41,7 +41,7 @@ static FRAMES: [(frame::IoReadError, Option<ErrorCode>, &str); 7] = [
     ),
 ];
 
-/// A fault of reading a header, its code (RFC 9114, section 6.2; WebTransport over HTTP/3,
+/// An error of reading a header, its error code (RFC 9114, section 6.2; WebTransport over HTTP/3,
 /// "Session IDs"), and what the row shows.
 static HEADERS: [(stream_header::IoReadError, Option<ErrorCode>, &str); 6] = [
     (
@@ -90,7 +90,7 @@ fn faults_of_headers_have_codes(rt: HostRuntime) {
     }
 }
 
-/// Faults of capsules: RFC 9297, sections 3.3 and 5.2; RFC 9114, section 4.1.2.
+/// Errors of capsules: RFC 9297, sections 3.3 and 5.2; RFC 9114, section 4.1.2.
 #[test]
 fn faults_of_capsules_have_codes(rt: HostRuntime) {
     let code = CapsuleError::TooLong.code();

@@ -1,11 +1,11 @@
-//! The two numbers with which a frame, a capsule and a setting start.
+//! The first two numbers of a frame, a capsule and a setting.
 use crate::same::same;
 use std::process::Abort;
 use wtp_wire::head::{first_pair, missing_bytes, pair_size};
 
-/// The start of a frame, a capsule or a setting, its two numbers and their size, or `None` if they
-/// are not both complete; the least size of two numbers that start so (RFC 9000, section 16), and
-/// what the row shows.
+/// The start of a frame, a capsule or a setting; its first two numbers and their length, or
+/// `None` if they are incomplete; the least length of two numbers that start with these bytes
+/// (RFC 9000, section 16); and what the row shows.
 struct Row {
     shows: &'static str,
     bytes: &'static [u8],
@@ -66,7 +66,7 @@ static ROWS: [Row; 8] = [
     },
 ];
 
-/// Asserts the two numbers of a row, and how many bytes are missing.
+/// Asserts the two numbers of a row, and the number of missing bytes.
 fn check_row<R: Abort>(rt: &R, row: &Row) {
     let pair = match first_pair(row.bytes) {
         Some(pair) => Some((pair.first.into_inner(), pair.second.into_inner(), pair.size)),

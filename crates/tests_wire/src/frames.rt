@@ -1,4 +1,4 @@
-//! Frames, read and written whole.
+//! Reading and writing complete frames.
 use crate::same::same;
 use crate::texts::has_text;
 use std::borrow::CowSlice;
@@ -9,7 +9,7 @@ use wtp_core::ids::{SessionId, StreamId};
 use wtp_core::varint::VarInt;
 use wtp_wire::frame::{Frame, FrameKind, ParseError, frame_kind_ids};
 
-/// Asserts that a kind has this number, which its constant has too.
+/// Asserts that a frame kind and its constant have this number.
 fn check_kind<R: Abort>(rt: &R, kind: FrameKind, constant: VarInt, number: u64) {
     let came = (kind.id(), constant.into_inner());
     same(rt, came, (constant, number), number);
@@ -27,14 +27,14 @@ fn kinds_have_their_numbers(rt: HostRuntime) {
     check_kind(&rt, FrameKind::Exercise(id), id, 0x40);
 }
 
-/// Asserts that a number is no kind's.
+/// Asserts that a number has no frame kind.
 fn check_no_kind<R: Abort>(rt: &R, number: u32) {
     let id = VarInt::from_u32(number);
     let came = (FrameKind::parse(id), FrameKind::is_id_exercise(id));
     same(rt, came, (None, false), number);
 }
 
-/// Numbers of no kind.
+/// Numbers without a frame kind.
 static NO_KINDS: [u32; 5] = [0x02, 0x0a, 0x20, 0x22, 0x3f];
 
 #[test]
@@ -46,7 +46,7 @@ fn other_numbers_are_no_kind(rt: HostRuntime) {
     same(&rt, is_exercise, true, "the least of an exercise");
 }
 
-/// Asserts the kind and the payload of a frame that was created.
+/// Asserts the kind and payload of a new frame.
 fn check_created<R: Abort>(rt: &R, frame: &Frame<'_>, kind: FrameKind, payload: &[u8]) {
     same(
         rt,
@@ -67,20 +67,20 @@ fn payloads_of_any_length_are_tested(rt: HostRuntime) {
     check_created(&rt, &settings, FrameKind::Settings, &[]);
 }
 
-/// What is read from bytes.
+/// The result of reading bytes.
 type Outcome<'a> = Result<Option<Frame<'a>>, ParseError>;
 
-/// What is read from these bytes, and the bytes that are left.
+/// Reads a frame from these bytes. Returns the result and the bytes that are left.
 fn from_slice<'a>(bytes: &'a [u8]) -> (Outcome<'a>, &'a [u8]) {
     let mut rest = bytes;
     let outcome = Frame::read(&mut rest);
     (outcome, rest)
 }
 
-/// Bytes, the frame's type number, payload and size, and what the row shows.
+/// Bytes, the type, payload and size of the frame, and what the row shows.
 type ReadRow = (&'static [u8], u64, &'static [u8], usize, &'static str);
 
-/// Bytes with a frame at their front.
+/// Bytes that start with a frame.
 static READ: [ReadRow; 6] = [
     (&[0x00, 0x01, 0x61], 0x00, b"a", 3, "data"),
     (
@@ -108,15 +108,15 @@ static READ: [ReadRow; 6] = [
     ),
 ];
 
-/// The number and the payload of a frame.
+/// Returns the type and payload of a frame.
 fn parts<'f>(frame: &'f Frame<'_>) -> (u64, &'f [u8]) {
     (frame.kind().id().into_inner(), frame.payload())
 }
 
-/// What is read, with the number and the payload of the frame.
+/// The result of reading bytes, by the type and payload of the frame.
 type Parts<'f> = Result<Option<(u64, &'f [u8])>, &'f ParseError>;
 
-/// What is read, with the frame as its parts.
+/// Returns the result by the type and payload of the frame.
 fn by_parts<'f>(outcome: &'f Outcome<'_>) -> Parts<'f> {
     match outcome {
         Ok(Some(frame)) => Ok(Some(parts(frame))),
@@ -125,7 +125,8 @@ fn by_parts<'f>(outcome: &'f Outcome<'_>) -> Parts<'f> {
     }
 }
 
-/// Asserts what is read from these bytes by a reader, and where that reader is then.
+/// Asserts the result of reading these bytes with a reader, and the offset of the reader after
+/// it.
 fn check_reader<R: Abort, S: Display + Drop>(
     rt: &R,
     bytes: &[u8],
@@ -139,7 +140,7 @@ fn check_reader<R: Abort, S: Display + Drop>(
     same(rt, came, (wanted, offset), word);
 }
 
-/// Asserts what is read from these bytes as a slice, and how many of them.
+/// Asserts the result of reading these bytes as a slice, and the number of bytes read.
 fn check_from_slice<R: Abort>(rt: &R, bytes: &[u8], wanted: Parts<'_>, size: usize, word: &str) {
     let (outcome, rest) = from_slice(bytes);
     let came = (by_parts(&outcome), Some(rest));
@@ -155,8 +156,8 @@ fn frames_are_read(rt: HostRuntime) {
     }
 }
 
-/// Asserts of each front of the bytes of a frame that it is too short for a frame and that the
-/// reader stays.
+/// Asserts that each proper prefix of a frame is too short for a frame, and that the reader does
+/// not move.
 fn check_fronts<R: Abort>(rt: &R, frame: &[u8]) {
     for len in 0..frame.len() {
         check_reader(rt, frame.get(..len).unwrap_or(&[]), Ok(None), 0, len);
@@ -169,10 +170,10 @@ fn too_few_bytes_are_no_frame(rt: HostRuntime) {
     check_fronts(&rt, &[0x40, 0x41, 0x00]);
 }
 
-/// Bytes, the fault, how many bytes it takes, and what the row shows.
+/// Bytes, the error, the number of bytes consumed from a slice, and what the row shows.
 type FaultRow = (&'static [u8], ParseError, usize, &'static str);
 
-/// Bytes with a fault at their front.
+/// Bytes that start with an error.
 static FAULTS: [FaultRow; 5] = [
     (
         b"\x80\x42\x42\x42\x16This is a test payload",
@@ -206,7 +207,7 @@ static FAULTS: [FaultRow; 5] = [
     ),
 ];
 
-/// A reader stays before a fault, and a slice goes past it.
+/// An error leaves a reader before the frame, but moves a slice past it.
 #[test]
 fn faults_are_named(rt: HostRuntime) {
     for (bytes, fault, size, word) in &FAULTS {
@@ -215,7 +216,7 @@ fn faults_are_named(rt: HostRuntime) {
     }
 }
 
-/// Asserts that the frame is written as these bytes into a vector, and that its size is theirs.
+/// Asserts that the frame is written as these bytes into a vector, and has their size.
 fn check_vector<R: Abort + AllocGlobal>(rt: &R, frame: &Frame<'_>, bytes: &[u8], word: &str) {
     let mut vector = Vec::new(rt.alloc());
     let outcome = frame.write(&mut vector);
@@ -223,7 +224,7 @@ fn check_vector<R: Abort + AllocGlobal>(rt: &R, frame: &Frame<'_>, bytes: &[u8],
     same(rt, came, (Ok(()), bytes, bytes.len()), word);
 }
 
-/// Asserts that the frame is written as these bytes into a slice with just the room for it.
+/// Asserts that the frame is written as these bytes into a slice of exactly this size.
 fn check_slice<R: Abort>(rt: &R, frame: &Frame<'_>, bytes: &[u8], word: &str) {
     let mut buffer = [0; 70];
     let room = buffer.get_mut(..bytes.len()).expect(rt, "room");
@@ -233,8 +234,8 @@ fn check_slice<R: Abort>(rt: &R, frame: &Frame<'_>, bytes: &[u8], word: &str) {
     same(rt, came, (Ok(()), bytes), word);
 }
 
-/// Asserts that the frame is read from these bytes, with its kind, payload and session, and that no
-/// byte is left.
+/// Asserts that the frame is read back from these bytes, with its kind, payload and session ID,
+/// and that no byte is left.
 fn check_read_back<R: Abort>(rt: &R, frame: &Frame<'_>, bytes: &[u8], word: &str) {
     let (outcome, rest) = from_slice(bytes);
     same(rt, rest.len(), 0, word);
@@ -251,7 +252,7 @@ fn check_written<R: Abort + AllocGlobal>(rt: &R, frame: Frame<'_>, bytes: &[u8],
     check_read_back(rt, &frame, bytes, word);
 }
 
-/// Asserts how the frame is written that opens a stream of the session of this number.
+/// Asserts the bytes of the frame that opens a stream of the session with this ID.
 fn check_opening<R: Abort + AllocGlobal>(rt: &R, number: u32, bytes: &[u8]) {
     let stream = StreamId::new(VarInt::from_u32(number));
     let session = SessionId::try_from_session_stream(stream).expect(rt, "a session");
@@ -308,8 +309,8 @@ fn a_length_of_64_takes_two_bytes(rt: HostRuntime) {
     check_written(&rt, frame, LONG, "64 bytes");
 }
 
-/// Asserts that so little room is answered, that nothing is written by the first call, and whole
-/// parts by the second.
+/// Asserts that a frame does not fit into this room, that the first call writes nothing, and that
+/// the second writes complete parts.
 fn check_room<R: Abort>(rt: &R, frame: &Frame<'_>, room: usize, written: &[u8]) {
     assert!(rt; room <= 8);
     let mut buffer = [0; 8];
@@ -321,7 +322,7 @@ fn check_room<R: Abort>(rt: &R, frame: &Frame<'_>, room: usize, written: &[u8]) 
     same(rt, (outcome, writer.buffer_written()), wanted, room);
 }
 
-/// Each room, and what is written into it of a frame of nine bytes.
+/// Each room, and the bytes of a nine-byte frame that are written into it.
 #[test]
 fn too_little_room_keeps_whole_parts(rt: HostRuntime) {
     let id = VarInt::from_u32(0x21);
@@ -332,7 +333,7 @@ fn too_little_room_keeps_whole_parts(rt: HostRuntime) {
     check_room(&rt, &frame, 8, b"\x21\x07");
 }
 
-/// Asserts that a refusal of memory left whole parts of a DATA frame of 100 bytes.
+/// Asserts that a failed allocation left complete parts of a DATA frame of 100 bytes.
 fn check_refused<R: Abort>(rt: &R, error: PutError, written: &[u8]) {
     let parts: &[u8] = match written.len() {
         0 => &[],
@@ -347,13 +348,13 @@ fn check_refused<R: Abort>(rt: &R, error: PutError, written: &[u8]) {
     );
 }
 
-/// Puts the whole frame into the vector.
+/// Writes the whole frame into the vector.
 pub(crate) fn put(frame: &Frame<'_>, vector: &mut Vec<u8>) -> Result<(), PutError> {
     frame.write(vector)
 }
 
-/// Puts a DATA frame of 100 bytes into an empty vector; from the start again where memory was
-/// refused, which left whole parts.
+/// Writes a DATA frame of 100 bytes into an empty vector. If allocation failed, asserts that
+/// complete parts were written, and writes it from the start again.
 fn put_again<R: Abort>(rt: &R, frame: &Frame<'_>, vector: &mut Vec<u8>) -> Result<(), PutError> {
     match put(frame, vector) {
         Err(error) => {

@@ -1,5 +1,5 @@
-//! Frames, capsules, settings and stream headers, read and written whole, and what is read and
-//! written poll by poll. Tests over the public crates; there is no product code here.
+//! Frames, capsules, settings and stream headers, read and written at once and poll by poll.
+//! Tests over the public crates; there is no product code here.
 #![tactic(auto)]
 
 #[cfg(test)]

@@ -1,4 +1,4 @@
-//! Numbers, buffers, frames and stream headers that are read and written poll by poll.
+//! Numbers, buffers, frames and stream headers, read and written poll by poll.
 
 mod buffered;
 mod bytes;

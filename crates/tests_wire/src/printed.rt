@@ -1,4 +1,4 @@
-//! What frames, datagrams and the states of polled reading and writing print for debugging.
+//! Debug output of frames, datagrams, and polled readers and writers.
 
 use crate::texts::prints;
 use std::alloc::Global;
@@ -11,7 +11,7 @@ use wtp_wire::datagram::Datagram;
 use wtp_wire::frame::{Frame, FrameOwned, FrameReading, IoReadError};
 use wtp_wire::stream_header::StreamHeader;
 
-/// Asserts what a frame prints.
+/// Asserts the debug output of a frame.
 fn check_frame<R: Abort + AllocGlobal>(rt: &R, frame: Frame<'_>, text: &str, shows: &str) {
     prints(rt, &frame, text, shows);
 }
@@ -30,10 +30,10 @@ fn frames_are_printed(rt: HostRuntime) {
     check_frame(&rt, Frame::new_webtransport(session), text, "a session");
 }
 
-/// What a poll of a reading of a frame answers.
+/// The result of a poll that reads a frame.
 type Answer = Polled<Result<FrameOwned, IoReadError>>;
 
-/// The answer of one poll.
+/// Returns the result of one poll.
 fn answer(alloc: Global) -> Answer {
     let mut source: &[u8] = &[0x01, 0x01, 0x07];
     FrameReading::new(alloc).poll(&mut source)
@@ -47,14 +47,14 @@ fn answers_are_printed(rt: HostRuntime) {
     prints(&rt, &waiting, "Pending", "no answer yet");
 }
 
-/// Asserts what the state of writing a frame prints.
+/// Asserts the debug output of a frame writer.
 fn check_writing<R: Abort + AllocGlobal>(rt: &R) {
     let frame = Frame::new_data(CowSlice::Borrowed(&[7]));
     let text = "FrameWriting { head_sent: 0, payload_sent: 0, .. }";
     prints(rt, &frame.write_async(), text, "writing a frame");
 }
 
-/// Asserts what a stream header and the states of reading and of writing it print.
+/// Asserts the debug output of a stream header, its reader and its writer.
 fn check_headers<R: Abort + AllocGlobal>(rt: &R) {
     let text = "HeaderReading { bytes: 0, .. }";
     prints(rt, &StreamHeader::read_async(), text, "reading a header");

@@ -1,4 +1,4 @@
-//! The pairs of a settings payload one by one, those that are unknown too.
+//! The pairs in a SETTINGS payload, read one by one, including unknown ones.
 use crate::same::same;
 use crate::texts::prints;
 use std::process::Abort;
@@ -6,7 +6,7 @@ use wtp_core::error::ErrorCode;
 use wtp_core::varint::VarInt;
 use wtp_wire::settings::{SettingId, SettingPairs};
 
-/// Payloads of SETTINGS frames (RFC 9114, section 7.2.4), the pairs in them, the fault after these,
+/// The payload of a SETTINGS frame (RFC 9114, section 7.2.4), its pairs, the error after them,
 /// and what the row shows.
 struct Row {
     shows: &'static str,
@@ -75,7 +75,7 @@ static ROWS: [Row; 9] = [
     },
 ];
 
-/// The next item, as numbers.
+/// Returns the next item as numbers.
 fn next_item(items: &mut SettingPairs<'_>) -> Option<Result<(u64, u64), ErrorCode>> {
     match items.next()? {
         Ok(pair) => Some(Ok((pair.id.into_inner(), pair.value.into_inner()))),
@@ -83,7 +83,7 @@ fn next_item(items: &mut SettingPairs<'_>) -> Option<Result<(u64, u64), ErrorCod
     }
 }
 
-/// Asserts the items of a row: each pair, the fault, and the end twice.
+/// Asserts the items of a row: each pair, the error, and the end twice.
 fn check_row<R: Abort>(rt: &R, row: &Row) {
     let shows = row.shows;
     let mut items = SettingPairs::new(row.payload);
@@ -117,7 +117,7 @@ fn a_copy_of_the_pairs_has_those_that_are_left(rt: HostRuntime) {
     same(&rt, second, Some(Ok((0x0a, 2))), "the one that was copied");
 }
 
-/// Whether a number identified a setting of HTTP/2 that HTTP/3 does not have (RFC 9114, section
+/// A number, and whether it is an HTTP/2 setting that is reserved in HTTP/3 (RFC 9114, section
 /// 11.2.2).
 static RESERVED: [(u64, bool); 8] = [
     (0x00, true),

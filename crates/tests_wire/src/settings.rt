@@ -1,4 +1,4 @@
-//! Worked rows of settings, and what stands where memory is refused.
+//! Worked rows of settings, and the effect of failed allocations.
 use crate::frames::put;
 use crate::same::same;
 use crate::texts::has_text;
@@ -11,14 +11,14 @@ use wtp_core::varint::VarInt;
 use wtp_wire::frame::{Frame, FrameOwned, GenerateError};
 use wtp_wire::settings::{SettingId, Settings};
 
-/// What reading the payload answers.
+/// Reads a SETTINGS payload.
 fn read<R: Abort + AllocGlobal>(rt: &R, payload: &[u8]) -> Result<Settings, Refused> {
     assert!(rt; payload.len() < 64);
     let frame = Frame::new_settings(CowSlice::Borrowed(payload));
     Settings::with_frame(rt.alloc(), &frame)
 }
 
-/// As `read`; a second time where memory was refused.
+/// Reads a SETTINGS payload, again if allocation failed.
 pub fn answer<R: Abort + AllocGlobal>(rt: &R, payload: &[u8]) -> Result<Settings, Refused> {
     match read(rt, payload) {
         Err(Refused::Memory) => read(rt, payload),
@@ -26,7 +26,7 @@ pub fn answer<R: Abort + AllocGlobal>(rt: &R, payload: &[u8]) -> Result<Settings
     }
 }
 
-/// Settings of each step but one, not in the order of their numbers.
+/// Returns settings from all builder steps but one, not in the order of their identifiers.
 fn steps(alloc: Global) -> Result<Settings, AllocError> {
     let builder = Settings::builder(alloc)
         .qpack_blocked_streams(VarInt::from_u32(1))?
@@ -37,7 +37,7 @@ fn steps(alloc: Global) -> Result<Settings, AllocError> {
     Ok(builder.build())
 }
 
-/// Settings of each step but one; from the start again where memory was refused.
+/// Returns settings from all builder steps but one, built again if allocation failed.
 fn build(alloc: Global) -> Result<Settings, AllocError> {
     match steps(alloc) {
         Ok(settings) => Ok(settings),
@@ -45,12 +45,12 @@ fn build(alloc: Global) -> Result<Settings, AllocError> {
     }
 }
 
-/// Settings of the step of datagrams.
+/// Returns settings from the datagram step.
 fn datagrams_step(alloc: Global) -> Result<Settings, AllocError> {
     Ok(Settings::builder(alloc).enable_h3_datagrams()?.build())
 }
 
-/// Settings of the step of datagrams; from the start again where memory was refused.
+/// Returns settings from the datagram step, built again if allocation failed.
 fn datagrams(alloc: Global) -> Result<Settings, AllocError> {
     match datagrams_step(alloc) {
         Ok(settings) => Ok(settings),
@@ -58,12 +58,12 @@ fn datagrams(alloc: Global) -> Result<Settings, AllocError> {
     }
 }
 
-/// Settings of the step of the connect protocol.
+/// Returns settings from the step for the connect protocol.
 fn connect_step(alloc: Global) -> Result<Settings, AllocError> {
     Ok(Settings::builder(alloc).enable_connect_protocol()?.build())
 }
 
-/// Settings of the step of the connect protocol; from the start again where memory was refused.
+/// Returns settings from the step for the connect protocol, built again if allocation failed.
 fn connect(alloc: Global) -> Result<Settings, AllocError> {
     match connect_step(alloc) {
         Ok(settings) => Ok(settings),
@@ -71,12 +71,12 @@ fn connect(alloc: Global) -> Result<Settings, AllocError> {
     }
 }
 
-/// The frame of the settings.
+/// Returns the frame of the settings.
 fn frame_once(alloc: Global, settings: &Settings) -> Result<FrameOwned, GenerateError> {
     settings.generate_frame(alloc)
 }
 
-/// The frame of the settings; a second time where memory was refused.
+/// Returns the frame of the settings, built again if allocation failed.
 pub fn frame_of(alloc: Global, settings: &Settings) -> Result<FrameOwned, GenerateError> {
     match frame_once(alloc, settings) {
         Err(GenerateError::Memory) => frame_once(alloc, settings),
@@ -95,7 +95,7 @@ pub fn check_frame<R: Abort + AllocGlobal>(
     same(rt, frame.payload(), payload, shows);
 }
 
-/// Puts the whole frame into the empty vector; from the start again where memory was refused.
+/// Writes the whole frame into the empty vector, from the start again if allocation failed.
 fn write(frame: &Frame<'_>, out: &mut Vec<u8>) -> Result<(), PutError> {
     match put(frame, out) {
         Err(PutError::Memory) => {
@@ -106,20 +106,20 @@ fn write(frame: &Frame<'_>, out: &mut Vec<u8>) -> Result<(), PutError> {
     }
 }
 
-/// Asserts the bytes of the frame, put into a vector.
+/// Asserts the bytes of the frame in a vector.
 fn check_written<R: Abort + AllocGlobal>(rt: &R, frame: &Frame<'_>, bytes: &[u8], shows: &str) {
     let mut whole = Vec::new(rt.alloc());
     write(frame, &mut whole).expect(rt, "room");
     same(rt, whole.as_slice(), bytes, shows);
 }
 
-/// The payload of `steps`, by rising number.
+/// The payload of `steps`, in ascending order of the identifiers.
 const STEPS: [u8; 20] = [
     0x01, 0x02, 0x07, 0x01, 0x33, 0x01, 0xab, 0x60, 0x37, 0x42, 0x01, 0xc0, 0x00, 0x00, 0x00, 0xc6,
     0x71, 0x70, 0x6a, 0x03,
 ];
 
-/// Payloads at fault, the code, and what the row shows.
+/// Invalid payloads, the error code, and what the row shows.
 static FAULTS: [(&[u8], ErrorCode, &str); 11] = [
     (&[0x33, 0x01, 0x33, 0x00], ErrorCode::Settings, "again"),
     (&[0x33, 0x01, 0x33], ErrorCode::Frame, "again, but cut"),
@@ -146,7 +146,7 @@ static FAULTS: [(&[u8], ErrorCode, &str); 11] = [
     ),
 ];
 
-/// Asserts the fault of a payload.
+/// Asserts the error code of a payload.
 fn check_fault<R: Abort + AllocGlobal>(rt: &R, payload: &[u8], code: ErrorCode, shows: &str) {
     let fault = answer(rt, payload).err();
     same(rt, fault, Some(Refused::Code(code)), shows);
@@ -190,13 +190,13 @@ fn known_settings_are_kept_past_refused_memory(rt: HostRuntime) {
     check_value(&rt, &mixed, SettingId::H3Datagram, None, "not set");
 }
 
-/// The frame of `steps`: type, length and payload.
+/// The frame of `steps`: its type, length and payload.
 const WHOLE: [u8; 22] = [
     0x04, 0x14, 0x01, 0x02, 0x07, 0x01, 0x33, 0x01, 0xab, 0x60, 0x37, 0x42, 0x01, 0xc0, 0x00, 0x00,
     0x00, 0xc6, 0x71, 0x70, 0x6a, 0x03,
 ];
 
-/// Asserts the bytes of the frame of `steps`, put into a buffer.
+/// Asserts the bytes of the frame of `steps` in a buffer.
 fn check_in_buffer<R: Abort>(rt: &R, frame: &Frame<'_>) {
     let mut room = [0x00; 22];
     let mut writer = BufferWriter::new(&mut room);
@@ -205,14 +205,14 @@ fn check_in_buffer<R: Abort>(rt: &R, frame: &Frame<'_>) {
     same(rt, (outcome, room.as_slice()), wanted, "into a buffer");
 }
 
-/// Asserts the frame of `steps`, put into a buffer and into a vector.
+/// Asserts the bytes of the frame of `steps` in a buffer and in a vector.
 fn check_whole<R: Abort + AllocGlobal>(rt: &R, settings: &Settings) {
     let frame = frame_of(rt.alloc(), settings).expect(rt, "a frame");
     check_in_buffer(rt, &frame);
     check_written(rt, &frame, &WHOLE, "into a vector");
 }
 
-/// Asserts the payload of the frame of the settings, made in this buffer.
+/// Asserts the payload of the frame of the settings, built in this buffer.
 fn check_lent<R: Abort>(
     rt: &R,
     settings: &Settings,
@@ -225,7 +225,7 @@ fn check_lent<R: Abort>(
     same(rt, frame.payload(), payload, shows);
 }
 
-/// Asserts the payload of `steps`, written alone into a longer buffer.
+/// Asserts the payload of `steps`, written without a frame into a longer buffer.
 fn check_alone<R: Abort>(rt: &R, settings: &Settings, buffer: &mut [u8]) {
     let size = settings.write_to(buffer).expect(rt, "room");
     let came = (size, buffer.get(..20), buffer.get(20..));
@@ -264,8 +264,8 @@ fn settings_are_read_back_past_refused_memory(rt: HostRuntime) {
     check_values(&rt, &read);
 }
 
-/// A copy of the settings of the connect protocol; a second time where memory was refused, which
-/// leaves them as they were.
+/// Returns a copy of the settings for the connect protocol, made again if allocation failed. A
+/// failed allocation leaves the original unchanged.
 fn copy<R: Abort + AllocGlobal>(rt: &R, connect: &Settings) -> Settings {
     match connect.clone(rt.alloc()) {
         Ok(copy) => copy,
@@ -276,7 +276,7 @@ fn copy<R: Abort + AllocGlobal>(rt: &R, connect: &Settings) -> Settings {
     }
 }
 
-/// Asserts the frame and the value of the settings of the connect protocol.
+/// Asserts the frame and the value of the settings for the connect protocol.
 fn check_connect<R: Abort + AllocGlobal>(rt: &R, settings: &Settings, shows: &str) {
     let frame = frame_of(rt.alloc(), settings).expect(rt, "a frame");
     same(rt, frame.payload(), &[0x08, 0x01], shows);
@@ -297,7 +297,8 @@ fn a_step_sets_one_setting_past_refused_memory(rt: HostRuntime) {
     check_connect(&rt, &connect, "the settings");
 }
 
-/// Asserts that the settings do not fit into a buffer of this size, and what it holds after that.
+/// Asserts that the settings do not fit into a buffer of this size, and the contents of the
+/// buffer after that.
 fn check_short<R: Abort>(rt: &R, settings: &Settings, room: usize, holds: &[u8], shows: &str) {
     assert!(rt; room <= 10);
     let mut buffer = [0x55; 10];

@@ -1,4 +1,4 @@
-//! The names of settings in the standards, and settings one by one.
+//! The names of settings in the standards, and settings listed one by one.
 use crate::same::same;
 use crate::settings::{answer, check_frame};
 use crate::texts::prints;
@@ -6,9 +6,9 @@ use std::process::Abort;
 use wtp_core::varint::VarInt;
 use wtp_wire::settings::{SettingId, Settings, SettingsIter};
 
-/// Numbers, and the names that the standards give them: RFC 9204, section 5; RFC 9114, sections
-/// 7.2.4.1 and 11.2.2; RFC 9220, section 3; RFC 9297, section 2.1.1;
-/// draft-ietf-webtrans-http3-02, section 3.1; draft-ietf-webtrans-http3-07, section 8.2.
+/// Identifiers, and their names in the standards: RFC 9204, section 5; RFC 9114, sections 7.2.4.1
+/// and 11.2.2; RFC 9220, section 3; RFC 9297, section 2.1.1; draft-ietf-webtrans-http3-02,
+/// section 3.1; draft-ietf-webtrans-http3-07, section 8.2.
 static NAMES: [(u64, &str); 10] = [
     (0x01, "SETTINGS_QPACK_MAX_TABLE_CAPACITY"),
     (0x06, "SETTINGS_MAX_FIELD_SECTION_SIZE"),
@@ -22,7 +22,8 @@ static NAMES: [(u64, &str); 10] = [
     (0x3fff_ffff_ffff_fffe, "0x3ffffffffffffffe"),
 ];
 
-/// Numbers that have no setting: those of HTTP/2, which are reserved, and unknown ones.
+/// Numbers that are not identifiers of settings: those of HTTP/2, which are reserved, and unknown
+/// ones.
 static UNKNOWN: [(u64, &str); 8] = [
     (0x00, "the first that is reserved"),
     (0x02, "SETTINGS_ENABLE_PUSH of HTTP/2"),
@@ -34,12 +35,12 @@ static UNKNOWN: [(u64, &str); 8] = [
     (0x3fff_ffff_ffff_ffff, "the largest number"),
 ];
 
-/// The setting of a number.
+/// Returns the setting with this identifier.
 fn setting_of<R: Abort>(rt: &R, number: u64) -> Option<SettingId> {
     SettingId::parse(VarInt::try_from_u64(number).expect(rt, "a number"))
 }
 
-/// Asserts the name of the setting of a number, and its number.
+/// Asserts the name and the number of the setting with this identifier.
 fn check_name<R: Abort + AllocGlobal>(rt: &R, number: u64, name: &str) {
     let id = setting_of(rt, number).expect(rt, "no such setting");
     same(rt, id.id().into_inner(), number, name);
@@ -61,11 +62,11 @@ fn other_numbers_have_no_setting(rt: HostRuntime) {
     }
 }
 
-/// Payloads of SETTINGS frames, the settings that they set, in ascending order of the numbers, and
-/// what the row shows.
+/// The payload of a SETTINGS frame, the settings in it, in ascending order of their identifiers,
+/// and what the row shows.
 type Row = (&'static [u8], &'static [(u64, u64)], &'static str);
 
-/// Payloads of frames.
+/// SETTINGS payloads.
 static PAYLOADS: [Row; 5] = [
     (&[], &[], "no setting"),
     (
@@ -99,13 +100,13 @@ static PAYLOADS: [Row; 5] = [
     ),
 ];
 
-/// The next pair of a listing, as numbers.
+/// Returns the next pair of a list of settings, as numbers.
 fn next_pair(listed: &mut SettingsIter<'_>) -> Option<(u64, u64)> {
     let (id, value) = listed.next()?;
     Some((id.id().into_inner(), value.into_inner()))
 }
 
-/// Asserts the settings that are listed: each pair, how many are left before it, and the end.
+/// Asserts the listed settings: each pair, the number of pairs left before it, and the end.
 fn check_listed<R: Abort>(rt: &R, settings: &Settings, pairs: &[(u64, u64)], shows: &str) {
     let mut listed = settings.iter();
     let mut left = pairs.len();
@@ -117,7 +118,7 @@ fn check_listed<R: Abort>(rt: &R, settings: &Settings, pairs: &[(u64, u64)], sho
     same(rt, (listed.len(), next_pair(&mut listed)), (0, None), shows);
 }
 
-/// Asserts the settings that the payload of a row sets.
+/// Asserts the settings in the payload of a row.
 fn check_row<R: Abort + AllocGlobal>(rt: &R, row: &Row) {
     let (payload, pairs, shows) = *row;
     let settings = answer(rt, payload).expect(rt, shows);
@@ -140,7 +141,8 @@ fn the_size_of_field_sections_is_limited(rt: HostRuntime) {
     check_frame(&rt, &settings, b"\x06\x80\x00\x40\x00", "its payload");
 }
 
-/// Asserts what a listing prints after its first setting, and what a copy made before has left.
+/// Asserts the debug output of a list after its first setting, and the number of settings left in
+/// an earlier copy.
 fn check_left<R: Abort + AllocGlobal>(rt: &R, settings: &Settings) {
     let mut listed = settings.iter();
     let left = listed.clone().expect(rt, "memory");

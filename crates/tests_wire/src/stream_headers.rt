@@ -1,4 +1,4 @@
-//! Worked rows of stream headers, and what stands where memory is refused.
+//! Worked rows of stream headers, and the effect of failed allocations.
 use crate::same::same;
 use crate::texts::has_text;
 use std::process::Abort;
@@ -7,10 +7,10 @@ use wtp_core::ids::SessionId;
 use wtp_core::varint::VarInt;
 use wtp_wire::stream_header::{ParseError, StreamHeader, StreamKind};
 
-/// What a reading answers: the kind and the session of a header.
+/// The result of reading a header, by its kind and session ID.
 type Answer = Result<Option<(StreamKind, Option<u64>)>, ParseError>;
 
-/// The kind and the session of a header.
+/// Returns the kind and session ID of a header.
 fn parts(header: StreamHeader) -> (StreamKind, Option<u64>) {
     let session = match header.session_id() {
         Some(session) => Some(session.into_u64()),
@@ -19,7 +19,7 @@ fn parts(header: StreamHeader) -> (StreamKind, Option<u64>) {
     (header.kind(), session)
 }
 
-/// The answer, by the parts of the header.
+/// Returns the result by the kind and session ID of the header.
 fn by_parts(read: Result<Option<StreamHeader>, ParseError>) -> Answer {
     match read {
         Ok(Some(header)) => Ok(Some(parts(header))),
@@ -28,13 +28,14 @@ fn by_parts(read: Result<Option<StreamHeader>, ParseError>) -> Answer {
     }
 }
 
-/// What reading the bytes answers.
+/// Reads a header from the bytes.
 fn answer(bytes: &[u8]) -> Answer {
     let mut reader = bytes;
     by_parts(StreamHeader::read(&mut reader))
 }
 
-/// Asserts what reading the bytes answers, also by a buffer, and the buffer's place after that.
+/// Asserts the result of reading the bytes, both from a slice and from a buffer, and the offset
+/// of the buffer's reader after it.
 fn check<R: Abort>(rt: &R, bytes: &[u8], wanted: Answer, place: usize, shows: &str) {
     let read = answer(bytes);
     same(rt, &read, &wanted, shows);
@@ -43,13 +44,13 @@ fn check<R: Abort>(rt: &R, bytes: &[u8], wanted: Answer, place: usize, shows: &s
     same(rt, (&buffered, reader.offset()), (&wanted, place), shows);
 }
 
-/// The session of this number.
+/// Returns the session ID with this number.
 fn session<R: Abort>(rt: &R, number: u64) -> SessionId {
     let number = VarInt::try_from_u64(number).expect(rt, "a number");
     SessionId::try_from_varint(number).expect(rt, "a session")
 }
 
-/// Asserts that these bytes are a header of this kind and session.
+/// Asserts that these bytes are a header with this kind and session ID.
 fn check_header<R: Abort>(
     rt: &R,
     bytes: &[u8],
@@ -75,7 +76,7 @@ fn headers_are_read(rt: HostRuntime) {
     check_header(&rt, &[0x40, 0xbc], far, None, "a further exercise type");
 }
 
-/// Bytes of no header, and what the row shows.
+/// Bytes that are not a header, and what the row shows.
 static UNKNOWN: [(&[u8], &str); 3] = [
     (&[0x01], "push"),
     (&[0x22], "after an exercise type"),
@@ -118,7 +119,7 @@ fn check_written<R: Abort>(rt: &R, header: StreamHeader, bytes: &[u8], shows: &s
     same(rt, answer(bytes), Ok(Some(parts(header))), shows);
 }
 
-/// The number of a session, the bytes of its header, and what the row shows.
+/// A session ID, the bytes of its header, and what the row shows.
 static WRITTEN: [(u64, &[u8], &str); 3] = [
     (0, &[0x40, 0x54, 0x00], "session 0"),
     (4, &[0x40, 0x54, 0x04], "session 4"),
@@ -129,7 +130,8 @@ static WRITTEN: [(u64, &[u8], &str); 3] = [
     ),
 ];
 
-/// Asserts it of the header of the session of this number.
+/// Asserts the size and the bytes of the header of this session, and that it is read back from
+/// them.
 fn check_session<R: Abort>(rt: &R, number: u64, bytes: &[u8], shows: &str) {
     let header = StreamHeader::new_webtransport(session(rt, number));
     check_written(rt, header, bytes, shows);
@@ -143,7 +145,8 @@ fn headers_are_written(rt: HostRuntime) {
     }
 }
 
-/// A header is written into a buffer of two bytes whole or not at all, or by parts.
+/// One call writes a header into a buffer of two bytes completely or not at all; another writes
+/// it in parts.
 #[test]
 fn headers_need_their_room(rt: HostRuntime) {
     let header = StreamHeader::new_webtransport(session(&rt, 4));
@@ -157,7 +160,7 @@ fn headers_need_their_room(rt: HostRuntime) {
     same(&rt, (by_parts, writer.buffer_written()), wanted, "by parts");
 }
 
-/// Asserts that a refusal of memory left none of the header's parts, or the first one.
+/// Asserts that a failed allocation left nothing, or the first part of the header.
 fn check_refused<R: Abort>(rt: &R, fault: PutError, out: &[u8]) {
     same(rt, fault, PutError::Memory, "the refusal");
     let parts: &[u8] = if out.is_empty() { &[] } else { &[0x40, 0x54] };
@@ -169,8 +172,8 @@ fn write_once(header: &StreamHeader, out: &mut Vec<u8>) -> Result<(), PutError> 
     header.write(out)
 }
 
-/// The same into an empty vector; from the start again where memory was refused, which left whole
-/// parts.
+/// Writes the header into an empty vector. If allocation failed, asserts that complete parts were
+/// written, and writes it from the start again.
 fn write<R: Abort>(rt: &R, header: &StreamHeader, out: &mut Vec<u8>) -> Result<(), PutError> {
     match write_once(header, out) {
         Err(fault) => {
@@ -191,7 +194,7 @@ fn refused_memory_leaves_whole_parts(rt: HostRuntime) {
     same(&rt, (outcome, out.as_slice()), wanted, "session 4");
 }
 
-/// Asserts that a number is that of a kind.
+/// Asserts that a number is the number of a stream kind.
 fn check_kind<R: Abort>(rt: &R, number: u32) {
     let id = VarInt::from_u32(number);
     let came = match StreamKind::parse(id) {
@@ -201,7 +204,7 @@ fn check_kind<R: Abort>(rt: &R, number: u32) {
     same(rt, came, Some(id), number);
 }
 
-/// Numbers of kinds.
+/// Numbers of stream kinds.
 static KINDS: [u32; 7] = [0x00, 0x02, 0x03, 0x54, 0x21, 0x40, 0x5f];
 
 #[test]
@@ -211,13 +214,13 @@ fn kinds_have_their_numbers(rt: HostRuntime) {
     }
 }
 
-/// Asserts whether a number is that of an exercise kind.
+/// Asserts whether a number is reserved for exercise.
 fn check_exercise<R: Abort>(rt: &R, number: u32, wanted: bool) {
     let id = VarInt::from_u32(number);
     same(rt, StreamKind::is_id_exercise(id), wanted, number);
 }
 
-/// Numbers, and whether they are those of exercise kinds.
+/// Numbers, and whether they are reserved for exercise.
 static EXERCISES: [(u32, bool); 5] = [
     (0x20, false),
     (0x21, true),

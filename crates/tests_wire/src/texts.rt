@@ -1,16 +1,16 @@
-//! What the tests share: the check of a text that a value has, for debugging or for display.
+//! Checks of the debug and display output of a value.
 use crate::same::same;
 use std::alloc::{AllocError, Global};
 use std::fmt::{Debug, Display};
 use std::process::Abort;
 
-/// Asserts what the value prints for debugging.
+/// Asserts the debug output of a value.
 pub fn prints<R: Abort + AllocGlobal, T: Debug>(rt: &R, value: &T, wanted: &str, shows: &str) {
     let text = format!(in rt.alloc(); "{value:?}").expect(rt, "memory");
     same(rt, text.as_str(), wanted, shows);
 }
 
-/// The text of an error; a second time where memory was refused.
+/// Returns the text of an error, again if allocation failed.
 fn text_of<E: Display>(alloc: Global, fault: &E) -> Result<String, AllocError> {
     match fault.to_string(alloc) {
         Ok(text) => Ok(text),
@@ -18,7 +18,7 @@ fn text_of<E: Display>(alloc: Global, fault: &E) -> Result<String, AllocError> {
     }
 }
 
-/// Asserts the text of an error, past refused memory.
+/// Asserts the text of an error. A failed allocation is repeated.
 pub fn has_text<R: Abort + AllocGlobal, E: Display>(rt: &R, fault: &E, wanted: &str) {
     let text = text_of(rt.alloc(), fault).expect(rt, "memory");
     same(rt, text.as_str(), wanted, "its text");

@@ -1,4 +1,4 @@
--- Frames that were counted, and those that are left.
+-- Counted frames and remaining frames.
 use Rattle.std.proofs.Common.{◌≡◌, ℕ, zero, suc, ◌+◌, ◌≤◌, Bool, List, [], length, drop, length-append, refl, sym, ap, ◌∙◌, arith, Option, Some, None}
 use Rattle.std.specs.Prelude.{pos}
 use Rattle.wtp_core.specs.declared.error.ErrorCode.{ErrorCode}
@@ -17,7 +17,7 @@ use Rattle.wtransport_proto.specs.StreamPolling.{EndsSo}
 use Rattle.wtransport_proto.proofs.HeldRunLemmas.{run_new}
 use Rattle.wt_bench.specs.Frames.{count_at, count_of}
 
--- this many frames of the whole run were counted, and this one is left
+-- n frames were counted, and `left` has the other frames of the whole run and its ending
 pub record IsCounted (n : ℕ) (left whole : Run) : Type 0 where
   pub frames : n + length left.frames ≡ length whole.frames
   pub ending : left.ending ≡ whole.ending
@@ -40,7 +40,7 @@ counted_more n k fs old new whole e is c = record {
   ending = sym (ap (λ (r : Run). r.ending) e) ∙ c.ending;
 }
 
--- ---- a frame has a byte, so there are no more frames than bytes
+-- ---- each frame has at least one byte, so there are at most as many frames as bytes
 
 judged_few : (o : Option ErrorCode) (f : Content) (r : Run) (n : ℕ) → length r.frames ≤ n → length (judged o f r).frames ≤ suc n
 judged_few None f r n h = omega arith
@@ -66,17 +66,17 @@ counted_few n left role first bytes tail c = let one = c.frames in omega (arith,
 
 -- ---- the end
 
--- no frame is left of a run that ends so
+-- a run that is only its ending contains no more frames
 pub counted_all : (n : ℕ) (left whole : Run) (e : Ending) → left ≡ ends e → IsCounted n left whole → count_of whole ≡ count_at e n
 counted_all n left whole e is c =
     let all : length whole.frames ≡ n = let one = c.frames in omega (arith, ap (λ (r : Run). length r.frames) is) in
     rw (all, sym c.ending ∙ ap (λ (r : Run). r.ending) is) refl
 
--- a new reading over a slice reads the run of its bytes
+-- a new reader over a slice reads the run of its bytes
 pub run_ahead : (role : Role) (first : Bool) (bytes : List ℕ) → run_of role first new_held (all_ahead bytes) ≡ run role first bytes Ended
 run_ahead role first bytes = run_new role first new_held (all_ahead bytes) refl
 
--- the last frames, which a drive produces before the end
+-- the last frames, which a drive outputs before the end
 pub counted_end : (n k : ℕ) (fs : List Content) (left whole : Run) (x : IoReadError) → EndsSo left fs x → x ≡ IO io.ImmediateFin → length fs ≡ k → IsCounted n left whole → pos (n + k) ≡ count_of whole
 counted_end n k fs left whole x e fin is c =
     let ended = rw fin at e in
@@ -86,6 +86,6 @@ counted_end n k fs left whole x e fin is c =
 pub ended_few : (n k : ℕ) (fs : List Content) (left : Run) (x : IoReadError) (role : Role) (first : Bool) (bytes : List ℕ) (tail : Tail) → EndsSo left fs x → length fs ≡ k → IsCounted n left (run role first bytes tail) → n + k ≤ length bytes
 ended_few n k fs left x role first bytes tail e is c = let one = c.frames in omega (arith, ap length e.frames, is, few_frames role first bytes tail)
 
--- all that a drive left in an empty list
+-- all frames that a drive output to an empty list
 pub all_driven : (was now : List Content) (k : ℕ) → was ≡ [] → length now ≡ k → length (drop (length was) now) ≡ k
 all_driven was now k none is = rw none is

@@ -1,4 +1,4 @@
--- The size of the lines that were read.
+-- The size of the field lines that were read.
 use Rattle.std.proofs.Common.{◌≡◌, ℕ, ◌+◌, List, [], ◌∷◌, ◌++◌, length, refl, sym, ◌∙◌, ap, arith, Ok}
 use Rattle.std.proofs.lemmas.List.Sums.{sum_by-append}
 use Rattle.wtp_fields.specs.Field.{Field}

@@ -17,7 +17,7 @@ use wtp_fields::qpack::{Decoder, Encoder, FieldBuffer, FieldLine, FieldLines};
 use wtp_wire::frame::Frame;
 use wtp_wire::settings::Settings;
 
-/// An iterator over pairs, as texts.
+/// An iterator over pairs as `&str`.
 #[derive(Drop)]
 struct Texts<'s, 'a> {
     pairs: &'s [Pair<'a>],
@@ -43,7 +43,7 @@ impl<'s, 'a> Iterator for Texts<'s, 'a> {
     }
 }
 
-/// Decodes a field section, and returns the number of pairs of its map.
+/// Decodes a field section and returns the number of fields in its map.
 #[unsafe(no_mangle)]
 pub extern "C" fn wt_bench_qpack_decode(alloc: Global, section: &[u8]) -> i64
     ensures { result ≢ negsuc 0
@@ -55,7 +55,7 @@ pub extern "C" fn wt_bench_qpack_decode(alloc: Global, section: &[u8]) -> i64
     }
 }
 
-/// Returns the size of a list of fields with one more field (RFC 9114, section 4.2.2).
+/// Returns the size of a field list after one more field (RFC 9114, section 4.2.2).
 fn add_line(size: usize, line: FieldLine<'_>) -> Option<usize>
     ensures { IfSome result (λ sum. sum ≡ size + field_size (seen_line line.entry)) }
 {
@@ -64,7 +64,7 @@ fn add_line(size: usize, line: FieldLine<'_>) -> Option<usize>
     size.checked_add(line.value.len())
 }
 
-/// Reads the lines of a field section one by one, and returns the size of their list.
+/// Reads the lines of a field section one by one and returns the size of the field list.
 #[unsafe(no_mangle)]
 pub extern "C" fn wt_bench_qpack_lines(alloc: Global, section: &[u8]) -> i64
     ensures { result ≢ negsuc 0 → (lines : List ℕ) × (fields : List Field)
@@ -88,7 +88,7 @@ pub extern "C" fn wt_bench_qpack_lines(alloc: Global, section: &[u8]) -> i64
     }
 }
 
-/// Encodes pairs, and writes the bytes of their field section to `out`.
+/// Encodes pairs as a field section and writes it to `out`.
 #[unsafe(no_mangle)]
 pub extern "C" fn wt_bench_qpack_encode(alloc: Global, pairs: &[Pair<'_>], out: &mut [u8]) -> i64
     ensures { result ≢ negsuc 0 → result ≡ pos (length (section_of (pair_fields pairs.now))) }
@@ -99,7 +99,7 @@ pub extern "C" fn wt_bench_qpack_encode(alloc: Global, pairs: &[Pair<'_>], out: 
     }
 }
 
-/// Reads the payload of a SETTINGS frame. Returns 1 if it is accepted.
+/// Reads the payload of a SETTINGS frame. Returns 1 if it is valid.
 #[unsafe(no_mangle)]
 pub extern "C" fn wt_bench_settings(alloc: Global, payload: &[u8]) -> i64
     requires { length payload.now < 2 ^ 62 }

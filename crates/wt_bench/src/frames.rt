@@ -1,5 +1,6 @@
-//! Frames of a stream that the peer opened: read whole, poll by poll, and driven into a list. Each
-//! call returns the number of frames, or -1 if the bytes are invalid or allocation failed.
+//! Reads the frames of a stream that the peer opened: from a buffer, poll by poll, and driven
+//! into a list. Each call returns the number of frames, or -1 if the bytes are invalid or
+//! allocation failed.
 ghost use Rattle.std.specs.Prelude.{◌≡◌, ◌≢◌, ◌<◌, ◌^◌, true, pos, negsuc};
 ghost use Rattle.wtransport_proto.specs.Rule.{RemoteBi};
 ghost use Rattle.wtransport_proto.specs.Run.{run, MayGoOn, Ended};
@@ -12,10 +13,10 @@ use wtransport_proto::frame::FrameReading;
 use wtransport_proto::stream::biremote::StreamBiRemoteQuic;
 use wtransport_proto::stream::{Driven, IoReadError, drive};
 
-/// How many polls a drive makes at most.
+/// The maximum number of polls per drive.
 const POLLS: u32 = 16;
 
-/// Returns this many frames.
+/// Returns this number of frames.
 fn answer(frames: usize) -> i64
     requires { frames < 2 ^ 63 }
     ensures { result ≡ pos frames }
@@ -23,7 +24,7 @@ fn answer(frames: usize) -> i64
     frames.cast_signed() as i64
 }
 
-/// Reads complete frames, from bytes that may go on. The lengths of their payloads are added to
+/// Reads complete frames from bytes that may continue. The lengths of their payloads are added to
 /// `payloads`.
 #[unsafe(no_mangle)]
 pub extern "C" fn wt_bench_list(bytes: &[u8], payloads: &mut usize) -> i64
@@ -44,7 +45,7 @@ pub extern "C" fn wt_bench_list(bytes: &[u8], payloads: &mut usize) -> i64
     }
 }
 
-/// Reads frames poll by poll, until the bytes end.
+/// Reads frames poll by poll up to the end of the bytes.
 #[unsafe(no_mangle)]
 pub extern "C" fn wt_bench_poll(alloc: Global, bytes: &[u8]) -> i64
     ensures { result ≢ negsuc 0 → result ≡ count_of (run RemoteBi true bytes.now Ended) }
@@ -66,8 +67,8 @@ pub extern "C" fn wt_bench_poll(alloc: Global, bytes: &[u8]) -> i64
     -1
 }
 
-/// Reads frames by drives of 16 polls, until the bytes end. The frames of each are dropped before
-/// the next.
+/// Reads frames in drives of 16 polls up to the end of the bytes. The frames of a drive are
+/// dropped before the next one.
 #[unsafe(no_mangle)]
 pub extern "C" fn wt_bench_drive(alloc: Global, bytes: &[u8]) -> i64
     ensures { result ≢ negsuc 0 → result ≡ count_of (run RemoteBi true bytes.now Ended) }

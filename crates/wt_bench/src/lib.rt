@@ -1,5 +1,5 @@
-//! The calls that the benchmark's driver makes, for C. Each returns a count, or -1 on an error; the
-//! driver compares the bytes that they write.
+//! The functions that the benchmark driver calls from C. Each returns a count, or -1 on an error.
+//! The driver compares the bytes that they write.
 #![tactic(auto)]
 
 ghost use Rattle.std.specs.Prelude.{◌≡◌, ◌≢◌, ◌≤◌, ◌<◌, ℕ, pos, negsuc, List, length};
@@ -12,7 +12,7 @@ mod pair;
 use std::alloc::Global;
 use wtp_fields::huffman;
 
-/// Copies bytes to the start of `out`. Returns their number, or -1 if there is too little room.
+/// Copies bytes to the start of `out`. Returns their number, or -1 if `out` is too small.
 fn put(bytes: &[u8], out: &mut [u8]) -> i64
     ensures count { length bytes.now ≤ length out.old → result ≡ pos (length bytes.now) }
     ensures none { length out.old < length bytes.now → result ≡ negsuc 0 }
@@ -26,7 +26,7 @@ fn put(bytes: &[u8], out: &mut [u8]) -> i64
     }
 }
 
-/// Decodes Huffman text, and writes the bytes to `out`.
+/// Decodes a Huffman-encoded string and writes the bytes to `out`.
 #[unsafe(no_mangle)]
 pub extern "C" fn wt_bench_huffman_decode(alloc: Global, text: &[u8], out: &mut [u8]) -> i64
     ensures { result ≢ negsuc 0 → (t : List ℕ) × IsHuffman t text.now × (result ≡ pos (length t)) }
@@ -37,7 +37,7 @@ pub extern "C" fn wt_bench_huffman_decode(alloc: Global, text: &[u8], out: &mut 
     }
 }
 
-/// Encodes text in the Huffman code, and writes the bytes to `out`.
+/// Huffman-encodes a string and writes the bytes to `out`.
 #[unsafe(no_mangle)]
 pub extern "C" fn wt_bench_huffman_encode(alloc: Global, text: &[u8], out: &mut [u8]) -> i64
     ensures { result ≢ negsuc 0 → (s : List ℕ) × IsHuffman text.now s × (result ≡ pos (length s)) }

@@ -1,4 +1,4 @@
--- The payload of a datagram is the end of its bytes.
+-- The payload of a datagram is a suffix of its bytes.
 use Rattle.std.proofs.Common.{◌≡◌, ℕ, List, Some}
 use Rattle.wtp_core.specs.Reader.{IsRest}
 use Rattle.wtp_wire.specs.Datagram.{datagram_in}

@@ -1,4 +1,4 @@
--- Field lines that are put into arrays one after the other.
+-- Field lines that are stored in arrays one after the other.
 use Rattle.std.proofs.Common.{◌≡◌, ℕ, zero, suc, ◌+◌, ◌-◌, ◌^◌, ◌<◌, ◌≤◌, inl, inr, List, [], ◌∷◌}
 use Rattle.std.proofs.Common.{◌++◌, map, length, take, drop, refl, sym, ap, ◌∙◌, arith}
 use Rattle.std.proofs.Common.{length-append, append_assoc, slice_set, Ok}
@@ -37,7 +37,7 @@ text_after at out front room text copied tail f r t e =
     ∙ drop_at (front ++ text) tail (at + length text) (length-append front text ∙ ap (λ (n : ℕ). n + length text) f)
     ∙ e ∙ ap (λ (s : List ℕ). drop (length text) s) r ∙ drop-drop (length text) at out
 
--- what is the same from n on is the same from there on too
+-- lists that are equal from n on are equal from n + k on
 pub later : {A : Type 0} → (n k : ℕ) (a b : List A) → drop n a ≡ drop n b → drop (n + k) a ≡ drop (n + k) b
 later {A} n k a b e = sym (drop-drop k n a) ∙ ap (λ (s : List A). drop k s) e ∙ drop-drop k n b
 
@@ -46,11 +46,11 @@ pub record PutsText (out new : List ℕ) (at : ℕ) (text : List ℕ) : Type 0 w
   pub text_is : take (length text) (drop at new) ≡ text
   pub after : drop (at + length text) new ≡ drop (at + length text) out
 
--- this text was put after the first `at` bytes
+-- this text was stored after the first `at` bytes
 pub put_is : (out new : List ℕ) (at : ℕ) (text : List ℕ) → take at new ≡ take at out → take (length text) (drop at new) ≡ text → drop (at + length text) new ≡ drop (at + length text) out → PutsText out new at text
 put_is out new at text f t a = record { front = f; text_is = t; after = a }
 
--- a name was put into the texts, and after it a value
+-- a name was stored in the texts, followed by a value
 pub line_put : (old : List WtField) (out mid new : List ℕ) (n at to : ℕ) (name value : List ℕ)
     → to ≡ at + length name → PutsText out mid at name → PutsText mid new to value
     → LinePut old out n at name value (slice_set old n (record { name_offset = at; name_len = length name; value_offset = to; value_len = length value })) new
@@ -65,7 +65,7 @@ line_put old out mid new n at to name value e one two =
       after = after ∙ later (at + length name) (length value) mid out one.after;
     }
 
--- ---- one more
+-- ---- one more field
 
 same_fields : (ws : List WtField) (at : ℕ) (a b : List ℕ) → take at a ≡ take at b → AreWithin at ws → map (λ w. field_in a w) ws ≡ map (λ w. field_in b w) ws
 same_fields [] at a b e h = refl
@@ -142,7 +142,7 @@ pub record IsRead (start rest : List ℕ) (first : List WtField) (first_texts : 
   pub used_is : used ≡ capped (texts_size done)
   pub held : count ≤ length fields → used ≤ length texts → HoldLines first first_texts fields texts count used done
 
--- a number of at most m, which is small, is the number that it is capped from
+-- capping a number that is at most m, for m below 2^63, keeps it at most m
 low_enough : (n m : ℕ) → n ≤ m → m < 2 ^ 63 → capped n ≤ m
 low_enough n m l small = rw (lt-ltb n (2 ^ 64) (omega (arith, l, small))) l
 

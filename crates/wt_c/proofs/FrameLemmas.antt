@@ -1,4 +1,4 @@
--- Kinds of frames with a payload, by their types.
+-- Kinds of frames with a payload, by frame type.
 use Rattle.std.proofs.Common.{◌≡◌, ◌≢◌, ℕ, ◌<◌, ◌≤◌, ◌^◌, List, [], ◌∷◌, ◌++◌, length, Some, None}
 use Rattle.std.proofs.Common.{refl, sym, ap, arith, append_assoc}
 use Rattle.wtp_core.specs.Varint.{shortest}

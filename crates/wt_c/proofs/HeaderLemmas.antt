@@ -1,4 +1,4 @@
--- The headers that C has as a type and a session.
+-- Stream headers that C represents as a type and a session ID.
 use Rattle.std.proofs.Common.{◌≡◌, ◌≢◌, ℕ, ◌<◌, ◌≤◌, ◌^◌, List, [], ◌∷◌, ◌++◌, true, false, Some}
 use Rattle.std.proofs.Common.{None, refl, sym, ap, ◌∙◌, arith}
 use Rattle.wtp_core.specs.Varint.{shortest}
@@ -43,7 +43,7 @@ kind_found : (c : WtStreamHeader) (h : Header) → IsHeaderIn c h → stream_kin
 kind_found c (PlainHeader kind) is = ap stream_kind_of (kind_eq c (PlainHeader kind) is) ∙ stream_kind_of-is kind (stream_number_of kind) (kind_is kind is.proper.0)
 kind_found c (WebTransportHeader id) is = ap stream_kind_of (kind_eq c (WebTransportHeader id) is) ∙ stream_kind_of-is WebTransport (stream_number_of WebTransport) refl
 
--- ---- the numbers of no header
+-- ---- numbers that are not a header
 
 pub none_above : (c : WtStreamHeader) → 2 ^ 62 ≤ c.kind → (h : Header) → ¬ (IsHeaderIn c h)
 none_above c big (PlainHeader kind) is =
@@ -79,7 +79,7 @@ none_plain c k e other some (WebTransportHeader id) is =
     let same : k ≡ WebTransport = cc in
     other same
 
--- ---- the header of the numbers
+-- ---- the header with these numbers
 
 made : (c : WtStreamHeader) (kind session : ℕ) → c.kind ≡ kind → c.session ≡ session → c ≡ record { kind = kind; session = session }
 made c kind session p q =

@@ -1,4 +1,4 @@
--- The fields of a section that are decoded under a limit are its lines.
+-- The fields of a section that is decoded under a limit are its lines.
 use Rattle.std.proofs.Common.{◌≡◌, ℕ, ◌⊎◌, List, [], ◌∷◌, inl, inr, Option, Some, None, Err}
 use Rattle.std.specs.Prelude.{codes}
 use Rattle.std.specs.List.{AllByRecursion}
@@ -49,7 +49,7 @@ stored_line limit section h = record {
 
 pub ruleset decoded = (all_lines, section_fault, large_line, stored_line)
 
--- ---- the faults of a request
+-- ---- the errors of a request
 
 abbrev IsNoOtherFault : Option HeadersParseError → Type 0
 IsNoOtherFault None = Unit {0}

@@ -1,4 +1,5 @@
--- A frame that a cursor takes is taken by its reader, and what is left to skip stays a number.
+-- A frame that a cursor accepts is accepted by its reader, and the number of bytes left to skip
+-- stays in range.
 use Rattle.std.proofs.Common.{◌≡◌, ℕ, ◌-◌, ◌<◌, ◌^◌, false, inl, inr, List, Option, Some, None, length, get_or, refl, ap, ◌∙◌, arith}
 use Rattle.std.proofs.lemmas.Bool.{cases_lt, lt-ltb, le-ltb}
 use Rattle.wtp_core.specs.Varint.{width_of, value_of, number_at}
@@ -19,7 +20,7 @@ frame_step p r old new bytes e s g =
     let same : new ≡ cursor_of (record r { first = 0; skip_remaining = 0 }) = s.cursor ∙ ap (λ (c : FrameCursor). record c { first = false; skip_remaining = 0 }) e in
     record { step_is = rw (e, same) at s; goes_on = rw (e, same) at g }
 
--- ---- what is left to skip
+-- ---- bytes left to skip
 
 value_low : (first : ℕ) (s : List ℕ) → value_of (width_of first) s < 2 ^ 62
 unfolding value_of

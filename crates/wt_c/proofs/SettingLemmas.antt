@@ -1,4 +1,4 @@
--- Settings that are put into an array, or written, one after the other.
+-- Settings that are stored in an array, or written, one after the other.
 use Rattle.std.proofs.Common.{◌≡◌, ℕ, ◌+◌, ◌<◌, ◌≤◌, zero, suc, inl, inr, List, [], ◌∷◌, Option, Some, None, Result, Ok, Err}
 use Rattle.std.proofs.lemmas.Bool.{cases_Bool}
 use Rattle.wtp_wire.specs.SettingId.{is_reserved}
@@ -14,9 +14,9 @@ use Rattle.wt_c.specs.declared.settings.WtSetting.{WtSetting}
 use Rattle.wt_c.specs.Settings.{pairs_of, HoldSettings, LackSettings, ArePairsOf, AreNumbers}
 use Rattle.wt_c.proofs.FieldLemmas.{later}
 
--- ---- into an array
+-- ---- stored in an array
 
--- the pairs of items of which none is a fault
+-- the pairs of items without an error
 abbrev pub pairs_left : List (Result SettingPair ErrorCode) → List (ℕ × ℕ)
 pairs_left [] = []
 pairs_left (Ok p ∷ items) = (p.id, p.value) ∷ pairs_left items
@@ -27,7 +27,8 @@ AreNoFaults [] = Unit {0}
 AreNoFaults (Ok p ∷ items) = AreNoFaults items
 AreNoFaults (Err code ∷ items) = ⊥
 
--- the first n settings were put, and these are left of all
+-- the first n settings of the array are the pairs before `left`, and the rest of the array is
+-- unchanged
 pub record IsPutting (old settings : List WtSetting) (n : ℕ) (left all : List (Result SettingPair ErrorCode)) (count : ℕ) : Type 0 where
   pub says : pairs_of (take n settings) ++ pairs_left left ≡ pairs_left all
   pub sum : n + length left ≡ count
@@ -108,7 +109,7 @@ pairs_more : (ws : List WtSetting) (w : WtSetting) (more : List (ℕ × ℕ)) �
 pairs_more [] w more = refl
 pairs_more (v ∷ ws) w more = ap (λ (l : List (ℕ × ℕ)). (v.id, v.value) ∷ l) (pairs_more ws w more)
 
--- one setting more is put
+-- one more setting is stored
 pub one_put : (old settings : List WtSetting) (n : ℕ) (p : SettingPair) (left more all : List (Result SettingPair ErrorCode)) (count : ℕ) → IsPutting old settings n left all count → left ≡ Ok p ∷ more
     → IsPutting old (slice_set settings n (record { id = p.id; value = p.value })) (n + 1) more all count
 one_put old settings n p left more all count h e =
@@ -132,7 +133,7 @@ payload_pairs payload m e = let (ps, has, faultless, kept) = settings-has_pairs 
 
 -- ---- written
 
--- these are left of all, and the others were written
+-- the payload followed by the settings in `left` is the payload of the settings in `all`
 pub record IsWriting (payload : List ℕ) (left all : List WtSetting) : Type 0 where
   pub bytes : payload ++ settings_wire (pairs_of left) ≡ settings_wire (pairs_of all)
   pub numbers : AreNumbers left

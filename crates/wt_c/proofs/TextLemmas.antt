@@ -1,4 +1,4 @@
--- Fields that are looked at one after the other, and texts that are ASCII.
+-- Fields that are checked one after the other, and ASCII texts.
 use Rattle.std.proofs.Common.{ℕ, List, [], ◌∷◌, Bool, true, false, length, take, drop}
 use Rattle.std.specs.Prelude.{MatchBool, IsUtf8}
 use Rattle.std.specs.Str.{IsAscii}
@@ -7,7 +7,7 @@ use Rattle.wt_c.specs.Fields.{AreWithin}
 use Rattle.wt_c.specs.Texts.{AreTextFields}
 use Rattle.wt_c.specs.declared.fields.WtField.{WtField}
 
--- these are left of all, and the others are as they should be
+-- `all` passes the check exactly if `left` does
 pub record AreLeft {A : Type 0} (good_all : List A → Type 0) (left all : List A) : Type 0 where
   pub good : good_all left → good_all all
   pub bad : good_all all → good_all left
@@ -26,7 +26,7 @@ within_of_texts : (texts : List ℕ) (fields : List WtField) → AreTextFields t
 within_of_texts texts [] h = tt
 within_of_texts texts (w ∷ ws) h = (h.0.within, within_of_texts texts ws h.1)
 
--- of ASCII bytes only the places matter
+-- for ASCII texts, only the offsets of the fields matter
 pub texts_by_places : (test : Bool) (texts : List ℕ) (fields : List WtField) → IsAscii texts
     → MatchBool test (AreWithin (length texts) fields) (¬ (AreWithin (length texts) fields))
     → MatchBool test (AreTextFields texts fields) (¬ (AreTextFields texts fields))

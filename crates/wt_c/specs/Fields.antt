@@ -9,13 +9,13 @@ use Rattle.wt_c.specs.declared.fields.WtField.{WtField}
 
 -- ---- the lines of a section
 
--- these are the lines of the section, in their order
+-- these are the lines of the section, in order
 pub record AreLinesOf (section : List ℕ) (lines : List Field) : Type 0 where
   pub start : List ℕ
   pub prefix : after_prefix section ≡ Ok start
   pub are : AreOctetLines start lines []
 
--- a line with a fault begins after the prefix and these lines
+-- the section contains a line with an error, after valid lines
 pub record HasFaultyLine (section : List ℕ) : Type 0 where
   pub start : List ℕ
   pub lines : List Field
@@ -26,12 +26,12 @@ pub record HasFaultyLine (section : List ℕ) : Type 0 where
   pub some : 0 < length rest
   pub fault : octet_line_at rest ≡ Err error
 
--- the prefix or a line has a fault
+-- the section prefix or a line of the section has an error
 abbrev pub HasSectionFault : List ℕ → Type 0
 HasSectionFault section =
     ((e : DecodingError) × (after_prefix section ≡ Err e)) ⊎ HasFaultyLine section
 
--- a line with a Huffman text begins after the prefix and these lines
+-- the section contains a line with a Huffman string, after valid lines
 pub record HasCodedLine (section : List ℕ) : Type 0 where
   pub start : List ℕ
   pub lines : List Field
@@ -40,8 +40,8 @@ pub record HasCodedLine (section : List ℕ) : Type 0 where
   pub are : AreOctetLines start lines rest
   pub coded : IsTrue (is_coded_line rest)
 
--- a line that needs memory begins after the prefix and these lines: it has a Huffman text, or it has
--- no fault, so that its field is stored
+-- the section contains a line that needs an allocation, after valid lines: it has a Huffman
+-- string, or it is valid, so its field is stored
 pub record HasStoredLine (section : List ℕ) : Type 0 where
   pub start : List ℕ
   pub lines : List Field
@@ -53,27 +53,28 @@ pub record HasStoredLine (section : List ℕ) : Type 0 where
 
 -- ---- lines in arrays
 
--- the name and the value that are in the texts
+-- the field whose name and value are at these offsets of the texts
 abbrev pub field_in : List ℕ → WtField → Field
 field_in texts w =
     (take w.name_len (drop w.name_offset texts), take w.value_len (drop w.value_offset texts))
 
--- both are within the first n bytes
+-- the name and the value are within the first n bytes
 pub record IsWithin (n : ℕ) (w : WtField) : Type 0 where
   pub name : w.name_offset + w.name_len ≤ n
   pub value : w.value_offset + w.value_len ≤ n
 
+-- the names and values of these fields are within the first n bytes
 abbrev pub AreWithin : ℕ → List WtField → Type 0
 AreWithin n [] = Unit {0}
 AreWithin n (w ∷ ws) = IsWithin n w × AreWithin n ws
 
--- how many bytes the names and the values have
+-- the total length of the names and values
 abbrev pub texts_size : List Field → ℕ
 texts_size [] = 0
 texts_size (line ∷ lines) = (length line.0 + length line.1) + texts_size lines
 
--- the first `count` fields are these lines, and their texts are the first `used` bytes; both arrays
--- did not change after these
+-- the first `count` fields are these lines, and the first `used` bytes are their texts; the rest
+-- of each array is unchanged
 pub record HoldLines (old : List WtField) (old_texts : List ℕ) (fields : List WtField)
     (texts : List ℕ) (count used : ℕ) (lines : List Field) : Type 0 where
   pub count_is : count ≡ length lines
@@ -85,11 +86,12 @@ pub record HoldLines (old : List WtField) (old_texts : List ℕ) (fields : List 
   pub fields_after : drop count fields ≡ drop count old
   pub texts_after : drop used texts ≡ drop used old_texts
 
--- a number of bytes as C has it: the largest that C has, if it is more
+-- the C form of a size: the number itself, or the largest 64-bit number if the size is larger
 abbrev pub capped : ℕ → ℕ
 capped n = if nat_lt n (2 ^ 64) then n else 2 ^ 64 - 1
 
--- the arrays are too short for these lines, and the room that they need is reported
+-- an array is too short for these lines, and `count` and `used` are the capped sizes that they
+-- need
 pub record LackRoom (fields : List WtField) (texts : List ℕ) (count used : ℕ)
     (lines : List Field) : Type 0 where
   pub count_is : count ≡ capped (length lines)
@@ -98,6 +100,7 @@ pub record LackRoom (fields : List WtField) (texts : List ℕ) (count used : ℕ
 
 -- ---- one line
 
+-- the C form of a line whose name and value are stored one after the other from offset `at` on
 abbrev pub place_of : ℕ → List ℕ → List ℕ → WtField
 place_of at name value = record {
   name_offset = at;
@@ -106,7 +109,8 @@ place_of at name value = record {
   value_len = length value;
 }
 
--- a line was put after the first n fields, and its texts after the first `at` bytes
+-- the line is stored after the first n fields, and its texts after the first `at` bytes; the rest
+-- of each array is unchanged
 pub record LinePut (old : List WtField) (old_texts : List ℕ) (n at : ℕ) (name value : List ℕ)
     (new : List WtField) (texts : List ℕ) : Type 0 where
   pub fields_are : new ≡ slice_set old n (place_of at name value)

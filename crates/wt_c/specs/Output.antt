@@ -1,13 +1,13 @@
--- What a call wrote to an output of the caller.
+-- Bytes written to an output of the caller.
 use Rattle.std.specs.Prelude.{◌≡◌, ℕ, ◌<◌, List, ◌++◌, length, drop}
 
--- The bytes are at the start of the output, and the other bytes of the output did not change. The
--- call reports how many it wrote.
+-- the bytes are at the start of the output, the rest of the output is unchanged, and `used` is
+-- the number of bytes
 pub record WritesPrefix (bytes old new : List ℕ) (used : ℕ) : Type 0 where
   pub size : used ≡ length bytes
   pub bytes_are : new ≡ bytes ++ drop used old
 
--- The output is too short for the bytes, and did not change. The call reports how many they are.
+-- the output is shorter than the bytes and is unchanged, and `needed` is the number of bytes
 pub record TooShort (bytes old new : List ℕ) (needed : ℕ) : Type 0 where
   pub short : length old < length bytes
   pub needed_is : needed ≡ length bytes

@@ -1,4 +1,5 @@
--- Reading frames as C does it: the reader, a frame's place, and what one call did.
+-- The C interface for reading frames: the reader, the offsets of a frame, and the effect of one
+-- call.
 use Rattle.std.specs.Prelude.{ℕ, ◌-◌, ◌<◌, ◌≤◌, ◌^◌, ◌==◌, if◌then◌else◌, not, Bool, List, unwrap_or}
 use Rattle.wtp_wire.specs.Kind.{frame_type_of}
 use Rattle.wtransport_proto.specs.FrameCursor.{StepIs, RunGoesOn}
@@ -12,27 +13,29 @@ use Rattle.wt_c.specs.declared.reader.TheConstants.{BI_REMOTE, BI_LOCAL, CONTROL
 use Rattle.wt_c.specs.declared.reader.WtReader.{WtReader}
 use Rattle.wt_c.specs.declared.reader.WtFrame.{WtFrame}
 
--- A reader that wt_reader_new made, or a later state of it; any other is rejected. What is still to
--- be skipped of a payload is less than the largest length (RFC 9114, section 7.1) allows.
+-- the reader is in a valid state: its kind and its flag are in range, and the number of payload
+-- bytes left to skip is below 2^62, as every length is (RFC 9114, section 7.1). wt_reader_new and
+-- wt_read_frame produce only such readers
 pub record IsReader (r : WtReader) : Type 0 where
   pub kind : r.kind ≤ SESSION
   pub first : r.first ≤ 1
   pub skip_remaining : r.skip_remaining < 2 ^ 62
 
--- the role of a stream's kind in C, if it is one
+-- the role of a stream, by its number in C; a number above CONTROL is that of a session's stream
 abbrev pub stream_role : ℕ → StreamRole
 stream_role n =
     if n == BI_REMOTE then BiRemote
     else (if n == BI_LOCAL then BiLocal else (if n == CONTROL then UniRemote else Session))
 
+-- the C flag is set: its number is not 0
 abbrev pub is_first : ℕ → Bool
 is_first n = not (n == 0)
 
--- the reader as a cursor
+-- the cursor that a C reader represents
 abbrev pub cursor_of : WtReader → FrameCursor
 cursor_of r = record { role = stream_role r.kind; first = is_first r.first; skip_remaining = r.skip_remaining }
 
--- a frame's place as C has it
+-- the C form of a frame's offsets
 abbrev pub c_frame : FrameSpan → WtFrame
 c_frame p = record {
   kind = frame_type_of p.kind;
@@ -41,8 +44,9 @@ c_frame p = record {
   len = p.end - p.start;
 }
 
--- This step took the reader from one state to the other. Whatever follows the bytes, the run of the
--- stream is made from that of the bytes that were not consumed.
+-- this step took the reader from the old state to the new one. Whatever bytes follow, the run of
+-- the stream is the frame of this step, if there is one, followed by the run of the bytes that
+-- were not consumed; after an error, the run ends with its error code
 pub record Stepped (step : CursorStep) (old : WtReader) (bytes : List ℕ) (new : WtReader)
     : Type 0 where
   pub step_is : StepIs step (cursor_of old) bytes (cursor_of new)

@@ -1,4 +1,4 @@
--- The faults of a request by number and by name.
+-- The errors of a request, by number and by name.
 use Rattle.std.specs.Prelude.{◌≡◌, ◌≢◌, ℕ, ℤ, List, codes, Option, Some, None}
 use Rattle.wtp_fields.specs.declared.session.HeadersParseError.{HeadersParseError}
 use Rattle.wtp_fields.specs.declared.session.HeadersParseError.TheVariants as is
@@ -8,7 +8,7 @@ use Rattle.wt_c.specs.declared.request_faults.TheConstants.{SCHEME_NOT_HTTPS, MI
 use Rattle.wt_c.specs.declared.request_faults.TheConstants.{PROTOCOL_NOT_WEBTRANSPORT}
 use Rattle.wt_c.specs.declared.request_faults.TheConstants.{MISSING_AUTHORITY, MISSING_PATH}
 
--- the number of a fault of a request; the others are no faults of a request
+-- the C number of an error of a request; REQUEST_OK for other errors
 abbrev pub fault_number : HeadersParseError → ℤ
 fault_number is.MissingMethod = MISSING_METHOD
 fault_number is.MethodNotConnect = METHOD_NOT_CONNECT
@@ -22,21 +22,21 @@ fault_number is.MissingStatusCode = REQUEST_OK
 fault_number is.InvalidStatusCode = REQUEST_OK
 fault_number is.Memory = REQUEST_OK
 
--- the fault is one of a request: it has a number
+-- the error is one of a request, so it has a number of its own
 abbrev pub IsRequestFault : HeadersParseError → Type 0
 IsRequestFault fault = fault_number fault ≢ REQUEST_OK
 
--- of the first fault, if there is one
+-- the C number of the first error, or REQUEST_OK if there is none
 abbrev pub first_number : Option HeadersParseError → ℤ
 first_number None = REQUEST_OK
 first_number (Some fault) = fault_number fault
 
--- this is the number of this fault of a request
+-- this is the C number of this error of a request
 pub record IsFaultNumber (n : ℤ) (fault : HeadersParseError) : Type 0 where
   pub same : n ≡ fault_number fault
   pub some : n ≢ REQUEST_OK
 
--- the names of the faults of a request
+-- the name of an error
 abbrev pub fault_name : HeadersParseError → List ℕ
 fault_name is.MissingMethod = codes "MissingMethod"
 fault_name is.MethodNotConnect = codes "MethodNotConnect"

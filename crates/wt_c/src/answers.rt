@@ -1,19 +1,19 @@
-//! What the calls return: 0 or above if no fault was found, and below 0 otherwise.
+//! Status codes that the calls return: 0 or above if no error was found, and below 0 otherwise.
 
-/// The call did what it is for.
+/// The call succeeded.
 pub const OK: i32 = 0;
 
 /// More bytes are needed.
 pub const MORE: i32 = 1;
 
-/// The input has a fault, whose error code the call reports.
+/// The input has an error. The call reports its error code.
 pub const FAULT: i32 = -1;
 
-/// An output is too short. The call reports the room that it needs.
+/// An output is too short. The call reports the size that it needs.
 pub const BUFFER_TOO_SMALL: i32 = -2;
 
-/// An argument is out of its range.
+/// An argument is invalid.
 pub const INVALID: i32 = -3;
 
-/// Memory allocation failed.
+/// Allocation failed.
 pub const MEMORY: i32 = -4;

@@ -1,4 +1,4 @@
-//! Capsules that are read from the data of a session's stream (RFC 9297, section 3.2).
+//! Reads capsules from the data of a session's stream (RFC 9297, section 3.2).
 ghost use Rattle.std.specs.Prelude.{◌≡◌, ◌≢◌, ◌⊎◌, ◌≤◌, length};
 ghost use Rattle.wtp_wire.specs.declared.capsule.cursor.CapsuleSpan.{CapsuleSpan};
 ghost use Rattle.wtp_wire.specs.declared.capsule.cursor.CapsuleStep.{CapsuleStep};
@@ -8,15 +8,15 @@ use crate::answers::{FAULT, MORE, OK};
 use wtp_core::error::ErrorCode;
 use wtp_wire::capsule::{CapsuleCursor, CapsuleSpan, CapsuleStep};
 
-/// All that reading the capsules of a stream remembers between two calls. Every value is valid.
+/// Capsule-reader state for one stream. Every value is valid.
 #[repr(C)]
 #[derive(Clone, Copy)]
 pub struct WtCapsuleReader {
-    /// How many bytes of an unknown capsule's value are still to be skipped.
+    /// The number of bytes left to skip of an unknown capsule's value.
     pub skip_remaining: u64,
 }
 
-/// A capsule, whose value is in the bytes that were read.
+/// A capsule whose value is in the bytes that were read.
 #[repr(C)]
 #[derive(Clone, Copy)]
 pub struct WtCapsule {
@@ -24,11 +24,11 @@ pub struct WtCapsule {
     pub kind: u64,
     /// The offset of the value.
     pub offset: usize,
-    /// The size of the value in bytes.
+    /// The length of the value in bytes.
     pub len: usize,
 }
 
-/// Returns the cursor of a reader.
+/// Returns the cursor that a reader represents.
 fn cursor_of(reader: &WtCapsuleReader) -> CapsuleCursor
     ensures { result ≡ cursor_of reader.now }
 {
@@ -37,7 +37,7 @@ fn cursor_of(reader: &WtCapsuleReader) -> CapsuleCursor
     }
 }
 
-/// Returns a capsule's place as C has it.
+/// Returns the C form of a capsule's offsets.
 fn capsule_at(place: &CapsuleSpan) -> WtCapsule
     ensures { result ≡ c_capsule place.now }
 {
@@ -48,18 +48,18 @@ fn capsule_at(place: &CapsuleSpan) -> WtCapsule
     }
 }
 
-/// Reads the next capsule of a known type from the data of a session's stream, the payloads of its
-/// DATA frames: from the bytes after those that were consumed before. Capsules of unknown types are
-/// skipped, also piece by piece (RFC 9297, section 3.2).
+/// Reads the next capsule of a known type from the data of a session's stream, which is the
+/// payloads of its DATA frames. `bytes` is the data after the bytes that were already consumed.
+/// Capsules of unknown types are skipped, piece by piece if necessary (RFC 9297, section 3.2).
 ///
-/// - `OK`: the next capsule. `consumed` is the offset after its value.
-/// - `MORE`: there is no complete capsule. The bytes after the first `consumed` have to be given
-///   again with more bytes after them; they are at most 1043.
-/// - `FAULT`: the value of the next capsule has more than 1028 bytes; the code is
-///   `H3_DATAGRAM_ERROR` (0x33). The reader does not change, and `consumed` is 0.
+/// - `OK`: a capsule was read. `consumed` is the offset after its value.
+/// - `MORE`: there is no complete capsule. The bytes after the first `consumed` must be passed
+///   again, followed by more; they are at most 1043.
+/// - `FAULT`: the value of the next capsule is longer than 1028 bytes. `code` is
+///   `H3_DATAGRAM_ERROR` (0x33), `reader` is unchanged, and `consumed` is 0.
 ///
-/// However the data is cut, the capsules and the fault are the same. `capsule` changes for `OK`
-/// alone, and `code` for `FAULT` alone.
+/// The capsules and the error do not depend on how the data is split. Only `OK` changes
+/// `capsule`, and only `FAULT` changes `code`.
 #[unsafe(no_mangle)]
 pub extern "C" fn wt_capsule_read(
     reader: &mut WtCapsuleReader,
@@ -102,10 +102,11 @@ pub extern "C" fn wt_capsule_read(
     }
 }
 
-/// Returns what it means that the stream ends here, after `MORE`, with `rest` left over.
+/// Checks that the stream may end here. `rest` is the bytes that were not consumed, after `MORE`.
 ///
 /// Returns `OK` if the stream may end here. Returns `FAULT` with the code `H3_MESSAGE_ERROR`
-/// (0x10e) if a capsule has begun (RFC 9297, section 3.3); `code` changes for `FAULT` alone.
+/// (0x10e) if the stream ends inside a capsule (RFC 9297, section 3.3). Only `FAULT` changes
+/// `code`.
 #[unsafe(no_mangle)]
 pub extern "C" fn wt_capsule_end(reader: &WtCapsuleReader, rest: &[u8], code: &mut u64) -> i32
     ensures answers { (result ≡ OK) ⊎ (result ≡ FAULT) }

@@ -10,22 +10,22 @@ use crate::output::write_bytes;
 use wtp_core::error::{Code, ErrorScope, application_codes};
 use wtp_core::varint::VarInt;
 
-/// The code ends one stream.
+/// The error code closes one stream.
 pub const STREAM: i32 = 0;
 
-/// The code ends the connection.
+/// The error code closes the connection.
 pub const CONNECTION: i32 = 1;
 
-/// The code ends a stream or the connection, as the rule that is violated says.
+/// The error code closes a stream or the connection, depending on the rule that was violated.
 pub const EITHER: i32 = 2;
 
-/// Writes the name of an error code in the registry, such as `H3_FRAME_UNEXPECTED`, to the start of
-/// `out`, in ASCII and without a final zero.
+/// Writes the registered name of an error code, such as `H3_FRAME_UNEXPECTED`, to the start of
+/// `out`, in ASCII and without a terminating zero.
 ///
-/// Returns `OK` with the size of the name in `used`. Returns `BUFFER_TOO_SMALL` if `out` is shorter than that
-/// size, which `used` then is; `out` does not change. Returns `INVALID` if the number is not that
-/// of a registered code; then nothing changes. An unknown error code is treated as `H3_NO_ERROR`
-/// (RFC 9114, section 8).
+/// Returns `OK` with the length of the name in `used`. Returns `BUFFER_TOO_SMALL` if `out` is too short;
+/// `used` is then the length of the name, and `out` is unchanged. Returns `INVALID` if the error
+/// code is not registered; nothing is then changed. Unknown error codes are treated as
+/// `H3_NO_ERROR` (RFC 9114, section 8).
 #[unsafe(no_mangle)]
 pub extern "C" fn wt_code_name(number: u64, out: &mut [u8], used: &mut usize) -> i32
     ensures answers { (result ≡ OK) ⊎ ((result ≡ BUFFER_TOO_SMALL) ⊎ (result ≡ INVALID)) }
@@ -45,8 +45,8 @@ pub extern "C" fn wt_code_name(number: u64, out: &mut [u8], used: &mut usize) ->
     }
 }
 
-/// Returns what an error code ends: `STREAM`, `CONNECTION` or `EITHER` (RFC 9114, section 8).
-/// Returns `INVALID` if the number is not that of a registered code.
+/// Returns the scope of an error code: `STREAM`, `CONNECTION` or `EITHER` (RFC 9114, section 8).
+/// Returns `INVALID` if the error code is not registered.
 #[unsafe(no_mangle)]
 pub extern "C" fn wt_code_scope(number: u64) -> i32
     ensures answers { (result ≡ STREAM)
@@ -65,7 +65,7 @@ pub extern "C" fn wt_code_scope(number: u64) -> i32
     }
 }
 
-/// Returns what a code ends as C has it.
+/// Returns the C number of an error code's scope.
 fn number_of_scope(scope: ErrorScope) -> i32
     ensures { result ≡ scope_number scope }
 {
@@ -76,7 +76,7 @@ fn number_of_scope(scope: ErrorScope) -> i32
     }
 }
 
-/// Returns the HTTP/3 error code of an application's error code, which resets a WebTransport stream
+/// Returns the HTTP/3 error code for an application error code that resets a WebTransport stream
 /// (WebTransport over HTTP/3, "Resetting Data Streams").
 #[unsafe(no_mangle)]
 pub extern "C" fn wt_application_code_to_http3(code: u32) -> u64
@@ -85,10 +85,10 @@ pub extern "C" fn wt_application_code_to_http3(code: u32) -> u64
     application_codes::to_http3(code).into_inner()
 }
 
-/// Finds the application's error code of an HTTP/3 error code.
+/// Finds the application error code for an HTTP/3 error code.
 ///
-/// Returns `OK` with the code. Returns `INVALID` if no application's error code has this HTTP/3
-/// error code; then `code` does not change.
+/// Returns `OK` with the application error code in `code`. Returns `INVALID` if the HTTP/3 error
+/// code does not represent one; `code` is then unchanged.
 #[unsafe(no_mangle)]
 pub extern "C" fn wt_application_code_from_http3(number: u64, code: &mut u32) -> i32
     ensures answers { (result ≡ OK) ⊎ (result ≡ INVALID) }

@@ -1,4 +1,4 @@
-//! HTTP datagrams (RFC 9297, section 2.1).
+//! HTTP Datagrams (RFC 9297, section 2.1).
 ghost use Rattle.std.specs.Prelude.{◌≡◌, ◌⊎◌, ◌≤◌, ◌*◌, ◌/◌, ◌++◌, ℕ, List, length, drop, Some};
 ghost use Rattle.std.specs.Prelude.{None};
 ghost use Rattle.wtp_wire.specs.Datagram.{datagram_in, datagram_wire};
@@ -12,11 +12,11 @@ use crate::output::{size_before, write_number};
 use wtp_core::ids::QStreamId;
 use wtp_wire::datagram::Datagram;
 
-/// Reads a QUIC datagram.
+/// Reads an HTTP Datagram from the payload of a QUIC datagram.
 ///
-/// Returns `OK` with the session, and with the offset of the payload, which is all bytes from there
-/// on. Returns `FAULT` with the code `H3_DATAGRAM_ERROR` (0x33) if the bytes do not start with a
-/// number below 2^60; then `session` and `offset` do not change.
+/// Returns `OK` with the session ID in `session`. The payload is all bytes from `offset` on.
+/// Returns `FAULT` with the code `H3_DATAGRAM_ERROR` (0x33) if the bytes do not start with a
+/// number below 2^60; `session` and `offset` are then unchanged. Only `FAULT` changes `code`.
 #[unsafe(no_mangle)]
 #[tactic(auto, using(crate::proofs::DatagramLemmas::payload_is_rest))]
 pub extern "C" fn wt_datagram_read(
@@ -47,9 +47,9 @@ pub extern "C" fn wt_datagram_read(
 
 /// Writes a datagram of a session to the start of `out`.
 ///
-/// Returns `OK` with the size of the datagram in `used`. Returns `BUFFER_TOO_SMALL` if `out` is shorter than
-/// that size, which `used` then is; `out` does not change. Returns `INVALID` if the number is not
-/// that of a session; then nothing changes.
+/// Returns `OK` with the size of the datagram in `used`. Returns `BUFFER_TOO_SMALL` if `out` is too short;
+/// `used` is then the size of the datagram, and `out` is unchanged. Returns `INVALID` if
+/// `session` is not a session ID; nothing is then changed.
 #[unsafe(no_mangle)]
 pub extern "C" fn wt_datagram_write(
     session: u64,
@@ -76,10 +76,10 @@ pub extern "C" fn wt_datagram_write(
     }
 }
 
-/// Writes what comes before the payload of a datagram of a session to the start of `out`, so that
-/// the payload need not be copied.
+/// Writes the header of a datagram of a session to the start of `out`, so the payload that
+/// follows it need not be copied.
 ///
-/// Returns what `wt_datagram_write` returns, for these bytes alone.
+/// Returns the same results as `wt_datagram_write`, for the header only.
 #[unsafe(no_mangle)]
 pub extern "C" fn wt_datagram_write_head(session: u64, out: &mut [u8], used: &mut usize) -> i32
     ensures answers { (result ≡ OK) ⊎ ((result ≡ BUFFER_TOO_SMALL) ⊎ (result ≡ INVALID)) }
@@ -96,7 +96,7 @@ pub extern "C" fn wt_datagram_write_head(session: u64, out: &mut [u8], used: &mu
     }
 }
 
-/// A datagram is what `wt_datagram_write_head` writes, and then its payload.
+/// A datagram is the header that `wt_datagram_write_head` writes, followed by its payload.
 pub fn datagram_is_head_and_payload()
     ensures { (quarter : ℕ) (payload : List ℕ)
         → datagram_wire (quarter, payload) ≡ datagram_head quarter ++ payload }

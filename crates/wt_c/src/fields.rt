@@ -12,21 +12,21 @@ use std::alloc::Global;
 use wtp_core::error::ErrorCode;
 use wtp_fields::qpack::{DecodingError, FieldBuffer, FieldLines};
 
-/// A field line, whose name and value are in an array of bytes.
+/// A field line whose name and value are in an array of bytes.
 #[repr(C)]
 #[derive(Clone, Copy)]
 pub struct WtField {
     /// The offset of the name.
     pub name_offset: usize,
-    /// The size of the name in bytes.
+    /// The length of the name in bytes.
     pub name_len: usize,
     /// The offset of the value.
     pub value_offset: usize,
-    /// The size of the value in bytes.
+    /// The length of the value in bytes.
     pub value_len: usize,
 }
 
-/// Returns the sum, or the largest number if it is more.
+/// Returns the sum, or `usize::MAX` if it overflows.
 fn add_capped(a: usize, b: usize) -> usize
     ensures { result ≡ capped (a + b) }
 {
@@ -36,7 +36,8 @@ fn add_capped(a: usize, b: usize) -> usize
     a + b
 }
 
-/// Copies a text after the first `at` bytes of `out`, and returns where it ends, if it fits.
+/// Copies a text after the first `at` bytes of `out`. Returns the offset after it, or `None` if
+/// it does not fit.
 fn put_text(text: &[u8], out: &mut [u8], at: usize) -> Option<usize>
     ensures end { IfSome result (λ end. (end ≡ at + length text.now) × (end ≤ length out.new)) }
     ensures front { take at out.new ≡ take at out.old }
@@ -51,7 +52,8 @@ fn put_text(text: &[u8], out: &mut [u8], at: usize) -> Option<usize>
     Some(at + text.len())
 }
 
-/// Puts a line after the first `n` fields, and its texts after the first `at` bytes, if it fits.
+/// Stores a line after the first `n` fields, and its texts after the first `at` bytes, if there
+/// is room.
 fn put_line(
     name: &[u8],
     value: &[u8],
@@ -83,8 +85,8 @@ fn put_line(
     };
 }
 
-/// Puts the lines into the arrays as far as they fit, and returns how many they are and how many
-/// bytes their texts have.
+/// Stores as many lines in the arrays as fit. Returns the number of lines and the length of their
+/// texts, including those that did not fit.
 fn read_lines(
     alloc: Global,
     lines: &mut FieldLines<'_>,
@@ -117,15 +119,18 @@ fn read_lines(
     }
 }
 
-/// Reads a field section: its lines in their order, with repeated names, as bytes.
+/// Decodes a field section into its lines, in order and with repeated names. Names and values are
+/// bytes.
 ///
-/// Returns `OK` with the lines: the first `count` of `fields`, whose texts are the first `used`
-/// bytes of `texts`. After these, both arrays do not change. Returns `BUFFER_TOO_SMALL` if an array is too
-/// short; `count` and `used` are then the room that the lines need, and the contents of both arrays
-/// are unspecified. Returns `FAULT` with the code `QPACK_DECOMPRESSION_FAILED` (0x200) for a
-/// section with a fault, and `MEMORY` if allocation failed, which happens only at a line with a
-/// Huffman text; `count` and `used` do not change then, and the contents of both arrays are
-/// unspecified.
+/// Returns `OK` if all lines fit: they are the first `count` of `fields`, and their texts are the
+/// first `used` bytes of `texts`. The rest of both arrays is unchanged.
+///
+/// Returns `BUFFER_TOO_SMALL` if an array is too short. `count` and `used` are then the sizes that the lines
+/// need, or `usize::MAX` for a larger size. Returns `FAULT` with the code
+/// `QPACK_DECOMPRESSION_FAILED` (0x200) if the section has an error, and `MEMORY` if allocation
+/// failed, which happens only at a line with a Huffman string. `FAULT` and `MEMORY` leave `count`
+/// and `used` unchanged. In all three cases the contents of both arrays are unspecified. Only
+/// `FAULT` changes `code`.
 #[unsafe(no_mangle)]
 pub extern "C" fn wt_fields_read(
     alloc: Global,

@@ -1,4 +1,4 @@
-//! Frames that are written (RFC 9114, section 7).
+//! Writes frames (RFC 9114, section 7).
 ghost use Rattle.std.specs.Prelude.{◌≡◌, ◌≢◌, ◌⊎◌, ◌≤◌, ◌<◌, ◌^◌, ◌++◌, List, ℕ, length};
 ghost use Rattle.std.specs.Prelude.{MatchOption};
 ghost use Rattle.wt_c.specs.Numbers.{IsSessionNumber};
@@ -17,7 +17,8 @@ use wtp_core::bytes::BufferWriter;
 use wtp_core::varint::VarInt;
 use wtp_wire::frame::{Frame, FrameKind};
 
-/// Returns the kind of the frames of a type, if they have a payload.
+/// Returns the frame kind of a frame type, or `None` if its frames have no payload or the type is
+/// unknown.
 #[tactic(auto, using(crate::proofs::FrameLemmas::payload_kinds))]
 fn payload_kind(kind: u64) -> Option<FrameKind>
     ensures { MatchOption result ((k : FrameKind) → ¬ (IsPayloadKind k kind))
@@ -35,7 +36,7 @@ fn payload_kind(kind: u64) -> Option<FrameKind>
     Some(known)
 }
 
-/// Returns the frame of a kind with a payload, unless the payload is too long.
+/// Returns a frame with this kind and payload, or `None` if the payload is too long.
 fn frame_of(kind: FrameKind, payload: &[u8]) -> Option<Frame<'_>>
     requires known { IsKnown kind }
     requires plain { kind ≢ FrameKind.WebTransport }
@@ -55,7 +56,7 @@ fn frame_of(kind: FrameKind, payload: &[u8]) -> Option<Frame<'_>>
     })
 }
 
-/// Writes a frame to the start of `out`, as `write_bytes` does.
+/// Writes a frame to the start of `out`. The results are those of `write_bytes`.
 pub(crate) fn write_frame(frame: &Frame<'_>, out: &mut [u8], used: &mut usize) -> i32
     ensures answers { (result ≡ OK) ⊎ (result ≡ BUFFER_TOO_SMALL) }
     ensures bytes { result ≡ OK → WritesPrefix (wire frame.now) out.old out.new used.new }
@@ -70,11 +71,11 @@ pub(crate) fn write_frame(frame: &Frame<'_>, out: &mut [u8], used: &mut usize) -
 }
 
 /// Writes a frame with a payload to the start of `out`. Its type is DATA (0x00), HEADERS (0x01),
-/// SETTINGS (0x04), or one that is reserved for exercise (RFC 9114, section 7.2.8).
+/// SETTINGS (0x04), or a reserved type (RFC 9114, section 7.2.8).
 ///
-/// Returns `OK` with the size of the frame in `used`. Returns `BUFFER_TOO_SMALL` if `out` is shorter than that
-/// size, which `used` then is; `out` does not change. Returns `INVALID` if the type is another, or
-/// if the payload has 2^62 bytes or more; then nothing changes.
+/// Returns `OK` with the size of the frame in `used`. Returns `BUFFER_TOO_SMALL` if `out` is too short;
+/// `used` is then the size of the frame, and `out` is unchanged. Returns `INVALID` if the type is
+/// any other, or if the payload is 2^62 bytes or longer; nothing is then changed.
 #[unsafe(no_mangle)]
 pub extern "C" fn wt_frame_write(kind: u64, payload: &[u8], out: &mut [u8], used: &mut usize) -> i32
     ensures answers { (result ≡ OK) ⊎ ((result ≡ BUFFER_TOO_SMALL) ⊎ (result ≡ INVALID)) }
@@ -97,11 +98,11 @@ pub extern "C" fn wt_frame_write(kind: u64, payload: &[u8], out: &mut [u8], used
     }
 }
 
-/// Writes what comes before the payload of a frame to the start of `out`: its type, and the length
-/// of its payload. So the payload need not be copied.
+/// Writes the header of a frame to the start of `out`: its type and the length of its payload.
+/// The payload that follows it need not be copied.
 ///
-/// Returns what `wt_frame_write` returns, for these bytes alone; `INVALID` also if the length is
-/// 2^62 or more.
+/// Returns the same results as `wt_frame_write`, for the header only. Also returns `INVALID` if
+/// `size` is 2^62 or more.
 #[unsafe(no_mangle)]
 pub extern "C" fn wt_frame_write_head(kind: u64, size: u64, out: &mut [u8], used: &mut usize) -> i32
     ensures answers { (result ≡ OK) ⊎ ((result ≡ BUFFER_TOO_SMALL) ⊎ (result ≡ INVALID)) }
@@ -122,7 +123,7 @@ pub extern "C" fn wt_frame_write_head(kind: u64, size: u64, out: &mut [u8], used
     }
 }
 
-/// A frame is what `wt_frame_write_head` writes, and then its payload.
+/// A frame is the header that `wt_frame_write_head` writes, followed by its payload.
 #[tactic(auto, using(crate::proofs::FrameLemmas::head_and_payload))]
 pub fn frame_is_head_and_payload()
     ensures { (k : FrameKind) (payload : List ℕ)
@@ -130,11 +131,11 @@ pub fn frame_is_head_and_payload()
 {}
 
 /// Writes the frame that associates its stream with a session to the start of `out`
-/// (draft-ietf-webtrans-http3-02, section 4.2). All bytes after it are the application's.
+/// (draft-ietf-webtrans-http3-02, section 4.2). All bytes after it are application data.
 ///
-/// Returns `OK` with the size of the frame in `used`. Returns `BUFFER_TOO_SMALL` if `out` is shorter than that
-/// size, which `used` then is; `out` does not change. Returns `INVALID` if the number is not that
-/// of a session; then nothing changes.
+/// Returns `OK` with the size of the frame in `used`. Returns `BUFFER_TOO_SMALL` if `out` is too short;
+/// `used` is then the size of the frame, and `out` is unchanged. Returns `INVALID` if `session`
+/// is not a session ID; nothing is then changed.
 #[unsafe(no_mangle)]
 pub extern "C" fn wt_session_frame_write(session: u64, out: &mut [u8], used: &mut usize) -> i32
     ensures answers { (result ≡ OK) ⊎ ((result ≡ BUFFER_TOO_SMALL) ⊎ (result ≡ INVALID)) }

@@ -1,7 +1,8 @@
-//! The protocol core for C, without a network: the calls of `c/include/wtransport.h`.
+//! The protocol core for C, without a network: the functions of `c/include/wtransport.h`.
 //!
-//! The caller owns all state, and all output goes to memory of the caller. A call returns one of
-//! the numbers of [`answers`]; its contract says what it returns when, and what it wrote.
+//! The caller owns all state, and all output is written to the caller's memory. Functions return
+//! one of the status codes in [`answers`], unless their documentation says otherwise. Their
+//! contracts state when each status is returned, and what is then written.
 #![tactic(auto)]
 
 pub mod answers;

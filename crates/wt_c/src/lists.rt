@@ -1,4 +1,4 @@
-//! The fields of a section as a list (RFC 9204, section 4.5).
+//! Decodes a field section into a list of fields (RFC 9204, section 4.5).
 ghost use Rattle.std.specs.Prelude.{◌≡◌, ◌≢◌, ◌⊎◌, MatchResult};
 ghost use Rattle.wt_c.specs.Fields.{AreLinesOf, HasSectionFault, HasStoredLine};
 
@@ -7,17 +7,17 @@ use std::alloc::Global;
 use wtp_core::error::ErrorCode;
 use wtp_fields::fields::{FieldList, FieldSectionError};
 
-/// Why there are no fields of a section.
+/// Why a field section could not be decoded.
 #[derive(Drop)]
 pub(crate) enum Unread {
-    /// The section has a fault.
+    /// The section has an error.
     Fault,
-    /// Memory allocation failed.
+    /// Allocation failed.
     Memory,
 }
 
 impl Unread {
-    /// Returns the answer in C, and reports the error code of a fault.
+    /// Returns the status code for C. For an error in the section, sets `code` to its error code.
     pub(crate) fn answer(self, code: &mut u64) -> i32
         ensures fault { self ≡ Unread.Fault → (result ≡ FAULT) × (code.new ≡ 0x200) }
         ensures memory { self ≡ Unread.Memory → (result ≡ MEMORY) × (code.new ≡ code.old) }
@@ -32,9 +32,10 @@ impl Unread {
     }
 }
 
-/// Reads the fields of a section, in its order.
+/// Decodes a field section into its fields, in order.
 ///
-/// Fields whose size is 2^64 or more are `Memory`: no memory has room for them.
+/// Returns [`Unread::Fault`] if the section has an error, and [`Unread::Memory`] if allocation
+/// failed or the fields have a size of 2^64 or more, which no memory can hold.
 #[tactic(auto, using(crate::proofs::ListLemmas::decoded))]
 pub(crate) fn read_fields(alloc: Global, section: &[u8]) -> Result<FieldList, Unread>
     ensures fields { MatchResult result (λ list. AreLinesOf section.now list) (λ e.

@@ -9,10 +9,10 @@ use crate::output::write_number;
 use wtp_core::ids::SessionId;
 use wtp_core::varint::{VarInt, first_varint};
 
-/// Reads the number at the start of the bytes; every encoding is read.
+/// Reads the number at the start of the bytes. Encodings longer than necessary are accepted.
 ///
-/// Returns `OK` with the number, and with the size of its encoding in `consumed`. Returns `MORE` if
-/// there are too few bytes; then `consumed` is 0, and `value` does not change.
+/// Returns `OK` with the number in `value` and the length of its encoding in `consumed`. Returns
+/// `MORE` if there are too few bytes; `consumed` is then 0, and `value` is unchanged.
 #[unsafe(no_mangle)]
 pub extern "C" fn wt_varint_read(bytes: &[u8], value: &mut u64, consumed: &mut usize) -> i32
     ensures answers { (result ≡ OK) ⊎ (result ≡ MORE) }
@@ -37,9 +37,9 @@ pub extern "C" fn wt_varint_read(bytes: &[u8], value: &mut u64, consumed: &mut u
 
 /// Writes the shortest encoding of a number to the start of `out`.
 ///
-/// Returns `OK` with the size of the encoding in `used`. Returns `BUFFER_TOO_SMALL` if `out` is shorter than
-/// that size, which `used` then is; `out` does not change. Returns `INVALID` if the number is 2^62
-/// or more; then nothing changes.
+/// Returns `OK` with the length of the encoding in `used`. Returns `BUFFER_TOO_SMALL` if `out` is too short;
+/// `used` is then the length of the encoding, and `out` is unchanged. Returns `INVALID` if the
+/// number is 2^62 or more; nothing is then changed.
 #[unsafe(no_mangle)]
 pub extern "C" fn wt_varint_write(value: u64, out: &mut [u8], used: &mut usize) -> i32
     ensures answers { (result ≡ OK) ⊎ ((result ≡ BUFFER_TOO_SMALL) ⊎ (result ≡ INVALID)) }
@@ -56,8 +56,8 @@ pub extern "C" fn wt_varint_write(value: u64, out: &mut [u8], used: &mut usize) 
     write_number(number, out, used)
 }
 
-/// Returns the size of the shortest encoding of a number in bytes: 1, 2, 4 or 8. Returns 0 if the
-/// number is 2^62 or more.
+/// Returns the length of the shortest encoding of a number in bytes: 1, 2, 4 or 8. Returns 0 if
+/// the number is 2^62 or more.
 #[unsafe(no_mangle)]
 pub extern "C" fn wt_varint_size(value: u64) -> usize
     ensures size { value < 2 ^ 62 → result ≡ length (shortest value) }
@@ -69,7 +69,7 @@ pub extern "C" fn wt_varint_size(value: u64) -> usize
     }
 }
 
-/// Returns the session of a number, if it has one.
+/// Returns the session ID with this number, or `None` if it is not a session ID.
 pub(crate) fn session_of(number: u64) -> Option<SessionId>
     ensures { MatchOption result (¬ (IsSessionNumber number))
         (λ id. (id ≡ number) × IsSessionNumber number) }

@@ -1,4 +1,4 @@
-//! Bytes read from the memory of the caller, and bytes written to it.
+//! Offsets in the caller's input, and bytes written to its output.
 ghost use Rattle.std.specs.Prelude.{◌≡◌, ◌⊎◌, ◌≤◌, ◌+◌, ◌++◌, length, drop};
 ghost use Rattle.wtp_core.specs.BufferWriter.{Wrote, loan_of, room_in};
 ghost use Rattle.wtp_core.specs.Reader.{IsRest};
@@ -9,7 +9,7 @@ use crate::answers::{BUFFER_TOO_SMALL, OK};
 use wtp_core::bytes::{BufferWriter, BytesWriter};
 use wtp_core::varint::VarInt;
 
-/// Returns how many of the bytes come before the rest.
+/// Returns how many of the bytes come before `rest`, which is their end.
 pub(crate) fn size_before(rest: &[u8], bytes: &[u8]) -> usize
     requires { IsRest rest.now bytes.now }
     ensures rest { drop result bytes.now ≡ rest.now }
@@ -18,8 +18,10 @@ pub(crate) fn size_before(rest: &[u8], bytes: &[u8]) -> usize
     bytes.len() - rest.len()
 }
 
-/// Writes bytes to the start of `out`, and reports how many they are in `used`. Returns `OK`, or
-/// `BUFFER_TOO_SMALL` if `out` is shorter; then `out` does not change.
+/// Writes bytes to the start of `out`.
+///
+/// Returns `OK`, or `BUFFER_TOO_SMALL` if `out` is too short; `out` is then unchanged. In both cases `used`
+/// is the number of bytes.
 pub(crate) fn write_bytes(bytes: &[u8], out: &mut [u8], used: &mut usize) -> i32
     ensures answers { (result ≡ OK) ⊎ (result ≡ BUFFER_TOO_SMALL) }
     ensures bytes { result ≡ OK → WritesPrefix bytes.now out.old out.new used.new }
@@ -35,7 +37,7 @@ pub(crate) fn write_bytes(bytes: &[u8], out: &mut [u8], used: &mut usize) -> i32
     OK
 }
 
-/// Writes the shortest encoding of a number, as `write_bytes` does.
+/// Writes the shortest encoding of a number. The results are those of `write_bytes`.
 pub(crate) fn write_number(number: VarInt, out: &mut [u8], used: &mut usize) -> i32
     ensures answers { (result ≡ OK) ⊎ (result ≡ BUFFER_TOO_SMALL) }
     ensures bytes { result ≡ OK → WritesPrefix (shortest number) out.old out.new used.new }
@@ -51,7 +53,7 @@ pub(crate) fn write_number(number: VarInt, out: &mut [u8], used: &mut usize) -> 
     OK
 }
 
-/// Writes the shortest encodings of two numbers, as `write_bytes` does.
+/// Writes the shortest encodings of two numbers. The results are those of `write_bytes`.
 pub(crate) fn write_pair(first: VarInt, second: VarInt, out: &mut [u8], used: &mut usize) -> i32
     ensures answers { (result ≡ OK) ⊎ (result ≡ BUFFER_TOO_SMALL) }
     ensures bytes { result ≡ OK
@@ -71,7 +73,7 @@ pub(crate) fn write_pair(first: VarInt, second: VarInt, out: &mut [u8], used: &m
     OK
 }
 
-/// Writes two lists of bytes one after the other.
+/// Writes two byte strings, one after the other.
 fn write_both(writer: &mut BufferWriter<'_>, first: &[u8], second: &[u8])
     requires { length first.now + length second.now ≤ length (room_in writer.old) }
     ensures wrote { Wrote (first.now ++ second.now) writer.old writer.new }
@@ -83,7 +85,7 @@ fn write_both(writer: &mut BufferWriter<'_>, first: &[u8], second: &[u8])
     prove!(back.is_ok());
 }
 
-/// Writes two lists of bytes one after the other, as `write_bytes` does.
+/// Writes two byte strings, one after the other. The results are those of `write_bytes`.
 pub(crate) fn write_parts(first: &[u8], second: &[u8], out: &mut [u8], used: &mut usize) -> i32
     ensures answers { (result ≡ OK) ⊎ (result ≡ BUFFER_TOO_SMALL) }
     ensures bytes { result ≡ OK → WritesPrefix (first.now ++ second.now) out.old out.new used.new }

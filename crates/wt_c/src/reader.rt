@@ -1,4 +1,4 @@
-//! Frames that are read from the bytes of a stream (RFC 9114, section 7.1).
+//! Reads frames from the bytes of a stream (RFC 9114, section 7.1).
 ghost use Rattle.std.specs.Prelude.{◌≡◌, ◌≢◌, ◌⊎◌, ◌≤◌, ◌<◌, ◌↔◌, length, MatchOption};
 ghost use Rattle.wtp_core.specs.declared.error.ErrorCode.{ErrorCode};
 ghost use Rattle.wtp_core.specs.ErrorCodes.{code_number};
@@ -17,43 +17,44 @@ use wtransport_proto::stream::{CursorStep, FrameCursor, FrameSpan, StreamRole};
 /// A bidirectional stream that the peer opened.
 pub const BI_REMOTE: u8 = 0;
 
-/// A bidirectional stream that was opened here.
+/// A bidirectional stream that this end opened.
 pub const BI_LOCAL: u8 = 1;
 
 /// The peer's control stream, after its header.
 pub const CONTROL: u8 = 2;
 
-/// The stream of a session, after the request or the response.
+/// The stream of a session, after the request or response.
 pub const SESSION: u8 = 3;
 
-/// Frame-reader state for one stream. A value that `wt_reader_new` or `wt_read_frame` cannot have
-/// made is rejected.
+/// Frame-reader state for one stream. A value whose kind is above `SESSION`, whose `first` is
+/// above 1, or whose `skip_remaining` is 2^62 or more is rejected; `wt_reader_new` and `wt_read_frame` never
+/// produce one.
 #[repr(C)]
 #[derive(Clone, Copy)]
 pub struct WtReader {
     /// The kind of the stream: `BI_REMOTE`, `BI_LOCAL`, `CONTROL` or `SESSION`.
     pub kind: u8,
-    /// Whether the next frame would be the first of the stream: 1, or 0.
+    /// Whether no frame has been read yet: 1 or 0.
     pub first: u8,
-    /// How many payload bytes of an unknown frame are still to be skipped: fewer than 2^62.
+    /// The number of payload bytes left to skip of an unknown frame, below 2^62.
     pub skip_remaining: u64,
 }
 
-/// A frame, whose payload is in the bytes that were read.
+/// A frame whose payload is in the bytes that were read.
 #[repr(C)]
 #[derive(Clone, Copy)]
 pub struct WtFrame {
-    /// The type.
+    /// The frame type.
     pub kind: u64,
-    /// The session of a WebTransport frame; 0 for other frames.
+    /// The session ID of a WebTransport frame; 0 for other frames.
     pub session: u64,
     /// The offset of the payload.
     pub offset: usize,
-    /// The size of the payload in bytes.
+    /// The length of the payload in bytes.
     pub len: usize,
 }
 
-/// Returns the role of a stream's kind, if it is one.
+/// Returns the role of a kind of stream, or `None` if it is above `SESSION`.
 fn role_of(kind: u8) -> Option<StreamRole>
     ensures { MatchOption result (SESSION < kind)
         (λ role. (kind ≤ SESSION) × (role ≡ stream_role kind)) }
@@ -67,7 +68,7 @@ fn role_of(kind: u8) -> Option<StreamRole>
     }
 }
 
-/// Returns the cursor of a reader, if the reader is valid.
+/// Returns the cursor that a reader represents, or `None` if the reader is invalid.
 fn cursor_of(reader: &WtReader) -> Option<FrameCursor>
     ensures { MatchOption result (¬ (IsReader reader.now))
         (λ cursor. IsReader reader.now × (cursor ≡ cursor_of reader.now)) }
@@ -85,9 +86,9 @@ fn cursor_of(reader: &WtReader) -> Option<FrameCursor>
     })
 }
 
-/// Makes the reader of a stream's first frame.
+/// Initializes the reader of a new stream.
 ///
-/// Returns `OK`, or `INVALID` if the kind is above `SESSION`; then `reader` does not change.
+/// Returns `OK`, or `INVALID` if the kind is above `SESSION`; `reader` is then unchanged.
 #[unsafe(no_mangle)]
 pub extern "C" fn wt_reader_new(kind: u8, reader: &mut WtReader) -> i32
     ensures answers { (result ≡ OK) ⊎ (result ≡ INVALID) }
@@ -106,19 +107,21 @@ pub extern "C" fn wt_reader_new(kind: u8, reader: &mut WtReader) -> i32
     OK
 }
 
-/// Reads the next frame of a stream, from the bytes after those that were consumed before. Unknown
-/// frames are skipped, also piece by piece (RFC 9114, section 9).
+/// Reads the next frame of a stream. `bytes` is the bytes of the stream after those that were
+/// already consumed. Unknown frames are skipped, piece by piece if necessary (RFC 9114, section
+/// 9).
 ///
-/// - `OK`: the next frame, which the stream allows. `consumed` is the offset after its payload.
-/// - `MORE`: there is no complete frame. The bytes after the first `consumed` have to be given
-///   again with more bytes after them; they are at most 4111.
-/// - `FAULT`: the stream has a fault, whose error code is `code`. The reader does not change, and
+/// - `OK`: a frame was read, and the stream permits it. `consumed` is the offset after its
+///   payload.
+/// - `MORE`: there is no complete frame. The bytes after the first `consumed` must be passed
+///   again, followed by more; they are at most 4111.
+/// - `FAULT`: the stream has an error. `code` is its error code, `reader` is unchanged, and
 ///   `consumed` is 0.
-/// - `INVALID`: `reader` is not valid: its kind is above `SESSION`, `first` above 1, or `skip_remaining` 2^62 or
-///   more. Nothing changes.
+/// - `INVALID`: `reader` is invalid: its kind is above `SESSION`, `first` is above 1, or `skip_remaining` is
+///   2^62 or more. Nothing is changed.
 ///
-/// However the bytes of a stream are cut, the frames and the first fault are the same. `frame`
-/// changes for `OK` alone, and `code` for `FAULT` alone.
+/// The frames and the first error do not depend on how the bytes of the stream are split. Only
+/// `OK` changes `frame`, and only `FAULT` changes `code`.
 #[unsafe(no_mangle)]
 pub extern "C" fn wt_read_frame(
     reader: &mut WtReader,
@@ -168,7 +171,7 @@ pub extern "C" fn wt_read_frame(
     }
 }
 
-/// Returns a frame's place as C has it.
+/// Returns the C form of a frame's offsets.
 fn frame_at(place: &FrameSpan) -> WtFrame
     ensures { result ≡ c_frame place.now }
 {
@@ -185,9 +188,9 @@ fn frame_at(place: &FrameSpan) -> WtFrame
 
 /// Checks that the stream may end here. `rest` is the bytes that were not consumed, after `MORE`.
 ///
-/// Returns `OK` if the stream may end here. Returns `FAULT` with the code `H3_FRAME_ERROR` (0x106)
-/// if a frame has begun (RFC 9114, section 7.1), and `INVALID` if `reader` is not valid, as
-/// `wt_read_frame` does; `code` changes for `FAULT` alone.
+/// Returns `OK` if the stream may end here. Returns `FAULT` with the code `H3_FRAME_ERROR`
+/// (0x106) if the stream ends inside a frame (RFC 9114, section 7.1). Returns `INVALID` if
+/// `reader` is invalid, as for `wt_read_frame`. Only `FAULT` changes `code`.
 #[unsafe(no_mangle)]
 pub extern "C" fn wt_read_end(reader: &WtReader, rest: &[u8], code: &mut u64) -> i32
     ensures answers { (result ≡ OK) ⊎ ((result ≡ FAULT) ⊎ (result ≡ INVALID)) }

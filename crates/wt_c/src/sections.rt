@@ -1,4 +1,4 @@
-//! Field sections that are written (RFC 9204, section 4.5).
+//! Encodes field sections (RFC 9204, section 4.5).
 ghost use Rattle.std.specs.Prelude.{◌≡◌, ◌⊎◌, IfOk};
 ghost use Rattle.wtp_fields.specs.FieldSection.{section_of};
 ghost use Rattle.wt_c.specs.Output.{WritesPrefix, TooShort};
@@ -11,7 +11,7 @@ use crate::texts::{TextPairs, are_texts};
 use std::alloc::{AllocError, Global};
 use wtp_fields::qpack::Encoder;
 
-/// Returns the field section of fields, which are pairs of texts.
+/// Encodes fields, whose names and values are UTF-8, as a field section.
 fn encode_fields(alloc: Global, fields: &[WtField], texts: &[u8]) -> Result<Vec<u8>, AllocError>
     requires { AreTextFields texts.now fields.now }
     ensures { IfOk result (λ v. v.items ≡ section_of (lines_in texts.now fields.now)) }
@@ -24,12 +24,13 @@ fn encode_fields(alloc: Global, fields: &[WtField], texts: &[u8]) -> Result<Vec<
     Ok(section)
 }
 
-/// Writes a field section to the start of `out`: the fields in their order, with the static table
-/// only, each text in the Huffman code if that is shorter.
+/// Writes a field section to the start of `out`. It contains the fields in order, uses only the
+/// static table, and encodes each string in the Huffman code if that is shorter.
 ///
-/// Returns `OK` with the size of the section in `used`. Returns `BUFFER_TOO_SMALL` if `out` is shorter than
-/// that size, which `used` then is; `out` does not change. Returns `INVALID` if a field is not
-/// within `texts` or is not UTF-8; otherwise `MEMORY` if allocation failed. Then nothing changes.
+/// Returns `OK` with the size of the section in `used`. Returns `BUFFER_TOO_SMALL` if `out` is too short;
+/// `used` is then the size of the section, and `out` is unchanged. Returns `INVALID` if a field
+/// is not within `texts` or is not UTF-8, and otherwise `MEMORY` if allocation failed; nothing is
+/// then changed.
 #[unsafe(no_mangle)]
 pub extern "C" fn wt_fields_write(
     alloc: Global,

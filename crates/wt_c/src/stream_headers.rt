@@ -17,18 +17,18 @@ use wtp_wire::stream_header::{StreamHeader, StreamKind, stream_type_ids};
 #[repr(C)]
 #[derive(Clone, Copy)]
 pub struct WtStreamHeader {
-    /// The type.
+    /// The stream type.
     pub kind: u64,
-    /// The session of a WebTransport stream; 0 for other streams.
+    /// The session ID of a WebTransport stream; 0 for other streams.
     pub session: u64,
 }
 
 /// Reads the header at the start of a unidirectional stream.
 ///
-/// Returns `OK` with the header, and with its size in `consumed`. Returns `MORE` if there are too
-/// few bytes. Returns `FAULT` with the error code for an unknown type, after which the stream is no
-/// longer read (RFC 9114, section 6.2), or for an invalid session ID. If it doesn't return `OK`,
-/// `consumed` is 0 and `header` does not change; `code` changes for `FAULT` alone.
+/// Returns `OK` with the header in `header` and its length in `consumed`. Returns `MORE` if there
+/// are too few bytes. Returns `FAULT` with the error code for an unknown type, after which the
+/// stream is no longer read (RFC 9114, section 6.2), or for an invalid session ID. Unless the
+/// result is `OK`, `consumed` is 0 and `header` is unchanged. Only `FAULT` changes `code`.
 #[unsafe(no_mangle)]
 pub extern "C" fn wt_stream_header_read(
     bytes: &[u8],
@@ -66,7 +66,7 @@ pub extern "C" fn wt_stream_header_read(
     }
 }
 
-/// Returns whether the two numbers are those of a header.
+/// Returns whether the two numbers are a valid header.
 #[tactic(auto, using(crate::proofs::HeaderLemmas::c_headers))]
 fn is_header(header: &WtStreamHeader) -> bool
     ensures header { IsTrue result → (h : Header) × IsHeaderIn header.now h }
@@ -87,10 +87,10 @@ fn is_header(header: &WtStreamHeader) -> bool
 
 /// Writes the header of a unidirectional stream to the start of `out`.
 ///
-/// Returns `OK` with its size in `used`. Returns `BUFFER_TOO_SMALL` if `out` is shorter than that size, which
-/// `used` then is; `out` does not change. Returns `INVALID` if the type is unknown, if the session
-/// of the WebTransport type is invalid, or if another type has a session other than 0; then nothing
-/// changes.
+/// Returns `OK` with the length of the header in `used`. Returns `BUFFER_TOO_SMALL` if `out` is too short;
+/// `used` is then the length of the header, and `out` is unchanged. Returns `INVALID` if the type
+/// is unknown, if the session ID of the WebTransport type is invalid, or if another type has a
+/// session ID other than 0; nothing is then changed.
 #[unsafe(no_mangle)]
 pub extern "C" fn wt_stream_header_write(
     header: &WtStreamHeader,

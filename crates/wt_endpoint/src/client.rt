@@ -1,4 +1,4 @@
-//! A client of WebTransport sessions.
+//! A client for WebTransport sessions.
 
 use crate::server::{TURNS, send_headers};
 use anyhow::{Result, bail};
@@ -14,14 +14,14 @@ use wtransport_proto::stream::IoReadError;
 use wtransport_proto::stream::bilocal::StreamBiLocalQuic;
 use wtransport_proto::stream::session::StreamSession;
 
-/// Returns the request for a session at a URL, with an origin.
+/// Returns a session request for a URL, with an origin.
 fn request_for(alloc: Global, url: &str) -> Result<SessionRequest> {
     let mut request = SessionRequest::new(alloc, url)?;
     request.insert("origin", "https://example.com")?;
     Ok(request)
 }
 
-/// Sends the request for a session at a URL.
+/// Sends a session request for a URL. Returns the session's stream.
 pub fn request<W: AsyncWrite>(alloc: Global, url: &str, sink: &mut W) -> Result<StreamSession> {
     let request = request_for(alloc, url)?;
     send_headers(alloc, request.headers(), sink)?;
@@ -29,7 +29,7 @@ pub fn request<W: AsyncWrite>(alloc: Global, url: &str, sink: &mut W) -> Result<
     Ok(stream.into_session(request))
 }
 
-/// Reads the response to the request. The source is then positioned right after it.
+/// Reads the response to the request. The source is then positioned right after the response.
 pub fn read_response<S: AsyncRead>(
     alloc: Global,
     session: &StreamSession,
@@ -46,12 +46,12 @@ pub fn read_response<S: AsyncRead>(
     bail!("the stream is not ready")
 }
 
-/// Reads the response of the frame that was read.
+/// Returns the response in a frame, or the error that was read instead.
 fn response_in(alloc: Global, frame: Result<FrameOwned, IoReadError>) -> Result<SessionResponse> {
     Ok(response_of_frame(alloc, &frame?)?)
 }
 
-/// Closes a session with a code and a reason of the application: a capsule, in DATA frames.
+/// Closes a session with an application error code and a reason, as a capsule in DATA frames.
 pub fn close<W: BytesWriter>(alloc: Global, code: u32, reason: &str, out: &mut W) -> Result<()> {
     let mut capsule = Vec::new(alloc);
     CloseWebTransportSession::new(alloc, code, reason)?.write(&mut capsule)?;

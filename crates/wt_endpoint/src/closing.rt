@@ -1,4 +1,4 @@
-//! What an endpoint closes after a fault, and with which code.
+//! What an endpoint closes after an error, and with which error code.
 
 use wtransport_proto::error::{ErrorCode, ErrorScope};
 use wtransport_proto::stream;
@@ -9,13 +9,13 @@ use wtransport_proto::varint::VarInt;
 pub enum Closing {
     /// Nothing: the peer ended or reset the stream, or the connection is lost.
     Nothing,
-    /// The stream, with this code.
+    /// The stream, with this error code.
     Stream(VarInt),
-    /// The connection, with this code.
+    /// The connection, with this error code.
     Connection(VarInt),
 }
 
-/// Returns what to close after a fault of the frames of a stream.
+/// Returns what to close after an error in the frames of a stream.
 pub fn after_fault(fault: &stream::IoReadError) -> Closing {
     match fault {
         stream::IoReadError::H3(code) => after_code(*code),
@@ -23,8 +23,9 @@ pub fn after_fault(fault: &stream::IoReadError) -> Closing {
     }
 }
 
-/// Returns what to close after a fault of the header of a unidirectional stream. The peer may end a
-/// stream inside its header, and an unknown type ends the stream alone (RFC 9114, section 6.2).
+/// Returns what to close after an error in the header of a unidirectional stream. The peer may
+/// end a stream inside its header, and an unknown stream type closes only the stream (RFC 9114,
+/// section 6.2).
 pub fn after_header_fault(fault: &stream::IoReadError) -> Closing {
     match fault {
         stream::IoReadError::H3(ErrorCode::Frame) => Closing::Nothing,
@@ -35,7 +36,8 @@ pub fn after_header_fault(fault: &stream::IoReadError) -> Closing {
     }
 }
 
-/// Returns what to close after an error code. Codes of either scope end the connection here.
+/// Returns what to close for an error code. Codes that may close either close the connection
+/// here.
 pub fn after_code(code: ErrorCode) -> Closing {
     match code.scope() {
         ErrorScope::Stream => Closing::Stream(code.to_code()),

@@ -1,4 +1,4 @@
-//! Unidirectional streams that the peer opened, the control stream among them.
+//! Unidirectional streams that the peer opens, including its control stream.
 
 ghost use Rattle.wtransport_proto.specs.Streams.{CanRead};
 
@@ -13,7 +13,7 @@ use wtransport_proto::stream::IoReadError;
 use wtransport_proto::stream::uniremote::{StreamUniRemoteH3, StreamUniRemoteQuic};
 use wtransport_proto::stream_header::StreamKind;
 
-/// Accepts a unidirectional stream by its header.
+/// Accepts a unidirectional stream by reading its header.
 pub fn accept_unidirectional<S: AsyncRead>(source: &mut S) -> Result<StreamUniRemoteH3> {
     let mut accepting = StreamUniRemoteQuic::accept_uni().upgrade_async();
     for _turn in 0..TURNS {
@@ -26,8 +26,8 @@ pub fn accept_unidirectional<S: AsyncRead>(source: &mut S) -> Result<StreamUniRe
     bail!("the stream is not ready")
 }
 
-/// The peer's control stream. The ghost field keeps the condition of `read_frame_async` while it is
-/// polled.
+/// The peer's control stream. The ghost field preserves the precondition of `read_frame_async`
+/// between polls.
 #[derive(Drop)]
 pub struct Control {
     stream: StreamUniRemoteH3,
@@ -35,7 +35,7 @@ pub struct Control {
 }
 
 impl Control {
-    /// Creates it from a stream that was accepted, or returns `None` if that is another stream.
+    /// Wraps an accepted stream. Returns `None` if it is not a control stream.
     pub fn new(stream: StreamUniRemoteH3) -> Option<Self> {
         if stream.kind() != StreamKind::Control {
             return None;
@@ -43,7 +43,7 @@ impl Control {
         Some(Control { stream })
     }
 
-    /// Reads the settings, which are in the first frame.
+    /// Reads the settings in the first frame.
     pub fn read_settings<S: AsyncRead>(
         &mut self,
         alloc: Global,
@@ -61,7 +61,7 @@ impl Control {
     }
 }
 
-/// Returns the settings of the first frame of a control stream (RFC 9114, section 6.2.1).
+/// Returns the settings in the first frame of a control stream (RFC 9114, section 6.2.1).
 fn settings_of(alloc: Global, frame: Result<FrameOwned, IoReadError>) -> Result<Settings> {
     let frame = frame?;
     if frame.kind() != FrameKind::Settings {

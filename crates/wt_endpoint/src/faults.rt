@@ -1,4 +1,4 @@
-//! Wrong inputs, and what an endpoint closes after each.
+//! Invalid inputs, and what an endpoint closes after each.
 
 use crate::closing::{Closing, after_code, after_fault, after_header_fault};
 use std::alloc::Global;
@@ -12,7 +12,7 @@ use wtransport_proto::stream::BiAccepted;
 use wtransport_proto::stream::biremote::StreamBiRemoteQuic;
 use wtransport_proto::stream::uniremote::StreamUniRemoteQuic;
 
-/// Bidirectional streams that are closed, and what is wrong with each.
+/// Bidirectional streams with an error, and a description of each.
 static STREAMS: [(&[u8], &str); 7] = [
     (b"", "an empty stream"),
     (b"\x00\x00", "DATA before HEADERS"),
@@ -23,7 +23,7 @@ static STREAMS: [(&[u8], &str); 7] = [
     (b"\x01\x02\x00\x00", "a request without fields"),
 ];
 
-/// Prints what is closed after each wrong input.
+/// Prints what is closed after each invalid input.
 pub fn print_each<R: Print>(rt: &R, alloc: Global) -> io::Result<()> {
     for (bytes, fault) in &STREAMS {
         print_one(rt, fault, bidirectional(alloc, bytes))?;
@@ -33,7 +33,7 @@ pub fn print_each<R: Print>(rt: &R, alloc: Global) -> io::Result<()> {
     print_one(rt, "an empty datagram", datagram(b""))
 }
 
-/// Prints a fault and what is closed after it.
+/// Prints an error and what is closed after it.
 fn print_one<R: Print>(rt: &R, fault: &str, closing: Closing) -> io::Result<()> {
     println!(rt; "  {fault}: {closing:?}")
 }
@@ -55,7 +55,7 @@ fn bidirectional(alloc: Global, bytes: &[u8]) -> Closing {
     }
 }
 
-/// Accepts a bidirectional stream of these bytes.
+/// Accepts a bidirectional stream with these bytes.
 fn accept(alloc: Global, bytes: &[u8]) -> BiAccepted {
     let stream = StreamBiRemoteQuic::accept_bi().upgrade();
     let mut source = bytes;

@@ -1,5 +1,5 @@
-//! Both ends of a WebTransport session, in memory: what a client and a server do over
-//! `wtransport_proto` alone.
+//! Both ends of a WebTransport session, in memory: a client and a server that use only
+//! `wtransport_proto`.
 #![tactic(auto)]
 
 mod client;
@@ -36,12 +36,13 @@ fn main(rt: HostRuntime) -> Result<()> {
     Ok(())
 }
 
-/// Prints what the next lines are about.
+/// Prints a heading for the lines that follow.
 fn print_heading<R: Print>(rt: &R, heading: &str) -> io::Result<()> {
     println!(rt; "{heading}")
 }
 
-/// The server sends its control stream, and the client reads it; the other way is the same.
+/// The server sends its control stream and the client reads it. The other direction works the
+/// same way.
 fn exchange_settings<R: Print>(rt: &R, alloc: Global) -> Result<()> {
     let mut sent = Vec::new(alloc);
     server::write_control(alloc, &mut sent)?;
@@ -49,7 +50,7 @@ fn exchange_settings<R: Print>(rt: &R, alloc: Global) -> Result<()> {
     Ok(())
 }
 
-/// The client reads the control stream of these bytes.
+/// The client reads a control stream with these bytes.
 fn read_settings(alloc: Global, sent: &[u8]) -> Result<Settings> {
     let mut source = Incoming::new(sent, 2);
     let stream = control::accept_unidirectional(&mut source)?;
@@ -65,7 +66,7 @@ fn print_settings<R: Print>(rt: &R, settings: &Settings) -> io::Result<()> {
     Ok(())
 }
 
-/// The client requests two sessions. The server refuses the first, and both use the second.
+/// The client requests two sessions. The server rejects the first, and both ends use the second.
 fn request_sessions<R: Print>(rt: &R, alloc: Global) -> Result<()> {
     request_session(rt, alloc, "https://example.com/none")?;
     match request_session(rt, alloc, "https://example.com/chat")? {
@@ -74,7 +75,7 @@ fn request_sessions<R: Print>(rt: &R, alloc: Global) -> Result<()> {
     }
 }
 
-/// Both ends use a session, and close it.
+/// Both ends use a session and then close it.
 fn use_session<R: Print>(rt: &R, alloc: Global, session: &mut StreamSession) -> Result<()> {
     let id = SessionId::try_from_varint(4u32.into())?;
     print_session(rt, id)?;
@@ -98,8 +99,8 @@ fn request_session<R: Print>(rt: &R, alloc: Global, url: &str) -> Result<Option<
     Ok(session)
 }
 
-/// The server reads the request of these bytes. Returns the session, unless it refuses that, and
-/// the bytes of its response.
+/// The server reads a request from these bytes. Returns the session, or `None` if the server
+/// rejects it, and the bytes of the response.
 fn accept_session<R: Print>(
     rt: &R,
     alloc: Global,
@@ -120,7 +121,7 @@ fn print_request<R: Print>(rt: &R, request: &SessionRequest) -> io::Result<()> {
     println!(rt; "  {} from {:?}", request.path(), request.origin())
 }
 
-/// The client reads the response of these bytes.
+/// The client reads a response from these bytes.
 fn read_response<R: Print>(
     rt: &R,
     alloc: Global,
@@ -134,12 +135,12 @@ fn read_response<R: Print>(
     Ok(())
 }
 
-/// Prints the status code of a response and the server's name.
+/// Prints the status code and the server name of a response.
 fn print_response<R: Print>(rt: &R, response: &SessionResponse) -> io::Result<()> {
     println!(rt; "  {} from {:?}", response.code(), response.get("server"))
 }
 
-/// Each end opens a stream in both directions, and one in its own direction.
+/// Each end opens a bidirectional and a unidirectional stream.
 fn use_streams<R: Print>(rt: &R, alloc: Global, id: SessionId) -> Result<()> {
     for opener in ["the client", "the server"] {
         let echoed = echo(alloc, id, opener.as_bytes())?;
@@ -150,13 +151,13 @@ fn use_streams<R: Print>(rt: &R, alloc: Global, id: SessionId) -> Result<()> {
     Ok(())
 }
 
-/// Prints data, which must be text.
+/// Prints data, which must be UTF-8.
 fn print_data<R: Print>(rt: &R, label: &str, data: &[u8]) -> Result<()> {
     println!(rt; "  {label} {}", str::from_utf8(data)?)?;
     Ok(())
 }
 
-/// Opens a stream in both directions, which the other end accepts, and sends data that comes back.
+/// Opens a bidirectional stream, which the other end accepts, and sends data that comes back.
 fn echo(alloc: Global, id: SessionId, data: &[u8]) -> Result<Vec<u8>> {
     let mut sink = Outgoing::new(Vec::new(alloc), 3);
     let opened = streams::open_bidirectional(id, &mut sink)?;
@@ -166,7 +167,7 @@ fn echo(alloc: Global, id: SessionId, data: &[u8]) -> Result<Vec<u8>> {
     send_back(alloc, received.as_slice())
 }
 
-/// Accepts a stream of these bytes, which must be one of the session, and receives its data.
+/// Accepts a stream with these bytes, which must belong to the session, and receives its data.
 fn accept_data(alloc: Global, id: SessionId, sent: &[u8]) -> Result<Vec<u8>> {
     let mut source = Incoming::new(sent, 4);
     let accepted = streams::accept_bidirectional(alloc, &mut source)?;
@@ -176,7 +177,7 @@ fn accept_data(alloc: Global, id: SessionId, sent: &[u8]) -> Result<Vec<u8>> {
     streams::receive(alloc, &mut source)
 }
 
-/// Sends data to the end that opened the stream, which receives it.
+/// Sends data to the end that opened the stream. That end receives it.
 fn send_back(alloc: Global, data: &[u8]) -> Result<Vec<u8>> {
     let mut sink = Outgoing::new(Vec::new(alloc), 2);
     streams::send(data, &mut sink)?;
@@ -184,7 +185,7 @@ fn send_back(alloc: Global, data: &[u8]) -> Result<Vec<u8>> {
     streams::receive(alloc, &mut Incoming::new(sent.as_slice(), 2))
 }
 
-/// Opens a stream in one direction over a QUIC library, and sends data on it.
+/// Opens a unidirectional stream over a QUIC library and sends data on it.
 fn send_one_way(alloc: Global, id: SessionId, data: &[u8]) -> Result<Vec<u8>> {
     let mut sink = QuicSink {
         stream: MemorySender::new(alloc),
@@ -213,7 +214,7 @@ fn use_datagram<R: Print>(rt: &R, alloc: Global, id: SessionId) -> Result<()> {
     Ok(())
 }
 
-/// The client closes the session, and the server reads why.
+/// The client closes the session, and the server reads the reason.
 fn close_session<R: Print>(rt: &R, alloc: Global, session: &mut StreamSession) -> Result<()> {
     let mut sent = Vec::new(alloc);
     client::close(alloc, 7, "bye", &mut sent)?;
@@ -223,7 +224,7 @@ fn close_session<R: Print>(rt: &R, alloc: Global, session: &mut StreamSession) -
     Ok(())
 }
 
-/// Prints why a session was closed.
+/// Prints the reason for closing a session.
 fn print_close<R: Print>(rt: &R, close: Option<&CloseWebTransportSession>) -> io::Result<()> {
     match close {
         Some(close) => println!(rt; "  closed with {}: {}", close.error_code(), close.reason()),

@@ -1,5 +1,5 @@
-//! Streams in memory that cut what they give and take, and are not ready before each piece. Both
-//! have a model, so the contracts of what reads and writes them speak of their bytes.
+//! Streams in memory that transfer data in pieces, and are not ready before each piece. Both have
+//! a model, so the contracts of their readers and writers are about their bytes.
 
 ghost use Rattle.std.specs.Prelude.{◌≡◌, Some};
 ghost use Rattle.wtransport_proto.specs.Source.{Source, AtEnd};
@@ -7,7 +7,7 @@ ghost use Rattle.wtransport_proto.specs.Sink.{Sink};
 
 use wtransport_proto::bytes::{AsyncRead, AsyncWrite, ReadStep, WriteStep};
 
-/// A source that gives at most so many bytes per call.
+/// A source that returns at most `piece` bytes per call.
 #[derive(Drop)]
 pub struct Incoming<'a> {
     rest: &'a [u8],
@@ -17,7 +17,8 @@ pub struct Incoming<'a> {
 }
 
 impl<'a> Incoming<'a> {
-    /// Creates a source of these bytes, in pieces of at most this size, and at least one byte.
+    /// Creates a source over `bytes` that returns them in pieces of at most `piece` bytes, or of
+    /// one byte if `piece` is 0.
     pub fn new(bytes: &'a [u8], piece: usize) -> Self
         ensures { result.rest.now ≡ bytes.now }
     {
@@ -29,14 +30,14 @@ impl<'a> Incoming<'a> {
         }
     }
 
-    /// Returns the bytes not given yet.
+    /// Returns the bytes that have not been read.
     pub fn rest(&self) -> &'a [u8]
         ensures { result.now ≡ self.now.rest.now }
     {
         self.rest
     }
 
-    /// Returns how often it was not ready.
+    /// Returns how often the source was not ready.
     pub fn waits(&self) -> u64
         ensures { result ≡ self.now.waits }
     {
@@ -57,7 +58,7 @@ impl AsyncRead for Incoming<'_> {
             return ReadStep::Bytes(0);
         }
         if !self.is_ready {
-            // A count that is full ends the waits, since each of them has to be counted.
+            // Each wait must be counted, so there are no more waits once the count is full.
             if let Some(waits) = self.waits.checked_add(1) {
                 self.is_ready = true;
                 self.waits = waits;
@@ -73,7 +74,7 @@ impl AsyncRead for Incoming<'_> {
     }
 }
 
-/// A sink that takes at most so many bytes per call.
+/// A sink that accepts at most `piece` bytes per call.
 #[derive(Drop)]
 pub struct Outgoing {
     taken: Vec<u8>,
@@ -83,8 +84,8 @@ pub struct Outgoing {
 }
 
 impl Outgoing {
-    /// Creates a sink that appends to these bytes, in pieces of at most this size, and at least one
-    /// byte.
+    /// Creates a sink that appends to `taken` in pieces of at most `piece` bytes, or of one byte
+    /// if `piece` is 0.
     pub fn new(taken: Vec<u8>, piece: usize) -> Self
         ensures { result.taken ≡ taken }
     {
@@ -96,7 +97,7 @@ impl Outgoing {
         }
     }
 
-    /// Returns the bytes that it took.
+    /// Returns the bytes that were written.
     pub fn into_taken(self) -> Vec<u8>
         ensures { result ≡ self.taken }
     {

@@ -1,15 +1,15 @@
-//! Streams of a QUIC library, and adapters to the traits of `bytes`. No contract is known of such a
-//! library, so the adapters have no model, and check what it reports.
+//! Streams of a QUIC library, and adapters to the traits of `bytes`. The library has no contract,
+//! so the adapters have no model and check the values that it returns.
 
 use std::alloc::Global;
 use wtransport_proto::bytes::{AsyncRead, AsyncWrite, ReadStep, WriteStep};
 
-/// Why a call of a QUIC library moved no bytes.
+/// Why a call to the QUIC library transferred no bytes.
 #[derive(Clone, Copy, Debug)]
 pub enum QuicError {
-    /// Nothing can be moved now. The library wakes this task once something can.
+    /// Nothing can be transferred now. The library wakes this task when something can.
     WouldBlock,
-    /// The peer reset the stream, or reads it no more.
+    /// The peer reset the stream, or no longer reads it.
     Closed,
     /// The connection is lost.
     ConnectionLost,
@@ -17,13 +17,14 @@ pub enum QuicError {
 
 /// A receiving stream of a QUIC library.
 pub trait ReceiveStream {
-    /// Moves received bytes into the buffer, and returns their number; 0 at the end of the stream.
+    /// Copies received bytes into the buffer and returns their number, or 0 at the end of the
+    /// stream.
     fn receive(&mut self, buf: &mut [u8]) -> Result<usize, QuicError>;
 }
 
 /// A sending stream of a QUIC library.
 pub trait SendStream {
-    /// Takes bytes that are to be sent, and returns their number.
+    /// Accepts bytes to send and returns their number.
     fn send(&mut self, buf: &[u8]) -> Result<usize, QuicError>;
 }
 
@@ -67,7 +68,7 @@ impl<T: SendStream> AsyncWrite for QuicSink<T> {
     }
 }
 
-/// A receiving stream whose bytes are in memory. It has at most 3 of them at a time.
+/// A receiving stream over bytes in memory. At most 3 bytes are available at a time.
 #[derive(Drop)]
 pub struct MemoryReceiver<'a> {
     bytes: &'a [u8],
@@ -75,7 +76,7 @@ pub struct MemoryReceiver<'a> {
 }
 
 impl<'a> MemoryReceiver<'a> {
-    /// Creates a stream of these bytes.
+    /// Creates a stream with these bytes.
     pub fn new(bytes: &'a [u8]) -> Self {
         MemoryReceiver {
             bytes,
@@ -98,7 +99,7 @@ impl ReceiveStream for MemoryReceiver<'_> {
     }
 }
 
-/// A sending stream whose bytes stay in memory. It has room for at most 3 of them at a time.
+/// A sending stream that keeps its bytes in memory. It accepts at most 3 bytes at a time.
 #[derive(Drop)]
 pub struct MemorySender {
     bytes: Vec<u8>,
@@ -106,7 +107,7 @@ pub struct MemorySender {
 }
 
 impl MemorySender {
-    /// Creates a stream to which nothing was sent.
+    /// Creates an empty stream.
     pub fn new(alloc: Global) -> Self {
         MemorySender {
             bytes: Vec::new(alloc),

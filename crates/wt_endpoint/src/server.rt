@@ -1,4 +1,4 @@
-//! A server of WebTransport sessions.
+//! A server for WebTransport sessions.
 
 use anyhow::{Result, bail};
 use std::alloc::Global;
@@ -16,10 +16,10 @@ use wtransport_proto::stream::session::StreamSession;
 use wtransport_proto::stream::unilocal::StreamUniLocalQuic;
 use wtransport_proto::stream_header::StreamHeader;
 
-/// How often a stream is polled. A live endpoint polls again once the stream is ready.
+/// The maximum number of polls of a stream. A live endpoint polls again when the stream is ready.
 pub const TURNS: u32 = 10_000;
 
-/// Writes the control stream: its type, and the settings.
+/// Writes the control stream: its stream type and the settings.
 pub fn write_control(alloc: Global, out: &mut Vec<u8>) -> Result<()> {
     let settings = Settings::builder(alloc)
         .enable_connect_protocol()?
@@ -35,13 +35,13 @@ pub fn write_control(alloc: Global, out: &mut Vec<u8>) -> Result<()> {
 /// A bidirectional stream that the peer opened.
 #[derive(Drop)]
 pub enum PeerStream {
-    /// A request for a session.
+    /// A session request.
     Request(StreamBiRemoteH3, SessionRequest),
-    /// A stream of a session: all bytes that follow are the application's.
+    /// A stream of a session. All bytes that follow are application data.
     Stream(StreamBiRemoteWT),
 }
 
-/// Accepts a bidirectional stream by its first frame.
+/// Accepts a bidirectional stream by reading its first frame.
 pub fn accept<S: AsyncRead>(alloc: Global, source: &mut S) -> Result<PeerStream> {
     let stream = StreamBiRemoteQuic::accept_bi().upgrade();
     let mut accepting = stream.accept_async(FrameReading::new(alloc));
@@ -57,12 +57,12 @@ pub fn accept<S: AsyncRead>(alloc: Global, source: &mut S) -> Result<PeerStream>
     bail!("the stream is not ready")
 }
 
-/// Reads the request of the first frame.
+/// Reads the request in the first frame.
 fn read_request(alloc: Global, stream: StreamBiRemoteH3, frame: &Frame<'_>) -> Result<PeerStream> {
     Ok(PeerStream::Request(stream, request_of_frame(alloc, frame)?))
 }
 
-/// Sends the fields of a request or a response in a HEADERS frame.
+/// Sends the fields of a request or response in a HEADERS frame.
 pub fn send_headers<W: AsyncWrite>(alloc: Global, headers: &Headers, sink: &mut W) -> Result<()> {
     let frame = headers.generate_frame(alloc)?;
     send(&frame, sink, TURNS)?;
@@ -80,7 +80,7 @@ fn response_for(alloc: Global, path: &str) -> Result<SessionResponse> {
     Ok(response)
 }
 
-/// Responds to a request. Returns the session, unless the path is unknown.
+/// Responds to a request. Returns the session, or `None` if the path is unknown.
 pub fn respond<W: AsyncWrite>(
     alloc: Global,
     stream: StreamBiRemoteH3,
@@ -95,7 +95,7 @@ pub fn respond<W: AsyncWrite>(
     Ok(Some(stream.into_session(request)))
 }
 
-/// Reads a datagram: appends its payload to `out`, and returns its session.
+/// Reads a datagram. Appends its payload to `out` and returns its session ID.
 pub fn read_datagram(bytes: &[u8], out: &mut Vec<u8>) -> Result<SessionId> {
     let datagram = Datagram::read(bytes)?;
     out.extend_from_slice(datagram.payload())?;

@@ -1,4 +1,4 @@
-//! The stream of a session after the response: capsules, in DATA frames.
+//! The stream of a session after the response: capsules in DATA frames.
 
 use crate::server::TURNS;
 use anyhow::{Result, bail};
@@ -11,8 +11,8 @@ use wtransport_proto::stream;
 use wtransport_proto::stream::session::StreamSession;
 use wtransport_proto::stream::{Driven, drive};
 
-/// Reads up to the capsule that closes the session, or to the end of the stream: then the session
-/// is closed without a code.
+/// Reads up to the capsule that closes the session, or to the end of the stream, which closes the
+/// session without an error code.
 pub fn read_close<S: AsyncRead>(
     alloc: Global,
     session: &mut StreamSession,
@@ -29,7 +29,7 @@ pub fn read_close<S: AsyncRead>(
     bail!("the stream is not ready")
 }
 
-/// Polls the stream of a session. `Ready` has the close, or `None` if the stream has ended.
+/// Polls the stream of a session. `Ready` contains the close, or `None` if the stream has ended.
 fn poll_close<S: AsyncRead>(
     alloc: Global,
     session: &mut StreamSession,
@@ -46,7 +46,7 @@ fn poll_close<S: AsyncRead>(
     Ok(Polled::Pending)
 }
 
-/// Returns whether the stream has ended. It may not end inside a capsule.
+/// Returns whether the stream has ended. It must not end inside a capsule.
 fn has_ended(driven: Driven, capsules: &CapsuleReading) -> Result<bool> {
     match driven {
         Driven::Waiting | Driven::Spent => Ok(false),
@@ -59,7 +59,7 @@ fn has_ended(driven: Driven, capsules: &CapsuleReading) -> Result<bool> {
     }
 }
 
-/// Returns the first close that ends in one of these frames.
+/// Returns the first close that is completed in these frames.
 fn first_close(
     alloc: Global,
     capsules: &mut CapsuleReading,
@@ -74,7 +74,7 @@ fn first_close(
     Ok(None)
 }
 
-/// Returns the close that ends in this frame. Frames other than DATA have no capsules.
+/// Returns the close that is completed in this frame. Only DATA frames contain capsules.
 fn close_in(
     alloc: Global,
     capsules: &mut CapsuleReading,

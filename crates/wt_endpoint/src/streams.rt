@@ -1,4 +1,4 @@
-//! Streams of a session: their first bytes name the session, and the rest is the application's.
+//! Streams of a session: the first bytes identify the session, and the rest is application data.
 
 use crate::server::{self, PeerStream, TURNS};
 use anyhow::{Result, bail};
@@ -48,7 +48,8 @@ pub fn open_unidirectional<W: AsyncWrite>(
     bail!("the stream is not ready")
 }
 
-/// Accepts a bidirectional stream of a session. A client accepts no other (RFC 9114, section 6.1).
+/// Accepts a bidirectional stream of a session. A client must not accept any other (RFC 9114,
+/// section 6.1).
 pub fn accept_bidirectional<S: AsyncRead>(
     alloc: Global,
     source: &mut S,
@@ -59,7 +60,7 @@ pub fn accept_bidirectional<S: AsyncRead>(
     Ok(stream)
 }
 
-/// Sends data of the application.
+/// Sends application data.
 pub fn send<W: AsyncWrite>(data: &[u8], sink: &mut W) -> Result<()> {
     let mut writing = sink.put_buffer(data);
     for _turn in 0..TURNS {
@@ -72,7 +73,7 @@ pub fn send<W: AsyncWrite>(data: &[u8], sink: &mut W) -> Result<()> {
     bail!("the stream is not ready")
 }
 
-/// Receives data of the application, up to the end of the stream.
+/// Receives application data up to the end of the stream.
 pub fn receive<S: AsyncRead>(alloc: Global, source: &mut S) -> Result<Vec<u8>> {
     let mut data = Vec::new(alloc);
     let mut buffer = [0; 64];

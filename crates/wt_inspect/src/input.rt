@@ -29,6 +29,9 @@ pub fn read_all<R: Read>(alloc: Global, input: &mut R) -> Result<Vec<u8>, Failur
 }
 
 /// Decodes hexadecimal text. Blanks, line ends and `0x` are ignored.
+///
+/// Returns [`Failure::NotHex`] if the text contains another character or ends after half a byte,
+/// and [`Failure::Memory`] if allocation fails.
 pub fn read_hex(alloc: Global, text: &[u8]) -> Result<Vec<u8>, Failure> {
     let mut bytes = Vec::new(alloc);
     let mut half = None;

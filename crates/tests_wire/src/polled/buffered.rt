@@ -1,4 +1,4 @@
-//! Bytes that a source has buffered and shows before it is asked, and frames that are read from
+//! Bytes that a source has buffered and shows before it is polled, and frames that are read from
 //! them.
 use crate::polled::frame_answers::{Answer, NO_SESSION, UNEXPECTED_FIN, UNKNOWN};
 use crate::polled::readings::{Reading, check_polls};
@@ -8,7 +8,8 @@ use test_io::{End, OneByteSource};
 use wtp_core::bytes::{AsyncRead, Polled, ReadStep};
 use wtp_wire::frame::{FrameOwned, FrameReading};
 
-/// A source that shows at most so many buffered bytes, and gives the others when it is asked.
+/// A source that shows a limited number of buffered bytes, and returns the others when it is
+/// polled.
 #[derive(Drop)]
 struct Window<'a> {
     rest: &'a [u8],
@@ -34,10 +35,10 @@ impl AsyncRead for Window<'_> {
     }
 }
 
-/// How many bytes are taken from a slice, whether they are taken, and what is then left.
+/// The number of bytes to take from a slice, whether they are taken, and the bytes then left.
 type Take = (usize, bool, &'static [u8]);
 
-/// Takes, one after another.
+/// Calls, one after another.
 static TAKES: [Take; 4] = [
     (6, false, b"abcde"),
     (3, true, b"de"),
@@ -45,7 +46,7 @@ static TAKES: [Take; 4] = [
     (0, true, b""),
 ];
 
-/// So many bytes are taken from a slice, or none.
+/// Asserts the result of taking bytes from a slice.
 fn check_take<R: Abort>(rt: &R, source: &mut &[u8], row: &Take) {
     let (count, takes, left) = *row;
     let is_taken = source.take_buffered(count);
@@ -70,7 +71,8 @@ fn a_source_need_not_have_buffered_any(rt: HostRuntime) {
     same(&rt, source.rest(), b"abc".as_slice(), "the rest");
 }
 
-/// A DATA frame with a payload of so many bytes, and so many bytes after it, in a slice.
+/// Asserts that a DATA frame with a payload of `len` bytes, followed by `after` bytes, is read
+/// from a slice.
 fn check_sizes<R: Abort + AllocGlobal>(rt: &R, bytes: &[u8], len: usize, after: usize) {
     let end = len.saturating_add(3);
     let all = end.saturating_add(after);
@@ -87,12 +89,12 @@ fn a_frame_has_56_bytes(rt: HostRuntime) {
     same(&rt, size_of::<FrameOwned>(), 56, "size");
 }
 
-/// The payload sizes, and how many bytes come after the frame.
+/// The payload lengths, and the numbers of bytes after the frame.
 static SIZES: [u8; 15] = [0, 1, 2, 24, 25, 31, 32, 33, 34, 39, 40, 41, 48, 64, 128];
 
 static AFTER: [usize; 13] = [0, 1, 2, 29, 30, 31, 32, 33, 38, 39, 40, 41, 100];
 
-/// The head of a DATA frame, whose length is set in the third byte, and bytes after it.
+/// The header of a DATA frame, whose length is set in the third byte, and bytes after it.
 static NUMBERED: [u8; 256] = [
     0x00, 0x40, 0x02, 0x03, 0x04, 0x05, 0x06, 0x07, 0x08, 0x09, 0x0a, 0x0b, 0x0c, 0x0d, 0x0e, 0x0f,
     0x10, 0x11, 0x12, 0x13, 0x14, 0x15, 0x16, 0x17, 0x18, 0x19, 0x1a, 0x1b, 0x1c, 0x1d, 0x1e, 0x1f,
@@ -123,14 +125,14 @@ fn payloads_of_all_sizes_are_read_from_a_slice(rt: HostRuntime) {
     }
 }
 
-/// DATA, an unknown frame, session 4, an empty frame to exercise, HEADERS of two bytes, and a
-/// number that is no session's.
+/// DATA, an unknown frame, session 4, an empty exercise frame, HEADERS of two bytes, and an
+/// invalid session ID.
 const FRAMES: &[u8; 22] = &[
     0x00, 0x03, 0x61, 0x62, 0x63, 0x02, 0x02, 0xff, 0xff, 0x40, 0x41, 0x04, 0x21, 0x00, 0x01, 0x02,
     0x00, 0x00, 0x40, 0x41, 0x03, 0x00,
 ];
 
-/// What the polls over these bytes answer.
+/// The results of polling these bytes.
 static EACH: [Answer<'static>; 7] = [
     Polled::Ready(Ok((0x00, None, b"abc"))),
     UNKNOWN,
@@ -141,7 +143,7 @@ static EACH: [Answer<'static>; 7] = [
     UNEXPECTED_FIN,
 ];
 
-/// The frames are read of a source that shows at most so many buffered bytes.
+/// Asserts the frames that are read from a source that shows at most `most` buffered bytes.
 fn check_window<R: Abort + AllocGlobal>(rt: &R, most: usize) {
     let mut source = Window { rest: FRAMES, most };
     let shown = FRAMES.get(..most).unwrap_or(&[]);

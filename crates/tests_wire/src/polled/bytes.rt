@@ -17,10 +17,10 @@ use wtp_core::bytes::{
 };
 use wtp_core::varint::VarInt;
 
-/// What a poll of a reading of a number answers.
+/// The result of a poll that reads a number.
 type Number = Polled<Result<u64, IoReadError>>;
 
-/// One poll of a reading of a number.
+/// Polls a reader of a number once.
 fn polled<S: AsyncRead>(reading: &mut GetVarint, source: &mut S) -> Number {
     match reading.poll(source) {
         Polled::Ready(Ok(number)) => Polled::Ready(Ok(number.into_inner())),
@@ -68,7 +68,8 @@ static ROWS: [(u64, &[u8]); 4] = [
     ),
 ];
 
-/// The number's bytes, at once and one by one, and each time then no more.
+/// Asserts that a number is read from its bytes, at once and one by one, each time followed by
+/// the end.
 fn check_number_read<R: Abort>(rt: &R, number: u64, bytes: &[u8]) {
     let wanted = Polled::Ready(Ok(number));
     let mut whole = bytes;
@@ -91,7 +92,7 @@ fn cut_numbers_end(rt: HostRuntime) {
     }
 }
 
-/// What the polls of one number answer, and at last of no number.
+/// The results of polling for one number, and then for a missing one.
 const READ_ON: [Number; 3] = [
     Polled::Pending,
     Polled::Ready(Ok(15293)),
@@ -105,7 +106,7 @@ fn a_number_is_read_on(rt: HostRuntime) {
     check_each(&rt, &mut reading, &mut source, &READ_ON, &[0x7b, 0xbd]);
 }
 
-/// Stops before each byte, of a source that tells nothing.
+/// Interruptions before each byte, for a source without a model.
 const STOPS: [ReadStep; 6] = [
     ReadStep::Reset,
     ReadStep::Bytes(1),
@@ -115,7 +116,7 @@ const STOPS: [ReadStep; 6] = [
     ReadStep::Bytes(2),
 ];
 
-/// What the polls of one number answer at these stops.
+/// The results of polling for one number with these interruptions.
 const PAST_STOPS: [Number; 4] = [
     Polled::Ready(Err(IoReadError::Reset)),
     Polled::Ready(Err(IoReadError::NotConnected)),
@@ -123,7 +124,7 @@ const PAST_STOPS: [Number; 4] = [
     Polled::Ready(Ok(494878333)),
 ];
 
-/// The bytes of this number, and one after it.
+/// The bytes of this number, followed by one more byte.
 const NUMBER_AND_MORE: &[u8; 5] = &[0x9d, 0x7f, 0x3e, 0x7d, 0x25];
 
 #[test]
@@ -135,7 +136,7 @@ fn a_number_is_read_past_stops(rt: HostRuntime) {
 
 const TEXT: &[u8; 12] = b"WebTransport";
 
-/// What a poll of a reading into a buffer answers.
+/// The result of a poll that reads into a buffer.
 type Filled = Polled<Result<(), IoReadError>>;
 
 /// The buffer is full.
@@ -161,7 +162,7 @@ impl Reading for GetBuffer<'_> {
     }
 }
 
-/// Polls of a reading into a buffer, one for each answer, and these bytes are then in it.
+/// Asserts the results of polls that read into a buffer, and the bytes then in it.
 fn check_filled<R: Abort, S: AsyncRead>(
     rt: &R,
     source: &mut S,
@@ -181,7 +182,7 @@ fn a_buffer_is_filled(rt: HostRuntime) {
     same(&rt, whole, b"!", "the rest");
 }
 
-/// What the polls of twelve bytes answer that come one by one.
+/// The results of polling for twelve bytes that arrive one by one.
 static SLOWLY_FULL: [Filled; 14] = [
     Polled::Pending,
     Polled::Pending,
@@ -205,7 +206,7 @@ fn a_buffer_is_filled_byte_by_byte(rt: HostRuntime) {
     check_filled(&rt, &mut slow, &mut [0; 12], &SLOWLY_FULL, TEXT);
 }
 
-/// The front of a buffer, byte by byte up to each end.
+/// Asserts the results for the first bytes of a buffer, one by one up to each end.
 fn check_cut_buffer<R: Abort>(rt: &R, front: &[u8]) {
     for end in &ENDS {
         let mut buffer = [0; 12];
@@ -221,7 +222,7 @@ fn cut_buffers_end(rt: HostRuntime) {
     }
 }
 
-/// What the polls of one buffer answer at the stops.
+/// The results of polling for one buffer with the interruptions.
 const FULL_PAST_STOPS: [Filled; 4] = [
     Polled::Ready(Err(IoReadError::Reset)),
     Polled::Ready(Err(IoReadError::NotConnected)),
@@ -243,7 +244,7 @@ fn an_empty_buffer_is_full(rt: HostRuntime) {
     same(&rt, source.left(), 1, "no call");
 }
 
-/// The number is written into a vector and into a slow sink.
+/// Asserts that a number is written into a vector and into a slow sink.
 fn check_number_written<R: Abort + AllocGlobal>(rt: &R, number: u64, bytes: &[u8]) {
     let varint = VarInt::try_from_u64(number).expect(rt, "a number");
     let mut whole = Vec::new(rt.alloc()).put_varint(varint);
@@ -301,7 +302,7 @@ fn refused_memory_sends_a_buffer_once(rt: HostRuntime) {
     check_refused(&rt, &mut writing, &[], TEXT);
 }
 
-/// What an error of the system becomes for a reading and for a writing.
+/// Asserts the conversion of a system error to a read error and a write error.
 fn check_error<R: Abort>(rt: &R, kind: ErrorKind, read: IoReadError, write: IoWriteError) {
     let came = (
         kind,
@@ -311,7 +312,7 @@ fn check_error<R: Abort>(rt: &R, kind: ErrorKind, read: IoReadError, write: IoWr
     same(rt, came, (kind, read, write), "the error");
 }
 
-/// Errors of the system by which a connection is lost.
+/// System errors that mean that the connection is lost.
 static LOST: [ErrorKind; 5] = [
     ErrorKind::NotConnected,
     ErrorKind::ConnectionAborted,
@@ -330,13 +331,13 @@ fn errors_of_the_system_are_stops(rt: HostRuntime) {
     }
 }
 
-/// The error is printed as this text.
+/// Asserts the text of an error.
 pub(crate) fn check_printed<R: Abort + AllocGlobal, T: Display>(rt: &R, error: &T, text: &str) {
     let shown = error.to_string(rt.alloc()).expect(rt, "memory");
     same(rt, shown.as_str(), text, "printed");
 }
 
-/// Stops of a reading, and their texts.
+/// Read errors and their texts.
 static PRINTED: [(IoReadError, &str); 4] = [
     (
         IoReadError::ImmediateFin,

@@ -1,4 +1,4 @@
-//! What the polls of a reading of frames answer, and the check of such answers.
+//! Results of polls that read frames, in a form that can be compared.
 use crate::polled::readings::{NewReading, Reading};
 use crate::same::same;
 use std::alloc::Global;
@@ -8,13 +8,13 @@ use wtp_core::bytes;
 use wtp_core::bytes::{AsyncRead, Polled};
 use wtp_wire::frame::{Frame, FrameOwned, FrameReading, IoReadError, ParseError};
 
-/// A frame as its type number, its session and its payload.
+/// The type, session ID and payload of a frame.
 pub(crate) type Parts<'a> = (u64, Option<u64>, &'a [u8]);
 
-/// What a poll of a reading answers.
+/// The result of a poll.
 pub(crate) type Answer<'a> = Polled<Result<Parts<'a>, &'a IoReadError>>;
 
-/// One poll of a reading.
+/// Polls a reader once.
 pub(crate) fn polled<S: AsyncRead>(
     reading: &mut FrameReading,
     source: &mut S,
@@ -56,7 +56,7 @@ pub(crate) const ABC_DATA: Answer<'static> = Polled::Ready(Ok((0x00, None, b"abc
 
 pub(crate) const DATA: Answer<'static> = Polled::Ready(Ok((0x00, None, b"a")));
 
-/// The frame's parts.
+/// Returns the type, session ID and payload of a frame.
 fn parts(frame: &FrameOwned) -> Parts<'_> {
     let session = match frame.session_id() {
         Some(session) => Some(session.into_u64()),
@@ -65,7 +65,7 @@ fn parts(frame: &FrameOwned) -> Parts<'_> {
     (frame.kind().id().into_inner(), session, frame.payload())
 }
 
-/// The answer, with the frame as its parts.
+/// Returns the result of a poll by the parts of the frame.
 pub(crate) fn seen(answer: &Polled<Result<FrameOwned, IoReadError>>) -> Answer<'_> {
     match answer {
         Polled::Ready(Ok(frame)) => Polled::Ready(Ok(parts(frame))),

@@ -1,4 +1,4 @@
-//! Frames, written poll by poll.
+//! Frames written poll by poll.
 use crate::polled::frames::{ABC, FIELDS, HEADERS, SESSION, SETTINGS, TABLE};
 use crate::polled::readings::same_of;
 use crate::polled::writings::{STOPPED, check_refused, check_stopped, check_taken, check_written};
@@ -10,7 +10,7 @@ use wtp_core::ids::{SessionId, StreamId};
 use wtp_core::varint::VarInt;
 use wtp_wire::frame::Frame;
 
-/// The frame is written into a vector and into a slow sink.
+/// Asserts that the frame is written into a vector and into a slow sink.
 fn check_frame_written<R: Abort + AllocGlobal>(rt: &R, frame: Frame<'_>, bytes: &[u8]) {
     same_of(rt, bytes, &frame.write_size(), &bytes.len(), "size");
     check_written(
@@ -38,7 +38,7 @@ fn frames_with_no_payload_are_written(rt: HostRuntime) {
     check_frame_written(&rt, Frame::new_webtransport(session), SESSION);
 }
 
-/// Answers of a sink that waits and then stops.
+/// The results of a sink that is not ready and then stops.
 const STEPS: [WriteStep; 4] = [
     WriteStep::Bytes(2),
     WriteStep::NotReady,

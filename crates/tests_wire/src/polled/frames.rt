@@ -1,4 +1,4 @@
-//! Frames, read poll by poll.
+//! Frames read poll by poll.
 use crate::polled::bytes::check_printed;
 use crate::polled::frame_answers::{
     ABC_DATA, Answer, DATA, EMPTY_DATA, IMMEDIATE_FIN, NO_SESSION, NOT_CONNECTED, RESET, TOO_BIG,
@@ -15,32 +15,33 @@ use wtp_core::bytes;
 use wtp_core::bytes::{Polled, ReadStep};
 use wtp_wire::frame::{FrameOwned, FrameReading, IoReadError, ParseError};
 
-/// A table of 2 bytes, one blocked stream, datagrams, WebTransport and three sessions.
+/// A SETTINGS frame: a table of 2 bytes, one blocked stream, datagrams, WebTransport, and three
+/// sessions.
 pub(crate) const SETTINGS: &[u8; 22] = &[
     0x04, 0x14, 0x01, 0x02, 0x07, 0x01, 0x33, 0x01, 0xab, 0x60, 0x37, 0x42, 0x01, 0xc0, 0x00, 0x00,
     0x00, 0xc6, 0x71, 0x70, 0x6a, 0x03,
 ];
 
-/// The payload of these settings.
+/// The payload of `SETTINGS`.
 pub(crate) const TABLE: &[u8; 20] = &[
     0x01, 0x02, 0x07, 0x01, 0x33, 0x01, 0xab, 0x60, 0x37, 0x42, 0x01, 0xc0, 0x00, 0x00, 0x00, 0xc6,
     0x71, 0x70, 0x6a, 0x03,
 ];
 
-/// `key1` is `value1`.
+/// A HEADERS frame: `key1` is `value1`.
 pub(crate) const HEADERS: &[u8; 14] = &[
     0x01, 0x0c, 0x00, 0x00, 0x2b, 0xea, 0x5f, 0x41, 0x85, 0xee, 0x3a, 0x2d, 0x28, 0x7f,
 ];
 
-/// The payload of these headers.
+/// The payload of `HEADERS`.
 pub(crate) const FIELDS: &[u8; 12] = &[
     0x00, 0x00, 0x2b, 0xea, 0x5f, 0x41, 0x85, 0xee, 0x3a, 0x2d, 0x28, 0x7f,
 ];
 
-/// The stream is one of session 0.
+/// The frame of session 0.
 pub(crate) const SESSION: &[u8; 3] = &[0x40, 0x41, 0x00];
 
-/// Frames as bytes, and what is read.
+/// The bytes of frames, and the results of reading them.
 static FRAMES: [(&[u8], Answer<'static>); 5] = [
     (SETTINGS, Polled::Ready(Ok((0x04, None, TABLE)))),
     (HEADERS, Polled::Ready(Ok((0x01, None, FIELDS)))),
@@ -59,7 +60,7 @@ fn frames_are_read(rt: HostRuntime) {
     }
 }
 
-/// Faulty frames, and their faults: an unknown type, a session that is none, a length of 4097, and
+/// Invalid frames and their errors: an unknown type, an invalid session ID, a length of 4097, and
 /// the largest length.
 static FAULTS: [(&[u8], Answer<'static>); 4] = [
     (b"\x80\x42\x42\x42\x16This is a test payload", UNKNOWN),
@@ -78,7 +79,7 @@ fn faults_are_named(rt: HostRuntime) {
     }
 }
 
-/// Frames of which every front is cut.
+/// Frames that are truncated after each byte.
 static CUT: [&[u8]; 4] = [
     b"\x00\x16This is a test payload",
     SESSION,
@@ -93,7 +94,7 @@ fn cut_frames_end(rt: HostRuntime) {
     }
 }
 
-/// Bytes with unknown frames, and what the polls answer.
+/// Bytes with unknown frames, and the results of the polls.
 static PASSED: [(&[u8], &[Answer<'static>]); 4] = [
     (&[0x00], &[UNEXPECTED_FIN]),
     (&[0x0a], &[UNEXPECTED_FIN]),
@@ -117,8 +118,8 @@ fn unknown_frames_are_passed_over_whole(rt: HostRuntime) {
 
 static ZEROS: [u8; 8192] = [0; 8192];
 
-/// The bytes of the length of an unknown frame, how many zeros come after it, the bytes after
-/// those, and what the polls answer.
+/// The encoded length of an unknown frame, the number of zeros after it, the bytes after those,
+/// and the results of the polls.
 type LongRow = (
     &'static [u8],
     usize,
@@ -126,7 +127,7 @@ type LongRow = (
     &'static [Answer<'static>],
 );
 
-/// Asserts the answers to the polls over an unknown frame, what comes after it, and an end.
+/// Asserts the results of polling an unknown frame, the bytes after it, and an end.
 fn check_long<R: Abort + AllocGlobal>(rt: &R, row: &LongRow) {
     let (length, zeros, after, each) = *row;
     let zeros = ZEROS.get(..zeros).unwrap_or(&[]);
@@ -136,7 +137,7 @@ fn check_long<R: Abort + AllocGlobal>(rt: &R, row: &LongRow) {
     check_polls::<_, FrameReading, _>(rt, &mut source, each, length);
 }
 
-/// Unknown frames of 4096 bytes, of one more, of twice as many, and a cut one.
+/// Unknown frames of 4096 bytes, of one more, of twice as many, and a truncated one.
 static LONG: [LongRow; 4] = [
     (&[0x50, 0x00], 4096, &[0x00, 0x00], &[UNKNOWN, EMPTY_DATA]),
     (
@@ -166,8 +167,8 @@ fn long_unknown_frames_take_more_polls(rt: HostRuntime) {
     }
 }
 
-/// Bytes, the steps by which they come, the answers to the polls, bytes of a second source, a
-/// slice, and the answers to the polls over those.
+/// Bytes, the steps in which they arrive, the results of the polls, the bytes of a second source,
+/// which is a slice, and the results of polling that.
 type StepsRow = (
     &'static [u8],
     &'static [ReadStep],
@@ -176,7 +177,8 @@ type StepsRow = (
     &'static [Answer<'static>],
 );
 
-/// The bytes come by the steps of the row, and then the other bytes, to one new reading.
+/// Asserts the results of a new reader for the bytes of a row, which arrive in its steps, and
+/// then for those of the second source.
 fn check_steps<R: Abort + AllocGlobal>(rt: &R, row: &StepsRow) {
     let (bytes, steps, first, other, second) = *row;
     let mut reading = FrameReading::new(rt.alloc());
@@ -185,7 +187,7 @@ fn check_steps<R: Abort + AllocGlobal>(rt: &R, row: &StepsRow) {
     check_each(rt, &mut reading, &mut source, second, other);
 }
 
-/// Rows of an unknown frame of five bytes, of which three come first.
+/// Rows with an unknown frame of five bytes, three of which arrive first.
 static DUE: [StepsRow; 2] = [
     (
         &[0x0a, 0x05, 0x61, 0x62, 0x63, 0x64, 0x65, 0x00, 0x00],
@@ -210,7 +212,7 @@ fn what_is_due_stays_due(rt: HostRuntime) {
     }
 }
 
-/// A frame whose first byte comes from one source, and the others from another.
+/// A frame whose first byte comes from one source and whose other bytes come from another.
 const TWO_SOURCES: StepsRow = (
     &[0x00],
     &[ReadStep::Bytes(1), ReadStep::NotReady],
@@ -224,7 +226,7 @@ fn a_frame_is_read_on_over_a_second_source(rt: HostRuntime) {
     check_steps(&rt, &TWO_SOURCES);
 }
 
-/// A frame with a stop before each byte.
+/// A frame with an interruption before each byte.
 const STOPS: StepsRow = (
     &[0x00, 0x01, 0x61],
     &[
@@ -245,16 +247,16 @@ fn a_frame_is_read_past_stops(rt: HostRuntime) {
     check_steps(&rt, &STOPS);
 }
 
-/// An exercise frame and a session's one.
+/// An exercise frame and a session frame.
 const TWO_FRAMES: &[u8; 12] = b"\x21\x07Payload\x40\x41\x00";
 
-/// How many bytes the two frames have, and what they are.
+/// The size of each of the two frames, and the result of reading it.
 static TWO: [(usize, Answer<'static>); 2] = [
     (9, Polled::Ready(Ok((0x21, None, b"Payload")))),
     (3, Polled::Ready(Ok((0x41, Some(0), b"")))),
 ];
 
-/// Those of the two frames that the bytes hold. Returns how many bytes are left.
+/// Asserts those of the two frames that the bytes contain. Returns the number of bytes left.
 fn check_held<R: Abort>(
     rt: &R,
     reading: &mut FrameReading,
@@ -273,7 +275,7 @@ fn check_held<R: Abort>(
     held
 }
 
-/// The first bytes of the two frames, byte by byte, up to this end.
+/// Asserts the results for the first bytes of the two frames, one by one up to this end.
 fn check_stop<R: Abort + AllocGlobal>(rt: &R, front: &[u8], end: End) {
     let mut source = OneByteSource::new(front, end);
     let mut reading = FrameReading::new(rt.alloc());
@@ -293,7 +295,7 @@ fn a_source_stops_at_every_place(rt: HostRuntime) {
 /// A DATA frame.
 pub(crate) const ABC: &[u8; 5] = b"\x00\x03abc";
 
-/// A poll, or another where memory was refused after the head.
+/// Polls once, and again if allocation failed after the frame header.
 fn read_again<R: Abort>(
     rt: &R,
     reading: &mut FrameReading,

@@ -1,5 +1,5 @@
-//! What every reading does, whatever it reads, over bytes at once and over a source that gives a
-//! byte a poll and then ends.
+//! Checks for every polled reader, over bytes at once and over a source that returns one byte per
+//! poll and then ends.
 use crate::same::same;
 use std::alloc::Global;
 use std::fmt::{Debug, Display};
@@ -7,15 +7,15 @@ use std::process::Abort;
 use test_io::{Answers, End, OneByteSource};
 use wtp_core::bytes::{AsyncRead, IoReadError, Polled, ReadStep};
 
-/// A reading of numbers, buffers, frames or headers.
+/// A reader of numbers, buffers, frames or headers.
 pub(crate) trait Reading {
-    /// What a poll answers that is ready.
+    /// The value of a poll that is ready.
     type Ready: Drop;
 
-    /// The answer where the source gave no more bytes, for this reason.
+    /// Returns the result of a poll whose source returned no more bytes, for this reason.
     fn stopped(stop: IoReadError) -> Polled<Self::Ready>;
 
-    /// One poll, whose answer is wanted, over a source of the row's bytes.
+    /// Asserts the result of one poll of a source with the bytes of a row.
     fn check<R: Abort, S: AsyncRead, N: Display + Drop>(
         &mut self,
         rt: &R,
@@ -26,13 +26,13 @@ pub(crate) trait Reading {
     );
 }
 
-/// A reading that needs nothing to be read into.
+/// A reader that can be created without a buffer.
 pub(crate) trait NewReading: Reading + Drop {
-    /// A reading that has read nothing.
+    /// Creates a reader that has read nothing.
     fn new_reading(alloc: Global) -> Self;
 }
 
-/// Asserts what came of a row of these bytes.
+/// Asserts a result for the bytes of a row.
 pub(crate) fn same_of<R: Abort, T: PartialEq + Debug, N: Display + Drop>(
     rt: &R,
     row: &[u8],
@@ -43,7 +43,7 @@ pub(crate) fn same_of<R: Abort, T: PartialEq + Debug, N: Display + Drop>(
     same(rt, (row, came), (row, wanted), shows);
 }
 
-/// Polls of a new reading, one for each answer.
+/// Asserts the results of polling a new reader.
 pub(crate) fn check_polls<R: Abort + AllocGlobal, K: NewReading, S: AsyncRead>(
     rt: &R,
     source: &mut S,
@@ -53,7 +53,7 @@ pub(crate) fn check_polls<R: Abort + AllocGlobal, K: NewReading, S: AsyncRead>(
     check_each(rt, &mut K::new_reading(rt.alloc()), source, each, row);
 }
 
-/// Polls, one for each answer.
+/// Asserts the results of the next polls.
 pub(crate) fn check_each<R: Abort, K: Reading, S: AsyncRead>(
     rt: &R,
     reading: &mut K,
@@ -66,8 +66,8 @@ pub(crate) fn check_each<R: Abort, K: Reading, S: AsyncRead>(
     }
 }
 
-/// Polls, one for each answer, over a source that gives the bytes by these steps. Returns the bytes
-/// that it has not given.
+/// Asserts the results of the next polls of a source that returns the bytes in these steps.
+/// Returns the bytes that it has not returned.
 pub(crate) fn check_answers<'a, R: Abort, K: Reading>(
     rt: &R,
     reading: &mut K,
@@ -79,7 +79,7 @@ pub(crate) fn check_answers<'a, R: Abort, K: Reading>(
     source.rest()
 }
 
-/// So many polls that are all answered `Pending`, over a source of the row's bytes.
+/// Asserts that the next polls all return `Pending`, for a source with the bytes of a row.
 pub(crate) fn check_pending<R: Abort, K: Reading>(
     rt: &R,
     reading: &mut K,
@@ -92,7 +92,7 @@ pub(crate) fn check_pending<R: Abort, K: Reading>(
     }
 }
 
-/// Two polls that are each answered that the source gave no more, for this reason.
+/// Asserts that each of two polls returns the error for this reason.
 fn check_stops<R: Abort, K: Reading, S: AsyncRead>(
     rt: &R,
     reading: &mut K,
@@ -105,8 +105,8 @@ fn check_stops<R: Abort, K: Reading, S: AsyncRead>(
     reading.check(rt, source, &wanted, row, "stops again");
 }
 
-/// The last bytes of a source, one by one up to its end: after so many, which are too few, the end
-/// is answered once, and then again.
+/// Asserts the results for the last bytes of a source, one by one up to its end: too few bytes,
+/// then the error for the end, twice.
 pub(crate) fn check_tail<R: Abort, K: Reading>(
     rt: &R,
     reading: &mut K,
@@ -118,17 +118,17 @@ pub(crate) fn check_tail<R: Abort, K: Reading>(
     check_stops(rt, reading, source, row, end.fault(held));
 }
 
-/// The front of what is read, byte by byte up to this end: the end is answered once, and then
-/// again.
+/// Asserts the results for a proper prefix, byte by byte up to this end: the error for the end,
+/// twice.
 pub(crate) fn check_end<R: Abort, K: Reading>(rt: &R, reading: &mut K, front: &[u8], end: End) {
     let mut source = OneByteSource::new(front, end);
     check_tail(rt, reading, &mut source, (front, end), front.len());
 }
 
-/// Every ending.
+/// All endings.
 pub(crate) static ENDS: [End; 3] = End::EACH;
 
-/// The front of what is read, whole and byte by byte up to each end.
+/// Asserts the results for a proper prefix, at once and byte by byte up to each end.
 fn check_cut<R: Abort + AllocGlobal, K: NewReading>(rt: &R, front: &[u8]) {
     let mut whole = front;
     let fin = End::Fin.fault(front.len());
@@ -138,14 +138,14 @@ fn check_cut<R: Abort + AllocGlobal, K: NewReading>(rt: &R, front: &[u8]) {
     }
 }
 
-/// Each front of what is read.
+/// Asserts the results for each proper prefix.
 pub(crate) fn check_fronts<R: Abort + AllocGlobal, K: NewReading>(rt: &R, bytes: &[u8]) {
     for len in 0..bytes.len() {
         check_cut::<R, K>(rt, bytes.get(..len).unwrap_or(&[]));
     }
 }
 
-/// The bytes at once, and then no more.
+/// Asserts that the bytes are read at once, followed by the end.
 pub(crate) fn check_whole<R: Abort, K: Reading>(
     rt: &R,
     reading: &mut K,
@@ -158,7 +158,7 @@ pub(crate) fn check_whole<R: Abort, K: Reading>(
     check_stops(rt, reading, &mut whole, bytes, IoReadError::ImmediateFin);
 }
 
-/// The bytes one by one, and then no more.
+/// Asserts that the bytes are read one by one, followed by the end.
 pub(crate) fn check_slow<R: Abort, K: Reading>(
     rt: &R,
     reading: &mut K,
@@ -172,7 +172,8 @@ pub(crate) fn check_slow<R: Abort, K: Reading>(
     check_tail(rt, reading, &mut slow, (bytes, End::Fin), 0);
 }
 
-/// The bytes, whole and byte by byte, and each time then no more, to one new reading.
+/// Asserts that one new reader reads the bytes at once and byte by byte, each time followed by
+/// the end.
 pub(crate) fn check_read<R: Abort + AllocGlobal, K: NewReading>(
     rt: &R,
     bytes: &[u8],

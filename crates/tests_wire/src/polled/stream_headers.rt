@@ -1,4 +1,4 @@
-//! Headers of streams, read and written poll by poll.
+//! Stream headers read and written poll by poll.
 use crate::polled::bytes::check_printed;
 use crate::polled::readings::{
     NewReading, Reading, check_answers, check_each, check_fronts, check_read, same_of,
@@ -14,10 +14,10 @@ use wtp_core::ids::SessionId;
 use wtp_core::varint::VarInt;
 use wtp_wire::stream_header::{HeaderReading, IoReadError, ParseError, StreamHeader, StreamKind};
 
-/// What a poll answers: a header as its type number and its session.
+/// The result of a poll, by the type and session ID of the header.
 type Answer = Polled<Result<(u64, Option<u64>), IoReadError>>;
 
-/// The header's type number and its session.
+/// Returns the type and session ID of a header.
 fn parts(header: StreamHeader) -> (u64, Option<u64>) {
     let session = match header.session_id() {
         Some(session) => Some(session.into_u64()),
@@ -26,7 +26,7 @@ fn parts(header: StreamHeader) -> (u64, Option<u64>) {
     (header.kind().id().into_inner(), session)
 }
 
-/// One poll of a reading of a header.
+/// Polls a reader of a header once.
 fn polled<S: AsyncRead>(reading: &mut HeaderReading, source: &mut S) -> Answer {
     match reading.poll(source) {
         Polled::Ready(Ok(header)) => Polled::Ready(Ok(parts(header))),
@@ -69,7 +69,7 @@ const SESSION: &[u8; 3] = &[0x40, 0x54, 0x00];
 /// The header of session 2^62 - 4.
 const LAST_SESSION: &[u8; 10] = &[0x40, 0x54, 0xff, 0xff, 0xff, 0xff, 0xff, 0xff, 0xff, 0xfc];
 
-/// Headers as bytes, and what is read: their type numbers and their sessions.
+/// The bytes of headers, and their types and session IDs.
 static HEADERS: [(&[u8], Answer); 6] = [
     (&[0x00], Polled::Ready(Ok((0x00, None)))),
     (&[0x02], Polled::Ready(Ok((0x02, None)))),
@@ -93,7 +93,7 @@ const UNKNOWN: Answer = Polled::Ready(Err(IoReadError::Parse(ParseError::Unknown
 
 const NO_SESSION: Answer = Polled::Ready(Err(IoReadError::Parse(ParseError::InvalidSessionId)));
 
-/// Faulty headers, and their faults.
+/// Invalid headers and their errors.
 static FAULTS: [(&[u8], Answer); 3] = [
     (&[0x80, 0x42, 0x42, 0x42], UNKNOWN),
     (&[0x01], UNKNOWN),
@@ -114,7 +114,7 @@ fn cut_headers_end(rt: HostRuntime) {
     check_fronts::<_, HeaderReading>(&rt, LAST_SESSION);
 }
 
-/// Stops before each byte.
+/// Interruptions before each byte.
 const STOPS: [ReadStep; 6] = [
     ReadStep::Reset,
     ReadStep::Bytes(1),
@@ -124,10 +124,10 @@ const STOPS: [ReadStep; 6] = [
     ReadStep::Bytes(2),
 ];
 
-/// The header of session 4.
+/// The result for the header of session 4.
 const FOURTH: Answer = Polled::Ready(Ok((0x54, Some(4))));
 
-/// What the polls of one header answer at these stops.
+/// The results of polling for one header with these interruptions.
 const PAST_STOPS: [Answer; 4] = [
     Polled::Ready(Err(IoReadError::IO(bytes::IoReadError::Reset))),
     Polled::Ready(Err(IoReadError::IO(bytes::IoReadError::NotConnected))),
@@ -135,7 +135,7 @@ const PAST_STOPS: [Answer; 4] = [
     FOURTH,
 ];
 
-/// The header of session 4, and a byte after it.
+/// The header of session 4, followed by one more byte.
 const FOURTH_BYTES: &[u8; 4] = &[0x40, 0x54, 0x04, 0x00];
 
 #[test]
@@ -145,7 +145,7 @@ fn a_header_is_read_past_stops(rt: HostRuntime) {
     same(&rt, rest, &[0x00], "and no more");
 }
 
-/// One byte, and then none for now.
+/// One byte, and then not ready.
 const ONE_BYTE: [ReadStep; 2] = [ReadStep::Bytes(1), ReadStep::NotReady];
 
 #[test]
@@ -156,14 +156,14 @@ fn a_header_is_read_on_over_a_second_source(rt: HostRuntime) {
     check_each(&rt, &mut reading, &mut second, &[FOURTH], &[0x54, 0x04]);
 }
 
-/// The header of the stream of this session.
+/// Returns the header of a stream of this session.
 fn session<R: Abort>(rt: &R, number: u64) -> StreamHeader {
     let varint = VarInt::try_from_u64(number).expect(rt, "a number");
     let session = SessionId::try_from_varint(varint).expect(rt, "a session");
     StreamHeader::new_webtransport(session)
 }
 
-/// The header is written into a vector and into a slow sink.
+/// Asserts that the header is written into a vector and into a slow sink.
 fn check_header_written<R: Abort + AllocGlobal>(rt: &R, header: StreamHeader, bytes: &[u8]) {
     same_of(rt, bytes, &header.write_size(), &bytes.len(), "size");
     check_written(

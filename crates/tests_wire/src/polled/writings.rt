@@ -1,4 +1,4 @@
-//! What every writing does, whatever it writes, into vectors and into sinks that wait or stop.
+//! Checks for every polled writer, with vectors and with sinks that are not ready or stop.
 use crate::polled::readings::same_of;
 use crate::same::same;
 use std::fmt::Display;
@@ -8,15 +8,15 @@ use wtp_core::bytes::{AsyncWrite, IoWriteError, Polled, PutBuffer, PutVarint};
 use wtp_wire::frame::FrameWriting;
 use wtp_wire::stream_header::HeaderWriting;
 
-/// What a poll of a writing answers.
+/// The result of a poll.
 pub(crate) type Written = Polled<Result<(), IoWriteError>>;
 
-/// All is written.
+/// Everything is written.
 pub(crate) const DONE: Written = Polled::Ready(Ok(()));
 
-/// A writing of a number, a buffer, a frame or a header.
+/// A writer of a number, a buffer, a frame or a header.
 pub(crate) trait Writing {
-    /// One poll.
+    /// Polls once.
     fn write_on<W: AsyncWrite>(&mut self, sink: &mut W) -> Written;
 }
 
@@ -44,7 +44,7 @@ impl Writing for HeaderWriting {
     }
 }
 
-/// One poll, whose answer is wanted.
+/// Asserts the result of one poll.
 fn check_poll<R: Abort, K: Writing, W: AsyncWrite, S: Display + Drop>(
     rt: &R,
     writing: &mut K,
@@ -57,7 +57,7 @@ fn check_poll<R: Abort, K: Writing, W: AsyncWrite, S: Display + Drop>(
     same_of(rt, row, &came, wanted, shows);
 }
 
-/// One poll, whose answer is wanted, and the sink has then taken so many bytes.
+/// Asserts the result of one poll, and the number of bytes that the sink has then accepted.
 pub(crate) fn check_taken<R: Abort, K: Writing>(
     rt: &R,
     writing: &mut K,
@@ -69,7 +69,7 @@ pub(crate) fn check_taken<R: Abort, K: Writing>(
     same(rt, Some(sink.output()), bytes.get(..sent), sent);
 }
 
-/// A writing, or the rest of one, into a vector, polled twice.
+/// Asserts that a new or interrupted writer writes these bytes into a vector, and polls it twice.
 fn check_whole<R: Abort + AllocGlobal, K: Writing>(rt: &R, writing: &mut K, bytes: &[u8]) {
     let mut vector = Vec::new(rt.alloc());
     check_poll(rt, writing, &mut vector, bytes, &DONE, "whole");
@@ -77,7 +77,7 @@ fn check_whole<R: Abort + AllocGlobal, K: Writing>(rt: &R, writing: &mut K, byte
     same(rt, vector.as_slice(), bytes, "whole");
 }
 
-/// A writing into a sink that takes a byte a poll, which is polled until all is taken.
+/// Asserts that a writer writes these bytes to a sink that accepts one byte per poll.
 fn check_slow<R: Abort + AllocGlobal, K: Writing>(rt: &R, writing: &mut K, bytes: &[u8]) {
     let mut sink = ScriptedSink::new(rt.alloc(), BYTE_BY_BYTE.as_flattened());
     for at in 0..bytes.len() {
@@ -86,7 +86,8 @@ fn check_slow<R: Abort + AllocGlobal, K: Writing>(rt: &R, writing: &mut K, bytes
     check_taken(rt, writing, &mut sink, (bytes, bytes.len()), &DONE);
 }
 
-/// A writing into a vector, polled twice, and another into a sink that takes a byte a poll.
+/// Asserts that one writer writes into a vector, and another to a sink that accepts one byte per
+/// poll.
 pub(crate) fn check_written<R: Abort + AllocGlobal, K: Writing>(
     rt: &R,
     whole: &mut K,
@@ -100,11 +101,11 @@ pub(crate) fn check_written<R: Abort + AllocGlobal, K: Writing>(
 /// The sink stopped.
 pub(crate) const STOPPED: Written = Polled::Ready(Err(IoWriteError::Stopped));
 
-/// The sink is lost.
+/// The connection is lost.
 const LOST: Written = Polled::Ready(Err(IoWriteError::NotConnected));
 
-/// A writing into a sink that takes so many bytes, one a call, then stops, and is then lost; and
-/// the rest into a vector.
+/// Asserts the results of a sink that accepts a number of bytes, one per call, then stops, and is
+/// then disconnected. Then asserts that the rest is written into a vector.
 pub(crate) fn check_stopped<R: Abort + AllocGlobal, K: Writing>(
     rt: &R,
     writing: &mut K,
@@ -117,12 +118,12 @@ pub(crate) fn check_stopped<R: Abort + AllocGlobal, K: Writing>(
     check_whole(rt, writing, bytes.get(sent..).expect(rt, "the rest"));
 }
 
-/// Where memory was refused, nothing was sent, or the head.
+/// Asserts that a failed allocation left nothing or the frame header.
 fn check_sent<R: Abort>(rt: &R, sent: &[u8], head: &[u8]) {
     assert!(rt; sent.is_empty() || sent == head);
 }
 
-/// What a poll into a vector answers, or another where memory was refused.
+/// Polls once with a vector, and again if allocation failed.
 fn write_again<R: Abort, K: Writing>(
     rt: &R,
     writing: &mut K,
@@ -138,7 +139,8 @@ fn write_again<R: Abort, K: Writing>(
     }
 }
 
-/// A writing into a vector, polled again where memory was refused, before the head or after it.
+/// Asserts that a writer writes into a vector, polled again if allocation failed before or after
+/// the header.
 pub(crate) fn check_refused<R: Abort + AllocGlobal, K: Writing>(
     rt: &R,
     writing: &mut K,

@@ -13,7 +13,7 @@ pub enum End {
     Fault(Fault),
 }
 
-/// An item that the input truncates.
+/// An item that is truncated at the end of the input.
 #[derive(Clone, Copy, Debug, PartialEq, Eq)]
 pub struct Cut {
     /// The offset of the item.

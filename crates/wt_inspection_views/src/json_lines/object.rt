@@ -82,8 +82,8 @@ impl Lines {
 
 /// A JSON object whose members are appended in order. A failed allocation is recorded, and
 /// [`into_line`](Object::into_line) reports it, so the methods that append members return
-/// nothing. The object has its own writer because the kit's writer may grow to 16 KiB for a long
-/// text, and frees this only when it ends.
+/// nothing. Each object has its own writer: the kit's writer initializes up to 16 KiB after a
+/// long text, and removes them when it ends.
 #[derive(Drop)]
 pub(super) struct Object {
     /// The allocator of the object.
