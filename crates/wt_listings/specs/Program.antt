@@ -1,5 +1,5 @@
 -- The arguments of the program, its faults and statuses, and what it writes.
-use Rattle.std.specs.Prelude.{◌≡◌, ◌⊎◌, ℕ, ◌≤◌, ◌<◌, List, [], ◌∷◌, ◌++◌, length, map, Option, IfSome, codes}
+use Rattle.std.specs.Prelude.{◌≡◌, ◌≢◌, ◌⊎◌, ℕ, ◌≤◌, ◌<◌, List, [], ◌∷◌, ◌++◌, length, map, Option, IfSome, codes}
 use Rattle.std.specs.Prelude.{String, string_bytes}
 use Rattle.std.specs.Global.{Global}
 use Rattle.std.specs.Io.KnownBytes.{Appends, IsAtEnd}
@@ -109,16 +109,18 @@ AppendsStart text old new =
     (start : List ℕ) × (rest : List ℕ) × (text ≡ start ++ rest) × Appends old new start
 
 -- A run of the program ended with this fault. Its line was appended to the errors and nothing else,
--- or only its start.
-pub record FailsWith (fault : Fault) (arguments : List (List ℕ)) (input left errors reported : Known) : Type 0 where
+-- or only its start. Unwritten says that nothing was written to the output.
+pub record FailsWith (fault : Fault) (arguments : List (List ℕ)) (input left errors reported : Known) (Unwritten : Type 0) : Type 0 where
   pub line : AppendsStart (fault_line fault) errors reported
   pub usage : fault ≡ Usage → NamesNone arguments
   pub too_long : fault ≡ InputTooLong → IfSome input (λ bytes. 1048576 < length bytes)
   pub unwritten : fault ≡ WriteFault → ReadsWhole arguments input left
+  pub quiet : fault ≢ WriteFault → Unwritten
 
 -- the same by the status that the program ended with, which is not that of a listing
-abbrev pub EndsFailed : List (List ℕ) → Known → Known → Known → Known → ℕ → Type 0
-EndsFailed arguments input left errors reported status =
+abbrev pub EndsFailed :
+    List (List ℕ) → Known → Known → Known → Known → Type 0 → ℕ → Type 0
+EndsFailed arguments input left errors reported Unwritten status =
     (fault : Fault)
     × (status ≡ fault_status fault)
-    × FailsWith fault arguments input left errors reported
+    × FailsWith fault arguments input left errors reported Unwritten

@@ -111,7 +111,7 @@ pub fn run_program<R: Read, W: Write, E: Write>(
     // failed.
     ensures reported { ((result ≡ 0) ⊎ (result ≡ 2))
         ⊎ EndsFailed (texts_of arguments.now) (R.remaining input.old) (R.remaining input.new)
-        (E.contents errors.old) (E.contents errors.new) result }
+        (E.contents errors.old) (E.contents errors.new) (output.new ≡ output.old) result }
     ensures statuses { result ≤ 4 }
 {
     match try_run(alloc, arguments, input, output) {

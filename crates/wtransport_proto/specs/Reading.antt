@@ -12,7 +12,7 @@ abbrev pub permitted : Option ErrorCode → Content → Result Content ErrorCode
 permitted None f = Ok f
 permitted (Some c) f = Err c
 
--- the same as the result of reading the next frame
+-- the same, as the result of reading a frame
 abbrev pub verdict : Option ErrorCode → Content → Result (Option Content) ErrorCode
 verdict None f = Ok (Some f)
 verdict (Some c) f = Err c
@@ -45,12 +45,6 @@ FirstAfter role first (BadId rest) next = next ≡ first
 FirstAfter role first (TooBig rest) next = next ≡ first
 FirstAfter role first Short next = next ≡ first
 
--- a reader moves to the bytes left after a frame, and without a frame it does not move
-abbrev pub MovesPast : Result (Option Content) ErrorCode → List ℕ → List ℕ → List ℕ → Type 0
-MovesPast (Ok (Some f)) old left new = new ≡ left
-MovesPast (Ok None) old left new = new ≡ old
-MovesPast (Err c) old left new = new ≡ old
-
 -- the same by the run of what is left, for a reader that moves past a frame only
 abbrev pub AnswersRun :
     Role → Bool → List ℕ → Result (Option Content) ErrorCode → Bool → List ℕ → Type 0
@@ -71,3 +65,9 @@ ReaderIsAfter role first old (Ok None) next new =
     (front (skip_unknown old) ≡ Short) × (next ≡ first) × (new ≡ old)
 ReaderIsAfter role first old (Err c) next new =
     FirstAfter role first (front (skip_unknown old)) next × (new ≡ old)
+
+-- a reader moves to the bytes left after a frame, and without a frame it does not move
+abbrev pub MovesPast : Result (Option Content) ErrorCode → List ℕ → List ℕ → List ℕ → Type 0
+MovesPast (Ok (Some f)) old left new = new ≡ left
+MovesPast (Ok None) old left new = new ≡ old
+MovesPast (Err c) old left new = new ≡ old
