@@ -1,6 +1,7 @@
 -- Capsules of data that is cut anywhere, turn by turn.
 use Rattle.std.proofs.Common.{◌≡◌, ◌≢◌, ℕ, ◌+◌, ◌-◌, ◌<◌, ◌≤◌, ◌^◌, Bool, true, false, List, [], ◌∷◌, ◌++◌, length, take, drop, Option, Some, None, Result, Ok, Err, refl, sym, ap, subst, ◌∙◌, append_assoc, append-nil, arith, inl, length-append}
-use Rattle.std.specs.Prelude.{IsSome, IfOk}
+use Rattle.std.specs.Prelude.{IsSome, IfOk, min}
+use Rattle.std.proofs.lemmas.Bool.{le-ltb, lt-ltb}
 use Rattle.std.proofs.lemmas.List.{take_all, take-append-drop}
 use Rattle.wtp_core.specs.declared.error.ErrorCode.{ErrorCode}
 use Rattle.wtp_core.specs.declared.error.ErrorCode.TheVariants.{Datagram}
@@ -50,7 +51,7 @@ use Rattle.wt_inspection.specs.declared.capsules.Closing.TheVariants as closing-
 use Rattle.wt_inspection.specs.declared.capsules.CapsuleWalk.{CapsuleWalk}
 use Rattle.wt_inspection.specs.DataCapsules.{Stage, Opening, Plain, Session, IsFaulty, SaysBy, StartsCapsule, StartsCapsules, EndsWith}
 use Rattle.wt_inspection.specs.Recording.{Then, IsCutPart, EndsStage, HasNoFrame, HasParts, Moves, MovesFrames, MovesNext, Takes, TakesData, TakesFrame, TakesWhole, is_data, is_cut, name_fault, still_first}
-use Rattle.wt_inspection.specs.Walks.{Fits, Holds, HoldsOf, IsBad, IsStage, IsStageAt, IsWhole, Judges, JudgesBy, LacksOf, Leads, LeadsAt, TakesPiece}
+use Rattle.wt_inspection.specs.Walks.{Fits, Holds, HoldsOf, IsBad, IsStage, IsStageAt, IsWhole, Judges, JudgesBy, LacksOf, Leads, LeadsAt, PlacesCapsules, TakesPiece, begins_at, place_of}
 
 -- ---- a capsule of an unknown type
 
@@ -176,6 +177,9 @@ pending_unknown walk came some h = by walk.unknown walk.cursor.skip_remaining wa
     by None skip_remaining held some h = absurd (cc some)
     by (Some u) skip_remaining held some (more, none, (kind, (value, e, sum))) = some_came came ((u.number, u.announced), value) e
 
+pub pending_is : (walk : CapsuleWalk) (u : UnknownCapsule) (came : List ℕ) → walk.unknown ≡ Some u → Holds walk came → came ≢ []
+pending_is walk u came is h = pending_unknown walk came (rw is refl) h
+
 -- ---- an unknown capsule goes on
 
 pub still_lacks : (u : UnknownCapsule) (skip_remaining : ℕ) (held came : List ℕ) → 0 < skip_remaining → held ≡ [] → LacksOf u skip_remaining came → HoldsOf (Some u) skip_remaining held came × (length held ≤ 1043)
@@ -195,6 +199,13 @@ skips old u cursor found came front is fits any h =
     let missing = missing_due old.cursor old.held.items some in
     let most : length front ≤ old.cursor.skip_remaining = omega (arith, missing, some, fits (omega (arith, missing, some))) in
     (none, lacks_more u old.cursor.skip_remaining cursor.skip_remaining came front lacks most (skips_all found old.cursor cursor front most any))
+
+pub begins_before : (came : List ℕ) (start place : ℕ) → came ≢ [] → begins_at came start place ≡ start
+begins_before [] start place some = absurd (some refl)
+begins_before (b ∷ came) start place some = refl
+
+pub begins_held : (old : CapsuleWalk) (came : List ℕ) (place : ℕ) → old.unknown ≡ None → Holds old came → begins_at old.held.items old.at place ≡ begins_at came old.at place
+begins_held old came place none h = let (skip_remaining, same, part) = holds_part old.unknown old.cursor.skip_remaining old.held.items came none h.0 in ap (λ (x : List ℕ). begins_at x old.at place) same
 
 -- the start of a capsule is held, and no more comes than is missing
 record HoldsPart (old : CapsuleWalk) (came front : List ℕ) : Type 0 where
@@ -255,32 +266,36 @@ ok_map P Q (Err e) f h = h
 
 -- ---- a piece of data
 
-pub starts_more : (items : List CapsuleItem) (all bytes behind : List ℕ) (item : CapsuleItem) → StartsCapsules all items bytes → StartsCapsule bytes item behind → StartsCapsules all (items ++ item ∷ []) behind
-starts_more [] all bytes behind item same one = (behind, rw same one, refl)
-starts_more (first ∷ items) all bytes behind item (next, is, are) one = (next, is, starts_more items next bytes behind item are one)
+places_more : (items : List CapsuleItem) (all bytes behind : List ℕ) (item : CapsuleItem) (place : ℕ → ℕ) → PlacesCapsules place all items bytes → StartsCapsule bytes item behind → item.at ≡ place (length bytes) → PlacesCapsules place all (items ++ item ∷ []) behind
+places_more [] all bytes behind item place same one at = (behind, rw same one, rw same at, refl)
+places_more (first ∷ items) all bytes behind item place (next, is, where_is, are) one at = (next, is, where_is, places_more items next bytes behind item place are one at)
+
+places_starts : (items : List CapsuleItem) (bytes rest : List ℕ) (place : ℕ → ℕ) → PlacesCapsules place bytes items rest → StartsCapsules bytes items rest
+places_starts [] bytes rest place same = same
+places_starts (c ∷ cs) bytes rest place (behind, is, where_is, are) = (behind, is, places_starts cs behind rest place are)
 
 -- ---- the message
 
 -- a session goes on, if no capsule of the payload has a fault
-pub good_ends : (walk new : CapsuleWalk) (phase : Phase) (payload : List ℕ) (taken : Taken) (on : Then) (stage : Stage) → ((came : List ℕ) → Holds walk came → TakesPiece new (came ++ payload) taken) → taken.fault ≡ None → phase ≡ phase-is.Session new → IsStage (phase-is.Session walk) stage → (next : Stage) × TakesData stage payload taken.items.items on on next × IsStageAt on phase next
-good_ends walk new phase payload taken on (Session held) adds none is h =
-    let (rest, starts, rests) = adds held h in
-    let still : Holds new rest = rw none at rests in
-    (Session rest, (rest, None, starts, holds_ends new rest still, refl, refl), rw is (stage_at on new rest still))
+pub good_ends : (place : ℕ → ℕ) (walk new : CapsuleWalk) (phase : Phase) (payload : List ℕ) (taken : Taken) (on : Then) (stage : Stage) → ((came : List ℕ) → Holds walk came → TakesPiece place new (came ++ payload) taken) → taken.fault ≡ None → phase ≡ phase-is.Session new → IsStage (phase-is.Session walk) stage → (next : Stage) × TakesData stage payload taken.items.items on on next × IsStageAt on phase next
+good_ends place walk new phase payload taken on (Session held) adds none is h =
+    let (rest, places, rests) = adds held h in
+    let (still, at) : Holds new rest × (rest ≢ [] → new.at ≡ place (length rest)) = rw none at rests in
+    (Session rest, (rest, None, places_starts taken.items.items (held ++ payload) rest place places, holds_ends new rest still, refl, refl), rw is (stage_at on new rest still))
   where
     stage_at : (on : Then) (walk : CapsuleWalk) (rest : List ℕ) → Holds walk rest → IsStageAt on (phase-is.Session walk) (Session rest)
     stage_at (Ok next) walk rest h = h
     stage_at (Err end) walk rest h = tt
-good_ends walk new phase payload taken on Opening adds none is h = absurd h
-good_ends walk new phase payload taken on Plain adds none is h = absurd h
+good_ends place walk new phase payload taken on Opening adds none is h = absurd h
+good_ends place walk new phase payload taken on Plain adds none is h = absurd h
 
-pub bad_ends : (walk new : CapsuleWalk) (phase : Phase) (payload : List ℕ) (taken : Taken) (fault : Fault) (on : Then) (stage : Stage) → ((came : List ℕ) → Holds walk came → TakesPiece new (came ++ payload) taken) → taken.fault ≡ Some fault → IsStage (phase-is.Session walk) stage → (next : Stage) × TakesData stage payload taken.items.items on (Err (end-is.Fault fault)) next × IsStageAt (Err (end-is.Fault fault)) phase next
-bad_ends walk new phase payload taken fault on (Session held) adds some h =
-    let (rest, starts, rests) = adds held h in
-    let ends : EndsWith (capsule_front rest) (Some fault.code) = rw some at rests in
-    (Session rest, (rest, Some fault.code, starts, ends, refl, refl), tt)
-bad_ends walk new phase payload taken fault on Opening adds some h = absurd h
-bad_ends walk new phase payload taken fault on Plain adds some h = absurd h
+pub bad_ends : (place : ℕ → ℕ) (walk new : CapsuleWalk) (phase : Phase) (payload : List ℕ) (taken : Taken) (fault : Fault) (on : Then) (stage : Stage) → ((came : List ℕ) → Holds walk came → TakesPiece place new (came ++ payload) taken) → taken.fault ≡ Some fault → IsStage (phase-is.Session walk) stage → (next : Stage) × TakesData stage payload taken.items.items on (Err (end-is.Fault fault)) next × IsStageAt (Err (end-is.Fault fault)) phase next
+bad_ends place walk new phase payload taken fault on (Session held) adds some h =
+    let (rest, places, rests) = adds held h in
+    let (ends, at) : EndsWith (capsule_front rest) (Some fault.code) × (fault.at ≡ place (length rest)) = rw some at rests in
+    (Session rest, (rest, Some fault.code, places_starts taken.items.items (held ++ payload) rest place places, ends, refl, refl), tt)
+bad_ends place walk new phase payload taken fault on Opening adds some h = absurd h
+bad_ends place walk new phase payload taken fault on Plain adds some h = absurd h
 
 -- ---- the end
 
@@ -297,36 +312,57 @@ ends_cut walk Plain cut h some = absurd h
 
 -- ---- all turns
 
+-- where a capsule began that is held before the bytes that are left
+begins_is : (came left : List ℕ) (start at size walk_at place : ℕ) → length left ≤ size → place ≡ min (at + (size - length left)) (2 ^ 64 - 1) → (came ≢ [] → walk_at ≡ place_of start at size (length (came ++ left))) → begins_at came walk_at place ≡ place_of start at size (length (came ++ left))
+begins_is [] left start at size walk_at place l e some = rw (le-ltb size (length left) l) e
+begins_is (b ∷ came) left start at size walk_at place l e some = some (λ empty. cc empty)
+
 -- the capsules so far, and what is held before the bytes that are left
-abbrev pub SoFar : CapsuleWalk → CapsuleWalk → List ℕ → List CapsuleItem → List ℕ → Type 0
-SoFar old walk piece items left =
-    (held : List ℕ) → Holds old held → (came : List ℕ) × Holds walk came × StartsCapsules (held ++ piece) items (came ++ left)
+abbrev pub SoFar : CapsuleWalk → ℕ → CapsuleWalk → List ℕ → List CapsuleItem → List ℕ → Type 0
+SoFar old at walk piece items left =
+    (held : List ℕ) → Holds old held → (came : List ℕ) × Holds walk came
+    × PlacesCapsules (place_of old.at at (length piece)) (held ++ piece) items (came ++ left)
+    × (came ≢ [] → walk.at ≡ place_of old.at at (length piece) (length (came ++ left)))
 
-pub so_far_none : (walk : CapsuleWalk) (piece left : List ℕ) (items : List CapsuleItem) → items ≡ [] → left ≡ piece → SoFar walk walk piece items left
-so_far_none walk piece left items none same = λ held h. (held, h, rw (none, same) refl)
+pub so_far_none : (walk : CapsuleWalk) (at : ℕ) (piece : List ℕ) → SoFar walk at walk piece [] piece
+so_far_none walk at piece = λ held h. (held, h, refl, λ some. before held some)
+  where
+    before : (held : List ℕ) → held ≢ [] → walk.at ≡ place_of walk.at at (length piece) (length (held ++ piece))
+    before [] some = absurd (some refl)
+    before (b ∷ held) some = rw (lt-ltb (length piece) (length (b ∷ held ++ piece)) (omega (arith, length-append held piece))) refl
 
-pub so_far_more : (old walk new : CapsuleWalk) (piece left front behind : List ℕ) (items : List CapsuleItem) → SoFar old walk piece items left → left ≡ front ++ behind → ((came : List ℕ) → Holds walk came → Holds new (came ++ front)) → SoFar old new piece items behind
-so_far_more old walk new piece left front behind items so parts turns = λ held h.
-    let (came, holds, starts) = so held h in
-    (came ++ front, turns came holds, rw append_assoc (rw parts at starts))
+pub so_far_more : (old : CapsuleWalk) (at place : ℕ) (walk new : CapsuleWalk) (piece left front behind : List ℕ) (items : List CapsuleItem) → SoFar old at walk piece items left → length left ≤ length piece → place ≡ min (at + (length piece - length left)) (2 ^ 64 - 1) → left ≡ front ++ behind → ((came : List ℕ) → Holds walk came → Holds new (came ++ front) × (new.at ≡ begins_at came walk.at place)) → SoFar old at new piece items behind
+so_far_more old at place walk new piece left front behind items so fits is parts turns = λ held h.
+    let (came, holds, starts, begun) = so held h in
+    let (still, begins) = turns came holds in
+    let all : came ++ left ≡ (came ++ front) ++ behind = ap (λ (x : List ℕ). came ++ x) parts ∙ sym (append_assoc came front behind) in
+    let at_is = begins ∙ begins_is came left old.at at (length piece) walk.at place fits is begun in
+    (came ++ front, still, subst (λ (x : List ℕ). PlacesCapsules (place_of old.at at (length piece)) (held ++ piece) items x) all starts, λ some. at_is ∙ ap (λ (x : List ℕ). place_of old.at at (length piece) (length x)) all)
 
-pub so_far_done : (old walk new : CapsuleWalk) (piece left front behind : List ℕ) (items more : List CapsuleItem) (item : CapsuleItem) → SoFar old walk piece items left → left ≡ front ++ behind → ((came : List ℕ) → Holds walk came → IsWhole (came ++ front) item × Holds new []) → more ≡ items ++ item ∷ [] → SoFar old new piece more behind
-so_far_done old walk new piece left front behind items more item so parts turns all = λ held h.
-    let (came, holds, starts) = so held h in
-    let (whole, none) = turns came holds in
-    let at : StartsCapsules (held ++ piece) items ((came ++ front) ++ behind) = rw append_assoc (rw parts at starts) in
-    ([], none, rw all (starts_more items (held ++ piece) ((came ++ front) ++ behind) behind item at (whole behind)))
+pub so_far_done : (old : CapsuleWalk) (at place : ℕ) (walk new : CapsuleWalk) (piece left front behind : List ℕ) (items more : List CapsuleItem) (item : CapsuleItem) → SoFar old at walk piece items left → length left ≤ length piece → place ≡ min (at + (length piece - length left)) (2 ^ 64 - 1) → left ≡ front ++ behind → ((came : List ℕ) → Holds walk came → IsWhole (came ++ front) item × Holds new [] × (item.at ≡ begins_at came walk.at place)) → more ≡ items ++ item ∷ [] → SoFar old at new piece more behind
+so_far_done old at place walk new piece left front behind items more item so fits is parts turns same = λ held h.
+    let (came, holds, starts, begun) = so held h in
+    let (whole, none, begins) = turns came holds in
+    let P = place_of old.at at (length piece) in
+    let all : came ++ left ≡ (came ++ front) ++ behind = ap (λ (x : List ℕ). came ++ x) parts ∙ sym (append_assoc came front behind) in
+    let at_is : item.at ≡ P (length (came ++ left)) = begins ∙ begins_is came left old.at at (length piece) walk.at place fits is begun in
+    let one : StartsCapsule (came ++ left) item behind = subst (λ (x : List ℕ). StartsCapsule x item behind) (sym all) (whole behind) in
+    ([], none, subst (λ (x : List CapsuleItem). PlacesCapsules P (held ++ piece) x behind) (sym same) (places_more items (held ++ piece) (came ++ left) behind item P starts one at_is), λ some. absurd (some refl))
 
-pub so_far_end : (old walk : CapsuleWalk) (piece left : List ℕ) (taken : Taken) → SoFar old walk piece taken.items.items left → left ≡ [] → taken.fault ≡ None → (held : List ℕ) → Holds old held → TakesPiece walk (held ++ piece) taken
-so_far_end old walk piece left taken so none good held h =
-    let (came, holds, starts) = so held h in
-    (came, rw (none, append-nil came) at starts, rw good holds)
+pub so_far_end : (old : CapsuleWalk) (at : ℕ) (walk : CapsuleWalk) (piece left : List ℕ) (taken : Taken) → SoFar old at walk piece taken.items.items left → left ≡ [] → taken.fault ≡ None → (held : List ℕ) → Holds old held → TakesPiece (place_of old.at at (length piece)) walk (held ++ piece) taken
+so_far_end old at walk piece left taken so none good held h =
+    let (came, holds, starts, begun) = so held h in
+    let all : came ++ left ≡ came = ap (λ (x : List ℕ). came ++ x) none ∙ append-nil came in
+    let P = place_of old.at at (length piece) in
+    (came, subst (λ (x : List ℕ). PlacesCapsules P (held ++ piece) taken.items.items x) all starts, rw good (holds, λ some. begun some ∙ ap (λ (x : List ℕ). P (length x)) all))
 
-pub so_far_bad : (old walk new : CapsuleWalk) (piece left front behind : List ℕ) (taken : Taken) (fault : Fault) → SoFar old walk piece taken.items.items left → left ≡ front ++ behind → ((came : List ℕ) → Holds walk came → IsBad (came ++ front) fault) → taken.fault ≡ Some fault → (held : List ℕ) → Holds old held → TakesPiece new (held ++ piece) taken
-so_far_bad old walk new piece left front behind taken fault so parts turns is held h =
-    let (came, holds, starts) = so held h in
-    let bad = turns came holds in
-    ((came ++ front) ++ behind, rw append_assoc (rw parts at starts), rw is (bad behind))
+pub so_far_bad : (old : CapsuleWalk) (at place : ℕ) (walk new : CapsuleWalk) (piece left front behind : List ℕ) (taken : Taken) (fault : Fault) → SoFar old at walk piece taken.items.items left → length left ≤ length piece → place ≡ min (at + (length piece - length left)) (2 ^ 64 - 1) → left ≡ front ++ behind → ((came : List ℕ) → Holds walk came → IsBad (came ++ front) fault × (fault.at ≡ begins_at came walk.at place)) → taken.fault ≡ Some fault → (held : List ℕ) → Holds old held → TakesPiece (place_of old.at at (length piece)) new (held ++ piece) taken
+so_far_bad old at place walk new piece left front behind taken fault so fits is parts turns some held h =
+    let (came, holds, starts, begun) = so held h in
+    let (bad, begins) = turns came holds in
+    let all : came ++ left ≡ (came ++ front) ++ behind = ap (λ (x : List ℕ). came ++ x) parts ∙ sym (append_assoc came front behind) in
+    let ends : EndsWith (capsule_front (came ++ left)) (Some fault.code) = subst (λ (x : List ℕ). EndsWith (capsule_front x) (Some fault.code)) (sym all) (bad behind) in
+    (came ++ left, starts, rw some (ends, begins ∙ begins_is came left old.at at (length piece) walk.at place fits is begun))
 
 -- ---- the message of an inspection
 

@@ -1,5 +1,5 @@
 -- What the reading of a message remembers, and what the bytes of a capsule lead to.
-use Rattle.std.specs.Prelude.{◌≡◌, ℕ, ◌+◌, ◌<◌, ◌≤◌, List, [], ◌++◌, length, Option, Some, None, Ok, Err}
+use Rattle.std.specs.Prelude.{◌≡◌, ◌≢◌, ℕ, ◌+◌, ◌-◌, ◌^◌, ◌<◌, ◌≤◌, List, [], ◌∷◌, ◌++◌, length, min, nat_lt, if◌then◌else◌, Option, Some, None, Ok, Err}
 use Rattle.wtp_core.specs.declared.error.ErrorCode.TheVariants.{Datagram}
 use Rattle.wtp_wire.specs.declared.capsule.CapsuleKind.{CapsuleKind}
 use Rattle.wtp_wire.specs.declared.capsule.cursor.UnknownCapsule.{UnknownCapsule}
@@ -9,7 +9,7 @@ use Rattle.wtp_wire.specs.CapsuleCursor.{IsCapsulePart}
 use Rattle.wtp_wire.specs.CapsuleFront.{capsule_front}
 use Rattle.wtp_wire.specs.Capsule.{capsule_kind_of}
 use Rattle.wtp_wire.specs.CloseSession.{close_in}
-use Rattle.wt_inspection.specs.DataCapsules.{Stage, Opening, Plain, Session, HasText, StartsCapsule, StartsCapsules, EndsWith}
+use Rattle.wt_inspection.specs.DataCapsules.{Stage, Opening, Plain, Session, HasText, StartsCapsule, EndsWith}
 use Rattle.wtp_wire.specs.Settings.{pair_at}
 use Rattle.wt_inspection.specs.Recording.{Then}
 use Rattle.wt_inspection.specs.declared.capsules.CapsuleWalk.{CapsuleWalk}
@@ -58,11 +58,17 @@ IsWhole bytes item = (more : List ℕ) → StartsCapsule (bytes ++ more) item mo
 abbrev pub IsBad : List ℕ → Fault → Type 0
 IsBad bytes fault = (more : List ℕ) → EndsWith (capsule_front (bytes ++ more)) (Some fault.code)
 
--- what these bytes of a capsule lead to
-abbrev pub Turned : Turn → CapsuleWalk → List ℕ → Type 0
-Turned turn-is.More walk bytes = Holds walk bytes
-Turned (turn-is.Done item) walk bytes = IsWhole bytes item × Holds walk []
-Turned (turn-is.Fault fault) walk bytes = IsBad bytes fault
+-- where a capsule begins, of which these bytes came before, and whose next byte is at a place
+abbrev pub begins_at : List ℕ → ℕ → ℕ → ℕ
+begins_at [] start place = place
+begins_at (b ∷ came) start place = start
+
+-- what these bytes of a capsule that begins there lead to
+abbrev pub Turned : ℕ → Turn → CapsuleWalk → List ℕ → Type 0
+Turned start turn-is.More walk bytes = Holds walk bytes × (walk.at ≡ start)
+Turned start (turn-is.Done item) walk bytes =
+    IsWhole bytes item × Holds walk [] × (item.at ≡ start)
+Turned start (turn-is.Fault fault) walk bytes = IsBad bytes fault × (fault.at ≡ start)
 
 -- what a complete capsule that closes its session is
 abbrev pub JudgesClose : Option (ℕ × List ℕ) → Closing → Type 0
@@ -81,14 +87,33 @@ Judges None closing = closing ≡ closing-is.Other
 
 -- ---- a piece of data
 
-abbrev pub Rests : Option Fault → CapsuleWalk → List ℕ → Type 0
-Rests None walk rest = Holds walk rest
-Rests (Some fault) walk rest = EndsWith (capsule_front rest) (Some fault.code)
+-- The place of the byte that has n bytes of the data left, it among them, if the last `size` of
+-- them are a piece at a place, and a capsule that began before the piece is at `start`. A place is
+-- below 2^64.
+abbrev pub place_of : ℕ → ℕ → ℕ → ℕ → ℕ
+place_of start at size n = if nat_lt size n then start else min (at + (size - n)) (2 ^ 64 - 1)
+
+-- the bytes start with these capsules, each with the place of its first byte, followed by the rest
+abbrev pub PlacesCapsules : (ℕ → ℕ) → List ℕ → List CapsuleItem → List ℕ → Type 0
+PlacesCapsules place bytes [] rest = bytes ≡ rest
+PlacesCapsules place bytes (c ∷ cs) rest =
+    (behind : List ℕ)
+    × StartsCapsule bytes c behind
+    × (c.at ≡ place (length bytes))
+    × PlacesCapsules place behind cs rest
+
+-- what is held, or the fault, begins there
+abbrev pub Rests : ℕ → Option Fault → CapsuleWalk → List ℕ → Type 0
+Rests start None walk rest = Holds walk rest × (rest ≢ [] → walk.at ≡ start)
+Rests start (Some fault) walk rest =
+    EndsWith (capsule_front rest) (Some fault.code) × (fault.at ≡ start)
 
 -- the capsules of all bytes that came, and what is held of the rest
-abbrev pub TakesPiece : CapsuleWalk → List ℕ → Taken → Type 0
-TakesPiece walk all taken =
-    (rest : List ℕ) × StartsCapsules all taken.items.items rest × Rests taken.fault walk rest
+abbrev pub TakesPiece : (ℕ → ℕ) → CapsuleWalk → List ℕ → Taken → Type 0
+TakesPiece place walk all taken =
+    (rest : List ℕ)
+    × PlacesCapsules place all taken.items.items rest
+    × Rests (place (length rest)) taken.fault walk rest
 
 -- ---- a message
 

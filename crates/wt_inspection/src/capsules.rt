@@ -1,11 +1,12 @@
 //! Capsules (RFC 9297, section 3.2).
-ghost use Rattle.std.specs.Prelude.{◌≡◌, ◌≢◌, ◌+◌, ◌%◌, ◌==◌, ◌≤◌, ◌<◌, ◌^◌, ◌++◌, ℕ, List, [], IsSome, Some, None, IfOk, length, string_bytes};
+ghost use Rattle.std.specs.Prelude.{◌≡◌, ◌≢◌, ◌+◌, ◌%◌, ◌==◌, ◌≤◌, ◌<◌, ◌^◌, ◌++◌, ℕ, List, [], IsSome, Some, None, IfOk, IfSome, length, string_bytes};
+ghost use Rattle.wtp_wire.specs.AnyCapsule.{missing_from};
 ghost use Rattle.wtp_wire.specs.Capsule.{capsule_in};
 ghost use Rattle.wtp_wire.specs.CapsuleCursor.{capsule_value};
 ghost use Rattle.wtp_wire.specs.CapsuleFront.{IsCapsule};
 ghost use Rattle.wtp_wire.specs.CloseSession.{close_in};
 ghost use Rattle.wt_inspection.specs.Recording.{Closes, IsNext};
-ghost use Rattle.wt_inspection.specs.Walks.{Fits, Holds, JudgesBy, JudgesClose, Judges, LacksOf, TakesPiece, Turned};
+ghost use Rattle.wt_inspection.specs.Walks.{Fits, Holds, JudgesBy, JudgesClose, Judges, LacksOf, TakesPiece, Turned, begins_at, place_of};
 
 use crate::reading::{Next, Reading, Step, cut, fault, fault_at};
 use std::alloc::{AllocError, Global};
@@ -80,15 +81,16 @@ impl CapsuleWalk {
     /// first fault.
     pub(crate) fn add(&mut self, at: usize, piece: &[u8]) -> Result<Taken, AllocError>
         ensures { IfOk result (λ taken. (came : List ℕ) → Holds self.old came
-            → TakesPiece self.new (came ++ piece.now) taken) }
+            → TakesPiece (place_of self.old.at at (length piece.now)) self.new (came ++ piece.now)
+            taken) }
     {
         let mut items = Vec::new(self.alloc);
         let mut rest = piece;
-        let mut place = at;
         'turns: loop {
             if rest.is_empty() {
                 return Ok(Taken { items, fault: None });
             }
+            let place = at.saturating_add(piece.len() - rest.len());
             let (front, behind) = rest.split_at(self.next_len(rest.len()));
             match self.turn(place, front)? {
                 Turn::More => {}
@@ -100,7 +102,6 @@ impl CapsuleWalk {
                     });
                 }
             }
-            place = place.saturating_add(front.len());
             rest = behind;
         }
     }
@@ -116,11 +117,11 @@ impl CapsuleWalk {
         missing.min(left as u64).max(1) as usize
     }
 
-    /// Takes these bytes, which are no more than are missing.
+    /// Takes these bytes, which are no more than are missing. The first is at this place.
     fn turn(&mut self, place: usize, front: &[u8]) -> Result<Turn, AllocError>
         requires { Fits self.old (length front.now) }
         ensures { IfOk result (λ turn. (came : List ℕ) → Holds self.old came
-            → Turned turn self.new (came ++ front.now)) }
+            → Turned (begins_at came self.old.at place) turn self.new (came ++ front.now)) }
     {
         match self.unknown {
             Some(unknown) => Ok(self.skip(unknown, front)),
@@ -132,8 +133,8 @@ impl CapsuleWalk {
     fn skip(&mut self, unknown: UnknownCapsule, front: &[u8]) -> Turn
         requires unknown { self.old.unknown ≡ Some unknown }
         requires fits { Fits self.old (length front.now) }
-        ensures { (came : List ℕ) → Holds self.old came
-            → Turned result self.new (came ++ front.now) }
+        ensures { (place : ℕ) (came : List ℕ) → Holds self.old came
+            → Turned (begins_at came self.old.at place) result self.new (came ++ front.now) }
     {
         self.cursor.next_any(front);
         self.go_on(unknown)
@@ -144,7 +145,7 @@ impl CapsuleWalk {
         requires none { self.old.unknown ≡ None }
         requires fits { Fits self.old (length front.now) }
         ensures { IfOk result (λ turn. (came : List ℕ) → Holds self.old came
-            → Turned turn self.new (came ++ front.now)) }
+            → Turned (begins_at came self.old.at place) turn self.new (came ++ front.now)) }
     {
         self.at = self.start_at(place);
         self.held.extend_from_slice(front)?;
@@ -160,14 +161,17 @@ impl CapsuleWalk {
     }
 
     /// Returns the place of the first byte of a capsule whose next byte is at this place.
-    fn start_at(&self, place: usize) -> usize {
+    fn start_at(&self, place: usize) -> usize
+        ensures { result ≡ begins_at self.now.held.items self.now.at place }
+    {
         if self.held.is_empty() { place } else { self.at }
     }
 
     /// Returns the unknown capsule, if none of its value is missing.
     fn go_on(&mut self, unknown: UnknownCapsule) -> Turn
         ensures { (came : List ℕ) → self.old.held.items ≡ []
-            → LacksOf unknown self.old.cursor.skip_remaining came → Turned result self.new came }
+            → LacksOf unknown self.old.cursor.skip_remaining came
+            → Turned self.old.at result self.new came }
     {
         if self.cursor.skip_remaining > 0 {
             self.unknown = Some(unknown);
@@ -187,7 +191,7 @@ impl CapsuleWalk {
         requires { found.end ≤ length self.old.held.items }
         ensures { IfOk result (λ turn. self.old.unknown ≡ None → self.old.cursor.skip_remaining ≡ 0
             → IsCapsule found.kind (capsule_value found self.old.held.items) self.old.held.items
-            → Turned turn self.new self.old.held.items) }
+            → Turned self.old.at turn self.new self.old.held.items) }
     {
         let closing = closing_of(self.alloc, self.held.as_slice())?;
         self.held.clear();
@@ -208,6 +212,8 @@ impl CapsuleWalk {
     pub(crate) fn pending(&self) -> Option<Cut>
         ensures none { (came : List ℕ) → Holds self.now came → result ≡ None → came ≡ [] }
         ensures some { (came : List ℕ) → Holds self.now came → IsSome result → came ≢ [] }
+        ensures cut { IfSome result (λ cut. (cut.at ≡ self.now.at)
+            × (cut.missing ≡ missing_from self.now.cursor self.now.held.items)) }
     {
         if self.held.is_empty() && self.unknown.is_none() {
             return None;
@@ -225,7 +231,8 @@ const BAD_CLOSE: &str = "a close capsule is a code and a text of at most 1024 by
 
 /// Returns the fault of a capsule at this place that is too long.
 fn too_long(at: usize) -> Fault
-    ensures { result.code ≡ ErrorCode.Datagram }
+    ensures code { result.code ≡ ErrorCode.Datagram }
+    ensures at { result.at ≡ at }
 {
     let why = "a reason has more than 1024 bytes (draft-ietf-webtrans-http3-02, section 5)";
     fault_at(at, ErrorCode::Datagram, why)
@@ -233,6 +240,7 @@ fn too_long(at: usize) -> Fault
 
 /// Returns a capsule.
 fn capsule_of(at: usize, id: VarInt, announced: u64, close: Option<CloseReason>) -> CapsuleItem
+    ensures at { result.at ≡ at }
     ensures number { result.number ≡ id }
     ensures announced { result.announced ≡ announced }
     ensures close { result.close ≡ close }

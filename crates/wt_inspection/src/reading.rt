@@ -231,7 +231,8 @@ pub(crate) fn fault(at: usize, code: ErrorCode, why: &'static str) -> End
 
 /// Returns a fault of an item that is complete.
 pub(crate) fn fault_at(at: usize, code: ErrorCode, why: &'static str) -> Fault
-    ensures { result.code ≡ code }
+    ensures code { result.code ≡ code }
+    ensures at { result.at ≡ at }
 {
     Fault {
         at,

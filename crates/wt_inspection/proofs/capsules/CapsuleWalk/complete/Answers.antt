@@ -14,8 +14,9 @@ returns-in-Close c = λ unknown skip_remaining k.
       close_known c.args.found.kind _ held c.in-Close.close c.capsule_of-item.result (c.capsule_of-item.ensures.number ∙ c.id-number.ensures) (c.capsule_of-item.ensures.announced ∙ size) c.capsule_of-item.ensures.close k
           (rw (c.in-Close.is, c.as_slice.ensures.value) at c.in_ok-closing.ensures),
       holds_none _ _ _ unknown skip_remaining c.clear.ensures.items,
+      c.capsule_of-item.ensures.at,
     )
 
 pub returns-in-Bad : goal.returns-in-Bad
 returns-in-Bad c = λ unknown skip_remaining k.
-    bad_known c.args.found.kind _ _ c.in-Bad.code c.fault_at.result c.fault_at.ensures k (rw (c.in-Bad.is, c.as_slice.ensures.value) at c.in_ok-closing.ensures)
+    (bad_known c.args.found.kind _ _ c.in-Bad.code c.fault_at.result c.fault_at.ensures.code k (rw (c.in-Bad.is, c.as_slice.ensures.value) at c.in_ok-closing.ensures), c.fault_at.ensures.at)
