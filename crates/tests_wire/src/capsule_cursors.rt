@@ -2,7 +2,8 @@
 use crate::capsule_readings::{Ending, RECORDED, ROWS};
 use crate::same::same;
 use std::process::Abort;
-use wtp_wire::capsule::{CapsuleCursor, CapsuleStep};
+use wtp_core::varint::VarInt;
+use wtp_wire::capsule::{AnyCapsule, CapsuleCursor, CapsuleStep, UnknownCapsule};
 
 /// Data of which some bytes have arrived, and some of those are consumed.
 #[derive(Drop)]
@@ -115,4 +116,43 @@ fn recorded_closes_may_be_cut_anywhere(rt: HostRuntime) {
     for (pieces, value, shows) in &RECORDED {
         check_close(&rt, pieces, value, shows);
     }
+}
+
+#[test]
+fn unknown_capsules_are_found_by_number(rt: HostRuntime) {
+    // A reserved type (RFC 9297, section 5.4), a length of 3 and one byte of the value; then the
+    // rest of it, and a type in two bytes of a capsule that closes its session.
+    let mut cursor = CapsuleCursor::new();
+    let found = AnyCapsule::Unknown(UnknownCapsule {
+        number: VarInt::from_u32(0x17),
+        announced: VarInt::from_u32(3),
+        start: 2,
+    });
+    same(
+        &rt,
+        cursor.next_any(&[0x17, 3, 7]),
+        found,
+        "a reserved type",
+    );
+    same(&rt, cursor.missing(&[]), 3, "its value");
+    same(
+        &rt,
+        cursor.next_any(&[7, 8]),
+        AnyCapsule::More(2),
+        "two bytes",
+    );
+    same(&rt, cursor.missing(&[]), 1, "one is left");
+    let left = [0x68, 0x43];
+    same(
+        &rt,
+        cursor.next_any(&[9, 0x68, 0x43]),
+        AnyCapsule::More(1),
+        "the last, and a type",
+    );
+    same(
+        &rt,
+        cursor.missing(&left),
+        1,
+        "a length of at least one byte",
+    );
 }
