@@ -175,6 +175,7 @@ static REGISTERED: [Registered; 25] = [
 ];
 
 /// Returns the registration of a code, if it has one.
+#[tactic(auto, unfolding(crate::specs::Codes::registration, crate::specs::Codes::registered))]
 pub(super) fn find(code: Code) -> Option<Registered>
     ensures { option_map shown result ≡ registration code }
 {

@@ -1,11 +1,6 @@
-use Rattle.std.proofs.Common.{refl, arith, ◌∙◌}
-use Rattle.wtp_core.specs.Codes.{registration, registered}
+use Rattle.std.proofs.Common.{arith, ◌∙◌}
 use Rattle.wtp_core.proofs.RegistryLemmas.{row_found, row_passed, no_row}
 use Rattle.wtp_core.proofs.error.code.registry.find.Goals as goal
-
-pub loop-row-init : goal.loop-row-init
-unfolding registration registered
-loop-row-init c = record { among = refl }
 
 pub returns-then-row-into_inner : goal.returns-then-row-into_inner
 returns-then-row-into_inner c = row_found _ _ _ _ _ c.loop-row.invariant (omega arith) c.if-row-into_inner.true (c.into_inner.ensures.value ∙ c.code.view_is)
