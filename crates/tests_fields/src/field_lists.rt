@@ -390,14 +390,18 @@ fn pushed_fields_past_refused_memory(rt: HostRuntime) {
     assert_list(&rt, &back, &PUSHED, "what was sent");
 }
 
-#[test]
-fn sent_lists_past_refused_memory(rt: HostRuntime) {
+/// Returns the list of the request for the URL of these tests.
+fn request_of_url(rt: &impl Abort, alloc: Global) -> FieldList {
     let url = "https://example.org:4433/chat?x=1";
-    let list = match FieldList::request(rt.alloc(), url) {
-        Err(UrlParseError::Memory) => FieldList::request(rt.alloc(), url),
+    match FieldList::request(alloc, url) {
+        Err(UrlParseError::Memory) => FieldList::request(alloc, url),
         result => result,
-    };
-    let mut list = list.expect(&rt, "a request");
+    }
+    .expect(rt, "a request")
+}
+
+#[test]
+fn requests_of_urls_past_refused_memory(rt: HostRuntime) {
     let fields: [(&[u8], &[u8]); 5] = [
         (b":method", b"CONNECT"),
         (b":scheme", b"https"),
@@ -405,7 +409,7 @@ fn sent_lists_past_refused_memory(rt: HostRuntime) {
         (b":authority", b"example.org:4433"),
         (b":path", b"/chat?x=1"),
     ];
-    assert_list(&rt, &list, &fields, "a request");
+    assert_list(&rt, &request_of_url(&rt, rt.alloc()), &fields, "a request");
     for (text, error) in [
         ("http://example.org/", UrlParseError::SchemeNotHttps),
         ("https://", UrlParseError::EmptyHost),
@@ -417,6 +421,10 @@ fn sent_lists_past_refused_memory(rt: HostRuntime) {
         };
         same(&rt, fault, Some(error), text);
     }
+}
+
+#[test]
+fn sent_responses_past_refused_memory(rt: HostRuntime) {
     let response = list_of(rt.alloc(), b"\x00\x00\xd9\x5e\x01a\x5e\x01b", 128).expect(
         &rt, "refused",
     );
@@ -427,26 +435,28 @@ fn sent_lists_past_refused_memory(rt: HostRuntime) {
         b"\x00\x00\x5f\x09\x82\x10\x01\x5e\x01a\x5e\x01b".as_slice(),
         "a section by the first entry of each name",
     );
+}
+
+#[test]
+fn sent_requests_past_refused_memory(rt: HostRuntime) {
+    let mut list = request_of_url(&rt, rt.alloc());
+    let origin = b"https://example.org";
     same(
         &rt,
-        push(&rt, &mut list, b"origin", b"https://example.org"),
+        push(&rt, &mut list, b"origin", origin),
         Ok(()),
         "pushed",
     );
     let frame = frame_of_list(&rt, rt.alloc(), &list);
     let back = list_of(rt.alloc(), frame.payload(), 4096).expect(&rt, "refused");
     let target = back.session_request().expect(&rt, "a request");
-    same(
-        &rt,
-        target.authority,
-        b"example.org:4433".as_slice(),
-        "the authority",
-    );
+    let authority = b"example.org:4433".as_slice();
+    same(&rt, target.authority, authority, "the authority");
     same(&rt, target.path, b"/chat?x=1".as_slice(), "the path");
     same(
         &rt,
         back.last(b"origin"),
-        Some(b"https://example.org".as_slice()),
+        Some(origin.as_slice()),
         "the origin",
     );
 }

@@ -10,6 +10,7 @@
 //! - [`stream`]: streams, typed by their kind and state: opening, accepting, upgrading, reading and
 //!   writing them.
 //! - [`frame`]: the frames on a stream.
+//! - [`head`]: the two numbers with which a frame, a capsule and a setting start.
 //! - [`settings`]: the first frame of a control stream.
 //! - [`session`]: the request for a session and the response, in HEADERS frames.
 //! - [`fields`], [`headers`]: the fields of requests and responses, as a list of bytes and as a map
@@ -28,7 +29,7 @@
 
 pub use wtp_core::{bytes, error, ids, varint};
 pub use wtp_fields::{fields, headers, huffman, qpack, session};
-pub use wtp_wire::{capsule, datagram, frame, settings, stream_header};
+pub use wtp_wire::{capsule, datagram, frame, head, settings, stream_header};
 
 mod codes;
 pub mod exchange;

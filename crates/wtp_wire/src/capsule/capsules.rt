@@ -30,8 +30,8 @@ impl Model for CloseWebTransportSession {
 impl CloseWebTransportSession {
     ghost use Rattle.wtp_wire.specs.CloseSession.{AnswersClose, MakesClose, IsWritableClose, close_parts, close_wire, payload_parts};
 
-    // The longest reason, in bytes.
-    const MAX_REASON_LEN: usize = 1024;
+    /// The longest reason, in bytes (draft-ietf-webtrans-http3-02, section 5).
+    pub const MAX_REASON_LEN: usize = 1024;
 
     /// Creates a close with this code and reason.
     ///
