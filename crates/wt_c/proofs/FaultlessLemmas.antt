@@ -1,5 +1,5 @@
 -- Settings without a fault are read again once they are written.
-use Rattle.std.proofs.Common.{◌≡◌, ℕ, inl, inr, true, false, List, [], ◌∷◌, ◌++◌, map, Some, None, Result, Ok, Err, refl, sym, ap, subst, ◌∙◌, append_assoc, append-nil}
+use Rattle.std.proofs.Common.{◌≡◌, ℕ, ◌+◌, ◌<◌, suc, add-one, drop, drop-cons, get_or, length, inl, inr, true, false, List, [], ◌∷◌, ◌++◌, map, Some, None, Result, Ok, Err, refl, sym, ap, subst, ◌∙◌, append_assoc, append-nil}
 use Rattle.std.specs.Prelude.{Contains}
 use Rattle.std.specs.Map.{keys_of}
 use Rattle.std.specs.List.{AllByRecursion}
@@ -125,6 +125,10 @@ id_more id s ss left all h e other = record {
   good = λ c. h.good (rw e (contains_tail s.id (keys_of (pairs_of ss)) id c));
   bad = λ c. let b : Contains (s.id ∷ keys_of (pairs_of ss)) id = rw e at h.bad c in elim (contains_cases s.id (keys_of (pairs_of ss)) id b) [ inl same ↦ absurd (other same) | inr more ↦ more ];
 }
+
+-- the next setting has another identifier
+pub id_next : (id : ℕ) (all : List WtSetting) (i : ℕ) (d : WtSetting) → HasIdLeft id (drop i all) all → i < length all → ((get_or all i d).id ≡ id → ⊥) → HasIdLeft id (drop (i + 1) all) all
+id_next id all i d h below other = rw (add-one i) (id_more id (get_or all i d) (drop (suc i) all) (drop i all) all h (drop-cons all i d below) other)
 
 -- these are left of all, and the others have no fault
 pub record AreFaultlessLeft (left all : List WtSetting) : Type 0 where

@@ -20,7 +20,7 @@ fn code_in(value: &[u8]) -> Option<u32>
     let Some((code, text)) = value.split_first_chunk::<4>() else {
         return None;
     };
-    if text.len() > 1024 {
+    if text.len() > CloseWebTransportSession::MAX_REASON_LEN {
         return None;
     }
     let Ok(_) = str::from_utf8(text) else {

@@ -122,8 +122,9 @@ fn fault_of_number(number: i32) -> Option<HeadersParseError>
     }
 }
 
-/// Returns the name of a fault.
+/// Returns the name of a fault of a request.
 fn name_of(fault: &HeadersParseError) -> &'static str
+    requires { IsRequestFault fault.now }
     ensures { result.now ≡ fault_name fault.now }
 {
     match fault {
@@ -135,9 +136,9 @@ fn name_of(fault: &HeadersParseError) -> &'static str
         HeadersParseError::ProtocolNotWebTransport => "ProtocolNotWebTransport",
         HeadersParseError::MissingAuthority => "MissingAuthority",
         HeadersParseError::MissingPath => "MissingPath",
-        HeadersParseError::MissingStatusCode => "MissingStatusCode",
-        HeadersParseError::InvalidStatusCode => "InvalidStatusCode",
-        HeadersParseError::Memory => "Memory",
+        HeadersParseError::MissingStatusCode
+        | HeadersParseError::InvalidStatusCode
+        | HeadersParseError::Memory => unreachable!(),
     }
 }
 

@@ -43,12 +43,10 @@ fn are_message_fields(fields: &[WtField], texts: &[u8]) -> bool
     ensures { MatchBool result (AreMessageFields texts.now fields.now)
         (¬ (AreMessageFields texts.now fields.now)) }
 {
-    let mut left = fields;
-    'fields: while let Some((field, others)) = left.split_first() {
+    for field in fields {
         if message_field(field, texts).is_none() {
             return false;
         }
-        left = others;
     }
     true
 }
@@ -58,15 +56,13 @@ fn push_fields(list: &mut FieldList, fields: &[WtField], texts: &[u8]) -> Result
     requires { AreMessageFields texts.now fields.now }
     ensures { OnOk result (list.new ≡ list.old ++ lines_in texts.now fields.now) }
 {
-    let mut left = fields;
-    'fields: while let Some((field, others)) = left.split_first() {
+    for field in fields {
         let Some((name, value)) = message_field(field, texts) else {
             unreachable!();
         };
         if list.push(name, value).is_err() {
             return Err(AllocError);
         }
-        left = others;
     }
     Ok(())
 }

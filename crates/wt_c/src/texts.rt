@@ -142,15 +142,12 @@ fn is_short_ascii(bytes: &[u8], most: usize) -> bool
 fn are_within(fields: &[WtField], size: usize) -> bool
     ensures { MatchBool result (AreWithin size fields.now) (¬ (AreWithin size fields.now)) }
 {
-    let mut left = fields;
-    'fields: while let Some((field, others)) = left.split_first() {
-        if !is_within(size, field.name_offset, field.name_len) {
+    for field in fields {
+        if !is_within(size, field.name_offset, field.name_len)
+            || !is_within(size, field.value_offset, field.value_len)
+        {
             return false;
         }
-        if !is_within(size, field.value_offset, field.value_len) {
-            return false;
-        }
-        left = others;
     }
     true
 }
@@ -160,12 +157,10 @@ fn each_is_utf8(fields: &[WtField], texts: &[u8]) -> bool
     ensures { MatchBool result (AreTextFields texts.now fields.now)
         (¬ (AreTextFields texts.now fields.now)) }
 {
-    let mut left = fields;
-    'fields: while let Some((field, others)) = left.split_first() {
+    for field in fields {
         if texts_of(field, texts).is_none() {
             return false;
         }
-        left = others;
     }
     true
 }

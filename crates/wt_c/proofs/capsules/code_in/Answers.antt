@@ -9,4 +9,4 @@ pub returns : goal.returns
 returns c =
     let s = c.in-Some.ensures.cases in
     let text = c.in-Ok.ensures.cases in
-    close_in-read c.args.value.now c.args.value.now _ _ _ (drop 4 c.args.value.now) refl s.0 s.1 s.2 c.if-text-gt1024.false text.1 c.from_be_bytes.ensures (sym s.1)
+    close_in-read c.args.value.now c.args.value.now _ _ _ (drop 4 c.args.value.now) refl s.0 s.1 s.2 c.if-text-gt-MAX_REASON_LEN.false text.1 c.from_be_bytes.ensures (sym s.1)

@@ -1,9 +1,6 @@
-use Rattle.std.proofs.Common.{length}
+use Rattle.std.proofs.Common.{drop}
 use Rattle.wt_c.proofs.SettingLemmas.{IsWriting}
 use Rattle.wt_c.proofs.settings.write_pairs.Given as goal
 
-abbrev pub invariant-settings : goal.invariant-settings
-invariant-settings l = IsWriting l.payload.items l.left l.settings
-
-abbrev pub decreases-settings : goal.decreases-settings
-decreases-settings l = length l.left
+abbrev pub invariant-loop-setting : goal.invariant-loop-setting
+invariant-loop-setting l = IsWriting l.payload.items (drop l.setting-index l.settings) l.settings
