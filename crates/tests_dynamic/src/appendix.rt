@@ -5,29 +5,29 @@ use wtp_dynamic::acknowledgment::{self, Acknowledgment};
 use wtp_dynamic::answer::{Answer, decode};
 use wtp_dynamic::stream::EncoderStream;
 
-const AUTHORITY: Field = (b":authority", b"www.example.com");
+pub(crate) const AUTHORITY: Field = (b":authority", b"www.example.com");
 
-const PATH: Field = (b":path", b"/sample/path");
+pub(crate) const PATH: Field = (b":path", b"/sample/path");
 
-const CUSTOM: Field = (b"custom-key", b"custom-value");
+pub(crate) const CUSTOM: Field = (b"custom-key", b"custom-value");
 
-const CUSTOM2: Field = (b"custom-key", b"custom-value2");
+pub(crate) const CUSTOM2: Field = (b"custom-key", b"custom-value2");
 
 /// The encoder stream, by the sections B.2 to B.5.
-const STREAM_B2: &[u8] = b"\x3f\xbd\x01\xc0\x0fwww.example.com\xc1\x0c/sample/path";
+pub(crate) const STREAM_B2: &[u8] = b"\x3f\xbd\x01\xc0\x0fwww.example.com\xc1\x0c/sample/path";
 
-const STREAM_B3: &[u8] = b"\x4acustom-key\x0ccustom-value";
+pub(crate) const STREAM_B3: &[u8] = b"\x4acustom-key\x0ccustom-value";
 
-const STREAM_B4: &[u8] = b"\x02";
+pub(crate) const STREAM_B4: &[u8] = b"\x02";
 
-const STREAM_B5: &[u8] = b"\x81\x0dcustom-value2";
+pub(crate) const STREAM_B5: &[u8] = b"\x81\x0dcustom-value2";
 
 /// The sections on request streams.
 const SECTION_B1: &[u8] = b"\x00\x00\x51\x0b/index.html";
 
-const SECTION_B2: &[u8] = b"\x03\x81\x10\x11";
+pub(crate) const SECTION_B2: &[u8] = b"\x03\x81\x10\x11";
 
-const SECTION_B4: &[u8] = b"\x05\x00\x80\xc1\x81";
+pub(crate) const SECTION_B4: &[u8] = b"\x05\x00\x80\xc1\x81";
 
 #[test]
 fn example_of_the_standard(rt: HostRuntime) -> Result<(), Fail> {
@@ -83,9 +83,9 @@ fn example_of_the_standard(rt: HostRuntime) -> Result<(), Fail> {
 #[test]
 fn instructions_of_the_decoder(rt: HostRuntime) -> Result<(), Fail> {
     let mut out = Vec::new(rt.alloc());
-    acknowledgment::write(&mut out, Acknowledgment::Section(4))?;
-    acknowledgment::write(&mut out, Acknowledgment::Increment(1))?;
-    acknowledgment::write(&mut out, Acknowledgment::Cancellation(8))?;
+    acknowledgment::write(rt.alloc(), &mut out, Acknowledgment::Section(4))?;
+    acknowledgment::write(rt.alloc(), &mut out, Acknowledgment::Increment(1))?;
+    acknowledgment::write(rt.alloc(), &mut out, Acknowledgment::Cancellation(8))?;
     assert_eq!(rt; out.as_slice(), b"\x84\x01\x48".as_slice());
     let first = acknowledgment::read(b"\x84\x01\x48");
     assert!(rt; matches!(first, Ok((Acknowledgment::Section(4), b"\x01\x48"))));

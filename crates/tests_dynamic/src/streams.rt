@@ -34,6 +34,7 @@ pub(crate) fn section_fault(fault: SectionError) -> &'static str {
         SectionError::EntryNotFound => "EntryNotFound",
         SectionError::InvalidInsertCount => "InvalidInsertCount",
         SectionError::NegativeBase => "NegativeBase",
+        SectionError::TooManyBlocked => "TooManyBlocked",
         SectionError::Memory => "Memory",
     }
 }

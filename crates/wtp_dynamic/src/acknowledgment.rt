@@ -1,11 +1,11 @@
 //! The instructions of the decoder stream (RFC 9204, section 4.4).
 
-ghost use Rattle.std.specs.Prelude.{◌≡◌, ◌<◌, ◌++◌, ◌^◌, ℕ, List, OnOk, Ok};
+ghost use Rattle.std.specs.Prelude.{◌≡◌, ◌<◌, ◌++◌, ◌^◌, ℕ, List, OnOk, Ok, MatchResult};
 ghost use Rattle.wtp_qpack.specs.Qpack.{Gives};
 ghost use Rattle.wtp_dynamic.specs.DecoderStream.{acknowledgment_bytes, section_at, cancellation_at, increment_at, acknowledgment_at, CanAcknowledge};
 
 use crate::bits::has_bit;
-use std::alloc::AllocError;
+use std::alloc::{AllocError, Global};
 use wtp_qpack::parts::{read_integer, write_integer};
 use wtp_qpack::qpack::DecodingError;
 
@@ -20,8 +20,8 @@ pub enum Acknowledgment {
     Increment(u64),
 }
 
-/// Appends an instruction.
-pub fn write(out: &mut Vec<u8>, acknowledgment: Acknowledgment) -> Result<(), AllocError>
+/// Appends the bytes of an instruction.
+fn append(out: &mut Vec<u8>, acknowledgment: Acknowledgment) -> Result<(), AllocError>
     ensures { OnOk result (out.new.items ≡ out.old.items ++ acknowledgment_bytes acknowledgment) }
 {
     match acknowledgment {
@@ -29,6 +29,23 @@ pub fn write(out: &mut Vec<u8>, acknowledgment: Acknowledgment) -> Result<(), Al
         Acknowledgment::Cancellation(stream) => write_integer::<6>(out, 1, stream),
         Acknowledgment::Increment(count) => write_integer::<6>(out, 0, count),
     }
+}
+
+/// Appends an instruction.
+///
+/// Returns [`AllocError`] if allocation fails; nothing is appended then.
+pub fn write(
+    alloc: Global,
+    out: &mut Vec<u8>,
+    acknowledgment: Acknowledgment,
+) -> Result<(), AllocError>
+    ensures { MatchResult result
+        (λ _. out.new.items ≡ out.old.items ++ acknowledgment_bytes acknowledgment)
+        (λ _. out.new.items ≡ out.old.items) }
+{
+    let mut bytes = Vec::new(alloc);
+    append(&mut bytes, acknowledgment)?;
+    out.extend_from_slice(bytes.as_slice())
 }
 
 /// Reads an acknowledged section.

@@ -36,6 +36,9 @@ pub enum SectionError {
     /// The Base is negative.
     #[error("negative base")]
     NegativeBase,
+    /// More streams wait for insertions than may.
+    #[error("too many blocked streams")]
+    TooManyBlocked,
     /// Memory allocation failed.
     #[error("no memory")]
     Memory,

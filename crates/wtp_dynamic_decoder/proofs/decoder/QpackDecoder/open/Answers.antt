@@ -1,0 +1,16 @@
+use Rattle.std.proofs.Common.{rules, refl, ◌≡◌, ℕ, ◌<◌, ◌≤◌, [], ◌∷◌, ◌++◌, length, filter, true, Ok}
+use Rattle.wtp_dynamic.specs.SectionView.{prefix_of}
+use Rattle.wtp_dynamic.specs.Section.{prefix_at, is_blocked}
+use Rattle.wtp_dynamic.specs.Table.{insert_count}
+use Rattle.wtp_dynamic_decoder.specs.Decoder.{waits, others, with_waiting}
+use Rattle.wtp_dynamic_decoder.proofs.decoder.QpackDecoder.open.Goals as goal
+
+pub returns : goal.returns
+returns c = record {
+  prefix = prefix_of c.in_ok-prefix.prefix;
+  is = search rules;
+  needs = refl;
+  blocked = search rules;
+  few = search rules;
+  same = search rules;
+}

@@ -1,0 +1,2 @@
+pub mod PlanView
+pub mod Encoding

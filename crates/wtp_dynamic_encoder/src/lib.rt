@@ -1,0 +1,5 @@
+//! The encoder of QPACK with the dynamic table (RFC 9204): writes field sections and the encoder
+//! stream, and reads the decoder stream.
+#![tactic(auto)]
+
+pub mod plan;
