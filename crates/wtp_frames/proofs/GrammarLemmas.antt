@@ -83,7 +83,7 @@ data_counted : (n : ℕ) (p : List ℕ) → HasRoom n p → after_data n (length
 data_counted n [] l = counted_one n l
 data_counted n (b ∷ p) l = rw (ne_eqb (length (b ∷ p)) 0 (λ z. omega (arith, z))) refl
 
-data_run : (e : Endpoint) (b : Bool) (n : ℕ) (f : Frame) (more : List ℕ) → IsFrame 0x00 f → HasRoom n f.payload → run (between e Body b n) (written f ++ more) ≡ preceded (map Byte f.payload) (run (between e Body true (count_data n f.payload)) more)
+pub data_run : (e : Endpoint) (b : Bool) (n : ℕ) (f : Frame) (more : List ℕ) → IsFrame 0x00 f → HasRoom n f.payload → run (between e Body b n) (written f ++ more) ≡ preceded (map Byte f.payload) (run (between e Body true (count_data n f.payload)) more)
 data_run e b n f more is l =
     streamed_written (between e Body b n) 0x00 f more (record { intact = refl; none = refl }) is (data_action n f.payload l)
     ∙ ap (λ (k : ℕ). preceded (map Byte f.payload) (run (between e Body true k) more)) (data_counted n f.payload l)

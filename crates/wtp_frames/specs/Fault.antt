@@ -14,9 +14,14 @@ code_of fault.Id = 0x0108
 code_of fault.MissingSettings = 0x010a
 code_of fault.RequestIncomplete = 0x010d
 code_of fault.Message = 0x010e
+code_of fault.StreamCreation = 0x0103
+code_of fault.BufferedStreamRejected = 0x3994bd84
+code_of fault.SessionGone = 0x170d7b68
 
--- an error of the message ends its stream, every other one the connection
+-- an error of a message or of a session's stream ends its stream, every other one the connection
 abbrev pub scope_of : Fault → ErrorScope
 scope_of fault.RequestIncomplete = Stream
 scope_of fault.Message = Stream
+scope_of fault.BufferedStreamRejected = Stream
+scope_of fault.SessionGone = Stream
 scope_of other = Connection

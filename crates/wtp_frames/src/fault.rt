@@ -24,6 +24,13 @@ pub enum Fault {
     RequestIncomplete,
     /// The stream ended before the HEADERS of a response (RFC 9114, sections 4.1 and 4.1.2).
     Message,
+    /// The peer may not open this stream (RFC 9114, sections 6.1, 6.2.1 and 6.2.2).
+    StreamCreation,
+    /// The stream's session is not to come, or too many streams wait for theirs (WebTransport over
+    /// HTTP/3, "Buffering Incoming Streams and Datagrams").
+    BufferedStreamRejected,
+    /// The stream's session is over (WebTransport over HTTP/3, "Session Termination").
+    SessionGone,
 }
 
 impl Fault {
@@ -40,6 +47,9 @@ impl Fault {
             Fault::MissingSettings => Code::H3_MISSING_SETTINGS,
             Fault::RequestIncomplete => Code::H3_REQUEST_INCOMPLETE,
             Fault::Message => Code::H3_MESSAGE_ERROR,
+            Fault::StreamCreation => Code::H3_STREAM_CREATION_ERROR,
+            Fault::BufferedStreamRejected => Code::WEBTRANSPORT_BUFFERED_STREAM_REJECTED,
+            Fault::SessionGone => Code::WEBTRANSPORT_SESSION_GONE,
         }
     }
 
@@ -48,7 +58,10 @@ impl Fault {
         ensures { result ≡ scope_of self }
     {
         match self {
-            Fault::RequestIncomplete | Fault::Message => ErrorScope::Stream,
+            Fault::RequestIncomplete
+            | Fault::Message
+            | Fault::BufferedStreamRejected
+            | Fault::SessionGone => ErrorScope::Stream,
             _ => ErrorScope::Connection,
         }
     }

@@ -29,6 +29,7 @@ pub enum Place {
 }
 
 /// The state of reading one stream of frames. It holds no bytes of the stream.
+#[derive(Drop)]
 pub struct Reader {
     /// The receiving endpoint.
     endpoint: Endpoint,

@@ -1,0 +1,14 @@
+//! Streams of frames: recorded ones, and each rule of the standard. Tests over the public crates;
+//! there is no product code here.
+#![tactic(auto)]
+
+#[cfg(test)]
+mod bounds;
+#[cfg(test)]
+mod reading;
+#[cfg(test)]
+mod recorded;
+#[cfg(test)]
+mod rows;
+#[cfg(test)]
+mod same;
