@@ -1,0 +1,37 @@
+//! The frames of `wtp_frames` are those of `wtp_wire` where no payload is longer than 4096 bytes and
+//! no rule is new. There is no product code here.
+#![tactic(auto)]
+
+ghost use Rattle.std.specs.Prelude.{◌≡◌, ℕ, ◌<◌, ◌≤◌, Bool, true, List, [], ◌∷◌, map, None};
+ghost use Rattle.wtp_wire.specs.Content.{PlainOf};
+ghost use Rattle.wtp_wire.specs.Front.{Framed, front};
+ghost use Rattle.wtp_wire.specs.declared.frame.kind.FrameKind.TheVariants as wire;
+ghost use Rattle.wtp_frames.specs.declared.endpoint.Endpoint.{Endpoint};
+ghost use Rattle.wtp_frames.specs.declared.frame_type.FrameType.TheVariants as kind;
+ghost use Rattle.wtp_frames.specs.declared.reader.Place.TheVariants.{BeforeHeaders, Body, AfterTrailers, BeforeSettings, AfterSettings};
+ghost use Rattle.wtp_frames.specs.Grammar.{count_data, HasRoom};
+ghost use Rattle.wtp_frames.specs.Item.{Whole, Byte};
+ghost use Rattle.wtp_frames.specs.Run.{preceded, run};
+ghost use Rattle.wtp_frames.specs.Start.{between};
+
+/// Where the wire grammar of `wtp_wire` has a HEADERS, DATA or SETTINGS frame first, and it may come
+/// here, a reader whose limit is not below 4096 bytes gives it, and goes on with the bytes after it.
+pub fn run_goes_by_front()
+    ensures headers { (e : Endpoint) (s : Bool) (n : ℕ) (bytes payload rest : List ℕ)
+        → 4096 ≤ e.max_section → front bytes ≡ Framed (PlainOf wire.Headers payload) rest
+        → run (between e BeforeHeaders s n) bytes
+        ≡ preceded (Whole kind.Headers payload ∷ []) (run (between e Body s 0) rest) }
+    ensures content { (e : Endpoint) (s : Bool) (n : ℕ) (bytes payload rest : List ℕ)
+        → HasRoom n payload → front bytes ≡ Framed (PlainOf wire.Data payload) rest
+        → run (between e Body s n) bytes
+        ≡ preceded (map Byte payload) (run (between e Body true (count_data n payload)) rest) }
+    ensures trailers { (e : Endpoint) (s : Bool) (n : ℕ) (bytes payload rest : List ℕ)
+        → 4096 ≤ e.max_section → front bytes ≡ Framed (PlainOf wire.Headers payload) rest
+        → run (between e Body s n) bytes
+        ≡ preceded (Whole kind.Headers payload ∷ []) (run (between e AfterTrailers s 0) rest) }
+    ensures settings { (e : Endpoint) (s : Bool) (n : ℕ) (bytes payload rest : List ℕ)
+        → front bytes ≡ Framed (PlainOf wire.Settings payload) rest
+        → run (between e BeforeSettings s n) bytes
+        ≡ preceded (Whole kind.Settings payload ∷ [])
+        (run (between e (AfterSettings None None) s 0) rest) }
+{}
