@@ -1,5 +1,5 @@
-//! Sections that refer to the dynamic table: the lines of each form, counts that wrap, sections that
-//! wait, and the fault of each kind.
+//! Sections that refer to the dynamic table: the lines of each form, counts that wrap, sections
+//! that wait, and the fault of each kind.
 use crate::streams::{Field, assert_fields, read_cut, section_fault};
 use std::alloc::Global;
 use std::process::Abort;

@@ -70,8 +70,8 @@ pub(crate) fn endpoint_of(row: &Row) -> Endpoint {
     endpoint
 }
 
-/// Returns what is found on a stream of which `size` bytes come at a time, and then its end. What is
-/// left of a piece is passed again with the next one.
+/// Returns what is found on a stream of which `size` bytes come at a time, and then its end. What
+/// is left of a piece is passed again with the next one.
 pub(crate) fn summary_of(reader: Reader, bytes: &[u8], size: usize) -> Summary {
     let mut reader = reader;
     let mut found = Summary {

@@ -58,10 +58,10 @@ pub extern "C" fn wt_close_read(value: &[u8], reset: &mut u32, code: &mut u64) -
 /// Writes the capsule that closes a session, with a code and a reason of the application, to the
 /// start of `out`. It is the last of the data of the session's stream.
 ///
-/// Returns `OK` with the size of the capsule in `used`. Returns `BUFFER_TOO_SMALL` if `out` is shorter than
-/// that size, which `used` then is; `out` does not change. Returns `INVALID` if the reason is not
-/// UTF-8 or has more than 1024 bytes. Otherwise returns `MEMORY` if allocation failed, which does
-/// not happen for an empty reason. Then nothing changes.
+/// Returns `OK` with the size of the capsule in `used`. Returns `BUFFER_TOO_SMALL` if `out` is
+/// shorter than that size, which `used` then is; `out` does not change. Returns `INVALID` if the
+/// reason is not UTF-8 or has more than 1024 bytes. Otherwise returns `MEMORY` if allocation
+/// failed, which does not happen for an empty reason. Then nothing changes.
 #[unsafe(no_mangle)]
 pub extern "C" fn wt_close_write(
     alloc: Global,

@@ -22,9 +22,9 @@ pub const EITHER: i32 = 2;
 /// Writes the registered name of an error code, such as `H3_FRAME_UNEXPECTED`, to the start of
 /// `out`, in ASCII and without a terminating zero.
 ///
-/// Returns `OK` with the length of the name in `used`. Returns `BUFFER_TOO_SMALL` if `out` is too short;
-/// `used` is then the length of the name, and `out` is unchanged. Returns `INVALID` if the error
-/// code is not registered; nothing is then changed. Unknown error codes are treated as
+/// Returns `OK` with the length of the name in `used`. Returns `BUFFER_TOO_SMALL` if `out` is too
+/// short; `used` is then the length of the name, and `out` is unchanged. Returns `INVALID` if the
+/// error code is not registered; nothing is then changed. Unknown error codes are treated as
 /// `H3_NO_ERROR` (RFC 9114, section 8).
 #[unsafe(no_mangle)]
 pub extern "C" fn wt_code_name(number: u64, out: &mut [u8], used: &mut usize) -> i32

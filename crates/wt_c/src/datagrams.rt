@@ -47,8 +47,8 @@ pub extern "C" fn wt_datagram_read(
 
 /// Writes a datagram of a session to the start of `out`.
 ///
-/// Returns `OK` with the size of the datagram in `used`. Returns `BUFFER_TOO_SMALL` if `out` is too short;
-/// `used` is then the size of the datagram, and `out` is unchanged. Returns `INVALID` if
+/// Returns `OK` with the size of the datagram in `used`. Returns `BUFFER_TOO_SMALL` if `out` is too
+/// short; `used` is then the size of the datagram, and `out` is unchanged. Returns `INVALID` if
 /// `session` is not a session ID; nothing is then changed.
 #[unsafe(no_mangle)]
 pub extern "C" fn wt_datagram_write(

@@ -125,8 +125,8 @@ fn read_lines(
 /// Returns `OK` if all lines fit: they are the first `count` of `fields`, and their texts are the
 /// first `used` bytes of `texts`. The rest of both arrays is unchanged.
 ///
-/// Returns `BUFFER_TOO_SMALL` if an array is too short. `count` and `used` are then the sizes that the lines
-/// need, or `usize::MAX` for a larger size. Returns `FAULT` with the code
+/// Returns `BUFFER_TOO_SMALL` if an array is too short. `count` and `used` are then the sizes that
+/// the lines need, or `usize::MAX` for a larger size. Returns `FAULT` with the code
 /// `QPACK_DECOMPRESSION_FAILED` (0x200) if the section has an error, and `MEMORY` if allocation
 /// failed, which happens only at a line with a Huffman string. `FAULT` and `MEMORY` leave `count`
 /// and `used` unchanged. In all three cases the contents of both arrays are unspecified. Only

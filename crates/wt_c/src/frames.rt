@@ -73,9 +73,9 @@ pub(crate) fn write_frame(frame: &Frame<'_>, out: &mut [u8], used: &mut usize) -
 /// Writes a frame with a payload to the start of `out`. Its type is DATA (0x00), HEADERS (0x01),
 /// SETTINGS (0x04), or a reserved type (RFC 9114, section 7.2.8).
 ///
-/// Returns `OK` with the size of the frame in `used`. Returns `BUFFER_TOO_SMALL` if `out` is too short;
-/// `used` is then the size of the frame, and `out` is unchanged. Returns `INVALID` if the type is
-/// any other, or if the payload is 2^62 bytes or longer; nothing is then changed.
+/// Returns `OK` with the size of the frame in `used`. Returns `BUFFER_TOO_SMALL` if `out` is too
+/// short; `used` is then the size of the frame, and `out` is unchanged. Returns `INVALID` if the
+/// type is any other, or if the payload is 2^62 bytes or longer; nothing is then changed.
 #[unsafe(no_mangle)]
 pub extern "C" fn wt_frame_write(kind: u64, payload: &[u8], out: &mut [u8], used: &mut usize) -> i32
     ensures answers { (result ≡ OK) ⊎ ((result ≡ BUFFER_TOO_SMALL) ⊎ (result ≡ INVALID)) }
@@ -133,9 +133,9 @@ pub fn frame_is_head_and_payload()
 /// Writes the frame that associates its stream with a session to the start of `out`
 /// (draft-ietf-webtrans-http3-02, section 4.2). All bytes after it are application data.
 ///
-/// Returns `OK` with the size of the frame in `used`. Returns `BUFFER_TOO_SMALL` if `out` is too short;
-/// `used` is then the size of the frame, and `out` is unchanged. Returns `INVALID` if `session`
-/// is not a session ID; nothing is then changed.
+/// Returns `OK` with the size of the frame in `used`. Returns `BUFFER_TOO_SMALL` if `out` is too
+/// short; `used` is then the size of the frame, and `out` is unchanged. Returns `INVALID` if
+/// `session` is not a session ID; nothing is then changed.
 #[unsafe(no_mangle)]
 pub extern "C" fn wt_session_frame_write(session: u64, out: &mut [u8], used: &mut usize) -> i32
     ensures answers { (result ≡ OK) ⊎ ((result ≡ BUFFER_TOO_SMALL) ⊎ (result ≡ INVALID)) }

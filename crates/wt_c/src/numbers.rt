@@ -37,9 +37,9 @@ pub extern "C" fn wt_varint_read(bytes: &[u8], value: &mut u64, consumed: &mut u
 
 /// Writes the shortest encoding of a number to the start of `out`.
 ///
-/// Returns `OK` with the length of the encoding in `used`. Returns `BUFFER_TOO_SMALL` if `out` is too short;
-/// `used` is then the length of the encoding, and `out` is unchanged. Returns `INVALID` if the
-/// number is 2^62 or more; nothing is then changed.
+/// Returns `OK` with the length of the encoding in `used`. Returns `BUFFER_TOO_SMALL` if `out` is
+/// too short; `used` is then the length of the encoding, and `out` is unchanged. Returns `INVALID`
+/// if the number is 2^62 or more; nothing is then changed.
 #[unsafe(no_mangle)]
 pub extern "C" fn wt_varint_write(value: u64, out: &mut [u8], used: &mut usize) -> i32
     ensures answers { (result ≡ OK) ⊎ ((result ≡ BUFFER_TOO_SMALL) ⊎ (result ≡ INVALID)) }

@@ -20,8 +20,8 @@ pub(crate) fn size_before(rest: &[u8], bytes: &[u8]) -> usize
 
 /// Writes bytes to the start of `out`.
 ///
-/// Returns `OK`, or `BUFFER_TOO_SMALL` if `out` is too short; `out` is then unchanged. In both cases `used`
-/// is the number of bytes.
+/// Returns `OK`, or `BUFFER_TOO_SMALL` if `out` is too short; `out` is then unchanged. In both
+/// cases `used` is the number of bytes.
 pub(crate) fn write_bytes(bytes: &[u8], out: &mut [u8], used: &mut usize) -> i32
     ensures answers { (result ≡ OK) ⊎ (result ≡ BUFFER_TOO_SMALL) }
     ensures bytes { result ≡ OK → WritesPrefix bytes.now out.old out.new used.new }

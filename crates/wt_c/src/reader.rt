@@ -27,8 +27,8 @@ pub const CONTROL: u8 = 2;
 pub const SESSION: u8 = 3;
 
 /// Frame-reader state for one stream. A value whose kind is above `SESSION`, whose `first` is
-/// above 1, or whose `skip_remaining` is 2^62 or more is rejected; `wt_reader_new` and `wt_read_frame` never
-/// produce one.
+/// above 1, or whose `skip_remaining` is 2^62 or more is rejected; `wt_reader_new` and
+/// `wt_read_frame` never produce one.
 #[repr(C)]
 #[derive(Clone, Copy)]
 pub struct WtReader {
@@ -117,8 +117,8 @@ pub extern "C" fn wt_reader_new(kind: u8, reader: &mut WtReader) -> i32
 ///   again, followed by more; they are at most 4111.
 /// - `FAULT`: the stream has an error. `code` is its error code, `reader` is unchanged, and
 ///   `consumed` is 0.
-/// - `INVALID`: `reader` is invalid: its kind is above `SESSION`, `first` is above 1, or `skip_remaining` is
-///   2^62 or more. Nothing is changed.
+/// - `INVALID`: `reader` is invalid: its kind is above `SESSION`, `first` is above 1, or
+///   `skip_remaining` is 2^62 or more. Nothing is changed.
 ///
 /// The frames and the first error do not depend on how the bytes of the stream are split. Only
 /// `OK` changes `frame`, and only `FAULT` changes `code`.

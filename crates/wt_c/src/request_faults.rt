@@ -145,9 +145,9 @@ fn name_of(fault: &HeadersParseError) -> &'static str
 /// Writes the name of a request's fault to the start of `out`, in ASCII and without a final zero:
 /// `MissingMethod` and its like.
 ///
-/// Returns `OK` with the size of the name in `used`. Returns `BUFFER_TOO_SMALL` if `out` is shorter than that
-/// size, which `used` then is; `out` does not change. Returns `INVALID` if no fault has this
-/// number; then nothing changes.
+/// Returns `OK` with the size of the name in `used`. Returns `BUFFER_TOO_SMALL` if `out` is shorter
+/// than that size, which `used` then is; `out` does not change. Returns `INVALID` if no fault has
+/// this number; then nothing changes.
 #[unsafe(no_mangle)]
 pub extern "C" fn wt_request_fault_name(fault: i32, out: &mut [u8], used: &mut usize) -> i32
     ensures answers { (result ≡ OK) ⊎ ((result ≡ BUFFER_TOO_SMALL) ⊎ (result ≡ INVALID)) }

@@ -27,10 +27,10 @@ fn encode_fields(alloc: Global, fields: &[WtField], texts: &[u8]) -> Result<Vec<
 /// Writes a field section to the start of `out`. It contains the fields in order, uses only the
 /// static table, and encodes each string in the Huffman code if that is shorter.
 ///
-/// Returns `OK` with the size of the section in `used`. Returns `BUFFER_TOO_SMALL` if `out` is too short;
-/// `used` is then the size of the section, and `out` is unchanged. Returns `INVALID` if a field
-/// is not within `texts` or is not UTF-8, and otherwise `MEMORY` if allocation failed; nothing is
-/// then changed.
+/// Returns `OK` with the size of the section in `used`. Returns `BUFFER_TOO_SMALL` if `out` is too
+/// short; `used` is then the size of the section, and `out` is unchanged. Returns `INVALID` if a
+/// field is not within `texts` or is not UTF-8, and otherwise `MEMORY` if allocation failed;
+/// nothing is then changed.
 #[unsafe(no_mangle)]
 pub extern "C" fn wt_fields_write(
     alloc: Global,

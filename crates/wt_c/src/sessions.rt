@@ -111,17 +111,17 @@ fn request_for(alloc: Global, url: &[u8]) -> Result<FieldList, Rejection>
     }
 }
 
-/// Writes the HEADERS frame of the request for the session at a URL to the start of `out` (RFC 9114,
-/// section 4.3.1): the pseudo-header fields, and then these fields in their order, with repeated
-/// names.
+/// Writes the HEADERS frame of the request for the session at a URL to the start of `out` (RFC
+/// 9114, section 4.3.1): the pseudo-header fields, and then these fields in their order, with
+/// repeated names.
 ///
-/// Returns `OK` with the size of the frame in `used`. Returns `BUFFER_TOO_SMALL` if `out` is shorter than that
-/// size, which `used` then is; `out` does not change. Returns `INVALID` if the URL is not one, its
-/// scheme is not `https`, or it has 2^24 bytes or more and is too long; or if a field is not within
-/// `texts`, its name is empty, starts with a colon, has an upper-case letter or is no token, or its
-/// value has a control character other than a tab, or starts or ends with a space or a tab. Returns
-/// `MEMORY` if allocation failed, which does not hide a fault of a field, or a URL that is not
-/// UTF-8. Then nothing changes.
+/// Returns `OK` with the size of the frame in `used`. Returns `BUFFER_TOO_SMALL` if `out` is
+/// shorter than that size, which `used` then is; `out` does not change. Returns `INVALID` if the
+/// URL is not one, its scheme is not `https`, or it has 2^24 bytes or more and is too long; or if a
+/// field is not within `texts`, its name is empty, starts with a colon, has an upper-case letter or
+/// is no token, or its value has a control character other than a tab, or starts or ends with a
+/// space or a tab. Returns `MEMORY` if allocation failed, which does not hide a fault of a field,
+/// or a URL that is not UTF-8. Then nothing changes.
 #[unsafe(no_mangle)]
 pub extern "C" fn wt_request_write(
     alloc: Global,
@@ -156,10 +156,10 @@ pub extern "C" fn wt_request_write(
 /// Writes the HEADERS frame of the response with a status to the start of `out` (RFC 9114, section
 /// 4.3.2): `:status`, and then these fields in their order, with repeated names.
 ///
-/// Returns `OK` with the size of the frame in `used`. Returns `BUFFER_TOO_SMALL` if `out` is shorter than that
-/// size, which `used` then is; `out` does not change. Returns `INVALID` if the status is not from
-/// 100 to 599, or for a field that `wt_request_write` rejects. Otherwise returns `MEMORY` if
-/// allocation failed. Then nothing changes.
+/// Returns `OK` with the size of the frame in `used`. Returns `BUFFER_TOO_SMALL` if `out` is
+/// shorter than that size, which `used` then is; `out` does not change. Returns `INVALID` if the
+/// status is not from 100 to 599, or for a field that `wt_request_write` rejects. Otherwise returns
+/// `MEMORY` if allocation failed. Then nothing changes.
 #[unsafe(no_mangle)]
 pub extern "C" fn wt_response_write(
     alloc: Global,
@@ -199,10 +199,10 @@ pub extern "C" fn wt_response_write(
 /// these nor the other fields need be UTF-8.
 ///
 /// Returns `OK` with the size of both in `used`, and that of the authority in `authority`. Returns
-/// `BUFFER_TOO_SMALL` if `out` is shorter than both, whose sizes are reported all the same; `out` does not
-/// change. Returns `FAULT` with the code `QPACK_DECOMPRESSION_FAILED` (0x200) for a section with a
-/// fault, or `H3_MESSAGE_ERROR` (0x10e) for one that is not a request. Returns `MEMORY` if
-/// allocation failed. Then nothing else changes.
+/// `BUFFER_TOO_SMALL` if `out` is shorter than both, whose sizes are reported all the same; `out`
+/// does not change. Returns `FAULT` with the code `QPACK_DECOMPRESSION_FAILED` (0x200) for a
+/// section with a fault, or `H3_MESSAGE_ERROR` (0x10e) for one that is not a request. Returns
+/// `MEMORY` if allocation failed. Then nothing else changes.
 #[unsafe(no_mangle)]
 pub extern "C" fn wt_request_read(
     alloc: Global,

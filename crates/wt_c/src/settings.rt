@@ -87,11 +87,12 @@ fn read_settings(alloc: Global, payload: &[u8]) -> Result<Settings, Refused>
 /// identifiers too.
 ///
 /// Returns `OK` with the settings: the first `count` of `settings`, after which the array does not
-/// change. Returns `BUFFER_TOO_SMALL` if the array is too short; `count` is then the room that they need, and
-/// the array does not change. Returns `FAULT` with the code of the first fault: `H3_FRAME_ERROR`
-/// (0x106) for a payload that is cut, `H3_SETTINGS_ERROR` (0x109) for an identifier of HTTP/2 or a
-/// repeated one, which is no fault of an unknown identifier. Returns `MEMORY` if allocation failed, which happens only at a
-/// setting. Returns `INVALID` for a payload of 2^62 bytes or more. Otherwise nothing changes.
+/// change. Returns `BUFFER_TOO_SMALL` if the array is too short; `count` is then the room that they
+/// need, and the array does not change. Returns `FAULT` with the code of the first fault:
+/// `H3_FRAME_ERROR` (0x106) for a payload that is cut, `H3_SETTINGS_ERROR` (0x109) for an
+/// identifier of HTTP/2 or a repeated one, which is no fault of an unknown identifier. Returns
+/// `MEMORY` if allocation failed, which happens only at a setting. Returns `INVALID` for a payload
+/// of 2^62 bytes or more. Otherwise nothing changes.
 #[unsafe(no_mangle)]
 pub extern "C" fn wt_settings_read(
     alloc: Global,
@@ -219,12 +220,12 @@ fn write_pairs(alloc: Global, settings: &[WtSetting]) -> Result<Vec<u8>, AllocEr
 
 /// Writes the payload of a SETTINGS frame to the start of `out`: the settings in their order.
 ///
-/// Returns `OK` with the size of the payload in `used`. Returns `BUFFER_TOO_SMALL` if `out` is shorter than
-/// that size, which `used` then is; `out` does not change. Returns `INVALID` if a number is 2^62 or
-/// more, or if a peer would find a fault in the payload: an identifier of HTTP/2, or a known one
-/// that is repeated. Otherwise returns `MEMORY` if allocation failed, which does not happen for no
-/// settings at all. Then nothing changes. For n settings it makes at most n (n - 1) / 2 comparisons
-/// of identifiers.
+/// Returns `OK` with the size of the payload in `used`. Returns `BUFFER_TOO_SMALL` if `out` is
+/// shorter than that size, which `used` then is; `out` does not change. Returns `INVALID` if a
+/// number is 2^62 or more, or if a peer would find a fault in the payload: an identifier of HTTP/2,
+/// or a known one that is repeated. Otherwise returns `MEMORY` if allocation failed, which does not
+/// happen for no settings at all. Then nothing changes. For n settings it makes at most n (n - 1) /
+/// 2 comparisons of identifiers.
 #[unsafe(no_mangle)]
 pub extern "C" fn wt_settings_write(
     alloc: Global,
@@ -261,9 +262,9 @@ pub fn written_settings_are_read()
 /// `SETTINGS_H3_DATAGRAM` and its like, or the number of one that is reserved for exercise, as
 /// `0x21`.
 ///
-/// Returns `OK` with the size of the name in `used`. Returns `BUFFER_TOO_SMALL` if `out` is shorter than that
-/// size, which `used` then is; `out` does not change. Returns `INVALID` if the number is not that
-/// of a setting; otherwise `MEMORY` if allocation failed. Then nothing changes.
+/// Returns `OK` with the size of the name in `used`. Returns `BUFFER_TOO_SMALL` if `out` is shorter
+/// than that size, which `used` then is; `out` does not change. Returns `INVALID` if the number is
+/// not that of a setting; otherwise `MEMORY` if allocation failed. Then nothing changes.
 #[unsafe(no_mangle)]
 pub extern "C" fn wt_setting_name(alloc: Global, id: u64, out: &mut [u8], used: &mut usize) -> i32
     ensures answers { (result ≡ OK) ⊎ ((result ≡ BUFFER_TOO_SMALL) ⊎ ((result ≡ INVALID) ⊎ (result ≡ MEMORY))) }

@@ -87,9 +87,9 @@ fn is_header(header: &WtStreamHeader) -> bool
 
 /// Writes the header of a unidirectional stream to the start of `out`.
 ///
-/// Returns `OK` with the length of the header in `used`. Returns `BUFFER_TOO_SMALL` if `out` is too short;
-/// `used` is then the length of the header, and `out` is unchanged. Returns `INVALID` if the type
-/// is unknown, if the session ID of the WebTransport type is invalid, or if another type has a
+/// Returns `OK` with the length of the header in `used`. Returns `BUFFER_TOO_SMALL` if `out` is too
+/// short; `used` is then the length of the header, and `out` is unchanged. Returns `INVALID` if the
+/// type is unknown, if the session ID of the WebTransport type is invalid, or if another type has a
 /// session ID other than 0; nothing is then changed.
 #[unsafe(no_mangle)]
 pub extern "C" fn wt_stream_header_write(

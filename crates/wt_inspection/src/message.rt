@@ -164,8 +164,8 @@ fn starts_with_one(value: &[u8]) -> bool
 }
 
 /// Returns whether the DATA frames after a header section contain capsules: a request has
-/// `:protocol` (RFC 8441, section 4; RFC 9220, section 3), a response one of the fields of sessions.
-/// A CONNECT whose section cannot be read to its end counts as one with `:protocol`.
+/// `:protocol` (RFC 8441, section 4; RFC 9220, section 3), a response one of the fields of
+/// sessions. A CONNECT whose section cannot be read to its end counts as one with `:protocol`.
 fn opens_session(role: StreamRole, section: &FieldSection) -> bool
     ensures { result ≡ opens_session role section.now }
 {

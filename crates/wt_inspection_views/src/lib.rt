@@ -1,9 +1,9 @@
 //! Displays inspections as text, as lines of JSON, and as an HTML page.
 //!
 //! [`write_text`](text::write_text), [`write_json`](json_lines::write_json) and
-//! [`write_html`](html::write_html) take an [`Inspection`](wt_inspection_model::item::Inspection) and the
-//! bytes that were inspected. Their contracts state what bytes from a peer can never cause in the
-//! output.
+//! [`write_html`](html::write_html) take an [`Inspection`](wt_inspection_model::item::Inspection)
+//! and the bytes that were inspected. Their contracts state what bytes from a peer can never cause
+//! in the output.
 #![tactic(auto)]
 
 ghost use Rattle.std.specs.Prelude.{◌≡◌, ◌++◌};

@@ -1,5 +1,5 @@
-//! The frames of `wtp_frames` are those of `wtp_wire` where no payload is longer than 4096 bytes and
-//! no rule is new. There is no product code here.
+//! The frames of `wtp_frames` are those of `wtp_wire` where no payload is longer than 4096 bytes
+//! and no rule is new. There is no product code here.
 #![tactic(auto)]
 
 ghost use Rattle.std.specs.Prelude.{◌≡◌, ℕ, ◌<◌, ◌≤◌, Bool, true, List, [], ◌∷◌, map, None};
@@ -14,8 +14,9 @@ ghost use Rattle.wtp_frames.specs.Item.{Whole, Byte};
 ghost use Rattle.wtp_frames.specs.Run.{preceded, run};
 ghost use Rattle.wtp_frames.specs.Start.{between};
 
-/// Where the wire grammar of `wtp_wire` has a HEADERS, DATA or SETTINGS frame first, and it may come
-/// here, a reader whose limit is not below 4096 bytes gives it, and goes on with the bytes after it.
+/// Where the wire grammar of `wtp_wire` has a HEADERS, DATA or SETTINGS frame first, and it may
+/// come here, a reader whose limit is not below 4096 bytes gives it, and goes on with the bytes
+/// after it.
 pub fn run_goes_by_front()
     ensures headers { (e : Endpoint) (s : Bool) (n : ℕ) (bytes payload rest : List ℕ)
         → 4096 ≤ e.max_section → front bytes ≡ Framed (PlainOf wire.Headers payload) rest

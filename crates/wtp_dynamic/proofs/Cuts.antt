@@ -13,7 +13,8 @@ use Rattle.wtp_qpack.specs.StringLiteral.{flag_above}
 use Rattle.wtp_qpack.specs.FieldLine.{bit}
 use Rattle.wtp_dynamic.specs.Instruction.{Coded, Instruction, SetCapacity, InsertNamed, InsertLiteral, Duplicate, coded_at, Instructions, capacity_at, named_at, literal_at, duplicate_at, instruction_by, instruction_at}
 
--- the answer of a reading when more bytes follow: the same, with these after the rest, unless the bytes were cut
+-- the answer of a reading when more bytes follow: the same, with these after the rest, unless the
+-- bytes were cut
 abbrev pub Goes : {X : Type 0} → List ℕ → Result (X × List ℕ) DecodingError → Result (X × List ℕ) DecodingError → Type 0
 Goes more (Ok x) longer = longer ≡ Ok (x.0, x.1 ++ more)
 Goes more (Err UnexpectedFin) longer = Unit {0}

@@ -33,7 +33,8 @@ pub meant_by_encoded : (most inserts count : ℕ) → 0 < most → count ≤ ins
 meant_by_encoded most inserts zero some high low = inl (refl, refl)
 meant_by_encoded most inserts (suc count) some high low = rw (ne_eqb (suc count) 0 (omega arith)) (inr (omega arith, some, refl, high, low))
 
--- the candidate of the algorithm: the number of the remainder between the last multiple and the next
+-- the candidate of the algorithm: the number of the remainder between the last multiple and the
+-- next
 abbrev candidate : ℕ → ℕ → ℕ → ℕ
 candidate f h e = h / f * f + e - 1
 

@@ -20,8 +20,8 @@ AreKept place count (sent ∷ others) =
     (place ≤ sent.lowest) × (sent.lowest < sent.required) × (sent.required ≤ count)
     × AreKept place count others
 
--- It evicted no entry of which it does not know that it was received, and none to which a section refers that is not
--- acknowledged (section 2.1.1).
+-- It evicted no entry of which it does not know that it was received, and none to which a section
+-- refers that is not acknowledged (section 2.1.1).
 pub record Owes (encoder : Encoder) : Type 0 where
   pub known : encoder.known ≤ insert_count encoder.table
   pub received : encoder.table.dropped ≤ encoder.known
@@ -86,7 +86,8 @@ cancelled stream encoder = record encoder { sections = without stream encoder.se
 abbrev pub incremented : ℕ → Encoder → Encoder
 incremented count encoder = record encoder { known = encoder.known + count }
 
--- ---- blocked streams (section 2.1.2): a section may block if its count is above what is known to be received
+-- ---- blocked streams (section 2.1.2): a section may block if its count is above what is known to
+-- be received
 
 abbrev pub may_block : ℕ → List Sent → List ℕ
 may_block known [] = []

@@ -22,9 +22,10 @@ abbrev pub section_of : (limit required base : ℕ) → List Plan → List ℕ
 section_of limit required base plans =
     planned_prefix (most_entries limit) required base ++ flat_map (planned_line base) plans
 
--- A section was written with the encoder's table as it was then. Now the encoder's table is a later one, and
--- the decoder's is an earlier one than that. What the encoder owes: it evicts no entry to which a section refers
--- that is not acknowledged, and none of which it does not know that the decoder has it (section 2.1.1).
+-- A section was written with the encoder's table as it was then. Now the encoder's table is a later
+-- one, and the decoder's is an earlier one than that. What the encoder owes: it evicts no entry to
+-- which a section refers that is not acknowledged, and none of which it does not know that the
+-- decoder has it (section 2.1.1).
 pub record Paired (written now decoder : Table) (required : ℕ) (plans : List Plan) : Type 0 where
   pub later : Later written now
   pub behind : Later decoder now

@@ -8,7 +8,8 @@ use Rattle.wtp_dynamic.specs.Table.{Table}
 use Rattle.wtp_dynamic.specs.InsertCount.{encoded_count}
 use Rattle.wtp_dynamic.specs.Section.{reached}
 
--- how a line gives its field: by entries of the tables, whose absolute indices these are, and by texts
+-- how a line gives its field: by entries of the tables, whose absolute indices these are, and by
+-- texts
 pub data Plan : Type 0 where
   StaticField : (index : ℕ) → Plan
   TableField : (place : ℕ) → Plan

@@ -14,7 +14,8 @@ abbrev pub is_whole : Result (ℕ × List ℕ) DecodingError → Bool
 is_whole (Ok size) = nat_le size.0 (length size.1)
 is_whole (Err fault) = false
 
--- Huffman text is at the start, with its length in n bits: the flag H is set, and all of it is there
+-- Huffman text is at the start, with its length in n bits: the flag H is set, and all of it is
+-- there
 abbrev pub is_coded : ℕ → List ℕ → Bool
 is_coded n bytes = flag_above n bytes && is_whole (integer_at n bytes)
 

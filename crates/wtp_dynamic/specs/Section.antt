@@ -61,7 +61,8 @@ reached table required None = None
 reached table required (Some place) =
     if nat_lt place required then entry_of table place else None
 
--- the entry of an index: of the static table, or of the dynamic table back from the Base or on from it
+-- the entry of an index: of the static table, or of the dynamic table back from the Base or on from
+-- it
 abbrev pub entry_at : Reference → Table → Prefix → ℕ → Result Field SectionError
 entry_at Static table prefix index = or_fault IndexNotFound (static.entry_at index)
 entry_at Back table prefix index =

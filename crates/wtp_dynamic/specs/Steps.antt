@@ -63,7 +63,8 @@ step (Duplicate index) table = do
   entry ← referred false index table
   insert_step entry table
 
--- a call did this step to a table: on an error, which is the fault unless allocation failed, it did nothing
+-- a call did this step to a table: on an error, which is the fault unless allocation failed, it did
+-- nothing
 abbrev pub Steps : Result Table EncoderStreamError → Table → Table → Result (Unit {0}) EncoderStreamError → Type 0
 Steps stepped old new result =
     MatchResult result (λ _. stepped ≡ Ok new) (λ e. (new ≡ old) × (e ≢ fault.Memory → stepped ≡ Err e))

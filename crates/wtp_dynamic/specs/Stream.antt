@@ -13,7 +13,8 @@ use Rattle.wtp_dynamic.specs.Steps.{step}
 abbrev pub first_of : Table → List ℕ → Front
 first_of table bytes = front_at (most_bytes table.limit) bytes
 
--- The bytes start with these instructions, followed by the rest, and they lead from one table to another.
+-- The bytes start with these instructions, followed by the rest, and they lead from one table to
+-- another.
 abbrev pub Leads : List Instruction → Table → List ℕ → Table → List ℕ → Type 0
 Leads [] table bytes after rest = (after ≡ table) × (rest ≡ bytes)
 Leads (first ∷ others) table bytes after rest =
@@ -29,7 +30,8 @@ abbrev pub reading_fault : DecodingError → EncoderStreamError
 reading_fault reading.IntegerOverflow = fault.IntegerOverflow
 reading_fault _ = fault.InvalidString
 
--- the first instruction has a fault: its bytes are too many, or are not one, or the table does not allow it
+-- the first instruction has a fault: its bytes are too many, or are not one, or the table does not
+-- allow it
 abbrev pub HasFault : Table → List ℕ → EncoderStreamError → Type 0
 HasFault table bytes e =
     ((first_of table bytes ≡ TooLong) × (e ≡ fault.InstructionTooLong))
@@ -55,8 +57,8 @@ abbrev pub Reaches : Table → List ℕ → Table → Type 0
 Reaches start bytes table =
     (instructions : List Instruction) × (rest : List ℕ) × Leads instructions start bytes table rest
 
--- What reading bytes of the stream did to a table: on an error, which is the fault unless allocation
--- failed, the table is what the instructions before it made.
+-- What reading bytes of the stream did to a table: on an error, which is the fault unless
+-- allocation failed, the table is what the instructions before it made.
 abbrev pub StreamRead : {X : Type 0} → (X → List ℕ) → Table → List ℕ → Table → Result X EncoderStreamError → Type 0
 StreamRead held old bytes new result =
     MatchResult result (λ x. Stands old bytes new (held x))

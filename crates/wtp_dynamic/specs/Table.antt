@@ -22,7 +22,8 @@ pub data Change : Type 0 where
 abbrev pub History : Type 0
 History = List Change
 
--- all entries ever inserted, the latest last: the absolute index of an entry is its place (section 3.2.4)
+-- all entries ever inserted, the latest last: the absolute index of an entry is its place (section
+-- 3.2.4)
 abbrev pub all_entries : History → List Field
 all_entries [] = []
 all_entries (SetsCapacity capacity ∷ before) = all_entries before
@@ -34,8 +35,8 @@ capacity_after [] = 0
 capacity_after (SetsCapacity capacity ∷ before) = capacity
 capacity_after (Inserts entry ∷ before) = capacity_after before
 
--- An entry is live if at each moment since it was inserted all entries from it on fit into the capacity of
--- that moment (sections 3.2.2 and 3.2.3).
+-- An entry is live if at each moment since it was inserted all entries from it on fit into the
+-- capacity of that moment (sections 3.2.2 and 3.2.3).
 abbrev pub IsLive : ℕ → History → Type 0
 IsLive k [] = ⊥
 IsLive k (change ∷ before) =

@@ -1,4 +1,5 @@
--- A decoder: its table, the streams that wait, and what it tells the encoder (RFC 9204, sections 2.2 and 4.4).
+-- A decoder: its table, the streams that wait, and what it tells the encoder (RFC 9204, sections
+-- 2.2 and 4.4).
 use Rattle.std.specs.Prelude.{◌≡◌, ◌≢◌, ◌⊎◌, ℕ, ◌+◌, ◌-◌, ◌<◌, ◌≤◌, ◌==◌, nat_lt, not, filter, if◌then◌else◌, max, Bool, true, false, ◌&&◌, List, [], ◌∷◌, ◌++◌, length, Option, Some, None, Result, Ok, Err, MatchResult}
 use Rattle.wtp_dynamic.specs.declared.error.EncoderStreamError.{EncoderStreamError}
 use Rattle.wtp_dynamic.specs.declared.error.EncoderStreamError.TheVariants as stream
@@ -93,8 +94,8 @@ pub record IsNotKept (section : List ℕ) (old new : Decoder) : Type 0 where
   pub blocked : is_blocked old.table prefix ≡ true
   pub same : new ≡ old
 
--- why a section was not opened: its prefix has a fault, and nothing changed; too many streams wait; or
--- allocation failed
+-- why a section was not opened: its prefix has a fault, and nothing changed; too many streams wait;
+-- or allocation failed
 abbrev pub Refuses : ℕ → List ℕ → Decoder → Decoder → SectionError → Type 0
 Refuses stream section old new e =
     ((new ≡ old) × (prefix_at old.table section ≡ Err e))
@@ -118,7 +119,8 @@ abbrev pub due_cancellation : ℕ → Decoder → Option Acknowledgment
 due_cancellation stream decoder =
     if decoder.table.limit == 0 then None else Some (instruction.Cancellation stream)
 
--- the decoder after an acknowledgment, which tells the encoder of all entries below the count (section 2.1.4)
+-- the decoder after an acknowledgment, which tells the encoder of all entries below the count
+-- (section 2.1.4)
 abbrev pub acknowledged : ℕ → Decoder → Decoder
 acknowledged required decoder = record decoder { known = max decoder.known required }
 

@@ -144,9 +144,9 @@ impl QpackDecoder {
     /// Opens a section of a stream. Its lines can be read if its Required Insert Count is at most
     /// the insertions so far. Otherwise the stream waits.
     ///
-    /// Returns the fault of the prefix, or [`SectionError::TooManyBlocked`] if as many other streams
-    /// wait as may. Returns [`SectionError::Memory`] if the stream has to wait and allocation
-    /// failed; nothing has changed then.
+    /// Returns the fault of the prefix, or [`SectionError::TooManyBlocked`] if as many other
+    /// streams wait as may. Returns [`SectionError::Memory`] if the stream has to wait and
+    /// allocation failed; nothing has changed then.
     pub fn open<'a>(&mut self, stream: u64, section: &'a [u8]) -> Result<Opened<'a>, SectionError>
         ensures { MatchResult result (OpensAs stream section.now self.old self.new)
             (Refuses stream section.now self.old self.new) }
@@ -169,8 +169,8 @@ impl QpackDecoder {
         Ok(Opened::Blocked(prefix.required))
     }
 
-    /// A section of a stream was read to its end: appends its acknowledgment, if its Required Insert
-    /// Count is not 0. To be called once for each such section, in the order of the stream.
+    /// A section of a stream was read to its end: appends its acknowledgment, if its Required
+    /// Insert Count is not 0. To be called once for each such section, in the order of the stream.
     ///
     /// Returns [`AllocError`] if allocation failed; nothing has changed then.
     pub fn acknowledge(

@@ -72,10 +72,11 @@ impl<'a> SectionLines<'a> {
     /// Takes the next line. Returns `None` after the last. Huffman texts are decoded in `room`, and
     /// all others are where they are: in the section, or in one of the tables.
     ///
-    /// Returns the fault of the line, if it has one. Returns [`SectionError::Memory`] only if `room`
-    /// has less than twice the bytes that are left, and the line has a Huffman text that is there,
-    /// with no fault before it. On an error no line is taken, so the next call reads the same line.
-    /// The table is borrowed as long as the section, so all lines are read with one table.
+    /// Returns the fault of the line, if it has one. Returns [`SectionError::Memory`] only if
+    /// `room` has less than twice the bytes that are left, and the line has a Huffman text that is
+    /// there, with no fault before it. On an error no line is taken, so the next call reads the
+    /// same line. The table is borrowed as long as the section, so all lines are read with one
+    /// table.
     ///
     /// The room grows only where it has too few bytes, and then to twice those that are left.
     #[tactic(auto, using(wtp_dynamic::proofs::Answered::table_line_shorter))]

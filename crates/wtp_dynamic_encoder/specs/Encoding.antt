@@ -26,7 +26,8 @@ can_insert entry encoder =
     may_insert entry encoder && nat_lt (insert_count encoder.table) (2 ^ 62)
     && nat_le (length (written (order_for entry))) (most_bytes encoder.table.limit)
 
--- an entry was inserted, and its instruction appended to bytes; or it cannot be, and nothing changed
+-- an entry was inserted, and its instruction appended to bytes; or it cannot be, and nothing
+-- changed
 abbrev pub InsertsIf : Field → (old new : Encoder) → (before after : List ℕ) → Bool → Type 0
 InsertsIf entry old new before after true =
     (can_insert entry old ≡ true) × (new ≡ with_entry entry old)

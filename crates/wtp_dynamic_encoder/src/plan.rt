@@ -11,8 +11,8 @@ use std::alloc::AllocError;
 use wtp_dynamic::insert_count;
 use wtp_qpack::parts::{write_integer, write_string};
 
-/// How a line gives its field: by entries of the tables, and by texts. A place is the absolute index
-/// of an entry of the dynamic table.
+/// How a line gives its field: by entries of the tables, and by texts. A place is the absolute
+/// index of an entry of the dynamic table.
 #[derive(Clone, Copy)]
 pub enum Plan<'a> {
     /// An entry of the static table.

@@ -19,8 +19,8 @@ pub record Reports (r : Run) (items : List Item) (code : ℕ) (scope : ErrorScop
   pub coded : code_of fault ≡ code
   pub scoped : scope_of fault ≡ scope
 
--- After any valid frames of a message that end at this stage, the head of a frame of this type, with
--- any length, is this error, whatever follows.
+-- After any valid frames of a message that end at this stage, the head of a frame of this type,
+-- with any length, is this error, whatever follows.
 abbrev pub InMessage : Endpoint → Stage → ℕ → ℕ → ErrorScope → Type 0
 InMessage e s id code scope =
     (m : Message) (t u more : List ℕ) (n : ℕ) → ValidMessage e.webtransport 0 m → stage m ≡ s

@@ -211,7 +211,8 @@ abbrev pub TakesPushes : Side → Type 0
 TakesPushes Client = ⊥
 TakesPushes Server = Unit {0}
 
--- The IDs of GOAWAY never rise (RFC 9114, section 5.2), and those of MAX_PUSH_ID never fall (7.2.7).
+-- The IDs of GOAWAY never rise (RFC 9114, section 5.2), and those of MAX_PUSH_ID never fall
+-- (7.2.7).
 abbrev pub ValidIds : Side → Bool → Option ℕ → Option ℕ → Ids → Type 0
 ValidIds side enabled goaway push IdsEnd = Unit {0}
 ValidIds side enabled goaway push (IdsGoAway n f ids) =

@@ -57,8 +57,9 @@ pub fn streams_are_independent()
         → items_on n (items_due t arrivals) ≡ (taken (t n) (bytes_of n arrivals)).items }
 {}
 
-/// Whatever the bytes are, a message is HEADERS, DATA and trailers, and a control stream is SETTINGS
-/// once and then IDs, of which those of GOAWAY never rise. A fault comes once, and nothing after it.
+/// Whatever the bytes are, a message is HEADERS, DATA and trailers, and a control stream is
+/// SETTINGS once and then IDs, of which those of GOAWAY never rise. A fault comes once, and nothing
+/// after it.
 pub fn items_are_in_order()
     ensures message { (e : Endpoint) (bytes : List ℕ)
         → IsMessage (run (message_reader e) bytes).items }

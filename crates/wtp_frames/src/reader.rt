@@ -49,8 +49,8 @@ pub enum Step {
     /// A frame that is returned whole: its type, the offset of its payload, and the offset of the
     /// byte after it. The bytes up to there are consumed.
     Frame(FrameType, usize, usize),
-    /// A piece of DATA: the offset of its first byte, and the offset of the byte after it. The bytes
-    /// up to there are consumed.
+    /// A piece of DATA: the offset of its first byte, and the offset of the byte after it. The
+    /// bytes up to there are consumed.
     Data(usize, usize),
     /// A field section that is larger than [`Endpoint::max_section`]: its size, and how many bytes
     /// are consumed. Its payload is skipped.
@@ -109,8 +109,9 @@ impl Reader {
     ///
     /// It does not allocate. After `More(n)`, the bytes from offset `n` on are to be passed again,
     /// with more bytes after them; they are at most 15 bytes more than the largest payload that is
-    /// returned whole here. After an error the reader consumes all bytes and returns `More`. However
-    /// the bytes of a stream are cut, its frames, its bytes of DATA and its error are the same.
+    /// returned whole here. After an error the reader consumes all bytes and returns `More`.
+    /// However the bytes of a stream are cut, its frames, its bytes of DATA and its error are the
+    /// same.
     pub fn next(&mut self, bytes: &[u8]) -> Step
         ensures { StepIs result self.old bytes.now self.new }
     {
@@ -239,8 +240,8 @@ impl Reader {
     /// # Errors
     ///
     /// `Frame` within a frame, `ClosedCriticalStream` of a control stream, `RequestIncomplete` and
-    /// `Message` before the HEADERS of a request and of a response. After an error that was returned
-    /// before there is none.
+    /// `Message` before the HEADERS of a request and of a response. After an error that was
+    /// returned before there is none.
     pub fn finish(&self, left: usize) -> Result<(), Fault>
         ensures { result ≡ by_end self.now.endpoint.side self.now.place (self.now.remaining + left) }
     {

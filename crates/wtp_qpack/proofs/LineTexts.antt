@@ -117,7 +117,8 @@ no_text_absent name bad = by_first (first_entry name) refl
 
 -- ---- lines
 
--- what is read as a line of bytes, and as a line of texts: a name that is no text is a fault before one of the value
+-- what is read as a line of bytes, and as a line of texts: a name that is no text is a fault before
+-- one of the value
 pub Matches : Result (Field × List ℕ) DecodingError → Result (Field × List ℕ) DecodingError → Type 0
 Matches (Ok line) texts = texts ≡ as_texts line
 Matches (Err e) texts = (texts ≡ Err e) ⊎ (texts ≡ Err InvalidString)

@@ -29,7 +29,8 @@ kind_by-exercise number exercise (k ∷ ks) id apart t =
     clash true e n = cc
     clash false e n = cc
 
--- the kind that was found is related to the number, where each named kind is to its own and each exercise kind to its own
+-- the kind that was found is related to the number, where each named kind is to its own and each
+-- exercise kind to its own
 pub is-kind_by : {K : Type 0} (number : K → ℕ) (exercise : ℕ → K) (R : K → ℕ → Type 0) (named : K → Bool)
     → ((k : K) (id : ℕ) → named k ≡ true → id ≡ number k → R k id) → ((id : ℕ) → is_exercise id ≡ true → R (exercise id) id)
     → (ks : List K) → list_all named ks ≡ true → (k : K) (id : ℕ) → kind_by number exercise ks id ≡ Some k → R k id

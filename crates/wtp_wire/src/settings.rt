@@ -93,8 +93,8 @@ impl SettingId {
         numbers::is_reserved(id)
     }
 
-    /// Returns whether the number identified a setting of HTTP/2 that HTTP/3 does not have: 0x00, or
-    /// 0x02 to 0x05. Such a setting must not be received (RFC 9114, section 7.2.4.1).
+    /// Returns whether the number identified a setting of HTTP/2 that HTTP/3 does not have: 0x00,
+    /// or 0x02 to 0x05. Such a setting must not be received (RFC 9114, section 7.2.4.1).
     pub fn is_reserved(id: VarInt) -> bool
         ensures { result ≡ is_reserved id }
     {

@@ -73,8 +73,8 @@ pub record KeptPlace (role : Role) (first next : Bool) (held : Held) (a b : Sour
   pub known : past_front (front_held held b.ahead) ≡ front (skip_unknown a.ahead)
   pub flag : next ≡ first
 
--- Each of this many turns waited or passed an unknown frame or 4096 bytes of it; if the input starts
--- with a frame, it still does, and each waited.
+-- Each of this many turns waited or passed an unknown frame or 4096 bytes of it; if the input
+-- starts with a frame, it still does, and each waited.
 pub record Turned (role : Role) (first next : Bool) (turns : ℕ) (held : Held) (a b : Source) : Type
     0 where
   pub kept : KeptPlace role first next held a b

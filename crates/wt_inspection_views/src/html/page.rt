@@ -175,7 +175,8 @@ impl Page {
     }
 }
 
-/// Returns the bytes of a text, with `&`, `<`, `>` and both quotation marks as character references.
+/// Returns the bytes of a text, with `&`, `<`, `>` and both quotation marks as character
+/// references.
 fn escape_html(alloc: Global, text: &[u8]) -> Result<Vec<u8>, AllocError>
     ensures { IfOk result (λ escaped. escaped.items ≡ html_text text.now) }
 {

@@ -111,7 +111,8 @@ impl Code {
         number: h3_error_codes::H3_MESSAGE_ERROR,
     };
 
-    /// The TCP connection of a CONNECT request was reset or closed abnormally (RFC 9114, section 8.1).
+    /// The TCP connection of a CONNECT request was reset or closed abnormally (RFC 9114, section
+    /// 8.1).
     pub const H3_CONNECT_ERROR: Code = Code {
         number: VarInt { value: 0x010f },
     };

@@ -10,11 +10,12 @@ use crate::polling::fill::Interrupted;
 // The maximum number of bytes that one call skips.
 const MAX_SKIPPED: u64 = 4096;
 
-/// Skips `skip_remaining` bytes, but at most 4096 in one call, and lowers `skip_remaining` by the number of bytes
-/// skipped. Returns `Ok` once none is left to skip, or once 4096 were skipped.
+/// Skips `skip_remaining` bytes, but at most 4096 in one call, and lowers `skip_remaining` by the
+/// number of bytes skipped. Returns `Ok` once none is left to skip, or once 4096 were skipped.
 ///
-/// On an error, bytes are left to skip: `skip_remaining` fell by the number of bytes taken from the source,
-/// which is less than 4096, and a later call continues from there. The errors are those of `fill`.
+/// On an error, bytes are left to skip: `skip_remaining` fell by the number of bytes taken from the
+/// source, which is less than 4096, and a later call continues from there. The errors are those of
+/// `fill`.
 pub fn skip_bytes<S: AsyncRead>(source: &mut S, skip_remaining: &mut u64) -> Result<(), Interrupted>
     ensures fewer { skip_remaining.new ≤ skip_remaining.old }
     ensures most { skip_remaining.old ≤ skip_remaining.new + max_passed }

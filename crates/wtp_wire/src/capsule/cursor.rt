@@ -138,19 +138,19 @@ impl CapsuleCursor {
     /// Finds the next capsule of any type in the bytes that follow those consumed before. It does
     /// not allocate.
     ///
-    /// The bytes are the payloads of DATA frames, joined. The first `skip_remaining` of them are skipped: they
-    /// are the rest of an unknown capsule's value.
+    /// The bytes are the payloads of DATA frames, joined. The first `skip_remaining` of them are
+    /// skipped: they are the rest of an unknown capsule's value.
     ///
     /// - `Known(place)`: the next capsule, of a known kind. The bytes up to `place.end` are
     ///   consumed.
     /// - `Unknown(capsule)`: the next capsule, of an unknown type. The bytes up to `capsule.start`
-    ///   are consumed, and `skip_remaining` is the length of its value, which later calls skip, also piece by
-    ///   piece (RFC 9297, section 3.2). Whoever takes bytes of the value instead subtracts their
-    ///   number from `skip_remaining`.
+    ///   are consumed, and `skip_remaining` is the length of its value, which later calls skip,
+    ///   also piece by piece (RFC 9297, section 3.2). Whoever takes bytes of the value instead
+    ///   subtracts their number from `skip_remaining`.
     /// - `More(n)`: there is no complete type and length, or they are those of a known kind and its
     ///   value is not complete. The first `n` bytes are consumed: those that were to be skipped, as
-    ///   far as they came. At most 1043 are left, which have to be given again with more bytes after
-    ///   them.
+    ///   far as they came. At most 1043 are left, which have to be given again with more bytes
+    ///   after them.
     /// - `TooLong`: the value of the next capsule is longer than `CapsuleKind::max_value_len`. The
     ///   cursor does not change.
     pub fn next_any(&mut self, bytes: &[u8]) -> AnyCapsule
@@ -196,9 +196,9 @@ impl CapsuleCursor {
         }
     }
 
-    /// Returns how many bytes are missing, with `rest` left over: those to be skipped; of a type and
-    /// a length that are not complete, the least number; or else those of a value. The rest are the
-    /// bytes after the first `n`, after `More(n)`.
+    /// Returns how many bytes are missing, with `rest` left over: those to be skipped; of a type
+    /// and a length that are not complete, the least number; or else those of a value. The rest are
+    /// the bytes after the first `n`, after `More(n)`.
     pub fn missing(&self, rest: &[u8]) -> u64
         ensures { result ≡ missing_from self.now rest.now }
     {

@@ -32,7 +32,8 @@ pub struct CapsuleReading {
     part: CapsulePart,
 }
 
-/// The part of a capsule that is held, and how many bytes of an unknown one are still to be skipped.
+/// The part of a capsule that is held, and how many bytes of an unknown one are still to be
+/// skipped.
 #[derive(Drop)]
 struct CapsulePart {
     // The type and the length, of which `len` bytes are held.
@@ -189,7 +190,8 @@ impl CapsulePart {
     }
 }
 
-/// Skips `skip_remaining` bytes, or all if there are fewer, and subtracts their number from `skip_remaining`.
+/// Skips `skip_remaining` bytes, or all if there are fewer, and subtracts their number from
+/// `skip_remaining`.
 fn skip(bytes: &mut &[u8], skip_remaining: &mut u64)
     ensures skip_remaining { skip_remaining.new ≡ skip_remaining.old - length bytes.old.now }
     ensures rest { bytes.new.now ≡ drop skip_remaining.old bytes.old.now }

@@ -204,8 +204,8 @@ pub enum Driven {
 ///   right after a refused frame, or after the bytes that decided, and nothing is held; if the
 ///   source ended inside a frame, all bytes received of it are held.
 /// - `Waiting`: the source was not ready.
-/// - `Spent`: all polls were made, and each took a frame, or skipped an unknown one or 4096 bytes of
-///   its payload.
+/// - `Spent`: all polls were made, and each took a frame, or skipped an unknown one or 4096 bytes
+///   of its payload.
 /// - `NoMemory`: allocation failed, for a payload or for a place in `out`.
 ///
 /// It polls until the first result other than these two, and not once more.
