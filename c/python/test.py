@@ -15,7 +15,7 @@ from ctypes import c_size_t, c_uint16, c_uint64, create_string_buffer
 from pathlib import Path
 
 import wtransport_c as c
-from wtransport_c import FAULT, INVALID, MORE, OK
+from wtransport_c import ERROR, INVALID, MORE, OK
 
 TOP = Path(__file__).resolve().parents[2]
 FOLDER = Path(sys.argv[1])
@@ -56,7 +56,7 @@ def frames(kind, data, step):
     found, held, at = [], b"", 0
     while True:
         answer = lib.wt_read_frame(reader, held, len(held), consumed, frame, code)
-        if answer == FAULT:
+        if answer == ERROR:
             return found, held, code.value
         if answer == OK:
             end = frame.offset + frame.length
@@ -80,7 +80,7 @@ def closes(pieces):
     found, held, coming = [], b"", iter(pieces)
     while True:
         answer = lib.wt_capsule_read(reader, held, len(held), consumed, capsule, code)
-        if answer == FAULT:
+        if answer == ERROR:
             return found, code.value
         if answer == OK:
             found.append(held[capsule.offset :][: capsule.length])
@@ -89,7 +89,7 @@ def closes(pieces):
             assert len(held) <= c.MAX_CAPSULE_REST
             if (piece := next(coming, None)) is None:
                 answer = lib.wt_capsule_end(reader, held, len(held), code)
-                return found, code.value if answer == FAULT else None
+                return found, code.value if answer == ERROR else None
             held += piece
 
 
@@ -170,7 +170,7 @@ def check_stream(name, data, kind, said, index):
     sections = [payload for frame, _, payload in found if frame == c.FRAME_HEADERS]
     for section, pairs in zip(sections, wanted):
         answer, read = lines(section)
-        if answer == FAULT:  # it needs the dynamic table
+        if answer == ERROR:  # it needs the dynamic table
             checks.same(f"{name}: code", read, c.QPACK_DECOMPRESSION_FAILED)
         else:
             checks.same(f"{name}: fields {pairs}", are_pairs(read, pairs), True)
@@ -219,7 +219,7 @@ def check_one_way(name, data, said, index):
     answer, consumed, number, session, code = stream_header(data)
     what = index[0]["stream"]
     if what == "push" or what.startswith("unknown"):
-        checks.same(name, (answer, code), (FAULT, c.H3_STREAM_CREATION_ERROR))
+        checks.same(name, (answer, code), (ERROR, c.H3_STREAM_CREATION_ERROR))
     else:
         checks.same(name, answer, OK)
     if what == "WebTransport":

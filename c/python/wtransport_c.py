@@ -8,7 +8,7 @@ structs with the header, and sees that each call is here.
 import ctypes
 from ctypes import POINTER, c_char_p, c_int, c_size_t, c_uint8, c_uint16, c_uint32, c_uint64
 
-OK, MORE, FAULT, BUFFER_TOO_SMALL, INVALID, MEMORY = 0, 1, -1, -2, -3, -4
+OK, MORE, ERROR, BUFFER_TOO_SMALL, INVALID, MEMORY = 0, 1, -1, -2, -3, -4
 
 VERSION, VERSION_NUMBER = "0.8.0", 0x000800
 

@@ -25,7 +25,7 @@ class Fault(Exception):
 
 def _accept(answer, code=None):
     """Returns OK or MORE, and raises the other answers."""
-    if answer == c.FAULT:
+    if answer == c.ERROR:
         raise Fault(code.value)
     if answer == c.MEMORY:
         raise MemoryError

@@ -7,7 +7,7 @@ pub const OK: i32 = 0;
 pub const MORE: i32 = 1;
 
 /// The input has an error. The call reports its error code.
-pub const FAULT: i32 = -1;
+pub const ERROR: i32 = -1;
 
 /// An output is too short. The call reports the size that it needs.
 pub const BUFFER_TOO_SMALL: i32 = -2;

@@ -4,7 +4,7 @@ ghost use Rattle.wtp_wire.specs.declared.capsule.cursor.CapsuleSpan.{CapsuleSpan
 ghost use Rattle.wtp_wire.specs.declared.capsule.cursor.CapsuleStep.{CapsuleStep};
 ghost use Rattle.wt_c.specs.CapsuleReader.{Stepped, c_capsule, cursor_of, IsEnd};
 
-use crate::answers::{FAULT, MORE, OK};
+use crate::answers::{ERROR, MORE, OK};
 use wtp_core::error::ErrorCode;
 use wtp_wire::capsule::{CapsuleCursor, CapsuleSpan, CapsuleStep};
 
@@ -55,11 +55,11 @@ fn capsule_at(place: &CapsuleSpan) -> WtCapsule
 /// - `OK`: a capsule was read. `consumed` is the offset after its value.
 /// - `MORE`: there is no complete capsule. The bytes after the first `consumed` must be passed
 ///   again, followed by more; they are at most 1043.
-/// - `FAULT`: the value of the next capsule is longer than 1028 bytes. `code` is
+/// - `ERROR`: the value of the next capsule is longer than 1028 bytes. `code` is
 ///   `H3_DATAGRAM_ERROR` (0x33), `reader` is unchanged, and `consumed` is 0.
 ///
 /// The capsules and the error do not depend on how the data is split. Only `OK` changes
-/// `capsule`, and only `FAULT` changes `code`.
+/// `capsule`, and only `ERROR` changes `code`.
 #[unsafe(no_mangle)]
 pub extern "C" fn wt_capsule_read(
     reader: &mut WtCapsuleReader,
@@ -68,17 +68,17 @@ pub extern "C" fn wt_capsule_read(
     capsule: &mut WtCapsule,
     code: &mut u64,
 ) -> i32
-    ensures answers { (result ≡ OK) ⊎ ((result ≡ MORE) ⊎ (result ≡ FAULT)) }
+    ensures answers { (result ≡ OK) ⊎ ((result ≡ MORE) ⊎ (result ≡ ERROR)) }
     ensures capsule { result ≡ OK → (p : CapsuleSpan) × (capsule.new ≡ c_capsule p)
         × (consumed.new ≡ p.end)
         × Stepped (CapsuleStep.Capsule p) reader.old bytes.now reader.new }
     ensures more { result ≡ MORE
         → Stepped (CapsuleStep.More consumed.new) reader.old bytes.now reader.new }
-    ensures fault { result ≡ FAULT → Stepped CapsuleStep.TooLong reader.old bytes.now reader.new
+    ensures fault { result ≡ ERROR → Stepped CapsuleStep.TooLong reader.old bytes.now reader.new
         × (code.new ≡ 0x33) × (reader.new ≡ reader.old) × (consumed.new ≡ 0) }
     ensures within { consumed.new ≤ length bytes.now }
     ensures none { result ≢ OK → capsule.new ≡ capsule.old }
-    ensures code { result ≢ FAULT → code.new ≡ code.old }
+    ensures code { result ≢ ERROR → code.new ≡ code.old }
 {
     let mut cursor = cursor_of(reader);
     let step = cursor.next(bytes);
@@ -97,28 +97,28 @@ pub extern "C" fn wt_capsule_read(
         CapsuleStep::TooLong => {
             *consumed = 0;
             *code = ErrorCode::Datagram.to_code().into_inner();
-            FAULT
+            ERROR
         }
     }
 }
 
 /// Checks that the stream may end here. `rest` is the bytes that were not consumed, after `MORE`.
 ///
-/// Returns `OK` if the stream may end here. Returns `FAULT` with the code `H3_MESSAGE_ERROR`
-/// (0x10e) if the stream ends inside a capsule (RFC 9297, section 3.3). Only `FAULT` changes
+/// Returns `OK` if the stream may end here. Returns `ERROR` with the code `H3_MESSAGE_ERROR`
+/// (0x10e) if the stream ends inside a capsule (RFC 9297, section 3.3). Only `ERROR` changes
 /// `code`.
 #[unsafe(no_mangle)]
 pub extern "C" fn wt_capsule_end(reader: &WtCapsuleReader, rest: &[u8], code: &mut u64) -> i32
-    ensures answers { (result ≡ OK) ⊎ (result ≡ FAULT) }
+    ensures answers { (result ≡ OK) ⊎ (result ≡ ERROR) }
     ensures clean { result ≡ OK → IsEnd reader.now rest.now }
-    ensures fault { result ≡ FAULT → (¬ (IsEnd reader.now rest.now)) × (code.new ≡ 0x10e) }
-    ensures code { result ≢ FAULT → code.new ≡ code.old }
+    ensures fault { result ≡ ERROR → (¬ (IsEnd reader.now rest.now)) × (code.new ≡ 0x10e) }
+    ensures code { result ≢ ERROR → code.new ≡ code.old }
 {
     match cursor_of(reader).finish(rest) {
         Ok(()) => OK,
         Err(fault) => {
             *code = ErrorCode::from(fault).to_code().into_inner();
-            FAULT
+            ERROR
         }
     }
 }

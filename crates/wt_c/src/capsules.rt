@@ -4,7 +4,7 @@ ghost use Rattle.std.specs.Prelude.{◌≢◌, [], IsUtf8};
 ghost use Rattle.wtp_wire.specs.CloseSession.{close_in, close_wire};
 ghost use Rattle.wt_c.specs.Output.{WritesPrefix, TooShort};
 
-use crate::answers::{BUFFER_TOO_SMALL, FAULT, INVALID, MEMORY, OK};
+use crate::answers::{BUFFER_TOO_SMALL, ERROR, INVALID, MEMORY, OK};
 use std::alloc::Global;
 use wtp_core::bytes::{BufferWriter, BytesWriter};
 use wtp_core::error::ErrorCode;
@@ -32,15 +32,15 @@ fn code_in(value: &[u8]) -> Option<u32>
 /// Reads the value of a capsule that closes a session: a code of the application in four bytes, and
 /// then a reason, which is all bytes after them.
 ///
-/// Returns `OK` with the code. Returns `FAULT` with the code `H3_DATAGRAM_ERROR` (0x33) if the
+/// Returns `OK` with the code. Returns `ERROR` with the code `H3_DATAGRAM_ERROR` (0x33) if the
 /// value has fewer than 4 or more than 1028 bytes, or its reason is not UTF-8; then `reset` does
 /// not change.
 #[unsafe(no_mangle)]
 pub extern "C" fn wt_close_read(value: &[u8], reset: &mut u32, code: &mut u64) -> i32
-    ensures answers { (result ≡ OK) ⊎ (result ≡ FAULT) }
+    ensures answers { (result ≡ OK) ⊎ (result ≡ ERROR) }
     ensures close { result ≡ OK → (close_in value.now ≡ Some (reset.new, drop 4 value.now))
         × (code.new ≡ code.old) }
-    ensures fault { result ≡ FAULT → (close_in value.now ≡ None) × (code.new ≡ 0x33)
+    ensures fault { result ≡ ERROR → (close_in value.now ≡ None) × (code.new ≡ 0x33)
         × (reset.new ≡ reset.old) }
 {
     match code_in(value) {
@@ -50,7 +50,7 @@ pub extern "C" fn wt_close_read(value: &[u8], reset: &mut u32, code: &mut u64) -
         }
         None => {
             *code = ErrorCode::Datagram.to_code().into_inner();
-            FAULT
+            ERROR
         }
     }
 }

@@ -6,7 +6,7 @@ ghost use Rattle.wt_c.specs.Numbers.{IsSessionNumber};
 ghost use Rattle.wt_c.specs.Datagrams.{datagram_head};
 ghost use Rattle.wt_c.specs.Output.{WritesPrefix, TooShort};
 
-use crate::answers::{BUFFER_TOO_SMALL, FAULT, INVALID, OK};
+use crate::answers::{BUFFER_TOO_SMALL, ERROR, INVALID, OK};
 use crate::numbers::session_of;
 use crate::output::{size_before, write_number};
 use wtp_core::ids::QStreamId;
@@ -15,8 +15,8 @@ use wtp_wire::datagram::Datagram;
 /// Reads an HTTP Datagram from the payload of a QUIC datagram.
 ///
 /// Returns `OK` with the session ID in `session`. The payload is all bytes from `offset` on.
-/// Returns `FAULT` with the code `H3_DATAGRAM_ERROR` (0x33) if the bytes do not start with a
-/// number below 2^60; `session` and `offset` are then unchanged. Only `FAULT` changes `code`.
+/// Returns `ERROR` with the code `H3_DATAGRAM_ERROR` (0x33) if the bytes do not start with a
+/// number below 2^60; `session` and `offset` are then unchanged. Only `ERROR` changes `code`.
 #[unsafe(no_mangle)]
 #[tactic(auto, using(crate::proofs::DatagramLemmas::payload_is_rest))]
 pub extern "C" fn wt_datagram_read(
@@ -25,11 +25,11 @@ pub extern "C" fn wt_datagram_read(
     offset: &mut usize,
     code: &mut u64,
 ) -> i32
-    ensures answers { (result ≡ OK) ⊎ (result ≡ FAULT) }
+    ensures answers { (result ≡ OK) ⊎ (result ≡ ERROR) }
     ensures datagram { result ≡ OK → (quarter : ℕ) × (session.new ≡ 4 * quarter)
         × (datagram_in bytes.now ≡ Some (quarter, drop offset.new bytes.now))
         × (offset.new ≤ length bytes.now) × (code.new ≡ code.old) }
-    ensures fault { result ≡ FAULT → (datagram_in bytes.now ≡ None) × (code.new ≡ 0x33)
+    ensures fault { result ≡ ERROR → (datagram_in bytes.now ≡ None) × (code.new ≡ 0x33)
         × (session.new ≡ session.old) × (offset.new ≡ offset.old) }
 {
     match Datagram::read(bytes) {
@@ -40,7 +40,7 @@ pub extern "C" fn wt_datagram_read(
         }
         Err(fault) => {
             *code = fault.to_code().into_inner();
-            FAULT
+            ERROR
         }
     }
 }

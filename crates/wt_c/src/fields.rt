@@ -7,7 +7,7 @@ ghost use Rattle.wtp_fields.specs.FieldLines.{octet_line_at, AreOctetLines, is_c
 ghost use Rattle.wt_c.specs.Fields.{AreLinesOf, HasSectionFault, HasCodedLine, HoldLines, LackRoom};
 ghost use Rattle.wt_c.specs.Fields.{LinePut, capped, texts_size};
 
-use crate::answers::{BUFFER_TOO_SMALL, FAULT, MEMORY, OK};
+use crate::answers::{BUFFER_TOO_SMALL, ERROR, MEMORY, OK};
 use std::alloc::Global;
 use wtp_core::error::ErrorCode;
 use wtp_fields::qpack::{DecodingError, FieldBuffer, FieldLines};
@@ -126,11 +126,11 @@ fn read_lines(
 /// first `used` bytes of `texts`. The rest of both arrays is unchanged.
 ///
 /// Returns `BUFFER_TOO_SMALL` if an array is too short. `count` and `used` are then the sizes that
-/// the lines need, or `usize::MAX` for a larger size. Returns `FAULT` with the code
+/// the lines need, or `usize::MAX` for a larger size. Returns `ERROR` with the code
 /// `QPACK_DECOMPRESSION_FAILED` (0x200) if the section has an error, and `MEMORY` if allocation
-/// failed, which happens only at a line with a Huffman string. `FAULT` and `MEMORY` leave `count`
+/// failed, which happens only at a line with a Huffman string. `ERROR` and `MEMORY` leave `count`
 /// and `used` unchanged. In all three cases the contents of both arrays are unspecified. Only
-/// `FAULT` changes `code`.
+/// `ERROR` changes `code`.
 #[unsafe(no_mangle)]
 pub extern "C" fn wt_fields_read(
     alloc: Global,
@@ -141,20 +141,20 @@ pub extern "C" fn wt_fields_read(
     used: &mut usize,
     code: &mut u64,
 ) -> i32
-    ensures answers { (result ≡ OK) ⊎ ((result ≡ BUFFER_TOO_SMALL) ⊎ ((result ≡ FAULT) ⊎ (result ≡ MEMORY))) }
+    ensures answers { (result ≡ OK) ⊎ ((result ≡ BUFFER_TOO_SMALL) ⊎ ((result ≡ ERROR) ⊎ (result ≡ MEMORY))) }
     ensures lines { result ≡ OK → (lines : List Field) × AreLinesOf section.now lines
         × HoldLines fields.old texts.old fields.new texts.new count.new used.new lines }
     ensures room { result ≡ BUFFER_TOO_SMALL → (lines : List Field) × AreLinesOf section.now lines
         × LackRoom fields.old texts.old count.new used.new lines }
-    ensures fault { result ≡ FAULT → HasSectionFault section.now × (code.new ≡ 0x200)
+    ensures fault { result ≡ ERROR → HasSectionFault section.now × (code.new ≡ 0x200)
         × (count.new ≡ count.old) × (used.new ≡ used.old) }
     ensures memory { result ≡ MEMORY → HasCodedLine section.now
         × (count.new ≡ count.old) × (used.new ≡ used.old) }
-    ensures code { result ≢ FAULT → code.new ≡ code.old }
+    ensures code { result ≢ ERROR → code.new ≡ code.old }
 {
     let Ok(mut lines) = FieldLines::new(section) else {
         *code = ErrorCode::Decompression.to_code().into_inner();
-        return FAULT;
+        return ERROR;
     };
     match read_lines(alloc, &mut lines, fields, texts) {
         Ok((lines_found, bytes_found)) => {
@@ -169,7 +169,7 @@ pub extern "C" fn wt_fields_read(
         Err(DecodingError::Memory) => MEMORY,
         Err(_) => {
             *code = ErrorCode::Decompression.to_code().into_inner();
-            FAULT
+            ERROR
         }
     }
 }

@@ -2,7 +2,7 @@
 ghost use Rattle.std.specs.Prelude.{◌≡◌, ◌≢◌, ◌⊎◌, MatchResult};
 ghost use Rattle.wt_c.specs.Fields.{AreLinesOf, HasSectionFault, HasStoredLine};
 
-use crate::answers::{FAULT, MEMORY};
+use crate::answers::{ERROR, MEMORY};
 use std::alloc::Global;
 use wtp_core::error::ErrorCode;
 use wtp_fields::fields::{FieldList, FieldSectionError};
@@ -19,13 +19,13 @@ pub(crate) enum Unread {
 impl Unread {
     /// Returns the status code for C. For an error in the section, sets `code` to its error code.
     pub(crate) fn answer(self, code: &mut u64) -> i32
-        ensures fault { self ≡ Unread.Fault → (result ≡ FAULT) × (code.new ≡ 0x200) }
+        ensures fault { self ≡ Unread.Fault → (result ≡ ERROR) × (code.new ≡ 0x200) }
         ensures memory { self ≡ Unread.Memory → (result ≡ MEMORY) × (code.new ≡ code.old) }
     {
         match self {
             Unread::Fault => {
                 *code = ErrorCode::Decompression.to_code().into_inner();
-                FAULT
+                ERROR
             }
             Unread::Memory => MEMORY,
         }

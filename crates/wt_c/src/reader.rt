@@ -9,7 +9,7 @@ ghost use Rattle.wtransport_proto.specs.declared.stream.cursor.FrameSpan.{FrameS
 ghost use Rattle.wtransport_proto.specs.declared.stream.cursor.CursorStep.{CursorStep};
 ghost use Rattle.wt_c.specs.Reader.{IsReader, Stepped, c_frame, cursor_of, stream_role};
 
-use crate::answers::{FAULT, INVALID, MORE, OK};
+use crate::answers::{ERROR, INVALID, MORE, OK};
 use wtp_core::varint::VarInt;
 use wtransport_proto::error::ErrorCode;
 use wtransport_proto::stream::{CursorStep, FrameCursor, FrameSpan, StreamRole};
@@ -115,13 +115,13 @@ pub extern "C" fn wt_reader_new(kind: u8, reader: &mut WtReader) -> i32
 ///   payload.
 /// - `MORE`: there is no complete frame. The bytes after the first `consumed` must be passed
 ///   again, followed by more; they are at most 4111.
-/// - `FAULT`: the stream has an error. `code` is its error code, `reader` is unchanged, and
+/// - `ERROR`: the stream has an error. `code` is its error code, `reader` is unchanged, and
 ///   `consumed` is 0.
 /// - `INVALID`: `reader` is invalid: its kind is above `SESSION`, `first` is above 1, or
 ///   `skip_remaining` is 2^62 or more. Nothing is changed.
 ///
 /// The frames and the first error do not depend on how the bytes of the stream are split. Only
-/// `OK` changes `frame`, and only `FAULT` changes `code`.
+/// `OK` changes `frame`, and only `ERROR` changes `code`.
 #[unsafe(no_mangle)]
 pub extern "C" fn wt_read_frame(
     reader: &mut WtReader,
@@ -130,13 +130,13 @@ pub extern "C" fn wt_read_frame(
     frame: &mut WtFrame,
     code: &mut u64,
 ) -> i32
-    ensures answers { (result ≡ OK) ⊎ ((result ≡ MORE) ⊎ ((result ≡ FAULT) ⊎ (result ≡ INVALID))) }
+    ensures answers { (result ≡ OK) ⊎ ((result ≡ MORE) ⊎ ((result ≡ ERROR) ⊎ (result ≡ INVALID))) }
     ensures frame { result ≡ OK → (p : FrameSpan) × (frame.new ≡ c_frame p)
         × (consumed.new ≡ p.end)
         × Stepped (CursorStep.Frame p) reader.old bytes.now reader.new }
     ensures more { result ≡ MORE
         → Stepped (CursorStep.More consumed.new) reader.old bytes.now reader.new }
-    ensures fault { result ≡ FAULT → (e : ErrorCode) × (code.new ≡ code_number e)
+    ensures fault { result ≡ ERROR → (e : ErrorCode) × (code.new ≡ code_number e)
         × Stepped (CursorStep.Fault e) reader.old bytes.now reader.new
         × (reader.new ≡ reader.old) × (consumed.new ≡ 0) }
     ensures invalid { result ≡ INVALID → (¬ (IsReader reader.old))
@@ -144,7 +144,7 @@ pub extern "C" fn wt_read_frame(
     ensures within { result ≢ INVALID → consumed.new ≤ length bytes.now }
     ensures reader { IsReader reader.old → IsReader reader.new }
     ensures none { result ≢ OK → frame.new ≡ frame.old }
-    ensures code { result ≢ FAULT → code.new ≡ code.old }
+    ensures code { result ≢ ERROR → code.new ≡ code.old }
 {
     let Some(mut cursor) = cursor_of(reader) else {
         return INVALID;
@@ -166,7 +166,7 @@ pub extern "C" fn wt_read_frame(
         CursorStep::Fault(fault) => {
             *consumed = 0;
             *code = fault.to_code().into_inner();
-            FAULT
+            ERROR
         }
     }
 }
@@ -188,18 +188,18 @@ fn frame_at(place: &FrameSpan) -> WtFrame
 
 /// Checks that the stream may end here. `rest` is the bytes that were not consumed, after `MORE`.
 ///
-/// Returns `OK` if the stream may end here. Returns `FAULT` with the code `H3_FRAME_ERROR`
+/// Returns `OK` if the stream may end here. Returns `ERROR` with the code `H3_FRAME_ERROR`
 /// (0x106) if the stream ends inside a frame (RFC 9114, section 7.1). Returns `INVALID` if
-/// `reader` is invalid, as for `wt_read_frame`. Only `FAULT` changes `code`.
+/// `reader` is invalid, as for `wt_read_frame`. Only `ERROR` changes `code`.
 #[unsafe(no_mangle)]
 pub extern "C" fn wt_read_end(reader: &WtReader, rest: &[u8], code: &mut u64) -> i32
-    ensures answers { (result ≡ OK) ⊎ ((result ≡ FAULT) ⊎ (result ≡ INVALID)) }
+    ensures answers { (result ≡ OK) ⊎ ((result ≡ ERROR) ⊎ (result ≡ INVALID)) }
     ensures clean { result ≡ OK → IsReader reader.now × (reader.now.skip_remaining ≡ 0)
         × (length rest.now ≡ 0) }
-    ensures fault { result ≡ FAULT → IsReader reader.now × (code.new ≡ 0x106)
+    ensures fault { result ≡ ERROR → IsReader reader.now × (code.new ≡ 0x106)
         × ¬ ((reader.now.skip_remaining ≡ 0) × (length rest.now ≡ 0)) }
     ensures invalid { result ≡ INVALID → ¬ (IsReader reader.now) }
-    ensures code { result ≢ FAULT → code.new ≡ code.old }
+    ensures code { result ≢ ERROR → code.new ≡ code.old }
 {
     let Some(cursor) = cursor_of(reader) else {
         return INVALID;
@@ -208,7 +208,7 @@ pub extern "C" fn wt_read_end(reader: &WtReader, rest: &[u8], code: &mut u64) ->
         Ok(()) => OK,
         Err(fault) => {
             *code = fault.to_code().into_inner();
-            FAULT
+            ERROR
         }
     }
 }

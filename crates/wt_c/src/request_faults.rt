@@ -9,7 +9,7 @@ ghost use Rattle.wt_c.specs.Output.{WritesPrefix, TooShort};
 ghost use Rattle.wt_c.specs.RequestFaults.{IsFaultNumber, IsRequestFault, first_number};
 ghost use Rattle.wt_c.specs.RequestFaults.{fault_number, fault_name};
 
-use crate::answers::{BUFFER_TOO_SMALL, FAULT, INVALID, MEMORY, OK};
+use crate::answers::{BUFFER_TOO_SMALL, ERROR, INVALID, MEMORY, OK};
 use crate::lists::read_fields;
 use crate::output::write_bytes;
 use std::alloc::Global;
@@ -78,7 +78,7 @@ fn first_fault(fields: &FieldList) -> i32
 /// order of the numbers.
 ///
 /// Returns `OK` with the number of the fault, or `REQUEST_OK` if the section is that of a request.
-/// Returns `FAULT` with the code `QPACK_DECOMPRESSION_FAILED` (0x200) for a section with a fault,
+/// Returns `ERROR` with the code `QPACK_DECOMPRESSION_FAILED` (0x200) for a section with a fault,
 /// and `MEMORY` if allocation failed. Then `fault` does not change.
 #[unsafe(no_mangle)]
 pub extern "C" fn wt_request_check(
@@ -87,13 +87,13 @@ pub extern "C" fn wt_request_check(
     fault: &mut i32,
     code: &mut u64,
 ) -> i32
-    ensures answers { (result ≡ OK) ⊎ ((result ≡ FAULT) ⊎ (result ≡ MEMORY)) }
+    ensures answers { (result ≡ OK) ⊎ ((result ≡ ERROR) ⊎ (result ≡ MEMORY)) }
     ensures fields { result ≡ OK → (m : List Field) × AreLinesOf section.now m
         × (fault.new ≡ first_number (request_fault m)) }
-    ensures section { result ≡ FAULT → HasSectionFault section.now × (code.new ≡ 0x200) }
+    ensures section { result ≡ ERROR → HasSectionFault section.now × (code.new ≡ 0x200) }
     ensures memory { result ≡ MEMORY → HasStoredLine section.now }
     ensures none { result ≢ OK → fault.new ≡ fault.old }
-    ensures code { result ≢ FAULT → code.new ≡ code.old }
+    ensures code { result ≢ ERROR → code.new ≡ code.old }
 {
     match read_fields(alloc, section) {
         Ok(fields) => {

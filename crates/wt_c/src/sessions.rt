@@ -13,7 +13,7 @@ ghost use Rattle.wt_c.specs.Sessions.{IsNoUrl, IsMessageField, AreMessageFields,
 ghost use Rattle.wt_c.specs.Sessions.{IsRequestOf, HasRequestFault, HasResponseFault};
 ghost use Rattle.wt_c.specs.Texts.{lines_in};
 
-use crate::answers::{BUFFER_TOO_SMALL, FAULT, INVALID, MEMORY, OK};
+use crate::answers::{BUFFER_TOO_SMALL, ERROR, INVALID, MEMORY, OK};
 use crate::fields::WtField;
 use crate::frames::write_frame;
 use crate::lists::read_fields;
@@ -200,7 +200,7 @@ pub extern "C" fn wt_response_write(
 ///
 /// Returns `OK` with the size of both in `used`, and that of the authority in `authority`. Returns
 /// `BUFFER_TOO_SMALL` if `out` is shorter than both, whose sizes are reported all the same; `out`
-/// does not change. Returns `FAULT` with the code `QPACK_DECOMPRESSION_FAILED` (0x200) for a
+/// does not change. Returns `ERROR` with the code `QPACK_DECOMPRESSION_FAILED` (0x200) for a
 /// section with a fault, or `H3_MESSAGE_ERROR` (0x10e) for one that is not a request. Returns
 /// `MEMORY` if allocation failed. Then nothing else changes.
 #[unsafe(no_mangle)]
@@ -213,18 +213,18 @@ pub extern "C" fn wt_request_read(
     code: &mut u64,
 ) -> i32
     ensures answers { (result ≡ OK)
-        ⊎ ((result ≡ BUFFER_TOO_SMALL) ⊎ ((result ≡ FAULT) ⊎ (result ≡ MEMORY))) }
+        ⊎ ((result ≡ BUFFER_TOO_SMALL) ⊎ ((result ≡ ERROR) ⊎ (result ≡ MEMORY))) }
     ensures request { result ≡ OK → (m : List Field) × (host : List ℕ) × (path : List ℕ)
         × IsRequestOf section.now m host path × (authority.new ≡ length host)
         × WritesPrefix (host ++ path) out.old out.new used.new }
     ensures room { result ≡ BUFFER_TOO_SMALL → (m : List Field) × (host : List ℕ) × (path : List ℕ)
         × IsRequestOf section.now m host path × (authority.new ≡ length host)
         × TooShort (host ++ path) out.old out.new used.new }
-    ensures fault { result ≡ FAULT → HasRequestFault section.now code.new
+    ensures fault { result ≡ ERROR → HasRequestFault section.now code.new
         × (out.new ≡ out.old) × (authority.new ≡ authority.old) × (used.new ≡ used.old) }
     ensures memory { result ≡ MEMORY → HasStoredLine section.now
         × (out.new ≡ out.old) × (authority.new ≡ authority.old) × (used.new ≡ used.old) }
-    ensures code { result ≢ FAULT → code.new ≡ code.old }
+    ensures code { result ≢ ERROR → code.new ≡ code.old }
 {
     let fields = match read_fields(alloc, section) {
         Ok(fields) => fields,
@@ -237,7 +237,7 @@ pub extern "C" fn wt_request_read(
         }
         Err(_) => {
             *code = ErrorCode::Message.to_code().into_inner();
-            FAULT
+            ERROR
         }
     }
 }
@@ -245,7 +245,7 @@ pub extern "C" fn wt_request_read(
 /// Reads the response in a field section, the payload of a HEADERS frame (RFC 9114, section 4.3.2).
 /// No field need be UTF-8.
 ///
-/// Returns `OK` with its status. Returns `FAULT` with the code `QPACK_DECOMPRESSION_FAILED` (0x200)
+/// Returns `OK` with its status. Returns `ERROR` with the code `QPACK_DECOMPRESSION_FAILED` (0x200)
 /// for a section with a fault, or `H3_MESSAGE_ERROR` (0x10e) for one without a status of three
 /// digits from 100 to 599. Returns `MEMORY` if allocation failed. Then `status` does not change.
 #[unsafe(no_mangle)]
@@ -255,13 +255,13 @@ pub extern "C" fn wt_response_read(
     status: &mut u16,
     code: &mut u64,
 ) -> i32
-    ensures answers { (result ≡ OK) ⊎ ((result ≡ FAULT) ⊎ (result ≡ MEMORY)) }
+    ensures answers { (result ≡ OK) ⊎ ((result ≡ ERROR) ⊎ (result ≡ MEMORY)) }
     ensures status { result ≡ OK → (m : List Field) × AreLinesOf section.now m
         × (status_of m ≡ Ok status.new) }
-    ensures fault { result ≡ FAULT → HasResponseFault section.now code.new }
+    ensures fault { result ≡ ERROR → HasResponseFault section.now code.new }
     ensures memory { result ≡ MEMORY → HasStoredLine section.now }
     ensures none { result ≢ OK → status.new ≡ status.old }
-    ensures code { result ≢ FAULT → code.new ≡ code.old }
+    ensures code { result ≢ ERROR → code.new ≡ code.old }
 {
     let fields = match read_fields(alloc, section) {
         Ok(fields) => fields,
@@ -274,7 +274,7 @@ pub extern "C" fn wt_response_read(
         }
         Err(_) => {
             *code = ErrorCode::Message.to_code().into_inner();
-            FAULT
+            ERROR
         }
     }
 }

@@ -15,7 +15,7 @@ ghost use Rattle.wt_c.specs.declared.settings.WtSetting.{WtSetting};
 ghost use Rattle.wt_c.specs.Settings.{HoldSettings, LackSettings, ArePairsOf, AreNumbers, pairs_of};
 ghost use Rattle.wt_c.specs.Settings.{IsFaultlessBefore, AreWritable};
 
-use crate::answers::{BUFFER_TOO_SMALL, FAULT, INVALID, MEMORY, OK};
+use crate::answers::{BUFFER_TOO_SMALL, ERROR, INVALID, MEMORY, OK};
 use crate::output::write_bytes;
 use std::alloc::{AllocError, Global};
 use std::borrow::CowSlice;
@@ -88,7 +88,7 @@ fn read_settings(alloc: Global, payload: &[u8]) -> Result<Settings, Refused>
 ///
 /// Returns `OK` with the settings: the first `count` of `settings`, after which the array does not
 /// change. Returns `BUFFER_TOO_SMALL` if the array is too short; `count` is then the room that they
-/// need, and the array does not change. Returns `FAULT` with the code of the first fault:
+/// need, and the array does not change. Returns `ERROR` with the code of the first fault:
 /// `H3_FRAME_ERROR` (0x106) for a payload that is cut, `H3_SETTINGS_ERROR` (0x109) for an
 /// identifier of HTTP/2 or a repeated one, which is no fault of an unknown identifier. Returns
 /// `MEMORY` if allocation failed, which happens only at a setting. Returns `INVALID` for a payload
@@ -101,20 +101,20 @@ pub extern "C" fn wt_settings_read(
     count: &mut usize,
     code: &mut u64,
 ) -> i32
-    ensures answers { (result ≡ OK) ⊎ ((result ≡ BUFFER_TOO_SMALL) ⊎ ((result ≡ FAULT)
+    ensures answers { (result ≡ OK) ⊎ ((result ≡ BUFFER_TOO_SMALL) ⊎ ((result ≡ ERROR)
         ⊎ ((result ≡ MEMORY) ⊎ (result ≡ INVALID)))) }
     ensures settings { result ≡ OK → (ps : List SettingPair) × ArePairsOf payload.now ps
         × HoldSettings settings.old settings.new count.new (numbers_of ps) }
     ensures room { result ≡ BUFFER_TOO_SMALL → (ps : List SettingPair) × ArePairsOf payload.now ps
         × LackSettings settings.old count.new (numbers_of ps) × (settings.new ≡ settings.old) }
-    ensures fault { result ≡ FAULT → (e : ErrorCode) × (settings_in payload.now ≡ Err e)
+    ensures fault { result ≡ ERROR → (e : ErrorCode) × (settings_in payload.now ≡ Err e)
         × (code.new ≡ code_number e)
         × (settings.new ≡ settings.old) × (count.new ≡ count.old) }
     ensures memory { result ≡ MEMORY → StartsWithSettings payload.now
         × (settings.new ≡ settings.old) × (count.new ≡ count.old) }
     ensures invalid { result ≡ INVALID → (2 ^ 62 ≤ length payload.now)
         × (settings.new ≡ settings.old) × (count.new ≡ count.old) }
-    ensures code { result ≢ FAULT → code.new ≡ code.old }
+    ensures code { result ≢ ERROR → code.new ≡ code.old }
 {
     if payload.len() as u64 > VarInt::MAX.into_inner() {
         return INVALID;
@@ -123,7 +123,7 @@ pub extern "C" fn wt_settings_read(
         Ok(_) => put_settings(payload, settings, count),
         Err(Refused::Code(fault)) => {
             *code = fault.to_code().into_inner();
-            FAULT
+            ERROR
         }
         Err(Refused::Memory) => MEMORY,
     }

@@ -6,7 +6,7 @@ ghost use Rattle.wtp_wire.specs.HeaderWire.{header_wire};
 ghost use Rattle.wt_c.specs.Output.{WritesPrefix, TooShort};
 ghost use Rattle.wt_c.specs.StreamHeaders.{StartsWithHeader, HasHeaderFault, IsHeaderIn};
 
-use crate::answers::{BUFFER_TOO_SMALL, FAULT, INVALID, MORE, OK};
+use crate::answers::{BUFFER_TOO_SMALL, ERROR, INVALID, MORE, OK};
 use crate::numbers::session_of;
 use crate::output::{size_before, write_number, write_pair};
 use wtp_core::error::ErrorCode;
@@ -26,9 +26,9 @@ pub struct WtStreamHeader {
 /// Reads the header at the start of a unidirectional stream.
 ///
 /// Returns `OK` with the header in `header` and its length in `consumed`. Returns `MORE` if there
-/// are too few bytes. Returns `FAULT` with the error code for an unknown type, after which the
+/// are too few bytes. Returns `ERROR` with the error code for an unknown type, after which the
 /// stream is no longer read (RFC 9114, section 6.2), or for an invalid session ID. Unless the
-/// result is `OK`, `consumed` is 0 and `header` is unchanged. Only `FAULT` changes `code`.
+/// result is `OK`, `consumed` is 0 and `header` is unchanged. Only `ERROR` changes `code`.
 #[unsafe(no_mangle)]
 pub extern "C" fn wt_stream_header_read(
     bytes: &[u8],
@@ -36,12 +36,12 @@ pub extern "C" fn wt_stream_header_read(
     header: &mut WtStreamHeader,
     code: &mut u64,
 ) -> i32
-    ensures answers { (result ≡ OK) ⊎ ((result ≡ MORE) ⊎ (result ≡ FAULT)) }
+    ensures answers { (result ≡ OK) ⊎ ((result ≡ MORE) ⊎ (result ≡ ERROR)) }
     ensures header { result ≡ OK → StartsWithHeader bytes.now consumed.new header.new }
     ensures more { result ≡ MORE → header_front bytes.now ≡ Short }
-    ensures fault { result ≡ FAULT → HasHeaderFault (header_front bytes.now) code.new }
+    ensures fault { result ≡ ERROR → HasHeaderFault (header_front bytes.now) code.new }
     ensures none { result ≢ OK → (consumed.new ≡ 0) × (header.new ≡ header.old) }
-    ensures code { result ≢ FAULT → code.new ≡ code.old }
+    ensures code { result ≢ ERROR → code.new ≡ code.old }
     ensures within { consumed.new ≤ length bytes.now }
 {
     *consumed = 0;
@@ -61,7 +61,7 @@ pub extern "C" fn wt_stream_header_read(
         Ok(None) => MORE,
         Err(fault) => {
             *code = ErrorCode::from(fault).to_code().into_inner();
-            FAULT
+            ERROR
         }
     }
 }
