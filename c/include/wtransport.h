@@ -25,7 +25,7 @@ extern "C" {
 enum {
   WT_OK = 0,       /* done */
   WT_MORE = 1,     /* more bytes are needed */
-  WT_ERROR = -1,   /* the input has a fault; *code is its error code */
+  WT_ERROR = -1,   /* the input has a fault; *error_code is its error code */
   WT_BUFFER_TOO_SMALL = -2,    /* an output is too short; its size is reported */
   WT_INVALID = -3, /* an argument is out of its range; nothing changed */
   WT_MEMORY = -4   /* memory allocation failed; nothing changed but the arrays of wt_fields_read, and the
@@ -48,7 +48,7 @@ uint32_t wt_version(void);
 /* ---- Error codes ---- */
 
 /* The error codes that are registered for HTTP/3, QPACK, HTTP Datagrams and WebTransport over HTTP/3:
-   what calls report in *code, and what a QUIC library closes a stream or a connection with. Each is
+   what calls report in *error_code, and what a QUIC library closes a stream or a connection with. Each is
    WT_ and the name that wt_code_name writes. */
 #define WT_H3_DATAGRAM_ERROR                     UINT64_C(0x33) /* RFC 9297, section 5.2 */
 #define WT_H3_NO_ERROR                           UINT64_C(0x0100) /* RFC 9114, section 8.1 */
@@ -110,10 +110,10 @@ typedef struct wt_stream_header {
    reserved one is to be ignored.
    WT_OK: *header is the header, and *consumed its size.
    WT_MORE: there are too few bytes; *consumed is 0.
-   WT_ERROR: *code is WT_H3_STREAM_CREATION_ERROR for an unknown type, after which the stream alone is no
+   WT_ERROR: *error_code is WT_H3_STREAM_CREATION_ERROR for an unknown type, after which the stream alone is no
    longer read, or WT_H3_ID_ERROR for an invalid session ID; *consumed is 0. */
 int wt_stream_header_read(const uint8_t *bytes, size_t length, size_t *consumed,
-                          wt_stream_header *header, uint64_t *code);
+                          wt_stream_header *header, uint64_t *error_code);
 
 /* Writes a header.
    WT_OK, WT_BUFFER_TOO_SMALL: as above. WT_INVALID: the type is unknown, the session of a WebTransport stream is
@@ -124,9 +124,9 @@ int wt_stream_header_write(const wt_stream_header *header, uint8_t *out, size_t 
 
 /* Reads a QUIC datagram.
    WT_OK: *session is its session, and the payload is all bytes from *offset on.
-   WT_ERROR: *code is WT_H3_DATAGRAM_ERROR. */
+   WT_ERROR: *error_code is WT_H3_DATAGRAM_ERROR. */
 int wt_datagram_read(const uint8_t *bytes, size_t length, uint64_t *session, size_t *offset,
-                     uint64_t *code);
+                     uint64_t *error_code);
 
 /* Writes a datagram.
    WT_OK, WT_BUFFER_TOO_SMALL: as above. WT_INVALID: the number is not that of a session. */
@@ -182,7 +182,7 @@ int wt_reader_new(uint8_t kind, wt_reader *reader);
    WT_OK: *frame is the next frame. The next call begins after the first *consumed bytes.
    WT_MORE: there is no complete frame. The bytes after the first *consumed, at most WT_MAX_FRAME_REST, are
    to be given again, with more bytes after them.
-   WT_ERROR: *code is WT_H3_FRAME_UNEXPECTED for a frame that the stream does not allow, WT_H3_FRAME_ERROR
+   WT_ERROR: *error_code is WT_H3_FRAME_UNEXPECTED for a frame that the stream does not allow, WT_H3_FRAME_ERROR
    for a WebTransport frame that is not the first of a stream that the peer opened, WT_H3_ID_ERROR for an
    invalid session ID, or WT_H3_EXCESSIVE_LOAD for a payload above WT_MAX_FRAME_PAYLOAD bytes; *consumed is
    0, and *reader is unchanged.
@@ -190,13 +190,13 @@ int wt_reader_new(uint8_t kind, wt_reader *reader);
    and its first fault are the same. After a WebTransport frame all bytes are the application's: do not
    call this for them. */
 int wt_read_frame(wt_reader *reader, const uint8_t *bytes, size_t length, size_t *consumed,
-                  wt_frame *frame, uint64_t *code);
+                  wt_frame *frame, uint64_t *error_code);
 
 /* Call this when the stream ends, with the bytes that have not been consumed: those after the first
    *consumed of the last WT_MORE, or none.
-   WT_OK: the stream may end here. WT_ERROR: a frame has begun; *code is WT_H3_FRAME_ERROR. WT_INVALID:
+   WT_OK: the stream may end here. WT_ERROR: a frame has begun; *error_code is WT_H3_FRAME_ERROR. WT_INVALID:
    *reader is not valid. */
-int wt_read_end(const wt_reader *reader, const uint8_t *rest, size_t length, uint64_t *code);
+int wt_read_end(const wt_reader *reader, const uint8_t *rest, size_t length, uint64_t *error_code);
 
 /* ---- Frames that are written (RFC 9114, section 7) ---- */
 
@@ -244,12 +244,12 @@ typedef struct wt_setting {
    It allocates.
    WT_OK: the settings are the first *count. What is after these in `settings` does not change.
    WT_BUFFER_TOO_SMALL: `settings` is too short and did not change; *count is the room that is needed.
-   WT_ERROR: *code is WT_H3_FRAME_ERROR if the payload is cut, or WT_H3_SETTINGS_ERROR for an identifier
+   WT_ERROR: *error_code is WT_H3_FRAME_ERROR if the payload is cut, or WT_H3_SETTINGS_ERROR for an identifier
    that HTTP/2 used, or that is repeated and has a name or is reserved for exercise: an unknown one may be
    repeated.
    WT_MEMORY. WT_INVALID: the payload has 2^62 bytes. */
 int wt_settings_read(const uint8_t *payload, size_t length, wt_setting *settings, size_t room,
-                     size_t *count, uint64_t *code);
+                     size_t *count, uint64_t *error_code);
 
 /* Writes the payload of a SETTINGS frame: the settings in their order. It allocates, but for none.
    WT_OK, WT_BUFFER_TOO_SMALL: as above. WT_INVALID: a number is 2^62 or more, an identifier is one that HTTP/2
@@ -276,10 +276,10 @@ typedef struct wt_field {
    WT_OK: the lines are the first *count, and their texts the first *used bytes of `texts`. What is after
    these does not change.
    WT_BUFFER_TOO_SMALL: an array is too short; *count and *used are the room that is needed.
-   WT_ERROR: *code is WT_QPACK_DECOMPRESSION_FAILED. WT_MEMORY.
+   WT_ERROR: *error_code is WT_QPACK_DECOMPRESSION_FAILED. WT_MEMORY.
    If it does not return WT_OK, the contents of both arrays are unspecified. */
 int wt_fields_read(const uint8_t *section, size_t length, wt_field *fields, size_t fields_room,
-                   uint8_t *texts, size_t texts_room, size_t *count, size_t *used, uint64_t *code);
+                   uint8_t *texts, size_t texts_room, size_t *count, size_t *used, uint64_t *error_code);
 
 /* Writes a field section: the fields in their order, each text in the Huffman code if that is shorter.
    Names and values are written as they are, pseudo-header fields too: that they are allowed in a message
@@ -309,10 +309,10 @@ int wt_request_write(const uint8_t *url, size_t url_length, const wt_field *fiel
    values are bytes, and need not be UTF-8. Of a repeated name, that of a pseudo-header field too, the
    last value counts. It allocates.
    WT_OK, WT_BUFFER_TOO_SMALL: as above, and *authority is the size of the authority.
-   WT_ERROR: *code is WT_QPACK_DECOMPRESSION_FAILED for a section with a fault, or WT_H3_MESSAGE_ERROR for
+   WT_ERROR: *error_code is WT_QPACK_DECOMPRESSION_FAILED for a section with a fault, or WT_H3_MESSAGE_ERROR for
    one that is not a request. WT_MEMORY. */
 int wt_request_read(const uint8_t *section, size_t length, uint8_t *out, size_t room,
-                    size_t *authority, size_t *used, uint64_t *code);
+                    size_t *authority, size_t *used, uint64_t *error_code);
 
 /* Why a field section is not the request for a session. The checks run in this order (RFC 9114, section
    4.3.1; RFC 9220, section 3). */
@@ -331,9 +331,9 @@ enum {
 /* Finds the first fault of a request, so that the WT_H3_MESSAGE_ERROR of wt_request_read can be
    explained. It allocates.
    WT_OK: *fault is one of WT_REQUEST_...
-   WT_ERROR: *code is WT_QPACK_DECOMPRESSION_FAILED for a section with a fault. WT_MEMORY. Then *fault
+   WT_ERROR: *error_code is WT_QPACK_DECOMPRESSION_FAILED for a section with a fault. WT_MEMORY. Then *fault
    does not change. */
-int wt_request_check(const uint8_t *section, size_t length, int *fault, uint64_t *code);
+int wt_request_check(const uint8_t *section, size_t length, int *fault, uint64_t *error_code);
 
 /* Writes the name of a fault in ASCII, without a final zero, as MissingMethod for
    WT_REQUEST_MISSING_METHOD.
@@ -350,9 +350,9 @@ int wt_response_write(uint32_t status, const wt_field *fields, size_t count, con
 /* Reads the response in a field section, the payload of a HEADERS frame. Names and values need not be
    UTF-8. It allocates.
    WT_OK: *status is its status.
-   WT_ERROR: *code is WT_QPACK_DECOMPRESSION_FAILED for a section with a fault, or WT_H3_MESSAGE_ERROR for
+   WT_ERROR: *error_code is WT_QPACK_DECOMPRESSION_FAILED for a section with a fault, or WT_H3_MESSAGE_ERROR for
    one without a :status of three digits from 100 to 599. WT_MEMORY. */
-int wt_response_read(const uint8_t *section, size_t length, uint16_t *status, uint64_t *code);
+int wt_response_read(const uint8_t *section, size_t length, uint16_t *status, uint64_t *error_code);
 
 /* ---- Capsules (RFC 9297, section 3.2) ---- */
 
@@ -381,31 +381,31 @@ typedef struct wt_capsule {
    WT_OK: *capsule is the next capsule. The next call begins after the first *consumed bytes.
    WT_MORE: there is no complete capsule. The bytes after the first *consumed, at most WT_MAX_CAPSULE_REST,
    are to be given again, with those of the next payload after them.
-   WT_ERROR: *code is WT_H3_DATAGRAM_ERROR for a value above WT_MAX_CAPSULE_VALUE bytes; *consumed is 0, and
+   WT_ERROR: *error_code is WT_H3_DATAGRAM_ERROR for a value above WT_MAX_CAPSULE_VALUE bytes; *consumed is 0, and
    *reader is unchanged. However the bytes are cut into payloads and pieces, the capsules and the fault are the
    same. */
 int wt_capsule_read(wt_capsule_reader *reader, const uint8_t *bytes, size_t length, size_t *consumed,
-                    wt_capsule *capsule, uint64_t *code);
+                    wt_capsule *capsule, uint64_t *error_code);
 
 /* Call this when the stream ends, with the bytes that have not been consumed after WT_MORE.
-   WT_OK: the stream may end here. WT_ERROR: a capsule has begun; *code is WT_H3_MESSAGE_ERROR (RFC 9297,
+   WT_OK: the stream may end here. WT_ERROR: a capsule has begun; *error_code is WT_H3_MESSAGE_ERROR (RFC 9297,
    section 3.3). */
 int wt_capsule_end(const wt_capsule_reader *reader, const uint8_t *rest, size_t length,
-                   uint64_t *code);
+                   uint64_t *error_code);
 
 /* ---- The end of a session (WebTransport over HTTP/3, "Session Termination") ---- */
 
 /* Reads the value of a capsule of type WT_CAPSULE_CLOSE_SESSION.
-   WT_OK: *reset is the application's code, and the reason is all bytes from the fifth on.
-   WT_ERROR: *code is WT_H3_DATAGRAM_ERROR for a value of fewer than 4 or more than WT_MAX_CAPSULE_VALUE
+   WT_OK: *app_error_code is the application's code, and the reason is all bytes from the fifth on.
+   WT_ERROR: *error_code is WT_H3_DATAGRAM_ERROR for a value of fewer than 4 or more than WT_MAX_CAPSULE_VALUE
    bytes, or a reason that is not UTF-8. */
-int wt_close_read(const uint8_t *value, size_t length, uint32_t *reset, uint64_t *code);
+int wt_close_read(const uint8_t *value, size_t length, uint32_t *app_error_code, uint64_t *error_code);
 
 /* Writes the capsule that closes a session: type, length and value. It is the last of the payloads of
    DATA frames on the session's stream. It allocates.
    WT_OK, WT_BUFFER_TOO_SMALL: as above. WT_INVALID: the reason is not UTF-8 or has more than WT_MAX_CLOSE_REASON
    bytes. WT_MEMORY. */
-int wt_close_write(uint32_t reset, const uint8_t *reason, size_t length, uint8_t *out, size_t room,
+int wt_close_write(uint32_t app_error_code, const uint8_t *reason, size_t length, uint8_t *out, size_t room,
                    size_t *used);
 
 /* ---- Names and scopes of error codes (RFC 9114, section 8) ---- */
