@@ -1,0 +1,12 @@
+//! Streams of a connection: what they are for, what ends them, and streams that wait. Tests over the
+//! public crates; there is no product code here.
+#![tactic(auto)]
+
+#[cfg(test)]
+mod reading;
+#[cfg(test)]
+mod same;
+#[cfg(test)]
+mod sessions;
+#[cfg(test)]
+mod streams;

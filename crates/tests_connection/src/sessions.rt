@@ -1,0 +1,90 @@
+//! Streams of sessions, which may come before their session (WebTransport over HTTP/3, "Buffering
+//! Incoming Streams and Datagrams").
+use crate::reading::{connection_of, read};
+use crate::same::same;
+use std::process::Abort;
+use wtp_connection::connection::{Connection, Known};
+use wtp_connection::stream::Stream;
+use wtp_frames::fault::Fault;
+
+/// Returns a stream of session 0 with three bytes, which are left over.
+fn early(connection: &mut Connection, id: u64) -> (Stream, usize) {
+    let mut stream = Stream::of_peer(id);
+    let found = read(
+        connection,
+        &mut stream,
+        &[0x40, 0x54, 0x00, 1, 2, 3],
+        64,
+        true,
+    );
+    (stream, found.left)
+}
+
+fn code_of(fault: Option<Fault>) -> u64 {
+    match fault {
+        None => 0,
+        Some(fault) => fault.code().number().into_inner(),
+    }
+}
+
+#[test]
+fn a_stream_waits_for_its_session(rt: HostRuntime) {
+    let mut connection = connection_of(true, true);
+    let (mut stream, left) = early(&mut connection, 6);
+    let waits = code_of(connection.join(&mut stream, Known::Coming));
+    let again = read(&mut connection, &mut stream, &[1, 2, 3], 64, true);
+    same(
+        &rt,
+        (left, waits, again.left, again.ends),
+        (3, 0, 3, 0),
+        "its bytes and its end wait",
+    );
+    let open = code_of(connection.join(&mut stream, Known::Open));
+    let given = read(&mut connection, &mut stream, &[1, 2, 3], 64, true);
+    same(
+        &rt,
+        (open, given.data, given.ends),
+        (0, 3, 1),
+        "they come once it is open",
+    );
+    same(&rt, connection.waiting(), 0, "it waits no longer");
+}
+
+/// Asserts the error of a stream whose session is known in this way, before or after it waited.
+fn check_known<R: Abort>(rt: &R, known: Known, code: u64, waits: bool) {
+    let mut connection = connection_of(true, true);
+    let (mut stream, _left) = early(&mut connection, 6);
+    if waits {
+        connection.join(&mut stream, Known::Coming);
+    }
+    let came = code_of(connection.join(&mut stream, known));
+    same(rt, (came, connection.waiting()), (code, 0), code);
+    let later = read(&mut connection, &mut stream, &[1, 2, 3], 64, true);
+    same(rt, (later.data, later.ends, later.left), (0, 0, 0), code);
+}
+
+#[test]
+fn streams_without_a_session_are_refused(rt: HostRuntime) {
+    check_known(&rt, Known::Over, 0x170d7b68, false);
+    check_known(&rt, Known::Over, 0x170d7b68, true);
+    check_known(&rt, Known::Refused, 0x3994bd84, false);
+    check_known(&rt, Known::Refused, 0x3994bd84, true);
+    check_known(&rt, Known::Impossible, 0x108, false);
+}
+
+#[test]
+fn sixteen_streams_wait(rt: HostRuntime) {
+    let mut connection = connection_of(true, true);
+    for _turn in 0..16u32 {
+        let (mut stream, _left) = early(&mut connection, 6);
+        connection.join(&mut stream, Known::Coming);
+    }
+    let (mut stream, _left) = early(&mut connection, 6);
+    let came = code_of(connection.join(&mut stream, Known::Coming));
+    same(
+        &rt,
+        (came, connection.waiting()),
+        (0x3994bd84, 16),
+        "the seventeenth is rejected",
+    );
+}

@@ -1,0 +1,11 @@
+use Rattle.wtp_connection.proofs.StreamLemmas.{open_found, open_fault, open_more}
+use Rattle.wtp_connection.proofs.connection.Connection.open.Goals as goal
+
+pub returns-in-None : goal.returns-in-None
+returns-in-None c = open_more c.args.self.now c.args.stream.now c.args.bytes.now c.requires.intact c.requires.first (rw c.in-None.is at c.requires.opening)
+
+pub returns-in-Ok : goal.returns-in-Ok
+returns-in-Ok c = open_found c.args.self.now c.args.stream.now c.args.bytes.now c.in-Some.purpose c.in-Some.n _ c.in-Ok.next c.requires.intact c.requires.first (rw c.in-Some.is at c.requires.opening) (rw c.in-Some.is at c.requires.within) (rw c.in-Ok.is at c.opened.ensures.opened)
+
+pub returns-in-Err : goal.returns-in-Err
+returns-in-Err c = rw (c.close.ensures, c.in-Err.ensures.refused) (open_fault c.args.self.now c.args.stream.now c.args.bytes.now c.in-Some.purpose c.in-Some.n c.in-Err.fault c.requires.intact c.requires.first (rw c.in-Some.is at c.requires.opening) c.in-Err.ensures.opened)

@@ -1,0 +1,64 @@
+-- What a stream of the peer is for, by its first bytes (RFC 9114, sections 6.1 and 6.2;
+-- draft-ietf-webtrans-http3-02, sections 4.1 and 4.2).
+use Rattle.std.specs.Prelude.{ℕ, ◌%◌, nat_le, ◌==◌, ◌&&◌, if◌then◌else◌, List, Option, Some, None}
+use Rattle.wtp_core.specs.Varint.{number_at}
+use Rattle.wtp_frames.specs.declared.endpoint.Endpoint.{Endpoint}
+use Rattle.wtp_frames.specs.declared.endpoint.Side.{Side}
+use Rattle.wtp_frames.specs.declared.endpoint.Side.TheVariants.{Client, Server}
+use Rattle.wtp_connection.specs.declared.stream.Purpose.{Purpose}
+use Rattle.wtp_connection.specs.declared.stream.Purpose.TheVariants as «for»
+use Rattle.wtp_connection.specs.declared.stream.Stream.{Stream}
+use Rattle.wtp_connection.specs.declared.stream.Stream.TheVariants.{Uni, Bi, Waiting}
+
+-- the second bit of an ID says that the stream is unidirectional (RFC 9000, section 2.1)
+abbrev pub stream_of : ℕ → Stream
+stream_of id = if nat_le 2 (id % 4) then Uni else Bi
+
+-- the session that a stream waits for
+abbrev pub waits_for : Stream → Option ℕ
+waits_for (Waiting s) = Some s
+waits_for other = None
+
+-- the session of an ID, and the bytes after it
+abbrev pub with_session : Option (ℕ × List ℕ) → Option (Purpose × List ℕ)
+with_session None = None
+with_session (Some s) =
+    if s.0 % 4 == 0
+    then Some («for».Session s.0, s.1)
+    else Some («for».InvalidSession, s.1)
+
+abbrev pub type_purpose : ℕ → Purpose
+type_purpose n =
+    if n == 0x00 then «for».Control
+    else (if n == 0x01 then «for».Push
+    else (if n == 0x02 then «for».Encoder
+    else (if n == 0x03 then «for».Decoder
+    else «for».Ignored)))
+
+-- 0x54 has its meaning if the own settings enable WebTransport
+abbrev pub uni_by : Endpoint → Option (ℕ × List ℕ) → Option (Purpose × List ℕ)
+uni_by e None = None
+uni_by e (Some x) =
+    if x.0 == 0x54 && e.webtransport
+    then with_session (number_at x.1)
+    else Some (type_purpose x.0, x.1)
+
+-- what a unidirectional stream is for, and the bytes after what says so
+unfoldable pub uni_at : Endpoint → List ℕ → Option (Purpose × List ℕ)
+uni_at e bytes = uni_by e (number_at bytes)
+
+-- a client's bidirectional stream has a request; a server opens none (RFC 9114, section 6.1)
+abbrev pub frames_purpose : Side → Purpose
+frames_purpose Client = «for».Foreign
+frames_purpose Server = «for».Message
+
+abbrev pub bi_by : Endpoint → List ℕ → Option (ℕ × List ℕ) → Option (Purpose × List ℕ)
+bi_by e bytes None = None
+bi_by e bytes (Some x) =
+    if x.0 == 0x41 && e.webtransport
+    then with_session (number_at x.1)
+    else Some (frames_purpose e.side, bytes)
+
+-- the same of a bidirectional stream; a request begins with its first byte
+unfoldable pub bi_at : Endpoint → List ℕ → Option (Purpose × List ℕ)
+bi_at e bytes = bi_by e bytes (number_at bytes)

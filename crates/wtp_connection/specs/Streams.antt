@@ -1,0 +1,209 @@
+-- The run of a stream's bytes under the state of the connection, and its end (RFC 9114, sections 6,
+-- 7.1 and 8).
+use Rattle.std.specs.Prelude.{ℕ, ◌+◌, ◌-◌, nat_lt, if◌then◌else◌, Bool, true, false, List, [], ◌∷◌, ◌++◌, map, length, Option, Some, None, Result, Ok, Err}
+use Rattle.wtp_core.specs.declared.error.scope.ErrorScope.{ErrorScope}
+use Rattle.wtp_core.specs.declared.error.scope.ErrorScope.TheVariants as scope
+use Rattle.wtp_frames.specs.declared.endpoint.Side.{Side}
+use Rattle.wtp_frames.specs.declared.endpoint.Side.TheVariants.{Client, Server}
+use Rattle.wtp_frames.specs.declared.fault.Fault.{Fault}
+use Rattle.wtp_frames.specs.declared.fault.Fault.TheVariants as fault
+use Rattle.wtp_frames.specs.Fault.{scope_of}
+use Rattle.wtp_frames.specs.Item.{Item, Byte, Broken}
+use Rattle.wtp_frames.specs.Run.{Run, run}
+use Rattle.wtp_frames.specs.Reading.{by_missing, by_end}
+use Rattle.wtp_frames.specs.Start.{message_reader, control_reader}
+use Rattle.wtp_connection.specs.declared.stream.Purpose.{Purpose}
+use Rattle.wtp_connection.specs.declared.stream.Purpose.TheVariants as «for»
+use Rattle.wtp_connection.specs.declared.stream.Stream.{Stream}
+use Rattle.wtp_connection.specs.declared.stream.Stream.TheVariants.{Uni, Bi, Frames, Joining, Waiting, Session, Instructions, Ignored, Over}
+use Rattle.wtp_connection.specs.declared.connection.Connection.{Connection}
+use Rattle.wtp_connection.specs.declared.connection.Known.{Known}
+use Rattle.wtp_connection.specs.declared.connection.Known.TheVariants as known
+use Rattle.wtp_connection.specs.Opening.{uni_at, bi_at}
+
+-- ---- what the connection makes of a stream
+
+-- a stream that may be opened once, where this tells whether it was
+abbrev pub opens_once : Bool → Connection → Stream → Result (Connection × Stream) Fault
+opens_once true c s = Err fault.StreamCreation
+opens_once false c s = Ok (c, s)
+
+-- a server gets no push; a client allowed none (RFC 9114, sections 4.6 and 6.2.2)
+abbrev pub push_fault : Side → Fault
+push_fault Client = fault.Id
+push_fault Server = fault.StreamCreation
+
+abbrev pub opens : Connection → Purpose → Result (Connection × Stream) Fault
+opens c «for».Control =
+    opens_once c.control (record c { control = true }) (Frames (control_reader c.endpoint))
+opens c «for».Encoder = opens_once c.encoder (record c { encoder = true }) Instructions
+opens c «for».Decoder = opens_once c.decoder (record c { decoder = true }) Instructions
+opens c «for».Push = Err (push_fault c.endpoint.side)
+opens c («for».Session s) = Ok (c, Joining s)
+opens c «for».InvalidSession = Err fault.Id
+opens c «for».Message = Ok (c, Frames (message_reader c.endpoint))
+opens c «for».Foreign = Err fault.StreamCreation
+opens c «for».Ignored = Ok (c, Ignored)
+
+-- the connection and a stream, if it was opened
+abbrev pub opening_result : Result Stream Fault → Connection → Result (Connection × Stream) Fault
+opening_result (Ok s) c = Ok (c, s)
+opening_result (Err f) c = Err f
+
+-- ---- errors
+
+-- the connection after an error of this scope
+abbrev pub closed_in : Connection → ErrorScope → Connection
+closed_in c scope.Stream = c
+closed_in c other = record c { over = true }
+
+abbrev pub closed_by : Connection → Fault → Connection
+closed_by c f = closed_in c (scope_of f)
+
+-- the connection after the items of a stream
+abbrev pub after_items : Connection → List Item → Connection
+after_items c [] = c
+after_items c (Broken f ∷ items) = after_items (closed_by c f) items
+after_items c (other ∷ items) = after_items c items
+
+-- ---- the run
+
+-- what is found on a stream: what it is for, an item, or its end
+pub data Seen : Type 0 where
+  Opened : Purpose → Seen
+  Gave : Item → Seen
+  Ended : Seen
+
+-- what is found; the connection and the stream after it; and the bytes that are left
+pub record StreamRun : Type 0 where
+  pub seen : List Seen
+  pub connection : Connection
+  pub stream : Stream
+  pub left : List ℕ
+
+abbrev pub rests : Connection → Stream → List ℕ → StreamRun
+rests c s bytes = record { seen = []; connection = c; stream = s; left = bytes }
+
+abbrev pub followed : List Seen → StreamRun → StreamRun
+followed seen x = record {
+  seen = seen ++ x.seen;
+  connection = x.connection;
+  stream = x.stream;
+  left = x.left;
+}
+
+-- all bytes are consumed
+abbrev pub all_given : Connection → Stream → List Seen → StreamRun
+all_given c s seen = record { seen = seen; connection = c; stream = s; left = [] }
+
+abbrev pub of_frames : Connection → Run → StreamRun
+of_frames c x = record {
+  seen = map Gave x.items;
+  connection = after_items c x.items;
+  stream = Frames x.reader;
+  left = x.left;
+}
+
+abbrev pub bytes_seen : List ℕ → List Seen
+bytes_seen bytes = map Gave (map Byte bytes)
+
+-- an error of the stream, which is given once
+abbrev pub breaks : Connection → Fault → StreamRun
+breaks c f = all_given (closed_by c f) Over (Gave (Broken f) ∷ [])
+
+-- a stream whose purpose is known
+abbrev pub run_open : Connection → Stream → List ℕ → StreamRun
+run_open c (Frames r) bytes = of_frames c (run r bytes)
+run_open c (Session s) bytes = all_given c (Session s) (bytes_seen bytes)
+run_open c (Joining s) bytes = rests c (Joining s) bytes
+run_open c (Waiting s) bytes = rests c (Waiting s) bytes
+run_open c other bytes = all_given c other []
+
+abbrev pub by_purpose : Connection → Purpose → List ℕ → Result (Connection × Stream) Fault → StreamRun
+by_purpose c p rest (Ok x) = followed (Opened p ∷ []) (run_open x.0 x.1 rest)
+by_purpose c p rest (Err f) = breaks c f
+
+abbrev pub by_opening : Connection → Stream → List ℕ → Option (Purpose × List ℕ) → StreamRun
+by_opening c s bytes None = rests c s bytes
+by_opening c s bytes (Some o) = by_purpose c o.0 o.1 (opens c o.0)
+
+abbrev pub run_intact : Connection → Stream → List ℕ → StreamRun
+run_intact c Uni bytes = by_opening c Uni bytes (uni_at c.endpoint bytes)
+run_intact c Bi bytes = by_opening c Bi bytes (bi_at c.endpoint bytes)
+run_intact c other bytes = run_open c other bytes
+
+-- The run of a stream's bytes under this state of the connection. After an error of the connection
+-- nothing is found any more.
+abbrev pub run_stream : Connection → Stream → List ℕ → StreamRun
+run_stream c s bytes = if c.over then all_given c s [] else run_intact c s bytes
+
+-- ---- the end of a stream
+
+-- a bidirectional stream without a number (RFC 9114, sections 4.1, 6.1 and 7.1)
+abbrev pub no_number : Side → Fault
+no_number Client = fault.StreamCreation
+no_number Server = fault.RequestIncomplete
+
+-- what it means that a stream ends, with so many bytes left
+abbrev pub end_of : Connection → Stream → ℕ → Result (Unit {0}) Fault
+end_of c Bi n = by_missing n (Err (no_number c.endpoint.side))
+end_of c (Frames r) n = by_end r.endpoint.side r.place (r.remaining + n)
+end_of c Instructions n = Err fault.ClosedCriticalStream
+end_of c other n = Ok tt
+
+abbrev pub by_fault : Connection → Result (Unit {0}) Fault → StreamRun
+by_fault c (Ok u) = all_given c Over (Ended ∷ [])
+by_fault c (Err f) = breaks c f
+
+-- the end of a stream that waits for its session waits too; one that is over has no other
+abbrev pub ending : Connection → Stream → List ℕ → StreamRun
+ending c (Joining s) left = rests c (Joining s) left
+ending c (Waiting s) left = rests c (Waiting s) left
+ending c Over left = all_given c Over []
+ending c other left = by_fault c (end_of c other (length left))
+
+-- what follows the bytes of a run, where the stream ends
+abbrev pub ended : StreamRun → StreamRun
+ended x =
+    if x.connection.over
+    then x
+    else followed x.seen (ending x.connection x.stream x.left)
+
+-- ---- sessions
+
+-- at most this many streams wait for sessions that are to come
+abbrev pub most_waiting : ℕ
+most_waiting = 16
+
+-- what the connection and a stream are then, and the error
+abbrev pub Joined : Type 0
+Joined = Connection × Stream × Option Fault
+
+abbrev pub refuses : Connection → Fault → Joined
+refuses c f = (closed_by c f, Over, Some f)
+
+-- a stream whose session is not to come
+abbrev pub settles : Connection → ℕ → Known → Joined
+settles c s known.Coming = (c, Waiting s, None)
+settles c s known.Open = (c, Session s, None)
+settles c s known.Over = refuses c fault.SessionGone
+settles c s known.Refused = refuses c fault.BufferedStreamRejected
+settles c s known.Impossible = refuses c fault.Id
+
+abbrev pub waits : Connection → ℕ → Joined
+waits c s =
+    if nat_lt c.waiting most_waiting
+    then (record c { waiting = c.waiting + 1 }, Waiting s, None)
+    else refuses c fault.BufferedStreamRejected
+
+abbrev pub freed : Connection → Connection
+freed c = record c { waiting = c.waiting - 1 }
+
+-- the connection is told what is known of the session of a stream
+abbrev pub joins : Connection → Stream → Known → Joined
+joins c (Joining s) known.Coming = waits c s
+joins c (Joining s) k = settles c s k
+joins c (Waiting s) known.Coming = (c, Waiting s, None)
+joins c (Waiting s) k = settles (freed c) s k
+joins c (Session s) known.Over = refuses c fault.SessionGone
+joins c other k = (c, other, None)

@@ -1,0 +1,7 @@
+//! The receiving half of an HTTP/3 connection: what each stream of the peer is for, and what comes
+//! next on it. The caller keeps the streams and their bytes.
+#![tactic(auto)]
+
+pub mod connection;
+pub mod fields;
+pub mod stream;

@@ -1,0 +1,175 @@
+//! What a stream of the peer is for, by its first bytes (RFC 9114, section 6.2;
+//! draft-ietf-webtrans-http3-02, sections 4.1 and 4.2).
+ghost use Rattle.std.specs.Prelude.{◌≡◌, ◌≤◌, length, drop, None, Some, MatchOption, IfSome};
+ghost use Rattle.wtp_core.specs.Varint.{number_at};
+ghost use Rattle.wtp_connection.specs.Opening.{with_session, type_purpose, frames_purpose, uni_at, bi_at, stream_of, waits_for};
+ghost use Rattle.wtp_frames.specs.Start.{message_reader};
+
+use wtp_core::varint::first_varint;
+use wtp_frames::endpoint::{Endpoint, Side};
+use wtp_frames::reader::Reader;
+
+/// What a stream of the peer is for.
+#[derive(Clone, Copy)]
+pub enum Purpose {
+    /// The control stream.
+    Control,
+    /// A push.
+    Push,
+    /// The encoder stream of QPACK.
+    Encoder,
+    /// The decoder stream of QPACK.
+    Decoder,
+    /// A stream of a WebTransport session, with its ID.
+    Session(u64),
+    /// A stream with an invalid session ID.
+    InvalidSession,
+    /// A request, on a stream that a client opened.
+    Message,
+    /// A bidirectional stream that a server may not open.
+    Foreign,
+    /// A stream of an unknown or a reserved type.
+    Ignored,
+}
+
+/// The state of one stream. It holds no bytes.
+#[derive(Drop)]
+pub enum Stream {
+    /// A unidirectional stream of the peer, before its type.
+    Uni,
+    /// A bidirectional stream of the peer, before its first number.
+    Bi,
+    /// A stream of frames.
+    Frames(Reader),
+    /// A stream of this session, for which [`join`](crate::connection::Connection::join) was not
+    /// called yet.
+    Joining(u64),
+    /// A stream of this session, which is to come. Its bytes wait.
+    Waiting(u64),
+    /// A stream of this session. Its bytes are the application's.
+    Session(u64),
+    /// The encoder or the decoder stream of QPACK.
+    Instructions,
+    /// A stream of an unknown type. Its bytes are discarded.
+    Ignored,
+    /// A stream that has ended or has an error. Its bytes are discarded.
+    Over,
+}
+
+impl Stream {
+    /// Creates the state of a stream that the peer opened, by its ID (RFC 9000, section 2.1).
+    pub fn of_peer(id: u64) -> Self
+        ensures { result ≡ stream_of id }
+    {
+        if id % 4 >= 2 { Stream::Uni } else { Stream::Bi }
+    }
+
+    /// Creates the state of the peer's half of a request stream that was opened here: the response
+    /// to it.
+    pub fn of_request(endpoint: Endpoint) -> Self
+        ensures { result ≡ Stream.Frames (message_reader endpoint) }
+    {
+        Stream::Frames(Reader::message(endpoint))
+    }
+
+    /// Creates the state of the peer's half of a bidirectional stream that was opened here for this
+    /// session. It has no header.
+    pub fn of_session(session: u64) -> Self
+        ensures { result ≡ Stream.Session session }
+    {
+        Stream::Session(session)
+    }
+
+    /// Returns the session that the stream waits for. Its bytes are to be passed again once
+    /// [`join`](crate::connection::Connection::join) says what became of it.
+    pub fn waits(&self) -> Option<u64>
+        ensures { result ≡ waits_for self.now }
+    {
+        match self {
+            Stream::Waiting(session) => Some(*session),
+            _ => None,
+        }
+    }
+}
+
+/// Returns what a unidirectional stream is for, and the size of what says so.
+#[tactic(auto, unfolding(crate::specs::Opening::uni_at))]
+pub(crate) fn uni_opening(endpoint: Endpoint, bytes: &[u8]) -> Option<(Purpose, usize)>
+    ensures opening { MatchOption result (uni_at endpoint bytes.now ≡ None)
+        (λ o. uni_at endpoint bytes.now ≡ Some (o.0, drop o.1 bytes.now)) }
+    ensures within { IfSome result (λ o. o.1 ≤ length bytes.now) }
+{
+    match first_varint(bytes) {
+        None => None,
+        Some((number, first)) => {
+            if number.into_inner() == 0x54 && endpoint.webtransport {
+                session_after(bytes, first)
+            } else {
+                Some((purpose_of(number.into_inner()), first))
+            }
+        }
+    }
+}
+
+/// The same of a bidirectional stream. Of a request no byte is consumed.
+#[tactic(auto, unfolding(crate::specs::Opening::bi_at))]
+pub(crate) fn bi_opening(endpoint: Endpoint, bytes: &[u8]) -> Option<(Purpose, usize)>
+    ensures opening { MatchOption result (bi_at endpoint bytes.now ≡ None)
+        (λ o. bi_at endpoint bytes.now ≡ Some (o.0, drop o.1 bytes.now)) }
+    ensures within { IfSome result (λ o. o.1 ≤ length bytes.now) }
+{
+    match first_varint(bytes) {
+        None => None,
+        Some((number, first)) => {
+            if number.into_inner() == 0x41 && endpoint.webtransport {
+                session_after(bytes, first)
+            } else {
+                Some((frames_for(endpoint.side), 0))
+            }
+        }
+    }
+}
+
+// Returns the purpose of this type.
+fn purpose_of(number: u64) -> Purpose
+    ensures { result ≡ type_purpose number }
+{
+    match number {
+        0x00 => Purpose::Control,
+        0x01 => Purpose::Push,
+        0x02 => Purpose::Encoder,
+        0x03 => Purpose::Decoder,
+        _ => Purpose::Ignored,
+    }
+}
+
+// Returns the purpose of a bidirectional stream that belongs to no session.
+fn frames_for(side: Side) -> Purpose
+    ensures { result ≡ frames_purpose side }
+{
+    match side {
+        Side::Client => Purpose::Foreign,
+        Side::Server => Purpose::Message,
+    }
+}
+
+// Returns the session whose ID is after the first bytes.
+#[tactic(auto, using(crate::proofs::OpeningLemmas::sessions))]
+fn session_after(bytes: &[u8], first: usize) -> Option<(Purpose, usize)>
+    requires { first ≤ length bytes.now }
+    ensures opening { MatchOption result (with_session (number_at (drop first bytes.now)) ≡ None)
+        (λ o. with_session (number_at (drop first bytes.now)) ≡ Some (o.0, drop o.1 bytes.now)) }
+    ensures within { IfSome result (λ o. o.1 ≤ length bytes.now) }
+{
+    match first_varint(bytes.split_at(first).1) {
+        None => None,
+        Some((number, second)) => {
+            let session = number.into_inner();
+            if session % 4 == 0 {
+                Some((Purpose::Session(session), first + second))
+            } else {
+                Some((Purpose::InvalidSession, first + second))
+            }
+        }
+    }
+}
