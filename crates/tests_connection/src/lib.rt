@@ -1,5 +1,5 @@
-//! Streams of a connection: what they are for, what ends them, and streams that wait. Tests over the
-//! public crates; there is no product code here.
+//! Streams of a connection: what they are for, what ends them, and streams that wait. Tests over
+//! the public crates; there is no product code here.
 #![tactic(auto)]
 
 #[cfg(test)]

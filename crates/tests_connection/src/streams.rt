@@ -30,8 +30,8 @@ struct Row {
     left: usize,
 }
 
-/// Streams by the rule that they keep or violate. All of these errors but those of a request that is
-/// not complete end the connection.
+/// Streams by the rule that they keep or violate. All of these errors but those of a request that
+/// is not complete end the connection.
 static ROWS: [Row; 19] = [
     Row {
         shows: "a second control stream (6.2.1)",

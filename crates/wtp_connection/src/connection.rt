@@ -75,8 +75,8 @@ impl Connection {
     /// stream ends right after `bytes`.
     ///
     /// It does not allocate. After `More(n)`, the bytes from offset `n` on are to be passed again,
-    /// with more bytes after them or after [`join`](Self::join). An error is returned once, with all
-    /// bytes consumed. After an error that ends the connection every call consumes all bytes of
+    /// with more bytes after them or after [`join`](Self::join). An error is returned once, with
+    /// all bytes consumed. After an error that ends the connection every call consumes all bytes of
     /// every stream and returns `More`.
     pub fn receive(
         &mut self,
