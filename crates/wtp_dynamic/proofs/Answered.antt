@@ -2,9 +2,10 @@
 use Rattle.std.proofs.Common.{◌≡◌, ℕ, ◌<◌, inr, Bool, true, false, List, [], ◌∷◌, ◌++◌, length, refl, ap, arith, Result, Ok, Err}
 use Rattle.wtp_qpack.specs.Field.{Field}
 use Rattle.wtp_qpack.specs.Integer.{integer_at}
+use Rattle.wtp_qpack.specs.declared.qpack.string_literal.Texts.TheVariants.{Octets}
 use Rattle.wtp_qpack.specs.FieldLine.{bit}
-use Rattle.wtp_qpack.specs.FieldLines.{octets_at}
-use Rattle.wtp_qpack.proofs.StringReading.{int_shorter, octets_shorter}
+use Rattle.wtp_qpack.specs.StringLiteral.{octets_at}
+use Rattle.wtp_qpack.proofs.StringReading.{int_shorter, string_shorter}
 use Rattle.wtp_dynamic.specs.declared.error.SectionError.{SectionError}
 use Rattle.wtp_dynamic.specs.declared.section.Reference.{Reference}
 use Rattle.wtp_dynamic.specs.declared.section.Reference.TheVariants.{On}
@@ -29,7 +30,7 @@ valued name value = Ok ((name, value.0), value.1)
 value_shorter : (name : List ℕ) (middle : List ℕ) (line : Field) (rest : List ℕ) → (of_section (octets_at 7 middle) >>= valued name) ≡ Ok (line, rest) → length rest < length middle
 value_shorter name middle line rest e =
     let v = step_ok (of_section (octets_at 7 middle)) (valued name) (line, rest) e in
-    omega (arith, ap length (rest_same (name, v.0.0) line v.0.1 rest v.2), octets_shorter 7 middle v.0.0 v.0.1 (of_section_ok (octets_at 7 middle) v.0 v.1))
+    omega (arith, ap length (rest_same (name, v.0.0) line v.0.1 rest v.2), string_shorter Octets 7 middle v.0.0 v.0.1 (of_section_ok (octets_at 7 middle) v.0 v.1))
 
 name_shorter : (reference : Reference) (n : ℕ) (table : Table) (prefix : Prefix) (bytes : List ℕ) (line : Field) (rest : List ℕ) → name_line_at reference n table prefix bytes ≡ Ok (line, rest) → length rest < length bytes
 unfolding name_line_at
@@ -41,7 +42,7 @@ literal_shorter : (bytes : List ℕ) (line : Field) (rest : List ℕ) → litera
 unfolding literal_line_at
 literal_shorter bytes line rest e =
     let x = step_ok (of_section (octets_at 3 bytes)) (λ (x : List ℕ × List ℕ). of_section (octets_at 7 x.1) >>= valued x.0) (line, rest) e in
-    omega (arith, octets_shorter 3 bytes x.0.0 x.0.1 (of_section_ok (octets_at 3 bytes) x.0 x.1), value_shorter x.0.0 x.0.1 line rest x.2)
+    omega (arith, string_shorter Octets 3 bytes x.0.0 x.0.1 (of_section_ok (octets_at 3 bytes) x.0 x.1), value_shorter x.0.0 x.0.1 line rest x.2)
 
 by_shorter : (a b c d : Bool) (table : Table) (prefix : Prefix) (bytes : List ℕ) (line : Field) (rest : List ℕ) → line_by a b c d table prefix bytes ≡ Ok (line, rest) → length rest < length bytes
 by_shorter true t c d table prefix bytes line rest e = entry_shorter (reference_of t) 6 table prefix bytes line rest e

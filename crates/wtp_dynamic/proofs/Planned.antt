@@ -9,7 +9,7 @@ use Rattle.wtp_qpack.specs.Integer.{integer_at, shortest_int}
 use Rattle.wtp_qpack.specs.StaticTable as static
 use Rattle.wtp_qpack.specs.StringLiteral.{huffman_bytes, encoded_string}
 use Rattle.wtp_qpack.specs.FieldLine.{bit}
-use Rattle.wtp_qpack.specs.FieldLines.{octets, octets_at}
+use Rattle.wtp_qpack.specs.StringLiteral.{octets, octets_at, string_in}
 use Rattle.wtp_qpack.proofs.RoundTrip.{short_head, flag_of, text_head}
 use Rattle.wtp_qpack.proofs.StringBits.{huffman_only}
 use Rattle.wtp_qpack.proofs.StringWriting.{huffman_is}
@@ -27,7 +27,7 @@ use Rattle.wtp_dynamic.proofs.Written.{int_again}
 -- ---- strings
 
 octets_by : (n f h : ℕ) (body t rest : List ℕ) → h < 2 → length body < 2 ^ 64 → octets (h == 1) body ≡ Ok t → octets_at n ((shortest_int n (f * 2 + h) (length body) ++ body) ++ rest) ≡ Ok (t, rest)
-unfolding octets_at
+unfolding string_in
 octets_by n f h body t rest small fits given =
     let s : List ℕ = shortest_int n (f * 2 + h) (length body) in
     let grouped : (s ++ body) ++ rest ≡ s ++ (body ++ rest) = append_assoc s body rest in

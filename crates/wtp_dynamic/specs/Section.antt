@@ -5,14 +5,14 @@ use Rattle.wtp_qpack.specs.Integer.{integer_at}
 use Rattle.wtp_qpack.specs.StaticTable as static
 use Rattle.wtp_qpack.specs.StringLiteral.{flag_above}
 use Rattle.wtp_qpack.specs.FieldLine.{bit}
-use Rattle.wtp_qpack.specs.FieldLines.{octets_at}
+use Rattle.wtp_qpack.specs.StringLiteral.{octets_at}
 use Rattle.wtp_dynamic.specs.declared.error.SectionError.{SectionError}
 use Rattle.wtp_dynamic.specs.declared.error.SectionError.TheVariants.{UnexpectedEnd, IntegerOverflow, IndexNotFound, EntryNotFound, InvalidInsertCount, NegativeBase}
 use Rattle.wtp_dynamic.specs.declared.section.Reference.{Reference}
 use Rattle.wtp_dynamic.specs.declared.section.Reference.TheVariants.{Static, Back, On}
 use Rattle.wtp_dynamic.specs.Chain.{◌>>=◌, or_fault}
 use Rattle.wtp_dynamic.specs.Faults.{of_section}
-use Rattle.wtp_dynamic.specs.Rooms.{is_coded}
+use Rattle.wtp_qpack.specs.StringLiteral.{is_coded}
 use Rattle.wtp_dynamic.specs.Table.{Table, insert_count, entry_of}
 use Rattle.wtp_dynamic.specs.InsertCount.{most_entries, count_of}
 

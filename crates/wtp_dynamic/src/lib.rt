@@ -13,5 +13,4 @@ pub mod laws;
 pub mod ledger;
 pub mod section;
 pub mod stream;
-mod string;
 pub mod table;

@@ -3,19 +3,20 @@
 ghost use Rattle.std.specs.Prelude.{◌≡◌, ℕ, List, ◌<◌, ◌≤◌, ◌*◌, ◌||◌, length, IfOk, IsTrue, Err};
 ghost use Rattle.std.specs.Vec.{vec_len, vec_capacity};
 ghost use Rattle.wtp_qpack.specs.FieldLine.{bit};
-ghost use Rattle.wtp_qpack.specs.FieldLines.{octets_at};
+ghost use Rattle.wtp_qpack.specs.StringLiteral.{octets_at};
 ghost use Rattle.wtp_dynamic.specs.declared.error.SectionError.TheVariants.{Memory};
 ghost use Rattle.wtp_dynamic.specs.Faults.{Reads};
-ghost use Rattle.wtp_dynamic.specs.Rooms.{is_coded, Grows, ReadsParts};
+ghost use Rattle.wtp_qpack.specs.StringLiteral.{is_coded, Grows};
+ghost use Rattle.wtp_dynamic.specs.Rooms.{ReadsParts};
 ghost use Rattle.wtp_dynamic.specs.Table.{insert_count};
 ghost use Rattle.wtp_dynamic.specs.Section.{base_of, required_by, prefix_at, is_blocked, entry_at, entry_line_at, name_line_at, literal_line_at, reference_of, line_by, table_line_at, value_is_coded, coded_by, is_coded_line};
 ghost use Rattle.wtp_dynamic.specs.SectionView.{prefix_of};
 
 use crate::bits::has_bit;
 use crate::error::SectionError;
+use crate::insert_count;
 use crate::table::DynamicTable;
-use crate::{insert_count, string};
-use wtp_qpack::parts::{has_flag, read_integer, static_entry};
+use wtp_qpack::parts::{Texts, has_flag, read_integer, read_string, static_entry};
 
 /// The prefix of a section, and the bytes of its lines.
 #[derive(Clone, Copy)]
@@ -210,7 +211,7 @@ fn read_name<'a, const N: u32>(
         × (vec_capacity room.old < length bytes.now * 2) }
 {
     let ((name, _), rest) = find_entry::<N>(table, prefix, reference, bytes)?;
-    let (value, rest) = string::read::<7>(room, bytes.len() * 2, rest)?;
+    let (value, rest) = read_string::<7>(room, bytes.len() * 2, Texts::Octets, rest)?;
     Ok(Parts {
         name: Some(name),
         value,
@@ -232,9 +233,9 @@ fn read_literal<'a>(room: &mut Vec<u8>, bytes: &'a [u8]) -> Result<Parts<'a>, Se
         × (vec_capacity room.old < length bytes.now * 2) }
 {
     let most = bytes.len() * 2;
-    let (name, rest) = string::read::<3>(room, most, bytes)?;
+    let (name, rest) = read_string::<3>(room, most, Texts::Octets, bytes)?;
     let middle = room.len();
-    let (value, rest) = string::read::<7>(room, most, rest)?;
+    let (value, rest) = read_string::<7>(room, most, Texts::Octets, rest)?;
     Ok(Parts {
         name,
         value,

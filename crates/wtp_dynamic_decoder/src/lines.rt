@@ -3,7 +3,7 @@
 ghost use Rattle.std.specs.Prelude.{◌≡◌, ◌*◌, ◌<◌, IsTrue, IfSome, OnOk, Some, Err, [], length};
 ghost use Rattle.std.specs.Vec.{vec_capacity};
 ghost use Rattle.wtp_dynamic.specs.declared.error.SectionError.TheVariants.{Memory};
-ghost use Rattle.wtp_dynamic.specs.Rooms.{Grows};
+ghost use Rattle.wtp_qpack.specs.StringLiteral.{Grows};
 ghost use Rattle.wtp_dynamic.specs.Section.{is_coded_line};
 ghost use Rattle.wtp_dynamic.specs.SectionView.{prefix_of};
 ghost use Rattle.wtp_dynamic_decoder.specs.Lines.{room_bytes, TakesLine};

@@ -28,7 +28,7 @@ use Rattle.wtp_qpack.proofs.StringWriting.{text_bytes, huffman_is}
 use Rattle.wtp_qpack.proofs.SectionReading.{lines_read}
 
 -- the first byte
-short_head : (n flags v : ℕ) (more : List ℕ) → (low : ℕ) × (low < 2 ^ n) × (rest : List ℕ) × (shortest_int n flags v ++ more ≡ (flags * 2 ^ n + low) ∷ rest)
+pub short_head : (n flags v : ℕ) (more : List ℕ) → (low : ℕ) × (low < 2 ^ n) × (rest : List ℕ) × (shortest_int n flags v ++ more ≡ (flags * 2 ^ n + low) ∷ rest)
 unfolding shortest_int
 short_head n flags v more = elim (cases_lt v (2 ^ n - 1)) [
   | inl below ↦ (v, omega arith, more, rw (lt-ltb v (2 ^ n - 1) below) refl)
@@ -116,7 +116,7 @@ name_again texts k e v rest there small readable =
     ∙ line_as texts text head.2 (5 * 2 ^ 4 + head.0) (NameReference Static) head.3 (name_form head.0 (5 * 2 ^ 4 + head.0) head.1 refl)
     ∙ rw (size, there, text_again texts 7 0 v rest readable) refl
 
-text_head : (n f : ℕ) (t more : List ℕ) → (h : ℕ) × (h < 2) × (low : ℕ) × (low < 2 ^ n) × (rest : List ℕ) × (encoded_string n f t ++ more ≡ ((f * 2 + h) * 2 ^ n + low) ∷ rest)
+pub text_head : (n f : ℕ) (t more : List ℕ) → (h : ℕ) × (h < 2) × (low : ℕ) × (low < 2 ^ n) × (rest : List ℕ) × (encoded_string n f t ++ more ≡ ((f * 2 + h) * 2 ^ n + low) ∷ rest)
 unfolding encoded_string
 text_head n f t more = elim (cases_lt (length (huffman_bytes t)) (length t)) [
   | inl less ↦

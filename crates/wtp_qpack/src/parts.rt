@@ -3,4 +3,6 @@
 
 pub use crate::qpack::integer::{read as read_integer, write as write_integer};
 pub use crate::qpack::static_table::{entry as static_entry, first_entry_of as first_static_entry};
-pub use crate::qpack::string_literal::{has_flag, write as write_string};
+pub use crate::qpack::string_literal::{
+    Texts, has_flag, read as read_string, write as write_string,
+};
