@@ -77,8 +77,6 @@ impl<'a> SectionLines<'a> {
     /// there, with no fault before it. On an error no line is taken, so the next call reads the
     /// same line. The table is borrowed as long as the section, so all lines are read with one
     /// table.
-    ///
-    /// The room grows only where it has too few bytes, and then to twice those that are left.
     #[tactic(auto, using(wtp_dynamic::proofs::Answered::table_line_shorter))]
     pub fn next_line<'r>(
         &mut self,
