@@ -80,8 +80,8 @@ impl Fault {
 ///
 /// The status is that of the listing; 1 for other arguments, before anything is read or written; 3
 /// for more than 1048576 bytes of input, a failed read and a failed write; 4 if allocation fails.
-/// With 1, 3 and 4 the line of the fault is written to `errors`, or only its start if a write of it
-/// fails; with every other status `errors` is unchanged. Nothing is written to `output` before the
+/// With 1, 3 and 4 the line of the fault is written to `errors`, of which the contract promises no
+/// more than a start, since a write may fail; with every other status `errors` is unchanged. Nothing is written to `output` before the
 /// whole listing is made: with 1 and 4 `output` is unchanged, and with 3 too unless the listing
 /// could not be written, of which it may then contain a part.
 pub fn run_program<R: Read, W: Write, E: Write>(
@@ -107,8 +107,8 @@ pub fn run_program<R: Read, W: Write, E: Write>(
         ⊎ ReadsWhole (texts_of arguments.now) (R.remaining input.old) (R.remaining input.new) }
     // Status 0 and 2 come with no line of an error.
     ensures silent { (result ≡ 0) ⊎ (result ≡ 2) → errors.new ≡ errors.old }
-    // Every other status is that of a fault. Its line was written, or the start of it if a write
-    // failed.
+    // Every other status is that of a fault. A start of its line was written: nothing says when a
+    // write fails.
     ensures reported { ((result ≡ 0) ⊎ (result ≡ 2))
         ⊎ EndsFailed (texts_of arguments.now) (R.remaining input.old) (R.remaining input.new)
         (E.contents errors.old) (E.contents errors.new) (output.new ≡ output.old) result }
