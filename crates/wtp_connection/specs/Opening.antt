@@ -1,14 +1,18 @@
 -- What a stream of the peer is for, by its first bytes (RFC 9114, sections 6.1 and 6.2;
 -- draft-ietf-webtrans-http3-02, sections 4.1 and 4.2).
-use Rattle.std.specs.Prelude.{ℕ, ◌%◌, nat_le, ◌==◌, ◌&&◌, if◌then◌else◌, List, Option, Some, None}
+use Rattle.std.specs.Prelude.{ℕ, ◌%◌, nat_le, ◌==◌, ◌&&◌, if◌then◌else◌, List, Bool, true, false, Option, Some, None, Result, Ok, Err}
 use Rattle.wtp_core.specs.Varint.{number_at}
 use Rattle.wtp_frames.specs.declared.endpoint.Endpoint.{Endpoint}
 use Rattle.wtp_frames.specs.declared.endpoint.Side.{Side}
 use Rattle.wtp_frames.specs.declared.endpoint.Side.TheVariants.{Client, Server}
+use Rattle.wtp_frames.specs.declared.fault.Fault.{Fault}
+use Rattle.wtp_frames.specs.declared.fault.Fault.TheVariants as fault
+use Rattle.wtp_frames.specs.declared.reader.Place.{Place}
+use Rattle.wtp_frames.specs.declared.reader.Place.TheVariants.{BeforeSettings, AfterSettings}
 use Rattle.wtp_connection.specs.declared.stream.Purpose.{Purpose}
 use Rattle.wtp_connection.specs.declared.stream.Purpose.TheVariants as «for»
 use Rattle.wtp_connection.specs.declared.stream.Stream.{Stream}
-use Rattle.wtp_connection.specs.declared.stream.Stream.TheVariants.{Uni, Bi, Waiting}
+use Rattle.wtp_connection.specs.declared.stream.Stream.TheVariants.{Uni, Bi, Frames, Waiting, Instructions}
 
 -- the second bit of an ID says that the stream is unidirectional (RFC 9000, section 2.1)
 abbrev pub stream_of : ℕ → Stream
@@ -18,6 +22,24 @@ stream_of id = if nat_le 2 (id % 4) then Uni else Bi
 abbrev pub waits_for : Stream → Option ℕ
 waits_for (Waiting s) = Some s
 waits_for other = None
+
+-- a control stream
+abbrev pub is_control : Place → Bool
+is_control BeforeSettings = true
+is_control (AfterSettings goaway push) = true
+is_control other = false
+
+-- a stream that may not be closed while the connection lasts (RFC 9114, section 6.2.1; RFC 9204,
+-- section 4.2)
+abbrev pub is_critical : Stream → Bool
+is_critical (Frames r) = is_control r.place
+is_critical Instructions = true
+is_critical other = false
+
+-- whether the error of an end says that the stream is a critical one
+abbrev pub is_closed : Result (Unit {0}) Fault → Bool
+is_closed (Err fault.ClosedCriticalStream) = true
+is_closed other = false
 
 -- the session of an ID, and the bytes after it
 abbrev pub with_session : Option (ℕ × List ℕ) → Option (Purpose × List ℕ)

@@ -19,7 +19,7 @@ use Rattle.wtp_connection.specs.declared.stream.Stream.TheVariants.{Uni, Bi, Fra
 use Rattle.wtp_connection.specs.declared.connection.Connection.{Connection}
 use Rattle.wtp_connection.specs.declared.connection.Known.{Known}
 use Rattle.wtp_connection.specs.declared.connection.Known.TheVariants as known
-use Rattle.wtp_connection.specs.Opening.{uni_at, bi_at}
+use Rattle.wtp_connection.specs.Opening.{uni_at, bi_at, is_critical}
 
 -- ---- what the connection makes of a stream
 
@@ -207,3 +207,21 @@ joins c (Waiting s) known.Coming = (c, Waiting s, None)
 joins c (Waiting s) k = settles (freed c) s k
 joins c (Session s) known.Over = refuses c fault.SessionGone
 joins c other k = (c, other, None)
+
+-- ---- a stream that is reset, or that is not read to its end
+
+-- the connection without this stream: one that waited gives its place back
+abbrev pub without : Connection → Stream → Connection
+without c (Waiting s) = freed c
+without c other = c
+
+-- the peer reset a stream: an error if it is a critical one
+abbrev pub resets : Connection → Stream → Joined
+resets c s =
+    if is_critical s
+    then (if c.over then (c, Over, None) else refuses c fault.ClosedCriticalStream)
+    else (without c s, Over, None)
+
+-- the application reads a stream no further; a critical one is always read
+abbrev pub abandons : Connection → Stream → Connection × Stream
+abandons c s = if is_critical s then (c, s) else (without c s, Over)

@@ -1,6 +1,6 @@
 //! What the streams of a connection have in common. It holds no bytes and no table of streams.
 ghost use Rattle.std.specs.Prelude.{◌≡◌, ◌≤◌, ◌+◌, ◌-◌, length, drop, true, false, None, Some, MatchOption, IfSome, IfErr};
-ghost use Rattle.wtp_connection.specs.Streams.{opens, opening_result, closed_by, no_number as no_number_is, joins, settles, refuses};
+ghost use Rattle.wtp_connection.specs.Streams.{opens, opening_result, closed_by, no_number as no_number_is, joins, settles, refuses, freed, without, resets, abandons};
 ghost use Rattle.wtp_connection.specs.Receiving.{FoundIs, StepIsFound, IsFirst, opening_of, after_step as after_step_is, more_in, finish_of};
 
 use crate::fields::Fields;
@@ -288,7 +288,7 @@ impl Connection {
                 match known {
                     Known::Coming => None,
                     _ => {
-                        self.waiting = self.waiting.saturating_sub(1);
+                        self.free();
                         self.settle(stream, session, known)
                     }
                 }
@@ -327,6 +327,65 @@ impl Connection {
         self.close(fault);
         *stream = Stream::Over;
         Some(fault)
+    }
+
+    /// Says that the peer reset a stream. Its bytes that were not returned are lost, and the stream
+    /// is over. A stream that waits for its session waits no longer.
+    ///
+    /// Of a request or a response, and of a stream of a session, this ends that stream alone. A
+    /// server that has no HEADERS of the request should reset its own half with
+    /// H3_REQUEST_INCOMPLETE (RFC 9114, section 4.1).
+    ///
+    /// # Errors
+    ///
+    /// `ClosedCriticalStream`, which ends the connection, if it is the control stream (RFC 9114,
+    /// section 6.2.1) or one of QPACK (RFC 9204, section 4.2). None after an error of the
+    /// connection.
+    pub fn reset(&mut self, stream: &mut Stream) -> Option<Fault>
+        ensures { (self.new, stream.new, result) ≡ resets self.old stream.old }
+    {
+        if stream.is_critical() {
+            if self.over {
+                *stream = Stream::Over;
+                return None;
+            }
+            return self.refuse(stream, Fault::ClosedCriticalStream);
+        }
+        self.leave(stream);
+        None
+    }
+
+    /// Ends the reading of a stream, for a reason of the application. The stream is over: its bytes
+    /// are discarded. A stream that waits for its session waits no longer.
+    ///
+    /// The control stream and those of QPACK stay as they are: the peer must not be asked to close
+    /// them (RFC 9114, section 6.2.1; RFC 9204, section 4.2).
+    pub fn abandon(&mut self, stream: &mut Stream)
+        ensures { (self.new, stream.new) ≡ abandons self.old stream.old }
+    {
+        if stream.is_critical() {
+            return;
+        }
+        self.leave(stream);
+    }
+
+    // Ends a stream, which gives its place back if it waits.
+    fn leave(&mut self, stream: &mut Stream)
+        ensures connection { self.new ≡ without self.old stream.old }
+        ensures over { stream.new ≡ Stream.Over }
+    {
+        match stream {
+            Stream::Waiting(_) => self.free(),
+            _ => {}
+        }
+        *stream = Stream::Over;
+    }
+
+    // Counts one stream less that waits.
+    fn free(&mut self)
+        ensures { self.new ≡ freed self.old }
+    {
+        self.waiting = self.waiting.saturating_sub(1);
     }
 
     /// Returns how many streams wait for sessions that are to come.

@@ -2,11 +2,12 @@
 //! draft-ietf-webtrans-http3-02, sections 4.1 and 4.2).
 ghost use Rattle.std.specs.Prelude.{◌≡◌, ◌≤◌, length, drop, None, Some, MatchOption, IfSome};
 ghost use Rattle.wtp_core.specs.Varint.{number_at};
-ghost use Rattle.wtp_connection.specs.Opening.{with_session, type_purpose, frames_purpose, uni_at, bi_at, stream_of, waits_for};
+ghost use Rattle.wtp_connection.specs.Opening.{with_session, type_purpose, frames_purpose, uni_at, bi_at, stream_of, waits_for, is_critical as is_critical_is, is_closed as is_closed_is};
 ghost use Rattle.wtp_frames.specs.Start.{message_reader};
 
 use wtp_core::varint::first_varint;
 use wtp_frames::endpoint::{Endpoint, Side};
+use wtp_frames::fault::Fault;
 use wtp_frames::reader::Reader;
 
 /// What a stream of the peer is for.
@@ -89,6 +90,28 @@ impl Stream {
             Stream::Waiting(session) => Some(*session),
             _ => None,
         }
+    }
+
+    // Returns whether the stream may not be closed.
+    #[tactic(auto, using(crate::proofs::EndLemmas::critical_end))]
+    pub(crate) fn is_critical(&self) -> bool
+        ensures { result ≡ is_critical_is self.now }
+    {
+        match self {
+            Stream::Instructions => true,
+            Stream::Frames(reader) => is_closed(reader.finish(0)),
+            _ => false,
+        }
+    }
+}
+
+// Returns whether this is the error of a stream that may not be closed.
+fn is_closed(end: Result<(), Fault>) -> bool
+    ensures { result ≡ is_closed_is end }
+{
+    match end {
+        Err(Fault::ClosedCriticalStream) => true,
+        _ => false,
     }
 }
 
