@@ -5,6 +5,8 @@
 #[cfg(test)]
 mod reading;
 #[cfg(test)]
+mod resets;
+#[cfg(test)]
 mod same;
 #[cfg(test)]
 mod sessions;

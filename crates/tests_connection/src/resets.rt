@@ -1,0 +1,174 @@
+//! Streams that are reset by the peer, or that the application reads no further (RFC 9114, sections
+//! 4.1 and 6.2.1; RFC 9204, section 4.2).
+use crate::reading::{connection_of, read};
+use crate::same::same;
+use std::process::Abort;
+use wtp_connection::connection::{Connection, Known};
+use wtp_connection::stream::Stream;
+use wtp_core::error::ErrorScope;
+use wtp_frames::fault::Fault;
+
+/// A stream that is reset.
+struct Row {
+    /// What it shows.
+    shows: &'static str,
+    /// Its ID.
+    id: u64,
+    /// The bytes that came before.
+    bytes: &'static [u8],
+    /// The code of the error; 0 if there is none. Such an error ends the connection.
+    code: u64,
+}
+
+/// Streams of a client, by what they are for.
+static ROWS: [Row; 11] = [
+    Row {
+        shows: "a control stream before SETTINGS (6.2.1)",
+        id: 2,
+        bytes: &[0x00],
+        code: 0x104,
+    },
+    Row {
+        shows: "a control stream after SETTINGS (6.2.1)",
+        id: 2,
+        bytes: &[0x00, 0x04, 0x00],
+        code: 0x104,
+    },
+    Row {
+        shows: "a control stream within a frame (6.2.1)",
+        id: 2,
+        bytes: &[0x00, 0x04, 0x00, 0x21, 0x05, 0x00],
+        code: 0x104,
+    },
+    Row {
+        shows: "an encoder stream (RFC 9204, 4.2)",
+        id: 2,
+        bytes: &[0x02],
+        code: 0x104,
+    },
+    Row {
+        shows: "a decoder stream (RFC 9204, 4.2)",
+        id: 2,
+        bytes: &[0x03],
+        code: 0x104,
+    },
+    Row {
+        shows: "a stream before its type (6.2)",
+        id: 2,
+        bytes: &[],
+        code: 0,
+    },
+    Row {
+        shows: "a stream of an unknown type (6.2)",
+        id: 2,
+        bytes: &[0x21, 0x00],
+        code: 0,
+    },
+    Row {
+        shows: "a request before its first byte (4.1)",
+        id: 0,
+        bytes: &[],
+        code: 0,
+    },
+    Row {
+        shows: "a request within an unknown frame (4.1)",
+        id: 0,
+        bytes: &[0x21, 0x05, 0x00],
+        code: 0,
+    },
+    Row {
+        shows: "a request within DATA (7.1)",
+        id: 0,
+        bytes: &[0x01, 0x01, 0xd1, 0x00, 0x05, 0x61],
+        code: 0,
+    },
+    Row {
+        shows: "a stream of a session that was not joined",
+        id: 2,
+        bytes: &[0x40, 0x54, 0x00, 0x61],
+        code: 0,
+    },
+];
+
+/// Returns the code, and whether the error ends the connection.
+fn error_of(fault: Option<Fault>) -> (u64, bool) {
+    match fault {
+        None => (0, false),
+        Some(fault) => (
+            fault.code().number().into_inner(),
+            matches!(fault.scope(), ErrorScope::Connection),
+        ),
+    }
+}
+
+/// Returns how many bytes of DATA the connection returns of another request.
+fn data_of_another(connection: &mut Connection) -> usize {
+    let mut other = Stream::of_peer(4);
+    let bytes = [0x01, 0x01, 0xd1, 0x00, 0x01, 0x61];
+    read(connection, &mut other, &bytes, 64, true).data
+}
+
+fn check_row<R: Abort>(rt: &R, row: &Row) {
+    let mut connection = connection_of(true, true);
+    let mut stream = Stream::of_peer(row.id);
+    read(&mut connection, &mut stream, row.bytes, 64, false);
+    let came = error_of(connection.reset(&mut stream));
+    same(rt, came, (row.code, row.code != 0), row.shows);
+    let again = error_of(connection.reset(&mut stream));
+    same(rt, again, (0, false), row.shows);
+    let later = read(&mut connection, &mut stream, &[0x00, 0x01], 64, true);
+    same(
+        rt,
+        (later.data, later.ends, later.left),
+        (0, 0, 0),
+        row.shows,
+    );
+    let other = if row.code == 0 { 1 } else { 0 };
+    same(rt, data_of_another(&mut connection), other, row.shows);
+}
+
+/// Asserts that a critical stream is read after it was abandoned, and that others are not.
+fn check_abandoned<R: Abort>(rt: &R, row: &Row) {
+    let mut connection = connection_of(true, true);
+    let mut stream = Stream::of_peer(row.id);
+    read(&mut connection, &mut stream, row.bytes, 64, false);
+    connection.abandon(&mut stream);
+    same(rt, data_of_another(&mut connection), 1, row.shows);
+    let came = error_of(connection.reset(&mut stream));
+    same(rt, came, (row.code, row.code != 0), row.shows);
+}
+
+#[test]
+fn a_reset_ends_a_stream_or_the_connection(rt: HostRuntime) {
+    for row in &ROWS {
+        check_row(&rt, row);
+        check_abandoned(&rt, row);
+    }
+}
+
+/// Returns a stream that waits for session 0.
+fn waiting(connection: &mut Connection, id: u64) -> Stream {
+    let mut stream = Stream::of_peer(id);
+    let bytes = [0x40, 0x54, 0x00, 1];
+    read(connection, &mut stream, &bytes, 64, false);
+    connection.join(&mut stream, Known::Coming);
+    stream
+}
+
+#[test]
+fn a_stream_that_waits_gives_its_place_back(rt: HostRuntime) {
+    let mut connection = connection_of(true, true);
+    for turn in 0..40u64 {
+        let mut first = waiting(&mut connection, 6);
+        let mut second = waiting(&mut connection, 10);
+        same(&rt, connection.waiting(), 2, turn);
+        let came = error_of(connection.reset(&mut first));
+        same(&rt, (came, connection.waiting()), ((0, false), 1), turn);
+        connection.abandon(&mut second);
+        same(&rt, connection.waiting(), 0, turn);
+        connection.abandon(&mut second);
+        connection.reset(&mut first);
+        same(&rt, connection.waiting(), 0, turn);
+        same(&rt, second.waits().is_none(), true, turn);
+    }
+}
