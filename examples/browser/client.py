@@ -117,6 +117,10 @@ class Client(QuicConnectionProtocol):
     def stream(self, stream_id):
         return self.incoming.setdefault(stream_id, Incoming())
 
+    def take(self, stream_id):
+        """Returns what came on a stream, and forgets it. Nothing may have come."""
+        return self.incoming.pop(stream_id, Incoming())
+
     def quic_event_received(self, event):
         if isinstance(event, events.StreamDataReceived):
             stream = self.stream(event.stream_id)
@@ -176,7 +180,7 @@ class Client(QuicConnectionProtocol):
         """Whether the session echoes this text on a new stream."""
         stream = self.open(number(0x41) + number(session) + text, end=True)
         return await self.until(lambda: self.stream(stream).is_ended) and (
-            self.incoming.pop(stream).data == text
+            self.take(stream).data == text
         )
 
 

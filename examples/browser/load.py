@@ -23,7 +23,7 @@ async def use_session(client, name):
     for text in texts[1::2]:
         client.open(number(0x54) + number(session) + text, end=True, one_way=True)
     await client.until(lambda: all(client.stream(stream).is_ended for stream in both))
-    came = [client.incoming.pop(stream).data == text for stream, text in zip(both, texts[::2])]
+    came = [client.take(stream).data == text for stream, text in zip(both, texts[::2])]
     head = number(0x54) + number(session)
     await client.until(lambda: all(client.one_way[head + text] for text in texts[1::2]))
     came += [client.one_way.pop(head + text, 0) == 1 for text in texts[1::2]]
@@ -34,7 +34,7 @@ async def use_session(client, name):
         await client.until(lambda: client.datagrams[datagram], 1)
     client.send(session, close_capsule(7), end=True)
     is_closed = await client.until(lambda: client.stream(session).is_ended)
-    client.incoming.pop(session)
+    client.take(session)
     return is_closed, sum(came), client.datagrams.pop(datagram, 0) > 0, again
 
 
