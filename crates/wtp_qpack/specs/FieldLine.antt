@@ -1,7 +1,7 @@
 -- Field lines (RFC 9204, sections 4.5.2 to 4.5.6).
-use Rattle.std.specs.Prelude.{ℕ, ◌/◌, ◌%◌, ◌^◌, ◌==◌, if◌then◌else◌, Bool, true, false, List, []}
-use Rattle.std.specs.Prelude.{◌∷◌, ◌++◌, ◌||◌, take, drop, Option, Some, None, Result, Ok, Err}
-use Rattle.std.specs.Prelude.{string_bytes}
+use Rattle.std.specs.Prelude.{◌≡◌, ◌⊎◌, ℕ, ◌/◌, ◌%◌, ◌^◌, ◌==◌, if◌then◌else◌, Bool, true, false}
+use Rattle.std.specs.Prelude.{IsTrue, List, [], ◌∷◌, ◌++◌, ◌||◌, take, drop, Option, Some, None}
+use Rattle.std.specs.Prelude.{Result, Ok, Err, string_bytes}
 use Rattle.std.specs.Str.{bytes_eq}
 use Rattle.wtp_qpack.specs.declared.qpack.DecodingError.{DecodingError}
 use Rattle.wtp_qpack.specs.declared.qpack.DecodingError.TheVariants.{UnexpectedFin}
@@ -121,6 +121,12 @@ has_coded texts _ bytes = false
 unfoldable pub is_coded_in : Texts → List ℕ → Bool
 is_coded_in texts [] = false
 is_coded_in texts (first ∷ bytes) = has_coded texts (representation_of first) (first ∷ bytes)
+
+-- reading the line at the start as strings can take memory: it has Huffman text, before which it
+-- has no fault, or it has no fault at all
+abbrev pub NeedsMemory : List ℕ → Type 0
+NeedsMemory bytes =
+    IsTrue (is_coded_in Utf8 bytes) ⊎ ((line : Field × List ℕ) × (line_at bytes ≡ Ok line))
 
 -- ---- what was read of a line: the field and the bytes after it
 

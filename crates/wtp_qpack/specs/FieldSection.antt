@@ -5,7 +5,7 @@ use Rattle.wtp_qpack.specs.declared.qpack.DecodingError.{DecodingError}
 use Rattle.wtp_qpack.specs.Field.{Field, field_map}
 use Rattle.wtp_qpack.specs.Qpack.{◌>>=◌}
 use Rattle.wtp_qpack.specs.Integer.{integer_at}
-use Rattle.wtp_qpack.specs.FieldLine.{line_at, encoded_line}
+use Rattle.wtp_qpack.specs.FieldLine.{line_at, NeedsMemory, encoded_line}
 
 -- The bytes after the prefix of a section (section 4.5.1): the Required Insert Count, an integer
 -- with prefix 8, and the Delta Base, one with prefix 7. Both are ignored.
@@ -29,6 +29,10 @@ pub record ReachesLine (section : List ℕ) : Type 0 where
   pub prefix : after_prefix section ≡ Ok lines
   pub good : AreLines lines fields rest
   pub some : 0 < length rest
+
+-- the line that begins there needs memory
+abbrev pub SectionNeedsMemory : List ℕ → Type 0
+SectionNeedsMemory section = (reached : ReachesLine section) × NeedsMemory reached.rest
 
 -- ---- reading
 

@@ -3,14 +3,14 @@
 //! A peer that receives a table capacity of 0 sends no line that needs the dynamic table, and such
 //! a line is refused.
 
-ghost use Rattle.std.specs.Prelude.{◌≡◌, ℕ, List, IfOk, IfErr};
+ghost use Rattle.std.specs.Prelude.{◌≡◌, ℕ, List, IfOk, Err};
 ghost use Rattle.std.specs.Borrow.{Bor};
 ghost use Rattle.std.specs.Iterator.{IsFinite, Drains};
 ghost use Rattle.wtp_qpack.specs.declared.qpack.DecodingError.TheVariants.{Memory};
 ghost use Rattle.wtp_qpack.specs.SectionCodes.{huffman_fault};
 ghost use Rattle.wtp_qpack.specs.Field.{AreTexts, fields_of, fields_of_texts};
 ghost use Rattle.wtp_qpack.specs.Qpack.{GivesUnlessMemory};
-ghost use Rattle.wtp_qpack.specs.FieldSection.{ReachesLine, map_at, section_of};
+ghost use Rattle.wtp_qpack.specs.FieldSection.{SectionNeedsMemory, map_at, section_of};
 
 pub(crate) mod field_line;
 mod field_lines;
@@ -84,13 +84,15 @@ impl Decoder {
     /// Returns the map of a section's fields. The last value of a name wins.
     ///
     /// Returns the first fault in byte order: a line that needs the dynamic table is refused before
-    /// more of it is read, and an index that the static table lacks before the value. Returns
-    /// [`DecodingError::Memory`] only if allocation failed at a line, all lines before which are
-    /// valid. So a section without a line never returns it.
+    /// more of it is read, and an index that the static table lacks before the value.
+    ///
+    /// Returns [`DecodingError::Memory`] only if allocation failed, at a line after valid ones that
+    /// is valid too, or that has a Huffman text with no fault before it. So a section without a
+    /// line never returns it, nor does one whose first faulty line is plain.
     pub fn decode(alloc: Global, section: &[u8]) -> Result<BTreeMap<String, String>, DecodingError>
         ensures read { GivesUnlessMemory (λ m. fields_of m) result (map_at section.now) }
-        // Allocation fails only at a line that begins after the prefix and valid lines.
-        ensures memory { IfErr result (λ e. e ≡ Memory → ReachesLine section.now) }
+        // Allocation fails only at a line that needs memory, after the prefix and valid lines.
+        ensures memory { result ≡ Err Memory → SectionNeedsMemory section.now }
     {
         match field_section::skip_prefix(section) {
             Ok(lines) => field_section::read_lines(alloc, lines),

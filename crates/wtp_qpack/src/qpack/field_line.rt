@@ -4,6 +4,7 @@ ghost use Rattle.std.specs.Prelude.{◌≡◌, ℕ, List, length, ◌*◌, ◌�
 ghost use Rattle.std.specs.Prelude.{Err, IsUtf8, string_bytes};
 ghost use Rattle.std.specs.Vec.{vec_len, vec_capacity};
 ghost use Rattle.wtp_qpack.specs.declared.qpack.DecodingError.TheVariants.{Memory};
+ghost use Rattle.wtp_qpack.specs.declared.qpack.string_literal.Texts.TheVariants.{Utf8};
 ghost use Rattle.wtp_qpack.specs.Field.{IsText};
 ghost use Rattle.wtp_qpack.specs.Qpack.{Gives, GivesUnlessMemory};
 ghost use Rattle.wtp_qpack.specs.StaticTable.{entry_at};
@@ -11,7 +12,7 @@ ghost use Rattle.wtp_qpack.specs.StringLiteral.{Grows};
 ghost use Rattle.wtp_qpack.specs.FieldLine.{bit, table_of, representation_of, or_not_found};
 ghost use Rattle.wtp_qpack.specs.FieldLine.{indexed_at, name_reference_in, literal_name_in};
 ghost use Rattle.wtp_qpack.specs.FieldLine.{line_by, line_in, line_at, named_entry_at};
-ghost use Rattle.wtp_qpack.specs.FieldLine.{value_is_coded, has_coded, is_coded_in};
+ghost use Rattle.wtp_qpack.specs.FieldLine.{value_is_coded, has_coded, is_coded_in, NeedsMemory};
 ghost use Rattle.wtp_qpack.specs.FieldLine.{line_view, parts_view, GivesParts};
 ghost use Rattle.wtp_qpack.specs.FieldLine.{has_value, encoded_line, line_of};
 
@@ -262,13 +263,17 @@ fn string_of(alloc: Global, text: &[u8]) -> Result<String, AllocError>
     String::from_str(alloc, unsafe { str::from_utf8_unchecked(text) })
 }
 
-/// Reads the line at the start, as strings. Huffman texts are decoded in `room`.
+/// Reads the line at the start, as strings. Huffman texts are decoded in `room`, which allocates at
+/// most once, for one that has less than twice the bytes.
 pub fn read_strings<'a>(
     alloc: Global,
     room: &mut Vec<u8>,
     bytes: &'a [u8],
 ) -> Result<Line<'a>, DecodingError>
-    ensures { GivesUnlessMemory line_view result (line_at bytes.now) }
+    ensures read { GivesUnlessMemory line_view result (line_at bytes.now) }
+    ensures once { Grows (is_coded_in Utf8 bytes.now) (length bytes.now * 2)
+        (vec_capacity room.old) (vec_capacity room.new) }
+    ensures memory { result ≡ Err Memory → NeedsMemory bytes.now }
 {
     let parts = read(room, Texts::Utf8, bytes)?;
     let (name, value) = parts.texts(room.as_slice());

@@ -4,7 +4,7 @@ ghost use Rattle.std.specs.Prelude.{◌≡◌, ◌≢◌, ℕ, ◌<◌, List, []
 ghost use Rattle.wtp_qpack.specs.declared.qpack.DecodingError.TheVariants.{Memory};
 ghost use Rattle.wtp_qpack.specs.Field.{Field, fields_of, field_map};
 ghost use Rattle.wtp_qpack.specs.Qpack.{Gives};
-ghost use Rattle.wtp_qpack.specs.FieldLine.{line_at};
+ghost use Rattle.wtp_qpack.specs.FieldLine.{line_at, NeedsMemory};
 ghost use Rattle.wtp_qpack.specs.FieldSection.{after_prefix, AreLines};
 
 use super::{DecodingError, field_line, integer};
@@ -41,6 +41,8 @@ pub fn read_lines(alloc: Global, lines: &[u8]) -> Result<BTreeMap<String, String
     ensures fault { IfErr result (λ e.
         (ls : List Field) × (rest : List ℕ) × AreLines lines.now ls rest
         × (0 < length rest) × (e ≢ Memory → line_at rest ≡ Err e)) }
+    ensures memory { result ≡ Err Memory → (ls : List Field) × (rest : List ℕ)
+        × AreLines lines.now ls rest × (0 < length rest) × NeedsMemory rest }
 {
     let mut fields = BTreeMap::new(alloc);
     let mut room = Vec::new(alloc);

@@ -174,6 +174,7 @@ pub static NAMES: [(&str, usize); 52] = [
 ];
 
 /// Returns the whole table.
+#[tactic(auto, unfolding(crate::specs::StaticTable::static_table))]
 fn table() -> &'static [(&'static str, &'static str)]
     ensures { fields_of_texts result.now ≡ static_table }
 {
