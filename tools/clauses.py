@@ -1,8 +1,10 @@
-"""Finds the contracts of the functions that others may call, and compares those of two revisions.
-It stands on tools/rattle_source.py and tools/rattle_items.py.
+"""Finds the contracts of the functions that others may call, and the definitions of specs, and
+compares those of two revisions. It stands on tools/rattle_source.py and tools/rattle_items.py.
 
     old = functions_of("crates/wtp_core/src/ids.rt", text)    # -> [Function, ..]
     report = compare(old, new, Names([("Telling", "HasModel")]))
+    old = definitions_of("crates/wtp_core/specs/Ids.antt", text)    # -> [Definition, ..]
+    pairs = redefined(old, new, Names())
 
 The unit tests are in tools/test_clauses.py.
 """
@@ -17,6 +19,7 @@ from rattle_source import end_of_braces, masked
 # A clause up to its brace: its kind, and its label if it has one.
 CLAUSE = re.compile(r"\b(requires|ensures)\b\s*(\w*)\s*\{")
 COMMENT = re.compile(r"//[^\n]*|/\*.*?\*/", re.DOTALL)
+DEFINITION = re.compile(r"^(?:[a-z]+ )*pub (?:data |record )?(?!use |mod )([A-Za-z_][\w']*)", re.M)
 TOKEN = re.compile(r"\w+|[^\w\s]")
 
 
@@ -31,6 +34,18 @@ class Clause:
 
     def __str__(self):
         return " ".join(part for part in (self.kind, self.label, f"{{ {self.fact} }}") if part)
+
+
+@dataclass(frozen=True)
+class Definition:
+    """A definition of specs: its file, its name, and its text in one line, without comments."""
+
+    path: str
+    name: str
+    text: str
+
+    def __str__(self):
+        return f"{self.path}: {self.name}"
 
 
 @dataclass(frozen=True)
@@ -89,6 +104,18 @@ def functions_of(path, text):
 
     add_from(0, len(code), "", "", False)
     return found
+
+
+def definitions_of(path, text):
+    """Returns the public definitions of a file of specs."""
+    lines = [line.split(" -- ")[0] for line in text.split("\n") if not line.startswith("--")]
+    code = re.sub(r"^(?:pub )?use [^\n]*", "", "\n".join(lines), flags=re.MULTILINE)
+    found = list(DEFINITION.finditer(code))
+    ends = [following.start() for following in found[1:]] + [len(code)]
+    return [
+        Definition(path, one[1], " ".join(code[one.start() : end].split()))
+        for one, end in zip(found, ends)
+    ]
 
 
 class Names:
@@ -190,3 +217,19 @@ def compare(olds, news, names):
             report.compared += 1
             compare_clauses(old, new, names, report)
     return report
+
+
+def redefined(olds, news, names):
+    """Returns the pairs of an old and a new definition of one name whose texts differ, and each old
+    one that has no new one, with None. A definition may have moved to another file."""
+    by_name, differing = defaultdict(list), []
+    for new in news:
+        by_name[new.name].append(new)
+    for old in olds:
+        named = [old.name, *names.news.get(old.name, ())]
+        same = [new for name in named for new in by_name[name]]
+        if not any(names.is_same(old.text, new.text) for new in same):
+            file = old.path.rsplit("/", 1)[-1]
+            near = [new for new in same if new.path.rsplit("/", 1)[-1] == file] or same
+            differing.append((old, near[0] if near else None))
+    return differing

@@ -1,7 +1,7 @@
 """Unit tests of tools/clauses.py, over small sources."""
 import unittest
 
-from clauses import Names, compare, functions_of
+from clauses import Names, compare, definitions_of, functions_of, redefined
 
 TRAITS = """\
 pub trait A: B {
@@ -123,3 +123,30 @@ class Comparison(unittest.TestCase):
         self.assertEqual(self.compared(text, text).compared, 2)
         report = self.compared(text, text[: text.index("impl A<u16>")])
         self.assertEqual((report.compared, len(report.gone)), (0, 2))
+
+
+class Definitions(unittest.TestCase):
+    TEXT = (
+        "-- numbers\nuse Rattle.a.{b}\npub use Rattle.a.specs.B\n\n-- even\n"
+        "abbrev pub IsEven : ℕ → Type 0\nIsEven n =  -- by two\n    n % 2 ≡ 0\n\n"
+        "pub record Both (a : ℕ) : Type 0 where\n  pub one : IsEven a\n"
+    )
+
+    def test_definitions(self):
+        self.assertEqual(
+            [(one.name, one.text) for one in definitions_of("crates/a/specs/B.antt", self.TEXT)],
+            [
+                ("IsEven", "abbrev pub IsEven : ℕ → Type 0 IsEven n = n % 2 ≡ 0"),
+                ("Both", "pub record Both (a : ℕ) : Type 0 where pub one : IsEven a"),
+            ],
+        )
+
+    def test_what_differs(self):
+        old = definitions_of("crates/a/specs/B.antt", self.TEXT)
+        new = definitions_of(
+            "crates/c/specs/D.antt", self.TEXT.replace("IsEven", "Even").replace("% 2", "% 4")
+        )
+        pairs = redefined(old, new, Names([("IsEven", "Even")]))
+        self.assertEqual([(one.name, other.name) for one, other in pairs], [("IsEven", "Even")])
+        self.assertEqual([after for _, after in redefined(old[:1], [], Names())], [None])
+        self.assertEqual(redefined(old, old, Names()), [])
