@@ -75,6 +75,7 @@ uint32_t wt_version(void);
 #define WT_WEBTRANSPORT_SESSION_GONE             UINT64_C(0x170d7b68)
 #define WT_WT_FLOW_CONTROL_ERROR                 UINT64_C(0x045d4487) /* later drafts */
 #define WT_WT_ALPN_ERROR                         UINT64_C(0x0817b3dd)
+#define WT_WT_REQUIREMENTS_NOT_MET               UINT64_C(0x212c0d48)
 
 /* ---- Numbers: variable-length integers, below 2^62 (RFC 9000, section 16) ---- */
 

@@ -12,7 +12,7 @@ use wtp_core::varint::VarInt;
 type CodeRow = (u32, &'static str, &'static str, ErrorScope);
 
 /// All registered codes, and those of later drafts of WebTransport over HTTP/3.
-static REGISTERED: [CodeRow; 25] = [
+static REGISTERED: [CodeRow; 26] = [
     (
         0x0033,
         "H3_DATAGRAM_ERROR",
@@ -156,6 +156,12 @@ static REGISTERED: [CodeRow; 25] = [
         0x817b3dd,
         "WT_ALPN_ERROR",
         "WebTransport session aborted because application protocol negotiation failed",
+        ErrorScope::Stream,
+    ),
+    (
+        0x212c0d48,
+        "WT_REQUIREMENTS_NOT_MET",
+        "WebTransport session aborted because a requirement is not met",
         ErrorScope::Stream,
     ),
 ];

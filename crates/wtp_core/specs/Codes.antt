@@ -95,6 +95,10 @@ registered =
     -- WebTransport over HTTP/3, "Application Protocol Negotiation")
     ∷ row 0x0817b3dd (codes "WT_ALPN_ERROR")
     (codes "WebTransport session aborted because application protocol negotiation failed") Stream
+    -- a session that the peer's settings or transport parameters do not allow is closed, by its own
+    -- stream (later drafts of WebTransport over HTTP/3)
+    ∷ row 0x212c0d48 (codes "WT_REQUIREMENTS_NOT_MET")
+    (codes "WebTransport session aborted because a requirement is not met") Stream
     ∷ []
 
 -- ---- by number

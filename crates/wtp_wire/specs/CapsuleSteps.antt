@@ -77,10 +77,12 @@ pub record HasValue (kind : CapsuleKind) (old : Held) (a v : List ℕ) (skip_rem
 
 abbrev pub Advanced : Reached → Held → List ℕ → List ℕ → List ℕ → ℕ → List ℕ → Type 0
 Advanced reached-is.Skipping old a h v skip_remaining b = StartsSkipping old a h v skip_remaining b
-Advanced reached-is.More old a h v skip_remaining b = IsPart h v skip_remaining × TakesAll old a (holding h v skip_remaining) b
+Advanced reached-is.More old a h v skip_remaining b =
+    IsPart h v skip_remaining × TakesAll old a (holding h v skip_remaining) b
 Advanced reached-is.TooLong old a h v skip_remaining b =
     IsPart h v skip_remaining × FindsTooLong old a (holding h v skip_remaining) b
-Advanced reached-is.Memory old a h v skip_remaining b = IsPart h v skip_remaining × WantsMemory old a (holding h v skip_remaining) b
+Advanced reached-is.Memory old a h v skip_remaining b =
+    IsPart h v skip_remaining × WantsMemory old a (holding h v skip_remaining) b
 Advanced (reached-is.Complete kind) old a h v skip_remaining b = HasValue kind old a v skip_remaining b
 
 -- ---- up to the value of an unknown capsule, or a result

@@ -139,7 +139,8 @@ pub record Skipped (skip_remaining skip_remaining' : ℕ) (a b : Source) : Type 
 -- the source
 abbrev pub PassedOn : Polled (Result Content IoReadError) → ℕ → ℕ → Source → Source → Type 0
 PassedOn (Ready (Ok f)) skip_remaining skip_remaining' a b = ⊥
-PassedOn (Ready (Err (Parse parse.UnknownFrame))) skip_remaining skip_remaining' a b = Skipped skip_remaining skip_remaining' a b × (skip_remaining' ≡ 0)
+PassedOn (Ready (Err (Parse parse.UnknownFrame))) skip_remaining skip_remaining' a b =
+    Skipped skip_remaining skip_remaining' a b × (skip_remaining' ≡ 0)
 PassedOn (Ready (Err (Parse parse.InvalidSessionId))) skip_remaining skip_remaining' a b = ⊥
 PassedOn (Ready (Err (Parse parse.PayloadTooBig))) skip_remaining skip_remaining' a b = ⊥
 PassedOn (Ready (Err (IO e))) skip_remaining skip_remaining' a b =
@@ -149,8 +150,14 @@ PassedOn (Ready (Err (IO e))) skip_remaining skip_remaining' a b =
     × (b.ahead ≡ [])
     × (e ≡ stop 1 a.ending)
 PassedOn Pending skip_remaining skip_remaining' a b =
-    Skipped skip_remaining skip_remaining' a b × (0 < skip_remaining') × (skip_remaining < skip_remaining' + max_passed) × (a.waits < b.waits)
-PassedOn Again skip_remaining skip_remaining' a b = Skipped skip_remaining skip_remaining' a b × (0 < skip_remaining') × (skip_remaining ≡ skip_remaining' + max_passed)
+    Skipped skip_remaining skip_remaining' a b
+    × (0 < skip_remaining')
+    × (skip_remaining < skip_remaining' + max_passed)
+    × (a.waits < b.waits)
+PassedOn Again skip_remaining skip_remaining' a b =
+    Skipped skip_remaining skip_remaining' a b
+    × (0 < skip_remaining')
+    × (skip_remaining ≡ skip_remaining' + max_passed)
 PassedOn NoMemory skip_remaining skip_remaining' a b = ⊥
 
 -- the same for every source, even without a model
@@ -159,7 +166,8 @@ PassedPlain (Ready (Ok f)) skip_remaining skip_remaining' = ⊥
 PassedPlain (Ready (Err (Parse parse.UnknownFrame))) skip_remaining skip_remaining' = skip_remaining' ≡ 0
 PassedPlain (Ready (Err (Parse parse.InvalidSessionId))) skip_remaining skip_remaining' = ⊥
 PassedPlain (Ready (Err (Parse parse.PayloadTooBig))) skip_remaining skip_remaining' = ⊥
-PassedPlain (Ready (Err (IO e))) skip_remaining skip_remaining' = (0 < skip_remaining') × (skip_remaining' ≤ skip_remaining)
+PassedPlain (Ready (Err (IO e))) skip_remaining skip_remaining' =
+    (0 < skip_remaining') × (skip_remaining' ≤ skip_remaining)
 PassedPlain Pending skip_remaining skip_remaining' = (0 < skip_remaining') × (skip_remaining' ≤ skip_remaining)
 PassedPlain Again skip_remaining skip_remaining' = (0 < skip_remaining') × (skip_remaining' ≤ skip_remaining)
 PassedPlain NoMemory skip_remaining skip_remaining' = ⊥

@@ -161,6 +161,12 @@ impl Code {
         number: VarInt { value: 0x0817b3dd },
     };
 
+    /// A requirement of WebTransport, such as a setting of the peer, is not met (later drafts of
+    /// WebTransport over HTTP/3).
+    pub const WT_REQUIREMENTS_NOT_MET: Code = Code {
+        number: VarInt { value: 0x212c0d48 },
+    };
+
     /// Creates the code of this number.
     pub fn new(number: VarInt) -> Self
         ensures { result ≡ number }
@@ -205,11 +211,11 @@ impl Code {
     /// the rules that use them say: `H3_REQUEST_CANCELLED`, `H3_REQUEST_INCOMPLETE` and
     /// `H3_CONNECT_ERROR` a stream (RFC 9114, sections 4.1, 4.1.1 and 4.4),
     /// `QPACK_ENCODER_STREAM_ERROR` and `QPACK_DECODER_STREAM_ERROR` the connection (RFC 9204,
-    /// sections 2.2.3, 3.2 and 4.4), `WT_FLOW_CONTROL_ERROR` and `WT_ALPN_ERROR` the stream of a
-    /// session (later drafts of WebTransport over HTTP/3). No rule says what
-    /// `H3_GENERAL_PROTOCOL_ERROR`, `H3_INTERNAL_ERROR` and `H3_VERSION_FALLBACK` end: `Either`.
-    /// So does a number that is not registered, since an unknown code is treated as `H3_NO_ERROR`
-    /// (RFC 9114, section 8).
+    /// sections 2.2.3, 3.2 and 4.4), `WT_FLOW_CONTROL_ERROR`, `WT_ALPN_ERROR` and
+    /// `WT_REQUIREMENTS_NOT_MET` the stream of a session (later drafts of WebTransport over
+    /// HTTP/3). No rule says what `H3_GENERAL_PROTOCOL_ERROR`, `H3_INTERNAL_ERROR` and
+    /// `H3_VERSION_FALLBACK` end: `Either`. So does a number that is not registered, since an
+    /// unknown code is treated as `H3_NO_ERROR` (RFC 9114, section 8).
     pub fn scope(self) -> ErrorScope
         ensures { result ≡ code_scope self }
     {
@@ -316,3 +322,5 @@ const _: () = prove!(Code::WEBTRANSPORT_SESSION_GONE.number.value == 0x170d7b68)
 const _: () = prove!(Code::WT_FLOW_CONTROL_ERROR.number.value == 0x045d4487);
 
 const _: () = prove!(Code::WT_ALPN_ERROR.number.value == 0x0817b3dd);
+
+const _: () = prove!(Code::WT_REQUIREMENTS_NOT_MET.number.value == 0x212c0d48);

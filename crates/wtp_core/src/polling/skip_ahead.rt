@@ -19,10 +19,12 @@ const MAX_SKIPPED: u64 = 4096;
 pub fn skip_bytes<S: AsyncRead>(source: &mut S, skip_remaining: &mut u64) -> Result<(), Interrupted>
     ensures fewer { skip_remaining.new ≤ skip_remaining.old }
     ensures most { skip_remaining.old ≤ skip_remaining.new + max_passed }
-    ensures whole { OnOk result (0 < skip_remaining.new → skip_remaining.new + max_passed ≡ skip_remaining.old) }
+    ensures whole { OnOk result (0 < skip_remaining.new
+        → skip_remaining.new + max_passed ≡ skip_remaining.old) }
     ensures part { OnErr result (0 < skip_remaining.new) }
     ensures some { OnErr result (skip_remaining.old < skip_remaining.new + max_passed) }
-    ensures tells { PassTells result (skip_remaining.old - skip_remaining.new) (S.tells source.old) (S.tells source.new) }
+    ensures tells { PassTells result (skip_remaining.old - skip_remaining.new)
+        (S.tells source.old) (S.tells source.new) }
     ensures waits { HasModel (S.tells source.old) (S.tells source.new) (HaltWaits result) }
 {
     let mut room = MAX_SKIPPED;

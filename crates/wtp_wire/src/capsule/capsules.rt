@@ -98,6 +98,7 @@ impl CloseWebTransportSession {
     {
         self.reason.as_str()
     }
+
     /// Writes the capsule, each number in its shortest encoding.
     ///
     /// The parts are the type, the length, the code in four bytes, most significant first, and the

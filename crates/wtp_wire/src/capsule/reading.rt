@@ -58,7 +58,8 @@ impl fmt::Debug for CapsuleReading {
 impl Model for CapsuleReading {
     ghost Value = { Held };
 
-    ghost view = { λ s. holding (take s.part.len s.part.head) s.part.value.items s.part.skip_remaining };
+    ghost view = { λ s.
+        holding (take s.part.len s.part.head) s.part.value.items s.part.skip_remaining };
 
     ghost invariant = { λ s. (length s.part.head ≡ 16) × (s.part.len ≤ 16)
         × IsPart (take s.part.len s.part.head) s.part.value.items s.part.skip_remaining
@@ -154,7 +155,8 @@ impl CapsulePart {
     fn advance(&mut self, bytes: &mut &[u8]) -> Reached
         requires long { length self.old.head ≡ 16 }
         requires fits { self.old.len ≤ 16 }
-        requires part { IsPart (take self.old.len self.old.head) self.old.value.items self.old.skip_remaining }
+        requires part { IsPart (take self.old.len self.old.head) self.old.value.items
+            self.old.skip_remaining }
         requires room { HasRoom (head_says (take self.old.len self.old.head))
             (vec_len self.old.value) (vec_capacity self.old.value) }
         ensures long { length self.new.head ≡ 16 }
@@ -164,7 +166,8 @@ impl CapsulePart {
         ensures advanced { Advanced result
             (holding (take self.old.len self.old.head) self.old.value.items self.old.skip_remaining)
             bytes.old.now
-            (take self.new.len self.new.head) self.new.value.items self.new.skip_remaining bytes.new.now }
+            (take self.new.len self.new.head) self.new.value.items self.new.skip_remaining
+            bytes.new.now }
     {
         skip(bytes, &mut self.skip_remaining);
         if self.skip_remaining > 0 {

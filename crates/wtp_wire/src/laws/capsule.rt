@@ -106,7 +106,8 @@ pub fn held_pieces_make_no_difference()
         → capsules_from cursor rest ≡ ends ending
         → capsules (data_in events) ≡ record { found = found_in events []; ending = ending } }
     ensures too_long { (events : List CursorEvent) (old new : CapsuleCursor) (rest more : List ℕ)
-        → LeadsTo events (record { skip_remaining = 0 }) [] old rest → StepIs CapsuleStep.TooLong old rest new
+        → LeadsTo events (record { skip_remaining = 0 }) [] old rest
+        → StepIs CapsuleStep.TooLong old rest new
         → capsules (data_in events ++ more)
         ≡ record { found = found_in events []; ending = AtTooLong } }
 {}

@@ -15,7 +15,9 @@ pub fn held_is_in_front()
 /// frame; or, if bytes were left to skip before, exactly that many bytes.
 pub fn passed_is_unknown()
     ensures begun { (old new : Held) (a b : Source) (s : Skips old new a b) (z : List ℕ)
-        → length z ≡ new.skip_remaining → old.skip_remaining ≡ 0 → IsUnknown ((s.head ++ s.payload) ++ z) }
+        → length z ≡ new.skip_remaining → old.skip_remaining ≡ 0
+        → IsUnknown ((s.head ++ s.payload) ++ z) }
     ensures going { (old new : Held) (a b : Source) (s : Skips old new a b) (z : List ℕ)
-        → length z ≡ new.skip_remaining → 0 < old.skip_remaining → length ((s.head ++ s.payload) ++ z) ≡ old.skip_remaining }
+        → length z ≡ new.skip_remaining → 0 < old.skip_remaining
+        → length ((s.head ++ s.payload) ++ z) ≡ old.skip_remaining }
 {}

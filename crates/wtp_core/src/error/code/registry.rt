@@ -21,7 +21,7 @@ pub(super) struct Registered {
 }
 
 /// The codes that are registered, and those of later drafts of WebTransport over HTTP/3.
-static REGISTERED: [Registered; 25] = [
+static REGISTERED: [Registered; 26] = [
     Registered {
         number: Code::H3_DATAGRAM_ERROR.number.value,
         name: "H3_DATAGRAM_ERROR",
@@ -170,6 +170,12 @@ static REGISTERED: [Registered; 25] = [
         number: Code::WT_ALPN_ERROR.number.value,
         name: "WT_ALPN_ERROR",
         description: "WebTransport session aborted because application protocol negotiation failed",
+        scope: ErrorScope::Stream,
+    },
+    Registered {
+        number: Code::WT_REQUIREMENTS_NOT_MET.number.value,
+        name: "WT_REQUIREMENTS_NOT_MET",
+        description: "WebTransport session aborted because a requirement is not met",
         scope: ErrorScope::Stream,
     },
 ];
