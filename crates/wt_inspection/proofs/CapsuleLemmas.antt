@@ -23,30 +23,30 @@ judges_some bytes capsule closing e is = rw e is
 
 -- ---- what follows it
 
-none_closes : (o : Option (CapsuleKind × List ℕ)) → Judges o closing-is.Other → Closes o None (Ok next-is.Capsules)
-none_closes None h = (refl, refl)
-none_closes (Some (CloseWebTransportSession, value)) h = absurd h
+none_closes : (place : ℕ) (o : Option (CapsuleKind × List ℕ)) → Judges o closing-is.Other → Closes place o None (Ok next-is.Capsules)
+none_closes place None h = (refl, refl)
+none_closes place (Some (CloseWebTransportSession, value)) h = absurd h
 
-pub closes_other : (bytes : List ℕ) → Judges (capsule_in bytes) closing-is.Other → Closes (capsule_in bytes) None (Ok next-is.Capsules)
-closes_other bytes h = none_closes (capsule_in bytes) h
+pub closes_other : (place : ℕ) (bytes : List ℕ) → Judges (capsule_in bytes) closing-is.Other → Closes place (capsule_in bytes) None (Ok next-is.Capsules)
+closes_other place bytes h = none_closes place (capsule_in bytes) h
 
-one_closes : (o : Option (ℕ × List ℕ)) (found : CloseReason) → JudgesClose o (closing-is.Close found) → IsClosing o (Some found) (Ok next-is.Capsules)
-one_closes (Some close) found (code, reason) = (code, reason, refl)
-one_closes None found h = absurd h
+one_closes : (place : ℕ) (o : Option (ℕ × List ℕ)) (found : CloseReason) → JudgesClose o (closing-is.Close found) → IsClosing place o (Some found) (Ok next-is.Capsules)
+one_closes place (Some close) found (code, reason) = (code, reason, refl)
+one_closes place None found h = absurd h
 
-good_closes : (o : Option (CapsuleKind × List ℕ)) (found : CloseReason) → Judges o (closing-is.Close found) → Closes o (Some found) (Ok next-is.Capsules)
-good_closes None found h = absurd (cc h)
-good_closes (Some (CloseWebTransportSession, value)) found h = one_closes (close_in value) found h
+good_closes : (place : ℕ) (o : Option (CapsuleKind × List ℕ)) (found : CloseReason) → Judges o (closing-is.Close found) → Closes place o (Some found) (Ok next-is.Capsules)
+good_closes place None found h = absurd (cc h)
+good_closes place (Some (CloseWebTransportSession, value)) found h = one_closes place (close_in value) found h
 
-pub closes_close : (bytes : List ℕ) (found : CloseReason) → Judges (capsule_in bytes) (closing-is.Close found) → Closes (capsule_in bytes) (Some found) (Ok next-is.Capsules)
-closes_close bytes found h = good_closes (capsule_in bytes) found h
+pub closes_close : (place : ℕ) (bytes : List ℕ) (found : CloseReason) → Judges (capsule_in bytes) (closing-is.Close found) → Closes place (capsule_in bytes) (Some found) (Ok next-is.Capsules)
+closes_close place bytes found h = good_closes place (capsule_in bytes) found h
 
-no_closes : (o : Option (ℕ × List ℕ)) (code : ErrorCode) (after : Then) → JudgesClose o (closing-is.Bad code) → StopsWith code after → IsClosing o None after
-no_closes o code after (none, same) stops = rw none (refl, rw same at stops)
+no_closes : (place : ℕ) (o : Option (ℕ × List ℕ)) (code : ErrorCode) (after : Then) → JudgesClose o (closing-is.Bad code) → StopsWith place code after → IsClosing place o None after
+no_closes place o code after (none, same) stops = rw none (refl, rw same at stops)
 
-bad_closes : (o : Option (CapsuleKind × List ℕ)) (code : ErrorCode) (after : Then) → Judges o (closing-is.Bad code) → StopsWith code after → Closes o None after
-bad_closes None code after h stops = absurd (cc h)
-bad_closes (Some (CloseWebTransportSession, value)) code after h stops = no_closes (close_in value) code after h stops
+bad_closes : (place : ℕ) (o : Option (CapsuleKind × List ℕ)) (code : ErrorCode) (after : Then) → Judges o (closing-is.Bad code) → StopsWith place code after → Closes place o None after
+bad_closes place None code after h stops = absurd (cc h)
+bad_closes place (Some (CloseWebTransportSession, value)) code after h stops = no_closes place (close_in value) code after h stops
 
-pub closes_bad : (bytes : List ℕ) (code : ErrorCode) (after : Then) → Judges (capsule_in bytes) (closing-is.Bad code) → StopsWith code after → Closes (capsule_in bytes) None after
-closes_bad bytes code after h stops = bad_closes (capsule_in bytes) code after h stops
+pub closes_bad : (place : ℕ) (bytes : List ℕ) (code : ErrorCode) (after : Then) → Judges (capsule_in bytes) (closing-is.Bad code) → StopsWith place code after → Closes place (capsule_in bytes) None after
+closes_bad place bytes code after h stops = bad_closes place (capsule_in bytes) code after h stops

@@ -1,6 +1,6 @@
 -- The frames of items are those of the run, as long as the reading goes on.
 use Rattle.std.proofs.Common.{◌≡◌, ℕ, ◌+◌, ◌%◌, ◌≤◌, cond, Bool, true, false, List, [], ◌∷◌, ◌++◌, length, take, drop, Option, Some, None, Result, Ok, Err, refl, sym, ap, subst, ◌∙◌, arith, inl, inr, ◌⊎◌, append_assoc, length-drop}
-use Rattle.std.specs.Prelude.{◌==◌, ◌||◌}
+use Rattle.std.specs.Prelude.{◌==◌, ◌||◌, ◌-◌, codes}
 use Rattle.std.proofs.lemmas.Bool.{cases_lt, le-ltb}
 use Rattle.std.proofs.lemmas.List.{drop-drop}
 use Rattle.wtp_core.specs.Varint.{bytes_at}
@@ -41,80 +41,80 @@ use Rattle.wt_inspection.specs.Recording.{Then, AfterSection, AfterSettings, Has
 
 -- ---- where the reading goes on, it goes on as after a frame that is allowed
 
-never_on : (on : Then) (next : Next) → Ok next ≡ on → IsCut on → ⊥
-never_on on next e stops = rw (← e) at stops
+never_on : (on : Then) (next : Next) (place missing : ℕ) (item : List ℕ) → Ok next ≡ on → IsCut place item missing on → ⊥
+never_on on next place missing item e stops = rw (← e) at stops
 
-cut_on : (name : FrameName) (parts : Parts) (on : Then) (next : Next) → IsCut on → IsCutPart name parts on (Ok next) → ⊥
-cut_on name parts-is.Opaque on next stops e = never_on on next e stops
-cut_on name (parts-is.Capsules capsules) on next stops (is, inl e) = never_on on next e stops
-cut_on name (parts-is.Capsules capsules) on next stops (is, inr faults) = absurd faults
-cut_on name (parts-is.Fields section) on next stops h = absurd h
-cut_on name (parts-is.Settings lines) on next stops h = absurd h
+cut_on : (name : FrameName) (parts : Parts) (on : Then) (next : Next) (place missing : ℕ) (item : List ℕ) → IsCut place item missing on → IsCutPart name parts on (Ok next) → ⊥
+cut_on name parts-is.Opaque on next place missing item stops e = never_on on next place missing item e stops
+cut_on name (parts-is.Capsules capsules) on next place missing item stops (is, inl e) = never_on on next place missing item e stops
+cut_on name (parts-is.Capsules capsules) on next place missing item stops (is, inr faults) = absurd faults
+cut_on name (parts-is.Fields section) on next place missing item stops h = absurd h
+cut_on name (parts-is.Settings lines) on next place missing item stops h = absurd h
 
-section_on : (fault : Option SectionFault) (on : Then) (next : Next) → AfterSection fault on (Ok next) → Ok next ≡ on
-section_on None on next h = h
-section_on (Some fault-is.NeedsDynamicTable) on next h = h
-section_on (Some (fault-is.Malformed cause)) on next h = absurd h
+section_on : (place : ℕ) (fault : Option SectionFault) (on : Then) (next : Next) → AfterSection place fault on (Ok next) → Ok next ≡ on
+section_on place None on next h = h
+section_on place (Some fault-is.NeedsDynamicTable) on next h = h
+section_on place (Some (fault-is.Malformed cause)) on next h = absurd h
 
-settings_on : {A : Type 0} (r : Result A ErrorCode) (on : Then) (next : Next) → AfterSettings r on (Ok next) → Ok next ≡ on
-settings_on (Ok settings) on next h = h
-settings_on (Err c) on next h = absurd h
+settings_on : {A : Type 0} (place : ℕ) (r : Result A ErrorCode) (on : Then) (next : Next) → AfterSettings place r on (Ok next) → Ok next ≡ on
+settings_on place (Ok settings) on next h = h
+settings_on place (Err c) on next h = absurd h
 
-parts_on : (name : FrameName) (payload : List ℕ) (parts : Parts) (on : Then) (next : Next) → HasParts name payload parts on (Ok next) → Ok next ≡ on
-parts_on (name-is.Read kind-is.Data) payload parts-is.Opaque on next h = h
-parts_on (name-is.Read kind-is.Data) payload (parts-is.Fields section) on next h = absurd h
-parts_on (name-is.Read kind-is.Data) payload (parts-is.Settings lines) on next h = absurd h
-parts_on (name-is.Read kind-is.Data) payload (parts-is.Capsules capsules) on next (inl e) = e
-parts_on (name-is.Read kind-is.Data) payload (parts-is.Capsules capsules) on next (inr stops) = absurd stops
-parts_on (name-is.Read kind-is.Headers) payload parts-is.Opaque on next h = absurd h
-parts_on (name-is.Read kind-is.Headers) payload (parts-is.Fields section) on next h = section_on section.fault on next h.1
-parts_on (name-is.Read kind-is.Headers) payload (parts-is.Settings lines) on next h = absurd h
-parts_on (name-is.Read kind-is.Headers) payload (parts-is.Capsules capsules) on next h = absurd h
-parts_on (name-is.Read kind-is.Settings) payload parts-is.Opaque on next h = absurd h
-parts_on (name-is.Read kind-is.Settings) payload (parts-is.Fields section) on next h = absurd h
-parts_on (name-is.Read kind-is.Settings) payload (parts-is.Settings lines) on next h = settings_on (settings_in payload) on next h.1
-parts_on (name-is.Read kind-is.Settings) payload (parts-is.Capsules capsules) on next h = absurd h
-parts_on (name-is.Read kind-is.WebTransport) payload parts-is.Opaque on next h = h
-parts_on (name-is.Read kind-is.WebTransport) payload (parts-is.Fields section) on next h = absurd h
-parts_on (name-is.Read kind-is.WebTransport) payload (parts-is.Settings lines) on next h = absurd h
-parts_on (name-is.Read kind-is.WebTransport) payload (parts-is.Capsules capsules) on next h = absurd h
-parts_on (name-is.Read (kind-is.Exercise number)) payload parts-is.Opaque on next h = h
-parts_on (name-is.Read (kind-is.Exercise number)) payload (parts-is.Fields section) on next h = absurd h
-parts_on (name-is.Read (kind-is.Exercise number)) payload (parts-is.Settings lines) on next h = absurd h
-parts_on (name-is.Read (kind-is.Exercise number)) payload (parts-is.Capsules capsules) on next h = absurd h
-parts_on name-is.CancelPush payload parts-is.Opaque on next h = h
-parts_on name-is.CancelPush payload (parts-is.Fields section) on next h = absurd h
-parts_on name-is.CancelPush payload (parts-is.Settings lines) on next h = absurd h
-parts_on name-is.CancelPush payload (parts-is.Capsules capsules) on next h = absurd h
-parts_on name-is.PushPromise payload parts-is.Opaque on next h = h
-parts_on name-is.PushPromise payload (parts-is.Fields section) on next h = absurd h
-parts_on name-is.PushPromise payload (parts-is.Settings lines) on next h = absurd h
-parts_on name-is.PushPromise payload (parts-is.Capsules capsules) on next h = absurd h
-parts_on name-is.Goaway payload parts-is.Opaque on next h = h
-parts_on name-is.Goaway payload (parts-is.Fields section) on next h = absurd h
-parts_on name-is.Goaway payload (parts-is.Settings lines) on next h = absurd h
-parts_on name-is.Goaway payload (parts-is.Capsules capsules) on next h = absurd h
-parts_on name-is.MaxPushId payload parts-is.Opaque on next h = h
-parts_on name-is.MaxPushId payload (parts-is.Fields section) on next h = absurd h
-parts_on name-is.MaxPushId payload (parts-is.Settings lines) on next h = absurd h
-parts_on name-is.MaxPushId payload (parts-is.Capsules capsules) on next h = absurd h
-parts_on name-is.PriorityUpdate payload parts-is.Opaque on next h = h
-parts_on name-is.PriorityUpdate payload (parts-is.Fields section) on next h = absurd h
-parts_on name-is.PriorityUpdate payload (parts-is.Settings lines) on next h = absurd h
-parts_on name-is.PriorityUpdate payload (parts-is.Capsules capsules) on next h = absurd h
-parts_on name-is.Http2 payload parts-is.Opaque on next h = h
-parts_on name-is.Http2 payload (parts-is.Fields section) on next h = absurd h
-parts_on name-is.Http2 payload (parts-is.Settings lines) on next h = absurd h
-parts_on name-is.Http2 payload (parts-is.Capsules capsules) on next h = absurd h
-parts_on name-is.Unknown payload parts-is.Opaque on next h = h
-parts_on name-is.Unknown payload (parts-is.Fields section) on next h = absurd h
-parts_on name-is.Unknown payload (parts-is.Settings lines) on next h = absurd h
-parts_on name-is.Unknown payload (parts-is.Capsules capsules) on next h = absurd h
+parts_on : (name : FrameName) (place : ℕ) (payload : List ℕ) (parts : Parts) (on : Then) (next : Next) → HasParts name place payload parts on (Ok next) → Ok next ≡ on
+parts_on (name-is.Read kind-is.Data) place payload parts-is.Opaque on next h = h
+parts_on (name-is.Read kind-is.Data) place payload (parts-is.Fields section) on next h = absurd h
+parts_on (name-is.Read kind-is.Data) place payload (parts-is.Settings lines) on next h = absurd h
+parts_on (name-is.Read kind-is.Data) place payload (parts-is.Capsules capsules) on next (inl e) = e
+parts_on (name-is.Read kind-is.Data) place payload (parts-is.Capsules capsules) on next (inr stops) = absurd stops
+parts_on (name-is.Read kind-is.Headers) place payload parts-is.Opaque on next h = absurd h
+parts_on (name-is.Read kind-is.Headers) place payload (parts-is.Fields section) on next h = section_on place section.fault on next h.1
+parts_on (name-is.Read kind-is.Headers) place payload (parts-is.Settings lines) on next h = absurd h
+parts_on (name-is.Read kind-is.Headers) place payload (parts-is.Capsules capsules) on next h = absurd h
+parts_on (name-is.Read kind-is.Settings) place payload parts-is.Opaque on next h = absurd h
+parts_on (name-is.Read kind-is.Settings) place payload (parts-is.Fields section) on next h = absurd h
+parts_on (name-is.Read kind-is.Settings) place payload (parts-is.Settings lines) on next h = settings_on place (settings_in payload) on next h.1
+parts_on (name-is.Read kind-is.Settings) place payload (parts-is.Capsules capsules) on next h = absurd h
+parts_on (name-is.Read kind-is.WebTransport) place payload parts-is.Opaque on next h = h
+parts_on (name-is.Read kind-is.WebTransport) place payload (parts-is.Fields section) on next h = absurd h
+parts_on (name-is.Read kind-is.WebTransport) place payload (parts-is.Settings lines) on next h = absurd h
+parts_on (name-is.Read kind-is.WebTransport) place payload (parts-is.Capsules capsules) on next h = absurd h
+parts_on (name-is.Read (kind-is.Exercise number)) place payload parts-is.Opaque on next h = h
+parts_on (name-is.Read (kind-is.Exercise number)) place payload (parts-is.Fields section) on next h = absurd h
+parts_on (name-is.Read (kind-is.Exercise number)) place payload (parts-is.Settings lines) on next h = absurd h
+parts_on (name-is.Read (kind-is.Exercise number)) place payload (parts-is.Capsules capsules) on next h = absurd h
+parts_on name-is.CancelPush place payload parts-is.Opaque on next h = h
+parts_on name-is.CancelPush place payload (parts-is.Fields section) on next h = absurd h
+parts_on name-is.CancelPush place payload (parts-is.Settings lines) on next h = absurd h
+parts_on name-is.CancelPush place payload (parts-is.Capsules capsules) on next h = absurd h
+parts_on name-is.PushPromise place payload parts-is.Opaque on next h = h
+parts_on name-is.PushPromise place payload (parts-is.Fields section) on next h = absurd h
+parts_on name-is.PushPromise place payload (parts-is.Settings lines) on next h = absurd h
+parts_on name-is.PushPromise place payload (parts-is.Capsules capsules) on next h = absurd h
+parts_on name-is.Goaway place payload parts-is.Opaque on next h = h
+parts_on name-is.Goaway place payload (parts-is.Fields section) on next h = absurd h
+parts_on name-is.Goaway place payload (parts-is.Settings lines) on next h = absurd h
+parts_on name-is.Goaway place payload (parts-is.Capsules capsules) on next h = absurd h
+parts_on name-is.MaxPushId place payload parts-is.Opaque on next h = h
+parts_on name-is.MaxPushId place payload (parts-is.Fields section) on next h = absurd h
+parts_on name-is.MaxPushId place payload (parts-is.Settings lines) on next h = absurd h
+parts_on name-is.MaxPushId place payload (parts-is.Capsules capsules) on next h = absurd h
+parts_on name-is.PriorityUpdate place payload parts-is.Opaque on next h = h
+parts_on name-is.PriorityUpdate place payload (parts-is.Fields section) on next h = absurd h
+parts_on name-is.PriorityUpdate place payload (parts-is.Settings lines) on next h = absurd h
+parts_on name-is.PriorityUpdate place payload (parts-is.Capsules capsules) on next h = absurd h
+parts_on name-is.Http2 place payload parts-is.Opaque on next h = h
+parts_on name-is.Http2 place payload (parts-is.Fields section) on next h = absurd h
+parts_on name-is.Http2 place payload (parts-is.Settings lines) on next h = absurd h
+parts_on name-is.Http2 place payload (parts-is.Capsules capsules) on next h = absurd h
+parts_on name-is.Unknown place payload parts-is.Opaque on next h = h
+parts_on name-is.Unknown place payload (parts-is.Fields section) on next h = absurd h
+parts_on name-is.Unknown place payload (parts-is.Settings lines) on next h = absurd h
+parts_on name-is.Unknown place payload (parts-is.Capsules capsules) on next h = absurd h
 
 -- a frame that is not refused
-judged_on : (fault : Option ErrorCode) (name : FrameName) (payload : List ℕ) (parts : Parts) (on : Then) (next : Next) → Judged fault name payload parts on (Ok next) → (fault ≡ None) × (Ok next ≡ on)
-judged_on (Some c) name payload parts on next h = absurd h.1
-judged_on None name payload parts on next h = (refl, parts_on name payload parts on next h)
+judged_on : (fault : Option ErrorCode) (name : FrameName) (place : ℕ) (payload : List ℕ) (parts : Parts) (on : Then) (next : Next) → Judged fault name place payload parts on (Ok next) → (fault ≡ None) × (Ok next ≡ on)
+judged_on (Some c) name place payload parts on next h = absurd h.1
+judged_on None name place payload parts on next h = (refl, parts_on name place payload parts on next h)
 
 -- ---- the first frame of the bytes
 
@@ -188,8 +188,8 @@ name_is : (n : ℕ) (k : Option FrameKind) → kind_of n ≡ k → frame_name_of
 unfolding frame_name_of
 name_is n k e = ap (λ (o : Option FrameKind). named o n) e
 
-frame_goes : (k : Option FrameKind) (f : FrameItem) (role : StreamRole) (first : Bool) (bytes : List ℕ) (len : ℕ) (next : Next) (tail : Tail) → kind_of f.number ≡ k → IsFrameAt role first bytes len f (Ok next) → len ≤ length bytes → f.present ≡ f.announced → name_fault role first f.name ≡ None → next ≡ next-is.Frames role (still_first first f.name) → IsWithin f.name f.announced → Goes role first bytes len (content-is.Frame f) next tail
-frame_goes None f role first bytes len next tail e r within whole allowed goes readable =
+frame_goes : (k : Option FrameKind) (f : FrameItem) (role : StreamRole) (first : Bool) (place : ℕ) (bytes : List ℕ) (len : ℕ) (next : Next) (tail : Tail) → kind_of f.number ≡ k → IsFrameAt role first place bytes len f (Ok next) → len ≤ length bytes → f.present ≡ f.announced → name_fault role first f.name ≡ None → next ≡ next-is.Frames role (still_first first f.name) → IsWithin f.name f.announced → Goes role first bytes len (content-is.Frame f) next tail
+frame_goes None f role first place bytes len next tail e r within whole allowed goes readable =
     let name : f.name ≡ other_name f.number = r.name ∙ name_is f.number None e in
     let s = skipped f.number in
     let there : f.announced ≤ length (drop f.head bytes) = omega (arith, length-drop f.head bytes, r.size, whole) in
@@ -206,7 +206,7 @@ frame_goes None f role first bytes len next tail e r within whole allowed goes r
       on = goes ∙ ap (λ (x : Bool). next-is.Frames role x) (ap (λ (x : FrameName). still_first first x) name ∙ s.0 first);
       frames = unknown_frames (role_of role) first bytes (drop len bytes) tail at ∙ ap (λ (fs : List Frame). fs ++ (run (role_of role) first (drop len bytes) tail).frames) (sym none);
     }
-frame_goes (Some kind) f role first bytes len next tail e r within whole allowed goes readable =
+frame_goes (Some kind) f role first place bytes len next tail e r within whole allowed goes readable =
     let name : f.name ≡ name-is.Read kind = r.name ∙ name_is f.number (Some kind) e in
     let plain : is_session (Some kind) ≡ false = ap is_session (sym e) ∙ r.plain in
     let small : f.announced ≤ 4096 = subst (λ (x : FrameName). IsWithin x f.announced) name readable in
@@ -226,49 +226,49 @@ frame_goes (Some kind) f role first bytes len next tail e r within whole allowed
       frames = ap (λ (x : Run). x.frames) (run-allowed (role_of role) first bytes (drop len bytes) tail (PlainOf kind (take f.announced (drop f.head bytes))) at rule_none) ∙ ap (λ (fs : List Frame). fs ++ (run (role_of role) false (drop len bytes) tail).frames) one;
     }
 
-refused_on : (even : Bool) (fault : Option ErrorCode) (next : Next) → IsRefused even fault (Ok next) → ⊥
-refused_on false fault next h = h
-refused_on true None next h = h
-refused_on true (Some c) next h = h
+refused_on : (place : ℕ) (even : Bool) (fault : Option ErrorCode) (next : Next) → IsRefused place even fault (Ok next) → ⊥
+refused_on place false fault next h = h
+refused_on place true None next h = h
+refused_on place true (Some c) next h = h
 
-no_frame_on : (role : StreamRole) (first : Bool) (pair : Option ((ℕ × ℕ) × List ℕ)) (next : Next) → IsNoFrame role first pair (Ok next) → ⊥
-no_frame_on role first None next h = h
-no_frame_on role first (Some ((number, id), rest)) next h = refused_on (id % 4 == 0) (rule (role_of role) first kind-is.WebTransport) next h.1
+no_frame_on : (role : StreamRole) (first : Bool) (place : ℕ) (bytes : List ℕ) (pair : Option ((ℕ × ℕ) × List ℕ)) (next : Next) → IsNoFrame role first place bytes pair (Ok next) → ⊥
+no_frame_on role first place bytes None next h = h
+no_frame_on role first place bytes (Some ((number, id), rest)) next h = refused_on place (id % 4 == 0) (rule (role_of role) first kind-is.WebTransport) next h.1
 
-one_item : (content : Content) (role : StreamRole) (first : Bool) (bytes : List ℕ) (len : ℕ) (next : Next) (tail : Tail) → len ≤ length bytes → IsNext (next-is.Frames role first) bytes len content (Ok next) → IsReadable content → (next ≡ next-is.Payload) ⊎ Goes role first bytes len content next tail
-one_item (content-is.Frame f) role first bytes len next tail within r readable = elim (cases_lt f.present f.announced) [
-  | inl cut ↦ let (all, on, stops, part) = r.cut cut in absurd (cut_on f.name f.parts on next stops part)
+one_item : (content : Content) (role : StreamRole) (first : Bool) (place : ℕ) (bytes : List ℕ) (len : ℕ) (next : Next) (tail : Tail) → len ≤ length bytes → IsNext (next-is.Frames role first) place bytes len content (Ok next) → IsReadable content → (next ≡ next-is.Payload) ⊎ Goes role first bytes len content next tail
+one_item (content-is.Frame f) role first place bytes len next tail within r readable = elim (cases_lt f.present f.announced) [
+  | inl cut ↦ let (all, on, stops, part) = r.cut cut in absurd (cut_on f.name f.parts on next place (f.announced - f.present) (codes "frame") stops part)
   | inr full ↦
       let whole : f.present ≡ f.announced = omega (arith, r.most, full) in
-      let (allowed, on) = judged_on (name_fault role first f.name) f.name (take f.present (drop f.head bytes)) f.parts (Ok (next-is.Frames role (still_first first f.name))) next (r.whole whole) in
-      inr (frame_goes (kind_of f.number) f role first bytes len next tail refl r within whole allowed (ok_is {E = End} next (next-is.Frames role (still_first first f.name)) on) readable)
+      let (allowed, on) = judged_on (name_fault role first f.name) f.name place (take f.present (drop f.head bytes)) f.parts (Ok (next-is.Frames role (still_first first f.name))) next (r.whole whole) in
+      inr (frame_goes (kind_of f.number) f role first place bytes len next tail refl r within whole allowed (ok_is {E = End} next (next-is.Frames role (still_first first f.name)) on) readable)
 ]
-one_item (content-is.Session id) role first bytes len next tail within h readable = inl (ok_is {E = End} next next-is.Payload h.2)
-one_item content-is.Unread role first bytes len next tail within h readable = absurd (no_frame_on role first (pair_at bytes) next h.1)
-one_item (content-is.Stream head) role first bytes len next tail within h readable = absurd h
-one_item content-is.Payload role first bytes len next tail within h readable = absurd h
-one_item (content-is.Capsule c) role first bytes len next tail within h readable = absurd h
-one_item (content-is.Datagram d) role first bytes len next tail within h readable = absurd h
-one_item (content-is.Section section) role first bytes len next tail within h readable = absurd h
-one_item (content-is.Settings lines) role first bytes len next tail within h readable = absurd h
+one_item (content-is.Session id) role first place bytes len next tail within h readable = inl (ok_is {E = End} next next-is.Payload h.2)
+one_item content-is.Unread role first place bytes len next tail within h readable = absurd (no_frame_on role first place bytes (pair_at bytes) next h.1)
+one_item (content-is.Stream head) role first place bytes len next tail within h readable = absurd h
+one_item content-is.Payload role first place bytes len next tail within h readable = absurd h
+one_item (content-is.Capsule c) role first place bytes len next tail within h readable = absurd h
+one_item (content-is.Datagram d) role first place bytes len next tail within h readable = absurd h
+one_item (content-is.Section section) role first place bytes len next tail within h readable = absurd h
+one_item (content-is.Settings lines) role first place bytes len next tail within h readable = absurd h
 
 -- ---- what follows payload, or the end of the reading
 
-payload_stays : (content : Content) (bytes : List ℕ) (len : ℕ) (after : Then) → IsNext next-is.Payload bytes len content after → after ≡ Ok next-is.Payload
-payload_stays content-is.Payload bytes len after h = h.1
-payload_stays (content-is.Frame f) bytes len after h = absurd h
-payload_stays (content-is.Session id) bytes len after h = absurd h
-payload_stays content-is.Unread bytes len after h = absurd h
-payload_stays (content-is.Stream head) bytes len after h = absurd h
-payload_stays (content-is.Capsule c) bytes len after h = absurd h
-payload_stays (content-is.Datagram d) bytes len after h = absurd h
-payload_stays (content-is.Section section) bytes len after h = absurd h
-payload_stays (content-is.Settings lines) bytes len after h = absurd h
+payload_stays : (content : Content) (place : ℕ) (bytes : List ℕ) (len : ℕ) (after : Then) → IsNext next-is.Payload place bytes len content after → after ≡ Ok next-is.Payload
+payload_stays content-is.Payload place bytes len after h = h.1
+payload_stays (content-is.Frame f) place bytes len after h = absurd h
+payload_stays (content-is.Session id) place bytes len after h = absurd h
+payload_stays content-is.Unread place bytes len after h = absurd h
+payload_stays (content-is.Stream head) place bytes len after h = absurd h
+payload_stays (content-is.Capsule c) place bytes len after h = absurd h
+payload_stays (content-is.Datagram d) place bytes len after h = absurd h
+payload_stays (content-is.Section section) place bytes len after h = absurd h
+payload_stays (content-is.Settings lines) place bytes len after h = absurd h
 
 never_back : (items : List Item) (role : StreamRole) (first : Bool) (stage final : Stage) (bytes rest : List ℕ) → Reads (Ok next-is.Payload) stage bytes items (Ok (next-is.Frames role first)) final rest → ⊥
 never_back [] role first stage final bytes rest (same, still, all) = cc same
 never_back (item ∷ items) role first stage final bytes rest (after, next, within, step, moves, reads) =
-    never_back items role first next final (drop item.length bytes) rest (subst (λ (a : Then). Reads a next (drop item.length bytes) items (Ok (next-is.Frames role first)) final rest) (payload_stays item.content bytes item.length after step) reads)
+    never_back items role first next final (drop item.length bytes) rest (subst (λ (a : Then). Reads a next (drop item.length bytes) items (Ok (next-is.Frames role first)) final rest) (payload_stays item.content item.at bytes item.length after step) reads)
 
 stopped : (items : List Item) (end : End) (next : Next) (stage final : Stage) (bytes rest : List ℕ) → Reads (Err end) stage bytes items (Ok next) final rest → ⊥
 stopped [] end next stage final bytes rest (same, still, all) = cc same
@@ -283,7 +283,7 @@ frames_of_run [] role first still stage final bytes rest tail (same, kept, all) 
     rw (one, all) refl
 frames_of_run (item ∷ items) role first still stage final bytes rest tail (Err end, mid, within, step, moves, reads) readable =
     absurd (stopped items end (next-is.Frames role still) mid final (drop item.length bytes) rest reads)
-frames_of_run (item ∷ items) role first still stage final bytes rest tail (Ok next, mid, within, step, moves, reads) (one, others) = elim (one_item item.content role first bytes item.length next tail within.1 step one) [
+frames_of_run (item ∷ items) role first still stage final bytes rest tail (Ok next, mid, within, step, moves, reads) (one, others) = elim (one_item item.content role first item.at bytes item.length next tail within.1 step one) [
   | inl is ↦ absurd (never_back items role still mid final (drop item.length bytes) rest (subst (λ (n : Next). Reads (Ok n) mid (drop item.length bytes) items (Ok (next-is.Frames role still)) final rest) is reads))
   | inr g ↦
       let more = frames_of_run items role g.still still mid final (drop item.length bytes) rest tail (subst (λ (n : Next). Reads (Ok n) mid (drop item.length bytes) items (Ok (next-is.Frames role still)) final rest) g.on reads) others in

@@ -36,25 +36,25 @@ odd_front : (id : ℕ) (rest : List ℕ) → (id % 4 == 0) ≡ false → front_a
 odd_front id rest odd = rw odd refl
 
 -- the run has no frame
-abbrev HasNone : StreamRole → Bool → List ℕ → Tail → Then → Type 0
-HasNone role first bytes tail after =
+abbrev HasNone : StreamRole → Bool → ℕ → List ℕ → Tail → Then → Type 0
+HasNone role first place bytes tail after =
     (run (role_of role) first bytes tail ≡ ends (run_stop bytes bytes tail))
-    ⊎ ((c : ErrorCode) × (run (role_of role) first bytes tail ≡ ends (H3 c)) × StopsWith c after)
+    ⊎ ((c : ErrorCode) × (run (role_of role) first bytes tail ≡ ends (H3 c)) × StopsWith place c after)
 
-refused : (even : Bool) (fault : Option ErrorCode) (role : StreamRole) (first : Bool) (bytes rest : List ℕ) (id : ℕ) (after : Then) (tail : Tail) → (id % 4 == 0) ≡ even → rule (role_of role) first kind-is.WebTransport ≡ fault → front bytes ≡ front_after (announcement_of (Some kind-is.WebTransport) id) rest → IsRefused even fault after → HasNone role first bytes tail after
-refused false fault role first bytes rest id after tail e is begins stops =
+refused : (even : Bool) (fault : Option ErrorCode) (role : StreamRole) (first : Bool) (place : ℕ) (bytes rest : List ℕ) (id : ℕ) (after : Then) (tail : Tail) → (id % 4 == 0) ≡ even → rule (role_of role) first kind-is.WebTransport ≡ fault → front bytes ≡ front_after (announcement_of (Some kind-is.WebTransport) id) rest → IsRefused place even fault after → HasNone role first place bytes tail after
+refused false fault role first place bytes rest id after tail e is begins stops =
     inr (code-is.Id, run-bad_id (role_of role) first bytes rest tail (begins ∙ odd_front id rest e), stops)
-refused true (Some c) role first bytes rest id after tail e is begins stops =
+refused true (Some c) role first place bytes rest id after tail e is begins stops =
     inr (c, run-refused (role_of role) first bytes rest tail (WebTransportOf id) c (begins ∙ even_front id rest e) is, stops)
-refused true None role first bytes rest id after tail e is begins stops = absurd stops
+refused true None role first place bytes rest id after tail e is begins stops = absurd stops
 
-no_frame : (pair : Option ((ℕ × ℕ) × List ℕ)) (role : StreamRole) (first : Bool) (bytes : List ℕ) (after : Then) (tail : Tail) → pair_at bytes ≡ pair → IsNoFrame role first pair after → HasNone role first bytes tail after
-no_frame None role first bytes after tail e stops = inl (run-short (role_of role) first bytes tail (front_short bytes e))
-no_frame (Some ((number, id), rest)) role first bytes after tail e (session, stops) =
+no_frame : (pair : Option ((ℕ × ℕ) × List ℕ)) (role : StreamRole) (first : Bool) (place : ℕ) (bytes : List ℕ) (after : Then) (tail : Tail) → pair_at bytes ≡ pair → IsNoFrame role first place bytes pair after → HasNone role first place bytes tail after
+no_frame None role first place bytes after tail e stops = inl (run-short (role_of role) first bytes tail (front_short bytes e))
+no_frame (Some ((number, id), rest)) role first place bytes after tail e (session, stops) =
     let begins : front bytes ≡ front_after (announcement_of (Some kind-is.WebTransport) id) rest =
     front_of_pair bytes rest number id e
     ∙ ap (λ (k : Option FrameKind). front_after (announcement_of k id) rest) (session_kind number session) in
-    refused (id % 4 == 0) (rule (role_of role) first kind-is.WebTransport) role first bytes rest id after tail refl refl begins stops
+    refused (id % 4 == 0) (rule (role_of role) first kind-is.WebTransport) role first place bytes rest id after tail refl refl begins stops
 
-pub unread_stops : (role : StreamRole) (first : Bool) (bytes : List ℕ) (len : ℕ) (after : Then) (tail : Tail) → IsNext (Frames role first) bytes len Unread after → HasNone role first bytes tail after
-unread_stops role first bytes len after tail (all, none) = no_frame (pair_at bytes) role first bytes after tail refl none
+pub unread_stops : (role : StreamRole) (first : Bool) (place : ℕ) (bytes : List ℕ) (len : ℕ) (after : Then) (tail : Tail) → IsNext (Frames role first) place bytes len Unread after → HasNone role first place bytes tail after
+unread_stops role first place bytes len after tail (all, none) = no_frame (pair_at bytes) role first place bytes after tail refl none

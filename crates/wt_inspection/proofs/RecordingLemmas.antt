@@ -1,8 +1,9 @@
 -- Items of a recording, one more at a time; and bytes of which none can be read.
 use Rattle.std.proofs.Common.{◌≡◌, ℕ, ◌+◌, ◌%◌, Bool, true, List, [], ◌∷◌, ◌++◌, Option, Some, None, Ok, drop, refl, sym, ap, ◌∙◌}
-use Rattle.std.specs.Prelude.{◌==◌}
+use Rattle.std.specs.Prelude.{◌==◌, ◌-◌, codes, length}
 use Rattle.std.proofs.lemmas.List.{drop-drop}
 use Rattle.wtp_core.specs.Varint.{number_at}
+use Rattle.wtp_core.specs.VarintLenNeeded.{varint_len_needed}
 use Rattle.wtp_wire.specs.Kind.{kind_of}
 use Rattle.wtp_wire.specs.StreamKind.{stream_kind_of}
 use Rattle.wtp_wire.specs.Role.{role_of}
@@ -21,34 +22,34 @@ use Rattle.wtp_wire.proofs.HeadPairLemmas.{two_at}
 use Rattle.wt_inspection.proofs.PairLemmas.{some_is}
 use Rattle.wt_inspection.specs.DataCapsules.{Stage}
 use Rattle.wtp_wire.specs.Settings.{pair_at}
-use Rattle.wt_inspection.specs.Recording.{Then, IsPart, IsCut, IsStep, IsNext, IsNoFrame, IsNoHead, IsNoSession, IsRefused, IsSessionHead, Moves, Reads, after_head, has_session, is_session}
+use Rattle.wt_inspection.specs.Recording.{Then, IsPart, IsCut, IsStep, IsNext, IsNoFrame, IsNoHead, IsNoSession, IsRefused, IsSessionHead, Moves, Reads, after_head, has_session, is_session, pair_lacks}
 
 -- no item yet
 pub reads_none : (items : List Item) (before last : Then) (stage : Stage) (bytes : List ℕ) (at : ℕ) → items ≡ [] → at ≡ 0 → last ≡ before → Reads before stage bytes items last stage (drop at bytes)
 reads_none items before last stage bytes at none start same = rw (none, start, same) (refl, refl, refl)
 
 -- one more item
-reads_with : (items : List Item) (before mid after : Then) (stage now next : Stage) (bytes rest : List ℕ) (item : Item) → Reads before stage bytes items mid now rest → IsPart item.length rest → IsStep mid rest item.length item.content after → Moves mid rest item.content after now next → Reads before stage bytes (items ++ item ∷ []) after next (drop item.length rest)
+reads_with : (items : List Item) (before mid after : Then) (stage now next : Stage) (bytes rest : List ℕ) (item : Item) → Reads before stage bytes items mid now rest → IsPart item.length rest → IsStep mid item.at rest item.length item.content after → Moves mid item.at rest item.content after now next → Reads before stage bytes (items ++ item ∷ []) after next (drop item.length rest)
 reads_with [] before mid after stage now next bytes rest item (same, still, all) within one moves = (after, next, rw all within, rw (same, all) one, rw (same, all, still) moves, (refl, refl, ap (λ (b : List ℕ). drop item.length b) all))
 reads_with (first ∷ items) before mid after stage now next bytes rest item (then, there, is, step, went, reads) within one moves =
     (then, there, is, step, went, reads_with items then mid after there now next (drop first.length bytes) rest item reads within one moves)
 
 -- one more item, which ends at the end of the items
-pub reads_more : (items more : List Item) (before mid after : Then) (stage now next : Stage) (bytes held rest : List ℕ) (at end : ℕ) (item : Item) → held ≡ bytes → rest ≡ drop at held → end ≡ at + item.length → more ≡ items ++ item ∷ [] → Reads before stage bytes items mid now (drop at bytes) → IsPart item.length rest → IsStep mid rest item.length item.content after → Moves mid rest item.content after now next → Reads before stage bytes more after next (drop end bytes)
+pub reads_more : (items more : List Item) (before mid after : Then) (stage now next : Stage) (bytes held rest : List ℕ) (at end : ℕ) (item : Item) → held ≡ bytes → rest ≡ drop at held → end ≡ at + item.length → more ≡ items ++ item ∷ [] → Reads before stage bytes items mid now (drop at bytes) → IsPart item.length rest → IsStep mid item.at rest item.length item.content after → Moves mid item.at rest item.content after now next → Reads before stage bytes more after next (drop end bytes)
 reads_more items more before mid after stage now next bytes held rest at end item same left ends is reads within step moves =
     let behind : rest ≡ drop at bytes = left ∙ ap (drop at) same in
     let there : IsPart item.length (drop at bytes) = rw behind at within in
-    let one : IsStep mid (drop at bytes) item.length item.content after = rw behind at step in
-    let went : Moves mid (drop at bytes) item.content after now next = rw behind at moves in
+    let one : IsStep mid item.at (drop at bytes) item.length item.content after = rw behind at step in
+    let went : Moves mid item.at (drop at bytes) item.content after now next = rw behind at moves in
     rw (is, ends, ← drop-drop item.length at bytes) (reads_with items before mid after stage now next bytes (drop at bytes) item reads there one went)
 
 -- ---- frames
 
-pub no_frame_cut : (role : StreamRole) (first : Bool) (bytes : List ℕ) (after : Then) → pair_at bytes ≡ None → IsCut after → IsNoFrame role first (pair_at bytes) after
-no_frame_cut role first bytes after e s = rw e s
+pub no_frame_cut : (role : StreamRole) (first : Bool) (place : ℕ) (bytes : List ℕ) (after : Then) → pair_at bytes ≡ None → IsCut place (codes "frame") (pair_lacks bytes) after → IsNoFrame role first place bytes (pair_at bytes) after
+no_frame_cut role first place bytes after e s = rw e s
 
-pub no_frame_refused : (role : StreamRole) (first : Bool) (bytes rest : List ℕ) (number id : ℕ) (after : Then) → pair_at bytes ≡ Some ((number, id), rest) → is_session (kind_of number) ≡ true → IsRefused (id % 4 == 0) (rule (role_of role) first kind-is.WebTransport) after → IsNoFrame role first (pair_at bytes) after
-no_frame_refused role first bytes rest number id after e k r = rw e (k, r)
+pub no_frame_refused : (role : StreamRole) (first : Bool) (place : ℕ) (bytes rest : List ℕ) (number id : ℕ) (after : Then) → pair_at bytes ≡ Some ((number, id), rest) → is_session (kind_of number) ≡ true → IsRefused place (id % 4 == 0) (rule (role_of role) first kind-is.WebTransport) after → IsNoFrame role first place bytes (pair_at bytes) after
+no_frame_refused role first place bytes rest number id after e k r = rw e (k, r)
 
 session_is : (k : Option FrameKind) → is_session k ≡ true → k ≡ Some kind-is.WebTransport
 session_is (Some kind-is.WebTransport) e = refl
@@ -63,14 +64,14 @@ session_kind number e = session_is (kind_of number) e
 
 -- ---- heads of unidirectional streams
 
-pub no_session_cut : (bytes : List ℕ) (after : Then) → pair_at bytes ≡ None → IsCut after → IsNoSession (pair_at bytes) after
-no_session_cut bytes after e s = rw e s
+pub no_session_cut : (place : ℕ) (bytes : List ℕ) (after : Then) → pair_at bytes ≡ None → IsCut place (codes "stream type") (pair_lacks bytes) after → IsNoSession place bytes (pair_at bytes) after
+no_session_cut place bytes after e s = rw e s
 
-pub no_session_id : (bytes rest : List ℕ) (number id : ℕ) (after : Then) → pair_at bytes ≡ Some ((number, id), rest) → IsNoSession (Some ((number, id), rest)) after → IsNoSession (pair_at bytes) after
-no_session_id bytes rest number id after e s = rw e s
+pub no_session_id : (place : ℕ) (bytes rest : List ℕ) (number id : ℕ) (after : Then) → pair_at bytes ≡ Some ((number, id), rest) → IsNoSession place bytes (Some ((number, id), rest)) after → IsNoSession place bytes (pair_at bytes) after
+no_session_id place bytes rest number id after e s = rw e s
 
-pub no_head_cut : (bytes : List ℕ) (after : Then) → number_at bytes ≡ None → IsCut after → IsNoHead (number_at bytes) bytes after
-no_head_cut bytes after e s = rw e s
+pub no_head_cut : (place : ℕ) (bytes : List ℕ) (after : Then) → number_at bytes ≡ None → IsCut place (codes "stream type") (varint_len_needed bytes - length bytes) after → IsNoHead place bytes (number_at bytes) after
+no_head_cut place bytes after e s = rw e s
 
 payload_after : (k : Option StreamKind) → has_session k ≡ true → after_head k ≡ next-is.Payload
 payload_after None e = cc e
@@ -85,17 +86,17 @@ same_number bytes mid other a b e f =
     ap (λ (t : ℕ × List ℕ). t.0) (some_is {A = ℕ × List ℕ} (a, mid) (b, other) (sym e ∙ f))
 
 -- a head with a session ID is the head of a unidirectional stream whose type has one
-pub head_session : (bytes mid : List ℕ) (len number : ℕ) (content : Content) (after : Then) → number_at bytes ≡ Some (number, mid) → has_session (stream_kind_of number) ≡ true → IsSessionHead bytes len content after → IsNext next-is.Head bytes len content after
-head_session bytes mid len number (content-is.Stream head) after e k ((id, p, m, s, named), a) =
+pub head_session : (place : ℕ) (bytes mid : List ℕ) (len number : ℕ) (content : Content) (after : Then) → number_at bytes ≡ Some (number, mid) → has_session (stream_kind_of number) ≡ true → IsSessionHead place bytes len content after → IsNext next-is.Head place bytes len content after
+head_session place bytes mid len number (content-is.Stream head) after e k ((id, p, m, s, named), a) =
     let n = two_at bytes (drop len bytes) head.number id p in
     let same : head.number ≡ number = same_number bytes n.mid mid head.number number n.first e in
     let kind : has_session (stream_kind_of head.number) ≡ true = rw same k in
     (rw kind (id, p, m, s, named), a ∙ ap (λ (x : Next). Ok x) (sym (payload_after (stream_kind_of head.number) kind)))
-head_session bytes mid len number content-is.Unread after e k (all, none) = (all, rw e (k, none))
-head_session bytes mid len number content-is.Payload after e k none = absurd none
-head_session bytes mid len number (content-is.Frame f) after e k none = absurd none
-head_session bytes mid len number (content-is.Session id) after e k none = absurd none
-head_session bytes mid len number (content-is.Capsule c) after e k none = absurd none
-head_session bytes mid len number (content-is.Datagram d) after e k none = absurd none
-head_session bytes mid len number (content-is.Section x) after e k none = absurd none
-head_session bytes mid len number (content-is.Settings lines) after e k none = absurd none
+head_session place bytes mid len number content-is.Unread after e k (all, none) = (all, rw e (k, none))
+head_session place bytes mid len number content-is.Payload after e k none = absurd none
+head_session place bytes mid len number (content-is.Frame f) after e k none = absurd none
+head_session place bytes mid len number (content-is.Session id) after e k none = absurd none
+head_session place bytes mid len number (content-is.Capsule c) after e k none = absurd none
+head_session place bytes mid len number (content-is.Datagram d) after e k none = absurd none
+head_session place bytes mid len number (content-is.Section x) after e k none = absurd none
+head_session place bytes mid len number (content-is.Settings lines) after e k none = absurd none

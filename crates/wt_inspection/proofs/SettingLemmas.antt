@@ -14,21 +14,21 @@ settings_with (first ∷ lines) bytes behind rest line (next, e, are) one =
 
 -- ---- the first fault
 
-go_on : {A : Type 0} (r : Result A ErrorCode) (on : Then) → HasFault r None → AfterSettings r on on
-go_on (Ok m) on h = refl
-go_on (Err c) on h = absurd (cc h)
+go_on : {A : Type 0} (place : ℕ) (r : Result A ErrorCode) (on : Then) → HasFault r None → AfterSettings place r on on
+go_on place (Ok m) on h = refl
+go_on place (Err c) on h = absurd (cc h)
 
-pub settings_go_on : (bytes : List ℕ) (on : Then) → HasFault (settings_in bytes) None → AfterSettings (settings_in bytes) on on
-settings_go_on bytes on h = go_on (settings_in bytes) on h
+pub settings_go_on : (place : ℕ) (bytes : List ℕ) (on : Then) → HasFault (settings_in bytes) None → AfterSettings place (settings_in bytes) on on
+settings_go_on place bytes on h = go_on place (settings_in bytes) on h
 
-stop : {A : Type 0} (r : Result A ErrorCode) (on after : Then) (c : ErrorCode) → HasFault r (Some c) → StopsWith c after → AfterSettings r on after
-stop (Ok m) on after c h s = absurd (cc h)
-stop (Err d) on after c h s =
+stop : {A : Type 0} (place : ℕ) (r : Result A ErrorCode) (on after : Then) (c : ErrorCode) → HasFault r (Some c) → StopsWith place c after → AfterSettings place r on after
+stop place (Ok m) on after c h s = absurd (cc h)
+stop place (Err d) on after c h s =
     let same : d ≡ c = cc h in
     rw same s
 
-pub settings_stop : (bytes : List ℕ) (on after : Then) (c : ErrorCode) → HasFault (settings_in bytes) (Some c) → StopsWith c after → AfterSettings (settings_in bytes) on after
-settings_stop bytes on after c h s = stop (settings_in bytes) on after c h s
+pub settings_stop : (place : ℕ) (bytes : List ℕ) (on after : Then) (c : ErrorCode) → HasFault (settings_in bytes) (Some c) → StopsWith place c after → AfterSettings place (settings_in bytes) on after
+settings_stop place bytes on after c h s = stop place (settings_in bytes) on after c h s
 
 pub settings_good : (bytes : List ℕ) (m : List (ℕ × ℕ)) → settings_in bytes ≡ Ok m → HasFault (settings_in bytes) None
 settings_good bytes m e = rw e refl

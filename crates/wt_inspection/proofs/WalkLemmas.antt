@@ -1,6 +1,6 @@
 -- Capsules of data that is cut anywhere, turn by turn.
 use Rattle.std.proofs.Common.{◌≡◌, ◌≢◌, ℕ, ◌+◌, ◌-◌, ◌<◌, ◌≤◌, ◌^◌, Bool, true, false, List, [], ◌∷◌, ◌++◌, length, take, drop, Option, Some, None, Result, Ok, Err, refl, sym, ap, subst, ◌∙◌, append_assoc, append-nil, arith, inl, length-append}
-use Rattle.std.specs.Prelude.{IsSome, IfOk, min}
+use Rattle.std.specs.Prelude.{IsSome, IfOk, codes}
 use Rattle.std.proofs.lemmas.Bool.{le-ltb, lt-ltb}
 use Rattle.std.proofs.lemmas.List.{take_all, take-append-drop}
 use Rattle.wtp_core.specs.declared.error.ErrorCode.{ErrorCode}
@@ -13,7 +13,7 @@ use Rattle.wtp_wire.specs.declared.capsule.cursor.AnyCapsule.{AnyCapsule}
 use Rattle.wtp_wire.specs.declared.capsule.cursor.CapsuleCursor.{CapsuleCursor}
 use Rattle.wtp_wire.specs.declared.capsule.cursor.CapsuleSpan.{CapsuleSpan}
 use Rattle.wtp_wire.specs.declared.capsule.cursor.UnknownCapsule.{UnknownCapsule}
-use Rattle.wtp_wire.specs.AnyCapsule.{AnyIs, FindsKnown, FindsLongHead, FindsUnknown, IsUnknownHead, LeavesPart, between, missing_from}
+use Rattle.wtp_wire.specs.AnyCapsule.{AnyIs, FindsKnown, FindsLongHead, FindsUnknown, IsUnknownHead, LeavesPart, between, missing_from, missing_of}
 use Rattle.wtp_wire.specs.Capsule.{capsule_in, capsule_kind_of, capsule_number_of}
 use Rattle.wtp_wire.specs.CapsuleCursor.{IsCapsulePart, capsule_value}
 use Rattle.wtp_wire.specs.CapsuleFront.{Found, IsCapsule, IsLongHead, TooLong, Unknown, capsule_front, value_front}
@@ -49,9 +49,10 @@ use Rattle.wt_inspection.specs.declared.capsules.Taken.{Taken}
 use Rattle.wt_inspection.specs.declared.capsules.Closing.{Closing}
 use Rattle.wt_inspection.specs.declared.capsules.Closing.TheVariants as closing-is
 use Rattle.wt_inspection.specs.declared.capsules.CapsuleWalk.{CapsuleWalk}
-use Rattle.wt_inspection.specs.DataCapsules.{Stage, Opening, Plain, Session, IsFaulty, SaysBy, StartsCapsule, StartsCapsules, EndsWith}
-use Rattle.wt_inspection.specs.Recording.{Then, IsCutPart, EndsStage, HasNoFrame, HasParts, Moves, MovesFrames, MovesNext, Takes, TakesData, TakesFrame, TakesWhole, is_data, is_cut, name_fault, still_first}
-use Rattle.wt_inspection.specs.Walks.{Fits, Holds, HoldsOf, IsBad, IsStage, IsStageAt, IsWhole, Judges, JudgesBy, LacksOf, Leads, LeadsAt, PlacesCapsules, TakesPiece, begins_at, place_of}
+use Rattle.wt_inspection.specs.DataCapsules.{Stage, Opening, Plain, Session, IsFaulty, SaysBy, StartsCapsule, StartsCapsules, EndsWith, place_of}
+use Rattle.wt_inspection.specs.Recording.{Then, IsCutAt, IsCutPart, EndsStage, HasNoFrame, HasParts, Moves, MovesFrames, MovesNext, Takes, TakesData, TakesFrame, TakesWhole, is_data, name_fault, still_first}
+use Rattle.wt_inspection.specs.CapsuleNames.{capsule_name}
+use Rattle.wt_inspection.specs.Walks.{Fits, Holds, HoldsAt, HoldsOf, IsBad, IsFaultOf, IsStage, IsStageAt, IsWhole, Judges, JudgesBy, LacksOf, Leads, LeadsAt, TakesPiece, begins_at}
 
 -- ---- a capsule of an unknown type
 
@@ -72,10 +73,11 @@ lacks_ends u n came some (none, (value, e, sum)) = unknown_ends came value u.num
 lacks_more : (u : UnknownCapsule) (n m : ℕ) (came front : List ℕ) → LacksOf u n came → length front ≤ n → m ≡ n - length front → LacksOf u m (came ++ front)
 lacks_more u n m came front (none, (value, e, sum)) fits is = (none, (value ++ front, pair_at-more came value front u.number u.announced e, omega (arith, length-append value front, sum, fits, is)))
 
-lacks_whole : (u : UnknownCapsule) (n : ℕ) (came : List ℕ) (item : CapsuleItem) → n ≡ 0 → item.number ≡ u.number → item.announced ≡ u.announced → item.close ≡ None → LacksOf u n came → IsWhole came item
-lacks_whole u n came item zero number announced close (none, (value, e, sum)) = λ more. record {
+lacks_whole : (u : UnknownCapsule) (n : ℕ) (came : List ℕ) (item : CapsuleItem) → n ≡ 0 → item.number ≡ u.number → item.name.now ≡ capsule_name u.number → item.announced ≡ u.announced → item.close ≡ None → LacksOf u n came → IsWhole came item
+lacks_whole u n came item zero number name announced close (none, (value, e, sum)) = λ more. record {
   value = value ++ more;
   numbers = rw (number, announced) (pair_at-more came value more u.number u.announced e);
+  name = name ∙ ap capsule_name (sym number);
   first = rw (unknown_front came value more u.number u.announced none e (omega (arith, sum, zero))) (close, refl);
 }
 
@@ -109,10 +111,11 @@ not_other CloseWebTransportSession value j = j
 pub other_known : (kind : CapsuleKind) (value held : List ℕ) → IsCapsule kind value held → (length held < 2 ^ 62 → Judges (capsule_in held) closing-is.Other) → ⊥
 other_known kind value held k judges = not_other kind value (known_judged kind value held closing-is.Other k judges)
 
-pub close_known : (kind : CapsuleKind) (value held : List ℕ) (reason : CloseReason) (item : CapsuleItem) → item.number ≡ capsule_number_of kind → item.announced ≡ length value → item.close ≡ Some reason → IsCapsule kind value held → (length held < 2 ^ 62 → Judges (capsule_in held) (closing-is.Close reason)) → IsWhole held item
-close_known kind value held reason item number announced close k judges = λ more. record {
+pub close_known : (kind : CapsuleKind) (value held : List ℕ) (reason : CloseReason) (item : CapsuleItem) → item.number ≡ capsule_number_of kind → item.name.now ≡ capsule_name (capsule_number_of kind) → item.announced ≡ length value → item.close ≡ Some reason → IsCapsule kind value held → (length held < 2 ^ 62 → Judges (capsule_in held) (closing-is.Close reason)) → IsWhole held item
+close_known kind value held reason item number name announced close k judges = λ more. record {
   value = value ++ more;
   numbers = rw (number, announced) (ap (λ (x : List ℕ). pair_at (x ++ more)) k.parts ∙ ap pair_at (append_assoc k.head value more) ∙ pair_at-encoded (capsule_number_of kind) (length value) k.head (value ++ more) k.encoded);
+  name = name ∙ ap capsule_name (sym number);
   first = rw (known_front kind value held more k, close) (says kind value reason (known_judged kind value held (closing-is.Close reason) k judges), refl);
 }
 
@@ -185,10 +188,10 @@ pending_is walk u came is h = pending_unknown walk came (rw is refl) h
 pub still_lacks : (u : UnknownCapsule) (skip_remaining : ℕ) (held came : List ℕ) → 0 < skip_remaining → held ≡ [] → LacksOf u skip_remaining came → HoldsOf (Some u) skip_remaining held came × (length held ≤ 1043)
 still_lacks u skip_remaining held came some none lacks = ((some, none, lacks), omega (arith, ap length none))
 
-pub lacks_none : (u : UnknownCapsule) (skip_remaining : ℕ) (held came : List ℕ) (item : CapsuleItem) → skip_remaining ≤ 0 → held ≡ [] → item.number ≡ u.number → item.announced ≡ u.announced → item.close ≡ None → LacksOf u skip_remaining came → IsWhole came item × (HoldsOf None skip_remaining held [] × (length held ≤ 1043))
-lacks_none u skip_remaining held came item zero none number announced close lacks =
+pub lacks_none : (u : UnknownCapsule) (skip_remaining : ℕ) (held came : List ℕ) (item : CapsuleItem) → skip_remaining ≤ 0 → held ≡ [] → item.number ≡ u.number → item.name.now ≡ capsule_name u.number → item.announced ≡ u.announced → item.close ≡ None → LacksOf u skip_remaining came → IsWhole came item × (HoldsOf None skip_remaining held [] × (length held ≤ 1043))
+lacks_none u skip_remaining held came item zero none number name announced close lacks =
     let none_due : skip_remaining ≡ 0 = omega (arith, zero) in
-    (lacks_whole u skip_remaining came item none_due number announced close lacks, holds_none None skip_remaining held refl none_due none)
+    (lacks_whole u skip_remaining came item none_due number name announced close lacks, holds_none None skip_remaining held refl none_due none)
 
 -- ---- a turn
 
@@ -266,103 +269,119 @@ ok_map P Q (Err e) f h = h
 
 -- ---- a piece of data
 
-places_more : (items : List CapsuleItem) (all bytes behind : List ℕ) (item : CapsuleItem) (place : ℕ → ℕ) → PlacesCapsules place all items bytes → StartsCapsule bytes item behind → item.at ≡ place (length bytes) → PlacesCapsules place all (items ++ item ∷ []) behind
-places_more [] all bytes behind item place same one at = (behind, rw same one, rw same at, refl)
-places_more (first ∷ items) all bytes behind item place (next, is, where_is, are) one at = (next, is, where_is, places_more items next bytes behind item place are one at)
-
-places_starts : (items : List CapsuleItem) (bytes rest : List ℕ) (place : ℕ → ℕ) → PlacesCapsules place bytes items rest → StartsCapsules bytes items rest
-places_starts [] bytes rest place same = same
-places_starts (c ∷ cs) bytes rest place (behind, is, where_is, are) = (behind, is, places_starts cs behind rest place are)
+starts_more : (items : List CapsuleItem) (all bytes behind : List ℕ) (item : CapsuleItem) (place : ℕ → ℕ) → StartsCapsules place all items bytes → StartsCapsule bytes item behind → item.at ≡ place (length bytes) → StartsCapsules place all (items ++ item ∷ []) behind
+starts_more [] all bytes behind item place same one at = (behind, rw same one, rw same at, refl)
+starts_more (first ∷ items) all bytes behind item place (next, is, where_is, are) one at = (next, is, where_is, starts_more items next bytes behind item place are one at)
 
 -- ---- the message
 
 -- a session goes on, if no capsule of the payload has a fault
-pub good_ends : (place : ℕ → ℕ) (walk new : CapsuleWalk) (phase : Phase) (payload : List ℕ) (taken : Taken) (on : Then) (stage : Stage) → ((came : List ℕ) → Holds walk came → TakesPiece place new (came ++ payload) taken) → taken.fault ≡ None → phase ≡ phase-is.Session new → IsStage (phase-is.Session walk) stage → (next : Stage) × TakesData stage payload taken.items.items on on next × IsStageAt on phase next
-good_ends place walk new phase payload taken on (Session held) adds none is h =
-    let (rest, places, rests) = adds held h in
-    let (still, at) : Holds new rest × (rest ≢ [] → new.at ≡ place (length rest)) = rw none at rests in
-    (Session rest, (rest, None, places_starts taken.items.items (held ++ payload) rest place places, holds_ends new rest still, refl, refl), rw is (stage_at on new rest still))
+pub good_ends : (at : ℕ) (walk new : CapsuleWalk) (phase : Phase) (payload : List ℕ) (taken : Taken) (on : Then) (stage : Stage) → ((came : List ℕ) (start : ℕ) → HoldsAt walk came start → TakesPiece (place_of start at (length payload)) new (came ++ payload) taken) → taken.fault ≡ None → phase ≡ phase-is.Session new → IsStage (phase-is.Session walk) stage → (next : Stage) × TakesData stage at payload taken.items.items on on next × IsStageAt on phase next
+good_ends at walk new phase payload taken on (Session held start) adds none is h =
+    let place = place_of start at (length payload) in
+    let (rest, starts, rests) = adds held start h in
+    let still : HoldsAt new rest (place (length rest)) = rw none at rests in
+    (Session rest (place (length rest)), (rest, None, starts, holds_ends new rest still.0, refl, refl), rw is (stage_at on new rest (place (length rest)) still))
   where
-    stage_at : (on : Then) (walk : CapsuleWalk) (rest : List ℕ) → Holds walk rest → IsStageAt on (phase-is.Session walk) (Session rest)
-    stage_at (Ok next) walk rest h = h
-    stage_at (Err end) walk rest h = tt
-good_ends place walk new phase payload taken on Opening adds none is h = absurd h
-good_ends place walk new phase payload taken on Plain adds none is h = absurd h
+    stage_at : (on : Then) (walk : CapsuleWalk) (rest : List ℕ) (start : ℕ) → HoldsAt walk rest start → IsStageAt on (phase-is.Session walk) (Session rest start)
+    stage_at (Ok next) walk rest start h = h
+    stage_at (Err end) walk rest start h = tt
+good_ends at walk new phase payload taken on Opening adds none is h = absurd h
+good_ends at walk new phase payload taken on Plain adds none is h = absurd h
 
-pub bad_ends : (place : ℕ → ℕ) (walk new : CapsuleWalk) (phase : Phase) (payload : List ℕ) (taken : Taken) (fault : Fault) (on : Then) (stage : Stage) → ((came : List ℕ) → Holds walk came → TakesPiece place new (came ++ payload) taken) → taken.fault ≡ Some fault → IsStage (phase-is.Session walk) stage → (next : Stage) × TakesData stage payload taken.items.items on (Err (end-is.Fault fault)) next × IsStageAt (Err (end-is.Fault fault)) phase next
-bad_ends place walk new phase payload taken fault on (Session held) adds some h =
-    let (rest, places, rests) = adds held h in
-    let (ends, at) : EndsWith (capsule_front rest) (Some fault.code) × (fault.at ≡ place (length rest)) = rw some at rests in
-    (Session rest, (rest, Some fault.code, places_starts taken.items.items (held ++ payload) rest place places, ends, refl, refl), tt)
-bad_ends place walk new phase payload taken fault on Opening adds some h = absurd h
-bad_ends place walk new phase payload taken fault on Plain adds some h = absurd h
+pub bad_ends : (at : ℕ) (walk new : CapsuleWalk) (phase : Phase) (payload : List ℕ) (taken : Taken) (fault : Fault) (on : Then) (stage : Stage) → ((came : List ℕ) (start : ℕ) → HoldsAt walk came start → TakesPiece (place_of start at (length payload)) new (came ++ payload) taken) → taken.fault ≡ Some fault → IsStage (phase-is.Session walk) stage → (next : Stage) × TakesData stage at payload taken.items.items on (Err (end-is.Fault fault)) next × IsStageAt (Err (end-is.Fault fault)) phase next
+bad_ends at walk new phase payload taken fault on (Session held start) adds some h =
+    let place = place_of start at (length payload) in
+    let (rest, starts, rests) = adds held start h in
+    let (ends, is) : EndsWith (capsule_front rest) (Some fault.code) × IsFaultOf (place (length rest)) fault = rw some at rests in
+    (Session rest (place (length rest)), (rest, Some fault.code, starts, ends, (is.0, refl, is.1), refl), tt)
+bad_ends at walk new phase payload taken fault on Opening adds some h = absurd h
+bad_ends at walk new phase payload taken fault on Plain adds some h = absurd h
 
 -- ---- the end
 
+none_missing : (c : CapsuleCursor) (held came : List ℕ) → c.skip_remaining ≡ 0 → held ≡ came → missing_from c held ≡ missing_of (pair_at came) came
+none_missing c held came zero same = rw (zero, same) refl
+
+lacks_missing : (u : UnknownCapsule) (n : ℕ) (came : List ℕ) → LacksOf u n came → n ≡ missing_of (pair_at came) came
+lacks_missing u n came (kind, (value, e, sum)) = rw e (omega (arith, sum))
+
+-- what the cursor lacks of a capsule is what its bytes lack
+missing_is : (walk : CapsuleWalk) (came : List ℕ) → Holds walk came → missing_from walk.cursor walk.held.items ≡ missing_of (pair_at came) came
+missing_is walk came h = by walk.unknown walk.held.items h.0
+  where
+    by : (unknown : Option UnknownCapsule) (held : List ℕ) → HoldsOf unknown walk.cursor.skip_remaining held came → missing_from walk.cursor held ≡ missing_of (pair_at came) came
+    by None held (zero, same, part) = none_missing walk.cursor held came zero same
+    by (Some u) held (some, none, lacks) = missing_due walk.cursor held some ∙ lacks_missing u walk.cursor.skip_remaining came lacks
+
 pub ends_whole : (walk : CapsuleWalk) (stage : Stage) → IsStage (phase-is.Session walk) stage → ((came : List ℕ) → Holds walk came → came ≡ []) → EndsStage stage end-is.Whole
-ends_whole walk (Session held) h none = rw (none held h) refl
+ends_whole walk (Session held start) h none = rw (none held h.0) refl
 ends_whole walk Opening h none = absurd h
 ends_whole walk Plain h none = absurd h
 
-pub ends_cut : (walk : CapsuleWalk) (stage : Stage) (cut : Cut) → IsStage (phase-is.Session walk) stage → ((came : List ℕ) → Holds walk came → came ≢ []) → EndsStage stage (end-is.Cut cut)
-ends_cut walk (Session []) cut h some = absurd (some [] h refl)
-ends_cut walk (Session (b ∷ held)) cut h some = tt
-ends_cut walk Opening cut h some = absurd h
-ends_cut walk Plain cut h some = absurd h
+pub ends_cut : (walk : CapsuleWalk) (stage : Stage) (cut : Cut) → IsStage (phase-is.Session walk) stage → ((came : List ℕ) → Holds walk came → came ≢ []) → cut.at ≡ walk.at → cut.item.now ≡ codes "capsule" → cut.missing ≡ missing_from walk.cursor walk.held.items → EndsStage stage (end-is.Cut cut)
+ends_cut walk (Session [] start) cut h some place item missing = absurd (some [] h.0 refl)
+ends_cut walk (Session (b ∷ held) start) cut (h, begins) some place item missing = (place ∙ begins (λ e. cc e), item, missing ∙ missing_is walk (b ∷ held) h)
+ends_cut walk Opening cut h some place item missing = absurd h
+ends_cut walk Plain cut h some place item missing = absurd h
 
 -- ---- all turns
 
 -- where a capsule began that is held before the bytes that are left
-begins_is : (came left : List ℕ) (start at size walk_at place : ℕ) → length left ≤ size → place ≡ min (at + (size - length left)) (2 ^ 64 - 1) → (came ≢ [] → walk_at ≡ place_of start at size (length (came ++ left))) → begins_at came walk_at place ≡ place_of start at size (length (came ++ left))
+begins_is : (came left : List ℕ) (start at size walk_at place : ℕ) → length left ≤ size → place ≡ at + (size - length left) → (came ≢ [] → walk_at ≡ place_of start at size (length (came ++ left))) → begins_at came walk_at place ≡ place_of start at size (length (came ++ left))
 begins_is [] left start at size walk_at place l e some = rw (le-ltb size (length left) l) e
 begins_is (b ∷ came) left start at size walk_at place l e some = some (λ empty. cc empty)
 
 -- the capsules so far, and what is held before the bytes that are left
 abbrev pub SoFar : CapsuleWalk → ℕ → CapsuleWalk → List ℕ → List CapsuleItem → List ℕ → Type 0
 SoFar old at walk piece items left =
-    (held : List ℕ) → Holds old held → (came : List ℕ) × Holds walk came
-    × PlacesCapsules (place_of old.at at (length piece)) (held ++ piece) items (came ++ left)
-    × (came ≢ [] → walk.at ≡ place_of old.at at (length piece) (length (came ++ left)))
+    (held : List ℕ) (start : ℕ) → HoldsAt old held start → (came : List ℕ) × Holds walk came
+    × StartsCapsules (place_of start at (length piece)) (held ++ piece) items (came ++ left)
+    × (came ≢ [] → walk.at ≡ place_of start at (length piece) (length (came ++ left)))
 
 pub so_far_none : (walk : CapsuleWalk) (at : ℕ) (piece : List ℕ) → SoFar walk at walk piece [] piece
-so_far_none walk at piece = λ held h. (held, h, refl, λ some. before held some)
+so_far_none walk at piece = λ held start h. (held, h.0, refl, λ some. before held start some (h.1 some))
   where
-    before : (held : List ℕ) → held ≢ [] → walk.at ≡ place_of walk.at at (length piece) (length (held ++ piece))
-    before [] some = absurd (some refl)
-    before (b ∷ held) some = rw (lt-ltb (length piece) (length (b ∷ held ++ piece)) (omega (arith, length-append held piece))) refl
+    before : (held : List ℕ) (start : ℕ) → held ≢ [] → walk.at ≡ start → walk.at ≡ place_of start at (length piece) (length (held ++ piece))
+    before [] start some is = absurd (some refl)
+    before (b ∷ held) start some is = rw (lt-ltb (length piece) (length (b ∷ held ++ piece)) (omega (arith, length-append held piece))) is
 
-pub so_far_more : (old : CapsuleWalk) (at place : ℕ) (walk new : CapsuleWalk) (piece left front behind : List ℕ) (items : List CapsuleItem) → SoFar old at walk piece items left → length left ≤ length piece → place ≡ min (at + (length piece - length left)) (2 ^ 64 - 1) → left ≡ front ++ behind → ((came : List ℕ) → Holds walk came → Holds new (came ++ front) × (new.at ≡ begins_at came walk.at place)) → SoFar old at new piece items behind
-so_far_more old at place walk new piece left front behind items so fits is parts turns = λ held h.
-    let (came, holds, starts, begun) = so held h in
+pub so_far_more : (old : CapsuleWalk) (at place : ℕ) (walk new : CapsuleWalk) (piece left front behind : List ℕ) (items : List CapsuleItem) → SoFar old at walk piece items left → length left ≤ length piece → place ≡ at + (length piece - length left) → left ≡ front ++ behind → ((came : List ℕ) → Holds walk came → Holds new (came ++ front) × (new.at ≡ begins_at came walk.at place)) → SoFar old at new piece items behind
+so_far_more old at place walk new piece left front behind items so fits is parts turns = λ held start h.
+    let (came, holds, starts, begun) = so held start h in
     let (still, begins) = turns came holds in
     let all : came ++ left ≡ (came ++ front) ++ behind = ap (λ (x : List ℕ). came ++ x) parts ∙ sym (append_assoc came front behind) in
-    let at_is = begins ∙ begins_is came left old.at at (length piece) walk.at place fits is begun in
-    (came ++ front, still, subst (λ (x : List ℕ). PlacesCapsules (place_of old.at at (length piece)) (held ++ piece) items x) all starts, λ some. at_is ∙ ap (λ (x : List ℕ). place_of old.at at (length piece) (length x)) all)
+    let at_is = begins ∙ begins_is came left start at (length piece) walk.at place fits is begun in
+    (came ++ front, still, subst (λ (x : List ℕ). StartsCapsules (place_of start at (length piece)) (held ++ piece) items x) all starts, λ some. at_is ∙ ap (λ (x : List ℕ). place_of start at (length piece) (length x)) all)
 
-pub so_far_done : (old : CapsuleWalk) (at place : ℕ) (walk new : CapsuleWalk) (piece left front behind : List ℕ) (items more : List CapsuleItem) (item : CapsuleItem) → SoFar old at walk piece items left → length left ≤ length piece → place ≡ min (at + (length piece - length left)) (2 ^ 64 - 1) → left ≡ front ++ behind → ((came : List ℕ) → Holds walk came → IsWhole (came ++ front) item × Holds new [] × (item.at ≡ begins_at came walk.at place)) → more ≡ items ++ item ∷ [] → SoFar old at new piece more behind
-so_far_done old at place walk new piece left front behind items more item so fits is parts turns same = λ held h.
-    let (came, holds, starts, begun) = so held h in
+pub so_far_done : (old : CapsuleWalk) (at place : ℕ) (walk new : CapsuleWalk) (piece left front behind : List ℕ) (items more : List CapsuleItem) (item : CapsuleItem) → SoFar old at walk piece items left → length left ≤ length piece → place ≡ at + (length piece - length left) → left ≡ front ++ behind → ((came : List ℕ) → Holds walk came → IsWhole (came ++ front) item × Holds new [] × (item.at ≡ begins_at came walk.at place)) → more ≡ items ++ item ∷ [] → SoFar old at new piece more behind
+so_far_done old at place walk new piece left front behind items more item so fits is parts turns same = λ held start h.
+    let (came, holds, starts, begun) = so held start h in
     let (whole, none, begins) = turns came holds in
-    let P = place_of old.at at (length piece) in
+    let P = place_of start at (length piece) in
     let all : came ++ left ≡ (came ++ front) ++ behind = ap (λ (x : List ℕ). came ++ x) parts ∙ sym (append_assoc came front behind) in
-    let at_is : item.at ≡ P (length (came ++ left)) = begins ∙ begins_is came left old.at at (length piece) walk.at place fits is begun in
+    let at_is : item.at ≡ P (length (came ++ left)) = begins ∙ begins_is came left start at (length piece) walk.at place fits is begun in
     let one : StartsCapsule (came ++ left) item behind = subst (λ (x : List ℕ). StartsCapsule x item behind) (sym all) (whole behind) in
-    ([], none, subst (λ (x : List CapsuleItem). PlacesCapsules P (held ++ piece) x behind) (sym same) (places_more items (held ++ piece) (came ++ left) behind item P starts one at_is), λ some. absurd (some refl))
+    ([], none, subst (λ (x : List CapsuleItem). StartsCapsules P (held ++ piece) x behind) (sym same) (starts_more items (held ++ piece) (came ++ left) behind item P starts one at_is), λ some. absurd (some refl))
 
-pub so_far_end : (old : CapsuleWalk) (at : ℕ) (walk : CapsuleWalk) (piece left : List ℕ) (taken : Taken) → SoFar old at walk piece taken.items.items left → left ≡ [] → taken.fault ≡ None → (held : List ℕ) → Holds old held → TakesPiece (place_of old.at at (length piece)) walk (held ++ piece) taken
-so_far_end old at walk piece left taken so none good held h =
-    let (came, holds, starts, begun) = so held h in
-    let all : came ++ left ≡ came = ap (λ (x : List ℕ). came ++ x) none ∙ append-nil came in
-    let P = place_of old.at at (length piece) in
-    (came, subst (λ (x : List ℕ). PlacesCapsules P (held ++ piece) taken.items.items x) all starts, rw good (holds, λ some. begun some ∙ ap (λ (x : List ℕ). P (length x)) all))
+empty : (s : List ℕ) → length s ≡ 0 → s ≡ []
+empty [] e = refl
+empty (b ∷ s) e = absurd (omega (arith, e))
 
-pub so_far_bad : (old : CapsuleWalk) (at place : ℕ) (walk new : CapsuleWalk) (piece left front behind : List ℕ) (taken : Taken) (fault : Fault) → SoFar old at walk piece taken.items.items left → length left ≤ length piece → place ≡ min (at + (length piece - length left)) (2 ^ 64 - 1) → left ≡ front ++ behind → ((came : List ℕ) → Holds walk came → IsBad (came ++ front) fault × (fault.at ≡ begins_at came walk.at place)) → taken.fault ≡ Some fault → (held : List ℕ) → Holds old held → TakesPiece (place_of old.at at (length piece)) new (held ++ piece) taken
-so_far_bad old at place walk new piece left front behind taken fault so fits is parts turns some held h =
-    let (came, holds, starts, begun) = so held h in
-    let (bad, begins) = turns came holds in
+pub so_far_end : (old : CapsuleWalk) (at : ℕ) (walk : CapsuleWalk) (piece left : List ℕ) (taken : Taken) → SoFar old at walk piece taken.items.items left → length left ≡ 0 → taken.fault ≡ None → (held : List ℕ) (start : ℕ) → HoldsAt old held start → TakesPiece (place_of start at (length piece)) walk (held ++ piece) taken
+so_far_end old at walk piece left taken so none good held start h =
+    let (came, holds, starts, begun) = so held start h in
+    let all : came ++ left ≡ came = ap (λ (x : List ℕ). came ++ x) (empty left none) ∙ append-nil came in
+    let P = place_of start at (length piece) in
+    (came, subst (λ (x : List ℕ). StartsCapsules P (held ++ piece) taken.items.items x) all starts, rw good (holds, λ some. begun some ∙ ap (λ (x : List ℕ). P (length x)) all))
+
+pub so_far_bad : (old : CapsuleWalk) (at place : ℕ) (walk new : CapsuleWalk) (piece left front behind : List ℕ) (taken : Taken) (fault : Fault) → SoFar old at walk piece taken.items.items left → length left ≤ length piece → place ≡ at + (length piece - length left) → left ≡ front ++ behind → ((came : List ℕ) → Holds walk came → IsBad (came ++ front) fault × IsFaultOf (begins_at came walk.at place) fault) → taken.fault ≡ Some fault → (held : List ℕ) (start : ℕ) → HoldsAt old held start → TakesPiece (place_of start at (length piece)) new (held ++ piece) taken
+so_far_bad old at place walk new piece left front behind taken fault so fits is parts turns some held start h =
+    let (came, holds, starts, begun) = so held start h in
+    let (bad, of) = turns came holds in
     let all : came ++ left ≡ (came ++ front) ++ behind = ap (λ (x : List ℕ). came ++ x) parts ∙ sym (append_assoc came front behind) in
     let ends : EndsWith (capsule_front (came ++ left)) (Some fault.code) = subst (λ (x : List ℕ). EndsWith (capsule_front x) (Some fault.code)) (sym all) (bad behind) in
-    (came ++ left, starts, rw some (ends, begins ∙ begins_is came left old.at at (length piece) walk.at place fits is begun))
+    (came ++ left, starts, rw some (ends, (of.0 ∙ begins_is came left start at (length piece) walk.at place fits is begun, of.1)))
 
 -- ---- the message of an inspection
 
@@ -379,23 +398,23 @@ pub any_after : (after : Then) (phase : Phase) (stage : Stage) → IsStage phase
 any_after (Ok next) phase stage h = h
 any_after (Err end) phase stage h = tt
 
-opaque_takes : (role : StreamRole) (name : FrameName) (payload : List ℕ) (on after : Then) (stage : Stage) → is_data name ≡ false → Takes role name payload parts-is.Opaque on after stage stage
-opaque_takes role (name-is.Read kind-is.Data) payload on after stage e = absurd (cc e)
-opaque_takes role (name-is.Read kind-is.Headers) payload on after stage e = refl
-opaque_takes role (name-is.Read kind-is.Settings) payload on after stage e = refl
-opaque_takes role (name-is.Read kind-is.WebTransport) payload on after stage e = refl
-opaque_takes role (name-is.Read (kind-is.Exercise number)) payload on after stage e = refl
-opaque_takes role name-is.CancelPush payload on after stage e = refl
-opaque_takes role name-is.PushPromise payload on after stage e = refl
-opaque_takes role name-is.Goaway payload on after stage e = refl
-opaque_takes role name-is.MaxPushId payload on after stage e = refl
-opaque_takes role name-is.PriorityUpdate payload on after stage e = refl
-opaque_takes role name-is.Http2 payload on after stage e = refl
-opaque_takes role name-is.Unknown payload on after stage e = refl
+opaque_takes : (role : StreamRole) (name : FrameName) (at : ℕ) (payload : List ℕ) (on after : Then) (stage : Stage) → is_data name ≡ false → Takes role name at payload parts-is.Opaque on after stage stage
+opaque_takes role (name-is.Read kind-is.Data) at payload on after stage e = absurd (cc e)
+opaque_takes role (name-is.Read kind-is.Headers) at payload on after stage e = refl
+opaque_takes role (name-is.Read kind-is.Settings) at payload on after stage e = refl
+opaque_takes role (name-is.Read kind-is.WebTransport) at payload on after stage e = refl
+opaque_takes role (name-is.Read (kind-is.Exercise number)) at payload on after stage e = refl
+opaque_takes role name-is.CancelPush at payload on after stage e = refl
+opaque_takes role name-is.PushPromise at payload on after stage e = refl
+opaque_takes role name-is.Goaway at payload on after stage e = refl
+opaque_takes role name-is.MaxPushId at payload on after stage e = refl
+opaque_takes role name-is.PriorityUpdate at payload on after stage e = refl
+opaque_takes role name-is.Http2 at payload on after stage e = refl
+opaque_takes role name-is.Unknown at payload on after stage e = refl
 
 -- a frame that is not read leaves the message as it is
-pub opaque_leads : (role : StreamRole) (name : FrameName) (phase : Phase) (payload : List ℕ) (on after : Then) → is_data name ≡ false → Leads phase phase (Takes role name payload parts-is.Opaque on after) after
-opaque_leads role name phase payload on after e = λ stage h. (stage, opaque_takes role name payload on after stage e, any_after after phase stage h)
+pub opaque_leads : (role : StreamRole) (name : FrameName) (phase : Phase) (at : ℕ) (payload : List ℕ) (on after : Then) → is_data name ≡ false → Leads phase phase (Takes role name at payload parts-is.Opaque on after) after
+opaque_leads role name phase at payload on after e = λ stage h. (stage, opaque_takes role name at payload on after stage e, any_after after phase stage h)
 
 data_name : (name : FrameName) → is_data name ≡ true → name ≡ name-is.Read kind-is.Data
 data_name (name-is.Read kind-is.Data) e = refl
@@ -411,29 +430,29 @@ data_name name-is.PriorityUpdate e = absurd (cc e)
 data_name name-is.Http2 e = absurd (cc e)
 data_name name-is.Unknown e = absurd (cc e)
 
-has_cut : (parts : Parts) (payload : List ℕ) (on after : Then) → HasParts (name-is.Read kind-is.Data) payload parts on after → IsCutPart (name-is.Read kind-is.Data) parts on after
-has_cut parts-is.Opaque payload on after h = h
-has_cut (parts-is.Capsules capsules) payload on after h = (refl, h)
-has_cut (parts-is.Fields section) payload on after h = absurd h
-has_cut (parts-is.Settings lines) payload on after h = absurd h
+has_cut : (parts : Parts) (at : ℕ) (payload : List ℕ) (on after : Then) → HasParts (name-is.Read kind-is.Data) at payload parts on after → IsCutPart (name-is.Read kind-is.Data) parts on after
+has_cut parts-is.Opaque at payload on after h = h
+has_cut (parts-is.Capsules capsules) at payload on after h = (refl, h)
+has_cut (parts-is.Fields section) at payload on after h = absurd h
+has_cut (parts-is.Settings lines) at payload on after h = absurd h
 
 -- what a cut DATA frame contains
-pub cut_part : (name : FrameName) (parts : Parts) (payload : List ℕ) (on after : Then) → is_data name ≡ true → HasParts (name-is.Read kind-is.Data) payload parts on after → IsCutPart name parts on after
-cut_part name parts payload on after e h = rw (data_name name e) (has_cut parts payload on after h)
+pub cut_part : (name : FrameName) (parts : Parts) (at : ℕ) (payload : List ℕ) (on after : Then) → is_data name ≡ true → HasParts (name-is.Read kind-is.Data) at payload parts on after → IsCutPart name parts on after
+cut_part name parts at payload on after e h = rw (data_name name e) (has_cut parts at payload on after h)
 
-pub data_leads : (role : StreamRole) (name : FrameName) (old new : Phase) (payload : List ℕ) (parts : Parts) (on after : Then) → is_data name ≡ true → Leads old new (Takes role (name-is.Read kind-is.Data) payload parts on after) after → Leads old new (Takes role name payload parts on after) after
-data_leads role name old new payload parts on after e l = rw (data_name name e) l
+pub data_leads : (role : StreamRole) (name : FrameName) (old new : Phase) (at : ℕ) (payload : List ℕ) (parts : Parts) (on after : Then) → is_data name ≡ true → Leads old new (Takes role (name-is.Read kind-is.Data) at payload parts on after) after → Leads old new (Takes role name at payload parts on after) after
+data_leads role name old new at payload parts on after e l = rw (data_name name e) l
 
-pub data_has : (name : FrameName) (payload : List ℕ) (parts : Parts) (on after : Then) → is_data name ≡ true → HasParts (name-is.Read kind-is.Data) payload parts on after → HasParts name payload parts on after
-data_has name payload parts on after e h = rw (data_name name e) h
+pub data_has : (name : FrameName) (at : ℕ) (payload : List ℕ) (parts : Parts) (on after : Then) → is_data name ≡ true → HasParts (name-is.Read kind-is.Data) at payload parts on after → HasParts name at payload parts on after
+data_has name at payload parts on after e h = rw (data_name name e) h
 
-pub cut_leads : (role : StreamRole) (first : Bool) (bytes : List ℕ) (f : FrameItem) (after : Then) (end : End) (old new : Phase) → Leads old new (Takes role f.name (take f.present (drop f.head bytes)) f.parts (Err end) after) after → is_cut end ≡ true → f.present < f.announced → Leads old new (TakesFrame role first bytes f after) after
-cut_leads role first bytes f after end old new leads stops less = λ stage h.
+pub cut_leads : (role : StreamRole) (first : Bool) (at : ℕ) (bytes : List ℕ) (f : FrameItem) (after : Then) (end : End) (old new : Phase) → Leads old new (Takes role f.name (at + f.head) (take f.present (drop f.head bytes)) f.parts (Err end) after) after → IsCutAt at (codes "frame") (f.announced - f.present) end → f.present < f.announced → Leads old new (TakesFrame role first at bytes f after) after
+cut_leads role first at bytes f after end old new leads stops less = λ stage h.
     let (next, takes, there) = leads stage h in
     (next, record { whole = λ e. absurd (omega (arith, e, less)); cut = λ l. (Err end, stops, takes) }, there)
 
-pub whole_leads : (role : StreamRole) (first : Bool) (bytes : List ℕ) (f : FrameItem) (after : Then) (old new : Phase) → Leads old new (TakesWhole (name_fault role first f.name) role f.name (take f.present (drop f.head bytes)) f.parts (Ok (next-is.Frames role (still_first first f.name))) after) after → f.present ≡ f.announced → Leads old new (TakesFrame role first bytes f after) after
-whole_leads role first bytes f after old new leads whole = λ stage h.
+pub whole_leads : (role : StreamRole) (first : Bool) (at : ℕ) (bytes : List ℕ) (f : FrameItem) (after : Then) (old new : Phase) → Leads old new (TakesWhole (name_fault role first f.name) role f.name (at + f.head) (take f.present (drop f.head bytes)) f.parts (Ok (next-is.Frames role (still_first first f.name))) after) after → f.present ≡ f.announced → Leads old new (TakesFrame role first at bytes f after) after
+whole_leads role first at bytes f after old new leads whole = λ stage h.
     let (next, takes, there) = leads stage h in
     (next, record { whole = λ e. takes; cut = λ l. absurd (omega (arith, whole, l)) }, there)
 
@@ -441,28 +460,31 @@ whole_leads role first bytes f after old new leads whole = λ stage h.
 pub present_all : (n : ℕ) (bytes back : List ℕ) → back ≡ drop n bytes → take (length back) (drop n bytes) ≡ back
 present_all n bytes back e = ap (take (length back)) (sym e) ∙ take_all (length back) back (omega arith)
 
--- settings leave the message as it is
-pub settings_leads : (role : StreamRole) (name : FrameName) (phase : Phase) (payload : List ℕ) (parts : Parts) (on after : Then) → name ≡ name-is.Read kind-is.Settings → Leads phase phase (Takes role name payload parts on after) after
-settings_leads role name phase payload parts on after e = λ stage h. (stage, rw e refl, any_after after phase stage h)
+pub headers_leads : (role : StreamRole) (name : FrameName) (old new : Phase) (at : ℕ) (payload : List ℕ) (parts : Parts) (on after : Then) → name ≡ name-is.Read kind-is.Headers → Leads old new (Takes role (name-is.Read kind-is.Headers) at payload parts on after) after → Leads old new (Takes role name at payload parts on after) after
+headers_leads role name old new at payload parts on after e l = rw e l
 
-no_frame_moves : (role : StreamRole) (first : Bool) (bytes : List ℕ) (content : Content) (after : Then) (stage : Stage) → HasNoFrame content → MovesFrames role first bytes content after stage stage
-no_frame_moves role first bytes (content-is.Frame f) after stage h = absurd h
-no_frame_moves role first bytes (content-is.Stream head) after stage h = refl
-no_frame_moves role first bytes (content-is.Session id) after stage h = refl
-no_frame_moves role first bytes content-is.Payload after stage h = refl
-no_frame_moves role first bytes (content-is.Capsule c) after stage h = refl
-no_frame_moves role first bytes (content-is.Datagram d) after stage h = refl
-no_frame_moves role first bytes (content-is.Section x) after stage h = refl
-no_frame_moves role first bytes (content-is.Settings lines) after stage h = refl
-no_frame_moves role first bytes content-is.Unread after stage h = refl
+-- settings leave the message as it is
+pub settings_leads : (role : StreamRole) (name : FrameName) (phase : Phase) (at : ℕ) (payload : List ℕ) (parts : Parts) (on after : Then) → name ≡ name-is.Read kind-is.Settings → Leads phase phase (Takes role name at payload parts on after) after
+settings_leads role name phase at payload parts on after e = λ stage h. (stage, rw e refl, any_after after phase stage h)
+
+no_frame_moves : (role : StreamRole) (first : Bool) (at : ℕ) (bytes : List ℕ) (content : Content) (after : Then) (stage : Stage) → HasNoFrame content → MovesFrames role first at bytes content after stage stage
+no_frame_moves role first at bytes (content-is.Frame f) after stage h = absurd h
+no_frame_moves role first at bytes (content-is.Stream head) after stage h = refl
+no_frame_moves role first at bytes (content-is.Session id) after stage h = refl
+no_frame_moves role first at bytes content-is.Payload after stage h = refl
+no_frame_moves role first at bytes (content-is.Capsule c) after stage h = refl
+no_frame_moves role first at bytes (content-is.Datagram d) after stage h = refl
+no_frame_moves role first at bytes (content-is.Section x) after stage h = refl
+no_frame_moves role first at bytes (content-is.Settings lines) after stage h = refl
+no_frame_moves role first at bytes content-is.Unread after stage h = refl
 
 -- so does what is no frame
-pub no_frame_leads : (phase : Phase) (role : StreamRole) (first : Bool) (bytes : List ℕ) (content : Content) (after : Then) → HasNoFrame content → Leads phase phase (MovesFrames role first bytes content after) after
-no_frame_leads phase role first bytes content after none = λ stage h. (stage, no_frame_moves role first bytes content after stage none, any_after after phase stage h)
+pub no_frame_leads : (phase : Phase) (role : StreamRole) (first : Bool) (at : ℕ) (bytes : List ℕ) (content : Content) (after : Then) → HasNoFrame content → Leads phase phase (MovesFrames role first at bytes content after) after
+no_frame_leads phase role first at bytes content after none = λ stage h. (stage, no_frame_moves role first at bytes content after stage none, any_after after phase stage h)
 
 -- a refused frame leaves the message as it is
-pub refused_takes : (fault : Option ErrorCode) (code : ErrorCode) (role : StreamRole) (name : FrameName) (payload : List ℕ) (parts : Parts) (on after : Then) (stage : Stage) → fault ≡ Some code → TakesWhole fault role name payload parts on after stage stage
-refused_takes fault code role name payload parts on after stage e = rw e refl
+pub refused_takes : (fault : Option ErrorCode) (code : ErrorCode) (role : StreamRole) (name : FrameName) (at : ℕ) (payload : List ℕ) (parts : Parts) (on after : Then) (stage : Stage) → fault ≡ Some code → TakesWhole fault role name at payload parts on after stage stage
+refused_takes fault code role name at payload parts on after stage e = rw e refl
 
 -- ---- other items than those of frames
 
@@ -470,16 +492,16 @@ abbrev pub IsOther : Next → Type 0
 IsOther (next-is.Frames role first) = ⊥
 IsOther other = Unit {0}
 
-other_moves : (next : Next) (bytes : List ℕ) (content : Content) (after : Then) (stage : Stage) → IsOther next → MovesNext next bytes content after stage stage
-other_moves (next-is.Frames role first) bytes content after stage h = absurd h
-other_moves next-is.Head bytes content after stage h = refl
-other_moves next-is.Payload bytes content after stage h = refl
-other_moves next-is.Capsules bytes content after stage h = refl
-other_moves next-is.Datagram bytes content after stage h = refl
-other_moves next-is.Section bytes content after stage h = refl
-other_moves next-is.Settings bytes content after stage h = refl
+other_moves : (next : Next) (at : ℕ) (bytes : List ℕ) (content : Content) (after : Then) (stage : Stage) → IsOther next → MovesNext next at bytes content after stage stage
+other_moves (next-is.Frames role first) at bytes content after stage h = absurd h
+other_moves next-is.Head at bytes content after stage h = refl
+other_moves next-is.Payload at bytes content after stage h = refl
+other_moves next-is.Capsules at bytes content after stage h = refl
+other_moves next-is.Datagram at bytes content after stage h = refl
+other_moves next-is.Section at bytes content after stage h = refl
+other_moves next-is.Settings at bytes content after stage h = refl
 
 -- they leave the message as it is
-pub other_leads : (next : Next) (state : Then) (old new : Phase) (bytes : List ℕ) (content : Content) (after : Then) → IsOther next → state ≡ Ok next → new ≡ old → LeadsAt state old new (Moves state bytes content after) after
-other_leads next state old new bytes content after other is same =
-    rw (is, same) (λ stage h. (stage, other_moves next bytes content after stage other, any_after after old stage h))
+pub other_leads : (next : Next) (state : Then) (old new : Phase) (at : ℕ) (bytes : List ℕ) (content : Content) (after : Then) → IsOther next → state ≡ Ok next → new ≡ old → LeadsAt state old new (Moves state at bytes content after) after
+other_leads next state old new at bytes content after other is same =
+    rw (is, same) (λ stage h. (stage, other_moves next at bytes content after stage other, any_after after old stage h))

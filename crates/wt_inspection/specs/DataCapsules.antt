@@ -1,15 +1,18 @@
 -- The capsules that the DATA frames of a session have, wherever they are cut (RFC 9297, section
 -- 3.2).
-use Rattle.std.specs.Prelude.{◌≡◌, ℕ, List, [], ◌∷◌, string_bytes, Option, Some, None}
+use Rattle.std.specs.Prelude.{◌≡◌, ℕ, ◌+◌, ◌-◌, List, [], ◌∷◌, length, nat_lt, if◌then◌else◌}
+use Rattle.std.specs.Prelude.{string_bytes, Option, Some, None}
 use Rattle.wtp_core.specs.declared.error.ErrorCode.{ErrorCode}
 use Rattle.wtp_core.specs.declared.error.ErrorCode.TheVariants as code-is
 use Rattle.wtp_wire.specs.declared.capsule.CapsuleKind.{CapsuleKind}
 use Rattle.wtp_wire.specs.declared.capsule.CapsuleKind.TheVariants.{CloseWebTransportSession}
-use Rattle.wtp_wire.specs.CapsuleFront.{CapsuleFront, Found, Unknown, TooLong, Cut, End, capsule_front}
+use Rattle.wtp_wire.specs.CapsuleFront.{CapsuleFront, Found, Unknown, TooLong, Cut, End}
+use Rattle.wtp_wire.specs.CapsuleFront.{capsule_front}
 use Rattle.wtp_wire.specs.CloseSession.{close_in}
 use Rattle.wt_inspection_model.specs.declared.item.capsule.CapsuleItem.{CapsuleItem}
 use Rattle.wt_inspection_model.specs.declared.item.capsule.CloseReason.{CloseReason}
 use Rattle.wtp_wire.specs.Settings.{pair_at}
+use Rattle.wt_inspection.specs.CapsuleNames.{capsule_name}
 
 -- the code and the reason of a close
 abbrev pub HasText : Option (ℕ × List ℕ) → Option CloseReason → Type 0
@@ -35,13 +38,23 @@ IsFirst other close behind = ⊥
 pub record StartsCapsule (bytes : List ℕ) (c : CapsuleItem) (behind : List ℕ) : Type 0 where
   pub value : List ℕ
   pub numbers : pair_at bytes ≡ Some ((c.number, c.announced), value)
+  pub name : c.name.now ≡ capsule_name c.number
   pub first : IsFirst (capsule_front bytes) c.close behind
 
--- the bytes start with these capsules, one after the other, followed by the rest
-abbrev pub StartsCapsules : List ℕ → List CapsuleItem → List ℕ → Type 0
-StartsCapsules bytes [] rest = bytes ≡ rest
-StartsCapsules bytes (c ∷ cs) rest =
-    (behind : List ℕ) × StartsCapsule bytes c behind × StartsCapsules behind cs rest
+-- The place of the byte that has n bytes of the data left, it among them, if the last `size` of
+-- them are a piece at a place, and a capsule that began before the piece is at `start`.
+abbrev pub place_of : ℕ → ℕ → ℕ → ℕ → ℕ
+place_of start at size n = if nat_lt size n then start else at + (size - n)
+
+-- the bytes start with these capsules, one after the other, followed by the rest; each has the
+-- place of its first byte, which goes by how many bytes are left there
+abbrev pub StartsCapsules : (ℕ → ℕ) → List ℕ → List CapsuleItem → List ℕ → Type 0
+StartsCapsules place bytes [] rest = bytes ≡ rest
+StartsCapsules place bytes (c ∷ cs) rest =
+    (behind : List ℕ)
+    × StartsCapsule bytes c behind
+    × (c.at ≡ place (length bytes))
+    × StartsCapsules place behind cs rest
 
 -- the first capsule is not complete, or it has this fault
 abbrev pub EndsWith : CapsuleFront → Option ErrorCode → Type 0
@@ -54,8 +67,8 @@ EndsWith (Unknown rest) fault = ⊥
 
 -- How far the message of a stream went: before its header section; after that of a message whose
 -- DATA frames have bytes of an application; or after that of a session, whose DATA frames had these
--- bytes after the last complete capsule.
+-- bytes after the last complete capsule, the first of which is at this place.
 pub data Stage : Type 0 where
   Opening : Stage
   Plain : Stage
-  Session : List ℕ → Stage
+  Session : List ℕ → ℕ → Stage

@@ -2,9 +2,11 @@ pub mod SettingLines
 pub mod Sections
 pub mod Heads
 pub mod Tiles
+pub mod CapsuleNames
 pub mod DataCapsules
 pub mod SessionSections
 pub mod Recording
 pub mod Walks
+pub mod Warnings
 pub mod ItemFrames
 pub use Rattle.wt_inspection_model.specs.Names

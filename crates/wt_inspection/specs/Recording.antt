@@ -1,7 +1,12 @@
 -- What the items of a recording are: each is what the bytes at its place are, after the items
 -- before it (RFC 9114, sections 4.1, 6.2 and 7; RFC 9297, sections 2.1 and 3.2).
-use Rattle.std.specs.Prelude.{◌≡◌, ℕ, ◌++◌, ◌+◌, ◌<◌, ◌≤◌, ◌%◌, ◌^◌, ◌⊎◌, ◌==◌, Bool, true, false, not, List, [], ◌∷◌, length, take, drop, string_bytes, Option, Some, None, Result, Ok, Err}
+use Rattle.std.specs.Prelude.{◌≡◌, ℕ, ◌++◌, ◌+◌, ◌-◌, ◌<◌, ◌≤◌, ◌%◌, ◌^◌, ◌⊎◌, ◌==◌, Bool, true}
+use Rattle.std.specs.Prelude.{false, not, List, [], ◌∷◌, length, take, drop, codes, string_bytes}
+use Rattle.std.specs.Prelude.{Option, Some, None, Result, Ok, Err}
 use Rattle.wtp_core.specs.Varint.{number_at}
+use Rattle.wtp_core.specs.VarintLenNeeded.{varint_len_needed}
+use Rattle.wtp_wire.specs.AnyCapsule.{missing_of}
+use Rattle.wtp_wire.specs.FrameNeed.{frame_need}
 use Rattle.wtp_wire.specs.Kind.{kind_of}
 use Rattle.wtp_wire.specs.StreamKind.{stream_kind_of}
 use Rattle.wtp_wire.specs.Settings.{settings_in}
@@ -41,7 +46,9 @@ use Rattle.wt_inspection.specs.declared.reading.Next.{Next}
 use Rattle.wt_inspection.specs.declared.reading.Next.TheVariants as next-is
 use Rattle.wt_inspection.specs.declared.reading.Recorded.{Recorded}
 use Rattle.wt_inspection.specs.declared.reading.Recorded.TheVariants as recorded-is
-use Rattle.wt_inspection.specs.DataCapsules.{Stage, Opening, Plain, Session, StartsCapsules, EndsWith}
+use Rattle.wt_inspection.specs.CapsuleNames.{capsule_name}
+use Rattle.wt_inspection.specs.DataCapsules.{Stage, Opening, Plain, Session, StartsCapsules}
+use Rattle.wt_inspection.specs.DataCapsules.{EndsWith, place_of}
 use Rattle.wt_inspection.specs.Heads.{IsSessionItem, IsDatagramItem}
 use Rattle.wt_inspection_model.specs.Names.{frame_name_of, stream_name_of}
 use Rattle.wtp_wire.specs.Settings.{pair_at}
@@ -53,30 +60,31 @@ use Rattle.wt_inspection.specs.SettingLines.{AreSettings}
 abbrev pub Then : Type 0
 Then = Result Next End
 
--- the code of a fault
-abbrev pub fault_code : End → Option ErrorCode
-fault_code (end-is.Fault fault) = Some fault.code
-fault_code other = None
+-- the end within an item of this kind at this place, of which at least so many bytes are missing
+abbrev pub IsCutAt : ℕ → List ℕ → ℕ → End → Type 0
+IsCutAt at item missing (end-is.Cut cut) =
+    (cut.at ≡ at) × (cut.item.now ≡ item) × (cut.missing ≡ missing)
+IsCutAt at item missing other = ⊥
 
--- the bytes end within an item
-abbrev pub is_cut : End → Bool
-is_cut (end-is.Cut cut) = true
-is_cut other = false
+-- the end at a fault of this code, of an item at this place of which no byte is missing
+abbrev pub IsFaultAt : ℕ → ErrorCode → End → Type 0
+IsFaultAt at c (end-is.Fault fault) = (fault.at ≡ at) × (fault.code ≡ c) × (fault.missing ≡ 0)
+IsFaultAt at c other = ⊥
 
--- the reading ends here, within an item
-abbrev pub IsCut : Then → Type 0
-IsCut (Ok next) = ⊥
-IsCut (Err end) = is_cut end ≡ true
+-- the reading ends here, within an item of this kind at this place
+abbrev pub IsCut : ℕ → List ℕ → ℕ → Then → Type 0
+IsCut at item missing (Ok next) = ⊥
+IsCut at item missing (Err end) = IsCutAt at item missing end
 
 -- the reading ends here with a fault
 abbrev pub Faults : Then → Type 0
 Faults (Err (end-is.Fault fault)) = Unit {0}
 Faults other = ⊥
 
--- the reading ends here with a fault of this code
-abbrev pub StopsWith : ErrorCode → Then → Type 0
-StopsWith c (Ok next) = ⊥
-StopsWith c (Err end) = fault_code end ≡ Some c
+-- the reading ends here with a fault of this code, of the item at this place
+abbrev pub StopsWith : ℕ → ErrorCode → Then → Type 0
+StopsWith at c (Ok next) = ⊥
+StopsWith at c (Err end) = IsFaultAt at c end
 
 -- ---- frames
 
@@ -93,37 +101,38 @@ still_first first (name-is.Read kind) = false
 still_first first other = first
 
 -- the reading goes on after a section, unless it is malformed
-abbrev pub AfterSection : Option SectionFault → Then → Then → Type 0
-AfterSection (Some (Malformed cause)) on after = StopsWith code-is.Decompression after
-AfterSection other on after = after ≡ on
+abbrev pub AfterSection : ℕ → Option SectionFault → Then → Then → Type 0
+AfterSection at (Some (Malformed cause)) on after = StopsWith at code-is.Decompression after
+AfterSection at other on after = after ≡ on
 
 -- the reading goes on after settings, unless they have a fault
-abbrev pub AfterSettings : {A : Type 0} → Result A ErrorCode → Then → Then → Type 0
-AfterSettings (Ok settings) on after = after ≡ on
-AfterSettings (Err c) on after = StopsWith c after
+abbrev pub AfterSettings : {A : Type 0} → ℕ → Result A ErrorCode → Then → Then → Type 0
+AfterSettings at (Ok settings) on after = after ≡ on
+AfterSettings at (Err c) on after = StopsWith at c after
 
 -- the first fault of settings, if they have one
 abbrev pub HasFault : {A : Type 0} → Result A ErrorCode → Option ErrorCode → Type 0
 HasFault (Ok settings) found = found ≡ None
 HasFault (Err c) found = found ≡ Some c
 
--- what a frame of this name with this payload contains, and whether the reading goes on after it
-abbrev pub HasParts : FrameName → List ℕ → Parts → Then → Then → Type 0
-HasParts (name-is.Read kind-is.Headers) payload (parts-is.Fields section) on after =
-    IsSection payload section × AfterSection section.fault on after
-HasParts (name-is.Read kind-is.Headers) payload other on after = ⊥
-HasParts (name-is.Read kind-is.Settings) payload (parts-is.Settings lines) on after =
-    AreSettings payload lines.items × AfterSettings (settings_in payload) on after
-HasParts (name-is.Read kind-is.Settings) payload other on after = ⊥
-HasParts (name-is.Read kind-is.Data) payload (parts-is.Capsules capsules) on after =
+-- what a frame of this name at this place with this payload contains, and whether the reading goes
+-- on after it
+abbrev pub HasParts : FrameName → ℕ → List ℕ → Parts → Then → Then → Type 0
+HasParts (name-is.Read kind-is.Headers) at payload (parts-is.Fields section) on after =
+    IsSection payload section × AfterSection at section.fault on after
+HasParts (name-is.Read kind-is.Headers) at payload other on after = ⊥
+HasParts (name-is.Read kind-is.Settings) at payload (parts-is.Settings lines) on after =
+    AreSettings payload lines.items × AfterSettings at (settings_in payload) on after
+HasParts (name-is.Read kind-is.Settings) at payload other on after = ⊥
+HasParts (name-is.Read kind-is.Data) at payload (parts-is.Capsules capsules) on after =
     (after ≡ on) ⊎ Faults after
-HasParts name payload parts-is.Opaque on after = after ≡ on
-HasParts name payload other on after = ⊥
+HasParts name at payload parts-is.Opaque on after = after ≡ on
+HasParts name at payload other on after = ⊥
 
 -- a complete frame is refused, or it has these parts
-abbrev pub Judged : Option ErrorCode → FrameName → List ℕ → Parts → Then → Then → Type 0
-Judged (Some c) name payload parts on after = (parts ≡ parts-is.Opaque) × StopsWith c after
-Judged None name payload parts on after = HasParts name payload parts on after
+abbrev pub Judged : Option ErrorCode → FrameName → ℕ → List ℕ → Parts → Then → Then → Type 0
+Judged (Some c) name at payload parts on after = (parts ≡ parts-is.Opaque) × StopsWith at c after
+Judged None name at payload parts on after = HasParts name at payload parts on after
 
 -- a session ID follows the type of a frame of this kind, in place of a length
 abbrev pub is_session : Option FrameKind → Bool
@@ -143,32 +152,38 @@ IsCutPart name (parts-is.Capsules capsules) on after =
     (is_data name ≡ true) × ((after ≡ on) ⊎ Faults after)
 IsCutPart name other on after = ⊥
 
--- a frame, of which len bytes are there
-pub record IsFrameAt (role : StreamRole) (first : Bool) (bytes : List ℕ) (len : ℕ) (f : FrameItem)
-    (after : Then) : Type 0 where
+-- a frame at this place, of which len bytes are there
+pub record IsFrameAt (role : StreamRole) (first : Bool) (at : ℕ) (bytes : List ℕ) (len : ℕ)
+    (f : FrameItem) (after : Then) : Type 0 where
   pub numbers : pair_at bytes ≡ Some ((f.number, f.announced), drop f.head bytes)
   pub name : f.name ≡ frame_name_of f.number
   pub plain : is_session (kind_of f.number) ≡ false
   pub size : f.head + f.present ≡ len
   pub most : f.present ≤ f.announced
   pub cut : f.present < f.announced → (len ≡ length bytes)
-      × (on : Then) × IsCut on × IsCutPart f.name f.parts on after
+      × (on : Then) × IsCut at (codes "frame") (f.announced - f.present) on
+      × IsCutPart f.name f.parts on after
   pub whole : f.present ≡ f.announced
-      → Judged (name_fault role first f.name) f.name (take f.present (drop f.head bytes)) f.parts
-      (Ok (next-is.Frames role (still_first first f.name))) after
+      → Judged (name_fault role first f.name) f.name at (take f.present (drop f.head bytes))
+      f.parts (Ok (next-is.Frames role (still_first first f.name))) after
 
 -- the head of a WebTransport stream has no session ID, or may not be here
-abbrev pub IsRefused : Bool → Option ErrorCode → Then → Type 0
-IsRefused false fault after = StopsWith code-is.Id after
-IsRefused true (Some c) after = StopsWith c after
-IsRefused true None after = ⊥
+abbrev pub IsRefused : ℕ → Bool → Option ErrorCode → Then → Type 0
+IsRefused at false fault after = StopsWith at code-is.Id after
+IsRefused at true (Some c) after = StopsWith at c after
+IsRefused at true None after = ⊥
 
--- no frame can be read from these two numbers, or from too few bytes
-abbrev pub IsNoFrame : StreamRole → Bool → Option ((ℕ × ℕ) × List ℕ) → Then → Type 0
-IsNoFrame role first None after = IsCut after
-IsNoFrame role first (Some ((number, id), rest)) after =
+-- how many bytes are missing of two numbers that start with these bytes, at least
+abbrev pub pair_lacks : List ℕ → ℕ
+pair_lacks bytes = frame_need bytes - length bytes
+
+-- no frame can be read from the two numbers of these bytes, or the bytes are too few for them
+abbrev pub IsNoFrame :
+    StreamRole → Bool → ℕ → List ℕ → Option ((ℕ × ℕ) × List ℕ) → Then → Type 0
+IsNoFrame role first at bytes None after = IsCut at (codes "frame") (pair_lacks bytes) after
+IsNoFrame role first at bytes (Some ((number, id), rest)) after =
     (is_session (kind_of number) ≡ true)
-    × IsRefused (id % 4 == 0) (rule (role_of role) first kind-is.WebTransport) after
+    × IsRefused at (id % 4 == 0) (rule (role_of role) first kind-is.WebTransport) after
 
 -- ---- heads of unidirectional streams
 
@@ -190,169 +205,187 @@ IsHead false bytes len head =
     (number_at bytes ≡ Some (head.number, drop len bytes)) × (head.session ≡ None)
     × (head.name ≡ stream_name_of head.number)
 
--- no session ID can be read from these two numbers, or from too few bytes
-abbrev pub IsNoSession : Option ((ℕ × ℕ) × List ℕ) → Then → Type 0
-IsNoSession None after = IsCut after
-IsNoSession (Some ((number, id), rest)) after = ((id % 4 == 0) ≡ false) × StopsWith code-is.Id after
+-- no session ID can be read from the two numbers of these bytes, or the bytes are too few for them
+abbrev pub IsNoSession : ℕ → List ℕ → Option ((ℕ × ℕ) × List ℕ) → Then → Type 0
+IsNoSession at bytes None after = IsCut at (codes "stream type") (pair_lacks bytes) after
+IsNoSession at bytes (Some ((number, id), rest)) after =
+    ((id % 4 == 0) ≡ false) × StopsWith at code-is.Id after
 
--- no head can be read from this type, or from too few bytes
-abbrev pub IsNoHead : Option (ℕ × List ℕ) → List ℕ → Then → Type 0
-IsNoHead None bytes after = IsCut after
-IsNoHead (Some (number, rest)) bytes after =
-    (has_session (stream_kind_of number) ≡ true) × IsNoSession (pair_at bytes) after
+-- no head can be read from the type of these bytes, or the bytes are too few for it
+abbrev pub IsNoHead : ℕ → List ℕ → Option (ℕ × List ℕ) → Then → Type 0
+IsNoHead at bytes None after =
+    IsCut at (codes "stream type") (varint_len_needed bytes - length bytes) after
+IsNoHead at bytes (Some (number, rest)) after =
+    (has_session (stream_kind_of number) ≡ true) × IsNoSession at bytes (pair_at bytes) after
 
 -- a head with a session ID, or none
-abbrev pub IsSessionHead : List ℕ → ℕ → Content → Then → Type 0
-IsSessionHead bytes len (content-is.Stream head) after =
+abbrev pub IsSessionHead : ℕ → List ℕ → ℕ → Content → Then → Type 0
+IsSessionHead at bytes len (content-is.Stream head) after =
     IsHead true bytes len head × (after ≡ Ok next-is.Payload)
-IsSessionHead bytes len content-is.Unread after =
-    (len ≡ length bytes) × IsNoSession (pair_at bytes) after
-IsSessionHead bytes len other after = ⊥
+IsSessionHead at bytes len content-is.Unread after =
+    (len ≡ length bytes) × IsNoSession at bytes (pair_at bytes) after
+IsSessionHead at bytes len other after = ⊥
 
 -- ---- capsules
 
 -- what a capsule that closes its session has, and whether the reading goes on after it
-abbrev pub IsClosing : Option (ℕ × List ℕ) → Option CloseReason → Then → Type 0
-IsClosing (Some close) (Some found) after =
+abbrev pub IsClosing : ℕ → Option (ℕ × List ℕ) → Option CloseReason → Then → Type 0
+IsClosing at (Some close) (Some found) after =
     (found.code ≡ close.0) × (string_bytes found.reason ≡ close.1) × (after ≡ Ok next-is.Capsules)
-IsClosing (Some close) None after = ⊥
-IsClosing None found after = (found ≡ None) × StopsWith code-is.Datagram after
+IsClosing at (Some close) None after = ⊥
+IsClosing at None found after = (found ≡ None) × StopsWith at code-is.Datagram after
 
 -- what a capsule of this kind with this value has, and whether the reading goes on after it
-abbrev pub ClosesBy : CapsuleKind → List ℕ → Option CloseReason → Then → Type 0
-ClosesBy CloseWebTransportSession value found after = IsClosing (close_in value) found after
+abbrev pub ClosesBy : ℕ → CapsuleKind → List ℕ → Option CloseReason → Then → Type 0
+ClosesBy at CloseWebTransportSession value found after = IsClosing at (close_in value) found after
 
 -- the same of a capsule that may be of another type
-abbrev pub Closes : Option (CapsuleKind × List ℕ) → Option CloseReason → Then → Type 0
-Closes (Some capsule) found after = ClosesBy capsule.0 capsule.1 found after
-Closes None found after = (found ≡ None) × (after ≡ Ok next-is.Capsules)
+abbrev pub Closes : ℕ → Option (CapsuleKind × List ℕ) → Option CloseReason → Then → Type 0
+Closes at (Some capsule) found after = ClosesBy at capsule.0 capsule.1 found after
+Closes at None found after = (found ≡ None) × (after ≡ Ok next-is.Capsules)
 
--- a capsule, of which len bytes are there
-pub record IsCapsuleAt (bytes : List ℕ) (len : ℕ) (c : CapsuleItem) (after : Then) : Type 0 where
+-- a capsule at this place, of which len bytes are there
+pub record IsCapsuleAt (at : ℕ) (bytes : List ℕ) (len : ℕ) (c : CapsuleItem) (after : Then)
+    : Type 0 where
   pub head : ℕ
   pub there : head ≤ length bytes
   pub numbers : pair_at bytes ≡ Some ((c.number, c.announced), drop head bytes)
+  pub place : c.at ≡ at
+  pub name : c.name.now ≡ capsule_name c.number
   pub most : len ≤ head + c.announced
-  pub cut : len < head + c.announced → (len ≡ length bytes) × (c.close ≡ None) × IsCut after
+  pub cut : len < head + c.announced → (len ≡ length bytes) × (c.close ≡ None)
+      × IsCut at (codes "capsule") ((head + c.announced) - len) after
   pub whole : len ≡ head + c.announced → len < 2 ^ 62
-      → Closes (capsule_in (take len bytes)) c.close after
+      → Closes at (capsule_in (take len bytes)) c.close after
 
 -- ---- items
 
--- the first len of the next bytes are this
-abbrev pub IsNext : Next → List ℕ → ℕ → Content → Then → Type 0
-IsNext next-is.Head bytes len (content-is.Stream head) after =
+-- the first len of the next bytes, which begin at this place, are this
+abbrev pub IsNext : Next → ℕ → List ℕ → ℕ → Content → Then → Type 0
+IsNext next-is.Head at bytes len (content-is.Stream head) after =
     IsHead (has_session (stream_kind_of head.number)) bytes len head
     × (after ≡ Ok (after_head (stream_kind_of head.number)))
-IsNext next-is.Head bytes len content-is.Unread after =
-    (len ≡ length bytes) × IsNoHead (number_at bytes) bytes after
-IsNext (next-is.Frames role first) bytes len (content-is.Frame f) after =
-    IsFrameAt role first bytes len f after
-IsNext (next-is.Frames role first) bytes len (content-is.Session id) after =
+IsNext next-is.Head at bytes len content-is.Unread after =
+    (len ≡ length bytes) × IsNoHead at bytes (number_at bytes) after
+IsNext (next-is.Frames role first) at bytes len (content-is.Frame f) after =
+    IsFrameAt role first at bytes len f after
+IsNext (next-is.Frames role first) at bytes len (content-is.Session id) after =
     IsSessionItem bytes len id × (rule (role_of role) first kind-is.WebTransport ≡ None)
     × (after ≡ Ok next-is.Payload)
-IsNext (next-is.Frames role first) bytes len content-is.Unread after =
-    (len ≡ length bytes) × IsNoFrame role first (pair_at bytes) after
-IsNext next-is.Payload bytes len content-is.Payload after =
+IsNext (next-is.Frames role first) at bytes len content-is.Unread after =
+    (len ≡ length bytes) × IsNoFrame role first at bytes (pair_at bytes) after
+IsNext next-is.Payload at bytes len content-is.Payload after =
     (len ≡ length bytes) × (after ≡ Ok next-is.Payload)
-IsNext next-is.Capsules bytes len (content-is.Capsule c) after = IsCapsuleAt bytes len c after
-IsNext next-is.Capsules bytes len content-is.Unread after =
-    (len ≡ length bytes) × (pair_at bytes ≡ None) × IsCut after
-IsNext next-is.Datagram bytes len (content-is.Datagram d) after =
+IsNext next-is.Capsules at bytes len (content-is.Capsule c) after =
+    IsCapsuleAt at bytes len c after
+IsNext next-is.Capsules at bytes len content-is.Unread after =
+    (len ≡ length bytes) × (pair_at bytes ≡ None)
+    × IsCut at (codes "capsule") (pair_lacks bytes) after
+IsNext next-is.Datagram at bytes len (content-is.Datagram d) after =
     (len ≡ length bytes) × IsDatagramItem bytes d × (after ≡ Ok next-is.Datagram)
-IsNext next-is.Datagram bytes len content-is.Unread after =
-    (len ≡ length bytes) × (datagram_in bytes ≡ None) × StopsWith code-is.Datagram after
-IsNext next-is.Section bytes len (content-is.Section section) after =
+IsNext next-is.Datagram at bytes len content-is.Unread after =
+    (len ≡ length bytes) × (datagram_in bytes ≡ None) × StopsWith at code-is.Datagram after
+IsNext next-is.Section at bytes len (content-is.Section section) after =
     (len ≡ length bytes) × IsSection bytes section
-    × AfterSection section.fault (Ok next-is.Section) after
-IsNext next-is.Settings bytes len (content-is.Settings lines) after =
+    × AfterSection at section.fault (Ok next-is.Section) after
+IsNext next-is.Settings at bytes len (content-is.Settings lines) after =
     (len ≡ length bytes) × AreSettings bytes lines.items
-    × (length bytes < 2 ^ 62 → AfterSettings (settings_in bytes) (Ok next-is.Settings) after)
-IsNext next bytes len other after = ⊥
+    × (length bytes < 2 ^ 62 → AfterSettings at (settings_in bytes) (Ok next-is.Settings) after)
+IsNext next at bytes len other after = ⊥
 
 -- the same; after the end of the reading the bytes that are left are one item that is not read
-abbrev pub IsStep : Then → List ℕ → ℕ → Content → Then → Type 0
-IsStep (Ok next) bytes len content after = IsNext next bytes len content after
-IsStep (Err end) bytes len content after =
+abbrev pub IsStep : Then → ℕ → List ℕ → ℕ → Content → Then → Type 0
+IsStep (Ok next) at bytes len content after = IsNext next at bytes len content after
+IsStep (Err end) at bytes len content after =
     (content ≡ content-is.Unread) × (len ≡ length bytes) × (after ≡ Err end)
 
 -- ---- messages
 
--- the reading goes on, or ends with this fault
-abbrev pub Follows : Option ErrorCode → Then → Then → Type 0
-Follows None on after = after ≡ on
-Follows (Some c) on after = StopsWith c after
+-- the reading goes on, or ends with this fault of the capsule at this place
+abbrev pub Follows : ℕ → Option ErrorCode → Then → Then → Type 0
+Follows at None on after = after ≡ on
+Follows at (Some c) on after = StopsWith at c after
 
--- The DATA frames of a session have these capsules, those that end in this payload. What is left of
--- all data is not a complete capsule, or its first one has a fault.
-abbrev pub TakesData : Stage → List ℕ → List CapsuleItem → Then → Then → Stage → Type 0
-TakesData (Session held) payload capsules on after next =
+-- These bytes have these capsules. The rest is not a complete capsule, or its first capsule has a
+-- fault.
+abbrev pub TakesAll : (ℕ → ℕ) → List ℕ → List CapsuleItem → Then → Then → Stage → Type 0
+TakesAll place bytes capsules on after next =
     (rest : List ℕ) × (fault : Option ErrorCode)
-    × StartsCapsules (held ++ payload) capsules rest × EndsWith (capsule_front rest) fault
-    × Follows fault on after × (next ≡ Session rest)
-TakesData other payload capsules on after next = ⊥
+    × StartsCapsules place bytes capsules rest × EndsWith (capsule_front rest) fault
+    × Follows (place (length rest)) fault on after × (next ≡ Session rest (place (length rest)))
+
+-- The DATA frames of a session have these capsules, those that end in this payload, which begins at
+-- this place.
+abbrev pub TakesData : Stage → ℕ → List ℕ → List CapsuleItem → Then → Then → Stage → Type 0
+TakesData (Session held start) at payload capsules on after next =
+    TakesAll (place_of start at (length payload)) (held ++ payload) capsules on after next
+TakesData other at payload capsules on after next = ⊥
 
 -- the DATA frames have no capsules
 abbrev pub HasNoCapsules : Stage → Type 0
-HasNoCapsules (Session held) = ⊥
+HasNoCapsules (Session held start) = ⊥
 HasNoCapsules other = Unit {0}
 
--- how far the message is after a DATA frame with these parts
-abbrev pub TakesDataFrame : List ℕ → Parts → Then → Then → Stage → Stage → Type 0
-TakesDataFrame payload (parts-is.Capsules capsules) on after stage next =
-    TakesData stage payload capsules.items on after next
-TakesDataFrame payload other on after stage next = HasNoCapsules stage × (next ≡ stage)
+-- how far the message is after a DATA frame with these parts, whose payload begins at this place
+abbrev pub TakesDataFrame : ℕ → List ℕ → Parts → Then → Then → Stage → Stage → Type 0
+TakesDataFrame at payload (parts-is.Capsules capsules) on after stage next =
+    TakesData stage at payload capsules.items on after next
+TakesDataFrame at payload other on after stage next = HasNoCapsules stage × (next ≡ stage)
 
 -- a field section before the content may be that of a session; none later is
 abbrev pub TakesSection : StreamRole → FieldSection → Stage → Stage → Type 0
 TakesSection role section Opening next = next ≡ stage_after role section
 TakesSection role section Plain next = next ≡ Plain
-TakesSection role section (Session held) next = next ≡ Session held
+TakesSection role section (Session held start) next = next ≡ Session held start
 
--- how far the message is after a frame of this name with these parts, on a stream of this role
+-- how far the message is after a frame of this name with these parts, on a stream of this role,
+-- whose payload begins at this place
 abbrev pub Takes :
-    StreamRole → FrameName → List ℕ → Parts → Then → Then → Stage → Stage → Type 0
-Takes role (name-is.Read kind-is.Data) payload parts on after stage next =
-    TakesDataFrame payload parts on after stage next
-Takes role (name-is.Read kind-is.Headers) payload (parts-is.Fields section) on after stage next =
+    StreamRole → FrameName → ℕ → List ℕ → Parts → Then → Then → Stage → Stage → Type 0
+Takes role (name-is.Read kind-is.Data) at payload parts on after stage next =
+    TakesDataFrame at payload parts on after stage next
+Takes role (name-is.Read kind-is.Headers) at payload (parts-is.Fields section) on after stage next =
     TakesSection role section stage next
-Takes role name payload parts on after stage next = next ≡ stage
+Takes role name at payload parts on after stage next = next ≡ stage
 
 -- the same of a complete frame, which may be refused
 abbrev pub TakesWhole : Option ErrorCode
-    → StreamRole → FrameName → List ℕ → Parts → Then → Then → Stage → Stage → Type 0
-TakesWhole (Some c) role name payload parts on after stage next = next ≡ stage
-TakesWhole None role name payload parts on after stage next =
-    Takes role name payload parts on after stage next
+    → StreamRole → FrameName → ℕ → List ℕ → Parts → Then → Then → Stage → Stage → Type 0
+TakesWhole (Some c) role name at payload parts on after stage next = next ≡ stage
+TakesWhole None role name at payload parts on after stage next =
+    Takes role name at payload parts on after stage next
 
--- how far the message is after a frame, of which some bytes may be missing
-pub record TakesFrame (role : StreamRole) (first : Bool) (bytes : List ℕ) (f : FrameItem)
+-- how far the message is after a frame at this place, of which some bytes may be missing
+pub record TakesFrame (role : StreamRole) (first : Bool) (at : ℕ) (bytes : List ℕ) (f : FrameItem)
     (after : Then) (stage next : Stage) : Type 0 where
   pub whole : f.present ≡ f.announced
-      → TakesWhole (name_fault role first f.name) role f.name (take f.present (drop f.head bytes))
-      f.parts (Ok (next-is.Frames role (still_first first f.name))) after stage next
+      → TakesWhole (name_fault role first f.name) role f.name (at + f.head)
+      (take f.present (drop f.head bytes)) f.parts
+      (Ok (next-is.Frames role (still_first first f.name))) after stage next
   pub cut : f.present < f.announced
-      → (on : Then) × IsCut on
-      × Takes role f.name (take f.present (drop f.head bytes)) f.parts on after stage next
+      → (on : Then) × IsCut at (codes "frame") (f.announced - f.present) on
+      × Takes role f.name (at + f.head) (take f.present (drop f.head bytes)) f.parts on after
+      stage next
 
 abbrev pub HasNoFrame : Content → Type 0
 HasNoFrame (content-is.Frame f) = ⊥
 HasNoFrame other = Unit {0}
 
-abbrev pub MovesFrames : StreamRole → Bool → List ℕ → Content → Then → Stage → Stage → Type 0
-MovesFrames role first bytes (content-is.Frame f) after stage next =
-    TakesFrame role first bytes f after stage next
-MovesFrames role first bytes other after stage next = next ≡ stage
+abbrev pub MovesFrames :
+    StreamRole → Bool → ℕ → List ℕ → Content → Then → Stage → Stage → Type 0
+MovesFrames role first at bytes (content-is.Frame f) after stage next =
+    TakesFrame role first at bytes f after stage next
+MovesFrames role first at bytes other after stage next = next ≡ stage
 
-abbrev pub MovesNext : Next → List ℕ → Content → Then → Stage → Stage → Type 0
-MovesNext (next-is.Frames role first) bytes content after stage next =
-    MovesFrames role first bytes content after stage next
-MovesNext other bytes content after stage next = next ≡ stage
+abbrev pub MovesNext : Next → ℕ → List ℕ → Content → Then → Stage → Stage → Type 0
+MovesNext (next-is.Frames role first) at bytes content after stage next =
+    MovesFrames role first at bytes content after stage next
+MovesNext other at bytes content after stage next = next ≡ stage
 
--- how far the message is after an item
-abbrev pub Moves : Then → List ℕ → Content → Then → Stage → Stage → Type 0
-Moves (Ok is) bytes content after stage next = MovesNext is bytes content after stage next
-Moves (Err end) bytes content after stage next = next ≡ stage
+-- how far the message is after an item at this place
+abbrev pub Moves : Then → ℕ → List ℕ → Content → Then → Stage → Stage → Type 0
+Moves (Ok is) at bytes content after stage next = MovesNext is at bytes content after stage next
+Moves (Err end) at bytes content after stage next = next ≡ stage
 
 -- at least one of the bytes, and no more than there are
 abbrev pub IsPart : ℕ → List ℕ → Type 0
@@ -364,8 +397,8 @@ Reads before stage bytes [] last final rest =
     (before ≡ last) × (stage ≡ final) × (bytes ≡ rest)
 Reads before stage bytes (item ∷ items) last final rest =
     (after : Then) × (next : Stage) × IsPart item.length bytes
-    × IsStep before bytes item.length item.content after
-    × Moves before bytes item.content after stage next
+    × IsStep before item.at bytes item.length item.content after
+    × Moves before item.at bytes item.content after stage next
     × Reads after next (drop item.length bytes) items last final rest
 
 -- what a recording begins with
@@ -386,13 +419,13 @@ code_of_nothing other = None
 
 -- the end of no bytes, whose fault has this code, if they have one
 abbrev pub EndsEmpty : Option ErrorCode → End → Type 0
-EndsEmpty (Some c) end = fault_code end ≡ Some c
+EndsEmpty (Some c) end = IsFaultAt 0 c end
 EndsEmpty None end = end ≡ end-is.Whole
 
 -- the end of bytes that have no fault: they are complete unless they end within a capsule
 abbrev pub EndsStage : Stage → End → Type 0
-EndsStage (Session (byte ∷ held)) (end-is.Cut cut) = Unit {0}
-EndsStage (Session (byte ∷ held)) other = ⊥
+EndsStage (Session (byte ∷ held) start) end =
+    IsCutAt start (codes "capsule") (missing_of (pair_at (byte ∷ held)) (byte ∷ held)) end
 EndsStage other end = end ≡ end-is.Whole
 
 -- a stream of frames, no bytes of which follow, may not end within one (RFC 9114, section 7.1)

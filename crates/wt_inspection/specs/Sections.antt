@@ -1,14 +1,17 @@
 -- Field sections, line by line (RFC 9204, section 4.5).
-use Rattle.std.specs.Prelude.{◌≡◌, ℕ, ◌<◌, List, [], length, map, Option, Some, None, Result, Ok, Err}
+use Rattle.std.specs.Prelude.{◌≡◌, ℕ, ◌<◌, List, [], length, map, Option, Some, None, Result, Ok}
+use Rattle.std.specs.Prelude.{Err}
 use Rattle.wtp_qpack.specs.declared.qpack.DecodingError.{DecodingError}
 use Rattle.wtp_qpack.specs.declared.qpack.DecodingError.TheVariants.{DynamicNotSupported}
 use Rattle.wtp_qpack.specs.Field.{Field}
 use Rattle.wtp_qpack.specs.FieldLines.{AreOctetLines, octet_line_at}
 use Rattle.wtp_qpack.specs.FieldSection.{after_prefix}
+use Rattle.wtp_qpack.specs.Integer.{integer_at}
 use Rattle.wt_inspection_model.specs.declared.item.fields.FieldSection.{FieldSection}
 use Rattle.wt_inspection_model.specs.declared.item.fields.Line.{Line}
 use Rattle.wt_inspection_model.specs.declared.item.fields.SectionFault.{SectionFault}
-use Rattle.wt_inspection_model.specs.declared.item.fields.SectionFault.TheVariants.{NeedsDynamicTable, Malformed}
+use Rattle.wt_inspection_model.specs.declared.item.fields.SectionFault.TheVariants.{NeedsDynamicTable}
+use Rattle.wt_inspection_model.specs.declared.item.fields.SectionFault.TheVariants.{Malformed}
 
 -- the name and the value
 abbrev pub field_of : Line → Field
@@ -36,6 +39,16 @@ IsSectionOf (Ok bytes) section = HasLines bytes section.lines.items section.faul
 IsSectionOf (Err cause) section =
     (section.lines.items ≡ []) × (section.fault ≡ Some (fault_of cause))
 
+-- the number that was read, if one was
+abbrev pub number_of : Result (ℕ × List ℕ) DecodingError → Option ℕ
+number_of (Ok found) = Some found.0
+number_of (Err cause) = None
+
+-- the Required Insert Count as it is encoded (RFC 9204, section 4.5.1.1), if it can be decoded
+abbrev pub insert_count_of : List ℕ → Option ℕ
+insert_count_of bytes = number_of (integer_at 8 bytes)
+
 -- the bytes are this section
 abbrev pub IsSection : List ℕ → FieldSection → Type 0
-IsSection bytes section = IsSectionOf (after_prefix bytes) section
+IsSection bytes section =
+    (section.insert_count ≡ insert_count_of bytes) × IsSectionOf (after_prefix bytes) section

@@ -1,6 +1,7 @@
 -- Which header sections are those of messages whose DATA frames have capsules (RFC 9297, section
 -- 3.1).
-use Rattle.std.specs.Prelude.{◌||◌, ◌&&◌, ℕ, Bool, true, false, List, [], ◌∷◌, codes, nat_eq, Option, Some, None}
+use Rattle.std.specs.Prelude.{◌||◌, ◌&&◌, ℕ, Bool, true, false, List, [], ◌∷◌, codes, nat_eq}
+use Rattle.std.specs.Prelude.{Option, Some, None}
 use Rattle.std.specs.List.{list_any}
 use Rattle.std.specs.Str.{bytes_eq}
 use Rattle.wtp_wire.specs.declared.rules.StreamRole.{StreamRole}
@@ -58,7 +59,7 @@ opens_session other section = request_opens section.fault section.lines.items
 -- how far a message is after a section, if it is an interim one, and if it opens a session
 abbrev pub stage_of : Bool → Bool → Stage
 stage_of true session = Opening
-stage_of false true = Session []
+stage_of false true = Session [] 0
 stage_of false false = Plain
 
 -- how far a message is whose first section, or the first after interim ones, is this

@@ -3,7 +3,8 @@ use Rattle.std.specs.Prelude.{◌≡◌, ℕ, Bool, true, false, List, [], ◌�
 use Rattle.std.specs.List.{list_any}
 use Rattle.wtp_wire.specs.SettingId.{is_reserved}
 use Rattle.wt_inspection_model.specs.declared.item.settings.SettingIssue.{SettingIssue}
-use Rattle.wt_inspection_model.specs.declared.item.settings.SettingIssue.TheVariants.{Reserved, Repeated}
+use Rattle.wt_inspection_model.specs.declared.item.settings.SettingIssue.TheVariants.{Reserved}
+use Rattle.wt_inspection_model.specs.declared.item.settings.SettingIssue.TheVariants.{Repeated}
 use Rattle.wt_inspection_model.specs.declared.item.settings.SettingLine.{SettingLine}
 use Rattle.wtp_wire.specs.Settings.{pair_at}
 

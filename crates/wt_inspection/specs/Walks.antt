@@ -1,5 +1,6 @@
 -- What the reading of a message remembers, and what the bytes of a capsule lead to.
-use Rattle.std.specs.Prelude.{◌≡◌, ◌≢◌, ℕ, ◌+◌, ◌-◌, ◌^◌, ◌<◌, ◌≤◌, List, [], ◌∷◌, ◌++◌, length, min, nat_lt, if◌then◌else◌, Option, Some, None, Ok, Err}
+use Rattle.std.specs.Prelude.{◌≡◌, ◌≢◌, ℕ, ◌+◌, ◌<◌, ◌≤◌, List, [], ◌∷◌, ◌++◌, length, Option, Some}
+use Rattle.std.specs.Prelude.{None, Ok, Err}
 use Rattle.wtp_core.specs.declared.error.ErrorCode.TheVariants.{Datagram}
 use Rattle.wtp_wire.specs.declared.capsule.CapsuleKind.{CapsuleKind}
 use Rattle.wtp_wire.specs.declared.capsule.cursor.UnknownCapsule.{UnknownCapsule}
@@ -9,7 +10,8 @@ use Rattle.wtp_wire.specs.CapsuleCursor.{IsCapsulePart}
 use Rattle.wtp_wire.specs.CapsuleFront.{capsule_front}
 use Rattle.wtp_wire.specs.Capsule.{capsule_kind_of}
 use Rattle.wtp_wire.specs.CloseSession.{close_in}
-use Rattle.wt_inspection.specs.DataCapsules.{Stage, Opening, Plain, Session, HasText, StartsCapsule, EndsWith}
+use Rattle.wt_inspection.specs.DataCapsules.{Stage, Opening, Plain, Session, HasText, StartsCapsule}
+use Rattle.wt_inspection.specs.DataCapsules.{StartsCapsules, EndsWith}
 use Rattle.wtp_wire.specs.Settings.{pair_at}
 use Rattle.wt_inspection.specs.Recording.{Then}
 use Rattle.wt_inspection.specs.declared.capsules.CapsuleWalk.{CapsuleWalk}
@@ -43,6 +45,10 @@ abbrev pub Holds : CapsuleWalk → List ℕ → Type 0
 Holds walk came =
     HoldsOf walk.unknown walk.cursor.skip_remaining walk.held.items came × (length walk.held.items ≤ 1043)
 
+-- the same, where the first of these bytes is at this place
+abbrev pub HoldsAt : CapsuleWalk → List ℕ → ℕ → Type 0
+HoldsAt walk came start = Holds walk came × (came ≢ [] → walk.at ≡ start)
+
 -- ---- one turn
 
 -- a turn takes no more bytes than are missing
@@ -63,12 +69,16 @@ abbrev pub begins_at : List ℕ → ℕ → ℕ → ℕ
 begins_at [] start place = place
 begins_at (b ∷ came) start place = start
 
+-- the fault of a capsule that begins there, which is complete or too long
+abbrev pub IsFaultOf : ℕ → Fault → Type 0
+IsFaultOf start fault = (fault.at ≡ start) × (fault.missing ≡ 0)
+
 -- what these bytes of a capsule that begins there lead to
 abbrev pub Turned : ℕ → Turn → CapsuleWalk → List ℕ → Type 0
 Turned start turn-is.More walk bytes = Holds walk bytes × (walk.at ≡ start)
 Turned start (turn-is.Done item) walk bytes =
     IsWhole bytes item × Holds walk [] × (item.at ≡ start)
-Turned start (turn-is.Fault fault) walk bytes = IsBad bytes fault × (fault.at ≡ start)
+Turned start (turn-is.Fault fault) walk bytes = IsBad bytes fault × IsFaultOf start fault
 
 -- what a complete capsule that closes its session is
 abbrev pub JudgesClose : Option (ℕ × List ℕ) → Closing → Type 0
@@ -87,32 +97,17 @@ Judges None closing = closing ≡ closing-is.Other
 
 -- ---- a piece of data
 
--- The place of the byte that has n bytes of the data left, it among them, if the last `size` of
--- them are a piece at a place, and a capsule that began before the piece is at `start`. A place is
--- below 2^64.
-abbrev pub place_of : ℕ → ℕ → ℕ → ℕ → ℕ
-place_of start at size n = if nat_lt size n then start else min (at + (size - n)) (2 ^ 64 - 1)
-
--- the bytes start with these capsules, each with the place of its first byte, followed by the rest
-abbrev pub PlacesCapsules : (ℕ → ℕ) → List ℕ → List CapsuleItem → List ℕ → Type 0
-PlacesCapsules place bytes [] rest = bytes ≡ rest
-PlacesCapsules place bytes (c ∷ cs) rest =
-    (behind : List ℕ)
-    × StartsCapsule bytes c behind
-    × (c.at ≡ place (length bytes))
-    × PlacesCapsules place behind cs rest
-
 -- what is held, or the fault, begins there
 abbrev pub Rests : ℕ → Option Fault → CapsuleWalk → List ℕ → Type 0
-Rests start None walk rest = Holds walk rest × (rest ≢ [] → walk.at ≡ start)
+Rests start None walk rest = HoldsAt walk rest start
 Rests start (Some fault) walk rest =
-    EndsWith (capsule_front rest) (Some fault.code) × (fault.at ≡ start)
+    EndsWith (capsule_front rest) (Some fault.code) × IsFaultOf start fault
 
 -- the capsules of all bytes that came, and what is held of the rest
 abbrev pub TakesPiece : (ℕ → ℕ) → CapsuleWalk → List ℕ → Taken → Type 0
 TakesPiece place walk all taken =
     (rest : List ℕ)
-    × PlacesCapsules place all taken.items.items rest
+    × StartsCapsules place all taken.items.items rest
     × Rests (place (length rest)) taken.fault walk rest
 
 -- ---- a message
@@ -120,7 +115,7 @@ TakesPiece place walk all taken =
 abbrev pub IsStage : Phase → Stage → Type 0
 IsStage phase-is.Opening stage = stage ≡ Opening
 IsStage phase-is.Plain stage = stage ≡ Plain
-IsStage (phase-is.Session walk) (Session held) = Holds walk held
+IsStage (phase-is.Session walk) (Session held start) = HoldsAt walk held start
 IsStage (phase-is.Session walk) other = ⊥
 
 -- after the end of the reading it does not matter

@@ -1,12 +1,16 @@
 //! Capsules (RFC 9297, section 3.2).
-ghost use Rattle.std.specs.Prelude.{◌≡◌, ◌≢◌, ◌+◌, ◌%◌, ◌==◌, ◌≤◌, ◌<◌, ◌^◌, ◌++◌, ℕ, List, [], IsSome, Some, None, IfOk, IfSome, length, string_bytes};
+ghost use Rattle.std.specs.Prelude.{◌≡◌, ◌≢◌, ◌+◌, ◌%◌, ◌==◌, ◌≤◌, ◌<◌, ◌^◌, ◌++◌, ℕ, List, []};
+ghost use Rattle.std.specs.Prelude.{IsSome, Some, None, IfOk, IfSome, codes, length, string_bytes};
 ghost use Rattle.wtp_wire.specs.AnyCapsule.{missing_from};
 ghost use Rattle.wtp_wire.specs.Capsule.{capsule_in};
 ghost use Rattle.wtp_wire.specs.CapsuleCursor.{capsule_value};
 ghost use Rattle.wtp_wire.specs.CapsuleFront.{IsCapsule};
 ghost use Rattle.wtp_wire.specs.CloseSession.{close_in};
 ghost use Rattle.wt_inspection.specs.Recording.{Closes, IsNext};
-ghost use Rattle.wt_inspection.specs.Walks.{Fits, Holds, JudgesBy, JudgesClose, Judges, LacksOf, TakesPiece, Turned, begins_at, place_of};
+ghost use Rattle.wt_inspection.specs.CapsuleNames.{capsule_name};
+ghost use Rattle.wt_inspection.specs.DataCapsules.{place_of};
+ghost use Rattle.wt_inspection.specs.Walks.{Fits, Holds, HoldsAt, IsFaultOf, JudgesBy, JudgesClose};
+ghost use Rattle.wt_inspection.specs.Walks.{Judges, LacksOf, TakesPiece, Turned, begins_at};
 
 use crate::reading::{Next, Reading, Step, cut, fault, fault_at};
 use std::alloc::{AllocError, Global};
@@ -80,8 +84,9 @@ impl CapsuleWalk {
     /// Takes a piece, which begins at this place. Returns the capsules that end in it, up to the
     /// first fault.
     pub(crate) fn add(&mut self, at: usize, piece: &[u8]) -> Result<Taken, AllocError>
-        ensures { IfOk result (λ taken. (came : List ℕ) → Holds self.old came
-            → TakesPiece (place_of self.old.at at (length piece.now)) self.new (came ++ piece.now)
+        requires { at + length piece.now < 2 ^ 64 }
+        ensures { IfOk result (λ taken. (came : List ℕ) (start : ℕ) → HoldsAt self.old came start
+            → TakesPiece (place_of start at (length piece.now)) self.new (came ++ piece.now)
             taken) }
     {
         let mut items = Vec::new(self.alloc);
@@ -90,7 +95,7 @@ impl CapsuleWalk {
             if rest.is_empty() {
                 return Ok(Taken { items, fault: None });
             }
-            let place = at.saturating_add(piece.len() - rest.len());
+            let place = at + (piece.len() - rest.len());
             let (front, behind) = rest.split_at(self.next_len(rest.len()));
             match self.turn(place, front)? {
                 Turn::More => {}
@@ -213,6 +218,7 @@ impl CapsuleWalk {
         ensures none { (came : List ℕ) → Holds self.now came → result ≡ None → came ≡ [] }
         ensures some { (came : List ℕ) → Holds self.now came → IsSome result → came ≢ [] }
         ensures cut { IfSome result (λ cut. (cut.at ≡ self.now.at)
+            × (cut.item.now ≡ codes "capsule")
             × (cut.missing ≡ missing_from self.now.cursor self.now.held.items)) }
     {
         if self.held.is_empty() && self.unknown.is_none() {
@@ -232,7 +238,7 @@ const BAD_CLOSE: &str = "a close capsule is a code and a text of at most 1024 by
 /// Returns the fault of a capsule at this place that is too long.
 fn too_long(at: usize) -> Fault
     ensures code { result.code ≡ ErrorCode.Datagram }
-    ensures at { result.at ≡ at }
+    ensures at { IsFaultOf at result }
 {
     let why = "a reason has more than 1024 bytes (draft-ietf-webtrans-http3-02, section 5)";
     fault_at(at, ErrorCode::Datagram, why)
@@ -242,6 +248,7 @@ fn too_long(at: usize) -> Fault
 fn capsule_of(at: usize, id: VarInt, announced: u64, close: Option<CloseReason>) -> CapsuleItem
     ensures at { result.at ≡ at }
     ensures number { result.number ≡ id }
+    ensures name { result.name.now ≡ capsule_name id }
     ensures announced { result.announced ≡ announced }
     ensures close { result.close ≡ close }
 {
@@ -266,7 +273,10 @@ fn reason_of(alloc: Global, close: &CloseWebTransportSession) -> Result<CloseRea
 }
 
 /// Returns the name of a capsule's type.
-fn name_of(number: VarInt) -> &'static str {
+#[tactic(auto, unfolding(crate::specs::CapsuleNames::capsule_name))]
+fn name_of(number: VarInt) -> &'static str
+    ensures { result.now ≡ capsule_name number }
+{
     match CapsuleKind::parse(number) {
         Some(CapsuleKind::CloseWebTransportSession) => "CLOSE_WEBTRANSPORT_SESSION",
         None if number.into_inner() == 0 => "DATAGRAM",
@@ -288,7 +298,7 @@ pub(crate) fn next_capsule(reading: &Reading, at: usize, rest: &[u8]) -> Result<
     requires { 0 < length rest.now }
     ensures within { IfOk result (λ s. s.length ≤ length rest.now) }
     ensures some { IfOk result (λ s. 0 < s.length) }
-    ensures read { IfOk result (λ s. IsNext Next.Capsules rest.now s.length s.content s.after) }
+    ensures read { IfOk result (λ s. IsNext Next.Capsules at rest.now s.length s.content s.after) }
 {
     let Some(pair) = first_pair(rest) else {
         let end = cut(at, "capsule", missing_bytes(rest) as u64);
@@ -322,7 +332,7 @@ fn read_close(
     bytes: &[u8],
 ) -> Result<(Option<CloseReason>, Result<Next, End>), AllocError>
     ensures { IfOk result (λ found. length bytes.now < 2 ^ 62
-        → Closes (capsule_in bytes.now) found.0 found.1) }
+        → Closes at (capsule_in bytes.now) found.0 found.1) }
 {
     match closing_of(alloc, bytes)? {
         Closing::Other => Ok((None, Ok(Next::Capsules))),

@@ -4,11 +4,13 @@ ghost use Rattle.wtp_qpack.specs.FieldLines.{seen_line};
 ghost use Rattle.wtp_qpack.specs.declared.qpack.DecodingError.TheVariants.{Memory};
 ghost use Rattle.wt_inspection.specs.Recording.{AfterSection};
 ghost use Rattle.wt_inspection.specs.Sections.{HasLines, IsSection, fault_of, field_of};
+ghost use Rattle.wt_inspection.specs.Sections.{insert_count_of};
 
 use crate::reading::{Next, fault};
 use std::alloc::{AllocError, Global};
 use wt_inspection_model::item::{End, FieldSection, Line, SectionFault};
 use wtp_core::error::ErrorCode;
+use wtp_qpack::parts::read_integer;
 use wtp_qpack::qpack::{DecodingError, FieldBuffer, FieldLine, FieldLines};
 
 /// Returns the lines of a section, up to the first that cannot be read.
@@ -33,7 +35,8 @@ fn read_lines(
     insert_count: Option<u64>,
     mut fields: FieldLines<'_>,
 ) -> Result<FieldSection, AllocError>
-    ensures { IfOk result (λ s. HasLines fields.entry s.lines.items s.fault) }
+    ensures lines { IfOk result (λ s. HasLines fields.entry s.lines.items s.fault) }
+    ensures count { IfOk result (λ s. s.insert_count ≡ insert_count) }
 {
     let mut room = FieldBuffer::new(alloc);
     let mut lines = Vec::new(alloc);
@@ -85,7 +88,7 @@ fn section_fault(fault: DecodingError) -> Result<SectionFault, AllocError>
 
 /// Returns what follows a section: these bytes, or the end of the reading if it is malformed.
 pub(crate) fn section_then(at: usize, section: &FieldSection, next: Next) -> Result<Next, End>
-    ensures { AfterSection section.now.fault (Ok next) result }
+    ensures { AfterSection at section.now.fault (Ok next) result }
 {
     match section.fault {
         Some(SectionFault::Malformed(cause)) => {
@@ -116,22 +119,12 @@ fn sentence(cause: DecodingError) -> &'static str {
 }
 
 /// Returns the Required Insert Count as it is encoded, an integer with a prefix of 8 bits (RFC
-/// 9204, sections 4.1.1 and 4.5.1.1). `None` if it is cut, or has more than 5 bytes.
-fn insert_count_of(bytes: &[u8]) -> Option<u64> {
-    let first = *bytes.first()?;
-    if first < 255 {
-        return Some(u64::from(first));
+/// 9204, sections 4.1.1 and 4.5.1.1). `None` if it is cut, or above 2^64 - 1.
+fn insert_count_of(bytes: &[u8]) -> Option<u64>
+    ensures { result ≡ insert_count_of bytes.now }
+{
+    match read_integer::<8>(bytes) {
+        Ok((count, _)) => Some(count),
+        Err(_) => None,
     }
-    let mut count = 255u64;
-    let mut scale = 1u64;
-    // 255 and four groups of 7 bits are below 2^29, so nothing here saturates.
-    for k in 1..5 {
-        let group = *bytes.get(k)?;
-        count = count.saturating_add(u64::from(group % 128).saturating_mul(scale));
-        if group < 128 {
-            return Some(count);
-        }
-        scale = scale.saturating_mul(128);
-    }
-    None
 }

@@ -1,10 +1,13 @@
 //! Frames (RFC 9114, section 7).
-ghost use Rattle.std.specs.Prelude.{◌≡◌, ◌≤◌, ◌<◌, ◌+◌, ◌^◌, true, false, Some, Ok, Err, IfOk, length, drop};
+ghost use Rattle.std.specs.Prelude.{◌≡◌, ◌≤◌, ◌<◌, ◌+◌, ◌^◌, ℕ, true, false, Some, Ok, Err};
+ghost use Rattle.std.specs.Prelude.{IfOk, length, drop};
 ghost use Rattle.wtp_wire.specs.Kind.{kind_of};
 ghost use Rattle.wt_inspection_model.specs.Names.{frame_name_of};
 ghost use Rattle.wt_inspection.specs.Walks.{Leads};
 ghost use Rattle.wtp_wire.specs.Settings.{pair_at};
-ghost use Rattle.wt_inspection.specs.Recording.{IsCutPart, HasNoFrame, HasParts, IsNext, Judged, Moves, Takes, TakesDataFrame, TakesWhole, is_cut, is_data, is_session, name_fault, still_first};
+ghost use Rattle.wt_inspection.specs.Recording.{HasNoFrame, HasParts, IsCutPart, IsNext, Judged};
+ghost use Rattle.wt_inspection.specs.Recording.{Moves, Takes, TakesDataFrame, TakesWhole};
+ghost use Rattle.wt_inspection.specs.Recording.{is_data, is_session, name_fault, still_first};
 
 mod warnings;
 
@@ -46,13 +49,14 @@ pub(crate) fn next_frame(
     at: usize,
     rest: &[u8],
 ) -> Result<Step, AllocError>
-    requires { 0 < length rest.now }
+    requires some { 0 < length rest.now }
+    requires place { at + length rest.now < 2 ^ 64 }
     ensures within { IfOk result (λ s. s.length ≤ length rest.now) }
     ensures some { IfOk result (λ s. 0 < s.length) }
-    ensures read { IfOk result (λ s. IsNext (Next.Frames role first) rest.now s.length s.content
+    ensures read { IfOk result (λ s. IsNext (Next.Frames role first) at rest.now s.length s.content
         s.after) }
     ensures stage { IfOk result (λ s. Leads reading.old.phase reading.new.phase
-        (Moves (Ok (Next.Frames role first)) rest.now s.content s.after) s.after) }
+        (Moves (Ok (Next.Frames role first)) at rest.now s.content s.after) s.after) }
 {
     let Some(pair) = first_pair(rest) else {
         let end = cut(at, "frame", missing_bytes(rest) as u64);
@@ -92,7 +96,7 @@ fn session_frame(role: StreamRole, first: bool, at: usize, pair: FirstPair, rest
     requires kind { is_session (kind_of pair.first) ≡ true }
     ensures within { result.length ≤ length rest.now }
     ensures some { 0 < result.length }
-    ensures read { IsNext (Next.Frames role first) rest.now result.length result.content
+    ensures read { IsNext (Next.Frames role first) at rest.now result.length result.content
         result.after }
     ensures plain { HasNoFrame result.content }
 {
@@ -126,12 +130,13 @@ fn cut_frame(
     requires pair { pair_at rest.now ≡ Some ((pair.first, pair.second), drop pair.size rest.now) }
     requires kind { is_session (kind_of pair.first) ≡ false }
     requires cut { length rest.now < pair.size + pair.second }
+    requires place { at + length rest.now < 2 ^ 64 }
     ensures within { IfOk result (λ s. s.length ≤ length rest.now) }
     ensures some { IfOk result (λ s. 0 < s.length) }
-    ensures read { IfOk result (λ s. IsNext (Next.Frames role first) rest.now s.length s.content
+    ensures read { IfOk result (λ s. IsNext (Next.Frames role first) at rest.now s.length s.content
         s.after) }
     ensures stage { IfOk result (λ s. Leads reading.old.phase reading.new.phase
-        (Moves (Ok (Next.Frames role first)) rest.now s.content s.after) s.after) }
+        (Moves (Ok (Next.Frames role first)) at rest.now s.content s.after) s.after) }
 {
     let FirstPair {
         first: number,
@@ -139,21 +144,14 @@ fn cut_frame(
         size,
     } = pair;
     let present = rest.split_at(size).1;
-    let missing = second.into_inner().saturating_sub(present.len() as u64);
-    let end = cut(at, "frame", missing);
-    let Found { parts, after } = cut_parts(
-        reading,
-        role,
-        at.saturating_add(size),
-        number,
-        present,
-        end,
-    )?;
+    let announced = second.into_inner();
+    let end = cut(at, "frame", announced - present.len() as u64);
+    let Found { parts, after } = cut_parts(reading, role, at + size, number, present, end)?;
     let frame = FrameItem {
         number: number.into_inner(),
         name: FrameName::of(number),
         head: size,
-        announced: second.into_inner(),
+        announced,
         present: present.len(),
         parts,
     };
@@ -174,15 +172,16 @@ fn whole_frame(
     rest: &[u8],
 ) -> Result<Step, AllocError>
     requires within { pair.size + pair.second ≤ length rest.now }
+    requires place { at + length rest.now < 2 ^ 64 }
     requires some { 0 < pair.size }
     requires pair { pair_at rest.now ≡ Some ((pair.first, pair.second), drop pair.size rest.now) }
     requires kind { is_session (kind_of pair.first) ≡ false }
     ensures within { IfOk result (λ s. s.length ≤ length rest.now) }
     ensures some { IfOk result (λ s. 0 < s.length) }
-    ensures read { IfOk result (λ s. IsNext (Next.Frames role first) rest.now s.length s.content
+    ensures read { IfOk result (λ s. IsNext (Next.Frames role first) at rest.now s.length s.content
         s.after) }
     ensures stage { IfOk result (λ s. Leads reading.old.phase reading.new.phase
-        (Moves (Ok (Next.Frames role first)) rest.now s.content s.after) s.after) }
+        (Moves (Ok (Next.Frames role first)) at rest.now s.content s.after) s.after) }
 {
     let FirstPair {
         first: number,
@@ -220,10 +219,10 @@ fn cut_parts(
     present: &[u8],
     end: End,
 ) -> Result<Found, AllocError>
-    requires { is_cut end ≡ true }
+    requires { at + length present.now < 2 ^ 64 }
     ensures parts { IfOk result (λ f. IsCutPart (frame_name_of number) f.parts (Err end) f.after) }
     ensures stage { IfOk result (λ f. Leads reading.old.phase reading.new.phase
-        (Takes role (frame_name_of number) present.now f.parts (Err end) f.after) f.after) }
+        (Takes role (frame_name_of number) at present.now f.parts (Err end) f.after) f.after) }
 {
     if is_data(number) {
         return data_parts(reading, at, present, Err(end));
@@ -264,16 +263,17 @@ fn judged_parts(
     number: VarInt,
     payload: &[u8],
 ) -> Result<Found, AllocError>
-    requires { length payload.now < 2 ^ 62 }
+    requires small { length payload.now < 2 ^ 62 }
+    requires place { place.at + place.head + length payload.now < 2 ^ 64 }
     ensures parts { IfOk result (λ f. let name = frame_name_of number in
-        Judged (name_fault role first name) name payload.now f.parts
+        Judged (name_fault role first name) name place.at payload.now f.parts
         (Ok (Next.Frames role (still_first first name))) f.after) }
     ensures stage { IfOk result (λ f. let name = frame_name_of number in
         Leads reading.old.phase reading.new.phase
-        (TakesWhole (name_fault role first name) role name payload.now f.parts
-        (Ok (Next.Frames role (still_first first name))) f.after) f.after) }
+        (TakesWhole (name_fault role first name) role name (place.at + place.head) payload.now
+        f.parts (Ok (Next.Frames role (still_first first name))) f.after) f.after) }
 {
-    let Place { at, head } = place;
+    let at = place.at;
     if let Some(code) = name_fault(role, first, number) {
         let end = fault(at, code, sentence(number));
         return Ok(Found {
@@ -283,7 +283,7 @@ fn judged_parts(
     }
     let next = Next::Frames(role, still_first(first, number));
     warn_of_frame(reading, role, at, number)?;
-    parts_of(reading, role, at, head, number, payload, next)
+    parts_of(reading, role, place, number, payload, next)
 }
 
 /// Returns the fault of a frame of this type, if it may not be here.
@@ -332,22 +332,23 @@ fn still_first(first: bool, number: VarInt) -> bool
 fn parts_of(
     reading: &mut Reading,
     role: StreamRole,
-    at: usize,
-    head: usize,
+    place: Place,
     number: VarInt,
     payload: &[u8],
     next: Next,
 ) -> Result<Found, AllocError>
-    requires { length payload.now < 2 ^ 62 }
-    ensures parts { IfOk result (λ f. HasParts (frame_name_of number) payload.now f.parts
+    requires small { length payload.now < 2 ^ 62 }
+    requires place { place.at + place.head + length payload.now < 2 ^ 64 }
+    ensures parts { IfOk result (λ f. HasParts (frame_name_of number) place.at payload.now f.parts
         (Ok next) f.after) }
     ensures stage { IfOk result (λ f. Leads reading.old.phase reading.new.phase
-        (Takes role (frame_name_of number) payload.now f.parts (Ok next) f.after) f.after) }
+        (Takes role (frame_name_of number) (place.at + place.head) payload.now f.parts
+        (Ok next) f.after) f.after) }
 {
     if is_data(number) {
-        return data_parts(reading, at.saturating_add(head), payload, Ok(next));
+        return data_parts(reading, place.at + place.head, payload, Ok(next));
     }
-    other_parts(reading, role, at, number, payload, next)
+    other_parts(reading, role, place.at, number, payload, next)
 }
 
 /// Returns what the payload of a complete frame contains, if it is not a DATA frame.
@@ -362,10 +363,10 @@ fn other_parts(
 ) -> Result<Found, AllocError>
     requires small { length payload.now < 2 ^ 62 }
     requires other { is_data (frame_name_of number) ≡ false }
-    ensures parts { IfOk result (λ f. HasParts (frame_name_of number) payload.now f.parts
+    ensures parts { IfOk result (λ f. HasParts (frame_name_of number) at payload.now f.parts
         (Ok next) f.after) }
-    ensures stage { IfOk result (λ f. Leads reading.old.phase reading.new.phase
-        (Takes role (frame_name_of number) payload.now f.parts (Ok next) f.after) f.after) }
+    ensures stage { IfOk result (λ f. (start : ℕ) → Leads reading.old.phase reading.new.phase
+        (Takes role (frame_name_of number) start payload.now f.parts (Ok next) f.after) f.after) }
 {
     match FrameName::of(number) {
         FrameName::Read(FrameKind::Headers) => headers_parts(reading, role, at, payload, next),
@@ -394,10 +395,11 @@ fn headers_parts(
     payload: &[u8],
     next: Next,
 ) -> Result<Found, AllocError>
-    ensures parts { IfOk result (λ f. HasParts (FrameName.Read FrameKind.Headers) payload.now
+    ensures parts { IfOk result (λ f. HasParts (FrameName.Read FrameKind.Headers) at payload.now
         f.parts (Ok next) f.after) }
-    ensures stage { IfOk result (λ f. Leads reading.old.phase reading.new.phase
-        (Takes role (FrameName.Read FrameKind.Headers) payload.now f.parts (Ok next) f.after) f.after) }
+    ensures stage { IfOk result (λ f. (start : ℕ) → Leads reading.old.phase reading.new.phase
+        (Takes role (FrameName.Read FrameKind.Headers) start payload.now f.parts (Ok next) f.after)
+        f.after) }
 {
     let section = read_section(reading.alloc, payload)?;
     take_section(reading, role, at, &section)?;
@@ -416,7 +418,7 @@ fn settings_parts(
     next: Next,
 ) -> Result<Found, AllocError>
     requires { length payload.now < 2 ^ 62 }
-    ensures { IfOk result (λ f. HasParts (FrameName.Read FrameKind.Settings) payload.now f.parts
+    ensures { IfOk result (λ f. HasParts (FrameName.Read FrameKind.Settings) at payload.now f.parts
         (Ok next) f.after) }
 {
     let settings = read_settings(reading.alloc, payload)?;
@@ -435,10 +437,11 @@ fn data_parts(
     payload: &[u8],
     on: Result<Next, End>,
 ) -> Result<Found, AllocError>
-    ensures parts { IfOk result (λ f. HasParts (FrameName.Read FrameKind.Data) payload.now f.parts
-        on f.after) }
+    requires { at + length payload.now < 2 ^ 64 }
+    ensures parts { IfOk result (λ f. (frame : ℕ) → HasParts (FrameName.Read FrameKind.Data) frame
+        payload.now f.parts on f.after) }
     ensures stage { IfOk result (λ f. Leads reading.old.phase reading.new.phase
-        (TakesDataFrame payload.now f.parts on f.after) f.after) }
+        (TakesDataFrame at payload.now f.parts on f.after) f.after) }
 {
     let Phase::Session(walk) = &mut reading.phase else {
         return Ok(Found {

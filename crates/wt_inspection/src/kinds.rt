@@ -1,6 +1,8 @@
 //! From bytes to items.
-ghost use Rattle.std.specs.Prelude.{◌≡◌, ◌≤◌, ◌<◌, ◌==◌, true, IfOk, Ok, length};
-ghost use Rattle.wt_inspection.specs.Recording.{EndsSo, IsNext, IsRecording, IsSessionHead, IsStep, Moves, after_head, has_session, is_cut};
+ghost use Rattle.std.specs.Prelude.{◌≡◌, ◌+◌, ◌^◌, ◌≤◌, ◌<◌, ◌==◌, IfOk, Ok, codes, length};
+ghost use Rattle.wt_inspection.specs.Recording.{EndsSo, IsCutAt, IsNext, IsRecording};
+ghost use Rattle.wt_inspection.specs.Recording.{IsSessionHead};
+ghost use Rattle.wt_inspection.specs.Recording.{IsStep, Moves, after_head, has_session};
 ghost use Rattle.wt_inspection.specs.DataCapsules.{Stage};
 ghost use Rattle.wt_inspection.specs.Tiles.{Tiles};
 ghost use Rattle.wt_inspection.specs.Walks.{IsStageAt, LeadsAt};
@@ -15,6 +17,7 @@ use crate::settings::{read_settings, settings_then};
 use crate::tiling::Tiling;
 use std::alloc::{AllocError, Global};
 use wt_inspection_model::item::{Content, DatagramHead, End, Inspection, StreamHead, StreamName};
+use wtp_core::bytes::get::varint_len_needed;
 use wtp_core::error::ErrorCode;
 use wtp_core::ids::SessionId;
 use wtp_core::varint::{VarInt, first_varint};
@@ -103,12 +106,13 @@ fn next_step(
     at: usize,
     rest: &[u8],
 ) -> Result<Step, AllocError>
-    requires { 0 < length rest.now }
+    requires some { 0 < length rest.now }
+    requires place { at + length rest.now < 2 ^ 64 }
     ensures within { IfOk result (λ s. s.length ≤ length rest.now) }
     ensures some { IfOk result (λ s. 0 < s.length) }
-    ensures read { IfOk result (λ s. IsStep state rest.now s.length s.content s.after) }
+    ensures read { IfOk result (λ s. IsStep state at rest.now s.length s.content s.after) }
     ensures stage { IfOk result (λ s. LeadsAt state reading.old.phase reading.new.phase
-        (Moves state rest.now s.content s.after) s.after) }
+        (Moves state at rest.now s.content s.after) s.after) }
 {
     match state {
         Ok(next) => next_item(reading, next, at, rest),
@@ -118,37 +122,39 @@ fn next_step(
 
 /// Returns the next item, as long as the reading goes on.
 fn next_item(reading: &mut Reading, next: Next, at: usize, rest: &[u8]) -> Result<Step, AllocError>
-    requires { 0 < length rest.now }
+    requires some { 0 < length rest.now }
+    requires place { at + length rest.now < 2 ^ 64 }
     ensures within { IfOk result (λ s. s.length ≤ length rest.now) }
     ensures some { IfOk result (λ s. 0 < s.length) }
-    ensures read { IfOk result (λ s. IsNext next rest.now s.length s.content s.after) }
+    ensures read { IfOk result (λ s. IsNext next at rest.now s.length s.content s.after) }
     ensures stage { IfOk result (λ s. LeadsAt (Ok next) reading.old.phase reading.new.phase
-        (Moves (Ok next) rest.now s.content s.after) s.after) }
+        (Moves (Ok next) at rest.now s.content s.after) s.after) }
 {
     match next {
-        Next::Head => Ok(head_step(rest)),
+        Next::Head => Ok(head_step(at, rest)),
         Next::Frames(role, first) => next_frame(reading, role, first, at, rest),
         Next::Payload => Ok(Step::go_on(rest.len(), Content::Payload, Next::Payload)),
         Next::Capsules => next_capsule(reading, at, rest),
-        Next::Datagram => Ok(datagram_step(rest)),
-        Next::Section => section_step(reading, rest),
-        Next::Settings => settings_step(reading, rest),
+        Next::Datagram => Ok(datagram_step(at, rest)),
+        Next::Section => section_step(reading, at, rest),
+        Next::Settings => settings_step(reading, at, rest),
     }
 }
 
 /// Returns the head of a unidirectional stream (RFC 9114, section 6.2).
 #[tactic(auto, using(crate::proofs::RecordingLemmas::no_head_cut))]
-fn head_step(rest: &[u8]) -> Step
+fn head_step(at: usize, rest: &[u8]) -> Step
     requires { 0 < length rest.now }
     ensures within { result.length ≤ length rest.now }
     ensures some { 0 < result.length }
-    ensures read { IsNext Next.Head rest.now result.length result.content result.after }
+    ensures read { IsNext Next.Head at rest.now result.length result.content result.after }
 {
     let Some((number, size)) = first_varint(rest) else {
-        return Step::last(rest.len(), Content::Unread, cut_head(rest));
+        let missing = varint_len_needed(rest).saturating_sub(rest.len());
+        return Step::last(rest.len(), Content::Unread, cut_head(at, missing));
     };
     if has_session(number) {
-        return session_head(rest);
+        return session_head(at, rest);
     }
     let head = StreamHead {
         number: number.into_inner(),
@@ -188,18 +194,22 @@ fn after_head(number: VarInt) -> Next
 
 /// Returns the head of a WebTransport stream (draft-ietf-webtrans-http3-02, section 4.1).
 #[tactic(auto, using(crate::proofs::RecordingLemmas::no_session_cut, crate::proofs::RecordingLemmas::no_session_id))]
-fn session_head(rest: &[u8]) -> Step
+fn session_head(at: usize, rest: &[u8]) -> Step
     requires nonempty { 0 < length rest.now }
     ensures within { result.length ≤ length rest.now }
     ensures some { 0 < result.length }
-    ensures read { IsSessionHead rest.now result.length result.content result.after }
+    ensures read { IsSessionHead at rest.now result.length result.content result.after }
 {
     let Some(pair) = first_pair(rest) else {
-        return Step::last(rest.len(), Content::Unread, cut_head(rest));
+        return Step::last(
+            rest.len(),
+            Content::Unread,
+            cut_head(at, missing_bytes(rest)),
+        );
     };
     let Ok(session) = SessionId::try_from_varint(pair.second) else {
         let why = "a session ID is a multiple of 4 (draft-ietf-webtrans-http3-02, section 4)";
-        return Step::last(rest.len(), Content::Unread, fault(0, ErrorCode::Id, why));
+        return Step::last(rest.len(), Content::Unread, fault(at, ErrorCode::Id, why));
     };
     let head = StreamHead {
         number: pair.first.into_inner(),
@@ -211,16 +221,16 @@ fn session_head(rest: &[u8]) -> Step
 
 /// Returns the end within the head of a unidirectional stream, which may end there (RFC 9114,
 /// section 6.2).
-fn cut_head(rest: &[u8]) -> End
-    ensures { is_cut result ≡ true }
+fn cut_head(at: usize, missing: usize) -> End
+    ensures { IsCutAt at (codes "stream type") missing result }
 {
-    cut(0, "stream type", missing_bytes(rest) as u64)
+    cut(at, "stream type", missing as u64)
 }
 
 /// Returns the only item of a datagram (RFC 9297, section 2.1).
-fn datagram_step(rest: &[u8]) -> Step
+fn datagram_step(at: usize, rest: &[u8]) -> Step
     ensures length { result.length ≡ length rest.now }
-    ensures read { IsNext Next.Datagram rest.now result.length result.content result.after }
+    ensures read { IsNext Next.Datagram at rest.now result.length result.content result.after }
 {
     match Datagram::read(rest) {
         Ok(datagram) => {
@@ -233,20 +243,20 @@ fn datagram_step(rest: &[u8]) -> Step
         }
         Err(code) => {
             let why = "a quarter stream ID is below 2^60 (RFC 9297, section 2.1)";
-            Step::last(rest.len(), Content::Unread, fault(0, code, why))
+            Step::last(rest.len(), Content::Unread, fault(at, code, why))
         }
     }
 }
 
 /// Returns the only item of a field section.
-fn section_step(reading: &mut Reading, rest: &[u8]) -> Result<Step, AllocError>
+fn section_step(reading: &mut Reading, at: usize, rest: &[u8]) -> Result<Step, AllocError>
     ensures length { IfOk result (λ s. s.length ≡ length rest.now) }
-    ensures read { IfOk result (λ s. IsNext Next.Section rest.now s.length s.content s.after) }
+    ensures read { IfOk result (λ s. IsNext Next.Section at rest.now s.length s.content s.after) }
     ensures phase { IfOk result (λ _. reading.new.phase ≡ reading.old.phase) }
 {
     let section = read_section(reading.alloc, rest)?;
-    warn_of_section(reading, 0, &section)?;
-    let after = section_then(0, &section, Next::Section);
+    warn_of_section(reading, at, &section)?;
+    let after = section_then(at, &section, Next::Section);
     Ok(Step {
         length: rest.len(),
         content: Content::Section(section),
@@ -255,12 +265,12 @@ fn section_step(reading: &mut Reading, rest: &[u8]) -> Result<Step, AllocError>
 }
 
 /// Returns the only item of settings.
-fn settings_step(reading: &Reading, rest: &[u8]) -> Result<Step, AllocError>
+fn settings_step(reading: &Reading, at: usize, rest: &[u8]) -> Result<Step, AllocError>
     ensures length { IfOk result (λ s. s.length ≡ length rest.now) }
-    ensures read { IfOk result (λ s. IsNext Next.Settings rest.now s.length s.content s.after) }
+    ensures read { IfOk result (λ s. IsNext Next.Settings at rest.now s.length s.content s.after) }
 {
     let settings = read_settings(reading.alloc, rest)?;
-    let after = settings_then(0, reading.alloc, rest, Next::Settings)?;
+    let after = settings_then(at, reading.alloc, rest, Next::Settings)?;
     Ok(Step {
         length: rest.len(),
         content: Content::Settings(settings),

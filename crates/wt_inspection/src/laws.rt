@@ -27,9 +27,9 @@ pub fn frames_are_those_of_the_run()
 /// Where bytes are not read as a frame, the run has no frame either: it ends at the same fault, or
 /// as too few bytes do.
 pub fn no_frame_is_none_of_the_run()
-    ensures { (role : StreamRole) (first : Bool) (bytes : List ℕ) (len : ℕ) (after : Then)
-        (tail : Tail) → IsNext (Frames role first) bytes len Unread after
+    ensures { (role : StreamRole) (first : Bool) (at : ℕ) (bytes : List ℕ) (len : ℕ) (after : Then)
+        (tail : Tail) → IsNext (Frames role first) at bytes len Unread after
         → (run (role_of role) first bytes tail ≡ ends (run_stop bytes bytes tail))
         ⊎ ((c : ErrorCode) × (run (role_of role) first bytes tail ≡ ends (H3 c))
-        × StopsWith c after) }
+        × StopsWith at c after) }
 {}

@@ -1,11 +1,15 @@
 //! What is wrong with the field sections of a message (RFC 9114, sections 4.2 to 4.4).
 
 ghost use Rattle.std.specs.List.{list_any};
-ghost use Rattle.std.specs.Prelude.{◌≡◌, ◌≢◌, IfOk, Ok};
+ghost use Rattle.std.specs.Prelude.{◌≡◌, ◌≢◌, ◌++◌, IfOk, Ok};
 ghost use Rattle.std.specs.Str.{bytes_eq};
 ghost use Rattle.wt_inspection.specs.Recording.{TakesSection};
-ghost use Rattle.wt_inspection.specs.SessionSections.{has_field, is_connect, is_interim, is_interim_status, opens_session, request_opens, response_opens, starts_with_one};
+ghost use Rattle.wt_inspection.specs.SessionSections.{has_field, is_connect, is_interim};
+ghost use Rattle.wt_inspection.specs.SessionSections.{is_interim_status, opens_session};
+ghost use Rattle.wt_inspection.specs.SessionSections.{request_opens, response_opens};
+ghost use Rattle.wt_inspection.specs.SessionSections.{starts_with_one};
 ghost use Rattle.wt_inspection.specs.Walks.{Leads};
+ghost use Rattle.wt_inspection.specs.Warnings.{warning_of};
 
 mod lines;
 mod pseudo;
@@ -120,7 +124,10 @@ fn add_warning(
     at: usize,
     line: Option<usize>,
     why: Option<&'static str>,
-) -> Result<(), AllocError> {
+) -> Result<(), AllocError>
+    ensures { IfOk result (λ _. warnings.new.items ≡ warnings.old.items
+        ++ warning_of at line why.entry) }
+{
     if let Some(why) = why {
         warnings.push(Warning { at, line, why })?;
     }

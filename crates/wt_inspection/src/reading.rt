@@ -1,8 +1,9 @@
 //! What reading remembers from item to item.
-ghost use Rattle.std.specs.Prelude.{◌≡◌, true, Some, Ok, Err, IfOk};
+ghost use Rattle.std.specs.Prelude.{◌≡◌, ◌++◌, ◌∷◌, [], None, Ok, Err, IfOk};
 ghost use Rattle.wt_inspection.specs.DataCapsules.{Stage};
 ghost use Rattle.wt_inspection.specs.Walks.{IsStage};
-ghost use Rattle.wt_inspection.specs.Recording.{EndsEmpty, EndsStage, code_of_nothing, fault_code, is_cut, may_not_be_cut, start_of, StopsSo};
+ghost use Rattle.wt_inspection.specs.Recording.{EndsEmpty, EndsStage, IsCutAt, IsFaultAt, StopsSo};
+ghost use Rattle.wt_inspection.specs.Recording.{code_of_nothing, may_not_be_cut, start_of};
 
 use crate::capsules::CapsuleWalk;
 use std::alloc::{AllocError, Global};
@@ -109,7 +110,9 @@ impl Reading {
 
     /// Adds a warning.
     pub(crate) fn warn(&mut self, at: usize, why: &'static str) -> Result<(), AllocError>
-        ensures { IfOk result (λ _. self.new.phase ≡ self.old.phase) }
+        ensures phase { IfOk result (λ _. self.new.phase ≡ self.old.phase) }
+        ensures warnings { IfOk result (λ _. self.new.warnings.items ≡ self.old.warnings.items
+            ++ record { at = at; line = None; why = why.entry } ∷ []) }
     {
         self.warnings.push(Warning {
             at,
@@ -184,7 +187,7 @@ impl Step {
 
 /// Returns the end within an item.
 pub(crate) fn cut(at: usize, item: &'static str, missing: u64) -> End
-    ensures { is_cut result ≡ true }
+    ensures { IsCutAt at item.now missing result }
 {
     End::Cut(Cut { at, item, missing })
 }
@@ -224,7 +227,7 @@ fn may_not_be_cut(kind: Recorded, open: bool) -> bool
 
 /// Returns the end at a fault.
 pub(crate) fn fault(at: usize, code: ErrorCode, why: &'static str) -> End
-    ensures { fault_code result ≡ Some code }
+    ensures { IsFaultAt at code result }
 {
     End::Fault(fault_at(at, code, why))
 }
@@ -233,6 +236,7 @@ pub(crate) fn fault(at: usize, code: ErrorCode, why: &'static str) -> End
 pub(crate) fn fault_at(at: usize, code: ErrorCode, why: &'static str) -> Fault
     ensures code { result.code ≡ code }
     ensures at { result.at ≡ at }
+    ensures missing { result.missing ≡ 0 }
 {
     Fault {
         at,

@@ -63,7 +63,7 @@ pub(crate) fn settings_then(
     next: Next,
 ) -> Result<Result<Next, End>, AllocError>
     ensures { IfOk result (λ after. length bytes.now < 2 ^ 62
-        → AfterSettings (settings_in bytes.now) (Ok next) after) }
+        → AfterSettings at (settings_in bytes.now) (Ok next) after) }
 {
     match refusal(alloc, bytes)? {
         None => Ok(Ok(next)),

@@ -10,7 +10,7 @@ use Rattle.wtp_wire.specs.declared.stream_header.StreamKind.TheVariants as strea
 use Rattle.wt_inspection_model.specs.declared.item.names.StreamName.{StreamName}
 use Rattle.wt_inspection_model.specs.declared.item.names.StreamName.TheVariants as stream-name-is
 use Rattle.wt_inspection_model.specs.declared.item.names.FrameName.{FrameName}
-use Rattle.wt_inspection_model.specs.declared.item.names.FrameName.TheVariants.{Read, CancelPush, PushPromise, Goaway, MaxPushId, PriorityUpdate, Http2, Unknown}
+use Rattle.wt_inspection_model.specs.declared.item.names.FrameName.TheVariants as name-is
 
 -- the frame type belongs to HTTP/2 and must not be sent (RFC 9114, section 7.2.8)
 abbrev pub is_http2 : ℕ → Bool
@@ -20,20 +20,20 @@ is_http2 n = (n == 0x02) || (n == 0x06) || (n == 0x08) || (n == 0x09)
 abbrev pub other_name : ℕ → FrameName
 other_name n =
     if is_http2 n
-    then Http2
+    then name-is.Http2
     else (if n == 0x03
-    then CancelPush
+    then name-is.CancelPush
     else (if n == 0x05
-    then PushPromise
+    then name-is.PushPromise
     else (if n == 0x07
-    then Goaway
+    then name-is.Goaway
     else (if n == 0x0d
-    then MaxPushId
-    else (if (n == 0xf0700) || (n == 0xf0701) then PriorityUpdate else Unknown)))))
+    then name-is.MaxPushId
+    else (if (n == 0xf0700) || (n == 0xf0701) then name-is.PriorityUpdate else name-is.Unknown)))))
 
 -- the name of a frame type with this frame kind, if it has one
 abbrev pub named : Option FrameKind → ℕ → FrameName
-named (Some kind) n = Read kind
+named (Some kind) n = name-is.Read kind
 named None n = other_name n
 
 -- the name of a frame type
@@ -54,18 +54,18 @@ stream_name_of n = stream_named (stream_kind_of n) n
 -- the text of a frame type name (RFC 9114, section 7.2; RFC 9218, section 7.2;
 -- draft-ietf-webtrans-http3-02, section 9.4)
 abbrev pub frame_name_text : FrameName → List ℕ
-frame_name_text (Read kind-is.Data) = codes "DATA"
-frame_name_text (Read kind-is.Headers) = codes "HEADERS"
-frame_name_text (Read kind-is.Settings) = codes "SETTINGS"
-frame_name_text (Read kind-is.WebTransport) = codes "WEBTRANSPORT_STREAM"
-frame_name_text (Read (kind-is.Exercise number)) = codes "reserved"
-frame_name_text CancelPush = codes "CANCEL_PUSH"
-frame_name_text PushPromise = codes "PUSH_PROMISE"
-frame_name_text Goaway = codes "GOAWAY"
-frame_name_text MaxPushId = codes "MAX_PUSH_ID"
-frame_name_text PriorityUpdate = codes "PRIORITY_UPDATE"
-frame_name_text Http2 = codes "HTTP/2"
-frame_name_text Unknown = codes "unknown"
+frame_name_text (name-is.Read kind-is.Data) = codes "DATA"
+frame_name_text (name-is.Read kind-is.Headers) = codes "HEADERS"
+frame_name_text (name-is.Read kind-is.Settings) = codes "SETTINGS"
+frame_name_text (name-is.Read kind-is.WebTransport) = codes "WEBTRANSPORT_STREAM"
+frame_name_text (name-is.Read (kind-is.Exercise number)) = codes "reserved"
+frame_name_text name-is.CancelPush = codes "CANCEL_PUSH"
+frame_name_text name-is.PushPromise = codes "PUSH_PROMISE"
+frame_name_text name-is.Goaway = codes "GOAWAY"
+frame_name_text name-is.MaxPushId = codes "MAX_PUSH_ID"
+frame_name_text name-is.PriorityUpdate = codes "PRIORITY_UPDATE"
+frame_name_text name-is.Http2 = codes "HTTP/2"
+frame_name_text name-is.Unknown = codes "unknown"
 
 -- the text of a stream type name (RFC 9114, section 6.2; RFC 9204, section 4.2)
 abbrev pub stream_name_text : StreamName → List ℕ

@@ -1,6 +1,7 @@
 //! Names of frame types and stream types.
 ghost use Rattle.std.specs.Prelude.{◌≡◌};
-ghost use Rattle.wt_inspection_model.specs.Names.{frame_name_of, frame_name_text, stream_name_of, stream_name_text};
+ghost use Rattle.wt_inspection_model.specs.Names.{frame_name_of, frame_name_text, stream_name_of};
+ghost use Rattle.wt_inspection_model.specs.Names.{stream_name_text};
 
 use wtp_core::varint::VarInt;
 use wtp_wire::frame::FrameKind;

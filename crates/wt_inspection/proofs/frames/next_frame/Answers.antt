@@ -3,8 +3,8 @@ use Rattle.wt_inspection.proofs.frames.next_frame.Goals as goal
 
 pub returns-in_default-clause-stage : goal.returns-in_default-clause-stage
 returns-in_default-clause-stage c =
-    no_frame_leads c.args.reading.now.phase c.args.role c.args.first c.args.rest.now c.last.result.content c.last.result.after (rw c.last.ensures.content tt)
+    no_frame_leads c.args.reading.now.phase c.args.role c.args.first c.args.at c.args.rest.now c.last.result.content c.last.result.after (rw c.last.ensures.content tt)
 
 pub returns-then-is_session-clause-stage : goal.returns-then-is_session-clause-stage
 returns-then-is_session-clause-stage c =
-    no_frame_leads c.args.reading.now.phase c.args.role c.args.first c.args.rest.now c.session_frame.result.content c.session_frame.result.after c.session_frame.ensures.plain
+    no_frame_leads c.args.reading.now.phase c.args.role c.args.first c.args.at c.args.rest.now c.session_frame.result.content c.session_frame.result.after c.session_frame.ensures.plain

@@ -5,7 +5,7 @@ use Rattle.wt_inspection.proofs.kinds.head_step.Goals as goal
 
 pub returns-then-has_session-clause-read : goal.returns-then-has_session-clause-read
 returns-then-has_session-clause-read c =
-    head_session c.args.rest.now _ c.session_head.result.length _ c.session_head.result.content c.session_head.result.after c.in-Some.ensures.found (sym c.has_session.ensures ∙ c.if-has_session.true) c.session_head.ensures.read
+    head_session c.args.at c.args.rest.now _ c.session_head.result.length _ c.session_head.result.content c.session_head.result.after c.in-Some.ensures.found (sym c.has_session.ensures ∙ c.if-has_session.true) c.session_head.ensures.read
 
 pub returns-clause-some : goal.returns-clause-some
 returns-clause-some c =

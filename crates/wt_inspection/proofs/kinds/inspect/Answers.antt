@@ -21,8 +21,8 @@ push-requires-clause-tiling c =
 pub items-preserved : goal.items-preserved
 items-preserved c =
     let step = c.in_ok-length.field-0 in
-    let (next, moves, there) = c.in_ok-length.ensures.stage c.items.invariant.1 c.items.invariant.3 in
-    (rw c.items.invariant.0.same at c.in_ok-push.ensures.tiling, next, reads_more c.items.tiling.items.items _ _ c.items.state step.after Opening c.items.invariant.1 next c.args.bytes.now c.items.tiling.bytes.now c.rest-rest.result.now c.items.tiling.at _ (record { at = c.items.tiling.at; length = step.length; content = step.content }) c.items.invariant.0.same c.rest-rest.ensures.bytes c.in_ok-push.ensures.end c.in_ok-push.ensures.items c.items.invariant.2 (c.in_ok-length.ensures.some, c.in_ok-length.ensures.within) c.in_ok-length.ensures.read moves, there)
+    let (next, moves, there) = (rw c.at.ensures at c.in_ok-length.ensures.stage) c.items.invariant.1 c.items.invariant.3 in
+    (rw c.items.invariant.0.same at c.in_ok-push.ensures.tiling, next, reads_more c.items.tiling.items.items _ _ c.items.state step.after Opening c.items.invariant.1 next c.args.bytes.now c.items.tiling.bytes.now c.rest-rest.result.now c.items.tiling.at _ (record { at = c.items.tiling.at; length = step.length; content = step.content }) c.items.invariant.0.same c.rest-rest.ensures.bytes c.in_ok-push.ensures.end c.in_ok-push.ensures.items c.items.invariant.2 (c.in_ok-length.ensures.some, c.in_ok-length.ensures.within) (rw c.at.ensures at c.in_ok-length.ensures.read) moves, there)
 
 pub items-smaller : goal.items-smaller
 items-smaller c =

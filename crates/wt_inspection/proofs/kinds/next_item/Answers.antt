@@ -6,30 +6,30 @@ use Rattle.wt_inspection.proofs.kinds.next_item.Goals as goal
 
 pub returns-in-Head-clause-stage : goal.returns-in-Head-clause-stage
 returns-in-Head-clause-stage c =
-    other_leads next-is.Head (Ok c.args.next) c.args.reading.now.phase c.args.reading.now.phase c.args.rest.now c.head_step.result.content c.head_step.result.after tt (ap (λ (x : Next). Ok x) c.in-Head.is) refl
+    other_leads next-is.Head (Ok c.args.next) c.args.reading.now.phase c.args.reading.now.phase c.args.at c.args.rest.now c.head_step.result.content c.head_step.result.after tt (ap (λ (x : Next). Ok x) c.in-Head.is) refl
 
 pub returns-in-Datagram-clause-stage : goal.returns-in-Datagram-clause-stage
 returns-in-Datagram-clause-stage c =
-    other_leads next-is.Datagram (Ok c.args.next) c.args.reading.now.phase c.args.reading.now.phase c.args.rest.now c.datagram_step.result.content c.datagram_step.result.after tt (ap (λ (x : Next). Ok x) c.in-Datagram.is) refl
+    other_leads next-is.Datagram (Ok c.args.next) c.args.reading.now.phase c.args.reading.now.phase c.args.at c.args.rest.now c.datagram_step.result.content c.datagram_step.result.after tt (ap (λ (x : Next). Ok x) c.in-Datagram.is) refl
 
 pub returns-in-Capsules-clause-stage : goal.returns-in-Capsules-clause-stage
 returns-in-Capsules-clause-stage c =
     ok_map _ _ c.next_capsule.result
-    (λ s h. other_leads next-is.Capsules (Ok c.args.next) c.args.reading.now.phase c.args.reading.now.phase c.args.rest.now s.content s.after tt (ap (λ (x : Next). Ok x) c.in-Capsules.is) refl)
+    (λ s h. other_leads next-is.Capsules (Ok c.args.next) c.args.reading.now.phase c.args.reading.now.phase c.args.at c.args.rest.now s.content s.after tt (ap (λ (x : Next). Ok x) c.in-Capsules.is) refl)
     c.next_capsule.ensures.within
 
 pub returns-in-Settings-clause-stage : goal.returns-in-Settings-clause-stage
 returns-in-Settings-clause-stage c =
     ok_map _ _ c.settings_step.result
-    (λ s h. other_leads next-is.Settings (Ok c.args.next) c.args.reading.now.phase c.args.reading.now.phase c.args.rest.now s.content s.after tt (ap (λ (x : Next). Ok x) c.in-Settings.is) refl)
+    (λ s h. other_leads next-is.Settings (Ok c.args.next) c.args.reading.now.phase c.args.reading.now.phase c.args.at c.args.rest.now s.content s.after tt (ap (λ (x : Next). Ok x) c.in-Settings.is) refl)
     c.settings_step.ensures.length
 
 pub returns-in-Section-clause-stage : goal.returns-in-Section-clause-stage
 returns-in-Section-clause-stage c =
     ok_map _ _ c.section_step.result
-    (λ s same. other_leads next-is.Section (Ok c.args.next) c.args.reading.now.phase c.section_step.new.reading.phase c.args.rest.now s.content s.after tt (ap (λ (x : Next). Ok x) c.in-Section.is) same)
+    (λ s same. other_leads next-is.Section (Ok c.args.next) c.args.reading.now.phase c.section_step.new.reading.phase c.args.at c.args.rest.now s.content s.after tt (ap (λ (x : Next). Ok x) c.in-Section.is) same)
     c.section_step.ensures.phase
 
 pub returns-in-Payload-clause-stage : goal.returns-in-Payload-clause-stage
 returns-in-Payload-clause-stage c =
-    other_leads next-is.Payload (Ok c.args.next) c.args.reading.now.phase c.args.reading.now.phase c.args.rest.now c.go_on.result.content c.go_on.result.after tt (ap (λ (x : Next). Ok x) c.in-Payload.is) refl
+    other_leads next-is.Payload (Ok c.args.next) c.args.reading.now.phase c.args.reading.now.phase c.args.at c.args.rest.now c.go_on.result.content c.go_on.result.after tt (ap (λ (x : Next). Ok x) c.in-Payload.is) refl

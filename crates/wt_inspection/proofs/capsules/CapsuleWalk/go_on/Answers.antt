@@ -8,5 +8,5 @@ returns-then-self-gt0 c = λ came none lacks. (still_lacks c.args.unknown _ _ ca
 pub returns : goal.returns
 returns c = λ came none lacks.
     let (whole, holds) = lacks_none c.args.unknown _ _ came c.capsule_of.result (omega (arith, c.if-self-gt0.false)) none
-    c.capsule_of.ensures.number (c.capsule_of.ensures.announced ∙ c.into_inner.ensures.value) c.capsule_of.ensures.close lacks in
+    c.capsule_of.ensures.number c.capsule_of.ensures.name (c.capsule_of.ensures.announced ∙ c.into_inner.ensures.value) c.capsule_of.ensures.close lacks in
     (whole, holds, c.capsule_of.ensures.at)

@@ -11,7 +11,7 @@ returns-in-More c = λ came h.
 pub returns-in-TooLong : goal.returns-in-TooLong
 returns-in-TooLong c = λ came h.
     let all : c.as_slice.result.now ≡ c.args.self.now.held.items ++ c.args.front.now = c.as_slice.ensures.value ∙ c.in_ok-extend_from_slice.ensures.items in
-    (holds_long c.args.self.now _ came c.args.front.now c.too_long.result c.requires.none c.requires.fits c.too_long.ensures.code (rw all at c.in-TooLong.ensures.first) h, c.too_long.ensures.at ∙ c.start_at-self.ensures ∙ begins_held c.args.self.now came c.args.place c.requires.none h)
+    (holds_long c.args.self.now _ came c.args.front.now c.too_long.result c.requires.none c.requires.fits c.too_long.ensures.code (rw all at c.in-TooLong.ensures.first) h, (c.too_long.ensures.at.0 ∙ c.start_at-self.ensures ∙ begins_held c.args.self.now came c.args.place c.requires.none h, c.too_long.ensures.at.1))
 
 pub returns-in-Unknown : goal.returns-in-Unknown
 returns-in-Unknown c = λ came h.
