@@ -1,12 +1,13 @@
 -- A section among those that are open.
-use Rattle.std.proofs.Common.{◌≡◌, ℕ, zero, suc, ◌+◌, ◌<◌, ◌≤◌, ◌==◌, nat_le, inl, inr, Bool, true, false, ◌&&◌, List, [], ◌∷◌, length, take, get_or, refl, sym, ◌∙◌, ap, arith, Option, Some, None, eq-eqb, ne_eqb}
+use Rattle.std.proofs.Common.{◌≡◌, ℕ, zero, suc, ◌+◌, ◌<◌, ◌≤◌, ◌==◌, nat_lt, nat_le, inl, inr, Bool, true, false, cond, not, ◌&&◌, ◌||◌, List, [], ◌∷◌, length, take, drop, filter, get_or, refl, sym, ◌∙◌, ap, arith, Option, Some, None, eq-eqb, ne_eqb}
 use Rattle.std.specs.List.{remove}
-use Rattle.std.proofs.lemmas.Bool.{le-leb, lt-leb}
+use Rattle.std.proofs.lemmas.Bool.{cases_lt, le-leb, lt-leb, lt-ltb, le-ltb}
 use Rattle.std.proofs.Math.Numerals.{add-one}
+use Rattle.std.proofs.Math.Seq.{drop-cons}
 use Rattle.std.proofs.lemmas.List.{take_all, get_or_default}
 use Rattle.wtp_huffman.proofs.Chosen.{chosen}
 use Rattle.wtp_dynamic.specs.declared.ledger.Sent.{Sent}
-use Rattle.wtp_dynamic.specs.EncoderState.{taken, with_first, unsent, all_above}
+use Rattle.wtp_dynamic.specs.EncoderState.{taken, with_first, without, unsent, all_above, may_wait, waiting_streams}
 
 none_of : (sent : Sent) (o : Option (Sent × List Sent)) → with_first sent o ≡ None → o ≡ None
 none_of sent None e = refl
@@ -76,3 +77,49 @@ pub taken_stop : (stream : ℕ) (xs : List Sent) (i : ℕ) (x : Sent) → taken 
 taken_stop stream xs i x none lt here same =
     let this : get_or xs i x ≡ get_or xs i (unsent stream) = get_or_default xs i x (unsent stream) lt in
     rw (← this) (taken_here stream xs i x none lt (rw (← here) same))
+
+-- ---- sections of other streams
+
+pub filter_without : (stream : ℕ) (xs : List Sent) → filter (λ (s : Sent). not (s.stream == stream)) xs ≡ without stream xs
+filter_without stream [] = refl
+filter_without stream (x ∷ xs) = by_stream (x.stream == stream) (filter_without stream xs)
+  where
+    by_stream : (b : Bool) → filter (λ (s : Sent). not (s.stream == stream)) xs ≡ without stream xs
+        → cond (not b) (x ∷ filter (λ (s : Sent). not (s.stream == stream)) xs) (filter (λ (s : Sent). not (s.stream == stream)) xs) ≡ cond b (without stream xs) (x ∷ without stream xs)
+    by_stream true e = e
+    by_stream false e = ap (λ (z : List Sent). x ∷ z) e
+
+-- ---- sections that may block their streams
+
+drop_place : (xs : List Sent) (i : ℕ) (x : Sent) → i < length xs → x ≡ get_or xs i x → drop i xs ≡ x ∷ drop (i + 1) xs
+drop_place xs i x lt here = rw (add-one i) (drop-cons xs i x lt) ∙ ap (λ (s : Sent). s ∷ drop (i + 1) xs) (sym here)
+
+pub waits_here : (known stream : ℕ) (xs : List Sent) (i : ℕ) (x : Sent) → i < length xs → x ≡ get_or xs i x → known < x.required → x.stream ≡ stream → may_wait known stream (drop i xs) ≡ true
+waits_here known stream xs i x lt here more same =
+    ap (may_wait known stream) (drop_place xs i x lt here) ∙ rw (lt-ltb known x.required more, eq-eqb x.stream stream same) refl
+
+pub waits_on : (known stream : ℕ) (xs : List Sent) (i : ℕ) (x : Sent) → i < length xs → x ≡ get_or xs i x → (known < x.required → x.stream ≡ stream → ⊥) → may_wait known stream (drop (i + 1) xs) ≡ may_wait known stream (drop i xs)
+waits_on known stream xs i x lt here none =
+    sym (ap (may_wait known stream) (drop_place xs i x lt here) ∙ ap (λ (b : Bool). b || may_wait known stream (drop (i + 1) xs)) not_this)
+  where
+    not_this : (nat_lt known x.required && x.stream == stream) ≡ false
+    not_this = elim (cases_lt known x.required) [
+      | inl more ↦ rw (lt-ltb known x.required more, ne_eqb x.stream stream (none more)) refl
+      | inr few ↦ rw (le-ltb known x.required few) refl
+    ]
+
+pub counts_here : (known : ℕ) (xs : List Sent) (i : ℕ) (x : Sent) → i < length xs → x ≡ get_or xs i x → known < x.required → may_wait known x.stream (drop (i + 1) xs) ≡ false → length (waiting_streams known (drop i xs)) ≡ length (waiting_streams known (drop (i + 1) xs)) + 1
+counts_here known xs i x lt here more last =
+    ap (λ (ys : List Sent). length (waiting_streams known ys)) (drop_place xs i x lt here) ∙ rw (lt-ltb known x.required more, last) (omega arith)
+
+pub counts_few : (known : ℕ) (xs : List Sent) (i : ℕ) (x : Sent) → i < length xs → x ≡ get_or xs i x → x.required ≤ known → length (waiting_streams known (drop i xs)) ≡ length (waiting_streams known (drop (i + 1) xs))
+counts_few known xs i x lt here few =
+    ap (λ (ys : List Sent). length (waiting_streams known ys)) (drop_place xs i x lt here) ∙ rw (le-ltb known x.required few) refl
+
+pub counts_again : (known : ℕ) (xs : List Sent) (i : ℕ) (x : Sent) → i < length xs → x ≡ get_or xs i x → may_wait known x.stream (drop (i + 1) xs) ≡ true → length (waiting_streams known (drop i xs)) ≡ length (waiting_streams known (drop (i + 1) xs))
+counts_again known xs i x lt here again =
+    ap (λ (ys : List Sent). length (waiting_streams known ys)) (drop_place xs i x lt here) ∙ rw again (neither (nat_lt known x.required))
+  where
+    neither : (b : Bool) → length (cond (b && false) (x.stream ∷ waiting_streams known (drop (i + 1) xs)) (waiting_streams known (drop (i + 1) xs))) ≡ length (waiting_streams known (drop (i + 1) xs))
+    neither true = refl
+    neither false = refl

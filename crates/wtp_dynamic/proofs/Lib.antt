@@ -17,3 +17,4 @@ pub mod Fronts
 pub mod Owed
 pub mod Grammar
 pub mod Ledgers
+pub mod Lookups

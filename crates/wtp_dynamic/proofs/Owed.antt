@@ -3,9 +3,9 @@ use Rattle.std.proofs.Common.{◌≡◌, ℕ, ◌+◌, ◌-◌, ◌^◌, ◌<◌
 use borrow.Author.Tests.{leb-true}
 use Rattle.wtp_huffman.proofs.Chosen.{chosen}
 use Rattle.wtp_qpack.specs.Field.{Field}
-use Rattle.wtp_dynamic.specs.Table.{Table, Later, insert_count, entry_size, table_size, excess, inserted}
+use Rattle.wtp_dynamic.specs.Table.{Table, Later, insert_count, entry_size, table_size, excess, resized, inserted}
 use Rattle.wtp_dynamic.specs.declared.ledger.Sent.{Sent}
-use Rattle.wtp_dynamic.specs.EncoderState.{Encoder, AreKept, Owes, all_above, may_insert, with_first, taken, without, with_entry, with_section, acknowledged, cancelled, incremented, IsOpen, AreFrom}
+use Rattle.wtp_dynamic.specs.EncoderState.{Encoder, AreKept, Owes, all_above, may_insert, may_resize, with_first, taken, without, with_entry, with_capacity, with_section, acknowledged, cancelled, incremented, IsOpen, AreFrom}
 use Rattle.wtp_dynamic.specs.Plans.{Plan, StaticField, TableField, StaticName, TableName, NewName, ArePlans}
 use Rattle.wtp_dynamic.specs.Pair as pair
 use Rattle.wtp_dynamic.specs.Answer.{HasFields}
@@ -36,6 +36,20 @@ owes_entry entry encoder owes test =
       known = omega (arith, owes.known, count);
       received = leb-true (t.dropped + d) encoder.known c.1;
       kept = kept_above t.dropped (t.dropped + d) (insert_count t) (insert_count (inserted entry t)) encoder.sections (omega arith) b.1 owes.kept;
+    }
+
+pub owes_capacity : (capacity : ℕ) (encoder : Encoder) → Owes encoder → may_resize capacity encoder ≡ true → Owes (with_capacity capacity encoder)
+owes_capacity capacity encoder owes test =
+    let t : Table = encoder.table in
+    let d : ℕ = excess capacity t.live in
+    let within : d ≤ length t.live = excess_within capacity t.live in
+    let b = both_true (nat_le capacity t.limit && nat_le (t.dropped + d) encoder.known) (all_above (t.dropped + d) encoder.sections) test in
+    let c = both_true (nat_le capacity t.limit) (nat_le (t.dropped + d) encoder.known) b.0 in
+    let count : insert_count t ≡ insert_count (resized capacity t) = omega (arith, length-drop d t.live) in
+    record {
+      known = omega (arith, owes.known, count);
+      received = leb-true (t.dropped + d) encoder.known c.1;
+      kept = kept_above t.dropped (t.dropped + d) (insert_count t) (insert_count (resized capacity t)) encoder.sections (omega arith) b.1 owes.kept;
     }
 
 kept_push : (place count : ℕ) (sections : List Sent) (sent : Sent) → AreKept place count sections → place ≤ sent.lowest → sent.lowest < sent.required → sent.required ≤ count → AreKept place count (sections ++ sent ∷ [])

@@ -1,11 +1,11 @@
 -- What an encoder keeps of the sections that it sent, and what it owes (RFC 9204, section 2.1).
-use Rattle.std.specs.Prelude.{◌≡◌, ◌⊎◌, ℕ, ◌+◌, ◌-◌, ◌<◌, ◌≤◌, ◌==◌, nat_lt, nat_le, if◌then◌else◌, max, Bool, true, ◌&&◌, List, [], ◌∷◌, ◌++◌, Option, Some, None}
+use Rattle.std.specs.Prelude.{◌≡◌, ◌⊎◌, ℕ, ◌+◌, ◌-◌, ◌<◌, ◌≤◌, ◌==◌, nat_lt, nat_le, if◌then◌else◌, max, not, Bool, true, false, ◌&&◌, ◌||◌, List, [], ◌∷◌, ◌++◌, length, Option, Some, None}
 use Rattle.wtp_qpack.specs.Field.{Field}
 use Rattle.wtp_dynamic.specs.declared.ledger.Sent.{Sent}
 use Rattle.wtp_dynamic.specs.declared.error.DecoderStreamError.{DecoderStreamError}
 use Rattle.wtp_dynamic.specs.declared.error.DecoderStreamError.TheVariants.{ZeroIncrement, IncrementTooLarge}
 use Rattle.wtp_dynamic.specs.Plans.{Plan, StaticField, TableField, StaticName, TableName, NewName}
-use Rattle.wtp_dynamic.specs.Table.{Table, insert_count, entry_size, evicted, inserted}
+use Rattle.wtp_dynamic.specs.Table.{Table, insert_count, entry_size, evicted, resized, inserted}
 
 -- the table, the Known Received Count, and the sections that are not acknowledged, the oldest first
 pub record Encoder : Type 0 where
@@ -38,6 +38,13 @@ abbrev pub may_insert : Field → Encoder → Bool
 may_insert entry encoder =
     let after = evicted (encoder.table.capacity - entry_size entry) encoder.table in
     nat_le (entry_size entry) encoder.table.capacity && nat_le after.dropped encoder.known
+    && all_above after.dropped encoder.sections
+
+-- the capacity may be changed: it is within the limit, and only entries go that may go
+abbrev pub may_resize : ℕ → Encoder → Bool
+may_resize capacity encoder =
+    let after = evicted capacity encoder.table in
+    nat_le capacity encoder.table.limit && nat_le after.dropped encoder.known
     && all_above after.dropped encoder.sections
 
 -- ---- the decoder stream (section 4.4)
@@ -73,6 +80,9 @@ increment_fault _ count known inserted = ⊥
 abbrev pub with_entry : Field → Encoder → Encoder
 with_entry entry encoder = record encoder { table = inserted entry encoder.table }
 
+abbrev pub with_capacity : ℕ → Encoder → Encoder
+with_capacity capacity encoder = record encoder { table = resized capacity encoder.table }
+
 abbrev pub with_section : Sent → Encoder → Encoder
 with_section sent encoder = record encoder { sections = encoder.sections ++ sent ∷ [] }
 
@@ -86,13 +96,37 @@ cancelled stream encoder = record encoder { sections = without stream encoder.se
 abbrev pub incremented : ℕ → Encoder → Encoder
 incremented count encoder = record encoder { known = encoder.known + count }
 
--- ---- blocked streams (section 2.1.2): a section may block if its count is above what is known to
--- be received
+-- ---- blocked streams (section 2.1.2): a section may block its stream as long as it is not
+-- acknowledged, and needs more insertions than are known to be received
 
-abbrev pub may_block : ℕ → List Sent → List ℕ
-may_block known [] = []
-may_block known (sent ∷ others) =
-    if nat_lt known sent.required then sent.stream ∷ may_block known others else may_block known others
+abbrev pub may_wait : (known stream : ℕ) → List Sent → Bool
+may_wait known stream [] = false
+may_wait known stream (sent ∷ others) =
+    nat_lt known sent.required && sent.stream == stream || may_wait known stream others
+
+-- the streams that may be blocked, each once: at its last such section
+abbrev pub waiting_streams : ℕ → List Sent → List ℕ
+waiting_streams known [] = []
+waiting_streams known (sent ∷ others) =
+    if nat_lt known sent.required && not (may_wait known sent.stream others)
+    then sent.stream ∷ waiting_streams known others else waiting_streams known others
+
+-- another section of a stream may block it: one may already, or fewer streams may be blocked than
+-- the decoder allows
+abbrev pub may_block : (most stream : ℕ) → ℕ × List Sent → Bool
+may_block most stream ledger =
+    may_wait ledger.0 stream ledger.1 || nat_lt (length (waiting_streams ledger.0 ledger.1)) most
+
+-- a stream is one of these
+abbrev pub IsAmong : ℕ → List ℕ → Type 0
+IsAmong stream [] = ⊥
+IsAmong stream (first ∷ others) = (stream ≡ first) ⊎ IsAmong stream others
+
+-- at most so many streams may be blocked: each that may is one of so many
+abbrev pub FewWait : (most known : ℕ) → List Sent → Type 0
+FewWait most known sections =
+    (streams : List ℕ) × (length streams ≤ most)
+    × ((stream : ℕ) → may_wait known stream sections ≡ true → IsAmong stream streams)
 
 -- ---- a section that was sent
 

@@ -65,10 +65,14 @@ step (Duplicate index) table = do
 
 -- a call did this step to a table: on an error, which is the fault unless allocation failed, it did
 -- nothing
-abbrev pub Steps : Result Table EncoderStreamError → Table → Table → Result (Unit {0}) EncoderStreamError → Type 0
+abbrev pub Steps : Result Table EncoderStreamError → (old new : Table)
+    → Result (Unit {0}) EncoderStreamError → Type 0
 Steps stepped old new result =
-    MatchResult result (λ _. stepped ≡ Ok new) (λ e. (new ≡ old) × (e ≢ fault.Memory → stepped ≡ Err e))
+    MatchResult result (λ _. stepped ≡ Ok new)
+    (λ e. (new ≡ old) × (e ≢ fault.Memory → stepped ≡ Err e))
 
 -- what a call made is what a step makes, unless allocation failed
-abbrev pub Makes : {X Y : Type 0} → (X → Y) → Result X EncoderStreamError → Result Y EncoderStreamError → Type 0
-Makes view result made = MatchResult result (λ x. made ≡ Ok (view x)) (λ e. e ≢ fault.Memory → made ≡ Err e)
+abbrev pub Makes : {X Y : Type 0} → (X → Y) → Result X EncoderStreamError
+    → Result Y EncoderStreamError → Type 0
+Makes view result made =
+    MatchResult result (λ x. made ≡ Ok (view x)) (λ e. e ≢ fault.Memory → made ≡ Err e)

@@ -46,7 +46,8 @@ pub record Stands (start : Table) (bytes : List ℕ) (table : Table) (held : Lis
   pub cut : IsCut table held
 
 -- The stream has a fault, after the instructions that led to a table.
-pub record Breaks (start : Table) (bytes : List ℕ) (table : Table) (e : EncoderStreamError) : Type 0 where
+pub record Breaks (start : Table) (bytes : List ℕ) (table : Table) (e : EncoderStreamError)
+    : Type 0 where
   pub instructions : List Instruction
   pub rest : List ℕ
   pub leads : Leads instructions start bytes table rest
@@ -59,7 +60,8 @@ Reaches start bytes table =
 
 -- What reading bytes of the stream did to a table: on an error, which is the fault unless
 -- allocation failed, the table is what the instructions before it made.
-abbrev pub StreamRead : {X : Type 0} → (X → List ℕ) → Table → List ℕ → Table → Result X EncoderStreamError → Type 0
+abbrev pub StreamRead : {X : Type 0} → (X → List ℕ) → (old : Table) → List ℕ → (new : Table)
+    → Result X EncoderStreamError → Type 0
 StreamRead held old bytes new result =
     MatchResult result (λ x. Stands old bytes new (held x))
     (λ e. Reaches old bytes new × (e ≢ fault.Memory → Breaks old bytes new e))

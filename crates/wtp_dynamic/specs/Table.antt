@@ -1,5 +1,5 @@
 -- The dynamic table (RFC 9204, section 3.2).
-use Rattle.std.specs.Prelude.{◌≡◌, ℕ, suc, ◌+◌, ◌-◌, ◌<◌, ◌≤◌, nat_lt, nat_le, if◌then◌else◌, List, [], ◌∷◌, ◌++◌, length, drop, Option, None, slice_get}
+use Rattle.std.specs.Prelude.{◌≡◌, ℕ, suc, ◌+◌, ◌-◌, ◌<◌, ◌≤◌, nat_lt, nat_le, if◌then◌else◌, List, [], ◌∷◌, ◌++◌, length, drop, Option, Some, None, slice_get}
 use Rattle.wtp_qpack.specs.Field.{Field}
 
 -- the size of an entry (section 3.2.1)
@@ -99,6 +99,25 @@ relative_entry table base index =
 -- the entry of an index past a base: 0 is the one at the base (section 3.2.6)
 abbrev pub post_base_entry : Table → ℕ → ℕ → Option Field
 post_base_entry table base index = entry_of table (base + index)
+
+-- ---- look-ups by text
+
+-- no entry with this property has this absolute index
+abbrev pub HasNone : (Field → Type 0) → Table → ℕ → Type 0
+HasNone holds table index = (entry : Field) → entry_of table index ≡ Some entry → ¬ holds entry
+
+-- the latest entry with this property, among those with an absolute index below some index
+pub record IsLatest (holds : Field → Type 0) (table : Table) (below index : ℕ) : Type 0 where
+  pub low : index < below
+  pub entry : Field
+  pub is : entry_of table index ≡ Some entry
+  pub has : holds entry
+  pub last : (later : ℕ) → index < later → later < below → HasNone holds table later
+
+-- what was found is the latest, and if nothing was, there is none
+abbrev pub FindsLatest : (Field → Type 0) → Table → (below : ℕ) → Option ℕ → Type 0
+FindsLatest holds table below None = (index : ℕ) → index < below → HasNone holds table index
+FindsLatest holds table below (Some index) = IsLatest holds table below index
 
 -- ---- the table of a history
 

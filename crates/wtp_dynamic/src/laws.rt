@@ -11,7 +11,7 @@ ghost use Rattle.wtp_dynamic.specs.Plans.{Plan, planned_line, planned_prefix, Ar
 ghost use Rattle.wtp_dynamic.specs.Answer.{HasFields};
 ghost use Rattle.wtp_dynamic.specs.Pair.{section_of, Paired};
 ghost use Rattle.wtp_dynamic.specs.declared.ledger.Sent.{Sent};
-ghost use Rattle.wtp_dynamic.specs.EncoderState.{Encoder, Owes, may_insert, taken, with_entry, with_section, acknowledged, cancelled, incremented, IsOpen, AreFrom};
+ghost use Rattle.wtp_dynamic.specs.EncoderState.{Encoder, Owes, may_insert, may_resize, taken, with_entry, with_capacity, with_section, acknowledged, cancelled, incremented, IsOpen, AreFrom};
 ghost use Rattle.wtp_dynamic.specs.Writing.{Order, written, Carries};
 ghost use Rattle.wtp_dynamic.specs.Stream.{Leads, Stands, Breaks};
 
@@ -102,11 +102,14 @@ pub fn sections_are_tried_again()
         → prefix_at later bytes ≡ Ok prefix }
 {}
 
-/// What an encoder owes, it still owes nothing more of after each step: an insertion that passes
-/// the test, a section that refers to live entries, and each instruction of the decoder stream.
+/// What an encoder owes, it still owes nothing more of after each step: an insertion or a change of
+/// the capacity that passes the test, a section that refers to live entries, and each instruction
+/// of the decoder stream.
 pub fn encoders_keep_what_they_owe()
     ensures entry { (entry : Field) (encoder : Encoder) → Owes encoder
         → may_insert entry encoder ≡ true → Owes (with_entry entry encoder) }
+    ensures capacity { (capacity : ℕ) (encoder : Encoder) → Owes encoder
+        → may_resize capacity encoder ≡ true → Owes (with_capacity capacity encoder) }
     ensures section { (sent : Sent) (encoder : Encoder) → Owes encoder
         → encoder.table.dropped ≤ sent.lowest → sent.lowest < sent.required
         → sent.required ≤ insert_count encoder.table → Owes (with_section sent encoder) }

@@ -1,11 +1,12 @@
 //! What an encoder keeps of the sections that it sent (RFC 9204, sections 2.1 and 4.4).
 
-ghost use Rattle.std.specs.Prelude.{◌≡◌, ℕ, List, length, slice_index_or, ◌+◌, ◌<◌, ◌≤◌, ◌==◌, max, Some, None, IfSome, IfNone, MatchOption, MatchResult, nat_le, ◌&&◌};
+ghost use Rattle.std.specs.Prelude.{◌≡◌, ℕ, List, [], ◌∷◌, ◌++◌, length, drop, slice_index_or, ◌+◌, ◌<◌, ◌≤◌, ◌==◌, max, Some, None, IfSome, IfNone, MatchOption, MatchResult, nat_le, ◌&&◌};
 ghost use Rattle.std.specs.List.{remove};
-ghost use Rattle.wtp_dynamic.specs.EncoderState.{taken, unsent, all_above, increment_fault};
+ghost use Rattle.wtp_dynamic.specs.EncoderState.{taken, without, unsent, all_above, increment_fault, may_wait, waiting_streams, may_block};
 ghost use Rattle.wtp_dynamic.specs.declared.ledger.Sent.{Sent};
 
 use crate::error::DecoderStreamError;
+use std::alloc::{AllocError, Global};
 use std::collections::VecDeque;
 use std::marker::Model;
 
@@ -40,8 +41,8 @@ impl Model for Ledger {
 
 /// Returns the place of the first section of a stream.
 fn place_of(sections: &VecDeque<Sent>, stream: u64) -> Option<usize>
-    ensures found { IfSome result (λ i. (i < length sections.now.items)
-        × (taken stream sections.now.items ≡ Some (slice_index_or sections.now.items i (unsent stream), remove sections.now.items i))) }
+    ensures found { let sent = sections.now.items in IfSome result (λ i. (i < length sent)
+        × (taken stream sent ≡ Some (slice_index_or sent i (unsent stream), remove sent i))) }
     ensures none { IfNone result (taken stream sections.now.items ≡ None) }
 {
     for i in 0..sections.len() {
@@ -76,7 +77,89 @@ fn are_above(sections: &VecDeque<Sent>, place: u64) -> bool
     true
 }
 
+/// Returns whether a section from a place on may block a stream.
+fn waits(sections: &VecDeque<Sent>, from: usize, known: u64, stream: u64) -> bool
+    requires { from ≤ length sections.now.items }
+    ensures { result ≡ may_wait known stream (drop from sections.now.items) }
+{
+    for i in from..sections.len() {
+        if sections[i].required > known && sections[i].stream == stream {
+            return true;
+        }
+    }
+    false
+}
+
+/// Returns how many streams may be blocked.
+fn count_waiting(sections: &VecDeque<Sent>, known: u64) -> usize
+    ensures { result ≡ length (waiting_streams known sections.now.items) }
+{
+    let mut count = 0;
+    for i in 0..sections.len() {
+        let sent = sections[i];
+        if sent.required > known && !waits(sections, i + 1, known, sent.stream) {
+            count += 1;
+        }
+    }
+    count
+}
+
+/// Keeps the sections of other streams.
+fn keep_others(sections: &mut VecDeque<Sent>, stream: u64)
+    ensures { sections.new.items ≡ without stream sections.old.items }
+{
+    sections.retain(|sent| sent.stream != stream);
+}
+
 impl Ledger {
+    /// Creates a ledger of no section, with a Known Received Count of 0. Nothing is allocated.
+    pub fn new(alloc: Global) -> Self
+        ensures { result ≡ (0, []) }
+    {
+        Ledger {
+            known: 0,
+            sections: VecDeque::new(alloc),
+        }
+    }
+
+    /// Returns the Known Received Count: how many entries the decoder is known to have received
+    /// (section 2.1.4).
+    pub fn known(&self) -> u64
+        ensures { result ≡ self.now.0 }
+    {
+        self.known
+    }
+
+    /// Returns whether one more section of a stream may need more insertions than are known to be
+    /// received, where the decoder lets `most` streams wait (section 2.1.2): a section of this
+    /// stream already may, or sections of fewer streams than `most` may.
+    pub fn may_block(&self, stream: u64, most: u64) -> bool
+        ensures { result ≡ may_block most stream self.now }
+    {
+        waits(&self.sections, 0, self.known, stream)
+            || (count_waiting(&self.sections, self.known) as u64) < most
+    }
+
+    /// A section was sent that refers to the dynamic table: it is the latest that is not
+    /// acknowledged.
+    ///
+    /// Returns [`AllocError`] if allocation failed; nothing has changed then.
+    pub fn open(&mut self, sent: Sent) -> Result<(), AllocError>
+        ensures { MatchResult result
+            (λ _. self.new ≡ (self.old.0, self.old.1 ++ sent ∷ []))
+            (λ _. self.new ≡ self.old) }
+    {
+        self.sections.push_back(sent)?;
+        Ok(())
+    }
+
+    /// A stream was cancelled: none of its sections will be acknowledged (section 4.4.2).
+    pub fn cancel(&mut self, stream: u64)
+        ensures { self.new ≡ (self.old.0, without stream self.old.1) }
+    {
+        keep_others(&mut self.sections, stream);
+    }
+
     /// Returns whether all entries below a place may be evicted.
     pub fn may_evict(&self, place: u64) -> bool
         ensures { result ≡ (nat_le place self.now.0 && all_above place self.now.1) }

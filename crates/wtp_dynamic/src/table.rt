@@ -1,9 +1,9 @@
 //! The dynamic table (RFC 9204, section 3.2).
 
-ghost use Rattle.std.specs.Prelude.{◌≡◌, ℕ, ◌+◌, ◌-◌, ◌^◌, ◌<◌, ◌≤◌, List, length, take, drop, IfOk, option_map};
+ghost use Rattle.std.specs.Prelude.{◌≡◌, ℕ, ◌+◌, ◌-◌, ◌^◌, ◌<◌, ◌≤◌, min, List, length, take, drop, Decides, IfOk, option_map};
 ghost use Rattle.std.specs.Vec.{vec_len};
 ghost use Rattle.std.specs.VecDeque.{deque_capacity};
-ghost use Rattle.wtp_dynamic.specs.Table.{Table, entry_size, table_size, insert_count, excess, empty_table, entry_of, relative_entry, post_base_entry};
+ghost use Rattle.wtp_dynamic.specs.Table.{Table, entry_size, table_size, insert_count, excess, evicted, empty_table, entry_of, relative_entry, post_base_entry, FindsLatest};
 ghost use Rattle.wtp_dynamic.specs.Steps.{set_step, insert_step, Steps};
 
 use crate::error::EncoderStreamError;
@@ -66,6 +66,22 @@ impl Entry {
         self.texts.as_slice().split_at(self.middle).1
     }
 
+    /// Returns whether this is the name.
+    #[tactic(auto, using(crate::proofs::Lookups::text_decides))]
+    pub fn has_name(&self, name: &[u8]) -> bool
+        ensures { Decides result (self.now.0 ≡ name.now) }
+    {
+        self.name() == name
+    }
+
+    /// Returns whether these are the name and the value.
+    #[tactic(auto, using(crate::proofs::Lookups::field_decides))]
+    pub fn is(&self, name: &[u8], value: &[u8]) -> bool
+        ensures { Decides result (self.now ≡ (name.now, value.now)) }
+    {
+        self.value() == value && self.name() == name
+    }
+
     /// Returns the size, which counts 32 bytes beside the texts.
     pub fn size(&self) -> u64
         ensures { result ≡ entry_size self.now }
@@ -91,7 +107,12 @@ impl Model for DynamicTable {
 
     ghost Value = { Table };
 
-    ghost view = { λ t. record { live = t.entries.items; dropped = t.dropped; capacity = t.capacity; limit = t.limit } };
+    ghost view = { λ t. record {
+      live = t.entries.items;
+      dropped = t.dropped;
+      capacity = t.capacity;
+      limit = t.limit;
+    } };
 
     ghost invariant = { λ t. (t.size ≡ table_size t.entries.items) × (t.size ≤ t.capacity)
         × (t.capacity ≤ t.limit) × (t.limit < 2 ^ 60)
@@ -105,7 +126,8 @@ fn evict(entries: &mut VecDeque<Entry>, dropped: &mut u64, size: &mut u64, room:
     ensures entries { entries.new.items ≡ drop (excess room entries.old.items) entries.old.items }
     ensures capacity { deque_capacity entries.new ≡ deque_capacity entries.old }
     ensures dropped { dropped.new ≡ dropped.old + excess room entries.old.items }
-    ensures count { dropped.new + length entries.new.items ≡ dropped.old + length entries.old.items }
+    ensures count { dropped.new + length entries.new.items
+        ≡ dropped.old + length entries.old.items }
     ensures size { size.new ≡ table_size entries.new.items }
     ensures fits { size.new ≤ room }
 {
@@ -143,16 +165,18 @@ impl DynamicTable {
         self.dropped + self.entries.len() as u64
     }
 
-    /// Returns the size of the entries that are left.
+    /// Returns the size of the entries that are left, which is at most the capacity.
     pub fn size(&self) -> u64
-        ensures { result ≡ table_size self.now.live }
+        ensures value { result ≡ table_size self.now.live }
+        ensures fits { result ≤ self.now.capacity }
     {
         self.size
     }
 
-    /// Returns the capacity.
+    /// Returns the capacity, which is at most the limit.
     pub fn capacity(&self) -> u64
-        ensures { result ≡ self.now.capacity }
+        ensures value { result ≡ self.now.capacity }
+        ensures within { result ≤ self.now.limit }
     {
         self.capacity
     }
@@ -163,6 +187,59 @@ impl DynamicTable {
         ensures few { result < 2 ^ 60 }
     {
         self.limit
+    }
+
+    /// Returns how many entries will have been evicted once those that are left have at most `room`
+    /// bytes.
+    #[tactic(auto, using(crate::proofs::Lookups::excess_step, crate::proofs::Lookups::excess_fits, crate::proofs::Lookups::size_step,))]
+    pub fn dropped_for(&self, room: u64) -> u64
+        ensures { result ≡ (evicted room self.now).dropped }
+    {
+        let mut size = self.size;
+        for i in 0..self.entries.len() {
+            if size <= room {
+                return self.dropped + i as u64;
+            }
+            size -= self.entries[i].size();
+        }
+        self.dropped + self.entries.len() as u64
+    }
+
+    /// Returns how many of the entries have an absolute index below this one.
+    fn count_below(&self, below: u64) -> usize
+        ensures { result ≡ min (below - self.now.dropped) (length self.now.live) }
+    {
+        (below.saturating_sub(self.dropped)).min(self.entries.len() as u64) as usize
+    }
+
+    /// Returns the absolute index of the latest entry with this name and value, among those with an
+    /// index below `below`.
+    pub fn find(&self, name: &[u8], value: &[u8], below: u64) -> Option<u64>
+        ensures { FindsLatest (λ entry. entry ≡ (name.now, value.now)) self.now below result }
+    {
+        let mut left = self.count_below(below);
+        while left > 0 {
+            left -= 1;
+            if self.entries[left].is(name, value) {
+                return Some(self.dropped + left as u64);
+            }
+        }
+        None
+    }
+
+    /// Returns the absolute index of the latest entry with this name, among those with an index
+    /// below `below`.
+    pub fn find_name(&self, name: &[u8], below: u64) -> Option<u64>
+        ensures { FindsLatest (λ entry. entry.0 ≡ name.now) self.now below result }
+    {
+        let mut left = self.count_below(below);
+        while left > 0 {
+            left -= 1;
+            if self.entries[left].has_name(name) {
+                return Some(self.dropped + left as u64);
+            }
+        }
+        None
     }
 
     /// Changes the capacity, and evicts the oldest entries that no longer fit.
