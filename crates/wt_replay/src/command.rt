@@ -1,0 +1,83 @@
+//! The commands of a script.
+
+use anyhow::{Context, Result, bail};
+use std::alloc::Global;
+use wtp_connection::connection::Known;
+use wtp_frames::endpoint::Side;
+
+/// A line of a script.
+#[derive(Drop)]
+pub enum Command {
+    /// Begins a connection of this side, whose own SETTINGS enable WebTransport or do not.
+    Begin(Side, bool),
+    /// The stream with this ID is a request that was opened here.
+    Request(u64),
+    /// The stream with this ID was opened here for this session.
+    Session(u64, u64),
+    /// The next bytes of a stream, and whether it ends after them.
+    Bytes(u64, Vec<u8>, bool),
+    /// What is known of a session from here on.
+    Known(u64, Known),
+    /// The peer reset the stream with this ID.
+    Reset(u64),
+    /// The stream with this ID is read no longer.
+    Abandon(u64),
+}
+
+impl Command {
+    /// Reads a line.
+    ///
+    /// # Errors
+    ///
+    /// If it is no command.
+    pub fn parse(alloc: Global, line: &str) -> Result<Command> {
+        let (name, rest) = first_word(line);
+        match name {
+            "bytes" => bytes(alloc, rest, false),
+            "end" => bytes(alloc, rest, true),
+            "server" => Ok(Command::Begin(Side::Server, rest == "webtransport")),
+            "client" => Ok(Command::Begin(Side::Client, rest == "webtransport")),
+            "request" => Ok(Command::Request(number(rest)?)),
+            "session" => {
+                let (id, session) = first_word(rest);
+                Ok(Command::Session(number(id)?, number(session)?))
+            }
+            "known" => {
+                let (session, state) = first_word(rest);
+                Ok(Command::Known(number(session)?, known(state)?))
+            }
+            "reset" => Ok(Command::Reset(number(rest)?)),
+            "abandon" => Ok(Command::Abandon(number(rest)?)),
+            _ => bail!("no command"),
+        }
+    }
+}
+
+/// Returns the first word of a line, and the rest of the line.
+fn first_word(line: &str) -> (&str, &str) {
+    line.split_once(' ').unwrap_or((line, ""))
+}
+
+/// Reads an ID.
+fn number(word: &str) -> Result<u64> {
+    word.parse::<u64>().context("no number")
+}
+
+/// Reads a stream's ID and its bytes.
+fn bytes(alloc: Global, rest: &str, fin: bool) -> Result<Command> {
+    let (id, digits) = first_word(rest);
+    let bytes = hex::decode(alloc, digits).context("no bytes")?;
+    Ok(Command::Bytes(number(id)?, bytes, fin))
+}
+
+/// Reads what is known of a session.
+fn known(word: &str) -> Result<Known> {
+    match word {
+        "coming" => Ok(Known::Coming),
+        "open" => Ok(Known::Open),
+        "over" => Ok(Known::Over),
+        "refused" => Ok(Known::Refused),
+        "impossible" => Ok(Known::Impossible),
+        _ => bail!("no state of a session"),
+    }
+}

@@ -1,0 +1,128 @@
+//! The lines of events.
+
+ghost use Rattle.std.specs.Prelude.{◌≡◌, ◌++◌, OnOk, string_bytes};
+ghost use Rattle.wt_replay.specs.Lines.{found_line, opened_line, step_line, skipped_line, fault_line, left_line, purpose_name as purpose_name_is, kind_name as kind_name_is, scope_name as scope_name_is};
+
+use std::alloc::AllocError;
+use wtp_connection::connection::Found;
+use wtp_connection::stream::Purpose;
+use wtp_core::error::ErrorScope;
+use wtp_frames::fault::Fault;
+use wtp_frames::frame_type::FrameType;
+use wtp_frames::reader::Step;
+
+/// Appends the line of what was found on a stream, at an offset in it to which the offsets of the
+/// event are relative. `More` has no line.
+pub fn add_found(out: &mut String, id: u64, at: u64, found: Found) -> Result<(), AllocError>
+    ensures { OnOk result (string_bytes out.new ≡ string_bytes out.old ++ found_line id at found) }
+{
+    match found {
+        Found::Opened(purpose, n) => add_opened(out, id, at, purpose, n),
+        Found::Step(step) => add_step(out, id, at, step),
+        Found::End => writeln!(out, "{id} {at} end"),
+    }
+}
+
+/// Appends the line of a stream whose purpose is known, after `n` bytes.
+fn add_opened(
+    out: &mut String,
+    id: u64,
+    at: u64,
+    purpose: Purpose,
+    n: usize,
+) -> Result<(), AllocError>
+    ensures { OnOk result (string_bytes out.new
+        ≡ string_bytes out.old ++ opened_line id at purpose n) }
+{
+    let name = purpose_name(purpose);
+    match purpose {
+        Purpose::Session(session) => writeln!(out, "{id} {at} opened {n} {name} {session}"),
+        _ => writeln!(out, "{id} {at} opened {n} {name}"),
+    }
+}
+
+/// Appends the line of an item of a stream.
+fn add_step(out: &mut String, id: u64, at: u64, step: Step) -> Result<(), AllocError>
+    ensures { OnOk result (string_bytes out.new ≡ string_bytes out.old ++ step_line id at step) }
+{
+    match step {
+        Step::Frame(kind, start, end) => {
+            let name = kind_name(kind);
+            writeln!(out, "{id} {at} frame {start} {end} {name}")
+        }
+        Step::Data(start, end) => writeln!(out, "{id} {at} data {start} {end}"),
+        Step::TooLarge(size, n) => add_skipped(out, id, at, size, n),
+        Step::More(_) => Ok(()),
+        Step::Fault(fault) => add_fault(out, id, at, fault),
+    }
+}
+
+/// Appends the line of a field section of this size, which is skipped after `n` bytes.
+fn add_skipped(out: &mut String, id: u64, at: u64, size: u64, n: usize) -> Result<(), AllocError>
+    ensures { OnOk result (string_bytes out.new
+        ≡ string_bytes out.old ++ skipped_line id at size n) }
+{
+    writeln!(out, "{id} {at} skipped {n} {size}")
+}
+
+/// Appends the line of an error.
+pub fn add_fault(out: &mut String, id: u64, at: u64, fault: Fault) -> Result<(), AllocError>
+    ensures { OnOk result (string_bytes out.new ≡ string_bytes out.old ++ fault_line id at fault) }
+{
+    let code = fault.code().number().into_inner();
+    let scope = scope_name(fault.scope());
+    writeln!(out, "{id} {at} fault {code} {scope}")
+}
+
+/// Appends the line of a stream of which bytes are left over.
+pub fn add_left(out: &mut String, id: u64, at: u64, left: usize) -> Result<(), AllocError>
+    ensures { OnOk result (string_bytes out.new ≡ string_bytes out.old ++ left_line id at left) }
+{
+    writeln!(out, "{id} {at} left {left}")
+}
+
+/// Returns the name of a purpose.
+fn purpose_name(purpose: Purpose) -> &'static str
+    ensures { result.now ≡ purpose_name_is purpose }
+{
+    match purpose {
+        Purpose::Control => "control",
+        Purpose::Push => "push",
+        Purpose::Encoder => "encoder",
+        Purpose::Decoder => "decoder",
+        Purpose::Session(_) => "session",
+        Purpose::InvalidSession => "invalid-session",
+        Purpose::Message => "message",
+        Purpose::Foreign => "foreign",
+        Purpose::Ignored => "ignored",
+    }
+}
+
+/// Returns the name of a frame type.
+fn kind_name(kind: FrameType) -> &'static str
+    ensures { result.now ≡ kind_name_is kind }
+{
+    match kind {
+        FrameType::Data => "DATA",
+        FrameType::Headers => "HEADERS",
+        FrameType::CancelPush => "CANCEL_PUSH",
+        FrameType::Settings => "SETTINGS",
+        FrameType::PushPromise => "PUSH_PROMISE",
+        FrameType::GoAway => "GOAWAY",
+        FrameType::MaxPushId => "MAX_PUSH_ID",
+        FrameType::Http2 => "HTTP2",
+        FrameType::WebTransport => "WEBTRANSPORT",
+        FrameType::Unknown => "UNKNOWN",
+    }
+}
+
+/// Returns what an error ends.
+fn scope_name(scope: ErrorScope) -> &'static str
+    ensures { result.now ≡ scope_name_is scope }
+{
+    match scope {
+        ErrorScope::Stream => "stream",
+        ErrorScope::Connection => "connection",
+        ErrorScope::Either => "either",
+    }
+}

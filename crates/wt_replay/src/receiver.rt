@@ -1,0 +1,178 @@
+//! The streams of a connection, each read until more bytes are needed.
+
+use crate::lines::{add_fault, add_found, add_left};
+use std::alloc::{AllocError, Global};
+use std::collections::BTreeMap;
+use wtp_connection::connection::{Connection, Found, Known};
+use wtp_connection::fields::Fields;
+use wtp_connection::stream::{Purpose, Stream};
+use wtp_frames::endpoint::Endpoint;
+use wtp_frames::reader::Step;
+
+/// A stream.
+#[derive(Drop)]
+pub struct Entry {
+    /// Its state.
+    stream: Stream,
+    /// How many bytes were consumed.
+    at: u64,
+    /// The bytes after these.
+    bytes: Vec<u8>,
+    /// Whether it ends after them.
+    fin: bool,
+}
+
+impl Entry {
+    /// Creates a stream without bytes.
+    pub fn new(alloc: Global, stream: Stream) -> Self {
+        Entry {
+            stream,
+            at: 0,
+            bytes: Vec::new(alloc),
+            fin: false,
+        }
+    }
+
+    /// Adds the next bytes of the stream.
+    pub fn add(&mut self, bytes: &[u8], fin: bool) -> Result<(), AllocError> {
+        self.bytes.extend_from_slice(bytes)?;
+        self.fin |= fin;
+        Ok(())
+    }
+
+    /// Returns whether it is a stream of this session.
+    pub fn belongs_to(&self, session: u64) -> bool {
+        match self.stream {
+            Stream::Session(its) | Stream::Joining(its) | Stream::Waiting(its) => its == session,
+            _ => false,
+        }
+    }
+
+    /// Drops the first bytes, which were consumed.
+    fn consume(&mut self, alloc: Global, n: usize) -> Result<(), AllocError> {
+        let rest = self.bytes.as_slice().get(n..).unwrap_or(&[]);
+        self.bytes = Vec::from_slice(alloc, rest)?;
+        self.at = self.at.saturating_add(n as u64);
+        Ok(())
+    }
+}
+
+/// A connection, what is known of its sessions, and the text of its events.
+#[derive(Drop)]
+pub struct Receiver {
+    connection: Connection,
+    fields: Fields,
+    sessions: BTreeMap<u64, Known>,
+    text: String,
+}
+
+impl Receiver {
+    /// Creates a connection.
+    pub fn new(alloc: Global, endpoint: Endpoint) -> Self {
+        Receiver {
+            connection: Connection::new(endpoint),
+            fields: Fields::new(),
+            sessions: BTreeMap::new(alloc),
+            text: String::new(alloc),
+        }
+    }
+
+    /// Returns the text of the events.
+    pub fn text(&self) -> &str {
+        self.text.as_str()
+    }
+
+    /// Clears the text.
+    pub fn clear_text(&mut self) {
+        self.text.clear();
+    }
+
+    /// Begins another connection.
+    pub fn begin(&mut self, alloc: Global, endpoint: Endpoint) -> Result<(), AllocError> {
+        self.connection = Connection::new(endpoint);
+        self.fields = Fields::new();
+        self.sessions = BTreeMap::new(alloc);
+        writeln!(self.text, "connection")
+    }
+
+    /// Sets what is known of a session.
+    pub fn know(&mut self, session: u64, known: Known) -> Result<(), AllocError> {
+        self.sessions.insert(session, known)?;
+        Ok(())
+    }
+
+    /// Reads a stream until more bytes are needed.
+    pub fn read(&mut self, alloc: Global, id: u64, entry: &mut Entry) -> Result<(), AllocError> {
+        let mut start: usize = 0;
+        for _turn in 0..u64::MAX {
+            let rest = entry.bytes.as_slice().get(start..).unwrap_or(&[]);
+            let len = rest.len();
+            let found = self
+                .connection
+                .receive(&mut entry.stream, rest, entry.fin, &mut self.fields);
+            let at = entry.at.saturating_add(start as u64);
+            add_found(&mut self.text, id, at, found)?;
+            start = start.saturating_add(consumed(found, len));
+            match found {
+                Found::Opened(Purpose::Session(session), _) => {
+                    let known = self.known(session);
+                    self.join(id, entry, known)?;
+                }
+                Found::Step(Step::More(_)) => break,
+                _ => {}
+            }
+        }
+        entry.consume(alloc, start)
+    }
+
+    /// Returns what is known of a session.
+    fn known(&self, session: u64) -> Known {
+        self.sessions
+            .get(&session)
+            .copied()
+            .unwrap_or(Known::Coming)
+    }
+
+    /// Tells a stream what is known of its session.
+    pub fn join(&mut self, id: u64, entry: &mut Entry, known: Known) -> Result<(), AllocError> {
+        match self.connection.join(&mut entry.stream, known) {
+            Some(fault) => add_fault(&mut self.text, id, entry.at, fault),
+            None => Ok(()),
+        }
+    }
+
+    /// Resets a stream. Its bytes that were not consumed are lost.
+    pub fn reset(&mut self, alloc: Global, id: u64, entry: &mut Entry) -> Result<(), AllocError> {
+        entry.bytes = Vec::new(alloc);
+        match self.connection.reset(&mut entry.stream) {
+            Some(fault) => add_fault(&mut self.text, id, entry.at, fault),
+            None => Ok(()),
+        }
+    }
+
+    /// Ends the reading of a stream.
+    pub fn abandon(&mut self, alloc: Global, entry: &mut Entry) {
+        entry.bytes = Vec::new(alloc);
+        self.connection.abandon(&mut entry.stream);
+    }
+
+    /// Appends how many bytes of a stream are left over, if there are any.
+    pub fn add_left(&mut self, id: u64, entry: &Entry) -> Result<(), AllocError> {
+        if entry.bytes.is_empty() {
+            return Ok(());
+        }
+        add_left(&mut self.text, id, entry.at, entry.bytes.len())
+    }
+}
+
+/// Returns how many of `len` bytes were consumed.
+fn consumed(found: Found, len: usize) -> usize {
+    match found {
+        Found::Opened(_, n) => n,
+        Found::Step(Step::Frame(_, _, end)) => end,
+        Found::Step(Step::Data(_, end)) => end,
+        Found::Step(Step::TooLarge(_, n)) => n,
+        Found::Step(Step::More(n)) => n,
+        Found::Step(Step::Fault(_)) | Found::End => len,
+    }
+}

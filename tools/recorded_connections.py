@@ -1,0 +1,251 @@
+"""Recorded connections as scripts: what each stream of a recording has to give, by its index alone,
+and the streams in random orders, cut into pieces.
+
+A folder of recordings is described in tools/recordings.d/README.md.
+"""
+
+import json
+from dataclasses import dataclass, field
+
+from replay import by_streams, ends_connection
+
+# The frames that are given whole, by the name of the index.
+WHOLE = {"HEADERS", "SETTINGS", "GOAWAY", "MAX_PUSH_ID"}
+# What is no frame.
+OTHERS = {"capsules", "left", "stream", "WEBTRANSPORT", "application bytes"}
+ID_ERROR = 0x108
+SESSION, REQUEST = "session", "request"
+
+
+def number_at(content, at):
+    """Returns the number at an offset, and the offset after it."""
+    size = 1 << (content[at] >> 6)
+    value = int.from_bytes(content[at : at + size], "big") & ((1 << (8 * size - 2)) - 1)
+    return value, at + size
+
+
+@dataclass
+class Recorded:
+    """A stream of a connection, as the peer of its sender receives it: its ID, its bytes, how it
+    ended, who opened it (None: the sender), its session if it has one, whether it has interim
+    responses, and its events."""
+
+    stream: int
+    content: bytes
+    ended: str
+    opened: str = None
+    session: int = None
+    is_interim: bool = False
+    events: list = field(default_factory=list)
+
+    def first_line(self):
+        """Returns the line that comes before its bytes."""
+        if self.opened == REQUEST:
+            return f"request {self.stream}\n"
+        if self.opened == SESSION:
+            return f"session {self.stream} {self.session}\n"
+        return ""
+
+    def lines(self, sizes):
+        """Returns the lines of its bytes, in pieces of these sizes, and of its end."""
+        digits, lines, at = self.content.hex(), [], 0
+        while at < len(self.content):
+            end = at + next(sizes)
+            lines.append(f"bytes {self.stream} {digits[2 * at : 2 * end]}\n")
+            at = end
+        if self.ended == "fin" and lines:
+            lines[-1] = lines[-1].replace("bytes", "end", 1)
+        elif self.ended == "fin":
+            lines.append(f"end {self.stream}\n")
+        elif self.ended.startswith("reset") and self.session is None:
+            lines.append(self.reset_line())
+        return lines
+
+    def reset_line(self):
+        return f"reset {self.stream}\n"
+
+    def is_reset_last(self):
+        """Returns whether it is reset after all else: what waits for its session would be lost."""
+        return self.ended.startswith("reset") and self.session is not None
+
+
+class Wanted:
+    """What a stream has to give, from its line of the index."""
+
+    def __init__(self, content, kind, ended, found):
+        self.content, self.kind, self.ended, self.found = content, kind, ended, found
+        self.at, self.events, self.session = 0, [], None
+
+    def all(self):
+        """Returns the events."""
+        self.opening()
+        if not self.events or not ends_connection(self.events[-1]):
+            self.items()
+        is_over = self.events and ends_connection(self.events[-1])
+        if self.ended == "fin" and not is_over:
+            self.events.append(("end",))
+        return self.events
+
+    def opening(self):
+        """Adds what the stream is for, if its first bytes say so."""
+        if self.kind.startswith("unidirectional"):
+            self.type_and_session()
+        elif self.kind == "WebTransport stream, opened by this sender":
+            self.at = 2
+            self.with_session(self.found[0]["WEBTRANSPORT"])
+        elif self.kind.endswith("opened by this sender"):
+            self.events.append(("opened", 0, "message"))
+
+    def type_and_session(self):
+        name = self.found[0]["stream"]
+        _, self.at = number_at(self.content, 0)
+        if name == "WebTransport":
+            self.with_session(self.found[0]["session"])
+        elif name == "push":
+            # (a client that allowed none)
+            self.events.append(("fault", ID_ERROR, "connection"))
+        else:
+            word = name.split()[-1] if name.startswith("QPACK") else name
+            word = "ignored" if " 0x" in name else word
+            self.events.append(("opened", self.at, word))
+
+    def with_session(self, session):
+        self.session, self.at = number_at(self.content, self.at)
+        assert self.session == session
+        self.events.append(("opened", self.at, SESSION, str(session)))
+
+    def items(self):
+        """Adds the frames, or the bytes of an application."""
+        if any("application bytes" in thing for thing in self.found):
+            size = next(thing["application bytes"] for thing in self.found)
+            self.data(size)
+        elif self.session is not None:
+            self.data(self.found[0]["bytes"])
+        elif "stream" not in self.found[0] or self.found[0]["stream"] == "control":
+            self.frames()
+
+    def data(self, size):
+        if size:
+            self.events.append(("data", self.at, self.at + size))
+        assert self.at + size <= len(self.content)
+
+    def frames(self):
+        for thing in self.found:
+            name, size = next(iter(thing.items()))
+            if name == "left":
+                self.cut_frame(size)
+            elif name not in OTHERS:
+                if name == "PUSH_PROMISE":
+                    # (a client that allowed no push)
+                    self.events.append(("fault", ID_ERROR, "connection"))
+                    return
+                self.frame(name, size)
+
+    def frame(self, name, size):
+        _, length_at = number_at(self.content, self.at)
+        length, start = number_at(self.content, length_at)
+        assert length == size, f"{name} of {length} bytes, where the index has {size}"
+        self.at = start + size
+        if name in WHOLE:
+            self.events.append(("frame", name, start, self.at))
+        elif name == "DATA" and size:
+            self.events.append(("data", start, self.at))
+
+    def cut_frame(self, size):
+        """A frame that the recording ends in, which is one of DATA."""
+        assert self.at + size == len(self.content)
+        kind, length_at = number_at(self.content, self.at)
+        _, start = number_at(self.content, length_at)
+        assert kind == 0 and start < len(self.content)
+        self.events.append(("data", start, len(self.content)))
+
+
+class Connection:
+    """The streams of a connection in one direction."""
+
+    def __init__(self, name):
+        self.name, self.streams = name, []
+
+    @property
+    def is_to_server(self):
+        return self.name.endswith("c2s")
+
+    def wanted(self):
+        """Returns the events of each stream."""
+        return {stream.stream: stream.events for stream in self.streams}
+
+    def sessions(self):
+        """Returns the sessions to which streams belong."""
+        return sorted({stream.session for stream in self.streams} - {None})
+
+    def without_errors(self):
+        """Returns the same connection without streams that end it and without interim responses,
+        or None if there are none."""
+        kept = [s for s in self.streams if not s.is_interim]
+        kept = [s for s in kept if not any(map(ends_connection, s.events))]
+        if len(kept) == len(self.streams):
+            return None
+        other = Connection(self.name)
+        other.streams = kept
+        return other
+
+    def script(self, rng, size):
+        """Returns the script of a random order, in pieces of this size; of random sizes if it is
+        0."""
+        sizes = iter(lambda: size or rng.choice((1, 2, 3, 5, 8, 40, 1200)), None)
+        parts = [stream.lines(sizes) for stream in self.streams]
+        parts += [[f"known {session} open\n"] for session in self.sessions()]
+        order = [index for index, lines in enumerate(parts) for _ in lines]
+        rng.shuffle(order)
+        left = [iter(lines) for lines in parts]
+        side = "server" if self.is_to_server else "client"
+        head = [f"{side} webtransport\n", *(stream.first_line() for stream in self.streams)]
+        last = [stream.reset_line() for stream in self.streams if stream.is_reset_last()]
+        return "".join([*head, *(next(left[index]) for index in order), *last])
+
+
+def connections_in(folder):
+    """Returns the connections of a folder of recordings, each direction by itself."""
+    index = (folder / "index.tsv").read_text(encoding="utf-8").splitlines()[1:]
+    lines = [line.split("\t") for line in index]
+    said, found = ({line[0]: json.loads(line[at]) for line in lines} for at in (7, 8))
+    connections = {}
+    for file, _, _, place, kind, ended, *_ in lines:
+        if kind == "datagram":
+            continue
+        name = file.rsplit("-", 1)[0]
+        connection = connections.setdefault(name, Connection(name))
+        content, stream = (folder / file).read_bytes(), int(place.split()[1])
+        wanted = Wanted(content, kind, ended, found[file])
+        recorded = Recorded(stream, content, ended, events=wanted.all())
+        recorded.session = wanted.session
+        recorded.is_interim = has_interim(said[file])
+        if kind == "WebTransport stream, opened by the other end":
+            recorded.opened, recorded.session = SESSION, session_of(file, found)
+        elif kind == "response, opened by the other end":
+            recorded.opened = REQUEST
+        connection.streams.append(recorded)
+    return list(connections.values())
+
+
+def has_interim(said):
+    """Returns whether there is an interim response (RFC 9114, section 4.1)."""
+    sections = [thing["HEADERS"] for thing in said if "HEADERS" in thing]
+    return any(name == ":status" and value < "2" for lines in sections for name, value in lines)
+
+
+def session_of(file, found):
+    """Returns the session of a stream that the other end opened, which its other half names."""
+    other = file.replace("c2s", "s2c") if "c2s" in file else file.replace("s2c", "c2s")
+    return found[other][0]["WEBTRANSPORT"]
+
+
+def consumed_fault(connection, found):
+    """Returns what is wrong with the bytes that were consumed, after no error: all but those that
+    are left over."""
+    for stream, events in by_streams(found).items():
+        if events[-1][0] == "left":
+            size = next(len(s.content) for s in connection.streams if s.stream == stream)
+            if events[-1][1] + events[-1][2] != size:
+                return f"stream {stream}: {events[-1]} of {size} bytes"
+    return None
