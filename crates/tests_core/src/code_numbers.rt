@@ -1,12 +1,12 @@
 //! Error codes by number, their scopes, and application error codes.
-use crate::same::same;
+use crate::same::assert_same;
 use std::process::Abort;
 use wtp_core::error::{ErrorCode, ErrorScope, Refused, UnknownErrorCode, application_codes};
 use wtp_core::ids::{InvalidQStreamId, InvalidSessionId, InvalidStatusCode};
 use wtp_core::varint::{VarInt, VarIntBoundsExceeded};
 
 /// A number, its error code (RFC 9114, section 8.1; RFC 9297, section 5.2; RFC 9204, section 6;
-/// WebTransport over HTTP/3), and what the row shows.
+/// WebTransport over HTTP/3), and the case.
 type NumberRow = (u64, Option<ErrorCode>, &'static str);
 
 /// Numbers of error codes, and other numbers.
@@ -81,8 +81,8 @@ fn code_of(number: u64) -> Result<Option<ErrorCode>, VarIntBoundsExceeded> {
 
 #[test]
 fn numbers_are_those_of_codes(rt: HostRuntime) {
-    for (number, code, shows) in &NUMBERS {
-        same(&rt, code_of(*number), Ok(*code), shows);
+    for (number, code, case) in &NUMBERS {
+        assert_same(&rt, code_of(*number), Ok(*code), case);
     }
 }
 
@@ -142,39 +142,39 @@ static SCOPES: [ScopeRow; 15] = [
 
 #[test]
 fn codes_end_a_stream_or_the_connection(rt: HostRuntime) {
-    for (code, scope, shows) in &SCOPES {
-        same(&rt, code.scope(), *scope, shows);
+    for (code, scope, case) in &SCOPES {
+        assert_same(&rt, code.scope(), *scope, case);
     }
 }
 
 #[test]
 fn errors_have_their_codes(rt: HostRuntime) {
-    same(
+    assert_same(
         &rt,
         Refused::Code(ErrorCode::Settings).code(),
         Some(ErrorCode::Settings),
         "a code",
     );
-    same(&rt, Refused::Memory.code(), None, "no memory");
-    same(
+    assert_same(&rt, Refused::Memory.code(), None, "no memory");
+    assert_same(
         &rt,
         ErrorCode::from(InvalidSessionId),
         ErrorCode::Id,
         "a session ID",
     );
-    same(
+    assert_same(
         &rt,
         ErrorCode::from(InvalidQStreamId),
         ErrorCode::Datagram,
         "a quarter stream ID",
     );
-    same(
+    assert_same(
         &rt,
         ErrorCode::from(InvalidStatusCode),
         ErrorCode::Message,
         "a status code",
     );
-    same(
+    assert_same(
         &rt,
         ErrorCode::from(UnknownErrorCode),
         ErrorCode::NoError,
@@ -199,8 +199,8 @@ static APPLICATION: [(u32, u64); 9] = [
 /// Asserts the conversion of an application error code in both directions.
 fn check_application<R: Abort>(rt: &R, code: u32, wanted: u64) {
     let number = application_codes::to_http3(code);
-    same(rt, number.into_inner(), wanted, code);
-    same(
+    assert_same(rt, number.into_inner(), wanted, code);
+    assert_same(
         rt,
         application_codes::from_http3(number).ok(),
         Some(code),
@@ -233,7 +233,7 @@ fn application_of(number: u64) -> Result<Option<u32>, VarIntBoundsExceeded> {
 
 #[test]
 fn other_numbers_are_not_applications(rt: HostRuntime) {
-    for (number, shows) in &OTHERS {
-        same(&rt, application_of(*number), Ok(None), shows);
+    for (number, case) in &OTHERS {
+        assert_same(&rt, application_of(*number), Ok(None), case);
     }
 }

@@ -1,95 +1,111 @@
 //! Error codes: their numbers and printed names.
-use crate::same::same;
+use crate::same::assert_same;
 use crate::texts::{debugs, displays};
 use std::process::Abort;
 use wtp_core::error::{ErrorCode, Refused, h3_error_codes, qpack_error_codes, wt_error_codes};
 use wtp_core::varint::VarInt;
 
-/// An error code, its number, its name, and its debug output.
-type CodeRow = (ErrorCode, u64, &'static str, &'static str);
+/// An error code and its forms.
+struct CodeRow {
+    name: &'static str,
+    code: ErrorCode,
+    number: u64,
+    /// Its debug output.
+    debug: &'static str,
+}
 
 /// The error codes of HTTP/3 streams and connections, of QPACK, and of WebTransport.
 static CODES: [CodeRow; 15] = [
-    (
-        ErrorCode::Datagram,
-        51,
-        "DatagramError",
-        "DatagramError (code: 51)",
-    ),
-    (ErrorCode::NoError, 256, "NoError", "NoError (code: 256)"),
-    (
-        ErrorCode::StreamCreation,
-        259,
-        "StreamCreationError",
-        "StreamCreationError (code: 259)",
-    ),
-    (
-        ErrorCode::ClosedCriticalStream,
-        260,
-        "ClosedCriticalStreamError",
-        "ClosedCriticalStreamError (code: 260)",
-    ),
-    (
-        ErrorCode::FrameUnexpected,
-        261,
-        "FrameUnexpectedError",
-        "FrameUnexpectedError (code: 261)",
-    ),
-    (
-        ErrorCode::Frame,
-        262,
-        "FrameError",
-        "FrameError (code: 262)",
-    ),
-    (
-        ErrorCode::ExcessiveLoad,
-        263,
-        "ExcessiveLoad",
-        "ExcessiveLoad (code: 263)",
-    ),
-    (ErrorCode::Id, 264, "IdError", "IdError (code: 264)"),
-    (
-        ErrorCode::Settings,
-        265,
-        "SettingsError",
-        "SettingsError (code: 265)",
-    ),
-    (
-        ErrorCode::MissingSettings,
-        266,
-        "MissingSettingsError",
-        "MissingSettingsError (code: 266)",
-    ),
-    (
-        ErrorCode::RequestRejected,
-        267,
-        "RequestRejectedError",
-        "RequestRejectedError (code: 267)",
-    ),
-    (
-        ErrorCode::Message,
-        270,
-        "MessageError",
-        "MessageError (code: 270)",
-    ),
-    (
-        ErrorCode::Decompression,
-        512,
-        "DecompressionError",
-        "DecompressionError (code: 512)",
-    ),
-    (
-        ErrorCode::BufferedStreamRejected,
-        966049156,
-        "BufferedStreamRejected",
-        "BufferedStreamRejected (code: 966049156)",
-    ),
-    (
-        ErrorCode::SessionGone,
-        386759528,
-        "SessionGone",
-        "SessionGone (code: 386759528)",
-    ),
+    CodeRow {
+        name: "DatagramError",
+        code: ErrorCode::Datagram,
+        number: 51,
+        debug: "DatagramError (code: 51)",
+    },
+    CodeRow {
+        name: "NoError",
+        code: ErrorCode::NoError,
+        number: 256,
+        debug: "NoError (code: 256)",
+    },
+    CodeRow {
+        name: "StreamCreationError",
+        code: ErrorCode::StreamCreation,
+        number: 259,
+        debug: "StreamCreationError (code: 259)",
+    },
+    CodeRow {
+        name: "ClosedCriticalStreamError",
+        code: ErrorCode::ClosedCriticalStream,
+        number: 260,
+        debug: "ClosedCriticalStreamError (code: 260)",
+    },
+    CodeRow {
+        name: "FrameUnexpectedError",
+        code: ErrorCode::FrameUnexpected,
+        number: 261,
+        debug: "FrameUnexpectedError (code: 261)",
+    },
+    CodeRow {
+        name: "FrameError",
+        code: ErrorCode::Frame,
+        number: 262,
+        debug: "FrameError (code: 262)",
+    },
+    CodeRow {
+        name: "ExcessiveLoad",
+        code: ErrorCode::ExcessiveLoad,
+        number: 263,
+        debug: "ExcessiveLoad (code: 263)",
+    },
+    CodeRow {
+        name: "IdError",
+        code: ErrorCode::Id,
+        number: 264,
+        debug: "IdError (code: 264)",
+    },
+    CodeRow {
+        name: "SettingsError",
+        code: ErrorCode::Settings,
+        number: 265,
+        debug: "SettingsError (code: 265)",
+    },
+    CodeRow {
+        name: "MissingSettingsError",
+        code: ErrorCode::MissingSettings,
+        number: 266,
+        debug: "MissingSettingsError (code: 266)",
+    },
+    CodeRow {
+        name: "RequestRejectedError",
+        code: ErrorCode::RequestRejected,
+        number: 267,
+        debug: "RequestRejectedError (code: 267)",
+    },
+    CodeRow {
+        name: "MessageError",
+        code: ErrorCode::Message,
+        number: 270,
+        debug: "MessageError (code: 270)",
+    },
+    CodeRow {
+        name: "DecompressionError",
+        code: ErrorCode::Decompression,
+        number: 512,
+        debug: "DecompressionError (code: 512)",
+    },
+    CodeRow {
+        name: "BufferedStreamRejected",
+        code: ErrorCode::BufferedStreamRejected,
+        number: 966049156,
+        debug: "BufferedStreamRejected (code: 966049156)",
+    },
+    CodeRow {
+        name: "SessionGone",
+        code: ErrorCode::SessionGone,
+        number: 386759528,
+        debug: "SessionGone (code: 386759528)",
+    },
 ];
 
 /// Returns the constant of an error code.
@@ -115,12 +131,17 @@ fn constant_of(code: ErrorCode) -> VarInt {
 
 /// Asserts the number, the constant and the printed forms of an error code.
 fn check<R: Abort + AllocGlobal>(rt: &R, row: &CodeRow) {
-    let (code, number, name, text) = *row;
+    let CodeRow {
+        name,
+        code,
+        number,
+        debug,
+    } = *row;
     let constant = constant_of(code);
     let came = (code.to_code(), constant.into_inner());
-    same(rt, came, (constant, number), name);
+    assert_same(rt, came, (constant, number), name);
     displays(rt, &code, name);
-    debugs(rt, &code, text);
+    debugs(rt, &code, debug);
 }
 
 #[test]

@@ -1,5 +1,5 @@
 //! The Huffman code: the standard's examples and table, worked rows, and failed allocations.
-use crate::same::same;
+use crate::same::assert_same;
 use std::alloc::{AllocError, Global};
 use std::fmt::Display;
 use std::process::Abort;
@@ -31,7 +31,7 @@ fn decode_again(alloc: Global, coded: &[u8]) -> Result<Vec<u8>, HuffmanError> {
     }
 }
 
-/// What a row shows, a string, and its encoding, which no other string has.
+/// The case, a string, and its encoding, which no other string has.
 type TextRow = (&'static str, &'static [u8], &'static [u8]);
 
 /// Strings and their encodings.
@@ -75,7 +75,9 @@ static TEXTS: [TextRow; 18] = [
     (
         "C.6.3 set-cookie",
         b"foo=ASDJKHQKBZXOQWEOPIUAXQWEOIU; max-age=3600; version=1",
-        b"\x94\xe7\x82\x1d\xd7\xf2\xe6\xc7\xb3\x35\xdf\xdf\xcd\x5b\x39\x60\xd5\xaf\x27\x08\x7f\x36\x72\xc1\xab\x27\x0f\xb5\x29\x1f\x95\x87\x31\x60\x65\xc0\x03\xed\x4e\xe5\xb1\x06\x3d\x50\x07",
+        b"\x94\xe7\x82\x1d\xd7\xf2\xe6\xc7\xb3\x35\xdf\xdf\xcd\x5b\x39\x60\xd5\xaf\x27\x08\x7f\x36\
+        \x72\xc1\xab\x27\x0f\xb5\x29\x1f\x95\x87\x31\x60\x65\xc0\x03\xed\x4e\xe5\xb1\x06\x3d\x50\
+        \x07",
     ),
     ("empty is empty", b"", b""),
     ("a word of five bits and three ones", b"a", b"\x1f"),
@@ -91,10 +93,10 @@ fn assert_encoded<S: Display + Drop>(
     alloc: Global,
     text: &[u8],
     coded: &[u8],
-    shows: S,
+    case: S,
 ) {
     let came = encode_again(alloc, text).expect(rt, "memory");
-    same(rt, came.as_slice(), coded, shows);
+    assert_same(rt, came.as_slice(), coded, case);
 }
 
 /// Asserts that an encoding decodes to this string.
@@ -103,27 +105,27 @@ fn assert_decoded<S: Display + Drop>(
     alloc: Global,
     text: &[u8],
     coded: &[u8],
-    shows: S,
+    case: S,
 ) {
     let came = decode_again(alloc, coded).expect(rt, "a text");
-    same(rt, came.as_slice(), text, shows);
+    assert_same(rt, came.as_slice(), text, case);
 }
 
 /// Asserts both, and that `encoded_len` returns the length of the encoding.
-fn assert_measured(rt: &impl Abort, alloc: Global, text: &[u8], coded: &[u8], shows: &str) {
-    same(rt, encoded_len(text), Some(coded.len()), shows);
-    assert_encoded(rt, alloc, text, coded, shows);
-    assert_decoded(rt, alloc, text, coded, shows);
+fn assert_measured(rt: &impl Abort, alloc: Global, text: &[u8], coded: &[u8], case: &str) {
+    assert_same(rt, encoded_len(text), Some(coded.len()), case);
+    assert_encoded(rt, alloc, text, coded, case);
+    assert_decoded(rt, alloc, text, coded, case);
 }
 
 #[test]
 fn texts_and_their_strings_past_refused_memory(rt: HostRuntime) {
-    for (shows, text, coded) in &TEXTS {
-        assert_measured(&rt, rt.alloc(), text, coded, shows);
+    for (case, text, coded) in &TEXTS {
+        assert_measured(&rt, rt.alloc(), text, coded, case);
     }
 }
 
-/// What a row shows, and bytes that are not the encoding of any string.
+/// The case, and bytes that are not the encoding of any string.
 static REFUSED: [(&str, &[u8]); 6] = [
     ("a word and three zeros", b"\x00"),
     ("eight ones", b"\xff"),
@@ -134,19 +136,19 @@ static REFUSED: [(&str, &[u8]); 6] = [
 ];
 
 /// Asserts that bytes are rejected.
-fn assert_refused(rt: &impl Abort, alloc: Global, coded: &[u8], shows: &str) {
-    same(
+fn assert_refused(rt: &impl Abort, alloc: Global, coded: &[u8], case: &str) {
+    assert_same(
         rt,
         decode_again(alloc, coded).err(),
         Some(HuffmanError::Invalid),
-        shows,
+        case,
     );
 }
 
 #[test]
 fn refused_strings_past_refused_memory(rt: HostRuntime) {
-    for (shows, coded) in &REFUSED {
-        assert_refused(&rt, rt.alloc(), coded, shows);
+    for (case, coded) in &REFUSED {
+        assert_refused(&rt, rt.alloc(), coded, case);
     }
 }
 
@@ -155,20 +157,20 @@ fn refused_strings_past_refused_memory(rt: HostRuntime) {
 #[test]
 fn refused_memory(rt: HostRuntime) {
     let coded = b"\xff\xff\xff\xf3\xff\xff\xff\xcf\xff\xff\xff\x3f\xff\xff\xfc";
-    let shows = "four words of thirty bits";
-    assert_encoded(&rt, rt.alloc(), b"\n\n\n\n", coded, shows);
-    assert_decoded(&rt, rt.alloc(), b"\n\n\n\n", coded, shows);
+    let case = "four words of thirty bits";
+    assert_encoded(&rt, rt.alloc(), b"\n\n\n\n", coded, case);
+    assert_decoded(&rt, rt.alloc(), b"\n\n\n\n", coded, case);
 }
 
 /// Returns whether a byte is the encoding of a one-byte string. Otherwise it must be invalid.
 fn is_text(rt: &impl Abort, alloc: Global, byte: u8) -> bool {
     match decode_again(alloc, &[byte]) {
         Ok(text) => {
-            same(rt, text.len(), 1, byte);
+            assert_same(rt, text.len(), 1, byte);
             true
         }
         Err(e) => {
-            same(rt, e, HuffmanError::Invalid, byte);
+            assert_same(rt, e, HuffmanError::Invalid, byte);
             false
         }
     }
@@ -184,7 +186,7 @@ fn strings_of_one_byte_past_refused_memory(rt: HostRuntime) {
             refused = refused.wrapping_add(1);
         }
     }
-    same(&rt, (texts, refused), (74, 182), "all strings");
+    assert_same(&rt, (texts, refused), (74, 182), "all strings");
 }
 
 /// Asserts that two bytes are invalid, or are the encoding of the string that they decode to.
@@ -192,7 +194,7 @@ fn assert_only(rt: &impl Abort, alloc: Global, coded: [u8; 2]) {
     let number = u16::from_be_bytes(coded);
     match decode_again(alloc, &coded) {
         Ok(text) => assert_encoded(rt, alloc, text.as_slice(), &coded, number),
-        Err(e) => same(rt, e, HuffmanError::Invalid, number),
+        Err(e) => assert_same(rt, e, HuffmanError::Invalid, number),
     }
 }
 
@@ -313,14 +315,14 @@ fn words_past_refused_memory(rt: HostRuntime) {
         let few = assert_words(&rt, rt.alloc(), row, *bits, *first);
         symbols = symbols.wrapping_add(few);
     }
-    same(&rt, symbols, 256, "each symbol");
+    assert_same(&rt, symbols, 256, "each symbol");
 }
 
 #[test]
 fn end_of_the_string_past_refused_memory(rt: HostRuntime) {
     let (end, _) = pad(30, 0x3fff_ffff);
     let fault = decode_again(rt.alloc(), &end).err();
-    same(
+    assert_same(
         &rt,
         fault,
         Some(HuffmanError::Invalid),
@@ -339,7 +341,7 @@ fn text_of(alloc: Global, error: HuffmanError) -> Result<String, AllocError> {
 /// Asserts the text of an error.
 fn assert_shown(rt: &impl Abort, alloc: Global, error: HuffmanError, text: &str) {
     let came = text_of(alloc, error).expect(rt, "memory");
-    same(rt, came.as_str(), text, "a message");
+    assert_same(rt, came.as_str(), text, "a message");
 }
 
 /// Errors and their texts.

@@ -1,5 +1,5 @@
 //! Stream IDs, session IDs and status codes.
-use crate::same::same;
+use crate::same::assert_same;
 use crate::texts::{debugs, displays};
 use std::process::Abort;
 use std::str::FromStr;
@@ -27,7 +27,7 @@ fn check_stream<A: Abort>(rt: &A, number: u32, by_client: bool, both_ways: bool)
         (by_client, !by_client),
         u64::from(number),
     );
-    same(rt, (kind, local, stream.into_u64()), wanted, number);
+    assert_same(rt, (kind, local, stream.into_u64()), wanted, number);
 }
 
 #[test]
@@ -48,14 +48,14 @@ fn is_session<A: Abort>(rt: &A, number: u32, quarter: u64) -> bool {
             let varints = (SessionId::try_from_varint(varint), session.into_varint());
             let streams = (session.session_stream(), number % 4);
             let wanted = ((Ok(session), varint), (stream, 0));
-            same(rt, (varints, streams), wanted, number);
+            assert_same(rt, (varints, streams), wanted, number);
             let id = QStreamId::from_session_id(session);
             let came = (id.into_u64(), id.into_session_id(), id.into_stream_id());
-            same(rt, came, (quarter, session, stream), number);
+            assert_same(rt, came, (quarter, session, stream), number);
             true
         }
         Err(InvalidSessionId) => {
-            same(rt, number % 4 == 0, false, number);
+            assert_same(rt, number % 4 == 0, false, number);
             false
         }
     }
@@ -69,21 +69,21 @@ fn only_client_streams_both_ways_are_sessions(rt: HostRuntime) {
             quarter = quarter.wrapping_add(1);
         }
     }
-    same(&rt, quarter, 256, "sessions of 1024 streams");
+    assert_same(&rt, quarter, 256, "sessions of 1024 streams");
 }
 
 #[test]
 fn bounds_are_kept(rt: HostRuntime) {
     let came = (StreamId::MAX.into_varint(), QStreamId::MAX.into_u64());
     let wanted = (VarInt::MAX, 1152921504606846975);
-    same(&rt, came, wanted, "the largest stream and quarter");
+    assert_same(&rt, came, wanted, "the largest stream and quarter");
     let largest = QStreamId::try_from_varint(QStreamId::MAX.into_varint());
     let above = VarInt::from_u64_unchecked(1152921504606846976);
     let came = (largest, QStreamId::try_from_varint(above));
     let wanted = (Ok(QStreamId::MAX), Err(InvalidQStreamId));
-    same(&rt, came, wanted, "the largest quarter and one more");
+    assert_same(&rt, came, wanted, "the largest quarter and one more");
     let session = SessionId::from_session_stream_unchecked(StreamId::new(VarInt::from_u32(8)));
-    same(&rt, session.into_u64(), 8, "a session that is not checked");
+    assert_same(&rt, session.into_u64(), 8, "a session that is not checked");
 }
 
 /// Asserts whether a number is a valid status code, for each type of number.
@@ -92,7 +92,7 @@ fn check_status<A: Abort>(rt: &A, number: u32, is_good: bool) {
     let same_width = StatusCode::try_from(number);
     let wide = StatusCode::try_from(u64::from(number));
     let came = (code.is_ok(), &same_width, &wide);
-    same(rt, came, (is_good, &code, &code), number);
+    assert_same(rt, came, (is_good, &code, &code), number);
 }
 
 /// A number, and whether it is a valid status code.
@@ -111,21 +111,21 @@ fn status_codes_are_100_to_599(rt: HostRuntime) {
     }
     let came = (StatusCode::try_from(65736u64), StatusCode::try_from(200u8));
     let wanted = (Err(InvalidStatusCode), Ok(StatusCode::OK));
-    same(&rt, came, wanted, "65736 of 64 bits, 200 of 8");
+    assert_same(&rt, came, wanted, "65736 of 64 bits, 200 of 8");
     let came = (StatusCode::try_from(99u8), StatusCode::try_from(429u16));
     let wanted = (Err(InvalidStatusCode), Ok(StatusCode::TOO_MANY_REQUESTS));
-    same(&rt, came, wanted, "99 of 8 bits, 429 of 16");
+    assert_same(&rt, came, wanted, "99 of 8 bits, 429 of 16");
     let named = (
         StatusCode::FORBIDDEN.into_inner(),
         StatusCode::NOT_FOUND.into_inner(),
     );
     let bounds = (StatusCode::MIN.into_inner(), StatusCode::MAX.into_inner());
-    same(&rt, (named, bounds), ((403, 404), (100, 599)), "constants");
+    assert_same(&rt, (named, bounds), ((403, 404), (100, 599)), "constants");
     let came = (
         StatusCode::OK.is_successful(),
         StatusCode::NOT_FOUND.is_successful(),
     );
-    same(&rt, came, (true, false), "success");
+    assert_same(&rt, came, (true, false), "success");
 }
 
 /// Returns the status code in a text.
@@ -153,7 +153,7 @@ static TEXTS: [(&str, Option<u16>); 10] = [
 #[test]
 fn status_texts_are_read(rt: HostRuntime) {
     for (text, number) in &TEXTS {
-        same(&rt, status(text), *number, text);
+        assert_same(&rt, status(text), *number, text);
     }
 }
 

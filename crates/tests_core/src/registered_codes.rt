@@ -1,179 +1,194 @@
 //! Error codes with any number, and reserved numbers.
-use crate::same::same;
+use crate::same::assert_same;
 use crate::texts::displays;
 use std::process::Abort;
 use wtp_core::error::{Code, ErrorScope};
 use wtp_core::numbers::is_reserved;
 use wtp_core::varint::VarInt;
 
-/// A number, its name and description in the registry of HTTP/3 error codes (RFC 9114, section
-/// 11.2.3; RFC 9204, section 8.3; RFC 9297, section 5.2; WebTransport over HTTP/3), and its
-/// scope.
-type CodeRow = (u32, &'static str, &'static str, ErrorScope);
+/// A code in the registry of HTTP/3 error codes (RFC 9114, section 11.2.3; RFC 9204, section 8.3;
+/// RFC 9297, section 5.2; WebTransport over HTTP/3).
+struct CodeRow {
+    name: &'static str,
+    number: u32,
+    description: &'static str,
+    scope: ErrorScope,
+}
 
 /// All registered codes, and those of later drafts of WebTransport over HTTP/3.
 static REGISTERED: [CodeRow; 26] = [
-    (
-        0x0033,
-        "H3_DATAGRAM_ERROR",
-        "Datagram or Capsule Protocol parse error",
-        ErrorScope::Either,
-    ),
-    (0x0100, "H3_NO_ERROR", "No error", ErrorScope::Either),
-    (
-        0x0101,
-        "H3_GENERAL_PROTOCOL_ERROR",
-        "General protocol error",
-        ErrorScope::Either,
-    ),
-    (
-        0x0102,
-        "H3_INTERNAL_ERROR",
-        "Internal error",
-        ErrorScope::Either,
-    ),
-    (
-        0x0103,
-        "H3_STREAM_CREATION_ERROR",
-        "Stream creation error",
-        ErrorScope::Either,
-    ),
-    (
-        0x0104,
-        "H3_CLOSED_CRITICAL_STREAM",
-        "Critical stream was closed",
-        ErrorScope::Connection,
-    ),
-    (
-        0x0105,
-        "H3_FRAME_UNEXPECTED",
-        "Frame not permitted in the current state",
-        ErrorScope::Connection,
-    ),
-    (
-        0x0106,
-        "H3_FRAME_ERROR",
-        "Frame violated layout or size rules",
-        ErrorScope::Connection,
-    ),
-    (
-        0x0107,
-        "H3_EXCESSIVE_LOAD",
-        "Peer generating excessive load",
-        ErrorScope::Connection,
-    ),
-    (
-        0x0108,
-        "H3_ID_ERROR",
-        "An identifier was used incorrectly",
-        ErrorScope::Connection,
-    ),
-    (
-        0x0109,
-        "H3_SETTINGS_ERROR",
-        "SETTINGS frame contained invalid values",
-        ErrorScope::Connection,
-    ),
-    (
-        0x010a,
-        "H3_MISSING_SETTINGS",
-        "No SETTINGS frame received",
-        ErrorScope::Connection,
-    ),
-    (
-        0x010b,
-        "H3_REQUEST_REJECTED",
-        "Request not processed",
-        ErrorScope::Stream,
-    ),
-    (
-        0x010c,
-        "H3_REQUEST_CANCELLED",
-        "Data no longer needed",
-        ErrorScope::Stream,
-    ),
-    (
-        0x010d,
-        "H3_REQUEST_INCOMPLETE",
-        "Stream terminated early",
-        ErrorScope::Stream,
-    ),
-    (
-        0x010e,
-        "H3_MESSAGE_ERROR",
-        "Malformed message",
-        ErrorScope::Stream,
-    ),
-    (
-        0x010f,
-        "H3_CONNECT_ERROR",
-        "TCP reset or error on CONNECT request",
-        ErrorScope::Stream,
-    ),
-    (
-        0x0110,
-        "H3_VERSION_FALLBACK",
-        "Retry over HTTP/1.1",
-        ErrorScope::Either,
-    ),
-    (
-        0x0200,
-        "QPACK_DECOMPRESSION_FAILED",
-        "Decompression of a field section failed",
-        ErrorScope::Connection,
-    ),
-    (
-        0x0201,
-        "QPACK_ENCODER_STREAM_ERROR",
-        "Error on the encoder stream",
-        ErrorScope::Connection,
-    ),
-    (
-        0x0202,
-        "QPACK_DECODER_STREAM_ERROR",
-        "Error on the decoder stream",
-        ErrorScope::Connection,
-    ),
-    (
-        0x3994bd84,
-        "WEBTRANSPORT_BUFFERED_STREAM_REJECTED",
-        "WebTransport data stream rejected due to lack of associated session",
-        ErrorScope::Stream,
-    ),
-    (
-        0x170d7b68,
-        "WEBTRANSPORT_SESSION_GONE",
-        "WebTransport data stream aborted because the associated WebTransport session has been closed",
-        ErrorScope::Stream,
-    ),
-    (
-        0x45d4487,
-        "WT_FLOW_CONTROL_ERROR",
-        "WebTransport session aborted due to a flow control error",
-        ErrorScope::Stream,
-    ),
-    (
-        0x817b3dd,
-        "WT_ALPN_ERROR",
-        "WebTransport session aborted because application protocol negotiation failed",
-        ErrorScope::Stream,
-    ),
-    (
-        0x212c0d48,
-        "WT_REQUIREMENTS_NOT_MET",
-        "WebTransport session aborted because a requirement is not met",
-        ErrorScope::Stream,
-    ),
+    CodeRow {
+        name: "H3_DATAGRAM_ERROR",
+        number: 0x0033,
+        description: "Datagram or Capsule Protocol parse error",
+        scope: ErrorScope::Either,
+    },
+    CodeRow {
+        name: "H3_NO_ERROR",
+        number: 0x0100,
+        description: "No error",
+        scope: ErrorScope::Either,
+    },
+    CodeRow {
+        name: "H3_GENERAL_PROTOCOL_ERROR",
+        number: 0x0101,
+        description: "General protocol error",
+        scope: ErrorScope::Either,
+    },
+    CodeRow {
+        name: "H3_INTERNAL_ERROR",
+        number: 0x0102,
+        description: "Internal error",
+        scope: ErrorScope::Either,
+    },
+    CodeRow {
+        name: "H3_STREAM_CREATION_ERROR",
+        number: 0x0103,
+        description: "Stream creation error",
+        scope: ErrorScope::Either,
+    },
+    CodeRow {
+        name: "H3_CLOSED_CRITICAL_STREAM",
+        number: 0x0104,
+        description: "Critical stream was closed",
+        scope: ErrorScope::Connection,
+    },
+    CodeRow {
+        name: "H3_FRAME_UNEXPECTED",
+        number: 0x0105,
+        description: "Frame not permitted in the current state",
+        scope: ErrorScope::Connection,
+    },
+    CodeRow {
+        name: "H3_FRAME_ERROR",
+        number: 0x0106,
+        description: "Frame violated layout or size rules",
+        scope: ErrorScope::Connection,
+    },
+    CodeRow {
+        name: "H3_EXCESSIVE_LOAD",
+        number: 0x0107,
+        description: "Peer generating excessive load",
+        scope: ErrorScope::Connection,
+    },
+    CodeRow {
+        name: "H3_ID_ERROR",
+        number: 0x0108,
+        description: "An identifier was used incorrectly",
+        scope: ErrorScope::Connection,
+    },
+    CodeRow {
+        name: "H3_SETTINGS_ERROR",
+        number: 0x0109,
+        description: "SETTINGS frame contained invalid values",
+        scope: ErrorScope::Connection,
+    },
+    CodeRow {
+        name: "H3_MISSING_SETTINGS",
+        number: 0x010a,
+        description: "No SETTINGS frame received",
+        scope: ErrorScope::Connection,
+    },
+    CodeRow {
+        name: "H3_REQUEST_REJECTED",
+        number: 0x010b,
+        description: "Request not processed",
+        scope: ErrorScope::Stream,
+    },
+    CodeRow {
+        name: "H3_REQUEST_CANCELLED",
+        number: 0x010c,
+        description: "Data no longer needed",
+        scope: ErrorScope::Stream,
+    },
+    CodeRow {
+        name: "H3_REQUEST_INCOMPLETE",
+        number: 0x010d,
+        description: "Stream terminated early",
+        scope: ErrorScope::Stream,
+    },
+    CodeRow {
+        name: "H3_MESSAGE_ERROR",
+        number: 0x010e,
+        description: "Malformed message",
+        scope: ErrorScope::Stream,
+    },
+    CodeRow {
+        name: "H3_CONNECT_ERROR",
+        number: 0x010f,
+        description: "TCP reset or error on CONNECT request",
+        scope: ErrorScope::Stream,
+    },
+    CodeRow {
+        name: "H3_VERSION_FALLBACK",
+        number: 0x0110,
+        description: "Retry over HTTP/1.1",
+        scope: ErrorScope::Either,
+    },
+    CodeRow {
+        name: "QPACK_DECOMPRESSION_FAILED",
+        number: 0x0200,
+        description: "Decompression of a field section failed",
+        scope: ErrorScope::Connection,
+    },
+    CodeRow {
+        name: "QPACK_ENCODER_STREAM_ERROR",
+        number: 0x0201,
+        description: "Error on the encoder stream",
+        scope: ErrorScope::Connection,
+    },
+    CodeRow {
+        name: "QPACK_DECODER_STREAM_ERROR",
+        number: 0x0202,
+        description: "Error on the decoder stream",
+        scope: ErrorScope::Connection,
+    },
+    CodeRow {
+        name: "WEBTRANSPORT_BUFFERED_STREAM_REJECTED",
+        number: 0x3994bd84,
+        description: "WebTransport data stream rejected due to lack of associated session",
+        scope: ErrorScope::Stream,
+    },
+    CodeRow {
+        name: "WEBTRANSPORT_SESSION_GONE",
+        number: 0x170d7b68,
+        description: "WebTransport data stream aborted because the associated WebTransport session \
+        has been closed",
+        scope: ErrorScope::Stream,
+    },
+    CodeRow {
+        name: "WT_FLOW_CONTROL_ERROR",
+        number: 0x45d4487,
+        description: "WebTransport session aborted due to a flow control error",
+        scope: ErrorScope::Stream,
+    },
+    CodeRow {
+        name: "WT_ALPN_ERROR",
+        number: 0x817b3dd,
+        description: "WebTransport session aborted because application protocol negotiation failed",
+        scope: ErrorScope::Stream,
+    },
+    CodeRow {
+        name: "WT_REQUIREMENTS_NOT_MET",
+        number: 0x212c0d48,
+        description: "WebTransport session aborted because a requirement is not met",
+        scope: ErrorScope::Stream,
+    },
 ];
 
 /// Asserts the properties of a registered code.
 fn check<R: Abort + AllocGlobal>(rt: &R, row: &CodeRow) {
-    let (number, name, description, scope) = *row;
+    let CodeRow {
+        name,
+        number,
+        description,
+        scope,
+    } = *row;
     let code = Code::new(VarInt::from_u32(number));
-    same(rt, code.number(), VarInt::from_u32(number), name);
-    same(rt, code.name(), Some(name), name);
-    same(rt, code.description(), Some(description), name);
-    same(rt, code.scope(), scope, name);
+    assert_same(rt, code.number(), VarInt::from_u32(number), name);
+    assert_same(rt, code.name(), Some(name), name);
+    assert_same(rt, code.description(), Some(description), name);
+    assert_same(rt, code.scope(), scope, name);
     displays(rt, &code, name);
 }
 
@@ -202,9 +217,9 @@ static OTHERS: [OtherRow; 7] = [
 fn check_other<R: Abort + AllocGlobal>(rt: &R, row: &OtherRow) {
     let (number, text) = *row;
     let code = Code::new(VarInt::from_u32(number));
-    same(rt, code.name(), None, text);
-    same(rt, code.description(), None, text);
-    same(rt, code.scope(), ErrorScope::Either, text);
+    assert_same(rt, code.name(), None, text);
+    assert_same(rt, code.description(), None, text);
+    assert_same(rt, code.scope(), ErrorScope::Either, text);
     displays(rt, &code, text);
 }
 
@@ -215,7 +230,7 @@ fn other_numbers_are_codes(rt: HostRuntime) {
     }
 }
 
-/// A number, whether it is reserved, and what the row shows. The reserved numbers are 0x21, 0x40,
+/// A number, whether it is reserved, and the case. The reserved numbers are 0x21, 0x40,
 /// .. through 0x3ffffffffffffffe (RFC 9114, sections 7.2.8 and 11.2.1).
 type ReservedRow = (u64, bool, &'static str);
 
@@ -232,8 +247,8 @@ static RESERVED: [ReservedRow; 8] = [
 
 #[test]
 fn reserved_numbers(rt: HostRuntime) {
-    for (number, reserved, shows) in &RESERVED {
+    for (number, reserved, case) in &RESERVED {
         let came = VarInt::try_from_u64(*number).map(is_reserved);
-        same(&rt, came, Ok(*reserved), shows);
+        assert_same(&rt, came, Ok(*reserved), case);
     }
 }

@@ -1,5 +1,5 @@
 //! Writers: vectors, and writers into a slice.
-use crate::same::same;
+use crate::same::assert_same;
 use crate::texts::displays;
 use std::process::Abort;
 use wtp_core::bytes::{BufferWriter, BytesWriter, PutError};
@@ -26,14 +26,14 @@ fn check_slice<R: Abort>(rt: &R, varint: VarInt, bytes: &[u8], left: usize) {
     let outcome = writer.put_varint(varint);
     let sizes = (writer.offset(), writer.capacity());
     let came = (outcome, writer.buffer_written(), sizes);
-    same(rt, came, (Ok(()), bytes, (bytes.len(), left)), varint);
+    assert_same(rt, came, (Ok(()), bytes, (bytes.len(), left)), varint);
 }
 
 /// Asserts that a number is written as these bytes into a vector.
 fn check_vector<R: Abort + AllocGlobal>(rt: &R, varint: VarInt, bytes: &[u8]) {
     let mut vector = Vec::new(rt.alloc());
     let outcome = vector.put_varint(varint);
-    same(rt, (outcome, vector.as_slice()), (Ok(()), bytes), varint);
+    assert_same(rt, (outcome, vector.as_slice()), (Ok(()), bytes), varint);
 }
 
 /// Asserts that a number is written as these bytes, with `left` bytes left of nine.
@@ -64,22 +64,22 @@ fn too_little_room_changes_nothing(rt: HostRuntime) {
     let bytes = writer.put_bytes(&[1, 2, 3, 4]);
     let came = (number, bytes, writer.offset());
     let wanted = (TOO_LITTLE, TOO_LITTLE, 0);
-    same(&rt, came, wanted, "four bytes into three");
+    assert_same(&rt, came, wanted, "four bytes into three");
     let two = writer.put_bytes(&[1, 2]);
     let bytes = writer.put_bytes(&[3, 4]);
     let came = (two, bytes, writer.buffer_written());
     let wanted = (Ok(()), TOO_LITTLE, [1, 2].as_slice());
-    same(&rt, came, wanted, "two, and two into one");
-    same(&rt, buffer.as_slice(), [1, 2, 7].as_slice(), "the buffer");
+    assert_same(&rt, came, wanted, "two, and two into one");
+    assert_same(&rt, buffer.as_slice(), [1, 2, 7].as_slice(), "the buffer");
     let mut nothing = [];
     let mut writer = BufferWriter::new(&mut nothing);
     let number = writer.put_varint(VarInt::MIN);
-    same(&rt, number, TOO_LITTLE, "one into none");
+    assert_same(&rt, number, TOO_LITTLE, "one into none");
 }
 
 /// Asserts that a failed write changed nothing.
 fn check_refusal<R: Abort>(rt: &R, error: PutError, came: &[u8], wanted: &[u8], word: &str) {
-    same(rt, (error, came), (PutError::Memory, wanted), word);
+    assert_same(rt, (error, came), (PutError::Memory, wanted), word);
 }
 
 #[test]
@@ -98,7 +98,7 @@ fn refused_memory_changes_nothing(rt: HostRuntime) {
     }
     let came = (vector.len(), vector.get(..4), vector.get(4..));
     let wanted = (68, Some(encoding), Some(text));
-    same(&rt, came, wanted, "both");
+    assert_same(&rt, came, wanted, "both");
 }
 
 #[test]
