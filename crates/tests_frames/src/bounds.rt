@@ -1,6 +1,6 @@
 //! The bounds: long sections, long payloads, and frames without content.
 use crate::reading::summary_of;
-use crate::same::same;
+use crate::same::assert_same;
 use std::process::Abort;
 use wtp_core::varint::VarInt;
 use wtp_frames::endpoint::{Endpoint, Side};
@@ -28,7 +28,7 @@ fn large_sections_are_skipped(rt: HostRuntime) {
             found.data,
             found.faults,
         );
-        same(
+        assert_same(
             &rt,
             came,
             (1, 1, 4, 2, 0),
@@ -41,7 +41,7 @@ fn large_sections_are_skipped(rt: HostRuntime) {
         Step::TooLarge(size, consumed) => (size, consumed),
         _ => (0, 0),
     };
-    same(
+    assert_same(
         &rt,
         came,
         (0x3fff_ffff, 5),
@@ -60,7 +60,7 @@ fn check_idle<R: Abort>(rt: &R, frame: &[u8], times: u32, wanted: bool) {
             _ => {}
         }
     }
-    same(rt, is_fault, wanted, times);
+    assert_same(rt, is_fault, wanted, times);
 }
 
 #[test]
@@ -84,7 +84,7 @@ fn a_fault_comes_once(rt: HostRuntime) {
         _ => 0,
     };
     let third = reader.finish(0).is_ok();
-    same(
+    assert_same(
         &rt,
         (first, second, third),
         (true, 3, true),
@@ -101,10 +101,10 @@ fn payloads_of_any_length_are_read(rt: HostRuntime) {
         Step::Data(from, to) => (from, to),
         _ => (0, 0),
     };
-    same(&rt, came, (9, 11), "DATA of 2^62 - 1 bytes");
+    assert_same(&rt, came, (9, 11), "DATA of 2^62 - 1 bytes");
     let open = reader.finish(0).is_err();
-    same(&rt, open, true, "an end within it");
-    same(
+    assert_same(&rt, open, true, "an end within it");
+    assert_same(
         &rt,
         VarInt::MAX.into_inner(),
         0x3fff_ffff_ffff_ffff,

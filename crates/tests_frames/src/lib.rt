@@ -5,10 +5,12 @@
 #[cfg(test)]
 mod bounds;
 #[cfg(test)]
+mod control_streams;
+#[cfg(test)]
+mod messages;
+#[cfg(test)]
 mod reading;
 #[cfg(test)]
 mod recorded;
-#[cfg(test)]
-mod rows;
 #[cfg(test)]
 mod same;

@@ -1,5 +1,5 @@
 //! Reading a row piece by piece.
-use crate::same::same;
+use crate::same::assert_same;
 use std::process::Abort;
 use wtp_core::error::ErrorScope;
 use wtp_frames::endpoint::{Endpoint, Side};
@@ -9,7 +9,7 @@ use wtp_frames::reader::{Reader, Step};
 /// A stream, and what is found on it.
 pub(crate) struct Row {
     /// What it shows.
-    pub(crate) shows: &'static str,
+    pub(crate) case: &'static str,
     /// Whether it is a control stream; otherwise a message.
     pub(crate) control: bool,
     /// Whether a server reads it; otherwise a client.
@@ -29,6 +29,33 @@ pub(crate) struct Row {
     /// Whether the error ends the connection.
     pub(crate) ends_connection: bool,
 }
+
+/// A request that a server reads to its end, with WebTransport disabled: the base of other rows.
+pub(crate) const REQUEST: Row = Row {
+    case: "no frame",
+    control: false,
+    server: true,
+    webtransport: false,
+    bytes: &[],
+    frames: 0,
+    whole: 0,
+    data: 0,
+    code: 0,
+    ends_connection: false,
+};
+
+/// The same for a message with an error of the connection.
+pub(crate) const REFUSED_REQUEST: Row = Row {
+    ends_connection: true,
+    ..REQUEST
+};
+
+/// The same for a client's control stream, whose end is an error of the connection too.
+pub(crate) const CONTROL: Row = Row {
+    control: true,
+    ends_connection: true,
+    ..REQUEST
+};
 
 /// What was found on a stream.
 #[derive(Clone, Copy, Debug, Drop, PartialEq, Eq)]
@@ -137,5 +164,15 @@ pub(crate) fn check_row<R: Abort>(rt: &R, row: &Row, size: usize) {
         code: row.code,
         ends_connection: row.ends_connection,
     };
-    same(rt, summary_of(reader, row.bytes, size), wanted, row.shows);
+    assert_same(rt, summary_of(reader, row.bytes, size), wanted, row.case);
+}
+
+/// Asserts what is found on the stream of each row, of which up to 64 bytes come at a time.
+pub(crate) fn check_rows<R: Abort>(rt: &R, rows: &[Row]) {
+    for row in rows {
+        for size in 1..10usize {
+            check_row(rt, row, size);
+        }
+        check_row(rt, row, 64);
+    }
 }
