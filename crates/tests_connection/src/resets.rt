@@ -1,7 +1,7 @@
 //! Streams that are reset by the peer, or that the application reads no further (RFC 9114, sections
 //! 4.1 and 6.2.1; RFC 9204, section 4.2).
 use crate::reading::{connection_of, read};
-use crate::same::same;
+use crate::same::assert_same;
 use std::process::Abort;
 use wtp_connection::connection::{Connection, Known};
 use wtp_connection::stream::Stream;
@@ -11,7 +11,7 @@ use wtp_frames::fault::Fault;
 /// A stream that is reset.
 struct Row {
     /// What it shows.
-    shows: &'static str,
+    case: &'static str,
     /// Its ID.
     id: u64,
     /// The bytes that came before.
@@ -23,67 +23,67 @@ struct Row {
 /// Streams of a client, by what they are for.
 static ROWS: [Row; 11] = [
     Row {
-        shows: "a control stream before SETTINGS (6.2.1)",
+        case: "a control stream before SETTINGS (6.2.1)",
         id: 2,
         bytes: &[0x00],
         code: 0x104,
     },
     Row {
-        shows: "a control stream after SETTINGS (6.2.1)",
+        case: "a control stream after SETTINGS (6.2.1)",
         id: 2,
         bytes: &[0x00, 0x04, 0x00],
         code: 0x104,
     },
     Row {
-        shows: "a control stream within a frame (6.2.1)",
+        case: "a control stream within a frame (6.2.1)",
         id: 2,
         bytes: &[0x00, 0x04, 0x00, 0x21, 0x05, 0x00],
         code: 0x104,
     },
     Row {
-        shows: "an encoder stream (RFC 9204, 4.2)",
+        case: "an encoder stream (RFC 9204, 4.2)",
         id: 2,
         bytes: &[0x02],
         code: 0x104,
     },
     Row {
-        shows: "a decoder stream (RFC 9204, 4.2)",
+        case: "a decoder stream (RFC 9204, 4.2)",
         id: 2,
         bytes: &[0x03],
         code: 0x104,
     },
     Row {
-        shows: "a stream before its type (6.2)",
+        case: "a stream before its type (6.2)",
         id: 2,
         bytes: &[],
         code: 0,
     },
     Row {
-        shows: "a stream of an unknown type (6.2)",
+        case: "a stream of an unknown type (6.2)",
         id: 2,
         bytes: &[0x21, 0x00],
         code: 0,
     },
     Row {
-        shows: "a request before its first byte (4.1)",
+        case: "a request before its first byte (4.1)",
         id: 0,
         bytes: &[],
         code: 0,
     },
     Row {
-        shows: "a request within an unknown frame (4.1)",
+        case: "a request within an unknown frame (4.1)",
         id: 0,
         bytes: &[0x21, 0x05, 0x00],
         code: 0,
     },
     Row {
-        shows: "a request within DATA (7.1)",
+        case: "a request within DATA (7.1)",
         id: 0,
         bytes: &[0x01, 0x01, 0xd1, 0x00, 0x05, 0x61],
         code: 0,
     },
     Row {
-        shows: "a stream of a session that was not joined",
+        case: "a stream of a session that was not joined",
         id: 2,
         bytes: &[0x40, 0x54, 0x00, 0x61],
         code: 0,
@@ -113,18 +113,18 @@ fn check_row<R: Abort>(rt: &R, row: &Row) {
     let mut stream = Stream::of_peer(row.id);
     read(&mut connection, &mut stream, row.bytes, 64, false);
     let came = error_of(connection.reset(&mut stream));
-    same(rt, came, (row.code, row.code != 0), row.shows);
+    assert_same(rt, came, (row.code, row.code != 0), row.case);
     let again = error_of(connection.reset(&mut stream));
-    same(rt, again, (0, false), row.shows);
+    assert_same(rt, again, (0, false), row.case);
     let later = read(&mut connection, &mut stream, &[0x00, 0x01], 64, true);
-    same(
+    assert_same(
         rt,
         (later.data, later.ends, later.left),
         (0, 0, 0),
-        row.shows,
+        row.case,
     );
     let other = if row.code == 0 { 1 } else { 0 };
-    same(rt, data_of_another(&mut connection), other, row.shows);
+    assert_same(rt, data_of_another(&mut connection), other, row.case);
 }
 
 /// Asserts that a critical stream is read after it was abandoned, and that others are not.
@@ -133,9 +133,9 @@ fn check_abandoned<R: Abort>(rt: &R, row: &Row) {
     let mut stream = Stream::of_peer(row.id);
     read(&mut connection, &mut stream, row.bytes, 64, false);
     connection.abandon(&mut stream);
-    same(rt, data_of_another(&mut connection), 1, row.shows);
+    assert_same(rt, data_of_another(&mut connection), 1, row.case);
     let came = error_of(connection.reset(&mut stream));
-    same(rt, came, (row.code, row.code != 0), row.shows);
+    assert_same(rt, came, (row.code, row.code != 0), row.case);
 }
 
 #[test]
@@ -161,14 +161,14 @@ fn a_stream_that_waits_gives_its_place_back(rt: HostRuntime) {
     for turn in 0..40u64 {
         let mut first = waiting(&mut connection, 6);
         let mut second = waiting(&mut connection, 10);
-        same(&rt, connection.waiting(), 2, turn);
+        assert_same(&rt, connection.waiting(), 2, turn);
         let came = error_of(connection.reset(&mut first));
-        same(&rt, (came, connection.waiting()), ((0, false), 1), turn);
+        assert_same(&rt, (came, connection.waiting()), ((0, false), 1), turn);
         connection.abandon(&mut second);
-        same(&rt, connection.waiting(), 0, turn);
+        assert_same(&rt, connection.waiting(), 0, turn);
         connection.abandon(&mut second);
         connection.reset(&mut first);
-        same(&rt, connection.waiting(), 0, turn);
-        same(&rt, second.waits().is_none(), true, turn);
+        assert_same(&rt, connection.waiting(), 0, turn);
+        assert_same(&rt, second.waits().is_none(), true, turn);
     }
 }

@@ -1,7 +1,7 @@
 //! Streams of sessions, which may come before their session (WebTransport over HTTP/3, "Buffering
 //! Incoming Streams and Datagrams").
 use crate::reading::{connection_of, read};
-use crate::same::same;
+use crate::same::assert_same;
 use std::process::Abort;
 use wtp_connection::connection::{Connection, Known};
 use wtp_connection::stream::Stream;
@@ -33,7 +33,7 @@ fn a_stream_waits_for_its_session(rt: HostRuntime) {
     let (mut stream, left) = early(&mut connection, 6);
     let waits = code_of(connection.join(&mut stream, Known::Coming));
     let again = read(&mut connection, &mut stream, &[1, 2, 3], 64, true);
-    same(
+    assert_same(
         &rt,
         (left, waits, again.left, again.ends),
         (3, 0, 3, 0),
@@ -41,13 +41,13 @@ fn a_stream_waits_for_its_session(rt: HostRuntime) {
     );
     let open = code_of(connection.join(&mut stream, Known::Open));
     let given = read(&mut connection, &mut stream, &[1, 2, 3], 64, true);
-    same(
+    assert_same(
         &rt,
         (open, given.data, given.ends),
         (0, 3, 1),
         "they come once it is open",
     );
-    same(&rt, connection.waiting(), 0, "it waits no longer");
+    assert_same(&rt, connection.waiting(), 0, "it waits no longer");
 }
 
 /// Asserts the error of a stream whose session is known in this way, before or after it waited.
@@ -58,9 +58,9 @@ fn check_known<R: Abort>(rt: &R, known: Known, code: u64, waits: bool) {
         connection.join(&mut stream, Known::Coming);
     }
     let came = code_of(connection.join(&mut stream, known));
-    same(rt, (came, connection.waiting()), (code, 0), code);
+    assert_same(rt, (came, connection.waiting()), (code, 0), code);
     let later = read(&mut connection, &mut stream, &[1, 2, 3], 64, true);
-    same(rt, (later.data, later.ends, later.left), (0, 0, 0), code);
+    assert_same(rt, (later.data, later.ends, later.left), (0, 0, 0), code);
 }
 
 #[test]
@@ -81,7 +81,7 @@ fn sixteen_streams_wait(rt: HostRuntime) {
     }
     let (mut stream, _left) = early(&mut connection, 6);
     let came = code_of(connection.join(&mut stream, Known::Coming));
-    same(
+    assert_same(
         &rt,
         (came, connection.waiting()),
         (0x3994bd84, 16),

@@ -1,13 +1,13 @@
 //! What streams of the peer are for, and what ends them (RFC 9114, sections 6.1 to 6.2.3).
 use crate::reading::{NOTHING, Summary, connection_of, read};
-use crate::same::same;
+use crate::same::assert_same;
 use std::process::Abort;
 use wtp_connection::stream::Stream;
 
 /// A first stream, which is read whole and stays open, and a second one.
 struct Row {
     /// What the second stream shows.
-    shows: &'static str,
+    case: &'static str,
     /// Whether a server reads it; otherwise a client.
     server: bool,
     /// Whether the own settings enable WebTransport.
@@ -30,255 +30,164 @@ struct Row {
     left: usize,
 }
 
+/// A stream that a client opens in one direction and that stays open, after a control stream, with
+/// WebTransport disabled: the base of the rows.
+const OPEN: Row = Row {
+    case: "no byte",
+    server: true,
+    webtransport: false,
+    before: &[0x00],
+    id: 6,
+    bytes: &[],
+    fin: false,
+    frames: 0,
+    data: 0,
+    code: 0,
+    left: 0,
+};
+
 /// Streams by the rule that they keep or violate. All of these errors but those of a request that
 /// is not complete end the connection.
 static ROWS: [Row; 19] = [
     Row {
-        shows: "a second control stream (6.2.1)",
-        server: true,
-        webtransport: false,
-        before: &[0x00],
-        id: 6,
+        case: "a second control stream (6.2.1)",
         bytes: &[0x00],
-        fin: false,
-        frames: 0,
-        data: 0,
         code: 0x103,
-        left: 0,
+        ..OPEN
     },
     Row {
-        shows: "a second encoder stream (RFC 9204, 4.2)",
-        server: true,
-        webtransport: false,
+        case: "a second encoder stream (RFC 9204, 4.2)",
         before: &[0x02],
-        id: 6,
         bytes: &[0x02],
-        fin: false,
-        frames: 0,
-        data: 0,
         code: 0x103,
-        left: 0,
+        ..OPEN
     },
     Row {
-        shows: "a second decoder stream (RFC 9204, 4.2)",
-        server: true,
-        webtransport: false,
+        case: "a second decoder stream (RFC 9204, 4.2)",
         before: &[0x03],
-        id: 6,
         bytes: &[0x03],
-        fin: false,
-        frames: 0,
-        data: 0,
         code: 0x103,
-        left: 0,
+        ..OPEN
     },
     Row {
-        shows: "a push stream to a server (6.2.2)",
-        server: true,
-        webtransport: false,
-        before: &[0x00],
-        id: 6,
+        case: "a push stream to a server (6.2.2)",
         bytes: &[0x01, 0x00],
-        fin: false,
-        frames: 0,
-        data: 0,
         code: 0x103,
-        left: 0,
+        ..OPEN
     },
     Row {
-        shows: "a push stream to a client that allows none (4.6)",
+        case: "a push stream to a client that allows none (4.6)",
         server: false,
-        webtransport: false,
-        before: &[0x00],
         id: 7,
         bytes: &[0x01, 0x00],
-        fin: false,
-        frames: 0,
-        data: 0,
         code: 0x108,
-        left: 0,
+        ..OPEN
     },
     Row {
-        shows: "an unknown type (6.2)",
-        server: true,
-        webtransport: false,
-        before: &[0x00],
-        id: 6,
+        case: "an unknown type (6.2)",
         bytes: &[0x40, 0x7e, 0x77],
         fin: true,
-        frames: 0,
-        data: 0,
-        code: 0x0,
-        left: 0,
+        ..OPEN
     },
     Row {
-        shows: "0x54 without WebTransport (9)",
-        server: true,
-        webtransport: false,
-        before: &[0x00],
-        id: 6,
+        case: "0x54 without WebTransport (9)",
         bytes: &[0x40, 0x54, 0x00, 0x61],
         fin: true,
-        frames: 0,
-        data: 0,
-        code: 0x0,
-        left: 0,
+        ..OPEN
     },
     Row {
-        shows: "0x54 of a session that cannot be",
-        server: true,
+        case: "0x54 of a session that cannot be",
         webtransport: true,
-        before: &[0x00],
-        id: 6,
         bytes: &[0x40, 0x54, 0x01],
-        fin: false,
-        frames: 0,
-        data: 0,
         code: 0x108,
-        left: 0,
+        ..OPEN
     },
     Row {
-        shows: "0x54 of a session that was not joined",
-        server: true,
+        case: "0x54 of a session that was not joined",
         webtransport: true,
-        before: &[0x00],
-        id: 6,
         bytes: &[0x40, 0x54, 0x04, 0x61, 0x62, 0x63],
-        fin: false,
-        frames: 0,
-        data: 0,
-        code: 0x0,
         left: 3,
+        ..OPEN
     },
     Row {
-        shows: "a stream that ends before its type (6.2)",
-        server: true,
+        case: "a stream that ends before its type (6.2)",
         webtransport: true,
-        before: &[0x00],
-        id: 6,
         bytes: &[0x40],
         fin: true,
-        frames: 0,
-        data: 0,
-        code: 0x0,
-        left: 0,
+        ..OPEN
     },
     Row {
-        shows: "a stream that ends before its session",
-        server: true,
+        case: "a stream that ends before its session",
         webtransport: true,
-        before: &[0x00],
-        id: 6,
         bytes: &[0x40, 0x54],
         fin: true,
-        frames: 0,
-        data: 0,
-        code: 0x0,
-        left: 0,
+        ..OPEN
     },
     Row {
-        shows: "a stream without bytes (6.2)",
-        server: true,
-        webtransport: false,
-        before: &[0x00],
-        id: 6,
+        case: "a stream without bytes (6.2)",
         bytes: &[],
         fin: true,
-        frames: 0,
-        data: 0,
-        code: 0x0,
-        left: 0,
+        ..OPEN
     },
     Row {
-        shows: "a control stream that ends (6.2.1)",
-        server: true,
-        webtransport: false,
+        case: "a control stream that ends (6.2.1)",
         before: &[0x02],
-        id: 6,
         bytes: &[0x00, 0x04, 0x00],
         fin: true,
         frames: 1,
-        data: 0,
         code: 0x104,
-        left: 0,
+        ..OPEN
     },
     Row {
-        shows: "a decoder stream that ends (RFC 9204, 4.2)",
-        server: true,
-        webtransport: false,
+        case: "a decoder stream that ends (RFC 9204, 4.2)",
         before: &[0x02],
-        id: 6,
         bytes: &[0x03],
         fin: true,
-        frames: 0,
-        data: 0,
         code: 0x104,
-        left: 0,
+        ..OPEN
     },
     Row {
-        shows: "a request",
-        server: true,
+        case: "a request",
         webtransport: true,
-        before: &[0x00],
         id: 4,
         bytes: &[0x01, 0x01, 0xd1, 0x00, 0x01, 0x61],
         fin: true,
         frames: 1,
         data: 1,
-        code: 0x0,
-        left: 0,
+        ..OPEN
     },
     Row {
-        shows: "a request without bytes (4.1)",
-        server: true,
-        webtransport: false,
-        before: &[0x00],
+        case: "a request without bytes (4.1)",
         id: 4,
         bytes: &[],
         fin: true,
-        frames: 0,
-        data: 0,
         code: 0x10d,
-        left: 0,
+        ..OPEN
     },
     Row {
-        shows: "a request that ends in its first number (7.1)",
-        server: true,
-        webtransport: false,
-        before: &[0x00],
+        case: "a request that ends in its first number (7.1)",
         id: 4,
         bytes: &[0x40],
         fin: true,
-        frames: 0,
-        data: 0,
         code: 0x106,
-        left: 0,
+        ..OPEN
     },
     Row {
-        shows: "a stream of a server without WebTransport (6.1)",
+        case: "a stream of a server without WebTransport (6.1)",
         server: false,
-        webtransport: false,
-        before: &[0x00],
         id: 1,
         bytes: &[0x40, 0x41, 0x00],
-        fin: false,
-        frames: 0,
-        data: 0,
         code: 0x103,
-        left: 0,
+        ..OPEN
     },
     Row {
-        shows: "another stream of a server with WebTransport",
+        case: "another stream of a server with WebTransport",
         server: false,
         webtransport: true,
-        before: &[0x00],
         id: 1,
         bytes: &[0x01, 0x00],
-        fin: false,
-        frames: 0,
-        data: 0,
         code: 0x103,
-        left: 0,
+        ..OPEN
     },
 ];
 
@@ -301,7 +210,7 @@ fn check_row<R: Abort>(rt: &R, row: &Row, size: usize) {
         ends_connection: row.code != 0 && row.code != 0x10d,
         left: row.left,
     };
-    same(rt, came, wanted, row.shows);
+    assert_same(rt, came, wanted, row.case);
 }
 
 #[test]
@@ -334,17 +243,17 @@ fn an_error_of_the_connection_ends_all_streams(rt: HostRuntime) {
         false,
     );
     let third = read(&mut connection, &mut request, &[0x00, 0x02, 1, 2], 64, true);
-    same(
+    assert_same(
         &rt,
         (first.frames, first.left),
         (1, 1),
         "a request before it",
     );
-    same(
+    assert_same(
         &rt,
         (second.code, second.ends_connection),
         (0x10a, true),
         "the error",
     );
-    same(&rt, third, NOTHING, "the request after it");
+    assert_same(&rt, third, NOTHING, "the request after it");
 }
