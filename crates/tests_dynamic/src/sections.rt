@@ -6,7 +6,7 @@ use std::process::Abort;
 use wtp_dynamic::answer::{Answer, decode};
 use wtp_dynamic::table::DynamicTable;
 
-/// What a row shows, a section, and what is answered.
+/// The case, a section, and what is answered.
 type Row = (&'static str, &'static [u8], Wanted);
 
 /// What is answered for a section.
@@ -239,18 +239,18 @@ static EMPTY: [Row; 3] = [
 
 /// Asserts what is answered for a section.
 fn assert_row(rt: &impl Abort, alloc: Global, table: &DynamicTable, row: &Row) {
-    let (shows, section, wanted) = row;
+    let (case, section, wanted) = row;
     match wanted {
-        Wanted::Fields(fields) => assert_fields(rt, alloc, table, section, fields, shows),
+        Wanted::Fields(fields) => assert_fields(rt, alloc, table, section, fields, case),
         Wanted::Blocked(count) => match decode(alloc, table, section) {
-            Ok(Answer::Blocked(required)) => assert!(rt; required == *count, "{shows}: {required}"),
-            _ => panic!(rt; "{shows}: not blocked"),
+            Ok(Answer::Blocked(required)) => assert!(rt; required == *count, "{case}: {required}"),
+            _ => panic!(rt; "{case}: not blocked"),
         },
         Wanted::Fault(name) => match decode(alloc, table, section) {
-            Ok(_) => panic!(rt; "{shows}: no fault"),
+            Ok(_) => panic!(rt; "{case}: no fault"),
             Err(fault) => {
                 let fault = section_fault(fault);
-                assert!(rt; fault == *name, "{shows}: {fault}");
+                assert!(rt; fault == *name, "{case}: {fault}");
             }
         },
     }

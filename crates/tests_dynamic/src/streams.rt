@@ -59,17 +59,17 @@ pub(crate) fn read_cut(
 }
 
 /// Asserts that the entries of the table, the oldest first, are these.
-pub(crate) fn assert_table(rt: &impl Abort, table: &DynamicTable, wanted: &[Field], shows: &str) {
+pub(crate) fn assert_table(rt: &impl Abort, table: &DynamicTable, wanted: &[Field], case: &str) {
     let count = table.insert_count();
-    assert!(rt; count >= wanted.len() as u64, "{shows}: {count} entries");
+    assert!(rt; count >= wanted.len() as u64, "{case}: {count} entries");
     let first = count - wanted.len() as u64;
     if first > 0 {
-        assert!(rt; table.get(first - 1).is_none(), "{shows}: one entry more");
+        assert!(rt; table.get(first - 1).is_none(), "{case}: one entry more");
     }
     for (k, entry) in wanted.iter().enumerate() {
         assert!(rt;
             table.get(first + k as u64) == Some(*entry),
-            "{shows}: entry {k}"
+            "{case}: entry {k}"
         );
     }
 }
@@ -90,16 +90,13 @@ pub(crate) fn assert_fields(
     table: &DynamicTable,
     section: &[u8],
     wanted: &[Field],
-    shows: &str,
+    case: &str,
 ) {
     match decode(alloc, table, section) {
         Ok(Answer::Fields(fields)) => {
-            assert!(rt;
-                are_fields(fields.as_slice(), wanted),
-                "{shows}: its fields"
-            );
+            assert!(rt; are_fields(fields.as_slice(), wanted), "{case}: its fields");
         }
-        Ok(Answer::Blocked(count)) => panic!(rt; "{shows}: blocked to {count}"),
-        Err(fault) => panic!(rt; "{shows}: {}", section_fault(fault)),
+        Ok(Answer::Blocked(count)) => panic!(rt; "{case}: blocked to {count}"),
+        Err(fault) => panic!(rt; "{case}: {}", section_fault(fault)),
     }
 }
