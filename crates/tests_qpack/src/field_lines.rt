@@ -1,6 +1,6 @@
 //! Field lines read one by one, as bytes: worked rows, recordings, errors, and failed
 //! allocations.
-use crate::same::same;
+use crate::same::assert_same;
 use std::alloc::Global;
 use std::process::Abort;
 use wtp_qpack::qpack::{DecodingError, FieldBuffer, FieldLine, FieldLines};
@@ -41,14 +41,15 @@ fn take(
     }
 }
 
-/// What a row shows, a section, its fields up to the first error or the end, and the result after
-/// them.
-type Row = (
-    &'static str,
-    &'static [u8],
-    &'static [(&'static [u8], &'static [u8])],
-    Taken,
-);
+/// A section, and the lines that are read from it.
+struct Row {
+    case: &'static str,
+    section: &'static [u8],
+    /// The fields up to the first error or the end.
+    fields: &'static [(&'static [u8], &'static [u8])],
+    /// The result after them.
+    end: Taken,
+}
 
 /// Asserts that the next lines are the fields of a row, and that the result after the last line
 /// repeats. `may_lack` says whether allocation may fail for a line.
@@ -59,20 +60,21 @@ fn assert_lines(
     row: &Row,
     may_lack: bool,
 ) {
-    let (shows, _, wanted, end) = row;
-    for (name, value) in *wanted {
+    for (name, value) in row.fields {
         let taken = take(lines, room, name, value, may_lack);
-        same(rt, taken, Some(Ok(true)), shows);
+        assert_same(rt, taken, Some(Ok(true)), row.case);
     }
-    same(rt, take(lines, room, b"", b"", may_lack), *end, shows);
-    same(rt, take(lines, room, b"", b"", may_lack), *end, shows);
+    for _ in 0..2 {
+        let taken = take(lines, room, b"", b"", may_lack);
+        assert_same(rt, taken, row.end, row.case);
+    }
 }
 
 /// Asserts that a section has the lines of its row.
 fn assert_section(rt: &impl Abort, room: &mut FieldBuffer, row: &Row, may_lack: bool) {
-    match FieldLines::new(row.1) {
+    match FieldLines::new(row.section) {
         Ok(mut lines) => assert_lines(rt, &mut lines, room, row, may_lack),
-        Err(_) => panic!(rt; "{}: no prefix", row.0),
+        Err(_) => panic!(rt; "{}: no prefix", row.case),
     }
 }
 
@@ -86,62 +88,74 @@ fn assert_rows(rt: &impl Abort, alloc: Global, rows: &[Row]) {
 /// Valid sections. Huffman strings are those of RFC 7541, appendix C.4; indices are those of RFC
 /// 9204, appendix A.
 static LINES: [Row; 11] = [
-    ("no line", b"\x00\x00", &[], None),
-    (
-        "a static entry",
-        b"\x00\x00\xd9",
-        &[(b":status", b"200")],
-        None,
-    ),
-    (
-        "a static name",
-        b"\x00\x00\x50\x0bexample.com",
-        &[(b":authority", b"example.com")],
-        None,
-    ),
-    (
-        "a name and a value",
-        b"\x00\x00\x23abc\x03def",
-        &[(b"abc", b"def")],
-        None,
-    ),
-    ("empty texts", b"\x00\x00\x20\x00", &[(b"", b"")], None),
-    (
-        "both texts in the Huffman code",
-        b"\x00\x00\x2f\x01\x25\xa8\x49\xe9\x5b\xa9\x7d\x7f\x89\x25\xa8\x49\xe9\x5b\xb8\xe8\xb4\xbf",
-        &[(b"custom-key", b"custom-value")],
-        None,
-    ),
-    (
-        "a Huffman text, a shorter one, and none",
-        b"\x00\x00\x23abc\x89\x25\xa8\x49\xe9\x5b\xb8\xe8\xb4\xbf\x2a\x64\x02\x01d\x23abc\x01e",
-        &[(b"abc", b"custom-value"), (b"302", b"d"), (b"abc", b"e")],
-        None,
-    ),
-    (
-        "a name again, with another value",
-        b"\x00\x00\x23abc\x01b\xd9\x23abc\x01a",
-        &[(b"abc", b"b"), (b":status", b"200"), (b"abc", b"a")],
-        None,
-    ),
-    (
-        "the same line again",
-        b"\x00\x00\xd9\xd9",
-        &[(b":status", b"200"), (b":status", b"200")],
-        None,
-    ),
-    (
-        "a value that is not UTF-8",
-        b"\x00\x00\x23abc\x01\xff",
-        &[(b"abc", b"\xff")],
-        None,
-    ),
-    (
-        "a name that is not UTF-8",
-        b"\x00\x00\x21\xff\x01a",
-        &[(b"\xff", b"a")],
-        None,
-    ),
+    Row {
+        case: "no line",
+        section: b"\x00\x00",
+        fields: &[],
+        end: None,
+    },
+    Row {
+        case: "a static entry",
+        section: b"\x00\x00\xd9",
+        fields: &[(b":status", b"200")],
+        end: None,
+    },
+    Row {
+        case: "a static name",
+        section: b"\x00\x00\x50\x0bexample.com",
+        fields: &[(b":authority", b"example.com")],
+        end: None,
+    },
+    Row {
+        case: "a name and a value",
+        section: b"\x00\x00\x23abc\x03def",
+        fields: &[(b"abc", b"def")],
+        end: None,
+    },
+    Row {
+        case: "empty texts",
+        section: b"\x00\x00\x20\x00",
+        fields: &[(b"", b"")],
+        end: None,
+    },
+    Row {
+        case: "both texts in the Huffman code",
+        section: b"\x00\x00\x2f\x01\x25\xa8\x49\xe9\x5b\xa9\x7d\x7f\x89\x25\xa8\x49\xe9\x5b\xb8\
+        \xe8\xb4\xbf",
+        fields: &[(b"custom-key", b"custom-value")],
+        end: None,
+    },
+    Row {
+        case: "a Huffman text, a shorter one, and none",
+        section: b"\x00\x00\x23abc\x89\x25\xa8\x49\xe9\x5b\xb8\xe8\xb4\xbf\x2a\x64\x02\x01d\x23abc\
+        \x01e",
+        fields: &[(b"abc", b"custom-value"), (b"302", b"d"), (b"abc", b"e")],
+        end: None,
+    },
+    Row {
+        case: "a name again, with another value",
+        section: b"\x00\x00\x23abc\x01b\xd9\x23abc\x01a",
+        fields: &[(b"abc", b"b"), (b":status", b"200"), (b"abc", b"a")],
+        end: None,
+    },
+    Row {
+        case: "the same line again",
+        section: b"\x00\x00\xd9\xd9",
+        fields: &[(b":status", b"200"), (b":status", b"200")],
+        end: None,
+    },
+    Row {
+        case: "a value that is not UTF-8",
+        section: b"\x00\x00\x23abc\x01\xff",
+        fields: &[(b"abc", b"\xff")],
+        end: None,
+    },
+    Row {
+        case: "a name that is not UTF-8",
+        section: b"\x00\x00\x21\xff\x01a",
+        fields: &[(b"\xff", b"a")],
+        end: None,
+    },
 ];
 
 #[test]
@@ -151,66 +165,66 @@ fn lines_past_refused_memory(rt: HostRuntime) {
 
 /// Sections with an error.
 static FAULTS: [Row; 10] = [
-    (
-        "a value is cut",
-        b"\x00\x00\xd9\x23abc\x05de",
-        &[(b":status", b"200")],
-        Some(Err(DecodingError::UnexpectedFin)),
-    ),
-    (
-        "a name is cut",
-        b"\x00\x00\x23ab",
-        &[],
-        Some(Err(DecodingError::UnexpectedFin)),
-    ),
-    (
-        "a name that is not UTF-8, and a cut value",
-        b"\x00\x00\x21\xff\x02a",
-        &[],
-        Some(Err(DecodingError::UnexpectedFin)),
-    ),
-    (
-        "an entry of the dynamic table, and no more is read",
-        b"\x00\x00\xd9\xbf",
-        &[(b":status", b"200")],
-        Some(Err(DecodingError::DynamicNotSupported)),
-    ),
-    (
-        "a name of the dynamic table",
-        b"\x00\x00\x40\x01a",
-        &[],
-        Some(Err(DecodingError::DynamicNotSupported)),
-    ),
-    (
-        "an entry past the base",
-        b"\x00\x00\x10",
-        &[],
-        Some(Err(DecodingError::DynamicNotSupported)),
-    ),
-    (
-        "a name past the base",
-        b"\x00\x00\x00\x01a",
-        &[],
-        Some(Err(DecodingError::DynamicNotSupported)),
-    ),
-    (
-        "index 99",
-        b"\x00\x00\xff\x24",
-        &[],
-        Some(Err(DecodingError::IndexNotfound)),
-    ),
-    (
-        "padding of zeros",
-        b"\x00\x00\x23abc\x81\x00",
-        &[],
-        Some(Err(DecodingError::InvalidString)),
-    ),
-    (
-        "a length above 2^64",
-        b"\x00\x00\x23abc\x7f\xff\xff\xff\xff\xff\xff\xff\xff\xff\xff\x01",
-        &[],
-        Some(Err(DecodingError::IntegerOverflow)),
-    ),
+    Row {
+        case: "a value is cut",
+        section: b"\x00\x00\xd9\x23abc\x05de",
+        fields: &[(b":status", b"200")],
+        end: Some(Err(DecodingError::UnexpectedFin)),
+    },
+    Row {
+        case: "a name is cut",
+        section: b"\x00\x00\x23ab",
+        fields: &[],
+        end: Some(Err(DecodingError::UnexpectedFin)),
+    },
+    Row {
+        case: "a name that is not UTF-8, and a cut value",
+        section: b"\x00\x00\x21\xff\x02a",
+        fields: &[],
+        end: Some(Err(DecodingError::UnexpectedFin)),
+    },
+    Row {
+        case: "an entry of the dynamic table, and no more is read",
+        section: b"\x00\x00\xd9\xbf",
+        fields: &[(b":status", b"200")],
+        end: Some(Err(DecodingError::DynamicNotSupported)),
+    },
+    Row {
+        case: "a name of the dynamic table",
+        section: b"\x00\x00\x40\x01a",
+        fields: &[],
+        end: Some(Err(DecodingError::DynamicNotSupported)),
+    },
+    Row {
+        case: "an entry past the base",
+        section: b"\x00\x00\x10",
+        fields: &[],
+        end: Some(Err(DecodingError::DynamicNotSupported)),
+    },
+    Row {
+        case: "a name past the base",
+        section: b"\x00\x00\x00\x01a",
+        fields: &[],
+        end: Some(Err(DecodingError::DynamicNotSupported)),
+    },
+    Row {
+        case: "index 99",
+        section: b"\x00\x00\xff\x24",
+        fields: &[],
+        end: Some(Err(DecodingError::IndexNotfound)),
+    },
+    Row {
+        case: "padding of zeros",
+        section: b"\x00\x00\x23abc\x81\x00",
+        fields: &[],
+        end: Some(Err(DecodingError::InvalidString)),
+    },
+    Row {
+        case: "a length above 2^64",
+        section: b"\x00\x00\x23abc\x7f\xff\xff\xff\xff\xff\xff\xff\xff\xff\xff\x01",
+        fields: &[],
+        end: Some(Err(DecodingError::IntegerOverflow)),
+    },
 ];
 
 #[test]
@@ -222,24 +236,24 @@ fn faults_of_lines_past_refused_memory(rt: HostRuntime) {
 /// found without allocation: lengths of Huffman strings past the end (RFC 7541, section 5.2), and
 /// an index outside the static table before a Huffman value (RFC 9204, appendix A).
 static FAULTS_BEFORE_TEXTS: [Row; 3] = [
-    (
-        "a Huffman name is cut",
-        b"\x00\x00\x2b\x25",
-        &[],
-        Some(Err(DecodingError::UnexpectedFin)),
-    ),
-    (
-        "a Huffman value is cut",
-        b"\x00\x00\x23abc\x85\x25",
-        &[],
-        Some(Err(DecodingError::UnexpectedFin)),
-    ),
-    (
-        "index 99, and a Huffman value",
-        b"\x00\x00\x5f\x54\x82\x64\x02",
-        &[],
-        Some(Err(DecodingError::IndexNotfound)),
-    ),
+    Row {
+        case: "a Huffman name is cut",
+        section: b"\x00\x00\x2b\x25",
+        fields: &[],
+        end: Some(Err(DecodingError::UnexpectedFin)),
+    },
+    Row {
+        case: "a Huffman value is cut",
+        section: b"\x00\x00\x23abc\x85\x25",
+        fields: &[],
+        end: Some(Err(DecodingError::UnexpectedFin)),
+    },
+    Row {
+        case: "index 99, and a Huffman value",
+        section: b"\x00\x00\x5f\x54\x82\x64\x02",
+        fields: &[],
+        end: Some(Err(DecodingError::IndexNotfound)),
+    },
 ];
 
 /// A buffer without memory is enough for these rows, even if allocation fails.
@@ -267,19 +281,21 @@ static PREFIXES: [(&str, &[u8], DecodingError); 4] = [
 
 #[test]
 fn prefixes_have_faults(rt: HostRuntime) {
-    for (shows, section, fault) in &PREFIXES {
-        same(&rt, FieldLines::new(section).err(), Some(*fault), shows);
+    for (case, section, fault) in &PREFIXES {
+        assert_same(&rt, FieldLines::new(section).err(), Some(*fault), case);
     }
 }
 
 /// Sections that nghttp3 1.8.0 sent, and the fields that it was given, including repeated fields
 /// and an ISO 8859-1 value.
 static RECORDED: [Row; 3] = [
-    (
-        "a response with two cookies",
+    Row {
+        case: "a response with two cookies",
+
         // recorded: nghttp3static-s2c-8.bin, bytes 2 to 24
-        b"\x00\x00\xd9\x5f\x4d\x84\xae\xc3\xc6\x5f\xf4\x5e\x82\x1c\x01\x5e\x03\x62\x3d\x32\xff\x14",
-        &[
+        section: b"\x00\x00\xd9\x5f\x4d\x84\xae\xc3\xc6\x5f\xf4\x5e\x82\x1c\x01\x5e\x03\x62\x3d\x32\xff\
+        \x14",
+        fields: &[
             (b":status", b"200"),
             (b"server", b"probe"),
             (b"content-type", b"text/html; charset=utf-8"),
@@ -287,13 +303,18 @@ static RECORDED: [Row; 3] = [
             (b"set-cookie", b"b=2"),
             (b"alt-svc", b"clear"),
         ],
-        None,
-    ),
-    (
-        "a request with two cookies",
+        end: None,
+    },
+    Row {
+        case: "a request with two cookies",
+
         // recorded: nghttp3static-c2s-24.bin, bytes 3 to 90
-        b"\x00\x00\xcf\x2f\x00\xb9\x5d\x87\x49\xc8\x7a\x3f\x89\xf0\x58\xd3\x60\xea\x45\x67\xb1\x3f\xd7\x50\x88\x2f\x91\xd3\x5d\x05\x5c\x87\xa7\xc1\x55\x82\x1c\x01\x55\x03\x62\x3d\x32\x2f\x09\xf0\x95\x87\xdc\x66\xa0\x71\xd0\x55\xab\xb0\xe9\x39\x0f\x42\x3f\x03\x22\x61\x22\x2f\x09\xf0\x95\x87\xdc\x66\xa0\x71\xd0\x55\xab\xb0\xe9\x39\x0f\x42\x3f\x03\x22\x62\x22",
-        &[
+        section: b"\x00\x00\xcf\x2f\x00\xb9\x5d\x87\x49\xc8\x7a\x3f\x89\xf0\x58\xd3\x60\xea\x45\x67\xb1\
+        \x3f\xd7\x50\x88\x2f\x91\xd3\x5d\x05\x5c\x87\xa7\xc1\x55\x82\x1c\x01\x55\x03\x62\x3d\
+        \x32\x2f\x09\xf0\x95\x87\xdc\x66\xa0\x71\xd0\x55\xab\xb0\xe9\x39\x0f\x42\x3f\x03\x22\
+        \x61\x22\x2f\x09\xf0\x95\x87\xdc\x66\xa0\x71\xd0\x55\xab\xb0\xe9\x39\x0f\x42\x3f\x03\
+        \x22\x62\x22",
+        fields: &[
             (b":method", b"CONNECT"),
             (b":protocol", b"webtransport"),
             (b":scheme", b"https"),
@@ -304,13 +325,18 @@ static RECORDED: [Row; 3] = [
             (b"wt-available-protocols", b"\"a\""),
             (b"wt-available-protocols", b"\"b\""),
         ],
-        None,
-    ),
-    (
-        "a request with a value that is not UTF-8",
+        end: None,
+    },
+    Row {
+        case: "a request with a value that is not UTF-8",
+
         // recorded: nghttp3static-c2s-16.bin, bytes 3 to 107
-        b"\x00\x00\xcf\x2f\x00\xb9\x5d\x87\x49\xc8\x7a\x3f\x89\xf0\x58\xd3\x60\xea\x45\x67\xb1\x3f\xd7\x50\x8c\x2f\x91\xd3\x5d\x05\x5c\x87\xa6\xe3\x4d\x32\xcf\x51\x86\x63\xc2\x7f\xce\xd0\x07\x5f\x4b\x8e\x9d\x29\xad\x17\x18\x60\xbe\x47\x4d\x74\x15\x72\x1e\x9f\x5f\x50\x87\xae\xc3\xc6\x56\x02\xb8\x3f\x7f\x45\x89\xba\x51\xd8\x5b\x14\x41\x49\x61\x53\x2e\xf2\xb1\x69\xad\x3e\xbf\x00\x2d\xf2\xb5\x03\x49\xaa\x05\x77\xf6\x72\x6c\x64",
-        &[
+        section: b"\x00\x00\xcf\x2f\x00\xb9\x5d\x87\x49\xc8\x7a\x3f\x89\xf0\x58\xd3\x60\xea\x45\x67\xb1\
+        \x3f\xd7\x50\x8c\x2f\x91\xd3\x5d\x05\x5c\x87\xa6\xe3\x4d\x32\xcf\x51\x86\x63\xc2\x7f\
+        \xce\xd0\x07\x5f\x4b\x8e\x9d\x29\xad\x17\x18\x60\xbe\x47\x4d\x74\x15\x72\x1e\x9f\x5f\
+        \x50\x87\xae\xc3\xc6\x56\x02\xb8\x3f\x7f\x45\x89\xba\x51\xd8\x5b\x14\x41\x49\x61\x53\
+        \x2e\xf2\xb1\x69\xad\x3e\xbf\x00\x2d\xf2\xb5\x03\x49\xaa\x05\x77\xf6\x72\x6c\x64",
+        fields: &[
             (b":method", b"CONNECT"),
             (b":protocol", b"webtransport"),
             (b":scheme", b"https"),
@@ -322,8 +348,8 @@ static RECORDED: [Row; 3] = [
             (b"x-empty", b""),
             (b"x-latin", b"w\xf6rld"),
         ],
-        None,
-    ),
+        end: None,
+    },
 ];
 
 /// Returns the rows of `RECORDED`. Each use of a table is proved, so the tests share this one.

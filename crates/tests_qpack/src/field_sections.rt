@@ -1,6 +1,6 @@
 //! Worked rows of field sections: encoding, decoding, round trips, error texts, and failed
 //! allocations.
-use crate::same::same;
+use crate::same::assert_same;
 use crate::sections::{
     FaultRow, assert_come_back, assert_decoded, assert_encoded, assert_faults, assert_map,
 };
@@ -13,7 +13,7 @@ use wtp_qpack::qpack::{Decoder, DecodingError, Encoder};
 /// Pairs of names and values.
 type Pairs = &'static [(&'static str, &'static str)];
 
-/// What a row shows, pairs, and their encoded section.
+/// The case, pairs, and their encoded section.
 type EncodedRow = (&'static str, Pairs, &'static [u8]);
 
 /// Pairs that are encoded.
@@ -67,18 +67,19 @@ static ENCODED: [EncodedRow; 13] = [
             (":protocol", "webtransport"),
             (":scheme", "https"),
         ],
-        b"\x00\x00\x50\x88\x2f\x91\xd3\x5d\x05\x5c\x87\xa7\xcf\xc1\x2f\x00\xb9\x5d\x87\x49\xc8\x7a\x3f\x89\xf0\x58\xd3\x60\xea\x45\x67\xb1\x3f\x5f\x07\x84\x9d\x29\xad\x1f",
+        b"\x00\x00\x50\x88\x2f\x91\xd3\x5d\x05\x5c\x87\xa7\xcf\xc1\x2f\x00\xb9\x5d\x87\x49\xc8\x7a\
+        \x3f\x89\xf0\x58\xd3\x60\xea\x45\x67\xb1\x3f\x5f\x07\x84\x9d\x29\xad\x1f",
     ),
 ];
 
 #[test]
 fn encoded_fields_past_refused_memory(rt: HostRuntime) {
-    for (shows, pairs, section) in &ENCODED {
-        assert_encoded(&rt, rt.alloc(), pairs, section, shows);
+    for (case, pairs, section) in &ENCODED {
+        assert_encoded(&rt, rt.alloc(), pairs, section, case);
     }
 }
 
-/// What a row shows, a section, and its fields in order of their names.
+/// The case, a section, and its fields in order of their names.
 type DecodedRow = (&'static str, &'static [u8], Pairs);
 
 /// Sections that are decoded.
@@ -112,12 +113,14 @@ static DECODED: [DecodedRow; 13] = [
     ),
     (
         "twenty groups of zeros and a last one",
-        b"\x00\x00\xff\x80\x80\x80\x80\x80\x80\x80\x80\x80\x80\x80\x80\x80\x80\x80\x80\x80\x80\x80\x80\x00",
+        b"\x00\x00\xff\x80\x80\x80\x80\x80\x80\x80\x80\x80\x80\x80\x80\x80\x80\x80\x80\x80\x80\x80\
+        \x80\x00",
         &[(":status", "100")],
     ),
     (
         "a request, by name",
-        b"\x00\x00\x50\x88\x2f\x91\xd3\x5d\x05\x5c\x87\xa7\xcf\xc1\x2f\x00\xb9\x5d\x87\x49\xc8\x7a\x3f\x89\xf0\x58\xd3\x60\xea\x45\x67\xb1\x3f\x5f\x07\x84\x9d\x29\xad\x1f",
+        b"\x00\x00\x50\x88\x2f\x91\xd3\x5d\x05\x5c\x87\xa7\xcf\xc1\x2f\x00\xb9\x5d\x87\x49\xc8\x7a\
+        \x3f\x89\xf0\x58\xd3\x60\xea\x45\x67\xb1\x3f\x5f\x07\x84\x9d\x29\xad\x1f",
         &[
             (":authority", "example.com"),
             (":method", "CONNECT"),
@@ -154,8 +157,8 @@ static DECODED: [DecodedRow; 13] = [
 
 #[test]
 fn decoded_sections_past_refused_memory(rt: HostRuntime) {
-    for (shows, section, fields) in &DECODED {
-        assert_decoded(&rt, rt.alloc(), section, fields, *shows);
+    for (case, section, fields) in &DECODED {
+        assert_decoded(&rt, rt.alloc(), section, fields, *case);
     }
 }
 
@@ -284,7 +287,7 @@ fn refused_sections_past_refused_memory(rt: HostRuntime) {
     assert_faults(&rt, rt.alloc(), &REFUSED);
 }
 
-/// What a row shows, pairs, and the fields after encoding and decoding, in order of their names.
+/// The case, pairs, and the fields after encoding and decoding, in order of their names.
 type SentRow = (&'static str, Pairs, Pairs);
 
 /// Pairs that are encoded and decoded.
@@ -312,8 +315,8 @@ static SENT: [SentRow; 3] = [
 
 #[test]
 fn encoded_fields_come_back_past_refused_memory(rt: HostRuntime) {
-    for (shows, pairs, fields) in &SENT {
-        assert_come_back(&rt, rt.alloc(), pairs, fields, *shows);
+    for (case, pairs, fields) in &SENT {
+        assert_come_back(&rt, rt.alloc(), pairs, fields, *case);
     }
 }
 
@@ -351,7 +354,7 @@ fn decoders_and_encoders_are_copied(rt: HostRuntime) {
     let (decoder, encoder) = (Decoder, Encoder);
     let copies = (decoder, encoder);
     let text = format!(in rt.alloc(); "{decoder:?} {encoder:?} {copies:?}").expect(&rt, "memory");
-    same(
+    assert_same(
         &rt,
         text.as_str(),
         "Decoder Encoder (Decoder, Encoder)",

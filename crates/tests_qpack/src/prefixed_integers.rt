@@ -1,6 +1,6 @@
 //! Prefixed integers (RFC 7541, section 5.1) in sections, as lengths and indices, and string
 //! literals of these lengths.
-use crate::same::same;
+use crate::same::assert_same;
 use crate::sections::{FaultRow, assert_come_back, assert_decoded, assert_faults, encode, join};
 use std::alloc::Global;
 use std::process::Abort;
@@ -21,88 +21,109 @@ fn letters_of(letter: u8) -> &'static [u8] {
 fn text_of(rt: &impl Abort, letter: u8, len: usize) -> &'static str {
     let letters = letters_of(letter).get(..len).unwrap_or(b"");
     let text = str::from_utf8(letters).unwrap_or("");
-    same(rt, text.len(), len, "letters");
+    assert_same(rt, text.len(), len, "letters");
     text
 }
 
-/// What a row shows, the letter and length of a name, those of a value, the first bytes of the
-/// section of this field, and the length of the section.
-type WrittenRow = (&'static str, (u8, usize), (u8, usize), &'static [u8], usize);
+/// A field, and its section.
+struct WrittenRow {
+    case: &'static str,
+    /// The letter and length of the name.
+    name: (u8, usize),
+    /// The letter and length of the value.
+    value: (u8, usize),
+    /// The first bytes of the section.
+    front: &'static [u8],
+    /// The length of the section.
+    len: usize,
+}
 
 /// Integers that are encoded.
 static WRITTEN: [WrittenRow; 12] = [
-    ("no letter", (b'Z', 0), (b'Z', 0), b"\x00\x00\x20\x00", 4),
-    ("a name of 6", (b'Z', 6), (b'Z', 0), b"\x00\x00\x26Z", 10),
-    (
-        "all ones and an empty group",
-        (b'Z', 7),
-        (b'Z', 0),
-        b"\x00\x00\x27\x00Z",
-        12,
-    ),
-    (
-        "a name of 10",
-        (b'Z', 10),
-        (b'Z', 0),
-        b"\x00\x00\x27\x03Z",
-        15,
-    ),
-    (
-        "a name of 31",
-        (b'Z', 31),
-        (b'Z', 0),
-        b"\x00\x00\x27\x18Z",
-        36,
-    ),
-    (
-        "a name of 1337",
-        (b'Z', 1337),
-        (b'Z', 0),
-        b"\x00\x00\x27\xb2\x0aZ",
-        1343,
-    ),
-    (
-        "a code of 1337",
-        (b'a', 2139),
-        (b'Z', 0),
-        b"\x00\x00\x2f\xb2\x0a\x18",
-        1343,
-    ),
-    (
-        "a value of 10",
-        (b'Z', 0),
-        (b'Z', 10),
-        b"\x00\x00\x20\x0aZ",
-        14,
-    ),
-    (
-        "a value of 31",
-        (b'Z', 0),
-        (b'Z', 31),
-        b"\x00\x00\x20\x1fZ",
-        35,
-    ),
-    (
-        "a value of 127",
-        (b'Z', 0),
-        (b'Z', 127),
-        b"\x00\x00\x20\x7f\x00Z",
-        132,
-    ),
-    (
-        "a value of 1337",
-        (b'Z', 0),
-        (b'Z', 1337),
-        b"\x00\x00\x20\x7f\xba\x09Z",
-        1343,
-    ),
-    (
-        "a value whose code has 1337",
-        (b'Z', 0),
-        (b'a', 2139),
-        b"\x00\x00\x20\xff\xba\x09\x18",
-        1343,
-    ),
+    WrittenRow {
+        case: "no letter",
+        name: (b'Z', 0),
+        value: (b'Z', 0),
+        front: b"\x00\x00\x20\x00",
+        len: 4,
+    },
+    WrittenRow {
+        case: "a name of 6",
+        name: (b'Z', 6),
+        value: (b'Z', 0),
+        front: b"\x00\x00\x26Z",
+        len: 10,
+    },
+    WrittenRow {
+        case: "all ones and an empty group",
+        name: (b'Z', 7),
+        value: (b'Z', 0),
+        front: b"\x00\x00\x27\x00Z",
+        len: 12,
+    },
+    WrittenRow {
+        case: "a name of 10",
+        name: (b'Z', 10),
+        value: (b'Z', 0),
+        front: b"\x00\x00\x27\x03Z",
+        len: 15,
+    },
+    WrittenRow {
+        case: "a name of 31",
+        name: (b'Z', 31),
+        value: (b'Z', 0),
+        front: b"\x00\x00\x27\x18Z",
+        len: 36,
+    },
+    WrittenRow {
+        case: "a name of 1337",
+        name: (b'Z', 1337),
+        value: (b'Z', 0),
+        front: b"\x00\x00\x27\xb2\x0aZ",
+        len: 1343,
+    },
+    WrittenRow {
+        case: "a code of 1337",
+        name: (b'a', 2139),
+        value: (b'Z', 0),
+        front: b"\x00\x00\x2f\xb2\x0a\x18",
+        len: 1343,
+    },
+    WrittenRow {
+        case: "a value of 10",
+        name: (b'Z', 0),
+        value: (b'Z', 10),
+        front: b"\x00\x00\x20\x0aZ",
+        len: 14,
+    },
+    WrittenRow {
+        case: "a value of 31",
+        name: (b'Z', 0),
+        value: (b'Z', 31),
+        front: b"\x00\x00\x20\x1fZ",
+        len: 35,
+    },
+    WrittenRow {
+        case: "a value of 127",
+        name: (b'Z', 0),
+        value: (b'Z', 127),
+        front: b"\x00\x00\x20\x7f\x00Z",
+        len: 132,
+    },
+    WrittenRow {
+        case: "a value of 1337",
+        name: (b'Z', 0),
+        value: (b'Z', 1337),
+        front: b"\x00\x00\x20\x7f\xba\x09Z",
+        len: 1343,
+    },
+    WrittenRow {
+        case: "a value whose code has 1337",
+        name: (b'Z', 0),
+        value: (b'a', 2139),
+        front: b"\x00\x00\x20\xff\xba\x09\x18",
+        len: 1343,
+    },
 ];
 
 /// Asserts that the section of a field has these first bytes and this length.
@@ -111,21 +132,27 @@ fn assert_written(
     alloc: Global,
     field: (&str, &str),
     (front, len): (&[u8], usize),
-    shows: &str,
+    case: &str,
 ) {
     let section = encode(rt, alloc, &[field]);
     let came = section.as_slice().get(..front.len()).unwrap_or(b"");
-    same(rt, came, front, shows);
-    same(rt, section.len(), len, shows);
+    assert_same(rt, came, front, case);
+    assert_same(rt, section.len(), len, case);
 }
 
 /// Asserts that the section of a row has its first bytes and its length, and decodes to its
 /// field.
 fn assert_written_and_read(rt: &impl Abort, alloc: Global, row: &WrittenRow) {
-    let (shows, name, value, front, len) = *row;
+    let WrittenRow {
+        case,
+        name,
+        value,
+        front,
+        len,
+    } = *row;
     let field = (text_of(rt, name.0, name.1), text_of(rt, value.0, value.1));
-    assert_written(rt, alloc, field, (front, len), shows);
-    assert_come_back(rt, alloc, &[field], &[field], shows);
+    assert_written(rt, alloc, field, (front, len), case);
+    assert_come_back(rt, alloc, &[field], &[field], case);
 }
 
 #[test]
@@ -135,7 +162,7 @@ fn written_integers_past_refused_memory(rt: HostRuntime) {
     }
 }
 
-/// What a row shows, a section up to an integer with the value 1337, and a byte that follows 1337
+/// The case, a section up to an integer with the value 1337, and a byte that follows 1337
 /// times.
 type FlagRow = (&'static str, &'static [u8], u8);
 
@@ -168,9 +195,9 @@ fn section_of(rt: &impl Abort, alloc: Global, (front, byte, end): (&[u8], u8, &[
 
 /// Asserts that a section that contains a byte 1337 times decodes to this field.
 fn assert_read(rt: &impl Abort, alloc: Global, row: &FlagRow, end: &[u8], field: (&str, &str)) {
-    let (shows, front, byte) = *row;
+    let (case, front, byte) = *row;
     let section = section_of(rt, alloc, (front, byte, end));
-    assert_decoded(rt, alloc, section.as_slice(), &[field], shows);
+    assert_decoded(rt, alloc, section.as_slice(), &[field], case);
 }
 
 #[test]
@@ -184,7 +211,7 @@ fn integers_under_each_flag_past_refused_memory(rt: HostRuntime) {
     }
 }
 
-/// What a row shows, a section, and the error in its last integer. An integer of 2^64 - 1 in the
+/// The case, a section, and the error in its last integer. An integer of 2^64 - 1 in the
 /// section prefix is not an error, since these integers are skipped.
 static ANSWERS: [FaultRow; 27] = [
     ("nothing", b"", Some(DecodingError::UnexpectedFin)),

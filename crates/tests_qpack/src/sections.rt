@@ -1,6 +1,6 @@
 //! Shared parts of the field section tests: calls that are repeated after a failed allocation,
 //! and checks of their results.
-use crate::same::same;
+use crate::same::assert_same;
 use std::alloc::{AllocError, Global};
 use std::collections::BTreeMap;
 use std::fmt::Display;
@@ -53,11 +53,11 @@ pub(crate) fn assert_map<S: Copy + Display + Drop>(
     rt: &impl Abort,
     fields: &Fields,
     wanted: &[(&str, &str)],
-    shows: S,
+    case: S,
 ) {
-    same(rt, fields.len(), wanted.len(), shows);
+    assert_same(rt, fields.len(), wanted.len(), case);
     for ((name, value), known) in fields.iter().zip(wanted) {
-        same(rt, (name.as_str(), value.as_str()), *known, shows);
+        assert_same(rt, (name.as_str(), value.as_str()), *known, case);
     }
 }
 
@@ -67,10 +67,10 @@ pub(crate) fn assert_decoded<S: Copy + Display + Drop>(
     alloc: Global,
     section: &[u8],
     wanted: &[(&str, &str)],
-    shows: S,
+    case: S,
 ) {
     let fields = decode(alloc, section).expect(rt, "a fault");
-    assert_map(rt, &fields, wanted, shows);
+    assert_map(rt, &fields, wanted, case);
 }
 
 /// Asserts that pairs encode to this section.
@@ -79,9 +79,9 @@ pub(crate) fn assert_encoded(
     alloc: Global,
     pairs: &[(&str, &str)],
     section: &[u8],
-    shows: &str,
+    case: &str,
 ) {
-    same(rt, encode(rt, alloc, pairs).as_slice(), section, shows);
+    assert_same(rt, encode(rt, alloc, pairs).as_slice(), section, case);
 }
 
 /// Asserts that the section of these pairs decodes to exactly these fields, in order of their
@@ -91,18 +91,18 @@ pub(crate) fn assert_come_back<S: Copy + Display + Drop>(
     alloc: Global,
     pairs: &[(&str, &str)],
     wanted: &[(&str, &str)],
-    shows: S,
+    case: S,
 ) {
     let section = encode(rt, alloc, pairs);
-    assert_decoded(rt, alloc, section.as_slice(), wanted, shows);
+    assert_decoded(rt, alloc, section.as_slice(), wanted, case);
 }
 
-/// What a row shows, a section, and its error, if it has one.
+/// The case, a section, and its error, if it has one.
 pub(crate) type FaultRow = (&'static str, &'static [u8], Option<DecodingError>);
 
 /// Asserts the error in the section of each row.
 pub(crate) fn assert_faults(rt: &impl Abort, alloc: Global, rows: &[FaultRow]) {
-    for (shows, section, fault) in rows {
-        same(rt, decode(alloc, section).err(), *fault, shows);
+    for (case, section, fault) in rows {
+        assert_same(rt, decode(alloc, section).err(), *fault, case);
     }
 }

@@ -1,5 +1,5 @@
 //! All 99 entries and all 52 names of the static table, by lines that refer to them.
-use crate::same::same;
+use crate::same::assert_same;
 use crate::sections::{FaultRow, assert_decoded, assert_encoded, assert_faults, join};
 use std::alloc::Global;
 use std::process::Abort;
@@ -8,7 +8,8 @@ use wtp_qpack::qpack::DecodingError;
 /// The names and values of a table.
 type Entries = &'static [(&'static str, &'static str)];
 
-/// The static table of RFC 9204, Appendix A.
+/// The static table as RFC 9204, Appendix A, prints it. It is written apart from that of the
+/// library, which these tests compare with it.
 static APPENDIX_A: [(&str, &str); 99] = [
     (":authority", ""),
     (":path", "/"),
@@ -132,6 +133,9 @@ const WHOLE: (u8, u8) = (0xc0, 63);
 /// bits.
 const NAMED: (u8, u8) = (0x50, 15);
 
+/// The same of those that must never be indexed.
+const NEVER_INDEXED: (u8, u8) = (0x70, 15);
+
 /// The value `~`, which is in no entry.
 const VALUE: &[u8] = b"\x01~";
 
@@ -168,6 +172,7 @@ fn assert_line(
 fn assert_entry(rt: &impl Abort, alloc: Global, index: usize, (name, value): (&str, &str)) {
     assert_line(rt, alloc, (WHOLE, index, b""), (name, value));
     assert_line(rt, alloc, (NAMED, index, VALUE), (name, "~"));
+    assert_line(rt, alloc, (NEVER_INDEXED, index, VALUE), (name, "~"));
 }
 
 /// Asserts that a name is encoded with the index of its first entry.
@@ -241,10 +246,10 @@ fn assert_names(rt: &impl Abort, alloc: Global, entries: Entries) -> u8 {
 #[test]
 fn names_past_refused_memory(rt: HostRuntime) {
     let names = assert_names(&rt, rt.alloc(), entries());
-    same(&rt, names, 52, "names");
+    assert_same(&rt, names, 52, "names");
 }
 
-/// What a row shows, a name that is in no entry, and the section of this name with the value `~`.
+/// The case, a name that is in no entry, and the section of this name with the value `~`.
 static UNKNOWN: [(&str, &str, &[u8]); 3] = [
     ("before all", "", b"\x00\x00\x20\x01~"),
     ("after all", "zz", b"\x00\x00\x22zz\x01~"),
@@ -253,7 +258,7 @@ static UNKNOWN: [(&str, &str, &[u8]); 3] = [
 
 #[test]
 fn names_of_no_entry_past_refused_memory(rt: HostRuntime) {
-    for (shows, name, section) in &UNKNOWN {
-        assert_encoded(&rt, rt.alloc(), &[(name, "~")], section, shows);
+    for (case, name, section) in &UNKNOWN {
+        assert_encoded(&rt, rt.alloc(), &[(name, "~")], section, case);
     }
 }

@@ -1,5 +1,5 @@
 //! Checks of error texts.
-use crate::same::same;
+use crate::same::assert_same;
 use std::alloc::{AllocError, Global};
 use std::fmt::Display;
 use std::process::Abort;
@@ -15,5 +15,5 @@ fn text_of<E: Display>(alloc: Global, fault: &E) -> Result<String, AllocError> {
 /// Asserts the text of an error. A failed allocation is repeated.
 pub fn has_text<R: Abort + AllocGlobal, E: Display>(rt: &R, fault: &E, wanted: &str) {
     let text = text_of(rt.alloc(), fault).expect(rt, "memory");
-    same(rt, text.as_str(), wanted, "its text");
+    assert_same(rt, text.as_str(), wanted, "its text");
 }
