@@ -1,6 +1,7 @@
 -- The messages of a session as field lists (RFC 9114, sections 4.1.2 and 4.3; RFC 9220, section 3).
 -- The last value of a repeated pseudo-header field counts, as in a header map.
-use Rattle.std.specs.Prelude.{◌≡◌, ℕ, ◌+◌, ◌-◌, ◌*◌, ◌<◌, nat_lt, if◌then◌else◌, ◌&&◌, List, [], ◌∷◌}
+use Rattle.std.specs.Prelude.{◌≡◌, ℕ, ◌+◌, ◌-◌, ◌*◌, ◌<◌, nat_lt, if◌then◌else◌, ◌&&◌, List, []}
+use Rattle.std.specs.Prelude.{◌∷◌}
 use Rattle.std.specs.Prelude.{codes, Option, Some, None, Result, Ok, Err, MatchResult, length}
 use Rattle.wtp_qpack.specs.Field.{Field, last_value, field_map}
 use Rattle.wtp_qpack.specs.FieldLines.{AreUtf8Fields}

@@ -1,6 +1,6 @@
 -- Header maps and the payloads of their HEADERS frames (RFC 9114, sections 4.1 and 7.2.2).
-use Rattle.std.specs.Prelude.{◌≡◌, ◌≢◌, ℕ, ◌<◌, ◌==◌, Bool, true, false, not, List, [], ◌∷◌, ◌++◌}
-use Rattle.std.specs.Prelude.{length, filter, MatchResult, Result, Ok, Err}
+use Rattle.std.specs.Prelude.{◌≡◌, ◌≢◌, ℕ, ◌==◌, Bool, true, false, not, List, [], ◌∷◌, ◌++◌}
+use Rattle.std.specs.Prelude.{filter, MatchResult, Result, Ok, Err}
 use Rattle.std.specs.List.{flat_map}
 use Rattle.wtp_core.specs.declared.error.ErrorCode.TheVariants.{Decompression}
 use Rattle.wtp_core.specs.declared.error.Refused.{Refused}
@@ -8,7 +8,7 @@ use Rattle.wtp_core.specs.declared.error.Refused.TheVariants.{Code, Memory}
 use Rattle.wtp_qpack.specs.declared.qpack.DecodingError.{DecodingError}
 use Rattle.wtp_qpack.specs.Field.{Field}
 use Rattle.wtp_qpack.specs.FieldLine.{encoded_line}
-use Rattle.wtp_qpack.specs.FieldSection.{after_prefix, AreLines, map_at, section_of}
+use Rattle.wtp_qpack.specs.FieldSection.{SectionNeedsMemory, map_at, section_of}
 
 -- the first byte of the name is a colon
 abbrev pub begins_with_colon : List ℕ → Bool
@@ -44,11 +44,9 @@ abbrev pub GivesUnlessRefused : Result (List Field) Refused → Result (List Fie
 GivesUnlessRefused result read =
     MatchResult result (λ m. read ≡ Ok m) (λ e. e ≢ Memory → read ≡ Err e)
 
--- after its prefix and valid lines, the section has another line
+-- after its prefix and valid lines, the section has a line that needs memory
 abbrev pub BeginsLine : List ℕ → Type 0
-BeginsLine bytes =
-    (lines : List ℕ) × (fields : List Field) × (rest : List ℕ) × (after_prefix bytes ≡ Ok lines)
-    × AreLines lines fields rest × (0 < length rest)
+BeginsLine = SectionNeedsMemory
 
 -- ---- the two groups, as they are written
 

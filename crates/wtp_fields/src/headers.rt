@@ -7,7 +7,8 @@ ghost use Rattle.std.specs.Iterator.{IsFinite, Drains};
 ghost use Rattle.wtp_wire.specs.Content.{payload_in, kind_in, HeadersOf};
 ghost use Rattle.wtp_qpack.specs.Field.{IsMap, AreTexts, put, field_map, field_value, fields_of};
 ghost use Rattle.wtp_qpack.specs.Field.{fields_of_texts};
-ghost use Rattle.wtp_fields.specs.Headers.{payload, headers_at, GivesUnlessRefused, BeginsLine};
+ghost use Rattle.wtp_qpack.specs.FieldSection.{SectionNeedsMemory};
+ghost use Rattle.wtp_fields.specs.Headers.{payload, headers_at, GivesUnlessRefused};
 ghost use Rattle.wtp_fields.specs.Headers.{begins_with_colon, group_lines};
 
 use std::alloc::{AllocError, Global};
@@ -57,12 +58,12 @@ impl Headers {
     /// Returns the map of the field section that is the frame's payload. The last value of a name
     /// wins.
     ///
-    /// Every fault of the section is [`ErrorCode::Decompression`]. Allocation fails only where a
-    /// field line begins after valid ones.
+    /// Every fault of the section is [`ErrorCode::Decompression`]. Allocation fails only at a field
+    /// line after valid ones that is valid too, or that has a Huffman text with no fault before it.
     pub fn with_frame(alloc: Global, frame: &Frame<'_>) -> Result<Self, Refused>
         requires { kind_in frame.now ≡ FrameKind.Headers }
         ensures read { GivesUnlessRefused result (headers_at (payload_in frame.now)) }
-        ensures memory { result ≡ Err Refused.Memory → BeginsLine (payload_in frame.now) }
+        ensures memory { result ≡ Err Refused.Memory → SectionNeedsMemory (payload_in frame.now) }
     {
         match Decoder::decode(alloc, frame.payload()) {
             Ok(fields) => Ok(Headers { fields, alloc }),

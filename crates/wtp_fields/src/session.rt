@@ -1,7 +1,8 @@
 //! The first messages of a session: the request and the response.
 ghost use Rattle.std.specs.Prelude.{◌≡◌, Err};
 ghost use Rattle.wtp_wire.specs.Content.{kind_in, payload_in};
-ghost use Rattle.wtp_fields.specs.Headers.{GivesUnlessRefused, BeginsLine};
+ghost use Rattle.wtp_qpack.specs.FieldSection.{SectionNeedsMemory};
+ghost use Rattle.wtp_fields.specs.Headers.{GivesUnlessRefused};
 ghost use Rattle.wtp_fields.specs.SessionRequest.{request_in};
 
 mod request;
@@ -69,12 +70,12 @@ impl From<AllocError> for HeadersParseError {
 /// Returns [`Refused::Code`] with [`ErrorCode::FrameUnexpected`] for a frame of another kind, with
 /// [`ErrorCode::Decompression`] for a payload that is not a field section, and with
 /// [`ErrorCode::Message`] for a header map that is not a request. Returns [`Refused::Memory`] if
-/// allocation fails, which is possible only at a field line after valid ones. The frame can then be
-/// read again.
+/// allocation fails, which is possible only at a field line after valid ones that is valid too, or
+/// that has a Huffman text with no fault before it. The frame can then be read again.
 pub fn request_of_frame(alloc: Global, frame: &Frame<'_>) -> Result<SessionRequest, Refused>
     ensures read { GivesUnlessRefused result (request_in frame.now) }
     ensures memory { result ≡ Err Refused.Memory
-        → (kind_in frame.now ≡ FrameKind.Headers) × BeginsLine (payload_in frame.now) }
+        → (kind_in frame.now ≡ FrameKind.Headers) × SectionNeedsMemory (payload_in frame.now) }
 {
     let FrameKind::Headers = frame.kind() else {
         return Err(Refused::Code(ErrorCode::FrameUnexpected));

@@ -31,8 +31,9 @@ pub record ReachesLine (section : List ℕ) : Type 0 where
   pub some : 0 < length rest
 
 -- the line that begins there needs memory
-abbrev pub SectionNeedsMemory : List ℕ → Type 0
-SectionNeedsMemory section = (reached : ReachesLine section) × NeedsMemory reached.rest
+pub record SectionNeedsMemory (section : List ℕ) : Type 0 where
+  pub reached : ReachesLine section
+  pub needs : NeedsMemory reached.rest
 
 -- ---- reading
 

@@ -1,11 +1,13 @@
 //! Requests and responses of sessions as field lists (RFC 9114, sections 4.1.2 and 4.3; RFC 9220,
 //! section 3), and the conversion of a list to a header map.
-ghost use Rattle.std.specs.Prelude.{◌≡◌, ◌↔◌, ◌<◌, true, IsTrue, IfSome, None, Some, SomeIff, MatchResult};
+ghost use Rattle.std.specs.Prelude.{◌≡◌, ◌↔◌, ◌<◌, true, IsTrue, IfSome, None, Some, SomeIff};
+ghost use Rattle.std.specs.Prelude.{MatchResult};
 ghost use Rattle.std.specs.Option.{option_copied};
 ghost use Rattle.std.specs.Str.{is_utf8};
 ghost use Rattle.wtp_qpack.specs.FieldLines.{AreUtf8Fields};
 ghost use Rattle.wtp_fields.specs.SessionRequest.{fault_unless};
-ghost use Rattle.wtp_fields.specs.FieldMessages.{RequestIs, digit_of, three_digits, status_of, MapIs};
+ghost use Rattle.wtp_fields.specs.FieldMessages.{RequestIs, digit_of, three_digits, status_of};
+ghost use Rattle.wtp_fields.specs.FieldMessages.{MapIs};
 
 use super::FieldList;
 use crate::headers::Headers;

@@ -1,6 +1,7 @@
 //! Field lists of messages to send, and their HEADERS frames (RFC 9114, sections 4.1.2, 4.2, 4.3
 //! and 7.2.2).
-ghost use Rattle.std.specs.Prelude.{◌≡◌, ◌≢◌, ◌⊎◌, ◌++◌, ◌==◌, ◌≤◌, ◌^◌, List, [], ◌∷◌, length, Some, None, Ok, Err};
+ghost use Rattle.std.specs.Prelude.{◌≡◌, ◌≢◌, ◌⊎◌, ◌++◌, ◌==◌, ◌≤◌, ◌^◌, List, [], ◌∷◌, length};
+ghost use Rattle.std.specs.Prelude.{Some, None, Ok, Err};
 ghost use Rattle.std.specs.Prelude.{MatchResult, OnOk, OnErr, IfOk, codes};
 ghost use Rattle.std.specs.List.{list_all, list_any};
 ghost use Rattle.std.specs.Option.{option_copied};

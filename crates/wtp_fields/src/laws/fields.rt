@@ -34,7 +34,8 @@ pub fn sent_lists()
         → list_size fields ≤ limit → Reaches limit (section_of fields) fields [] }
     ensures only { (limit most : ℕ) (section : List ℕ) (fields others : List Field)
         → Reaches limit section fields [] → Reaches most section others [] → fields ≡ others }
-    ensures request { (authority path : List ℕ) → request_fault (request_fields authority path) ≡ None }
+    ensures request { (authority path : List ℕ)
+        → request_fault (request_fields authority path) ≡ None }
     ensures map { (authority path : List ℕ)
         → field_map (request_fields authority path) ≡ five_fields authority path }
     ensures status { (code : ℕ) → IsStatus code → status_of (status_alone code) ≡ Ok code }

@@ -1,10 +1,11 @@
 //! The response to the request for a session.
-ghost use Rattle.std.specs.Prelude.{◌≡◌, ◌↔◌, Some, Err, MatchOption, OnOk, OnErr, IfOk, IsErrOf, codes, option_map};
+ghost use Rattle.std.specs.Prelude.{◌≡◌, ◌↔◌, Some, Err, MatchOption, OnOk, OnErr, IfOk, IsErrOf};
+ghost use Rattle.std.specs.Prelude.{codes, option_map};
 ghost use Rattle.wtp_wire.specs.Content.{kind_in, payload_in};
 ghost use Rattle.wtp_core.specs.Ids.{IsStatus, IsStatusText, status_in};
 ghost use Rattle.std.specs.Option.{option_copied};
 ghost use Rattle.wtp_qpack.specs.Field.{put, field_value};
-ghost use Rattle.wtp_fields.specs.Headers.{BeginsLine};
+ghost use Rattle.wtp_qpack.specs.FieldSection.{SectionNeedsMemory};
 ghost use Rattle.wtp_fields.specs.ResponseFrame.{ResponseIn};
 ghost use Rattle.wtp_fields.specs.SessionResponse.{status_value, HasStatus, status_alone, ByStatus};
 
@@ -191,12 +192,13 @@ impl TryFrom<Headers> for SessionResponse {
 /// Returns [`Refused::Code`] with [`ErrorCode::FrameUnexpected`] for a frame of another kind, with
 /// [`ErrorCode::Decompression`] for a payload that is not a field section, and with
 /// [`ErrorCode::Message`] for a header map without a status code from 100 to 599. Returns
-/// [`Refused::Memory`] if allocation fails, which happens only at a field line after valid ones:
-/// the frame can be read again.
+/// [`Refused::Memory`] if allocation fails, which happens only at a field line after valid ones
+/// that is valid too, or that has a Huffman text with no fault before it: the frame can be read
+/// again.
 pub fn response_of_frame(alloc: Global, frame: &Frame<'_>) -> Result<SessionResponse, Refused>
     ensures read { ResponseIn frame.now result }
     ensures memory { result ≡ Err Refused.Memory
-        → (kind_in frame.now ≡ FrameKind.Headers) × BeginsLine (payload_in frame.now) }
+        → (kind_in frame.now ≡ FrameKind.Headers) × SectionNeedsMemory (payload_in frame.now) }
 {
     let FrameKind::Headers = frame.kind() else {
         return Err(Refused::Code(ErrorCode::FrameUnexpected));

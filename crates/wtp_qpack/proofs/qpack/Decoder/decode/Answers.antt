@@ -8,7 +8,10 @@ returns-in-Ok-clause-read c = section_given fields_of c.read_lines.result _ _ c.
 pub returns-in-Ok-clause-memory : goal.returns-in-Ok-clause-memory
 returns-in-Ok-clause-memory c = λ memory.
     let found = c.read_lines.ensures.memory memory in
-    (record {lines = c.in-Ok.lines.now; fields = found.0; rest = found.1; prefix = c.in-Ok.ensures; good = found.2; some = found.3}, found.4)
+    record {
+      reached = record {lines = c.in-Ok.lines.now; fields = found.0; rest = found.1; prefix = c.in-Ok.ensures; good = found.2; some = found.3};
+      needs = found.4
+    }
 
 pub returns-in-Err-clause-read : goal.returns-in-Err-clause-read
 returns-in-Err-clause-read c = λ other. map_no_lines _ _ c.in-Err.ensures
