@@ -3,6 +3,8 @@
 #![tactic(auto)]
 
 #[cfg(test)]
+mod qpack;
+#[cfg(test)]
 mod reading;
 #[cfg(test)]
 mod resets;
@@ -10,5 +12,7 @@ mod resets;
 mod same;
 #[cfg(test)]
 mod sessions;
+#[cfg(test)]
+mod settings;
 #[cfg(test)]
 mod streams;

@@ -4,7 +4,6 @@ use wtp_connection::fields::Fields;
 use wtp_connection::stream::Stream;
 use wtp_core::error::ErrorScope;
 use wtp_frames::endpoint::{Endpoint, Side};
-use wtp_frames::reader::Step;
 
 /// What was found on a stream.
 #[derive(Clone, Copy, Debug, Drop, PartialEq, Eq)]
@@ -59,16 +58,16 @@ pub(crate) fn read(
         let is_last = end == bytes.len();
         match connection.receive(stream, piece, fin && is_last, &mut fields) {
             Found::Opened(_, n) => start = start.saturating_add(n),
-            Found::Step(Step::Frame(_, _, to)) => {
+            Found::Settings(_, _, to) | Found::Frame(_, _, to) => {
                 found.frames = found.frames.saturating_add(1);
                 start = start.saturating_add(to);
             }
-            Found::Step(Step::Data(from, to)) => {
+            Found::Data(from, to) => {
                 found.data = found.data.saturating_add(to.saturating_sub(from));
                 start = start.saturating_add(to);
             }
-            Found::Step(Step::TooLarge(_, n)) => start = start.saturating_add(n),
-            Found::Step(Step::Fault(fault)) => {
+            Found::TooLarge(_, n) => start = start.saturating_add(n),
+            Found::Fault(fault) => {
                 found.code = fault.code().number().into_inner();
                 found.ends_connection = matches!(fault.scope(), ErrorScope::Connection);
                 start = end;
@@ -77,7 +76,7 @@ pub(crate) fn read(
                 found.ends = found.ends.saturating_add(1);
                 start = end;
             }
-            Found::Step(Step::More(n)) => {
+            Found::More(n) => {
                 start = start.saturating_add(n);
                 if is_last {
                     found.left = end.saturating_sub(start);

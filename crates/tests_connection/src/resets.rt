@@ -4,9 +4,9 @@ use crate::reading::{connection_of, read};
 use crate::same::assert_same;
 use std::process::Abort;
 use wtp_connection::connection::{Connection, Known};
+use wtp_connection::fault::Fault;
 use wtp_connection::stream::Stream;
 use wtp_core::error::ErrorScope;
-use wtp_frames::fault::Fault;
 
 /// A stream that is reset.
 struct Row {

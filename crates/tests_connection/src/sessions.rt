@@ -4,8 +4,8 @@ use crate::reading::{connection_of, read};
 use crate::same::assert_same;
 use std::process::Abort;
 use wtp_connection::connection::{Connection, Known};
+use wtp_connection::fault::Fault;
 use wtp_connection::stream::Stream;
-use wtp_frames::fault::Fault;
 
 /// Returns a stream of session 0 with three bytes, which are left over.
 fn early(connection: &mut Connection, id: u64) -> (Stream, usize) {

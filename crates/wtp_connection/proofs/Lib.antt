@@ -1,3 +1,5 @@
 pub mod EndLemmas
+pub mod InstructionLemmas
 pub mod OpeningLemmas
+pub mod SettingLemmas
 pub mod StreamLemmas

@@ -1,3 +1,6 @@
+pub mod Fault
+pub mod Settings
+pub mod Instructions
 pub mod Opening
 pub mod Streams
 pub mod Receiving

@@ -12,7 +12,7 @@ use Rattle.wtp_frames.specs.declared.reader.Place.TheVariants.{BeforeSettings, A
 use Rattle.wtp_connection.specs.declared.stream.Purpose.{Purpose}
 use Rattle.wtp_connection.specs.declared.stream.Purpose.TheVariants as «for»
 use Rattle.wtp_connection.specs.declared.stream.Stream.{Stream}
-use Rattle.wtp_connection.specs.declared.stream.Stream.TheVariants.{Uni, Bi, Frames, Waiting, Instructions}
+use Rattle.wtp_connection.specs.declared.stream.Stream.TheVariants.{Uni, Bi, Frames, Waiting, Encoder, Decoder}
 
 -- the second bit of an ID says that the stream is unidirectional (RFC 9000, section 2.1)
 abbrev pub stream_of : ℕ → Stream
@@ -33,7 +33,8 @@ is_control other = false
 -- section 4.2)
 abbrev pub is_critical : Stream → Bool
 is_critical (Frames r) = is_control r.place
-is_critical Instructions = true
+is_critical Encoder = true
+is_critical (Decoder place) = true
 is_critical other = false
 
 -- whether the error of an end says that the stream is a critical one

@@ -1,18 +1,28 @@
 -- What one call of a connection does.
-use Rattle.std.specs.Prelude.{◌≡◌, ℕ, ◌+◌, ◌<◌, ◌≤◌, if◌then◌else◌, Bool, true, List, [], ◌∷◌, ◌++◌, map, length, drop, Option, Some, None, Result, Ok, Err}
+use Rattle.std.specs.Prelude.{◌≡◌, ℕ, ◌+◌, ◌<◌, ◌≤◌, if◌then◌else◌, Bool, true, false, List, [], ◌∷◌, ◌++◌, map, length, drop, Option, Some, None, Result, Ok, Err}
+use Rattle.std.specs.List.{list_all}
 use Rattle.wtp_frames.specs.declared.endpoint.Endpoint.{Endpoint}
-use Rattle.wtp_frames.specs.declared.fault.Fault.{Fault}
+use Rattle.wtp_frames.specs.declared.fault.Fault.{Fault as StreamFault}
+use Rattle.wtp_frames.specs.declared.frame_type.FrameType.{FrameType}
+use Rattle.wtp_frames.specs.declared.frame_type.FrameType.TheVariants as kind
 use Rattle.wtp_frames.specs.declared.reader.Step.{Step}
 use Rattle.wtp_frames.specs.declared.reader.Step.TheVariants as step
-use Rattle.wtp_frames.specs.Reading.{items_of, left_after, longest}
+use Rattle.wtp_frames.specs.Item.{Whole, Byte, TooLarge}
+use Rattle.wtp_frames.specs.Reading.{slice, longest}
+use Rattle.wtp_connection.specs.declared.fault.Fault.{Fault}
+use Rattle.wtp_connection.specs.declared.fault.Fault.TheVariants as fault
+use Rattle.wtp_connection.specs.declared.settings.PeerSettings.{PeerSettings}
 use Rattle.wtp_connection.specs.declared.stream.Purpose.{Purpose}
 use Rattle.wtp_connection.specs.declared.stream.Stream.{Stream}
-use Rattle.wtp_connection.specs.declared.stream.Stream.TheVariants.{Uni, Bi, Frames, Joining, Waiting, Over}
+use Rattle.wtp_connection.specs.declared.stream.Stream.TheVariants.{Uni, Bi, Frames, Joining, Waiting, Decoder, Over}
+use Rattle.wtp_connection.specs.declared.instructions.DecoderPlace.{DecoderPlace}
 use Rattle.wtp_connection.specs.declared.connection.Connection.{Connection}
 use Rattle.wtp_connection.specs.declared.connection.Found.{Found}
 use Rattle.wtp_connection.specs.declared.connection.Found.TheVariants as found
+use Rattle.wtp_connection.specs.Settings.{settings_in}
+use Rattle.wtp_connection.specs.Instructions.{sets_zero}
 use Rattle.wtp_connection.specs.Opening.{uni_at, bi_at}
-use Rattle.wtp_connection.specs.Streams.{Seen, Opened, Gave, Ended, StreamRun, rests, followed, run_stream, ended, closed_by, end_of}
+use Rattle.wtp_connection.specs.Streams.{Seen, Opened, Configured, Gave, Broke, Ended, StreamRun, rests, followed, bytes_seen, run_stream, ended, closed_by, end_of}
 
 -- ---- a stream whose purpose is not known yet
 
@@ -31,13 +41,23 @@ opening_of e other bytes = None
 -- what it finds
 abbrev pub seen_of : Found → List ℕ → List Seen
 seen_of (found.Opened p n) bytes = Opened p ∷ []
-seen_of (found.Step s) bytes = map Gave (items_of s bytes)
+seen_of (found.Settings v start end) bytes = Configured v (slice start end bytes) ∷ []
+seen_of (found.Frame kind start end) bytes = Gave (Whole kind (slice start end bytes)) ∷ []
+seen_of (found.Data start end) bytes = bytes_seen (slice start end bytes)
+seen_of (found.TooLarge size n) bytes = Gave (TooLarge size) ∷ []
+seen_of (found.More n) bytes = []
+seen_of (found.Fault f) bytes = Broke f ∷ []
 seen_of found.End bytes = Ended ∷ []
 
 -- the bytes that are left after it
 abbrev pub rest_after : Found → List ℕ → List ℕ
 rest_after (found.Opened p n) bytes = drop n bytes
-rest_after (found.Step s) bytes = left_after s bytes
+rest_after (found.Settings v start end) bytes = drop end bytes
+rest_after (found.Frame kind start end) bytes = drop end bytes
+rest_after (found.Data start end) bytes = drop end bytes
+rest_after (found.TooLarge size n) bytes = drop n bytes
+rest_after (found.More n) bytes = drop n bytes
+rest_after (found.Fault f) bytes = []
 rest_after found.End bytes = []
 
 -- how many bytes may be left after `More`: any of a stream that waits for its session, and of each
@@ -53,16 +73,16 @@ pub record Idle (c : Connection) (s : Stream) (bytes : List ℕ) : Type 0 where
   pub idle : run_stream c s bytes ≡ rests c s bytes
   pub few : AreFew s bytes
 
-abbrev pub StepFits : Step → List ℕ → Connection → Stream → Type 0
-StepFits (step.Frame kind start end) bytes c s = (0 < start) × (start ≤ end) × (end ≤ length bytes)
-StepFits (step.Data start end) bytes c s = (start < end) × (end ≤ length bytes)
-StepFits (step.TooLarge size n) bytes c s = (0 < n) × (n ≤ length bytes)
-StepFits (step.More n) bytes c s = (n ≤ length bytes) × Idle c s (drop n bytes)
-StepFits (step.Fault f) bytes c s = Unit {0}
-
+-- Places are within the bytes. The connection has the settings that are given.
 abbrev pub Fits : Found → List ℕ → Connection → Stream → Type 0
 Fits (found.Opened p n) bytes c s = n ≤ length bytes
-Fits (found.Step x) bytes c s = StepFits x bytes c s
+Fits (found.Settings v start end) bytes c s =
+    (0 < start) × (start ≤ end) × (end ≤ length bytes) × (c.peer ≡ v)
+Fits (found.Frame kind start end) bytes c s = (0 < start) × (start ≤ end) × (end ≤ length bytes)
+Fits (found.Data start end) bytes c s = (start < end) × (end ≤ length bytes)
+Fits (found.TooLarge size n) bytes c s = (0 < n) × (n ≤ length bytes)
+Fits (found.More n) bytes c s = (n ≤ length bytes) × Idle c s (drop n bytes)
+Fits (found.Fault f) bytes c s = Unit {0}
 Fits found.End bytes c s = Unit {0}
 
 -- ---- where the stream goes on
@@ -85,13 +105,9 @@ all_found fin c s bytes more =
     if fin then ended (run_stream c s bytes) else run_stream c s (bytes ++ more)
 
 -- nothing is found at the end either
-abbrev pub StepSettled : Step → List ℕ → Connection → Stream → Type 0
-StepSettled (step.More n) bytes d t =
-    ended (run_stream d t (drop n bytes)) ≡ rests d t (drop n bytes)
-StepSettled other bytes d t = Unit {0}
-
 abbrev pub Settled : Found → List ℕ → Connection → Stream → Type 0
-Settled (found.Step s) bytes d t = StepSettled s bytes d t
+Settled (found.More n) bytes d t =
+    ended (run_stream d t (drop n bytes)) ≡ rests d t (drop n bytes)
 Settled other bytes d t = Unit {0}
 
 pub record FoundIs (x : Found) (c : Connection) (s : Stream) (bytes : List ℕ) (fin : Bool)
@@ -101,30 +117,71 @@ pub record FoundIs (x : Found) (c : Connection) (s : Stream) (bytes : List ℕ) 
       ≡ followed (seen_of x bytes) (all_found fin d t (rest_after x bytes) more)
   pub settled : fin ≡ true → Settled x bytes d t
 
--- the connection after a step of a stream of frames
-abbrev pub after_step : Connection → Step → Connection
-after_step c (step.Fault f) = closed_by c f
-after_step c other = c
+-- ---- what a step of a stream of frames is for the connection
+
+-- what is found, and the connection and the stream after it
+abbrev pub Outcome : Type 0
+Outcome = Found × Connection × Stream
+
+-- the stream ends by this error
+abbrev pub fails : Connection → Fault → Outcome
+fails c f = (found.Fault f, closed_by c f, Over)
+
+abbrev pub settings_found : Connection → Stream → ℕ → ℕ → Result PeerSettings Fault → Outcome
+settings_found c s start end (Ok v) = (found.Settings v start end, record c { peer = v }, s)
+settings_found c s start end (Err f) = fails c f
+
+abbrev pub frame_found : Connection → Stream → FrameType → ℕ → ℕ → List ℕ → Outcome
+frame_found c s kind.Settings start end payload =
+    settings_found c s start end (settings_in payload)
+frame_found c s k start end payload = (found.Frame k start end, c, s)
+
+abbrev pub step_found : Connection → Stream → Step → List ℕ → Outcome
+step_found c s (step.Frame k start end) bytes =
+    frame_found c s k start end (slice start end bytes)
+step_found c s (step.Data start end) bytes = (found.Data start end, c, s)
+step_found c s (step.TooLarge size n) bytes = (found.TooLarge size n, c, s)
+step_found c s (step.More n) bytes = (found.More n, c, s)
+step_found c s (step.Fault f) bytes =
+    (found.Fault (fault.Stream f), closed_by c (fault.Stream f), s)
+
+-- ---- the streams of QPACK
+
+abbrev pub with_capacity : Connection → Stream → ℕ → Bool → Outcome
+with_capacity c s n true = (found.More n, c, s)
+with_capacity c s n false = fails c fault.EncoderStream
+
+abbrev pub encoder_found : Connection → Stream → List ℕ → Outcome
+encoder_found c s bytes = with_capacity c s (length bytes) (list_all sets_zero bytes)
+
+abbrev pub decoder_found : Connection → Option DecoderPlace → ℕ → Outcome
+decoder_found c None n = fails c fault.DecoderStream
+decoder_found c (Some place) n = (found.More n, c, Decoder place)
+
+-- its places are within the bytes
+abbrev pub IsInside : Step → List ℕ → Type 0
+IsInside (step.Frame k start end) bytes = (start ≤ end) × (end ≤ length bytes)
+IsInside other bytes = Unit {0}
 
 -- how many bytes are consumed where more are needed
 abbrev pub more_in : Found → Option ℕ
-more_in (found.Step (step.More n)) = Some n
+more_in (found.More n) = Some n
 more_in other = None
 
 -- ---- the end of a stream that is idle, with so many bytes left over after those consumed
 
-abbrev pub finish_by : Connection → Result (Unit {0}) Fault → Found × Connection × Stream
+abbrev pub finish_by : Connection → Result (Unit {0}) StreamFault → Outcome
 finish_by c (Ok u) = (found.End, c, Over)
-finish_by c (Err f) = (found.Step (step.Fault f), closed_by c f, Over)
+finish_by c (Err f) = fails c (fault.Stream f)
 
-abbrev pub finish_open : Connection → Stream → ℕ → ℕ → Found × Connection × Stream
-finish_open c (Joining s) left consumed = (found.Step (step.More consumed), c, Joining s)
-finish_open c (Waiting s) left consumed = (found.Step (step.More consumed), c, Waiting s)
-finish_open c Over left consumed = (found.Step (step.More consumed), c, Over)
+abbrev pub finish_open : Connection → Stream → ℕ → ℕ → Outcome
+finish_open c (Joining s) left consumed = (found.More consumed, c, Joining s)
+finish_open c (Waiting s) left consumed = (found.More consumed, c, Waiting s)
+finish_open c Over left consumed = (found.More consumed, c, Over)
 finish_open c other left consumed = finish_by c (end_of c other left)
 
-abbrev pub finish_of : Connection → Stream → ℕ → ℕ → Found × Connection × Stream
+abbrev pub finish_of : Connection → Stream → ℕ → ℕ → Outcome
 finish_of c s left consumed =
     if c.over
-    then (found.Step (step.More consumed), c, s)
+    then (found.More consumed, c, s)
     else finish_open c s left consumed

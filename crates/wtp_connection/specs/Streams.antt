@@ -1,48 +1,58 @@
 -- The run of a stream's bytes under the state of the connection, and its end (RFC 9114, sections 6,
 -- 7.1 and 8).
-use Rattle.std.specs.Prelude.{ℕ, ◌+◌, ◌-◌, nat_lt, if◌then◌else◌, Bool, true, false, List, [], ◌∷◌, ◌++◌, map, length, Option, Some, None, Result, Ok, Err}
+use Rattle.std.specs.Prelude.{ℕ, ◌+◌, ◌-◌, nat_lt, ◌&&◌, not, if◌then◌else◌, Bool, true, false, List, [], ◌∷◌, ◌++◌, map, length, Option, Some, None, Result, Ok, Err}
+use Rattle.std.specs.List.{list_all}
 use Rattle.wtp_core.specs.declared.error.scope.ErrorScope.{ErrorScope}
 use Rattle.wtp_core.specs.declared.error.scope.ErrorScope.TheVariants as scope
 use Rattle.wtp_frames.specs.declared.endpoint.Side.{Side}
 use Rattle.wtp_frames.specs.declared.endpoint.Side.TheVariants.{Client, Server}
-use Rattle.wtp_frames.specs.declared.fault.Fault.{Fault}
-use Rattle.wtp_frames.specs.declared.fault.Fault.TheVariants as fault
-use Rattle.wtp_frames.specs.Fault.{scope_of}
-use Rattle.wtp_frames.specs.Item.{Item, Byte, Broken}
+use Rattle.wtp_frames.specs.declared.fault.Fault.{Fault as StreamFault}
+use Rattle.wtp_frames.specs.declared.fault.Fault.TheVariants as stream
+use Rattle.wtp_frames.specs.declared.frame_type.FrameType.TheVariants as kind
+use Rattle.wtp_frames.specs.Item.{Item, Whole, Byte, Broken}
 use Rattle.wtp_frames.specs.Run.{Run, run}
 use Rattle.wtp_frames.specs.Reading.{by_missing, by_end}
 use Rattle.wtp_frames.specs.Start.{message_reader, control_reader}
 use Rattle.wtp_connection.specs.declared.stream.Purpose.{Purpose}
 use Rattle.wtp_connection.specs.declared.stream.Purpose.TheVariants as «for»
 use Rattle.wtp_connection.specs.declared.stream.Stream.{Stream}
-use Rattle.wtp_connection.specs.declared.stream.Stream.TheVariants.{Uni, Bi, Frames, Joining, Waiting, Session, Instructions, Ignored, Over}
+use Rattle.wtp_connection.specs.declared.stream.Stream.TheVariants.{Uni, Bi, Frames, Joining, Waiting, Session, Encoder, Decoder, Ignored, Over}
+use Rattle.wtp_connection.specs.declared.fault.Fault.{Fault}
+use Rattle.wtp_connection.specs.declared.fault.Fault.TheVariants as fault
+use Rattle.wtp_connection.specs.declared.settings.PeerSettings.{PeerSettings}
+use Rattle.wtp_connection.specs.declared.instructions.DecoderPlace.{DecoderPlace}
+use Rattle.wtp_connection.specs.declared.instructions.DecoderPlace.TheVariants.{Between}
 use Rattle.wtp_connection.specs.declared.connection.Connection.{Connection}
 use Rattle.wtp_connection.specs.declared.connection.Known.{Known}
 use Rattle.wtp_connection.specs.declared.connection.Known.TheVariants as known
+use Rattle.wtp_connection.specs.Fault.{scope_of}
+use Rattle.wtp_connection.specs.Settings.{settings_in}
+use Rattle.wtp_connection.specs.Instructions.{sets_zero, after_bytes}
 use Rattle.wtp_connection.specs.Opening.{uni_at, bi_at, is_critical}
 
 -- ---- what the connection makes of a stream
 
 -- a stream that may be opened once, where this tells whether it was
 abbrev pub opens_once : Bool → Connection → Stream → Result (Connection × Stream) Fault
-opens_once true c s = Err fault.StreamCreation
+opens_once true c s = Err (fault.Stream stream.StreamCreation)
 opens_once false c s = Ok (c, s)
 
 -- a server gets no push; a client allowed none (RFC 9114, sections 4.6 and 6.2.2)
 abbrev pub push_fault : Side → Fault
-push_fault Client = fault.Id
-push_fault Server = fault.StreamCreation
+push_fault Client = (fault.Stream stream.Id)
+push_fault Server = (fault.Stream stream.StreamCreation)
 
 abbrev pub opens : Connection → Purpose → Result (Connection × Stream) Fault
 opens c «for».Control =
     opens_once c.control (record c { control = true }) (Frames (control_reader c.endpoint))
-opens c «for».Encoder = opens_once c.encoder (record c { encoder = true }) Instructions
-opens c «for».Decoder = opens_once c.decoder (record c { decoder = true }) Instructions
+opens c «for».Encoder = opens_once c.encoder (record c { encoder = true }) Encoder
+opens c «for».Decoder =
+    opens_once c.decoder (record c { decoder = true }) (Decoder Between)
 opens c «for».Push = Err (push_fault c.endpoint.side)
 opens c («for».Session s) = Ok (c, Joining s)
-opens c «for».InvalidSession = Err fault.Id
+opens c «for».InvalidSession = Err (fault.Stream stream.Id)
 opens c «for».Message = Ok (c, Frames (message_reader c.endpoint))
-opens c «for».Foreign = Err fault.StreamCreation
+opens c «for».Foreign = Err (fault.Stream stream.StreamCreation)
 opens c «for».Ignored = Ok (c, Ignored)
 
 -- the connection and a stream, if it was opened
@@ -60,18 +70,15 @@ closed_in c other = record c { over = true }
 abbrev pub closed_by : Connection → Fault → Connection
 closed_by c f = closed_in c (scope_of f)
 
--- the connection after the items of a stream
-abbrev pub after_items : Connection → List Item → Connection
-after_items c [] = c
-after_items c (Broken f ∷ items) = after_items (closed_by c f) items
-after_items c (other ∷ items) = after_items c items
-
 -- ---- the run
 
--- what is found on a stream: what it is for, an item, or its end
+-- what is found on a stream: what it is for; SETTINGS, with what they define and their payload;
+-- another item; an error; or the end
 pub data Seen : Type 0 where
   Opened : Purpose → Seen
+  Configured : PeerSettings → List ℕ → Seen
   Gave : Item → Seen
+  Broke : Fault → Seen
   Ended : Seen
 
 -- what is found; the connection and the stream after it; and the bytes that are left
@@ -96,20 +103,43 @@ followed seen x = record {
 abbrev pub all_given : Connection → Stream → List Seen → StreamRun
 all_given c s seen = record { seen = seen; connection = c; stream = s; left = [] }
 
+-- an error of the stream, which is given once
+abbrev pub breaks : Connection → Fault → StreamRun
+breaks c f = all_given (closed_by c f) Over (Broke f ∷ [])
+
+-- SETTINGS, by what they define: the connection has it from then on
+abbrev pub by_settings : Connection → List ℕ → (Connection → StreamRun) → Result PeerSettings Fault → StreamRun
+by_settings c payload more (Ok v) =
+    followed (Configured v payload ∷ []) (more (record c { peer = v }))
+by_settings c payload more (Err f) = breaks c f
+
+-- an item, and what follows it
+abbrev pub by_item : Connection → (Connection → StreamRun) → Item → StreamRun
+by_item c more (Whole kind.Settings payload) = by_settings c payload more (settings_in payload)
+by_item c more (Broken f) =
+    followed (Broke (fault.Stream f) ∷ []) (more (closed_by c (fault.Stream f)))
+by_item c more other = followed (Gave other ∷ []) (more c)
+
+abbrev pub of_items : Connection → (Connection → StreamRun) → List Item → StreamRun
+of_items c more [] = more c
+of_items c more (i ∷ items) = by_item c (λ d. of_items d more items) i
+
+-- the items of a stream of frames
 abbrev pub of_frames : Connection → Run → StreamRun
-of_frames c x = record {
-  seen = map Gave x.items;
-  connection = after_items c x.items;
-  stream = Frames x.reader;
-  left = x.left;
-}
+of_frames c x = of_items c (λ d. rests d (Frames x.reader) x.left) x.items
 
 abbrev pub bytes_seen : List ℕ → List Seen
 bytes_seen bytes = map Gave (map Byte bytes)
 
--- an error of the stream, which is given once
-abbrev pub breaks : Connection → Fault → StreamRun
-breaks c f = all_given (closed_by c f) Over (Gave (Broken f) ∷ [])
+-- the encoder stream of QPACK, by whether it does nothing but set the capacity to 0
+abbrev pub by_capacity : Connection → Bool → StreamRun
+by_capacity c true = all_given c Encoder []
+by_capacity c false = breaks c fault.EncoderStream
+
+-- the decoder stream of QPACK, by where its bytes lead
+abbrev pub by_place : Connection → Option DecoderPlace → StreamRun
+by_place c None = breaks c fault.DecoderStream
+by_place c (Some place) = all_given c (Decoder place) []
 
 -- a stream whose purpose is known
 abbrev pub run_open : Connection → Stream → List ℕ → StreamRun
@@ -117,6 +147,8 @@ run_open c (Frames r) bytes = of_frames c (run r bytes)
 run_open c (Session s) bytes = all_given c (Session s) (bytes_seen bytes)
 run_open c (Joining s) bytes = rests c (Joining s) bytes
 run_open c (Waiting s) bytes = rests c (Waiting s) bytes
+run_open c Encoder bytes = by_capacity c (list_all sets_zero bytes)
+run_open c (Decoder place) bytes = by_place c (after_bytes place bytes)
 run_open c other bytes = all_given c other []
 
 abbrev pub by_purpose : Connection → Purpose → List ℕ → Result (Connection × Stream) Fault → StreamRun
@@ -140,20 +172,21 @@ run_stream c s bytes = if c.over then all_given c s [] else run_intact c s bytes
 -- ---- the end of a stream
 
 -- a bidirectional stream without a number (RFC 9114, sections 4.1, 6.1 and 7.1)
-abbrev pub no_number : Side → Fault
-no_number Client = fault.StreamCreation
-no_number Server = fault.RequestIncomplete
+abbrev pub no_number : Side → StreamFault
+no_number Client = stream.StreamCreation
+no_number Server = stream.RequestIncomplete
 
 -- what it means that a stream ends, with so many bytes left
-abbrev pub end_of : Connection → Stream → ℕ → Result (Unit {0}) Fault
+abbrev pub end_of : Connection → Stream → ℕ → Result (Unit {0}) StreamFault
 end_of c Bi n = by_missing n (Err (no_number c.endpoint.side))
 end_of c (Frames r) n = by_end r.endpoint.side r.place (r.remaining + n)
-end_of c Instructions n = Err fault.ClosedCriticalStream
+end_of c Encoder n = Err stream.ClosedCriticalStream
+end_of c (Decoder place) n = Err stream.ClosedCriticalStream
 end_of c other n = Ok tt
 
-abbrev pub by_fault : Connection → Result (Unit {0}) Fault → StreamRun
+abbrev pub by_fault : Connection → Result (Unit {0}) StreamFault → StreamRun
 by_fault c (Ok u) = all_given c Over (Ended ∷ [])
-by_fault c (Err f) = breaks c f
+by_fault c (Err f) = breaks c (fault.Stream f)
 
 -- the end of a stream that waits for its session waits too; one that is over has no other
 abbrev pub ending : Connection → Stream → List ℕ → StreamRun
@@ -179,34 +212,38 @@ most_waiting = 16
 abbrev pub Joined : Type 0
 Joined = Connection × Stream × Option Fault
 
-abbrev pub refuses : Connection → Fault → Joined
-refuses c f = (closed_by c f, Over, Some f)
+abbrev pub refuses : Connection → StreamFault → Joined
+refuses c f = (closed_by c (fault.Stream f), Over, Some (fault.Stream f))
 
 -- a stream whose session is not to come
 abbrev pub settles : Connection → ℕ → Known → Joined
 settles c s known.Coming = (c, Waiting s, None)
 settles c s known.Open = (c, Session s, None)
-settles c s known.Over = refuses c fault.SessionGone
-settles c s known.Refused = refuses c fault.BufferedStreamRejected
-settles c s known.Impossible = refuses c fault.Id
+settles c s known.Over = refuses c stream.SessionGone
+settles c s known.Refused = refuses c stream.BufferedStreamRejected
+settles c s known.Impossible = refuses c stream.Id
 
 abbrev pub waits : Connection → ℕ → Joined
 waits c s =
     if nat_lt c.waiting most_waiting
     then (record c { waiting = c.waiting + 1 }, Waiting s, None)
-    else refuses c fault.BufferedStreamRejected
+    else refuses c stream.BufferedStreamRejected
 
 abbrev pub freed : Connection → Connection
 freed c = record c { waiting = c.waiting - 1 }
 
--- the connection is told what is known of the session of a stream
+abbrev pub joins_open : Connection → Stream → Known → Joined
+joins_open c (Joining s) known.Coming = waits c s
+joins_open c (Joining s) k = settles c s k
+joins_open c (Waiting s) known.Coming = (c, Waiting s, None)
+joins_open c (Waiting s) k = settles (freed c) s k
+joins_open c (Session s) known.Over = refuses c stream.SessionGone
+joins_open c other k = (c, other, None)
+
+-- the connection is told what is known of the session of a stream; nothing changes after an error of
+-- the connection
 abbrev pub joins : Connection → Stream → Known → Joined
-joins c (Joining s) known.Coming = waits c s
-joins c (Joining s) k = settles c s k
-joins c (Waiting s) known.Coming = (c, Waiting s, None)
-joins c (Waiting s) k = settles (freed c) s k
-joins c (Session s) known.Over = refuses c fault.SessionGone
-joins c other k = (c, other, None)
+joins c s k = if c.over then (c, s, None) else joins_open c s k
 
 -- ---- a stream that is reset, or that is not read to its end
 
@@ -215,11 +252,11 @@ abbrev pub without : Connection → Stream → Connection
 without c (Waiting s) = freed c
 without c other = c
 
--- the peer reset a stream: an error if it is a critical one
+-- the peer reset a stream: an error if it is a critical one and the connection goes on
 abbrev pub resets : Connection → Stream → Joined
 resets c s =
-    if is_critical s
-    then (if c.over then (c, Over, None) else refuses c fault.ClosedCriticalStream)
+    if is_critical s && not c.over
+    then refuses c stream.ClosedCriticalStream
     else (without c s, Over, None)
 
 -- the application reads a stream no further; a critical one is always read

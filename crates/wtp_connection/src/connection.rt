@@ -1,17 +1,21 @@
 //! What the streams of a connection have in common. It holds no bytes and no table of streams.
-ghost use Rattle.std.specs.Prelude.{◌≡◌, ◌≤◌, ◌+◌, ◌-◌, length, drop, true, false, None, Some, MatchOption, IfSome, IfErr};
-ghost use Rattle.wtp_connection.specs.Streams.{opens, opening_result, closed_by, no_number as no_number_is, joins, settles, refuses, freed, without, resets, abandons};
-ghost use Rattle.wtp_connection.specs.Receiving.{FoundIs, StepIsFound, IsFirst, opening_of, after_step as after_step_is, more_in, finish_of};
+ghost use Rattle.std.specs.Prelude.{◌≡◌, ◌≤◌, length, drop, true, false, [], None, Some, MatchOption, IfSome, IfErr};
+ghost use Rattle.wtp_connection.specs.Settings.{values_of, with_defaults};
+ghost use Rattle.wtp_connection.specs.Streams.{opens, opening_result, closed_by, no_number as no_number_is};
+ghost use Rattle.wtp_connection.specs.Receiving.{FoundIs, StepIsFound, IsFirst, IsInside, opening_of, step_found, encoder_found, decoder_found, fails, more_in, finish_of};
 
+mod sessions;
+
+use crate::fault::Fault;
 use crate::fields::Fields;
+use crate::instructions::{DecoderPlace, sets_nothing};
+use crate::settings::PeerSettings;
 use crate::stream::{Purpose, Stream, bi_opening, uni_opening};
 use wtp_core::error::ErrorScope;
 use wtp_frames::endpoint::{Endpoint, Side};
-use wtp_frames::fault::Fault;
+use wtp_frames::fault::Fault as StreamFault;
+use wtp_frames::frame_type::FrameType;
 use wtp_frames::reader::{Reader, Step};
-
-/// How many streams may wait for sessions that are to come.
-const MAX_WAITING: u32 = 16;
 
 /// What the streams of a connection have in common.
 #[derive(Drop)]
@@ -26,6 +30,8 @@ pub struct Connection {
     decoder: bool,
     /// How many streams wait for sessions that are to come.
     waiting: u32,
+    /// The settings of the peer.
+    peer: PeerSettings,
     /// Whether an error ended the connection.
     over: bool,
 }
@@ -50,8 +56,22 @@ pub enum Known {
 pub enum Found {
     /// What the stream is for, after this many bytes that are consumed.
     Opened(Purpose, usize),
-    /// An item of the stream; `More` if more bytes are needed.
-    Step(Step),
+    /// SETTINGS of the peer: what they define, the offset of their payload, and the offset of the
+    /// byte after it. The bytes up to there are consumed.
+    Settings(PeerSettings, usize, usize),
+    /// Another frame that is returned whole: its type, the offset of its payload, and the offset of
+    /// the byte after it. The bytes up to there are consumed.
+    Frame(FrameType, usize, usize),
+    /// A piece of DATA or of a stream of a session: the offset of its first byte, and the offset of
+    /// the byte after it. The bytes up to there are consumed.
+    Data(usize, usize),
+    /// A field section that is larger than the endpoint's limit: its size, and how many bytes are
+    /// consumed. Its payload is skipped.
+    TooLarge(u64, usize),
+    /// More bytes are needed, after this many that are consumed.
+    More(usize),
+    /// An error of the stream or of the connection. All bytes are consumed. It is returned once.
+    Fault(Fault),
     /// The stream ended without an error. All bytes are consumed.
     End,
 }
@@ -59,7 +79,7 @@ pub enum Found {
 impl Connection {
     /// Creates a connection.
     pub fn new(endpoint: Endpoint) -> Self
-        ensures { result ≡ record { endpoint = endpoint; control = false; encoder = false; decoder = false; waiting = 0; over = false } }
+        ensures { result ≡ record { endpoint = endpoint; control = false; encoder = false; decoder = false; waiting = 0; peer = with_defaults (values_of []); over = false } }
     {
         Connection {
             endpoint,
@@ -67,6 +87,7 @@ impl Connection {
             encoder: false,
             decoder: false,
             waiting: 0,
+            peer: PeerSettings::new(),
             over: false,
         }
     }
@@ -105,7 +126,7 @@ impl Connection {
         ensures { StepIsFound result self.old stream.old bytes.now self.new stream.new }
     {
         if self.over {
-            return Found::Step(Step::More(bytes.len()));
+            return Found::More(bytes.len());
         }
         match stream {
             Stream::Uni => {
@@ -118,31 +139,82 @@ impl Connection {
             }
             Stream::Frames(reader) => {
                 let step = reader.next(bytes);
-                self.after_step(step);
-                Found::Step(step)
+                self.judge(stream, step, bytes)
             }
             Stream::Session(_) => {
                 if bytes.len() == 0 {
-                    Found::Step(Step::More(0))
+                    Found::More(0)
                 } else {
-                    Found::Step(Step::Data(0, bytes.len()))
+                    Found::Data(0, bytes.len())
                 }
             }
-            Stream::Joining(_) | Stream::Waiting(_) => Found::Step(Step::More(0)),
-            Stream::Instructions | Stream::Ignored | Stream::Over => {
-                Found::Step(Step::More(bytes.len()))
+            Stream::Joining(_) | Stream::Waiting(_) => Found::More(0),
+            Stream::Encoder => self.read_encoder(stream, bytes),
+            Stream::Decoder(place) => {
+                let next = place.after(bytes);
+                self.go_on(stream, next, bytes.len())
+            }
+            Stream::Ignored | Stream::Over => Found::More(bytes.len()),
+        }
+    }
+
+    // Returns what a step of a stream of frames is for the connection.
+    fn judge(&mut self, stream: &mut Stream, step: Step, bytes: &[u8]) -> Found
+        requires { IsInside step bytes.now }
+        ensures { (result, self.new, stream.new) ≡ step_found self.old stream.old step bytes.now }
+    {
+        match step {
+            Step::Frame(FrameType::Settings, start, end) => {
+                match PeerSettings::read(&bytes[start..end]) {
+                    Ok(settings) => {
+                        self.peer = settings;
+                        Found::Settings(settings, start, end)
+                    }
+                    Err(fault) => self.fail(stream, fault),
+                }
+            }
+            Step::Frame(kind, start, end) => Found::Frame(kind, start, end),
+            Step::Data(start, end) => Found::Data(start, end),
+            Step::TooLarge(size, n) => Found::TooLarge(size, n),
+            Step::More(n) => Found::More(n),
+            Step::Fault(fault) => {
+                self.close(Fault::Stream(fault));
+                Found::Fault(Fault::Stream(fault))
             }
         }
     }
 
-    // Ends the connection after an error of it.
-    fn after_step(&mut self, step: Step)
-        ensures { self.new ≡ after_step_is self.old step }
+    // Reads the encoder stream of QPACK.
+    fn read_encoder(&mut self, stream: &mut Stream, bytes: &[u8]) -> Found
+        ensures { (result, self.new, stream.new) ≡ encoder_found self.old stream.old bytes.now }
     {
-        match step {
-            Step::Fault(fault) => self.close(fault),
-            _ => {}
+        if sets_nothing(bytes) {
+            Found::More(bytes.len())
+        } else {
+            self.fail(stream, Fault::EncoderStream)
         }
+    }
+
+    // Goes on at this place of the decoder stream of QPACK, after all `len` bytes.
+    fn go_on(&mut self, stream: &mut Stream, next: Option<DecoderPlace>, len: usize) -> Found
+        ensures { (result, self.new, stream.new) ≡ decoder_found self.old next len }
+    {
+        match next {
+            None => self.fail(stream, Fault::DecoderStream),
+            Some(place) => {
+                *stream = Stream::Decoder(place);
+                Found::More(len)
+            }
+        }
+    }
+
+    // Ends a stream by this error.
+    fn fail(&mut self, stream: &mut Stream, fault: Fault) -> Found
+        ensures { (result, self.new, stream.new) ≡ fails self.old fault }
+    {
+        self.close(fault);
+        *stream = Stream::Over;
+        Found::Fault(fault)
     }
 
     // Ends the connection if this error does.
@@ -170,17 +242,13 @@ impl Connection {
         ensures { StepIsFound result self.old stream.old bytes.now self.new stream.new }
     {
         match opening {
-            None => Found::Step(Step::More(0)),
+            None => Found::More(0),
             Some((purpose, n)) => match self.opened(purpose) {
                 Ok(next) => {
                     *stream = next;
                     Found::Opened(purpose, n)
                 }
-                Err(fault) => {
-                    self.close(fault);
-                    *stream = Stream::Over;
-                    Found::Step(Step::Fault(fault))
-                }
+                Err(fault) => self.fail(stream, fault),
             },
         }
     }
@@ -193,33 +261,33 @@ impl Connection {
         match purpose {
             Purpose::Control => {
                 if self.control {
-                    return Err(Fault::StreamCreation);
+                    return Err(Fault::Stream(StreamFault::StreamCreation));
                 }
                 self.control = true;
                 Ok(Stream::Frames(Reader::control(self.endpoint)))
             }
             Purpose::Encoder => {
                 if self.encoder {
-                    return Err(Fault::StreamCreation);
+                    return Err(Fault::Stream(StreamFault::StreamCreation));
                 }
                 self.encoder = true;
-                Ok(Stream::Instructions)
+                Ok(Stream::Encoder)
             }
             Purpose::Decoder => {
                 if self.decoder {
-                    return Err(Fault::StreamCreation);
+                    return Err(Fault::Stream(StreamFault::StreamCreation));
                 }
                 self.decoder = true;
-                Ok(Stream::Instructions)
+                Ok(Stream::Decoder(DecoderPlace::Between))
             }
             Purpose::Push => match self.endpoint.side {
-                Side::Client => Err(Fault::Id),
-                Side::Server => Err(Fault::StreamCreation),
+                Side::Client => Err(Fault::Stream(StreamFault::Id)),
+                Side::Server => Err(Fault::Stream(StreamFault::StreamCreation)),
             },
             Purpose::Session(session) => Ok(Stream::Joining(session)),
-            Purpose::InvalidSession => Err(Fault::Id),
+            Purpose::InvalidSession => Err(Fault::Stream(StreamFault::Id)),
             Purpose::Message => Ok(Stream::Frames(Reader::message(self.endpoint))),
-            Purpose::Foreign => Err(Fault::StreamCreation),
+            Purpose::Foreign => Err(Fault::Stream(StreamFault::StreamCreation)),
             Purpose::Ignored => Ok(Stream::Ignored),
         }
     }
@@ -229,163 +297,38 @@ impl Connection {
         ensures { (result, self.new, stream.new) ≡ finish_of self.old stream.old left consumed }
     {
         if self.over {
-            return Found::Step(Step::More(consumed));
+            return Found::More(consumed);
         }
         let end = match stream {
             Stream::Joining(_) | Stream::Waiting(_) | Stream::Over => {
-                return Found::Step(Step::More(consumed));
+                return Found::More(consumed);
             }
             Stream::Bi => {
                 if left > 0 {
-                    Err(Fault::Frame)
+                    Err(StreamFault::Frame)
                 } else {
                     Err(no_number(self.endpoint.side))
                 }
             }
             Stream::Frames(reader) => reader.finish(left),
-            Stream::Instructions => Err(Fault::ClosedCriticalStream),
+            Stream::Encoder | Stream::Decoder(_) => Err(StreamFault::ClosedCriticalStream),
             Stream::Uni | Stream::Session(_) | Stream::Ignored => Ok(()),
         };
-        *stream = Stream::Over;
         match end {
-            Ok(()) => Found::End,
-            Err(fault) => {
-                self.close(fault);
-                Found::Step(Step::Fault(fault))
-            }
-        }
-    }
-
-    /// Says what is known of the session of a stream: after `Opened(Session(..), _)`, and when that
-    /// changes. A stream whose session is open returns its bytes, which waited, from the next call
-    /// of [`receive`](Self::receive) on.
-    ///
-    /// # Errors
-    ///
-    /// `SessionGone`, `BufferedStreamRejected` (also if 16 streams wait already) and `Id`. The
-    /// stream is over then.
-    pub fn join(&mut self, stream: &mut Stream, known: Known) -> Option<Fault>
-        ensures { (self.new, stream.new, result) ≡ joins self.old stream.old known }
-    {
-        match stream {
-            Stream::Joining(session) => {
-                let session = *session;
-                match known {
-                    Known::Coming => {
-                        if self.waiting < MAX_WAITING {
-                            self.waiting += 1;
-                            *stream = Stream::Waiting(session);
-                            None
-                        } else {
-                            self.refuse(stream, Fault::BufferedStreamRejected)
-                        }
-                    }
-                    _ => self.settle(stream, session, known),
-                }
-            }
-            Stream::Waiting(session) => {
-                let session = *session;
-                match known {
-                    Known::Coming => None,
-                    _ => {
-                        self.free();
-                        self.settle(stream, session, known)
-                    }
-                }
-            }
-            Stream::Session(_) => match known {
-                Known::Over => self.refuse(stream, Fault::SessionGone),
-                _ => None,
-            },
-            _ => None,
-        }
-    }
-
-    // Joins a stream with a session that is not to come.
-    fn settle(&mut self, stream: &mut Stream, session: u64, known: Known) -> Option<Fault>
-        ensures { (self.new, stream.new, result) ≡ settles self.old session known }
-    {
-        match known {
-            Known::Coming => {
-                *stream = Stream::Waiting(session);
-                None
-            }
-            Known::Open => {
-                *stream = Stream::Session(session);
-                None
-            }
-            Known::Over => self.refuse(stream, Fault::SessionGone),
-            Known::Refused => self.refuse(stream, Fault::BufferedStreamRejected),
-            Known::Impossible => self.refuse(stream, Fault::Id),
-        }
-    }
-
-    // Ends a stream by this error.
-    fn refuse(&mut self, stream: &mut Stream, fault: Fault) -> Option<Fault>
-        ensures { (self.new, stream.new, result) ≡ refuses self.old fault }
-    {
-        self.close(fault);
-        *stream = Stream::Over;
-        Some(fault)
-    }
-
-    /// Says that the peer reset a stream. Its bytes that were not returned are lost, and the stream
-    /// is over. A stream that waits for its session waits no longer.
-    ///
-    /// Of a request or a response, and of a stream of a session, this ends that stream alone. A
-    /// server that has no HEADERS of the request should reset its own half with
-    /// H3_REQUEST_INCOMPLETE (RFC 9114, section 4.1).
-    ///
-    /// # Errors
-    ///
-    /// `ClosedCriticalStream`, which ends the connection, if it is the control stream (RFC 9114,
-    /// section 6.2.1) or one of QPACK (RFC 9204, section 4.2). None after an error of the
-    /// connection.
-    pub fn reset(&mut self, stream: &mut Stream) -> Option<Fault>
-        ensures { (self.new, stream.new, result) ≡ resets self.old stream.old }
-    {
-        if stream.is_critical() {
-            if self.over {
+            Ok(()) => {
                 *stream = Stream::Over;
-                return None;
+                Found::End
             }
-            return self.refuse(stream, Fault::ClosedCriticalStream);
+            Err(fault) => self.fail(stream, Fault::Stream(fault)),
         }
-        self.leave(stream);
-        None
     }
 
-    /// Ends the reading of a stream, for a reason of the application. The stream is over: its bytes
-    /// are discarded. A stream that waits for its session waits no longer.
-    ///
-    /// The control stream and those of QPACK stay as they are: the peer must not be asked to close
-    /// them (RFC 9114, section 6.2.1; RFC 9204, section 4.2).
-    pub fn abandon(&mut self, stream: &mut Stream)
-        ensures { (self.new, stream.new) ≡ abandons self.old stream.old }
+    /// Returns the settings of the peer. Until its SETTINGS come each one has its default (RFC 9114,
+    /// section 7.2.4.2).
+    pub fn peer_settings(&self) -> PeerSettings
+        ensures { result ≡ self.now.peer }
     {
-        if stream.is_critical() {
-            return;
-        }
-        self.leave(stream);
-    }
-
-    // Ends a stream, which gives its place back if it waits.
-    fn leave(&mut self, stream: &mut Stream)
-        ensures connection { self.new ≡ without self.old stream.old }
-        ensures over { stream.new ≡ Stream.Over }
-    {
-        match stream {
-            Stream::Waiting(_) => self.free(),
-            _ => {}
-        }
-        *stream = Stream::Over;
-    }
-
-    // Counts one stream less that waits.
-    fn free(&mut self)
-        ensures { self.new ≡ freed self.old }
-    {
-        self.waiting = self.waiting.saturating_sub(1);
+        self.peer
     }
 
     /// Returns how many streams wait for sessions that are to come.
@@ -397,12 +340,12 @@ impl Connection {
 }
 
 // Returns the error of a bidirectional stream that ends before its first number.
-fn no_number(side: Side) -> Fault
+fn no_number(side: Side) -> StreamFault
     ensures { result ≡ no_number_is side }
 {
     match side {
-        Side::Client => Fault::StreamCreation,
-        Side::Server => Fault::RequestIncomplete,
+        Side::Client => StreamFault::StreamCreation,
+        Side::Server => StreamFault::RequestIncomplete,
     }
 }
 
@@ -411,7 +354,7 @@ fn consumed_by_more(found: Found) -> Option<usize>
     ensures { result ≡ more_in found }
 {
     match found {
-        Found::Step(Step::More(n)) => Some(n),
+        Found::More(n) => Some(n),
         _ => None,
     }
 }

@@ -3,5 +3,8 @@
 #![tactic(auto)]
 
 pub mod connection;
+pub mod fault;
 pub mod fields;
+pub mod instructions;
+pub mod settings;
 pub mod stream;

@@ -5,6 +5,7 @@ ghost use Rattle.wtp_core.specs.Varint.{number_at};
 ghost use Rattle.wtp_connection.specs.Opening.{with_session, type_purpose, frames_purpose, uni_at, bi_at, stream_of, waits_for, is_critical as is_critical_is, is_closed as is_closed_is};
 ghost use Rattle.wtp_frames.specs.Start.{message_reader};
 
+use crate::instructions::DecoderPlace;
 use wtp_core::varint::first_varint;
 use wtp_frames::endpoint::{Endpoint, Side};
 use wtp_frames::fault::Fault;
@@ -49,8 +50,10 @@ pub enum Stream {
     Waiting(u64),
     /// A stream of this session. Its bytes are the application's.
     Session(u64),
-    /// The encoder or the decoder stream of QPACK.
-    Instructions,
+    /// The encoder stream of QPACK.
+    Encoder,
+    /// The decoder stream of QPACK.
+    Decoder(DecoderPlace),
     /// A stream of an unknown type. Its bytes are discarded.
     Ignored,
     /// A stream that has ended or has an error. Its bytes are discarded.
@@ -98,7 +101,7 @@ impl Stream {
         ensures { result ≡ is_critical_is self.now }
     {
         match self {
-            Stream::Instructions => true,
+            Stream::Encoder | Stream::Decoder(_) => true,
             Stream::Frames(reader) => is_closed(reader.finish(0)),
             _ => false,
         }

@@ -1,0 +1,149 @@
+//! Streams of sessions, and streams that end before their last byte.
+ghost use Rattle.std.specs.Prelude.{◌≡◌};
+ghost use Rattle.wtp_connection.specs.Streams.{joins, waits, settles, refuses, freed, without, resets, abandons};
+
+use crate::connection::{Connection, Known};
+use crate::fault::Fault;
+use crate::stream::Stream;
+use wtp_frames::fault::Fault as StreamFault;
+
+/// How many streams may wait for sessions that are to come.
+const MAX_WAITING: u32 = 16;
+
+impl Connection {
+    /// Says what is known of the session of a stream: after `Opened(Session(..), _)`, and when that
+    /// changes. A stream whose session is open returns its bytes, which waited, from the next call
+    /// of [`receive`](Self::receive) on.
+    ///
+    /// # Errors
+    ///
+    /// `SessionGone`, `BufferedStreamRejected` (also if 16 streams wait already) and `Id`. The
+    /// stream is over then. After an error of the connection there is none, and nothing changes.
+    pub fn join(&mut self, stream: &mut Stream, known: Known) -> Option<Fault>
+        ensures { (self.new, stream.new, result) ≡ joins self.old stream.old known }
+    {
+        if self.over {
+            return None;
+        }
+        match stream {
+            Stream::Joining(session) => {
+                let session = *session;
+                match known {
+                    Known::Coming => self.wait(stream, session),
+                    _ => self.settle(stream, session, known),
+                }
+            }
+            Stream::Waiting(session) => {
+                let session = *session;
+                match known {
+                    Known::Coming => None,
+                    _ => {
+                        self.free();
+                        self.settle(stream, session, known)
+                    }
+                }
+            }
+            Stream::Session(_) => match known {
+                Known::Over => self.refuse(stream, StreamFault::SessionGone),
+                _ => None,
+            },
+            _ => None,
+        }
+    }
+
+    // Lets a stream wait for its session, if it has a place.
+    fn wait(&mut self, stream: &mut Stream, session: u64) -> Option<Fault>
+        ensures { (self.new, stream.new, result) ≡ waits self.old session }
+    {
+        if self.waiting < MAX_WAITING {
+            self.waiting += 1;
+            *stream = Stream::Waiting(session);
+            None
+        } else {
+            self.refuse(stream, StreamFault::BufferedStreamRejected)
+        }
+    }
+
+    // Joins a stream with a session that is not to come.
+    fn settle(&mut self, stream: &mut Stream, session: u64, known: Known) -> Option<Fault>
+        ensures { (self.new, stream.new, result) ≡ settles self.old session known }
+    {
+        match known {
+            Known::Coming => {
+                *stream = Stream::Waiting(session);
+                None
+            }
+            Known::Open => {
+                *stream = Stream::Session(session);
+                None
+            }
+            Known::Over => self.refuse(stream, StreamFault::SessionGone),
+            Known::Refused => self.refuse(stream, StreamFault::BufferedStreamRejected),
+            Known::Impossible => self.refuse(stream, StreamFault::Id),
+        }
+    }
+
+    // Ends a stream by this error.
+    fn refuse(&mut self, stream: &mut Stream, fault: StreamFault) -> Option<Fault>
+        ensures { (self.new, stream.new, result) ≡ refuses self.old fault }
+    {
+        self.close(Fault::Stream(fault));
+        *stream = Stream::Over;
+        Some(Fault::Stream(fault))
+    }
+
+    /// Says that the peer reset a stream. Its bytes that were not returned are lost, and the stream
+    /// is over. A stream that waits for its session waits no longer.
+    ///
+    /// Of a request or a response, and of a stream of a session, this ends that stream alone. A
+    /// server that has no HEADERS of the request should reset its own half with
+    /// H3_REQUEST_INCOMPLETE (RFC 9114, section 4.1).
+    ///
+    /// # Errors
+    ///
+    /// `ClosedCriticalStream`, which ends the connection, if it is the control stream (RFC 9114,
+    /// section 6.2.1) or one of QPACK (RFC 9204, section 4.2). None after an error of the
+    /// connection.
+    pub fn reset(&mut self, stream: &mut Stream) -> Option<Fault>
+        ensures { (self.new, stream.new, result) ≡ resets self.old stream.old }
+    {
+        if stream.is_critical() && !self.over {
+            return self.refuse(stream, StreamFault::ClosedCriticalStream);
+        }
+        self.leave(stream);
+        None
+    }
+
+    /// Ends the reading of a stream, for a reason of the application. The stream is over: its bytes
+    /// are discarded. A stream that waits for its session waits no longer.
+    ///
+    /// The control stream and those of QPACK stay as they are: the peer must not be asked to close
+    /// them (RFC 9114, section 6.2.1; RFC 9204, section 4.2).
+    pub fn abandon(&mut self, stream: &mut Stream)
+        ensures { (self.new, stream.new) ≡ abandons self.old stream.old }
+    {
+        if stream.is_critical() {
+            return;
+        }
+        self.leave(stream);
+    }
+
+    // Ends a stream, which gives its place back if it waits.
+    fn leave(&mut self, stream: &mut Stream)
+        ensures connection { self.new ≡ without self.old stream.old }
+        ensures over { stream.new ≡ Stream.Over }
+    {
+        match stream {
+            Stream::Waiting(_) => self.free(),
+            _ => {}
+        }
+        *stream = Stream::Over;
+    }
+
+    // Counts one stream less that waits.
+    fn free(&mut self)
+        ensures { self.new ≡ freed self.old }
+    {
+        self.waiting = self.waiting.saturating_sub(1);
+    }
+}
