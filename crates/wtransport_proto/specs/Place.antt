@@ -107,8 +107,12 @@ pub record Remains (old new : Held) (ahead left : List ℕ) : Type 0 where
   pub same : front_held new left ≡ front_held old ahead
   pub kept : new.skip_remaining ≡ 0 → (old.skip_remaining ≡ 0) × (new.taken ++ left ≡ old.taken ++ ahead)
   pub begun :
-      old.skip_remaining ≡ 0 → 0 < new.skip_remaining → (new.taken ≡ []) × BeginsUnknown (old.taken ++ ahead) new.skip_remaining left
-  pub going : 0 < old.skip_remaining → (new.taken ≡ old.taken) × SkipAdvances old.skip_remaining ahead new.skip_remaining left
+      old.skip_remaining ≡ 0
+      → 0 < new.skip_remaining
+      → (new.taken ≡ []) × BeginsUnknown (old.taken ++ ahead) new.skip_remaining left
+  pub going :
+      0 < old.skip_remaining
+      → (new.taken ≡ old.taken) × SkipAdvances old.skip_remaining ahead new.skip_remaining left
 
 -- Two positions are the same: no byte was lost between them.
 pub record SamePlace (old new : Place) : Type 0 where

@@ -75,8 +75,8 @@ pub fn run_held_by_bytes()
     ensures held { (role : Role) (first : Bool) (h : Held) (ahead : List ℕ) (tail : Tail)
         → tail ≢ MayGoOn → h.skip_remaining ≡ 0
         → run_held role first h ahead tail ≡ run role first (h.taken ++ ahead) tail }
-    ensures skip_remaining { (role : Role) (first : Bool) (h : Held) (ahead : List ℕ) (tail : Tail) → 0 < h.skip_remaining
-        → h.skip_remaining ≤ length ahead
+    ensures skip_remaining { (role : Role) (first : Bool) (h : Held) (ahead : List ℕ) (tail : Tail)
+        → 0 < h.skip_remaining → h.skip_remaining ≤ length ahead
         → run_held role first h ahead tail ≡ run role first (drop h.skip_remaining ahead) tail }
     ensures lacking { (role : Role) (first : Bool) (h : Held) (ahead : List ℕ) (tail : Tail)
         → length ahead < h.skip_remaining
