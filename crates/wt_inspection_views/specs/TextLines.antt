@@ -1,5 +1,6 @@
 -- The number of lines in the text of an inspection.
-use Rattle.std.specs.Prelude.{◌≡◌, ℕ, ◌+◌, ◌-◌, ◌/◌, ◌≤◌, Bool, if◌then◌else◌, List, [], length, take, drop, nat_le, sum_by, Option, Some, None}
+use Rattle.std.specs.Prelude.{◌≡◌, ℕ, ◌+◌, ◌-◌, ◌/◌, ◌≤◌, Bool, if◌then◌else◌, List, [], length}
+use Rattle.std.specs.Prelude.{take, drop, nat_le, sum_by, Option, Some, None}
 use Rattle.wtp_wire.specs.declared.frame.kind.FrameKind.TheVariants as kind-is
 use Rattle.wt_inspection_model.specs.declared.item.Content.{Content}
 use Rattle.wt_inspection_model.specs.declared.item.Content.TheVariants as content-is

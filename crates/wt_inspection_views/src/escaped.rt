@@ -2,7 +2,8 @@
 ghost use Rattle.std.specs.Prelude.{◌≡◌, ◌<◌, ◌++◌, IfOk, IsTrue, string_bytes};
 ghost use Rattle.std.specs.Char.{is_control};
 ghost use Rattle.std.specs.Str.{NoCharPasses};
-ghost use Rattle.wt_inspection_views.specs.Escaped.{AddsShown, HasNoBackslash, digit_of, escaped_byte, is_plain_byte};
+ghost use Rattle.wt_inspection_views.specs.Escaped.{AddsShown, HasNoBackslash, digit_of};
+ghost use Rattle.wt_inspection_views.specs.Escaped.{escaped_byte, is_plain_byte};
 
 use std::alloc::AllocError;
 

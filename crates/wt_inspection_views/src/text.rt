@@ -2,7 +2,10 @@
 ghost use Rattle.std.specs.Prelude.{◌≡◌, ◌+◌, IfOk, IsTrue, length, string_bytes, sum_by};
 ghost use Rattle.wt_inspection_views.specs.Escaped.{IsClean, line_count};
 ghost use Rattle.wt_inspection_views.specs.Lines.{Gains};
-ghost use Rattle.wt_inspection_views.specs.TextLines.{capsule_lines, content_lines, hex_lines, inspection_lines, parts_lines, payload_of as payload_of_item, shown_of as shown_of_item};
+ghost use Rattle.wt_inspection_views.specs.TextLines.{capsule_lines, content_lines, hex_lines};
+ghost use Rattle.wt_inspection_views.specs.TextLines.{inspection_lines, parts_lines};
+ghost use Rattle.wt_inspection_views.specs.TextLines.{payload_of as payload_of_item};
+ghost use Rattle.wt_inspection_views.specs.TextLines.{shown_of as shown_of_item};
 
 mod lines;
 pub(crate) mod parts;

@@ -1,6 +1,7 @@
 //! A page of HTML.
 ghost use Rattle.std.specs.Prelude.{◌≡◌, ℕ, List, [], ◌∷◌, ◌++◌, IfOk, IsTrue, MatchOption, OnErr};
-ghost use Rattle.wt_inspection_views.specs.Html.{BeginsPage, IsPage, html_byte, html_text, markup_bytes};
+ghost use Rattle.wt_inspection_views.specs.Html.{BeginsPage, IsPage, html_byte, html_text};
+ghost use Rattle.wt_inspection_views.specs.Html.{markup_bytes};
 
 use std::alloc::{AllocError, Global};
 use std::marker::Model;

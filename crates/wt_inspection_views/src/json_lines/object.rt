@@ -1,5 +1,6 @@
 //! Lines of JSON, one object per line.
-ghost use Rattle.std.specs.Prelude.{◌≡◌, ℕ, Bool, true, false, List, [], ◌∷◌, ◌++◌, IfOk, IfSome, OnErr, OnOk, IsTrue};
+ghost use Rattle.std.specs.Prelude.{◌≡◌, ℕ, Bool, true, false, List, [], ◌∷◌, ◌++◌, IfOk, IfSome};
+ghost use Rattle.std.specs.Prelude.{OnErr, OnOk, IsTrue};
 ghost use Rattle.std.specs.Str.{NoCharPasses};
 ghost use Rattle.json.specs.Token.{Token};
 ghost use Rattle.wt_inspection_views.specs.JsonLines.{AreJsonLines, is_late_control};
@@ -94,8 +95,10 @@ pub(super) struct Object {
 }
 
 impl Object {
-    ghost use Rattle.wt_inspection_views.specs.JsonLines.{IsJsonLine, Place, in_object, in_array, after_name};
-    ghost use Rattle.wt_inspection_views.specs.Objects.{AddsElements, AddsMembers, AddsName, AddsValue, IsAt};
+    ghost use Rattle.wt_inspection_views.specs.JsonLines.{IsJsonLine, Place, in_object, in_array};
+    ghost use Rattle.wt_inspection_views.specs.JsonLines.{after_name};
+    ghost use Rattle.wt_inspection_views.specs.Objects.{AddsElements, AddsMembers, AddsName};
+    ghost use Rattle.wt_inspection_views.specs.Objects.{AddsValue, IsAt};
 
     /// Creates an empty object.
     #[tactic(auto, unfolding(crate::specs::Objects::IsAt))]

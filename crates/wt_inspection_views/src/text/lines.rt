@@ -76,7 +76,8 @@ impl Lines {
     /// Returns the text, or [`AllocError`] if an allocation failed.
     pub(super) fn into_text(self) -> Result<String, AllocError>
         ensures clean { IfOk result (λ t. IsClean (string_bytes t)) }
-        ensures lines { IfOk result (λ t. IsTrue self.is_whole × (line_count (string_bytes t) ≡ line_count self.text)) }
+        ensures lines { IfOk result (λ t. IsTrue self.is_whole
+            × (line_count (string_bytes t) ≡ line_count self.text)) }
     {
         if self.is_whole {
             Ok(self.text.into_text())

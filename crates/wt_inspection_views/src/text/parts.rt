@@ -1,7 +1,8 @@
 //! The indented lines below an item.
 ghost use Rattle.std.specs.Prelude.{length};
 ghost use Rattle.wt_inspection_views.specs.Lines.{Gains};
-ghost use Rattle.wt_inspection_views.specs.TextLines.{capsule_lines, close_lines, field_lines, hex_lines, stop_lines};
+ghost use Rattle.wt_inspection_views.specs.TextLines.{capsule_lines, close_lines, field_lines};
+ghost use Rattle.wt_inspection_views.specs.TextLines.{hex_lines, stop_lines};
 
 use super::lines::Lines;
 use crate::escaped::{add_escaped, add_hex_byte};
