@@ -45,6 +45,8 @@ excess_step room es i d lt over =
     let more : room < table_size (get_or es i d ∷ drop (i + 1) es) = subst (λ (z : List Field). room < table_size z) cons over in
     ap (excess room) cons ∙ rw (lt-leb (table_size (get_or es i d ∷ drop (i + 1) es)) room more) (omega arith)
 
+pub ruleset room_steps = (excess_step, excess_fits, size_step)
+
 -- ---- entries from the latest on
 
 -- from a place on, and below an index, no entry has the property

@@ -72,7 +72,7 @@ without stream (sent ∷ others) =
 -- why an increment is refused
 abbrev pub increment_fault : DecoderStreamError → (count known inserted : ℕ) → Type 0
 increment_fault ZeroIncrement count known inserted = count ≡ 0
-increment_fault IncrementTooLarge count known inserted = inserted < known + count
+increment_fault IncrementTooLarge count known inserted = (0 < count) × (inserted < known + count)
 increment_fault _ count known inserted = ⊥
 
 -- ---- steps

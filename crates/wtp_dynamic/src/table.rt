@@ -191,7 +191,7 @@ impl DynamicTable {
 
     /// Returns how many entries will have been evicted once those that are left have at most `room`
     /// bytes.
-    #[tactic(auto, using(crate::proofs::Lookups::excess_step, crate::proofs::Lookups::excess_fits, crate::proofs::Lookups::size_step,))]
+    #[tactic(auto, using(crate::proofs::Lookups::room_steps))]
     pub fn dropped_for(&self, room: u64) -> u64
         ensures { result ≡ (evicted room self.now).dropped }
     {
