@@ -45,8 +45,8 @@ GivesUnlessRefused result read =
     MatchResult result (λ m. read ≡ Ok m) (λ e. e ≢ Memory → read ≡ Err e)
 
 -- after its prefix and valid lines, the section has a line that needs memory
-abbrev pub BeginsLine : List ℕ → Type 0
-BeginsLine = SectionNeedsMemory
+abbrev pub PayloadNeedsMemory : List ℕ → Type 0
+PayloadNeedsMemory = SectionNeedsMemory
 
 -- ---- the two groups, as they are written
 

@@ -16,7 +16,7 @@ use Rattle.wtp_wire.specs.Held.{Held, new_held, front_held, IsUnfinished, Leaves
 use Rattle.wtp_wire.proofs.FrontLemmas.{front-empty}
 use Rattle.wtp_wire.specs.Wire.{wire}
 use Rattle.wtp_fields.specs.Field.{Field, IsMap, AreTexts}
-use Rattle.wtp_fields.specs.Headers.{payload, headers_at, or_decompression, BeginsLine}
+use Rattle.wtp_fields.specs.Headers.{payload, headers_at, or_decompression, PayloadNeedsMemory}
 use Rattle.wtp_wire.proofs.FramePollLemmas.{front_none, front_due}
 use Rattle.wtp_wire.proofs.WireLemmas.{front-wire}
 use Rattle.wtp_fields.proofs.Payloads.{payload_again}
@@ -246,7 +246,7 @@ pub told_read : (s t : Option Source) (role : Role) (first next : Bool) (turns :
     → HasModel s t (FrameDid role first next turns (Ok f)) → HasModel s t (MapDid role first next turns (Ok n))
 told_read s t role first next turns f n kind read p = telling_map s t (Takes role first next f) (MapDid role first next turns (Ok n)) (λ a b k. (payload_in f, rw (← is_headers f kind) k, read)) p
 
-pub told_section : (s t : Option Source) (role : Role) (first next : Bool) (turns : ℕ) (f : Content) (e : Refused) → kind_in f ≡ Headers → (e ≢ refused.Memory → headers_at (payload_in f) ≡ Err e) → (e ≡ refused.Memory → BeginsLine (payload_in f))
+pub told_section : (s t : Option Source) (role : Role) (first next : Bool) (turns : ℕ) (f : Content) (e : Refused) → kind_in f ≡ Headers → (e ≢ refused.Memory → headers_at (payload_in f) ≡ Err e) → (e ≡ refused.Memory → PayloadNeedsMemory (payload_in f))
     → HasModel s t (FrameDid role first next turns (Ok f)) → HasModel s t (MapDid role first next turns (Err (receive.Section e)))
 told_section s t role first next turns f e kind bad memory p = telling_map s t (Takes role first next f) (MapDid role first next turns (Err (receive.Section e))) (λ a b k. (payload_in f, rw (← is_headers f kind) k, bad, memory)) p
 

@@ -11,7 +11,7 @@ use Rattle.wtp_wire.specs.Front.{Front, Framed, Unknown, BadId, TooBig, Short, f
 use Rattle.wtp_wire.specs.Held.{Held, new_held, front_held, IsUnfinished}
 use Rattle.wtp_wire.specs.Wire.{wire}
 use Rattle.wtp_fields.specs.Field.{Field}
-use Rattle.wtp_fields.specs.Headers.{payload, headers_at, BeginsLine}
+use Rattle.wtp_fields.specs.Headers.{payload, headers_at, PayloadNeedsMemory}
 use Rattle.wtransport_proto.specs.declared.stream.polled.IoReadError.{IoReadError}
 use Rattle.wtransport_proto.specs.declared.exchange.SendError.{SendError}
 use Rattle.wtransport_proto.specs.declared.exchange.SendError.TheVariants as send
@@ -143,7 +143,7 @@ MapDid role first next turns (Err (receive.Section e)) a b =
     (p : List ℕ)
     × Takes role first next (HeadersOf p) a b
     × (e ≢ refused.Memory → headers_at p ≡ Err e)
-    × (e ≡ refused.Memory → BeginsLine p)
+    × (e ≡ refused.Memory → PayloadNeedsMemory p)
 MapDid role first next turns (Err receive.Memory) a b =
     FrameDid role first next turns (Err receive.Memory) a b
 
