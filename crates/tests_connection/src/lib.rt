@@ -7,6 +7,8 @@ mod qpack;
 #[cfg(test)]
 mod reading;
 #[cfg(test)]
+mod requests;
+#[cfg(test)]
 mod resets;
 #[cfg(test)]
 mod same;

@@ -10,13 +10,13 @@ use wtp_core::error::ErrorScope;
 
 /// A stream that is reset.
 struct Row {
-    /// What it shows.
+    /// What it case.
     case: &'static str,
     /// Its ID.
     id: u64,
     /// The bytes that came before.
     bytes: &'static [u8],
-    /// The code of the error; 0 if there is none. Such an error ends the connection.
+    /// The code of the error; 0 if there is none. The error 0x104 ends the connection.
     code: u64,
 }
 
@@ -65,16 +65,16 @@ static ROWS: [Row; 11] = [
         code: 0,
     },
     Row {
-        case: "a request before its first byte (4.1)",
+        case: "a request before its first byte (4.1.1)",
         id: 0,
         bytes: &[],
-        code: 0,
+        code: 0x10d,
     },
     Row {
-        case: "a request within an unknown frame (4.1)",
+        case: "a request within an unknown frame (4.1.1)",
         id: 0,
         bytes: &[0x21, 0x05, 0x00],
-        code: 0,
+        code: 0x10d,
     },
     Row {
         case: "a request within DATA (7.1)",
@@ -113,7 +113,7 @@ fn check_row<R: Abort>(rt: &R, row: &Row) {
     let mut stream = Stream::of_peer(row.id);
     read(&mut connection, &mut stream, row.bytes, 64, false);
     let came = error_of(connection.reset(&mut stream));
-    assert_same(rt, came, (row.code, row.code != 0), row.case);
+    assert_same(rt, came, (row.code, row.code == 0x104), row.case);
     let again = error_of(connection.reset(&mut stream));
     assert_same(rt, again, (0, false), row.case);
     let later = read(&mut connection, &mut stream, &[0x00, 0x01], 64, true);
@@ -123,7 +123,7 @@ fn check_row<R: Abort>(rt: &R, row: &Row) {
         (0, 0, 0),
         row.case,
     );
-    let other = if row.code == 0 { 1 } else { 0 };
+    let other = if row.code == 0x104 { 0 } else { 1 };
     assert_same(rt, data_of_another(&mut connection), other, row.case);
 }
 
@@ -135,7 +135,12 @@ fn check_abandoned<R: Abort>(rt: &R, row: &Row) {
     connection.abandon(&mut stream);
     assert_same(rt, data_of_another(&mut connection), 1, row.case);
     let came = error_of(connection.reset(&mut stream));
-    assert_same(rt, came, (row.code, row.code != 0), row.case);
+    let wanted = if row.code == 0x104 {
+        (0x104, true)
+    } else {
+        (0, false)
+    };
+    assert_same(rt, came, wanted, row.case);
 }
 
 #[test]

@@ -2,16 +2,19 @@
 //! 7.2.4, 7.2.4.1 and 10.5; RFC 8441, section 3; RFC 9297, section 2.1.1;
 //! draft-ietf-webtrans-http3-02, section 3.1).
 use crate::reading::{connection_of, read};
-use crate::same::same;
+use crate::same::assert_same;
 use std::process::Abort;
-use wtp_connection::connection::Connection;
+use wtp_connection::connection::{Connection, Found};
+use wtp_connection::fields::Fields;
 use wtp_connection::settings::PeerSettings;
 use wtp_connection::stream::Stream;
+use wtp_core::error::ErrorCode;
+use wtp_wire::settings::{SettingPair, SettingPairs};
 
 /// A control stream: SETTINGS, and GOAWAY after them.
 struct Row {
-    /// What it shows.
-    shows: &'static str,
+    /// What it case.
+    case: &'static str,
     /// Its bytes.
     bytes: &'static [u8],
     /// The code of the error, which ends the connection; 0 if there is none.
@@ -21,68 +24,68 @@ struct Row {
 /// SETTINGS by the rule that they keep or violate.
 static ROWS: [Row; 32] = [
     Row {
-        shows: "no settings",
+        case: "no settings",
         bytes: &[0x00, 0x04, 0x00, 0x07, 0x01, 0x00],
         code: 0,
     },
     Row {
-        shows: "0x00 of HTTP/2 (7.2.4.1)",
+        case: "0x00 of HTTP/2 (7.2.4.1)",
         bytes: &[0x00, 0x04, 0x02, 0x00, 0x00, 0x07, 0x01, 0x00],
         code: 0x109,
     },
     Row {
-        shows: "0x02 of HTTP/2 (7.2.4.1)",
+        case: "0x02 of HTTP/2 (7.2.4.1)",
         bytes: &[0x00, 0x04, 0x02, 0x02, 0x01, 0x07, 0x01, 0x00],
         code: 0x109,
     },
     Row {
-        shows: "0x03 of HTTP/2 (7.2.4.1)",
+        case: "0x03 of HTTP/2 (7.2.4.1)",
         bytes: &[0x00, 0x04, 0x02, 0x03, 0x01, 0x07, 0x01, 0x00],
         code: 0x109,
     },
     Row {
-        shows: "0x04 of HTTP/2 (7.2.4.1)",
+        case: "0x04 of HTTP/2 (7.2.4.1)",
         bytes: &[0x00, 0x04, 0x02, 0x04, 0x01, 0x07, 0x01, 0x00],
         code: 0x109,
     },
     Row {
-        shows: "0x05 of HTTP/2, its number in four bytes (7.2.4.1)",
+        case: "0x05 of HTTP/2, its number in four bytes (7.2.4.1)",
         bytes: &[
             0x00, 0x04, 0x05, 0x80, 0x00, 0x00, 0x05, 0x01, 0x07, 0x01, 0x00,
         ],
         code: 0x109,
     },
     Row {
-        shows: "0x01 twice (7.2.4)",
+        case: "0x01 twice (7.2.4)",
         bytes: &[0x00, 0x04, 0x04, 0x01, 0x00, 0x01, 0x00, 0x07, 0x01, 0x00],
         code: 0x109,
     },
     Row {
-        shows: "0x06 twice, the second time in two bytes (7.2.4)",
+        case: "0x06 twice, the second time in two bytes (7.2.4)",
         bytes: &[
             0x00, 0x04, 0x05, 0x06, 0x10, 0x40, 0x06, 0x10, 0x07, 0x01, 0x00,
         ],
         code: 0x109,
     },
     Row {
-        shows: "0x07 twice, with others between (7.2.4)",
+        case: "0x07 twice, with others between (7.2.4)",
         bytes: &[
             0x00, 0x04, 0x08, 0x07, 0x00, 0x33, 0x01, 0x21, 0x00, 0x07, 0x01, 0x07, 0x01, 0x00,
         ],
         code: 0x109,
     },
     Row {
-        shows: "0x08 twice (7.2.4)",
+        case: "0x08 twice (7.2.4)",
         bytes: &[0x00, 0x04, 0x04, 0x08, 0x01, 0x08, 0x01, 0x07, 0x01, 0x00],
         code: 0x109,
     },
     Row {
-        shows: "0x33 twice (7.2.4)",
+        case: "0x33 twice (7.2.4)",
         bytes: &[0x00, 0x04, 0x04, 0x33, 0x00, 0x33, 0x01, 0x07, 0x01, 0x00],
         code: 0x109,
     },
     Row {
-        shows: "0x2b603742 twice (7.2.4)",
+        case: "0x2b603742 twice (7.2.4)",
         bytes: &[
             0x00, 0x04, 0x0c, 0x33, 0x01, 0xab, 0x60, 0x37, 0x42, 0x01, 0xab, 0x60, 0x37, 0x42,
             0x01, 0x07, 0x01, 0x00,
@@ -90,7 +93,7 @@ static ROWS: [Row; 32] = [
         code: 0x109,
     },
     Row {
-        shows: "0xc671706a twice (7.2.4)",
+        case: "0xc671706a twice (7.2.4)",
         bytes: &[
             0x00, 0x04, 0x12, 0xc0, 0x00, 0x00, 0x00, 0xc6, 0x71, 0x70, 0x6a, 0x10, 0xc0, 0x00,
             0x00, 0x00, 0xc6, 0x71, 0x70, 0x6a, 0x10, 0x07, 0x01, 0x00,
@@ -98,7 +101,7 @@ static ROWS: [Row; 32] = [
         code: 0x109,
     },
     Row {
-        shows: "0x14e9cd29 twice (7.2.4)",
+        case: "0x14e9cd29 twice (7.2.4)",
         bytes: &[
             0x00, 0x04, 0x0a, 0x94, 0xe9, 0xcd, 0x29, 0x01, 0x94, 0xe9, 0xcd, 0x29, 0x01, 0x07,
             0x01, 0x00,
@@ -106,81 +109,81 @@ static ROWS: [Row; 32] = [
         code: 0x109,
     },
     Row {
-        shows: "0x33 is 2 (RFC 9297, 2.1.1)",
+        case: "0x33 is 2 (RFC 9297, 2.1.1)",
         bytes: &[0x00, 0x04, 0x02, 0x33, 0x02, 0x07, 0x01, 0x00],
         code: 0x109,
     },
     Row {
-        shows: "0x08 is 2 (RFC 8441, 3)",
+        case: "0x08 is 2 (RFC 8441, 3)",
         bytes: &[0x00, 0x04, 0x02, 0x08, 0x02, 0x07, 0x01, 0x00],
         code: 0x109,
     },
     Row {
-        shows: "0x2b603742 is 2 (draft 02, 3.1)",
+        case: "0x2b603742 is 2 (draft 02, 3.1)",
         bytes: &[
             0x00, 0x04, 0x07, 0x33, 0x01, 0xab, 0x60, 0x37, 0x42, 0x02, 0x07, 0x01, 0x00,
         ],
         code: 0x109,
     },
     Row {
-        shows: "0x2b603742 without 0x33 (draft 02, 3.1)",
+        case: "0x2b603742 without 0x33 (draft 02, 3.1)",
         bytes: &[
             0x00, 0x04, 0x05, 0xab, 0x60, 0x37, 0x42, 0x01, 0x07, 0x01, 0x00,
         ],
         code: 0x109,
     },
     Row {
-        shows: "0x2b603742 where 0x33 is 0 (draft 02, 3.1)",
+        case: "0x2b603742 where 0x33 is 0 (draft 02, 3.1)",
         bytes: &[
             0x00, 0x04, 0x07, 0x33, 0x00, 0xab, 0x60, 0x37, 0x42, 0x01, 0x07, 0x01, 0x00,
         ],
         code: 0x109,
     },
     Row {
-        shows: "0x2b603742 before 0x33 (draft 02, 3.1)",
+        case: "0x2b603742 before 0x33 (draft 02, 3.1)",
         bytes: &[
             0x00, 0x04, 0x07, 0xab, 0x60, 0x37, 0x42, 0x01, 0x33, 0x01, 0x07, 0x01, 0x00,
         ],
         code: 0,
     },
     Row {
-        shows: "0x2b603742 is 0 without 0x33",
+        case: "0x2b603742 is 0 without 0x33",
         bytes: &[
             0x00, 0x04, 0x05, 0xab, 0x60, 0x37, 0x42, 0x00, 0x07, 0x01, 0x00,
         ],
         code: 0,
     },
     Row {
-        shows: "an identifier without a value (7.1)",
+        case: "an identifier without a value (7.1)",
         bytes: &[0x00, 0x04, 0x01, 0x06, 0x07, 0x01, 0x00],
         code: 0x106,
     },
     Row {
-        shows: "an identifier that is cut (7.1)",
+        case: "an identifier that is cut (7.1)",
         bytes: &[0x00, 0x04, 0x03, 0x33, 0x01, 0x40, 0x07, 0x01, 0x00],
         code: 0x106,
     },
     Row {
-        shows: "a value that is cut (7.1)",
+        case: "a value that is cut (7.1)",
         bytes: &[
             0x00, 0x04, 0x06, 0x33, 0x01, 0x06, 0xc0, 0x00, 0x00, 0x07, 0x01, 0x00,
         ],
         code: 0x106,
     },
     Row {
-        shows: "a value other than 0 and 1, before one that is cut",
+        case: "a value other than 0 and 1, before one that is cut",
         bytes: &[0x00, 0x04, 0x03, 0x33, 0x02, 0x06, 0x07, 0x01, 0x00],
         code: 0x109,
     },
     Row {
-        shows: "one that is cut, after which nothing is missed",
+        case: "one that is cut, after which nothing is missed",
         bytes: &[
             0x00, 0x04, 0x06, 0xab, 0x60, 0x37, 0x42, 0x01, 0x06, 0x07, 0x01, 0x00,
         ],
         code: 0x106,
     },
     Row {
-        shows: "an unknown identifier with any value (7.2.4)",
+        case: "an unknown identifier with any value (7.2.4)",
         bytes: &[
             0x00, 0x04, 0x0c, 0x40, 0xff, 0xff, 0xff, 0xff, 0xff, 0xff, 0xff, 0xff, 0xff, 0x0d,
             0x02, 0x07, 0x01, 0x00,
@@ -188,19 +191,19 @@ static ROWS: [Row; 32] = [
         code: 0,
     },
     Row {
-        shows: "a reserved identifier twice (7.2.4.1)",
+        case: "a reserved identifier twice (7.2.4.1)",
         bytes: &[0x00, 0x04, 0x04, 0x21, 0x05, 0x21, 0x06, 0x07, 0x01, 0x00],
         code: 0,
     },
     Row {
-        shows: "SETTINGS_H3_DATAGRAM of an older draft with another value",
+        case: "SETTINGS_H3_DATAGRAM of an older draft with another value",
         bytes: &[
             0x00, 0x04, 0x05, 0x80, 0xff, 0xd2, 0x77, 0x02, 0x07, 0x01, 0x00,
         ],
         code: 0,
     },
     Row {
-        shows: "the largest limit of a section, as curl sends it",
+        case: "the largest limit of a section, as curl sends it",
         bytes: &[
             0x00, 0x04, 0x0d, 0x06, 0xff, 0xff, 0xff, 0xff, 0xff, 0xff, 0xff, 0xff, 0x01, 0x00,
             0x07, 0x00, 0x07, 0x01, 0x00,
@@ -208,7 +211,7 @@ static ROWS: [Row; 32] = [
         code: 0,
     },
     Row {
-        shows: "0xc671706a and 0x14e9cd29 need nothing else",
+        case: "0xc671706a and 0x14e9cd29 need nothing else",
         bytes: &[
             0x00, 0x04, 0x0e, 0xc0, 0x00, 0x00, 0x00, 0xc6, 0x71, 0x70, 0x6a, 0x10, 0x94, 0xe9,
             0xcd, 0x29, 0x01, 0x07, 0x01, 0x00,
@@ -216,7 +219,7 @@ static ROWS: [Row; 32] = [
         code: 0,
     },
     Row {
-        shows: "SETTINGS of 4,097 bytes (10.5)",
+        case: "SETTINGS of 4,097 bytes (10.5)",
         bytes: &[0x00, 0x04, 0x50, 0x01],
         code: 0x107,
     },
@@ -228,11 +231,11 @@ fn check_row<R: Abort>(rt: &R, row: &Row, size: usize) {
     let mut stream = Stream::of_peer(2);
     let came = read(&mut connection, &mut stream, row.bytes, size, false);
     let frames = if row.code == 0 { 2 } else { 0 };
-    same(
+    assert_same(
         rt,
         (came.code, came.ends_connection, came.frames, came.left),
         (row.code, row.code != 0, frames, 0),
-        row.shows,
+        row.case,
     );
 }
 
@@ -276,14 +279,14 @@ fn flags(settings: PeerSettings) -> (bool, bool, bool) {
 /// Asserts the settings after a control stream.
 fn check_values<R: Abort>(
     rt: &R,
-    shows: &'static str,
+    case: &'static str,
     bytes: &[u8],
     wanted: (u64, Option<u64>, u64, u64, u64),
     wanted_flags: (bool, bool, bool),
 ) {
     let settings = told(bytes).peer_settings();
-    same(rt, numbers(settings), wanted, shows);
-    same(rt, flags(settings), wanted_flags, shows);
+    assert_same(rt, numbers(settings), wanted, case);
+    assert_same(rt, flags(settings), wanted_flags, case);
 }
 
 /// SETTINGS of Chromium 156, with reserved ones.
@@ -334,4 +337,29 @@ fn refused_settings_change_none(rt: HostRuntime) {
     let refused = [0x00, 0x04, 0x04, 0x01, 0x05, 0x33, 0x02];
     let none = (0, None, 0, 0, 0);
     check_values(&rt, "0x33 is 2", &refused, none, (false, false, false));
+}
+
+/// Returns the identifier and the value of a setting, or zeros.
+fn number_and_value(item: Option<Result<SettingPair, ErrorCode>>) -> (u64, u64) {
+    match item {
+        Some(Ok(pair)) => (pair.id.into_inner(), pair.value.into_inner()),
+        _ => (0, 0),
+    }
+}
+
+#[test]
+fn unknown_settings_are_in_the_bytes(rt: HostRuntime) {
+    let mut connection = connection_of(true, true);
+    let mut stream = Stream::of_peer(2);
+    let mut fields = Fields::new();
+    connection.receive(&mut stream, &[0x00], false, &mut fields);
+    let bytes = [0x04, 0x05, 0x33, 0x01, 0x40, 0x21, 0x07];
+    let payload = match connection.receive(&mut stream, &bytes, false, &mut fields) {
+        Found::Settings(_, start, end) => bytes.get(start..end).unwrap_or(&[]),
+        _ => &[],
+    };
+    let mut pairs = SettingPairs::new(payload);
+    let first = number_and_value(pairs.next());
+    let second = number_and_value(pairs.next());
+    assert_same(&rt, (first, second), ((0x33, 1), (0x21, 7)), "both pairs");
 }

@@ -6,7 +6,7 @@ use wtp_connection::stream::Stream;
 
 /// A first stream, which is read whole and stays open, and a second one.
 struct Row {
-    /// What the second stream shows.
+    /// What the second stream case.
     case: &'static str,
     /// Whether a server reads it; otherwise a client.
     server: bool,

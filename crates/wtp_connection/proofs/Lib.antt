@@ -1,5 +1,6 @@
 pub mod EndLemmas
 pub mod InstructionLemmas
 pub mod OpeningLemmas
+pub mod SettingLawLemmas
 pub mod SettingLemmas
 pub mod StreamLemmas

@@ -1,14 +1,13 @@
 -- Reading settings pair by pair.
-use Rattle.std.proofs.Common.{◌≡◌, ℕ, ◌==◌, ◌&&◌, ◌||◌, nat_lt, Bool, true, false, cond, eqb, List, [], ◌∷◌, Option, Some, None, is_some, Result, Ok, Err, refl, sym, ap, subst, ◌∙◌, inl, inr}
+use Rattle.std.proofs.Common.{◌≡◌, ℕ, ◌==◌, ◌&&◌, ◌||◌, nat_lt, Bool, true, false, cond, eqb, List, [], ◌∷◌, Option, None, is_some, Result, Ok, Err, refl, sym, ap, ◌∙◌}
 use Rattle.std.proofs.lemmas.Bool.{eqb-true}
 use Rattle.wtp_core.specs.declared.error.ErrorCode.{ErrorCode}
 use Rattle.wtp_wire.specs.declared.settings.pairs.SettingPair.{SettingPair}
 use Rattle.wtp_wire.specs.SettingPairs.{setting_items}
 use Rattle.wtp_connection.specs.declared.fault.Fault.{Fault}
 use Rattle.wtp_connection.specs.declared.fault.Fault.TheVariants as fault
-use Rattle.wtp_connection.specs.declared.settings.PeerSettings.{PeerSettings}
 use Rattle.wtp_connection.specs.declared.settings.Values.{Values}
-use Rattle.wtp_connection.specs.Settings.{value_of, values_of, is_understood, is_flag, is_refused, whole, pair_fault, settings_after, settings_in, held, taken, with_item}
+use Rattle.wtp_connection.specs.Settings.{value_of, values_of, is_understood, is_flag, is_refused, settings_after, settings_in, held, taken, with_item}
 
 -- the values are those of the pairs so far, and the rest of the payload follows
 abbrev pub IsReading : Values → List (Result SettingPair ErrorCode) → List ℕ → Type 0

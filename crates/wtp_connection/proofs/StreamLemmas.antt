@@ -1,5 +1,5 @@
 -- What a call finds.
-use Rattle.std.proofs.Common.{◌≡◌, ℕ, ◌-◌, ◌<◌, ◌≤◌, ◌&&◌, Bool, true, false, cond, List, [], ◌∷◌, ◌++◌, map, length, drop, Option, Some, None, Result, Ok, Err, refl, sym, ap, subst, ◌∙◌, arith, append_assoc, length-drop, inl, inr}
+use Rattle.std.proofs.Common.{◌≡◌, ℕ, ◌-◌, ◌<◌, ◌≤◌, ◌&&◌, ◌||◌, Bool, true, false, cond, List, [], ◌∷◌, ◌++◌, map, length, drop, Option, Some, None, Result, Ok, Err, refl, sym, ap, subst, ◌∙◌, arith, append_assoc, length-drop, inl, inr}
 use Rattle.std.proofs.lemmas.Bool.{cases_Bool}
 use Rattle.std.proofs.lemmas.List.{map-append, append-nil}
 use Rattle.std.proofs.Math.Seq.{take-length, drop-length}
@@ -13,7 +13,7 @@ use Rattle.wtp_frames.specs.declared.reader.Reader.{Reader}
 use Rattle.wtp_frames.specs.declared.reader.Step.{Step}
 use Rattle.wtp_frames.specs.declared.reader.Step.TheVariants as step
 use Rattle.wtp_frames.specs.Item.{Item, Whole, Byte, TooLarge, Broken}
-use Rattle.wtp_frames.specs.Run.{Run, preceded, is_failed, run}
+use Rattle.wtp_frames.specs.Run.{Run, is_failed, run}
 use Rattle.wtp_frames.specs.Reading.{StepIs, items_of, left_after, slice}
 use Rattle.wtp_connection.specs.declared.fault.Fault.{Fault}
 use Rattle.wtp_connection.specs.declared.fault.Fault.TheVariants as fault
@@ -30,8 +30,8 @@ use Rattle.wtp_connection.specs.declared.stream.Stream.TheVariants.{Uni, Bi, Fra
 use Rattle.wtp_connection.specs.declared.connection.Connection.{Connection}
 use Rattle.wtp_connection.specs.declared.connection.Found.{Found}
 use Rattle.wtp_connection.specs.declared.connection.Found.TheVariants as found
-use Rattle.wtp_connection.specs.Streams.{opens, opens_once, closed_by, Seen, Opened, Configured, Gave, Broke, Ended, StreamRun, rests, followed, all_given, by_settings, by_item, of_items, of_frames, bytes_seen, by_capacity, by_place, breaks, run_open, by_purpose, by_opening, run_intact, run_stream, end_of, by_fault, ending, ended}
-use Rattle.wtp_connection.specs.Receiving.{IsFirst, opening_of, seen_of, rest_after, AreFew, Idle, StepIsFound, Settled, FoundIs, Outcome, IsInside, fails, settings_found, frame_found, step_found, with_capacity, encoder_found, decoder_found, more_in, finish_by, finish_open, finish_of}
+use Rattle.wtp_connection.specs.Streams.{opens, opens_once, closed_by, Seen, Opened, Configured, Gave, Broke, Ended, StreamRun, rests, followed, all_given, by_settings, by_item, of_items, has_frames, of_frames, bytes_seen, by_capacity, by_place, breaks, run_open, by_purpose, by_opening, run_intact, run_stream, end_of, by_fault, ending, ended}
+use Rattle.wtp_connection.specs.Receiving.{IsFirst, opening_of, seen_of, rest_after, AreFew, Idle, StepIsFound, Settled, FoundIs, Outcome, has_frame, IsInside, fails, settings_found, frame_found, step_found, with_capacity, encoder_found, decoder_found, more_in, finish_by, finish_open, finish_of}
 use Rattle.wtp_connection.proofs.OpeningLemmas.{opening_more, opening_few}
 
 -- ---- a connection that an error did not end, and one that is over
@@ -52,7 +52,7 @@ nothing_left bytes = drop-length bytes
 few_none : (s : Stream) → AreFew s []
 few_none Uni = omega arith
 few_none Bi = omega arith
-few_none (Frames r) = omega arith
+few_none (Frames r given) = omega arith
 few_none (Joining n) = tt
 few_none (Waiting n) = tt
 few_none (Session n) = omega arith
@@ -118,8 +118,8 @@ data_none c n bytes e l = rw (no_bytes bytes l) (record {
 
 -- ---- frames
 
-frames_run : (c : Connection) (r : Reader) (bytes : List ℕ) → c.over ≡ false → run_stream c (Frames r) bytes ≡ of_frames c (run r bytes)
-frames_run c r bytes e = intact_run c (Frames r) bytes e
+frames_run : (c : Connection) (r : Reader) (g : Bool) (bytes : List ℕ) → c.over ≡ false → run_stream c (Frames r g) bytes ≡ of_frames c g (run r bytes)
+frames_run c r g bytes e = intact_run c (Frames r g) bytes e
 
 item_same : (i : Item) (c : Connection) (f g : Connection → StreamRun) → ((d : Connection) → f d ≡ g d) → by_item c f i ≡ by_item c g i
 item_same (Whole kind.Settings payload) c f g h = settings_same (settings_in payload) c payload f g h
@@ -138,19 +138,42 @@ items_bytes : (bytes : List ℕ) (c : Connection) (f : Connection → StreamRun)
 items_bytes [] c f = refl
 items_bytes (b ∷ bytes) c f = ap (λ (y : StreamRun). followed (Gave (Byte b) ∷ []) y) (items_bytes bytes c f)
 
+or_true : (b : Bool) → true ≡ (b || true)
+or_true true = refl
+or_true false = refl
+
+frames_append : (xs ys : List Item) (g : Bool) → (has_frames (xs ++ ys) || g) ≡ (has_frames ys || (has_frames xs || g))
+frames_append [] ys g = refl
+frames_append (Whole k payload ∷ xs) ys g = or_true (has_frames ys)
+frames_append (TooLarge n ∷ xs) ys g = or_true (has_frames ys)
+frames_append (Byte b ∷ xs) ys g = frames_append xs ys g
+frames_append (Broken f ∷ xs) ys g = frames_append xs ys g
+
+no_frames : (bytes : List ℕ) → has_frames (map Byte bytes) ≡ false
+no_frames [] = refl
+no_frames (b ∷ bytes) = no_frames bytes
+
+frames_in : (x : Step) (bytes : List ℕ) → has_frames (items_of x bytes) ≡ has_frame x
+frames_in (step.Frame k start end) bytes = refl
+frames_in (step.Data start end) bytes = no_frames (slice start end bytes)
+frames_in (step.TooLarge size n) bytes = refl
+frames_in (step.More n) bytes = refl
+frames_in (step.Fault f) bytes = refl
+
 -- what follows a step
-frames_step : (x : Step) (c : Connection) (old new : Reader) (bytes more : List ℕ) → c.over ≡ false → StepIs x old bytes new → run_stream c (Frames old) (bytes ++ more) ≡ of_items c (λ d. of_frames d (run new (left_after x bytes ++ more))) (items_of x bytes)
-frames_step x c old new bytes more e h =
+frames_step : (x : Step) (c : Connection) (old new : Reader) (g : Bool) (bytes more : List ℕ) → c.over ≡ false → StepIs x old bytes new → run_stream c (Frames old g) (bytes ++ more) ≡ of_items c (λ d. of_frames d (has_frame x || g) (run new (left_after x bytes ++ more))) (items_of x bytes)
+frames_step x c old new g bytes more e h =
     let y : Run = run new (left_after x bytes ++ more) in
-    frames_run c old (bytes ++ more) e
-    ∙ ap (λ (z : Run). of_frames c z) (h.gives more)
-    ∙ items_append (items_of x bytes) y.items c (λ d. rests d (Frames y.reader) y.left)
+    frames_run c old g (bytes ++ more) e
+    ∙ ap (λ (z : Run). of_frames c g z) (h.gives more)
+    ∙ ap (λ (k : Bool). of_items c (λ d. rests d (Frames y.reader k) y.left) (items_of x bytes ++ y.items)) (frames_append (items_of x bytes) y.items g ∙ ap (λ (k : Bool). has_frames y.items || (k || g)) (frames_in x bytes))
+    ∙ items_append (items_of x bytes) y.items c (λ d. rests d (Frames y.reader (has_frames y.items || (has_frame x || g))) y.left)
 
 -- after a fault of it a stream gives nothing, whether the connection is over or not
-failed_frames : (d : Connection) (r : Reader) (f : StreamFault) (more : List ℕ) → r.place ≡ Failed f → of_frames d (run r more) ≡ run_stream d (Frames r) more
-failed_frames d r f more p = elim (cases_Bool d.over) [
-  | inl over ↦ ap (λ (y : Run). of_frames d y) (run_failed r more (ap is_failed p)) ∙ sym (over_run d (Frames r) more over)
-  | inr intact ↦ sym (frames_run d r more intact)
+failed_frames : (d : Connection) (r : Reader) (g : Bool) (f : StreamFault) (more : List ℕ) → r.place ≡ Failed f → of_frames d g (run r more) ≡ run_stream d (Frames r g) more
+failed_frames d r g f more p = elim (cases_Bool d.over) [
+  | inl over ↦ ap (λ (y : Run). of_frames d g y) (run_failed r more (ap is_failed p)) ∙ sym (over_run d (Frames r g) more over)
+  | inr intact ↦ sym (frames_run d r g more intact)
 ]
 
 over_given : (d : Connection) (more : List ℕ) → run_stream d Over more ≡ all_given d Over []
@@ -163,66 +186,66 @@ over_given d more = elim (cases_Bool d.over) [
 abbrev IsOutcome : Outcome → Connection → Stream → List ℕ → Type 0
 IsOutcome o c s bytes = StepIsFound o.0 c s bytes o.1 o.2
 
-settings_case : (o : Result PeerSettings Fault) (start end : ℕ) (c : Connection) (old new : Reader) (bytes : List ℕ) → settings_in (slice start end bytes) ≡ o → c.over ≡ false → StepIs (step.Frame kind.Settings start end) old bytes new → IsOutcome (settings_found c (Frames new) start end o) c (Frames old) bytes
-settings_case (Ok v) start end c old new bytes is e h = record {
+settings_case : (o : Result PeerSettings Fault) (start end : ℕ) (c : Connection) (old new : Reader) (g : Bool) (bytes : List ℕ) → settings_in (slice start end bytes) ≡ o → c.over ≡ false → StepIs (step.Frame kind.Settings start end) old bytes new → IsOutcome (settings_found c (Frames new true) start end o) c (Frames old g) bytes
+settings_case (Ok v) start end c old new g bytes is e h = record {
   fits = (h.within.0, h.within.1, h.within.2, refl);
   finds = λ more.
-      frames_step (step.Frame kind.Settings start end) c old new bytes more e h
-      ∙ ap (λ (o : Result PeerSettings Fault). by_settings c (slice start end bytes) (λ d. of_frames d (run new (drop end bytes ++ more))) o) is
-      ∙ ap (λ (y : StreamRun). followed (Configured v (slice start end bytes) ∷ []) y) (sym (frames_run (record c { peer = v }) new (drop end bytes ++ more) e));
+      frames_step (step.Frame kind.Settings start end) c old new g bytes more e h
+      ∙ ap (λ (o : Result PeerSettings Fault). by_settings c (slice start end bytes) (λ d. of_frames d true (run new (drop end bytes ++ more))) o) is
+      ∙ ap (λ (y : StreamRun). followed (Configured v (slice start end bytes) ∷ []) y) (sym (frames_run (record c { peer = v }) new true (drop end bytes ++ more) e));
 }
-settings_case (Err x) start end c old new bytes is e h = record {
+settings_case (Err x) start end c old new g bytes is e h = record {
   fits = tt;
   finds = λ more.
-      frames_step (step.Frame kind.Settings start end) c old new bytes more e h
-      ∙ ap (λ (o : Result PeerSettings Fault). by_settings c (slice start end bytes) (λ d. of_frames d (run new (drop end bytes ++ more))) o) is
+      frames_step (step.Frame kind.Settings start end) c old new g bytes more e h
+      ∙ ap (λ (o : Result PeerSettings Fault). by_settings c (slice start end bytes) (λ d. of_frames d true (run new (drop end bytes ++ more))) o) is
       ∙ ap (λ (y : StreamRun). followed (Broke x ∷ []) y) (sym (over_given (closed_by c x) more));
 }
 
 -- another frame
-other_case : (k : FrameType) (start end : ℕ) (c : Connection) (old new : Reader) (bytes : List ℕ) → ((f : Connection → StreamRun) → by_item c f (Whole k (slice start end bytes)) ≡ followed (Gave (Whole k (slice start end bytes)) ∷ []) (f c)) → c.over ≡ false → StepIs (step.Frame k start end) old bytes new → StepIsFound (found.Frame k start end) c (Frames old) bytes c (Frames new)
-other_case k start end c old new bytes is e h = record {
+other_case : (k : FrameType) (start end : ℕ) (c : Connection) (old new : Reader) (g : Bool) (bytes : List ℕ) → ((f : Connection → StreamRun) → by_item c f (Whole k (slice start end bytes)) ≡ followed (Gave (Whole k (slice start end bytes)) ∷ []) (f c)) → c.over ≡ false → StepIs (step.Frame k start end) old bytes new → StepIsFound (found.Frame k start end) c (Frames old g) bytes c (Frames new true)
+other_case k start end c old new g bytes is e h = record {
   fits = h.within;
   finds = λ more.
-      frames_step (step.Frame k start end) c old new bytes more e h
-      ∙ is (λ d. of_frames d (run new (drop end bytes ++ more)))
-      ∙ ap (λ (y : StreamRun). followed (Gave (Whole k (slice start end bytes)) ∷ []) y) (sym (frames_run c new (drop end bytes ++ more) e));
+      frames_step (step.Frame k start end) c old new g bytes more e h
+      ∙ is (λ d. of_frames d true (run new (drop end bytes ++ more)))
+      ∙ ap (λ (y : StreamRun). followed (Gave (Whole k (slice start end bytes)) ∷ []) y) (sym (frames_run c new true (drop end bytes ++ more) e));
 }
 
-frame_case : (k : FrameType) (start end : ℕ) (c : Connection) (old new : Reader) (bytes : List ℕ) → c.over ≡ false → StepIs (step.Frame k start end) old bytes new → IsOutcome (frame_found c (Frames new) k start end (slice start end bytes)) c (Frames old) bytes
-frame_case kind.Settings start end c old new bytes e h = settings_case (settings_in (slice start end bytes)) start end c old new bytes refl e h
-frame_case other start end c old new bytes e h = other_case other start end c old new bytes (λ f. refl) e h
+frame_case : (k : FrameType) (start end : ℕ) (c : Connection) (old new : Reader) (g : Bool) (bytes : List ℕ) → c.over ≡ false → StepIs (step.Frame k start end) old bytes new → IsOutcome (frame_found c (Frames new true) k start end (slice start end bytes)) c (Frames old g) bytes
+frame_case kind.Settings start end c old new g bytes e h = settings_case (settings_in (slice start end bytes)) start end c old new g bytes refl e h
+frame_case other start end c old new g bytes e h = other_case other start end c old new g bytes (λ f. refl) e h
 
-pub frames_found : (x : Step) (c : Connection) (old new : Reader) (bytes : List ℕ) → c.over ≡ false → StepIs x old bytes new → IsOutcome (step_found c (Frames new) x bytes) c (Frames old) bytes
-frames_found (step.Frame k start end) c old new bytes e h = frame_case k start end c old new bytes e h
-frames_found (step.Data start end) c old new bytes e h = record {
+pub frames_found : (x : Step) (c : Connection) (old new : Reader) (g : Bool) (bytes : List ℕ) → c.over ≡ false → StepIs x old bytes new → IsOutcome (step_found c (Frames new (has_frame x || g)) x bytes) c (Frames old g) bytes
+frames_found (step.Frame k start end) c old new g bytes e h = frame_case k start end c old new g bytes e h
+frames_found (step.Data start end) c old new g bytes e h = record {
   fits = h.within;
   finds = λ more.
-      frames_step (step.Data start end) c old new bytes more e h
-      ∙ items_bytes (slice start end bytes) c (λ d. of_frames d (run new (drop end bytes ++ more)))
-      ∙ ap (λ (y : StreamRun). followed (bytes_seen (slice start end bytes)) y) (sym (frames_run c new (drop end bytes ++ more) e));
+      frames_step (step.Data start end) c old new g bytes more e h
+      ∙ items_bytes (slice start end bytes) c (λ d. of_frames d g (run new (drop end bytes ++ more)))
+      ∙ ap (λ (y : StreamRun). followed (bytes_seen (slice start end bytes)) y) (sym (frames_run c new g (drop end bytes ++ more) e));
 }
-frames_found (step.TooLarge size n) c old new bytes e h = record {
+frames_found (step.TooLarge size n) c old new g bytes e h = record {
   fits = h.within;
   finds = λ more.
-      frames_step (step.TooLarge size n) c old new bytes more e h
-      ∙ ap (λ (y : StreamRun). followed (Gave (TooLarge size) ∷ []) y) (sym (frames_run c new (drop n bytes ++ more) e));
+      frames_step (step.TooLarge size n) c old new g bytes more e h
+      ∙ ap (λ (y : StreamRun). followed (Gave (TooLarge size) ∷ []) y) (sym (frames_run c new true (drop n bytes ++ more) e));
 }
-frames_found (step.More n) c old new bytes e h = record {
+frames_found (step.More n) c old new g bytes e h = record {
   fits = (
     h.within.0,
     record {
-      idle = frames_run c new (drop n bytes) e ∙ ap (λ (y : Run). of_frames c y) h.within.1.run;
+      idle = frames_run c new g (drop n bytes) e ∙ ap (λ (y : Run). of_frames c g y) h.within.1.run;
       few = h.within.1.few;
     },
   );
-  finds = λ more. frames_step (step.More n) c old new bytes more e h ∙ sym (frames_run c new (drop n bytes ++ more) e);
+  finds = λ more. frames_step (step.More n) c old new g bytes more e h ∙ sym (frames_run c new g (drop n bytes ++ more) e);
 }
-frames_found (step.Fault f) c old new bytes e h = record {
+frames_found (step.Fault f) c old new g bytes e h = record {
   fits = tt;
   finds = λ more.
-      frames_step (step.Fault f) c old new bytes more e h
-      ∙ ap (λ (y : StreamRun). followed (Broke (fault.Stream f) ∷ []) y) (failed_frames (closed_by c (fault.Stream f)) new f more h.within.1);
+      frames_step (step.Fault f) c old new g bytes more e h
+      ∙ ap (λ (y : StreamRun). followed (Broke (fault.Stream f) ∷ []) y) (failed_frames (closed_by c (fault.Stream f)) new g f more h.within.1);
 }
 
 pub step_inside : (x : Step) (old new : Reader) (bytes : List ℕ) → StepIs x old bytes new → IsInside x bytes
@@ -233,8 +256,8 @@ step_inside (step.More n) old new bytes h = tt
 step_inside (step.Fault f) old new bytes h = tt
 
 -- the same, as it is computed
-pub frames_judged : (x : Step) (c d : Connection) (old new : Reader) (t : Stream) (bytes : List ℕ) (y : Found) → c.over ≡ false → StepIs x old bytes new → (y, d, t) ≡ step_found c (Frames new) x bytes → StepIsFound y c (Frames old) bytes d t
-frames_judged x c d old new t bytes y e h is = subst (λ (z : Outcome). IsOutcome z c (Frames old) bytes) (sym is) (frames_found x c old new bytes e h)
+pub frames_judged : (x : Step) (c d : Connection) (old new : Reader) (g : Bool) (t : Stream) (bytes : List ℕ) (y : Found) → c.over ≡ false → StepIs x old bytes new → (y, d, t) ≡ step_found c (Frames new (has_frame x || g)) x bytes → StepIsFound y c (Frames old g) bytes d t
+frames_judged x c d old new g t bytes y e h is = subst (λ (z : Outcome). IsOutcome z c (Frames old g) bytes) (sym is) (frames_found x c old new g bytes e h)
 
 -- ---- the streams of QPACK
 
@@ -287,7 +310,7 @@ decoder_judged c d place t bytes o y e was is = subst (λ (z : Outcome). IsOutco
 first_run : (c : Connection) (s : Stream) (bytes : List ℕ) → c.over ≡ false → IsFirst s → run_stream c s bytes ≡ by_opening c s bytes (opening_of c.endpoint s bytes)
 first_run c Uni bytes e f = intact_run c Uni bytes e
 first_run c Bi bytes e f = intact_run c Bi bytes e
-first_run c (Frames r) bytes e f = absurd f
+first_run c (Frames r g) bytes e f = absurd f
 first_run c (Joining n) bytes e f = absurd f
 first_run c (Waiting n) bytes e f = absurd f
 first_run c (Session n) bytes e f = absurd f
@@ -333,7 +356,7 @@ has_opened c «for».Ignored x e = opened_to c c Ignored x (ok_pair (c, Ignored)
 opened_run : (c : Connection) (s : Stream) (bytes : List ℕ) → c.over ≡ false → IsOpened s → run_stream c s bytes ≡ run_open c s bytes
 opened_run c Uni bytes e o = absurd o
 opened_run c Bi bytes e o = absurd o
-opened_run c (Frames r) bytes e o = intact_run c (Frames r) bytes e
+opened_run c (Frames r g) bytes e o = intact_run c (Frames r g) bytes e
 opened_run c (Joining n) bytes e o = intact_run c (Joining n) bytes e
 opened_run c (Waiting n) bytes e o = intact_run c (Waiting n) bytes e
 opened_run c (Session n) bytes e o = intact_run c (Session n) bytes e
@@ -476,7 +499,7 @@ end_found n c s bytes fin d t (Err f) e h is = record {
 end_open : (n left : ℕ) (c : Connection) (s : Stream) (bytes : List ℕ) (fin : Bool) (d : Connection) (t : Stream) → fin ≡ true → d.over ≡ false → left ≡ length (drop n bytes) → StepIsFound (found.More n) c s bytes d t → ended (run_stream d t (drop n bytes)) ≡ ending d t (drop n bytes) → FoundIs (finish_open d t left n).0 c s bytes fin (finish_open d t left n).1 (finish_open d t left n).2
 end_open n left c s bytes fin d Uni e i l h is = end_found n c s bytes fin d Uni (Ok tt) e h is
 end_open n left c s bytes fin d Bi e i l h is = rw l (end_found n c s bytes fin d Bi (end_of d Bi (length (drop n bytes))) e h is)
-end_open n left c s bytes fin d (Frames r) e i l h is = rw l (end_found n c s bytes fin d (Frames r) (end_of d (Frames r) (length (drop n bytes))) e h is)
+end_open n left c s bytes fin d (Frames r g) e i l h is = rw l (end_found n c s bytes fin d (Frames r g) (end_of d (Frames r g) (length (drop n bytes))) e h is)
 end_open n left c s bytes fin d (Joining k) e i l h is = stays_found n c s bytes fin d (Joining k) e h is
 end_open n left c s bytes fin d (Waiting k) e i l h is = stays_found n c s bytes fin d (Waiting k) e h is
 end_open n left c s bytes fin d (Session k) e i l h is = end_found n c s bytes fin d (Session k) (Ok tt) e h is

@@ -32,10 +32,16 @@ is_control other = false
 -- a stream that may not be closed while the connection lasts (RFC 9114, section 6.2.1; RFC 9204,
 -- section 4.2)
 abbrev pub is_critical : Stream → Bool
-is_critical (Frames r) = is_control r.place
+is_critical (Frames r given) = is_control r.place
 is_critical Encoder = true
 is_critical (Decoder place) = true
 is_critical other = false
+
+-- a bidirectional stream of which no HEADERS came
+abbrev pub has_no_headers : Stream → Bool
+has_no_headers Bi = true
+has_no_headers (Frames r false) = true
+has_no_headers other = false
 
 -- whether the error of an end says that the stream is a critical one
 abbrev pub is_closed : Result (Unit {0}) Fault → Bool

@@ -1,5 +1,5 @@
 -- What one call of a connection does.
-use Rattle.std.specs.Prelude.{◌≡◌, ℕ, ◌+◌, ◌<◌, ◌≤◌, if◌then◌else◌, Bool, true, false, List, [], ◌∷◌, ◌++◌, map, length, drop, Option, Some, None, Result, Ok, Err}
+use Rattle.std.specs.Prelude.{◌≡◌, ℕ, ◌+◌, ◌<◌, ◌≤◌, if◌then◌else◌, Bool, true, false, List, [], ◌∷◌, ◌++◌, length, drop, Option, Some, None, Result, Ok, Err}
 use Rattle.std.specs.List.{list_all}
 use Rattle.wtp_frames.specs.declared.endpoint.Endpoint.{Endpoint}
 use Rattle.wtp_frames.specs.declared.fault.Fault.{Fault as StreamFault}
@@ -7,7 +7,7 @@ use Rattle.wtp_frames.specs.declared.frame_type.FrameType.{FrameType}
 use Rattle.wtp_frames.specs.declared.frame_type.FrameType.TheVariants as kind
 use Rattle.wtp_frames.specs.declared.reader.Step.{Step}
 use Rattle.wtp_frames.specs.declared.reader.Step.TheVariants as step
-use Rattle.wtp_frames.specs.Item.{Whole, Byte, TooLarge}
+use Rattle.wtp_frames.specs.Item.{Whole, TooLarge}
 use Rattle.wtp_frames.specs.Reading.{slice, longest}
 use Rattle.wtp_connection.specs.declared.fault.Fault.{Fault}
 use Rattle.wtp_connection.specs.declared.fault.Fault.TheVariants as fault
@@ -65,7 +65,7 @@ rest_after found.End bytes = []
 abbrev pub AreFew : Stream → List ℕ → Type 0
 AreFew (Joining s) bytes = Unit {0}
 AreFew (Waiting s) bytes = Unit {0}
-AreFew (Frames r) bytes = length bytes ≤ 15 + longest r.endpoint r.place
+AreFew (Frames r given) bytes = length bytes ≤ 15 + longest r.endpoint r.place
 AreFew other bytes = length bytes ≤ 15
 
 -- nothing can be found before more bytes come, or the session is known
@@ -157,6 +157,12 @@ encoder_found c s bytes = with_capacity c s (length bytes) (list_all sets_zero b
 abbrev pub decoder_found : Connection → Option DecoderPlace → ℕ → Outcome
 decoder_found c None n = fails c fault.DecoderStream
 decoder_found c (Some place) n = (found.More n, c, Decoder place)
+
+-- whether it is a frame that is no DATA
+abbrev pub has_frame : Step → Bool
+has_frame (step.Frame k start end) = true
+has_frame (step.TooLarge size n) = true
+has_frame other = false
 
 -- its places are within the bytes
 abbrev pub IsInside : Step → List ℕ → Type 0

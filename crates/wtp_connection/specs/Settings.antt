@@ -1,11 +1,12 @@
 -- The settings of the peer: what identifiers and values define (RFC 9114, sections 7.2.4 and
 -- 7.2.4.1; RFC 9204, section 5; RFC 9220, section 3; RFC 9297, section 2.1.1; WebTransport over
 -- HTTP/3).
-use Rattle.std.specs.Prelude.{ℕ, ◌==◌, ◌&&◌, ◌||◌, not, nat_lt, if◌then◌else◌, Bool, true, false, List, [], ◌∷◌, Option, Some, None, is_some, unwrap_or, Result, Ok, Err}
+use Rattle.std.specs.Prelude.{◌≡◌, ℕ, ◌==◌, ◌&&◌, ◌||◌, not, nat_lt, if◌then◌else◌, Bool, false, List, [], ◌∷◌, Option, Some, None, is_some, unwrap_or, Result, Ok, Err}
 use Rattle.wtp_core.specs.declared.error.ErrorCode.{ErrorCode}
 use Rattle.wtp_core.specs.declared.error.ErrorCode.TheVariants as code
 use Rattle.wtp_frames.specs.declared.fault.Fault.TheVariants as stream
 use Rattle.wtp_wire.specs.declared.settings.pairs.SettingPair.{SettingPair}
+use Rattle.wtp_wire.specs.SettingId.{is_reserved}
 use Rattle.wtp_wire.specs.SettingPairs.{setting_items}
 use Rattle.wtp_connection.specs.declared.fault.Fault.{Fault}
 use Rattle.wtp_connection.specs.declared.fault.Fault.TheVariants as fault
@@ -73,6 +74,13 @@ whole v =
     if is_on v.enable_webtransport && not (is_on v.h3_datagram)
     then Err fault.Settings
     else Ok (with_defaults v)
+
+-- pairs in byte order, each of which is neither of HTTP/2 (RFC 9114, section 7.2.4.1) nor refused
+-- beside those that follow
+abbrev pub AreValid : List (ℕ × ℕ) → Type 0
+AreValid [] = Unit {0}
+AreValid (p ∷ ps) =
+    (is_reserved p.0 ≡ false) × (is_refused ps p.0 p.1 ≡ false) × AreValid ps
 
 -- ---- the payload
 

@@ -1,6 +1,6 @@
 -- The run of a stream's bytes under the state of the connection, and its end (RFC 9114, sections 6,
 -- 7.1 and 8).
-use Rattle.std.specs.Prelude.{ℕ, ◌+◌, ◌-◌, nat_lt, ◌&&◌, not, if◌then◌else◌, Bool, true, false, List, [], ◌∷◌, ◌++◌, map, length, Option, Some, None, Result, Ok, Err}
+use Rattle.std.specs.Prelude.{ℕ, ◌+◌, ◌-◌, nat_lt, ◌&&◌, ◌||◌, not, if◌then◌else◌, Bool, true, false, List, [], ◌∷◌, ◌++◌, map, length, Option, Some, None, Result, Ok, Err}
 use Rattle.std.specs.List.{list_all}
 use Rattle.wtp_core.specs.declared.error.scope.ErrorScope.{ErrorScope}
 use Rattle.wtp_core.specs.declared.error.scope.ErrorScope.TheVariants as scope
@@ -9,7 +9,7 @@ use Rattle.wtp_frames.specs.declared.endpoint.Side.TheVariants.{Client, Server}
 use Rattle.wtp_frames.specs.declared.fault.Fault.{Fault as StreamFault}
 use Rattle.wtp_frames.specs.declared.fault.Fault.TheVariants as stream
 use Rattle.wtp_frames.specs.declared.frame_type.FrameType.TheVariants as kind
-use Rattle.wtp_frames.specs.Item.{Item, Whole, Byte, Broken}
+use Rattle.wtp_frames.specs.Item.{Item, Whole, Byte, TooLarge, Broken}
 use Rattle.wtp_frames.specs.Run.{Run, run}
 use Rattle.wtp_frames.specs.Reading.{by_missing, by_end}
 use Rattle.wtp_frames.specs.Start.{message_reader, control_reader}
@@ -28,7 +28,7 @@ use Rattle.wtp_connection.specs.declared.connection.Known.TheVariants as known
 use Rattle.wtp_connection.specs.Fault.{scope_of}
 use Rattle.wtp_connection.specs.Settings.{settings_in}
 use Rattle.wtp_connection.specs.Instructions.{sets_zero, after_bytes}
-use Rattle.wtp_connection.specs.Opening.{uni_at, bi_at, is_critical}
+use Rattle.wtp_connection.specs.Opening.{uni_at, bi_at, is_critical, has_no_headers}
 
 -- ---- what the connection makes of a stream
 
@@ -44,14 +44,14 @@ push_fault Server = (fault.Stream stream.StreamCreation)
 
 abbrev pub opens : Connection → Purpose → Result (Connection × Stream) Fault
 opens c «for».Control =
-    opens_once c.control (record c { control = true }) (Frames (control_reader c.endpoint))
+    opens_once c.control (record c { control = true }) (Frames (control_reader c.endpoint) false)
 opens c «for».Encoder = opens_once c.encoder (record c { encoder = true }) Encoder
 opens c «for».Decoder =
     opens_once c.decoder (record c { decoder = true }) (Decoder Between)
 opens c «for».Push = Err (push_fault c.endpoint.side)
 opens c («for».Session s) = Ok (c, Joining s)
 opens c «for».InvalidSession = Err (fault.Stream stream.Id)
-opens c «for».Message = Ok (c, Frames (message_reader c.endpoint))
+opens c «for».Message = Ok (c, Frames (message_reader c.endpoint) false)
 opens c «for».Foreign = Err (fault.Stream stream.StreamCreation)
 opens c «for».Ignored = Ok (c, Ignored)
 
@@ -124,9 +124,17 @@ abbrev pub of_items : Connection → (Connection → StreamRun) → List Item �
 of_items c more [] = more c
 of_items c more (i ∷ items) = by_item c (λ d. of_items d more items) i
 
--- the items of a stream of frames
-abbrev pub of_frames : Connection → Run → StreamRun
-of_frames c x = of_items c (λ d. rests d (Frames x.reader) x.left) x.items
+-- whether there is a frame that is no DATA
+abbrev pub has_frames : List Item → Bool
+has_frames [] = false
+has_frames (Whole k payload ∷ items) = true
+has_frames (TooLarge n ∷ items) = true
+has_frames (other ∷ items) = has_frames items
+
+-- the items of a stream of frames that had such a frame before, or not
+abbrev pub of_frames : Connection → Bool → Run → StreamRun
+of_frames c given x =
+    of_items c (λ d. rests d (Frames x.reader (has_frames x.items || given)) x.left) x.items
 
 abbrev pub bytes_seen : List ℕ → List Seen
 bytes_seen bytes = map Gave (map Byte bytes)
@@ -143,7 +151,7 @@ by_place c (Some place) = all_given c (Decoder place) []
 
 -- a stream whose purpose is known
 abbrev pub run_open : Connection → Stream → List ℕ → StreamRun
-run_open c (Frames r) bytes = of_frames c (run r bytes)
+run_open c (Frames r given) bytes = of_frames c given (run r bytes)
 run_open c (Session s) bytes = all_given c (Session s) (bytes_seen bytes)
 run_open c (Joining s) bytes = rests c (Joining s) bytes
 run_open c (Waiting s) bytes = rests c (Waiting s) bytes
@@ -179,7 +187,7 @@ no_number Server = stream.RequestIncomplete
 -- what it means that a stream ends, with so many bytes left
 abbrev pub end_of : Connection → Stream → ℕ → Result (Unit {0}) StreamFault
 end_of c Bi n = by_missing n (Err (no_number c.endpoint.side))
-end_of c (Frames r) n = by_end r.endpoint.side r.place (r.remaining + n)
+end_of c (Frames r given) n = by_end r.endpoint.side r.place (r.remaining + n)
 end_of c Encoder n = Err stream.ClosedCriticalStream
 end_of c (Decoder place) n = Err stream.ClosedCriticalStream
 end_of c other n = Ok tt
@@ -252,12 +260,21 @@ abbrev pub without : Connection → Stream → Connection
 without c (Waiting s) = freed c
 without c other = c
 
+-- a server resets its half of a request of which no HEADERS came with H3_REQUEST_INCOMPLETE (RFC
+-- 9114, section 4.1.1)
+abbrev pub reset_answer_at : Side → Bool → Option Fault
+reset_answer_at Client is = None
+reset_answer_at Server is = if is then Some (fault.Stream stream.RequestIncomplete) else None
+
+abbrev pub reset_answer : Connection → Stream → Option Fault
+reset_answer c s = reset_answer_at c.endpoint.side (has_no_headers s && not c.over)
+
 -- the peer reset a stream: an error if it is a critical one and the connection goes on
 abbrev pub resets : Connection → Stream → Joined
 resets c s =
     if is_critical s && not c.over
     then refuses c stream.ClosedCriticalStream
-    else (without c s, Over, None)
+    else (without c s, Over, reset_answer c s)
 
 -- the application reads a stream no further; a critical one is always read
 abbrev pub abandons : Connection → Stream → Connection × Stream

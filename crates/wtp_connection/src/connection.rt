@@ -1,8 +1,8 @@
 //! What the streams of a connection have in common. It holds no bytes and no table of streams.
-ghost use Rattle.std.specs.Prelude.{◌≡◌, ◌≤◌, length, drop, true, false, [], None, Some, MatchOption, IfSome, IfErr};
+ghost use Rattle.std.specs.Prelude.{◌≡◌, ◌≤◌, ◌||◌, length, drop, true, false, [], None, Some, MatchOption, IfSome, IfErr};
 ghost use Rattle.wtp_connection.specs.Settings.{values_of, with_defaults};
 ghost use Rattle.wtp_connection.specs.Streams.{opens, opening_result, closed_by, no_number as no_number_is};
-ghost use Rattle.wtp_connection.specs.Receiving.{FoundIs, StepIsFound, IsFirst, IsInside, opening_of, step_found, encoder_found, decoder_found, fails, more_in, finish_of};
+ghost use Rattle.wtp_connection.specs.Receiving.{FoundIs, StepIsFound, IsFirst, IsInside, opening_of, has_frame, step_found, encoder_found, decoder_found, fails, more_in, finish_of};
 
 mod sessions;
 
@@ -137,8 +137,9 @@ impl Connection {
                 let opening = bi_opening(self.endpoint, bytes);
                 self.open(stream, bytes, opening)
             }
-            Stream::Frames(reader) => {
+            Stream::Frames(reader, given) => {
                 let step = reader.next(bytes);
+                *given = had_frame(step, *given);
                 self.judge(stream, step, bytes)
             }
             Stream::Session(_) => {
@@ -264,7 +265,7 @@ impl Connection {
                     return Err(Fault::Stream(StreamFault::StreamCreation));
                 }
                 self.control = true;
-                Ok(Stream::Frames(Reader::control(self.endpoint)))
+                Ok(Stream::Frames(Reader::control(self.endpoint), false))
             }
             Purpose::Encoder => {
                 if self.encoder {
@@ -286,7 +287,7 @@ impl Connection {
             },
             Purpose::Session(session) => Ok(Stream::Joining(session)),
             Purpose::InvalidSession => Err(Fault::Stream(StreamFault::Id)),
-            Purpose::Message => Ok(Stream::Frames(Reader::message(self.endpoint))),
+            Purpose::Message => Ok(Stream::Frames(Reader::message(self.endpoint), false)),
             Purpose::Foreign => Err(Fault::Stream(StreamFault::StreamCreation)),
             Purpose::Ignored => Ok(Stream::Ignored),
         }
@@ -310,7 +311,7 @@ impl Connection {
                     Err(no_number(self.endpoint.side))
                 }
             }
-            Stream::Frames(reader) => reader.finish(left),
+            Stream::Frames(reader, _) => reader.finish(left),
             Stream::Encoder | Stream::Decoder(_) => Err(StreamFault::ClosedCriticalStream),
             Stream::Uni | Stream::Session(_) | Stream::Ignored => Ok(()),
         };
@@ -346,6 +347,16 @@ fn no_number(side: Side) -> StreamFault
     match side {
         Side::Client => StreamFault::StreamCreation,
         Side::Server => StreamFault::RequestIncomplete,
+    }
+}
+
+// Returns whether a frame that is no DATA came, with this step or before it.
+fn had_frame(step: Step, before: bool) -> bool
+    ensures { result ≡ (has_frame step || before) }
+{
+    match step {
+        Step::Frame(_, _, _) | Step::TooLarge(_, _) => true,
+        _ => before,
     }
 }
 

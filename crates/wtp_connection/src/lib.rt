@@ -6,5 +6,6 @@ pub mod connection;
 pub mod fault;
 pub mod fields;
 pub mod instructions;
+pub mod laws;
 pub mod settings;
 pub mod stream;

@@ -1,8 +1,8 @@
 //! What a stream of the peer is for, by its first bytes (RFC 9114, section 6.2;
 //! draft-ietf-webtrans-http3-02, sections 4.1 and 4.2).
-ghost use Rattle.std.specs.Prelude.{◌≡◌, ◌≤◌, length, drop, None, Some, MatchOption, IfSome};
+ghost use Rattle.std.specs.Prelude.{◌≡◌, ◌≤◌, false, length, drop, None, Some, MatchOption, IfSome};
 ghost use Rattle.wtp_core.specs.Varint.{number_at};
-ghost use Rattle.wtp_connection.specs.Opening.{with_session, type_purpose, frames_purpose, uni_at, bi_at, stream_of, waits_for, is_critical as is_critical_is, is_closed as is_closed_is};
+ghost use Rattle.wtp_connection.specs.Opening.{with_session, type_purpose, frames_purpose, uni_at, bi_at, stream_of, waits_for, is_critical as is_critical_is, has_no_headers as has_no_headers_is, is_closed as is_closed_is};
 ghost use Rattle.wtp_frames.specs.Start.{message_reader};
 
 use crate::instructions::DecoderPlace;
@@ -41,8 +41,9 @@ pub enum Stream {
     Uni,
     /// A bidirectional stream of the peer, before its first number.
     Bi,
-    /// A stream of frames.
-    Frames(Reader),
+    /// A stream of frames, and whether it had a frame that is no DATA: SETTINGS of a control stream,
+    /// HEADERS of a message.
+    Frames(Reader, bool),
     /// A stream of this session, for which [`join`](crate::connection::Connection::join) was not
     /// called yet.
     Joining(u64),
@@ -71,9 +72,9 @@ impl Stream {
     /// Creates the state of the peer's half of a request stream that was opened here: the response
     /// to it.
     pub fn of_request(endpoint: Endpoint) -> Self
-        ensures { result ≡ Stream.Frames (message_reader endpoint) }
+        ensures { result ≡ Stream.Frames (message_reader endpoint) false }
     {
-        Stream::Frames(Reader::message(endpoint))
+        Stream::Frames(Reader::message(endpoint), false)
     }
 
     /// Creates the state of the peer's half of a bidirectional stream that was opened here for this
@@ -102,9 +103,16 @@ impl Stream {
     {
         match self {
             Stream::Encoder | Stream::Decoder(_) => true,
-            Stream::Frames(reader) => is_closed(reader.finish(0)),
+            Stream::Frames(reader, _) => is_closed(reader.finish(0)),
             _ => false,
         }
+    }
+
+    // Returns whether no HEADERS of the message came.
+    pub(crate) fn has_no_headers(&self) -> bool
+        ensures { result ≡ has_no_headers_is self.now }
+    {
+        matches!(self, Stream::Bi | Stream::Frames(_, false))
     }
 }
 

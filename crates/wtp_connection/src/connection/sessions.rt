@@ -1,10 +1,11 @@
 //! Streams of sessions, and streams that end before their last byte.
 ghost use Rattle.std.specs.Prelude.{◌≡◌};
-ghost use Rattle.wtp_connection.specs.Streams.{joins, waits, settles, refuses, freed, without, resets, abandons};
+ghost use Rattle.wtp_connection.specs.Streams.{joins, waits, settles, refuses, freed, without, reset_answer, resets, abandons};
 
 use crate::connection::{Connection, Known};
 use crate::fault::Fault;
 use crate::stream::Stream;
+use wtp_frames::endpoint::Side;
 use wtp_frames::fault::Fault as StreamFault;
 
 /// How many streams may wait for sessions that are to come.
@@ -95,23 +96,38 @@ impl Connection {
     /// Says that the peer reset a stream. Its bytes that were not returned are lost, and the stream
     /// is over. A stream that waits for its session waits no longer.
     ///
-    /// Of a request or a response, and of a stream of a session, this ends that stream alone. A
-    /// server that has no HEADERS of the request should reset its own half with
-    /// H3_REQUEST_INCOMPLETE (RFC 9114, section 4.1).
-    ///
     /// # Errors
     ///
     /// `ClosedCriticalStream`, which ends the connection, if it is the control stream (RFC 9114,
-    /// section 6.2.1) or one of QPACK (RFC 9204, section 4.2). None after an error of the
-    /// connection.
+    /// section 6.2.1) or one of QPACK (RFC 9204, section 4.2). `RequestIncomplete`, which ends that
+    /// stream alone, at a server that has no HEADERS of the request: its own half should be reset
+    /// with this code (RFC 9114, section 4.1.1). None after an error of the connection.
     pub fn reset(&mut self, stream: &mut Stream) -> Option<Fault>
         ensures { (self.new, stream.new, result) ≡ resets self.old stream.old }
     {
         if stream.is_critical() && !self.over {
             return self.refuse(stream, StreamFault::ClosedCriticalStream);
         }
+        let answer = self.answer_to_reset(stream);
         self.leave(stream);
-        None
+        answer
+    }
+
+    // Returns what the own half of a stream that is not critical is to be reset with, if there is a
+    // rule for it.
+    fn answer_to_reset(&self, stream: &Stream) -> Option<Fault>
+        ensures { result ≡ reset_answer self.now stream.now }
+    {
+        match self.endpoint.side {
+            Side::Client => None,
+            Side::Server => {
+                if stream.has_no_headers() && !self.over {
+                    Some(Fault::Stream(StreamFault::RequestIncomplete))
+                } else {
+                    None
+                }
+            }
+        }
     }
 
     /// Ends the reading of a stream, for a reason of the application. The stream is over: its bytes

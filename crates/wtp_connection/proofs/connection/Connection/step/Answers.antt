@@ -5,7 +5,7 @@ pub judge-requires : goal.judge-requires
 judge-requires c = step_inside c.next-step.result c.in-Frames.reader c.next-step.new.self c.args.bytes.now c.next-step.ensures
 
 pub returns-in-Frames : goal.returns-in-Frames
-returns-in-Frames c = rw c.in-Frames.is (frames_judged c.next-step.result c.args.self.now c.judge.new.self c.in-Frames.reader c.next-step.new.self c.judge.new.stream c.args.bytes.now c.judge.result c.if-self.false c.next-step.ensures c.judge.ensures)
+returns-in-Frames c = rw c.in-Frames.is (frames_judged c.next-step.result c.args.self.now c.judge.new.self c.in-Frames.reader c.next-step.new.self c.in-Frames.given c.judge.new.stream c.args.bytes.now c.judge.result c.if-self.false c.next-step.ensures (rw c.had_frame.ensures at c.judge.ensures))
 
 pub returns-in-Encoder : goal.returns-in-Encoder
 returns-in-Encoder c = rw c.in-Encoder.is (encoder_judged c.args.self.now c.read_encoder.new.self c.read_encoder.new.stream c.args.bytes.now c.read_encoder.result c.if-self.false (rw c.in-Encoder.is at c.read_encoder.ensures))

@@ -1,0 +1,28 @@
+//! Laws of the definitions that the contracts cite. Each function does nothing: its contract is the
+//! law.
+ghost use Rattle.std.specs.Prelude.{◌≡◌, ℕ, true, List, ◌++◌, Err};
+ghost use Rattle.wtp_frames.specs.declared.fault.Fault.TheVariants as stream;
+ghost use Rattle.wtp_wire.specs.Front.{EncodesPair};
+ghost use Rattle.wtp_wire.specs.SettingId.{IsReserved};
+ghost use Rattle.wtp_wire.specs.Settings.{ArePairs, IsCutSetting};
+ghost use Rattle.wtp_connection.specs.declared.fault.Fault.TheVariants as fault;
+ghost use Rattle.wtp_connection.specs.Settings.{AreValid, values_of, is_refused, whole, settings_in};
+
+/// Valid settings are read, in whatever order they are and whatever encodings they have: each field
+/// has the value beside its identifier, or its default.
+pub fn valid_settings_are_read()
+    ensures { (ps : List (ℕ × ℕ)) (payload : List ℕ) → ArePairs ps payload → AreValid ps
+        → settings_in payload ≡ whole (values_of ps) }
+{}
+
+/// The first setting that is not valid is reported after any valid ones, whatever follows.
+pub fn invalid_settings_are_reported()
+    ensures truncated { (ps : List (ℕ × ℕ)) (front rest : List ℕ) → ArePairs ps front → AreValid ps
+        → IsCutSetting rest → settings_in (front ++ rest) ≡ Err (fault.Stream stream.Frame) }
+    ensures of_http2 { (ps : List (ℕ × ℕ)) (front s more : List ℕ) (id value : ℕ)
+        → ArePairs ps front → AreValid ps → EncodesPair id value s → IsReserved id
+        → settings_in (front ++ (s ++ more)) ≡ Err fault.Settings }
+    ensures refused { (ps : List (ℕ × ℕ)) (front s more : List ℕ) (id value : ℕ)
+        → ArePairs ps front → AreValid ps → EncodesPair id value s
+        → is_refused ps id value ≡ true → settings_in (front ++ (s ++ more)) ≡ Err fault.Settings }
+{}
