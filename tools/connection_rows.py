@@ -155,6 +155,21 @@ ROWS = [
         before="\n".join(f"bytes {6 + 4 * turn} 405400" for turn in range(16)) + "\nreset 6",
     ),
     Row(
+        "a seventeenth after one was abandoned",
+        1006,
+        b"\x40\x54\0abc",
+        before="\n".join(f"bytes {6 + 4 * turn} 405400" for turn in range(16)) + "\nabandon 6",
+    ),
+    Row("an abandoned request", REQUEST, HEADERS, after="abandon 0\nbytes 0 0400\nend 0"),
+    Row(
+        "an abandoned control stream is read on",
+        CONTROL,
+        SETTINGS,
+        UNEXPECTED,
+        after="abandon 2\nbytes 2 0400",
+    ),
+    Row("a reset request", REQUEST, HEADERS, after="reset 0\nbytes 0 0400"),
+    Row(
         "a session that is told after an error of the connection",
         OTHER,
         b"\x40\x54\0abc",

@@ -146,16 +146,16 @@ def is_critical(stream, content):
 
 @dataclass
 class Stream:
-    """A stream of a script: its ID, its bytes, whether it ends after them or is reset, who opened
-    it, what it has to give, and what it is for."""
+    """A stream of a script: its ID, its bytes, whether it ends after them, who opened it, what it
+    has to give, what it is for, and whether it is reset or abandoned at last."""
 
     stream: int
     content: bytes
     fin: bool
-    is_reset: bool
     opened: str
     events: list
     purpose: str
+    left_by: str = ""
 
     def lines(self, pieces):
         """Returns the lines of its pieces, which end at these offsets, and of its end."""
@@ -167,8 +167,8 @@ class Stream:
             lines[-1] = "end" + lines[-1][5:]
         elif self.fin:
             lines.append(f"end {self.stream}\n")
-        if self.is_reset:
-            lines.append(f"reset {self.stream}\n")
+        if self.left_by:
+            lines.append(f"{self.left_by} {self.stream}\n")
         return lines
 
 
@@ -204,19 +204,25 @@ class Script:
         counts[first] = counts.get(first, 0) + 1
         fin = rng.random() < 0.6 and (maker.has_errors or not is_critical(stream, content))
         events, purpose = events_of(side, stream, content, fin, self.states, opened)
-        self.streams.append(Stream(stream, content, fin, False, opened, events, purpose))
-        if not fin and rng.random() < 0.1:
-            self.reset(self.streams[-1])
+        self.streams.append(Stream(stream, content, fin, opened, events, purpose))
+        if not fin and rng.random() < 0.2:
+            self.leave(self.streams[-1])
 
-    def reset(self, stream):
-        """Has the peer reset a stream, unless its events depend on when its session is known."""
-        events = stream.events
+    def leave(self, stream):
+        """Has a stream reset or abandoned, unless its events depend on when its session is known,
+        or it may not be reset."""
+        events, is_critical_stream = stream.events, stream.purpose in CRITICAL
         if any(event[0] == "opened" and event[2] == "session" for event in events):
             return
-        stream.is_reset = True
-        stream.events = [event for event in events if event[0] != "left"]
-        if stream.purpose in CRITICAL and not any(event[0] == "fault" for event in events):
-            stream.events.append(("fault", 0x104, "connection"))
+        if self.rng.random() < 0.5:
+            stream.left_by = "abandon"
+        elif self.maker.has_errors or not is_critical_stream:
+            stream.left_by = "reset"
+        if stream.left_by == "reset" or stream.left_by and not is_critical_stream:
+            stream.events = [event for event in events if event[0] != "left"]
+        if stream.left_by == "reset" and is_critical_stream:
+            if not any(event[0] == "fault" for event in events):
+                stream.events.append(("fault", 0x104, "connection"))
 
     # ---- its three ways
 

@@ -141,19 +141,18 @@ impl Receiver {
         }
     }
 
-    /// Resets a stream. Its bytes that were not consumed are lost.
+    /// Resets a stream. Its bytes that were not consumed are discarded.
     pub fn reset(&mut self, alloc: Global, id: u64, entry: &mut Entry) -> Result<(), AllocError> {
-        entry.bytes = Vec::new(alloc);
-        match self.connection.reset(&mut entry.stream) {
-            Some(fault) => add_fault(&mut self.text, id, entry.at, fault),
-            None => Ok(()),
+        if let Some(fault) = self.connection.reset(&mut entry.stream) {
+            add_fault(&mut self.text, id, entry.at, fault)?;
         }
+        self.read(alloc, id, entry)
     }
 
-    /// Ends the reading of a stream.
-    pub fn abandon(&mut self, alloc: Global, entry: &mut Entry) {
-        entry.bytes = Vec::new(alloc);
+    /// Ends the reading of a stream, if it may.
+    pub fn abandon(&mut self, alloc: Global, id: u64, entry: &mut Entry) -> Result<(), AllocError> {
         self.connection.abandon(&mut entry.stream);
+        self.read(alloc, id, entry)
     }
 
     /// Appends how many bytes of a stream are left over, if there are any.

@@ -57,7 +57,7 @@ impl Replay {
             Command::Bytes(id, bytes, fin) => self.receive(alloc, id, bytes.as_slice(), fin)?,
             Command::Known(session, known) => self.know(alloc, session, known)?,
             Command::Reset(id) => self.reset(alloc, id)?,
-            Command::Abandon(id) => self.abandon(alloc, id),
+            Command::Abandon(id) => self.abandon(alloc, id)?,
         }
         Ok(())
     }
@@ -118,9 +118,10 @@ impl Replay {
     }
 
     /// Ends the reading of a stream.
-    fn abandon(&mut self, alloc: Global, id: u64) {
+    fn abandon(&mut self, alloc: Global, id: u64) -> Result<()> {
         if let Some(entry) = self.streams.get_mut(&id) {
-            self.receiver.abandon(alloc, entry);
+            self.receiver.abandon(alloc, id, entry)?;
         }
+        Ok(())
     }
 }
