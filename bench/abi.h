@@ -17,6 +17,11 @@ int64_t bench_list(const uint8_t *bytes, size_t len);
 /* The same by polled reading from a source that is always ready: poll by poll, and driven into a vector. */
 int64_t bench_poll(const uint8_t *bytes, size_t len);
 int64_t bench_drive(const uint8_t *bytes, size_t len);
+/* A request on a stream of its own, of which so many bytes come at a time and the end with the last ones: the bytes of
+   its body, by all that a server's connection does with the stream, and by its frames alone. */
+int64_t bench_connection(const uint8_t *bytes, size_t len);
+int64_t bench_message(const uint8_t *bytes, size_t len);
+enum { BENCH_PIECE = 1200 };
 /* The decoded bytes, and the coded bytes, that were put into out. */
 int64_t bench_huffman_decode(const uint8_t *text, size_t len, uint8_t *out, size_t room);
 int64_t bench_huffman_encode(const uint8_t *text, size_t len, uint8_t *out, size_t room);

@@ -131,6 +131,21 @@ static void frames(const char *folder, void **libraries, int count) {
     }
 }
 
+/* A request with a body of 1 MiB in frames of one length. */
+static void requests(const char *folder, void **libraries, int count) {
+  static const char *const symbols[] = {"bench_connection", "bench_message"};
+  static const char *const files[][2] = {{"request-1024.bin", "DATA of 1 KiB"}, {"request-16.bin", "DATA of 16 bytes"}};
+  for (int f = 0; f < 2; ++f)
+    for (int s = 0; s < 2; ++s) {
+      char label[64];
+      snprintf(label, sizeof label, "%s, %s", symbols[s] + 6, files[f][1]);
+      input in = {.wanted = 1 << 20};
+      in.bytes = load_input(folder, files[f][0], &in.len);
+      task t = {.label = label, .symbol = symbols[s], .inputs = &in, .count = 1, .bytes = in.len};
+      measure(&t, libraries, count);
+    }
+}
+
 /* Header text in pieces of one length, and their codes, which come from the first library that has one. */
 static void pieces(const uint8_t *text, size_t len, size_t each, const char *name, writes encode, void **libraries, int count) {
   static input plain[PIECES], coded[PIECES];
@@ -290,6 +305,7 @@ int main(int argc, char **argv) {
   printf("\n");
   work before = work_so_far();
   frames(argv[1], libraries, count);
+  requests(argv[1], libraries, count);
   huffman(argv[1], libraries, count);
   sections(argv[1], libraries, count);
   settings(argv[1], libraries, count);

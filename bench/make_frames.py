@@ -1,6 +1,6 @@
 #!/usr/bin/env python3
-"""Writes two recordings of small frames, 1 MiB each and the same at each run, into the folder that
-is named."""
+"""Writes two recordings of small frames, 1 MiB each and the same at each run, and two requests with
+a body of 1 MiB, into the folder that is named."""
 import os
 import random
 import sys
@@ -34,3 +34,9 @@ def frames(total, sizes, seed):
 for name, sizes in (("frames-1MiB.bin", range(0, 41)), ("frames-tiny-1MiB.bin", range(0, 4))):
     with open(os.path.join(sys.argv[1], name), "wb") as out:
         out.write(frames(1 << 20, sizes, 424242))
+
+# A POST to https://a/ (RFC 9204, appendix A).
+HEADERS = varint(1) + varint(8) + b"\0\0\xd4\xd7\x50\x01a\xc1"
+for size in (1024, 16):
+    with open(os.path.join(sys.argv[1], f"request-{size}.bin"), "wb") as out:
+        out.write(HEADERS + (varint(0) + varint(size) + bytes(size)) * ((1 << 20) // size))

@@ -5,6 +5,8 @@
 int64_t wt_bench_list(const uint8_t *bytes, size_t len, size_t *payloads);
 int64_t wt_bench_poll(const uint8_t *bytes, size_t len);
 int64_t wt_bench_drive(const uint8_t *bytes, size_t len);
+int64_t wt_bench_connection(const uint8_t *bytes, size_t len, size_t size);
+int64_t wt_bench_message(const uint8_t *bytes, size_t len, size_t size);
 int64_t wt_bench_huffman_decode(const uint8_t *text, size_t len, uint8_t *out, size_t room);
 int64_t wt_bench_huffman_encode(const uint8_t *text, size_t len, uint8_t *out, size_t room);
 int64_t wt_bench_qpack_decode(const uint8_t *section, size_t len);
@@ -31,6 +33,10 @@ int64_t bench_list(const uint8_t *bytes, size_t len) {
 int64_t bench_poll(const uint8_t *bytes, size_t len) { return wt_bench_poll(bytes, len); }
 
 int64_t bench_drive(const uint8_t *bytes, size_t len) { return wt_bench_drive(bytes, len); }
+
+int64_t bench_connection(const uint8_t *bytes, size_t len) { return wt_bench_connection(bytes, len, BENCH_PIECE); }
+
+int64_t bench_message(const uint8_t *bytes, size_t len) { return wt_bench_message(bytes, len, BENCH_PIECE); }
 
 int64_t bench_qpack_decode(const uint8_t *section, size_t len) { return wt_bench_qpack_decode(section, len); }
 

@@ -5,6 +5,7 @@
 ghost use Rattle.std.specs.Prelude.{◌≡◌, ◌≢◌, ◌≤◌, ◌<◌, ℕ, pos, negsuc, List, length};
 ghost use Rattle.wtp_huffman.specs.Huffman.{IsHuffman};
 
+mod connection;
 mod fields;
 mod frames;
 mod pair;
