@@ -1,16 +1,45 @@
 -- What an encoder does to its table (RFC 9204, sections 2.1 and 4.3).
-use Rattle.std.specs.Prelude.{◌≡◌, ℕ, ◌^◌, nat_lt, nat_le, Bool, true, false, ◌&&◌, List, ◌++◌, length, Option, Some, None, Result, Ok, Err}
+use Rattle.std.specs.Prelude.{◌≡◌, ◌≢◌, ◌⊎◌, ℕ, ◌+◌, ◌<◌, ◌≤◌, ◌^◌, nat_lt, nat_le, ◌==◌, if◌then◌else◌, max, Bool, true, false, ◌&&◌, List, [], ◌∷◌, ◌++◌, length, map, Option, Some, None, Result, Ok, Err, MatchResult}
+use Rattle.std.specs.List.{flat_map}
 use Rattle.wtp_qpack.specs.Field.{Field}
 use Rattle.wtp_qpack.specs.StaticTable.{first_entry}
-use Rattle.wtp_dynamic.specs.Table.{Table, insert_count}
-use Rattle.wtp_dynamic.specs.Front.{most_bytes}
-use Rattle.wtp_dynamic.specs.Writing.{Order, InsertsNamed, InsertsLiteral, written}
-use Rattle.wtp_dynamic.specs.EncoderState.{Encoder, may_insert, with_entry}
+use Rattle.wtp_dynamic.specs.declared.error.DecoderStreamError.{DecoderStreamError}
+use Rattle.wtp_dynamic.specs.declared.error.DecoderStreamError.TheVariants as stream
 use Rattle.wtp_dynamic.specs.declared.ledger.Sent.{Sent}
+use Rattle.wtp_dynamic.specs.Table.{Table, insert_count, inserted, resized}
+use Rattle.wtp_dynamic.specs.Front.{most_bytes}
+use Rattle.wtp_dynamic.specs.Writing.{Order, Sets, InsertsNamed, InsertsLiteral, written, Carries}
+use Rattle.wtp_dynamic.specs.Plans.{Plan, StaticField, TableField, StaticName, TableName, NewName, planned_line, planned_prefix, ArePlans}
+use Rattle.wtp_dynamic.specs.InsertCount.{most_entries}
+use Rattle.wtp_dynamic.specs.Pair.{section_of}
+use Rattle.wtp_dynamic.specs.EncoderState.{Encoder, may_insert, may_resize, may_block, AreFrom}
+use Rattle.wtp_dynamic_encoder.specs.Acknowledging.{Ledger, Stands, Reaches, Breaks}
+use Rattle.wtp_dynamic_encoder.specs.declared.section.Proposal.{Proposal}
+
+-- ---- the state
+
+-- the decoder stream: the bytes of a cut instruction, or the error at which it ended
+pub data Progress : Type 0 where
+  Runs : (held : List ℕ) → Progress
+  Failed : DecoderStreamError → Progress
+
+abbrev pub progress_of : Option DecoderStreamError → List ℕ → Progress
+progress_of None held = Runs held
+progress_of (Some e) held = Failed e
+
+-- The table, the Known Received Count and the sections that are not acknowledged, the decoder
+-- stream, and how many streams may be blocked.
+pub record State : Type 0 where
+  pub table : Table
+  pub ledger : Ledger
+  pub progress : Progress
+  pub most : ℕ
 
 -- an encoder by its parts
-abbrev pub encoder_of : Table → ℕ × List Sent → Encoder
+abbrev pub encoder_of : Table → Ledger → Encoder
 encoder_of table ledger = record { table = table; known = ledger.0; sections = ledger.1 }
+
+-- ---- the table
 
 -- the order that inserts an entry: with the name of its first static entry, or with its own
 abbrev pub order_by : Option ℕ → Field → Order
@@ -26,11 +55,139 @@ can_insert entry encoder =
     may_insert entry encoder && nat_lt (insert_count encoder.table) (2 ^ 62)
     && nat_le (length (written (order_for entry))) (most_bytes encoder.table.limit)
 
--- an entry was inserted, and its instruction appended to bytes; or it cannot be, and nothing
--- changed
-abbrev pub InsertsIf : Field → (old new : Encoder) → (before after : List ℕ) → Bool → Type 0
-InsertsIf entry old new before after true =
-    (can_insert entry old ≡ true) × (new ≡ with_entry entry old)
-    × (after ≡ before ++ written (order_for entry))
-InsertsIf entry old new before after false =
-    (can_insert entry old ≡ false) × (new ≡ old) × (after ≡ before)
+-- A table was changed if a test holds, and the order that does so appended to bytes. Otherwise, and
+-- if allocation failed, nothing changed.
+abbrev pub ChangesIf : {E : Type 0} → Bool → Order → (made old new : Table)
+    → (before after : List ℕ) → Result Bool E → Type 0
+ChangesIf test order made old new before after (Ok true) =
+    (test ≡ true) × (new ≡ made) × (after ≡ before ++ written order)
+ChangesIf test order made old new before after (Ok false) =
+    (test ≡ false) × (new ≡ old) × (after ≡ before)
+ChangesIf test order made old new before after (Err e) = (new ≡ old) × (after ≡ before)
+
+-- an entry was inserted if it can be
+abbrev pub InsertsIf : {E : Type 0} → Field → Ledger → (old new : Table) → (before after : List ℕ)
+    → Result Bool E → Type 0
+InsertsIf entry ledger old new before after result =
+    ChangesIf (can_insert entry (encoder_of old ledger)) (order_for entry) (inserted entry old)
+    old new before after result
+
+-- the capacity was set if it may be
+abbrev pub ResizesIf : {E : Type 0} → ℕ → Ledger → (old new : Table) → (before after : List ℕ)
+    → Result Bool E → Type 0
+ResizesIf capacity ledger old new before after result =
+    ChangesIf (may_resize capacity (encoder_of old ledger)) (Sets capacity) (resized capacity old)
+    old new before after result
+
+-- Orders were appended to bytes that do to a decoder's table what was done to this one.
+pub record Ordered (old new : Table) (before after : List ℕ) : Type 0 where
+  pub orders : List Order
+  pub carries : Carries orders old new
+  pub bytes : after ≡ before ++ flat_map written orders
+
+-- ---- a section
+
+-- the fields of proposals
+abbrev pub field_of : Proposal → Field
+field_of proposal = (proposal.name.now, proposal.value.now)
+
+-- the absolute index of the entry of the dynamic table to which a line refers, if it does
+abbrev pub place_of : Plan → Option ℕ
+place_of (StaticField index) = None
+place_of (TableField place) = Some place
+place_of (StaticName index value) = None
+place_of (TableName place value) = Some place
+place_of (NewName name value) = None
+
+-- one more than the largest absolute index to which lines refer, or 0 (section 2.1.2)
+abbrev pub needs_by : Option ℕ → ℕ
+needs_by None = 0
+needs_by (Some place) = place + 1
+
+abbrev pub needs : Plan → ℕ
+needs plan = needs_by (place_of plan)
+
+abbrev pub needed : List Plan → ℕ
+needed [] = 0
+needed (plan ∷ plans) = max (needs plan) (needed plans)
+
+-- Lines of fields were written, with the insertions so far as Base: they need so many insertions,
+-- no more than a bound, and refer to live entries from a place on.
+pub record AreLines (table : Table) (bound : ℕ) (fields : List Field) (bytes : List ℕ)
+    (required lowest : ℕ) : Type 0 where
+  pub plans : List Plan
+  pub are : ArePlans table bound plans fields
+  pub bytes_are : bytes ≡ flat_map (planned_line (insert_count table)) plans
+  pub exact : required ≡ needed plans
+  pub from : AreFrom lowest plans
+  pub live : table.dropped ≤ lowest
+  pub few : required ≤ bound
+  pub some : (required ≡ 0) ⊎ (lowest < required)
+
+-- the section that was sent is the latest that is not acknowledged, if it refers to the table
+abbrev pub opened : Sent → Ledger → Ledger
+opened sent ledger =
+    if sent.required == 0 then ledger else (ledger.0, ledger.1 ++ sent ∷ [])
+
+-- what is kept of a section
+abbrev pub sent_at : (stream required lowest : ℕ) → Sent
+sent_at stream required lowest =
+    record { stream = stream; required = required; lowest = lowest }
+
+abbrev pub sent_of : (stream : ℕ) → List Plan → (lowest : ℕ) → Sent
+sent_of stream plans lowest = sent_at stream (needed plans) lowest
+
+-- the Base: the insertions so far, or 0 if no line refers to the table (section 4.5.1.2)
+abbrev pub base_for : (required count : ℕ) → ℕ
+base_for required count = if required == 0 then 0 else count
+
+-- the prefix of a section with this table
+abbrev pub prefix_for : Table → (required : ℕ) → List ℕ
+prefix_for table required =
+    planned_prefix (most_entries table.limit) required (base_for required (insert_count table))
+
+-- a section with this table
+abbrev pub section_with : Table → List Plan → List ℕ
+section_with table plans =
+    section_of table.limit (needed plans) (base_for (needed plans) (insert_count table)) plans
+
+-- A section of a stream was appended to bytes. Its lines are the fields, by entries that its
+-- Required Insert Count covers; and it needs more insertions than are known to be received only if
+-- its stream may be blocked (section 2.1.2).
+pub record IsSent (stream most : ℕ) (fields : List Field) (table : Table) (old new : Ledger)
+    (before after : List ℕ) : Type 0 where
+  pub plans : List Plan
+  pub lowest : ℕ
+  pub are : ArePlans table (needed plans) plans fields
+  pub few : needed plans ≤ insert_count table
+  pub from : AreFrom lowest plans
+  pub bytes : after ≡ before ++ section_with table plans
+  pub ledger : new ≡ opened (sent_of stream plans lowest) old
+  pub allowed : (needed plans ≤ old.0) ⊎ (may_block most stream old ≡ true)
+
+-- Fields were encoded: orders were appended to the encoder stream, and then a section of a stream
+-- to other bytes. If allocation failed, no section was, and nothing else has changed.
+abbrev pub Encodes : {E : Type 0} → (stream : ℕ) → List Field → (old new : State)
+    → (orders_before orders_after before after : List ℕ) → Result (Unit {0}) E → Type 0
+Encodes stream fields old new orders_before orders_after before after result =
+    Ordered old.table new.table orders_before orders_after
+    × (new.progress ≡ old.progress) × (new.most ≡ old.most)
+    × MatchResult result
+    (λ _. IsSent stream old.most fields new.table old.ledger new.ledger before after)
+    (λ _. (new.ledger ≡ old.ledger) × (after ≡ before))
+
+-- ---- the decoder stream
+
+-- What reading a piece did: after an error nothing. An error stays; the ledger is what the
+-- instructions before it made.
+abbrev pub PieceRead : Progress → List ℕ → (old new : State) → Result (Unit {0}) DecoderStreamError
+    → Type 0
+PieceRead (Failed e) piece old new result = (new ≡ old) × (result ≡ Err e)
+PieceRead (Runs held) piece old new result =
+    let count = insert_count old.table in
+    MatchResult result
+    (λ _. (left : List ℕ) × Stands count old.ledger (held ++ piece) new.ledger left
+    × (new ≡ record old { ledger = new.ledger; progress = Runs left }))
+    (λ e. Reaches count old.ledger (held ++ piece) new.ledger
+    × (e ≢ stream.Memory → Breaks count old.ledger (held ++ piece) new.ledger e)
+    × (new ≡ record old { ledger = new.ledger; progress = Failed e }))

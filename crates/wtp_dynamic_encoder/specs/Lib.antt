@@ -1,2 +1,5 @@
 pub mod PlanView
+pub mod Acknowledging
+pub mod FirstView
+pub mod Lookup
 pub mod Encoding

@@ -2,4 +2,10 @@
 //! stream, and reads the decoder stream.
 #![tactic(auto)]
 
+pub mod decoder_stream;
+pub mod encoder;
+mod insertion;
+pub mod laws;
+pub mod lookup;
 pub mod plan;
+pub mod section;

@@ -1,0 +1,127 @@
+-- The orders of an encoder, one after the other.
+use Rattle.std.proofs.Common.{◌≡◌, ℕ, ◌+◌, ◌-◌, ◌*◌, ◌^◌, ◌<◌, ◌≤◌, nat_lt, nat_le, inl, inr, Bool, true, false, ◌&&◌, List, [], ◌∷◌, ◌++◌, length, refl, sym, ◌∙◌, ap, subst, arith, append-nil, append_assoc, Option, Some, None, Result, Ok, Err}
+use Rattle.std.specs.List.{flat_map}
+use Rattle.std.proofs.lemmas.Bool.{lt-leb, le-ltb, leb-true, ltb-true}
+use Rattle.std.proofs.lemmas.List.{flat_map_more}
+use Rattle.wtp_qpack.specs.Field.{Field, IsOctets}
+use Rattle.wtp_qpack.specs.StaticTable.{entry_at, first_entry}
+use Rattle.wtp_qpack.proofs.StaticLemmas.{first_found}
+use Rattle.wtp_dynamic.specs.declared.error.EncoderStreamError.{EncoderStreamError}
+use Rattle.wtp_dynamic.specs.Table.{Table, insert_count, entry_size, evicted, inserted, resized}
+use Rattle.wtp_dynamic.specs.Chain.{or_fault}
+use Rattle.wtp_dynamic.specs.Front.{most_bytes}
+use Rattle.wtp_dynamic.specs.Steps.{set_step, insert_step, referred}
+use Rattle.wtp_dynamic.specs.Writing.{Order, Sets, InsertsNamed, InsertsLiteral, order_step, written, CanBeWritten, Carries}
+use Rattle.wtp_dynamic.specs.EncoderState.{Encoder, Owes, all_above, may_insert, may_resize}
+use Rattle.wtp_dynamic.proofs.Owed.{owes_entry, owes_capacity}
+use Rattle.wtp_dynamic_encoder.specs.Acknowledging.{Ledger}
+use Rattle.wtp_dynamic_encoder.specs.Encoding.{encoder_of, order_by, order_for, can_insert, InsertsIf, Ordered}
+
+both : (a b : Bool) → (a && b) ≡ true → (a ≡ true) × (b ≡ true)
+both true b e = (refl, e)
+both false b e = cc e
+
+below_is : (m n : ℕ) → nat_lt m n ≡ true → m < n
+below_is m n e = ltb-true m n e
+
+-- ---- one more order
+
+carries_push : (orders : List Order) (t u v : Table) (order : Order) → Carries orders t u → CanBeWritten order → length (written order) ≤ most_bytes u.limit → order_step order u ≡ Ok v → Carries (orders ++ order ∷ []) t v
+carries_push [] t u v order same can short did =
+    let here : Carries (order ∷ []) u v = (can, short, v, did, refl) in
+    subst (λ (x : Table). Carries (order ∷ []) x v) same here
+carries_push (o ∷ orders) t u v order (one, few, next, did, carries) can short done = (one, few, next, did, carries_push orders next u v order carries can short done)
+
+pub ordered_none : (t u : Table) (before after : List ℕ) → u ≡ t → after ≡ before → Ordered t u before after
+ordered_none t u before after same none = record { orders = []; carries = same; bytes = none ∙ sym (append-nil before) }
+
+pub ordered_push : (t u v : Table) (before bytes after : List ℕ) (order : Order) → Ordered t u before bytes → CanBeWritten order → length (written order) ≤ most_bytes u.limit → order_step order u ≡ Ok v → after ≡ bytes ++ written order → Ordered t v before after
+ordered_push t u v before bytes after order ordered can short did more = record {
+  orders = ordered.orders ++ order ∷ [];
+  carries = carries_push ordered.orders t u v order ordered.carries can short did;
+  bytes = more ∙ ap (λ (z : List ℕ). z ++ written order) ordered.bytes ∙ flat_map_more written before ordered.orders order;
+}
+
+carries_join : (first second : List Order) (t u v : Table) → Carries first t u → Carries second u v → Carries (first ++ second) t v
+carries_join [] second t u v same carries = subst (λ (x : Table). Carries second x v) same carries
+carries_join (o ∷ orders) second t u v (can, few, next, did, rest) carries = (can, few, next, did, carries_join orders second next u v rest carries)
+
+flat_join : (first second : List Order) → flat_map written (first ++ second) ≡ flat_map written first ++ flat_map written second
+flat_join [] second = refl
+flat_join (o ∷ orders) second = ap (λ z. written o ++ z) (flat_join orders second) ∙ sym (append_assoc (written o) (flat_map written orders) (flat_map written second))
+
+pub ordered_join : (t u v : Table) (a b c : List ℕ) → Ordered t u a b → Ordered u v b c → Ordered t v a c
+ordered_join t u v a b c one two = record {
+  orders = one.orders ++ two.orders;
+  carries = carries_join one.orders two.orders t u v one.carries two.carries;
+  bytes = two.bytes ∙ ap (λ (z : List ℕ). z ++ flat_map written two.orders) one.bytes ∙ append_assoc a (flat_map written one.orders) (flat_map written two.orders) ∙ ap (λ z. a ++ z) (sym (flat_join one.orders two.orders));
+}
+
+-- ---- an insertion
+
+named_step : (index : ℕ) (name value : List ℕ) (e : Field) (u : Table) → entry_at index ≡ Some e → e.0 ≡ name → order_step (InsertsNamed true index value) u ≡ insert_step (name, value) u
+named_step index name value e u there same = rw there (ap (λ (n : List ℕ). insert_step (n, value) u) same)
+
+order_does : (o : Option ℕ) (entry : Field) (u : Table) → first_entry entry.0 ≡ o → IsOctets entry.0 → IsOctets entry.1 → CanBeWritten (order_by o entry) × (order_step (order_by o entry) u ≡ insert_step entry u)
+order_does None entry u is name value = ((name, value), refl)
+order_does (Some index) entry u is name value =
+    let found = first_found entry.0 index is in
+    ((omega (arith, found.3), value), named_step index entry.0 entry.1 found.0 u found.1 found.2)
+
+inserts : (entry : Field) (u : Table) → entry_size entry ≤ u.capacity → insert_count u < 2 ^ 62 → insert_step entry u ≡ Ok (inserted entry u)
+inserts entry u fits few = rw (le-ltb u.capacity (entry_size entry) fits, lt-leb (2 ^ 62) (insert_count u) few) refl
+
+-- an entry that can be inserted
+record Inserting (entry : Field) (u : Table) (l : Ledger) : Type 0 where
+  may : may_insert entry (encoder_of u l) ≡ true
+  fits : entry_size entry ≤ u.capacity
+  few : insert_count u < 2 ^ 62
+  short : length (written (order_for entry)) ≤ most_bytes u.limit
+
+inserting : (entry : Field) (u : Table) (l : Ledger) → can_insert entry (encoder_of u l) ≡ true → Inserting entry u l
+inserting entry u l test =
+    let after : Table = evicted (u.capacity - entry_size entry) u in
+    let a = both (may_insert entry (encoder_of u l) && nat_lt (insert_count u) (2 ^ 62)) (nat_le (length (written (order_for entry))) (most_bytes u.limit)) test in
+    let b = both (may_insert entry (encoder_of u l)) (nat_lt (insert_count u) (2 ^ 62)) a.0 in
+    let c = both (nat_le (entry_size entry) u.capacity && nat_le after.dropped l.0) (all_above after.dropped l.1) b.0 in
+    let d = both (nat_le (entry_size entry) u.capacity) (nat_le after.dropped l.0) c.0 in
+    record {
+      may = b.0;
+      fits = leb-true (entry_size entry) u.capacity d.0;
+      few = below_is (insert_count u) (2 ^ 62) b.1;
+      short = leb-true (length (written (order_for entry))) (most_bytes u.limit) a.1;
+    }
+
+abbrev done : Table → Result Table EncoderStreamError
+done t = Ok t
+
+pub ordered_entry : (u v : Table) (l : Ledger) (before after : List ℕ) (entry : Field) → can_insert entry (encoder_of u l) ≡ true → IsOctets entry.0 → IsOctets entry.1 → v ≡ inserted entry u → after ≡ before ++ written (order_for entry) → Ordered u v before after
+ordered_entry u v l before after entry test name value is more =
+    let one = inserting entry u l test in
+    let order = order_does (first_entry entry.0) entry u refl name value in
+    ordered_push u u v before before after (order_for entry) (ordered_none u u before before refl refl) order.0 one.short (order.1 ∙ inserts entry u one.fits one.few ∙ ap done (sym is)) more
+
+pub owes_after : (u v : Table) (l : Ledger) (entry : Field) → can_insert entry (encoder_of u l) ≡ true → v ≡ inserted entry u → Owes (encoder_of u l) → Owes (encoder_of v l)
+owes_after u v l entry test is owes = subst (λ (x : Table). Owes (encoder_of x l)) (sym is) (owes_entry entry (encoder_of u l) owes (inserting entry u l test).may)
+
+pub owes_same : (u v : Table) (l : Ledger) → v ≡ u → Owes (encoder_of u l) → Owes (encoder_of v l)
+owes_same u v l same owes = subst (λ (x : Table). Owes (encoder_of x l)) (sym same) owes
+
+pub owes_resized : (u v : Table) (l : Ledger) (capacity : ℕ) → may_resize capacity (encoder_of u l) ≡ true → v ≡ resized capacity u → Owes (encoder_of u l) → Owes (encoder_of v l)
+owes_resized u v l capacity test is owes = subst (λ (x : Table). Owes (encoder_of x l)) (sym is) (owes_capacity capacity (encoder_of u l) owes test)
+
+-- ---- what an insertion did
+
+pub ordered_by : {E : Type 0} (entry : Field) (l : Ledger) (u v : Table) (before after : List ℕ) (r : Result Bool E) → IsOctets entry.0 → IsOctets entry.1 → InsertsIf entry l u v before after r → Ordered u v before after
+ordered_by entry l u v before after (Ok true) name value (test, is, more) = ordered_entry u v l before after entry test name value is more
+ordered_by entry l u v before after (Ok false) name value (test, is, more) = ordered_none u v before after is more
+ordered_by entry l u v before after (Err e) name value (is, more) = ordered_none u v before after is more
+
+pub owes_by : {E : Type 0} (entry : Field) (l : Ledger) (u v : Table) (before after : List ℕ) (r : Result Bool E) → InsertsIf entry l u v before after r → Owes (encoder_of u l) → Owes (encoder_of v l)
+owes_by entry l u v before after (Ok true) (test, is, more) owes = owes_after u v l entry test is owes
+owes_by entry l u v before after (Ok false) (test, is, more) owes = owes_same u v l is owes
+owes_by entry l u v before after (Err e) (is, more) owes = owes_same u v l is owes
+
+pub ruleset one_step = (ordered_none, owes_same, owes_resized)
+
+pub ruleset more_steps = (ordered_none, ordered_join)

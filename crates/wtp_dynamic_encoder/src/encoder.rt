@@ -1,0 +1,267 @@
+//! The encoder: its table, the sections that it sent, and what the decoder told it.
+
+ghost use Rattle.std.specs.Prelude.{◌≡◌, ◌⊎◌, ◌^◌, ◌<◌, ◌≤◌, ◌++◌, [], map, true, MatchResult};
+ghost use Rattle.wtp_dynamic.specs.Table.{empty_table, insert_count};
+ghost use Rattle.wtp_dynamic.specs.InsertCount.{most_entries};
+ghost use Rattle.wtp_dynamic.specs.EncoderState.{Owes, FewWait, may_block};
+ghost use Rattle.wtp_dynamic_encoder.specs.Acknowledging.{most_bytes};
+ghost use Rattle.wtp_dynamic_encoder.specs.Encoding.{Runs, State, encoder_of, field_of, InsertsIf, ResizesIf, prefix_for, sent_at, opened, Encodes, PieceRead};
+
+use crate::decoder_stream::DecoderStream;
+use crate::insertion;
+use crate::section::{Lines, Proposal, write_lines};
+use std::alloc::{AllocError, Global};
+use std::marker::Model;
+use wtp_dynamic::error::DecoderStreamError;
+use wtp_dynamic::ledger::{Ledger, Sent};
+use wtp_dynamic::table::DynamicTable;
+
+/// Returns below which absolute index a section of a stream may refer to entries: to all that were
+/// inserted if the stream may be blocked, and otherwise to those that are known to be received.
+fn bound_of(table: &DynamicTable, ledger: &Ledger, stream: u64, most: u64) -> u64
+    requires { ledger.now.0 ≤ insert_count table.now }
+    ensures within { result ≤ insert_count table.now }
+    ensures allowed { (result ≤ ledger.now.0) ⊎ (may_block most stream ledger.now ≡ true) }
+{
+    if ledger.may_block(stream, most) {
+        table.insert_count()
+    } else {
+        ledger.known()
+    }
+}
+
+/// Appends a section of a stream with these lines, and notes it if it refers to the table.
+///
+/// Returns [`AllocError`] if allocation failed; nothing has changed then.
+fn send(
+    alloc: Global,
+    stream: u64,
+    table: &DynamicTable,
+    ledger: &mut Ledger,
+    lines: &Lines,
+    out: &mut Vec<u8>,
+) -> Result<(), AllocError>
+    requires { 0 < lines.now.required → 0 < most_entries table.now.limit }
+    ensures { let prefix = prefix_for table.now lines.now.required in MatchResult result
+        (λ _. (ledger.new
+        ≡ opened (sent_at stream lines.now.required lines.now.lowest) ledger.old)
+        × (out.new.items ≡ out.old.items ++ (prefix ++ lines.now.bytes.items)))
+        (λ _. (ledger.new ≡ ledger.old) × (out.new.items ≡ out.old.items)) }
+{
+    let len = out.len();
+    lines.append(alloc, table, out)?;
+    if lines.required == 0 {
+        return Ok(());
+    }
+    let sent = Sent {
+        stream,
+        required: lines.required,
+        lowest: lines.lowest,
+    };
+    match ledger.open(sent) {
+        Ok(()) => Ok(()),
+        Err(fault) => {
+            out.truncate(len);
+            Err(fault)
+        }
+    }
+}
+
+/// The encoder of a connection: the dynamic table, the sections that are not acknowledged, and what
+/// the decoder told.
+///
+/// It evicts no entry of which it does not know that the decoder received it, and none to which a
+/// section refers that is not acknowledged (section 2.1.1). It sends no section that may block more
+/// streams than the decoder allows (section 2.1.2).
+#[derive(Drop)]
+pub struct QpackEncoder {
+    alloc: Global,
+    table: DynamicTable,
+    ledger: Ledger,
+    decoder: DecoderStream,
+    fault: Option<DecoderStreamError>,
+    most: u64,
+}
+
+// Contracts treat the encoder as its table, its ledger, the decoder stream, and how many streams
+// may be blocked.
+impl Model for QpackEncoder {
+    ghost use Rattle.wtp_dynamic.specs.EncoderState.{Owes, FewWait};
+    ghost use Rattle.wtp_dynamic_encoder.specs.Encoding.{State, progress_of, encoder_of};
+
+    ghost Value = { State };
+
+    ghost view = { λ e. record {
+        table = e.table;
+        ledger = e.ledger;
+        progress = progress_of e.fault e.decoder;
+        most = e.most;
+    } };
+
+    ghost invariant = { λ e. Owes (encoder_of e.table e.ledger)
+        × FewWait e.most e.ledger.0 e.ledger.1 };
+}
+
+impl QpackEncoder {
+    /// Creates an encoder with an empty table of capacity 0. `limit` and `most` are those that the
+    /// decoder's settings announce: the largest capacity of the table, in bytes, and how many
+    /// streams may be blocked. Nothing is allocated.
+    #[tactic(auto, using(crate::proofs::Kept::start))]
+    pub fn new(alloc: Global, limit: u64, most: u64) -> Self
+        requires { limit < 2 ^ 60 }
+        ensures { result ≡ record {
+            table = empty_table limit;
+            ledger = (0, []);
+            progress = Runs [];
+            most = most;
+        } }
+    {
+        QpackEncoder {
+            alloc,
+            table: DynamicTable::new(alloc, limit),
+            ledger: Ledger::new(alloc),
+            decoder: DecoderStream::new(alloc),
+            fault: None,
+            most,
+        }
+    }
+
+    /// Returns the dynamic table.
+    pub fn table(&self) -> &DynamicTable
+        ensures { result.now ≡ self.now.table }
+    {
+        &self.table
+    }
+
+    /// Returns the Known Received Count: how many entries the decoder is known to have received
+    /// (section 2.1.4).
+    pub fn known(&self) -> u64
+        ensures value { result ≡ self.now.ledger.0 }
+        // What holds of every encoder.
+        ensures owes { Owes (encoder_of self.now.table self.now.ledger) }
+        ensures few { FewWait self.now.most self.now.ledger.0 self.now.ledger.1 }
+    {
+        self.ledger.known()
+    }
+
+    /// Returns how many bytes of a cut instruction of the decoder stream are held: at most ten.
+    pub fn held(&self) -> usize
+        ensures { result < most_bytes }
+    {
+        self.decoder.held()
+    }
+
+    /// Sets the capacity of the table, and appends the instruction to the encoder stream (section
+    /// 4.3.1). Returns whether it was set: it is at most the limit, and no entry has to go that may
+    /// not.
+    ///
+    /// Returns [`AllocError`] if allocation failed; nothing has changed then.
+    #[tactic(auto, using(crate::proofs::Orders::one_step))]
+    pub fn set_capacity(
+        &mut self,
+        capacity: u64,
+        encoder_stream: &mut Vec<u8>,
+    ) -> Result<bool, AllocError>
+        ensures table { ResizesIf capacity self.old.ledger self.old.table self.new.table
+            encoder_stream.old.items encoder_stream.new.items result }
+        ensures same { self.new ≡ record self.old { table = self.new.table } }
+    {
+        insertion::set_capacity(
+            self.alloc,
+            &mut self.table,
+            &self.ledger,
+            capacity,
+            encoder_stream,
+        )
+    }
+
+    /// Inserts an entry into the table, and appends the instruction to the encoder stream (sections
+    /// 4.3.2 and 4.3.3). Returns whether it was inserted: it is not larger than the table, and no
+    /// entry has to go that may not.
+    ///
+    /// Returns [`AllocError`] if allocation failed; nothing has changed then.
+    #[tactic(auto, using(crate::proofs::Orders::one_step))]
+    pub fn insert(
+        &mut self,
+        name: &[u8],
+        value: &[u8],
+        encoder_stream: &mut Vec<u8>,
+    ) -> Result<bool, AllocError>
+        ensures table { InsertsIf (name.now, value.now) self.old.ledger self.old.table
+            self.new.table encoder_stream.old.items encoder_stream.new.items result }
+        ensures same { self.new ≡ record self.old { table = self.new.table } }
+    {
+        insertion::insert_entry(
+            self.alloc,
+            &mut self.table,
+            &self.ledger,
+            name,
+            value,
+            encoder_stream,
+        )
+    }
+
+    /// Encodes the fields of a section of a stream, in their order: appends instructions to the
+    /// encoder stream, and the section to the bytes of its stream.
+    ///
+    /// First each field that is proposed is inserted, if neither table has it and it may be
+    /// inserted. Then each line refers to the entry of the static table that has its name and
+    /// value, or else to the latest such entry of the dynamic table; or else to the name of an
+    /// entry; or else it has the texts. Lines refer to entries that the decoder may not have
+    /// received only if the stream may be blocked. The Base is the count of insertions, or 0 if
+    /// no line refers to the dynamic table.
+    ///
+    /// Returns [`AllocError`] if allocation failed. No section is appended then; entries may have
+    /// been inserted, and their instructions are in the encoder stream.
+    pub fn encode(
+        &mut self,
+        stream: u64,
+        fields: &[Proposal<'_>],
+        encoder_stream: &mut Vec<u8>,
+        section: &mut Vec<u8>,
+    ) -> Result<(), AllocError>
+        ensures { Encodes stream (map field_of fields.now) self.old self.new
+            encoder_stream.old.items encoder_stream.new.items section.old.items section.new.items
+            result }
+    {
+        insertion::insert_all(
+            self.alloc,
+            &mut self.table,
+            &self.ledger,
+            fields,
+            encoder_stream,
+        )?;
+        let bound = bound_of(&self.table, &self.ledger, stream, self.most);
+        let lines = write_lines(self.alloc, &self.table, bound, fields)?;
+        send(
+            self.alloc,
+            stream,
+            &self.table,
+            &mut self.ledger,
+            &lines,
+            section,
+        )
+    }
+
+    /// Reads the next piece of the decoder stream: does the instructions that are now complete
+    /// (section 4.4).
+    ///
+    /// Returns the fault of the stream, or [`DecoderStreamError::Memory`] if allocation failed.
+    /// What the instructions before it told is kept, and the stream has ended: every later call
+    /// returns the same error and does nothing.
+    pub fn read_decoder_stream(&mut self, piece: &[u8]) -> Result<(), DecoderStreamError>
+        ensures { PieceRead self.old.progress piece.now self.old self.new result }
+    {
+        if let Some(fault) = self.fault {
+            return Err(fault);
+        }
+        let count = self.table.insert_count();
+        match self.decoder.read(self.alloc, &mut self.ledger, count, piece) {
+            Ok(()) => Ok(()),
+            Err(fault) => {
+                self.fault = Some(fault);
+                Err(fault)
+            }
+        }
+    }
+}

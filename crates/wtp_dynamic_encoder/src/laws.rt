@@ -1,0 +1,60 @@
+//! Laws of the definitions: the contract of each function is the law.
+
+ghost use Rattle.std.specs.Prelude.{◌≡◌, ◌⊎◌, ℕ, ◌^◌, ◌<◌, ◌≤◌, List, [], ◌++◌};
+ghost use Rattle.wtp_qpack.specs.Field.{Field};
+ghost use Rattle.wtp_dynamic.specs.declared.error.DecoderStreamError.{DecoderStreamError};
+ghost use Rattle.wtp_dynamic.specs.Table.{Table, Later, insert_count, table_size};
+ghost use Rattle.wtp_dynamic.specs.Instruction.{Instruction};
+ghost use Rattle.wtp_dynamic.specs.Stream as encoder_stream;
+ghost use Rattle.wtp_dynamic.specs.Answer.{HasFields};
+ghost use Rattle.wtp_dynamic.specs.EncoderState.{Encoder, Owes, IsOpen};
+ghost use Rattle.wtp_dynamic_encoder.specs.Acknowledging.{Ledger, Stands, Breaks};
+ghost use Rattle.wtp_dynamic_encoder.specs.Encoding.{Ordered, IsSent, needed, sent_of};
+
+/// However a decoder stream is cut: what pieces lead to one after the other, they lead to joined;
+/// and there is one result. What follows a fault changes nothing.
+pub fn pieces_of_decoder_streams()
+    ensures piece { (inserted : ℕ) (start : Ledger) (bytes : List ℕ) (ledger : Ledger) (held piece : List ℕ)
+        (after : Ledger) (left : List ℕ) → Stands inserted start bytes ledger held
+        → Stands inserted ledger (held ++ piece) after left
+        → Stands inserted start (bytes ++ piece) after left }
+    ensures fault { (inserted : ℕ) (start : Ledger) (bytes : List ℕ) (ledger : Ledger) (held piece : List ℕ)
+        (after : Ledger) (e : DecoderStreamError) → Stands inserted start bytes ledger held
+        → Breaks inserted ledger (held ++ piece) after e
+        → Breaks inserted start (bytes ++ piece) after e }
+    ensures over { (inserted : ℕ) (start : Ledger) (bytes more : List ℕ) (after : Ledger)
+        (e : DecoderStreamError) → Breaks inserted start bytes after e
+        → Breaks inserted start (bytes ++ more) after e }
+    ensures only { (inserted : ℕ) (start : Ledger) (bytes : List ℕ) (ledger : Ledger) (held : List ℕ)
+        (other : Ledger) (left : List ℕ) → Stands inserted start bytes ledger held
+        → Stands inserted start bytes other left → (ledger ≡ other) × (held ≡ left) }
+    ensures either { (inserted : ℕ) (start : Ledger) (bytes : List ℕ) (ledger : Ledger) (held : List ℕ)
+        (other : Ledger) (e : DecoderStreamError) → Stands inserted start bytes ledger held
+        → ¬ Breaks inserted start bytes other e }
+    ensures one_fault { (inserted : ℕ) (start : Ledger) (bytes : List ℕ) (ledger other : Ledger)
+        (e f : DecoderStreamError) → Breaks inserted start bytes ledger e
+        → Breaks inserted start bytes other f → (ledger ≡ other) × (e ≡ f) }
+{}
+
+/// What an encoder appends to its stream, a decoder with the same table reads, whatever follows: it
+/// then has the encoder's table.
+pub fn orders_of_encoders()
+    ensures { (old new : Table) (before after rest : List ℕ) → Ordered old new before after
+        → (bytes : List ℕ) × (after ≡ before ++ bytes) × (instructions : List Instruction)
+        × encoder_stream.Leads instructions old (bytes ++ rest) new rest }
+{}
+
+/// A section that was sent reads as its fields: at each decoder of the encoder's stream that has
+/// received what the encoder knows of, and what the section needs, as long as it is not
+/// acknowledged, however the encoder went on.
+pub fn sections_of_encoders()
+    ensures { (stream most : ℕ) (fields : List Field) (written : Table) (before after : Ledger)
+        (section : List ℕ) (sent : IsSent stream most fields written before after [] section)
+        (now : Encoder) (decoder : Table) → Owes now
+        → (needed sent.plans ≡ 0) ⊎ IsOpen (sent_of stream sent.plans sent.lowest) now.sections
+        → Later written now.table → Later decoder now.table
+        → table_size now.table.live ≤ now.table.limit → now.known ≤ insert_count decoder
+        → needed sent.plans ≤ insert_count decoder
+        → insert_count written < 2 ^ 62 → decoder.limit < 2 ^ 62
+        → HasFields decoder section fields }
+{}
