@@ -36,7 +36,8 @@ pub record Decoder : Type 0 where
 
 -- What reading a piece did: after an error nothing. An error stays; the table is what the
 -- instructions before it made.
-abbrev pub PieceRead : Progress → List ℕ → Decoder → Decoder → Result (Unit {0}) EncoderStreamError → Type 0
+abbrev pub PieceRead : Progress → List ℕ → (old new : Decoder)
+    → Result (Unit {0}) EncoderStreamError → Type 0
 PieceRead (Failed e) piece old new result = (new ≡ old) × (result ≡ Err e)
 PieceRead (Runs held) piece old new result =
     MatchResult result
@@ -65,19 +66,25 @@ abbrev pub with_waiting : List Waiting → Decoder → Decoder
 with_waiting waiting decoder = record decoder { waiting = waiting }
 
 -- A section of a stream was opened: its lines can be read, and the stream does not wait.
-pub record IsOpened (stream : ℕ) (section : List ℕ) (old new : Decoder) (prefix : Prefix) : Type 0 where
+pub record IsOpened (stream : ℕ) (section : List ℕ) (old new : Decoder) (prefix : Prefix)
+    : Type 0 where
   pub is : prefix_at old.table section ≡ Ok prefix
   pub free : is_blocked old.table prefix ≡ false
   pub same : new ≡ with_waiting (others stream old) old
 
+-- a stream that waits for so many insertions
+abbrev pub waiting_for : (stream required : ℕ) → Waiting
+waiting_for stream required = record { stream = stream; required = required }
+
 -- It needs more insertions. The stream waits, with no more others than may (section 2.1.2).
-pub record IsWaiting (stream : ℕ) (section : List ℕ) (old new : Decoder) (required : ℕ) : Type 0 where
+pub record IsWaiting (stream : ℕ) (section : List ℕ) (old new : Decoder) (required : ℕ)
+    : Type 0 where
   pub prefix : Prefix
   pub is : prefix_at old.table section ≡ Ok prefix
   pub needs : prefix.required ≡ required
   pub blocked : is_blocked old.table prefix ≡ true
   pub few : length (others stream old) < old.most
-  pub same : new ≡ with_waiting (others stream old ++ record { stream = stream; required = required } ∷ []) old
+  pub same : new ≡ with_waiting (others stream old ++ waiting_for stream required ∷ []) old
 
 -- It needs more insertions, and as many other streams wait as may.
 pub record IsOneTooMany (stream : ℕ) (section : List ℕ) (old new : Decoder) : Type 0 where
@@ -139,6 +146,8 @@ told bytes (Some due) = bytes ++ acknowledgment_bytes due
 
 -- the instruction that is due, if there is one, was appended to bytes; or allocation failed, and
 -- nothing changed
-abbrev pub Tells : {E : Type 0} → Option Acknowledgment → (made old new : Decoder) → (before after : List ℕ) → Result (Unit {0}) E → Type 0
+abbrev pub Tells : {E : Type 0} → Option Acknowledgment → (made old new : Decoder)
+    → (before after : List ℕ) → Result (Unit {0}) E → Type 0
 Tells due made old new before after result =
-    MatchResult result (λ _. (new ≡ made) × (after ≡ told before due)) (λ _. (new ≡ old) × (after ≡ before))
+    MatchResult result (λ _. (new ≡ made) × (after ≡ told before due))
+    (λ _. (new ≡ old) × (after ≡ before))

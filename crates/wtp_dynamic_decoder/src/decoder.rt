@@ -75,7 +75,13 @@ impl Model for QpackDecoder {
 
     ghost Value = { Decoder };
 
-    ghost view = { λ d. record { table = d.encoder.0; progress = progress_of d.fault d.encoder.1; known = d.known; waiting = d.waiting.items; most = d.most } };
+    ghost view = { λ d. record {
+      table = d.encoder.0;
+      progress = progress_of d.fault d.encoder.1;
+      known = d.known;
+      waiting = d.waiting.items;
+      most = d.most;
+    } };
 
     ghost invariant = { λ d. (d.known ≤ insert_count d.encoder.0)
         × (length d.waiting.items ≤ d.most) };
@@ -87,7 +93,13 @@ impl QpackDecoder {
     /// Nothing is allocated.
     pub fn new(alloc: Global, limit: u64, most: u64) -> Self
         requires { limit < 2 ^ 60 }
-        ensures { result ≡ record { table = empty_table limit; progress = Runs []; known = 0; waiting = []; most = most } }
+        ensures { result ≡ record {
+          table = empty_table limit;
+          progress = Runs [];
+          known = 0;
+          waiting = [];
+          most = most;
+        } }
     {
         QpackDecoder {
             alloc,

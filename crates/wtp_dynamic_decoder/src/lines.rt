@@ -88,7 +88,8 @@ impl<'a> SectionLines<'a> {
         ensures section { self.new.0 ≡ self.old.0 }
         ensures line { TakesLine table.now self.old.0 self.old.1 self.new.1 result }
         // A line has at least one byte, so there is an end to the lines.
-        ensures shorter { IfSome result (λ taken. OnOk taken (length self.new.1 < length self.old.1)) }
+        ensures shorter { IfSome result
+            (λ taken. OnOk taken (length self.new.1 < length self.old.1)) }
         ensures memory { result ≡ Some (Err Memory)
             → IsTrue (is_coded_line table.now self.old.0 self.old.1)
             × (room_bytes room.old < length self.old.1 * 2) }
