@@ -36,8 +36,8 @@ def _accept(answer, code=None):
 
 def _written(call, *arguments):
     """The bytes that a call writes, which is made again if it needs more room."""
-    room, answer, used = 64, c.ROOM, c_size_t()
-    while answer == c.ROOM:
+    room, answer, used = 64, c.BUFFER_TOO_SMALL, c_size_t()
+    while answer == c.BUFFER_TOO_SMALL:
         out = create_string_buffer(room)
         answer = call(*arguments, out, room, used)
         room = used.value
@@ -127,7 +127,7 @@ def read_fields(section):
         answer = _lib.wt_fields_read(
             section, len(section), fields, fields_room, texts, texts_room, count, used, code
         )
-        if answer != c.ROOM:
+        if answer != c.BUFFER_TOO_SMALL:
             break
         fields_room, texts_room = count.value, used.value
     _accept(answer, code)
@@ -140,9 +140,9 @@ def read_fields(section):
 
 def read_request(section):
     """(authority, path) of the request for a session."""
-    room, answer = 512, c.ROOM
+    room, answer = 512, c.BUFFER_TOO_SMALL
     authority, used, code = c_size_t(), c_size_t(), c_uint64()
-    while answer == c.ROOM:
+    while answer == c.BUFFER_TOO_SMALL:
         out = create_string_buffer(room)
         answer = _lib.wt_request_read(section, len(section), out, room, authority, used, code)
         room = used.value
