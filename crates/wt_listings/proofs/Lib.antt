@@ -1,4 +1,6 @@
 pub mod ControlLemmas
+pub mod Faults
+pub mod Known
 pub mod ListingLemmas
 pub mod RequestLemmas
 pub mod ProgramLemmas

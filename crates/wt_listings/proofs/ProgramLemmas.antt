@@ -1,10 +1,11 @@
 -- The status of a fault, and what is written of its line.
-use Rattle.std.proofs.Common.{◌≡◌, ℕ, ◌-◌, List, ◌++◌, length, take, drop, Option, Some, None, refl, sym, ap, ◌∙◌, append_assoc, take-append-drop}
+use Rattle.std.proofs.Common.{◌≡◌, ℕ, ◌-◌, List, [], ◌++◌, length, take, drop, Option, refl, sym, ap, ◌∙◌, append_assoc, append-nil, take-append-drop}
 use Rattle.std.proofs.lemmas.List.{take_rest}
-use Rattle.std.specs.Io.KnownBytes.{Appends}
+use Rattle.std.specs.Io.KnownBytes.{Appends, Keeps}
 use Rattle.wt_listings.specs.declared.program.Fault.{Fault}
 use Rattle.wt_listings.specs.declared.program.Fault.TheVariants.{Usage, InputTooLong, ReadFault, WriteFault, NoMemory}
 use Rattle.wt_listings.specs.Program.{fault_status, AppendsStart}
+use Rattle.wt_listings.proofs.Known.{appends_then, appends_keeps}
 
 -- only other arguments have status 1
 pub usage-status : (fault : Fault) → fault_status fault ≡ 1 → fault ≡ Usage
@@ -13,14 +14,6 @@ usage-status InputTooLong e = absurd (cc)
 usage-status ReadFault e = absurd (cc)
 usage-status WriteFault e = absurd (cc)
 usage-status NoMemory e = absurd (cc)
-
--- ---- known bytes that grow
-
-pub appends-then : (a b c : Option (List ℕ)) (xs ys : List ℕ) → Appends a b xs → Appends b c ys → Appends a c (xs ++ ys)
-appends-then None b c xs ys p q = tt
-appends-then (Some s) None c xs ys p q = absurd p
-appends-then (Some s) (Some t) None xs ys p q = absurd q
-appends-then (Some s) (Some t) (Some u) xs ys p q = q ∙ ap (λ (l : List ℕ). l ++ ys) p ∙ append_assoc s xs ys
 
 -- ---- what is written of bytes
 
@@ -36,4 +29,8 @@ pub start-first : (a b : Option (List ℕ)) (xs ys : List ℕ) → AppendsStart 
 start-first a b xs ys (start, rest, e, p) = (start, rest ++ ys, ap (λ (l : List ℕ). l ++ ys) e ∙ append_assoc start rest ys, p)
 
 pub start-second : (a b c : Option (List ℕ)) (xs ys : List ℕ) → Appends a b xs → AppendsStart ys b c → AppendsStart (xs ++ ys) a c
-start-second a b c xs ys p (start, rest, e, q) = (xs ++ start, rest, ap (λ (l : List ℕ). xs ++ l) e ∙ sym (append_assoc xs start rest), appends-then a b c xs start p q)
+start-second a b c xs ys p (start, rest, e, q) = (xs ++ start, rest, ap (λ (l : List ℕ). xs ++ l) e ∙ sym (append_assoc xs start rest), appends_then a b c xs start p q)
+
+-- a text that was written whole
+pub start_whole : (a b c : Option (List ℕ)) (xs : List ℕ) → Appends a b xs → Keeps b c → AppendsStart xs a c
+start_whole a b c xs p q = (xs, [], sym (append-nil xs), appends_keeps a b c xs p q)

@@ -1,8 +1,8 @@
 -- The arguments of the program, its faults and statuses, and what it writes.
-use Rattle.std.specs.Prelude.{◌≡◌, ◌≢◌, ◌⊎◌, ℕ, ◌≤◌, ◌<◌, List, [], ◌∷◌, ◌++◌, length, map, Option, IfSome, codes}
+use Rattle.std.specs.Prelude.{◌≡◌, ◌≢◌, ◌⊎◌, ℕ, ◌+◌, ◌≤◌, ◌<◌, List, [], ◌∷◌, ◌++◌, length, map, Option, IfSome, codes}
 use Rattle.std.specs.Prelude.{String, string_bytes}
 use Rattle.std.specs.Global.{Global}
-use Rattle.std.specs.Io.KnownBytes.{Appends, IsAtEnd}
+use Rattle.std.specs.Io.KnownBytes.{Appends, Consumes, IsAtEnd}
 use Rattle.std.specs.Str.Parse.{IsNumeral, digits_value}
 use Rattle.wt_listings.specs.declared.listing.ListKind.{ListKind}
 use Rattle.wt_listings.specs.declared.listing.ListKind.TheVariants.{BiRemote, BiLocal, Control}
@@ -67,6 +67,10 @@ Names arguments Request = arguments ≡ codes "request" ∷ []
 abbrev pub NamesNone : List (List ℕ) → Type 0
 NamesNone arguments = (command : Command) → Names arguments command → ⊥
 
+-- a command has these arguments
+abbrev pub NamesOne : List (List ℕ) → Type 0
+NamesOne arguments = (command : Command) × Names arguments command
+
 -- a stream gives at least one byte a call
 abbrev pub CanList : Command → Type 0
 CanList (Buffer kind) = Unit {0}
@@ -108,19 +112,61 @@ abbrev pub AppendsStart : List ℕ → Known → Known → Type 0
 AppendsStart text old new =
     (start : List ℕ) × (rest : List ℕ) × (text ≡ start ++ rest) × Appends old new start
 
--- A run of the program ended with this fault. Its line was appended to the errors and nothing else,
--- or only its start. Unwritten says that nothing was written to the output.
-pub record FailsWith (fault : Fault) (arguments : List (List ℕ)) (input left errors reported : Known) (Unwritten : Type 0) : Type 0 where
-  pub line : AppendsStart (fault_line fault) errors reported
-  pub usage : fault ≡ Usage → NamesNone arguments
-  pub too_long : fault ≡ InputTooLong → IfSome input (λ bytes. 1048576 < length bytes)
-  pub unwritten : fault ≡ WriteFault → ReadsWhole arguments input left
-  pub quiet : fault ≢ WriteFault → Unwritten
+-- the arguments name a command, all of the input was read and is short enough to be listed, and of
+-- its listing the first bytes were written, or all
+abbrev pub WritesStart : List (List ℕ) → Known → Known → Known → Known → Type 0
+WritesStart arguments input left output written =
+    (command : Command) × Names arguments command
+    × IfSome input (λ bytes. (length bytes ≤ 1048576)
+    × AppendsStart (listing_of command bytes).text output written)
+    × IsAtEnd left
 
--- the same by the status that the program ended with, which is not that of a listing
-abbrev pub EndsFailed :
-    List (List ℕ) → Known → Known → Known → Known → Type 0 → ℕ → Type 0
-EndsFailed arguments input left errors reported Unwritten status =
-    (fault : Fault)
-    × (status ≡ fault_status fault)
-    × FailsWith fault arguments input left errors reported Unwritten
+-- ---- faults
+
+-- as far as the bytes of the input are known, the first of them were taken, and their number has
+-- this property
+abbrev pub Takes : (ℕ → Type 0) → Known → Known → Type 0
+Takes Number input left = (taken : List ℕ) × Consumes input left taken × Number (length taken)
+
+-- bytes of the input were taken, at most 4096 at a time, and nothing more once they were too many
+abbrev pub TakesSome : Known → Known → Type 0
+TakesSome input left = Takes (λ n. (0 < n) × (n ≤ 1048576 + 4096)) input left
+
+abbrev pub TakesTooMany : Known → Known → Type 0
+TakesTooMany input left = Takes (λ n. (1048576 < n) × (n ≤ 1048576 + 4096)) input left
+
+abbrev pub TakesFew : Known → Known → Type 0
+TakesFew input left = Takes (λ n. n ≤ 1048576) input left
+
+-- what was taken of an input that could not be read
+abbrev pub ReadFails : Fault → Known → Known → Type 0
+ReadFails Usage input left = ⊥
+ReadFails InputTooLong input left = TakesTooMany input left
+ReadFails ReadFault input left = TakesFew input left
+ReadFails WriteFault input left = ⊥
+ReadFails NoMemory input left = TakesSome input left
+
+-- what holds after a run with this fault: memory is needed for bytes that were taken, and for the
+-- listing of all of them
+abbrev pub FailsBy : Fault → List (List ℕ) → Known → Known → Known → Known → Type 0
+FailsBy Usage arguments input left output written = NamesNone arguments
+FailsBy InputTooLong arguments input left output written =
+    NamesOne arguments
+    × TakesTooMany input left
+    × IfSome input (λ bytes. 1048576 < length bytes)
+FailsBy ReadFault arguments input left output written = NamesOne arguments × TakesFew input left
+FailsBy WriteFault arguments input left output written =
+    WritesStart arguments input left output written
+FailsBy NoMemory arguments input left output written =
+    NamesOne arguments × (TakesSome input left ⊎ ReadsWhole arguments input left)
+
+-- A run ended with the status of a fault. Its line was appended to the errors and nothing else, or
+-- only the start of the line. Unwritten says that nothing was written to the output.
+pub record EndsFailed
+    (arguments : List (List ℕ)) (input left output written errors reported : Known)
+    (Unwritten : Type 0) (status : ℕ) : Type 0 where
+  pub fault : Fault
+  pub ends : status ≡ fault_status fault
+  pub line : AppendsStart (fault_line fault) errors reported
+  pub why : FailsBy fault arguments input left output written
+  pub quiet : fault ≢ WriteFault → Unwritten

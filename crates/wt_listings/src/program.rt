@@ -1,10 +1,10 @@
 //! The program: its arguments, its input and output, and its statuses.
 ghost use Rattle.std.specs.Prelude.{◌≡◌, ◌≢◌, ◌≤◌, ◌<◌, ◌⊎◌, length, Err};
 ghost use Rattle.std.specs.Prelude.{IfOk, IfErr, IfSome, OnOk, vec_len};
-ghost use Rattle.std.specs.Io.KnownBytes.{Appends, IsAtEnd};
+ghost use Rattle.std.specs.Io.KnownBytes.{Appends, IsAtEnd, WriteAppends};
 ghost use Rattle.wt_listings.specs.Listing.{HasText};
 ghost use Rattle.wt_listings.specs.Program.{fault_line, fault_status, fault_text, texts_of, listing_of, CanList};
-ghost use Rattle.wt_listings.specs.Program.{AppendsStart, EndsFailed, NamesNone, ListsArguments, ReadsWhole};
+ghost use Rattle.wt_listings.specs.Program.{AppendsStart, EndsFailed, FailsBy, NamesNone, ListsArguments, ReadFails, ReadsWhole};
 
 mod arguments;
 
@@ -80,10 +80,12 @@ impl Fault {
 ///
 /// The status is that of the listing; 1 for other arguments, before anything is read or written; 3
 /// for more than 1048576 bytes of input, a failed read and a failed write; 4 if allocation fails.
-/// With 1, 3 and 4 the line of the fault is written to `errors`, of which the contract promises no
-/// more than a start, since a write may fail; with every other status `errors` is unchanged. Nothing is written to `output` before the
+/// Input is read 4096 bytes at a time, up to its end or until it is too long.
+///
+/// With 1, 3 and 4 the line of the fault is written to `errors`, or only its start if a write
+/// fails; with every other status `errors` is unchanged. Nothing is written to `output` before the
 /// whole listing is made: with 1 and 4 `output` is unchanged, and with 3 too unless the listing
-/// could not be written, of which it may then contain a part.
+/// could not be written, of which it then contains the start.
 pub fn run_program<R: Read, W: Write, E: Write>(
     alloc: Global,
     arguments: &[String],
@@ -111,6 +113,7 @@ pub fn run_program<R: Read, W: Write, E: Write>(
     // write fails.
     ensures reported { ((result ≡ 0) ⊎ (result ≡ 2))
         ⊎ EndsFailed (texts_of arguments.now) (R.remaining input.old) (R.remaining input.new)
+        (W.contents output.old) (W.contents output.new)
         (E.contents errors.old) (E.contents errors.new) (output.new ≡ output.old) result }
     ensures statuses { result ≤ 4 }
 {
@@ -135,14 +138,14 @@ fn report<E: Write>(errors: &mut E, fault: Fault) -> io::Result<()>
 }
 
 /// Writes bytes until a write fails.
-fn write_start<E: Write>(errors: &mut E, bytes: &[u8]) -> io::Result<()>
-    ensures whole { OnOk result (Appends (E.contents errors.old) (E.contents errors.new)
+fn write_start<W: Write>(writer: &mut W, bytes: &[u8]) -> io::Result<()>
+    ensures whole { OnOk result (Appends (W.contents writer.old) (W.contents writer.new)
         bytes.now) }
-    ensures start { AppendsStart bytes.now (E.contents errors.old) (E.contents errors.new) }
+    ensures start { AppendsStart bytes.now (W.contents writer.old) (W.contents writer.new) }
 {
     let mut rest = bytes;
     'writes: while !rest.is_empty() {
-        let count = errors.write(rest)?;
+        let count = write_some(writer, rest)?;
         if count == 0 {
             return Err(io::Error::from(io::ErrorKind::WriteZero));
         }
@@ -151,7 +154,24 @@ fn write_start<E: Write>(errors: &mut E, bytes: &[u8]) -> io::Result<()>
     Ok(())
 }
 
+/// Writes once, and again if a write was interrupted.
+#[tactic(auto, using(crate::proofs::Known::keeps_none, crate::proofs::Known::keeps_then, crate::proofs::Known::keeps_write))]
+fn write_some<W: Write>(writer: &mut W, bytes: &[u8]) -> io::Result<usize>
+    ensures count { IfOk result (λ n. n ≤ length bytes.now) }
+    ensures bytes { WriteAppends (W.contents writer.old) (W.contents writer.new) result
+        bytes.now }
+{
+    'tries: for _try in 0..u64::MAX {
+        match writer.write(bytes) {
+            Err(fault) if fault.kind() == io::ErrorKind::Interrupted => {}
+            written => return written,
+        }
+    }
+    Err(io::Error::from(io::ErrorKind::Interrupted))
+}
+
 /// The same, but returns a fault in place of its line and status.
+#[tactic(auto, using(crate::proofs::Faults::in_reading, crate::proofs::Faults::in_listing, crate::proofs::Faults::in_writing))]
 fn try_run<R: Read, W: Write>(
     alloc: Global,
     arguments: &[String],
@@ -161,8 +181,9 @@ fn try_run<R: Read, W: Write>(
     ensures usage { NamesNone (texts_of arguments.now)
         → (result ≡ Err Fault.Usage) × (input.new ≡ input.old) }
     ensures no_usage { result ≡ Err Fault.Usage → NamesNone (texts_of arguments.now) }
-    ensures too_long { result ≡ Err Fault.InputTooLong
-        → IfSome (R.remaining input.old) (λ bytes. 1048576 < length bytes) }
+    ensures fails { IfErr result (λ e. FailsBy e (texts_of arguments.now)
+        (R.remaining input.old) (R.remaining input.new)
+        (W.contents output.old) (W.contents output.new)) }
     ensures lists { IfOk result (ListsArguments (texts_of arguments.now) (R.remaining input.old)
         (W.contents output.old) (W.contents output.new)) }
     ensures status { IfOk result (λ s. (s ≡ 0) ⊎ (s ≡ 2)) }
@@ -191,6 +212,7 @@ fn list(alloc: Global, command: Command, input: &[u8]) -> Result<Listing, AllocE
 }
 
 /// Returns all of the input.
+#[tactic(auto, using(crate::proofs::Faults::failed, crate::proofs::Faults::unstored, crate::proofs::Faults::too_much))]
 pub fn read_input<R: Read>(alloc: Global, input: &mut R) -> Result<Vec<u8>, Fault>
     ensures whole { IfOk result (λ bytes. IfSome (R.remaining input.old) (λ xs. bytes.items ≡ xs)) }
     ensures short { IfOk result (λ bytes. vec_len bytes ≤ 1048576) }
@@ -198,6 +220,8 @@ pub fn read_input<R: Read>(alloc: Global, input: &mut R) -> Result<Vec<u8>, Faul
     ensures too_long { result ≡ Err Fault.InputTooLong
         → IfSome (R.remaining input.old) (λ xs. 1048576 < length xs) }
     ensures faults { IfErr result (λ e. (e ≢ Fault.Usage) × (e ≢ Fault.WriteFault)) }
+    ensures taken { IfErr result (λ e. ReadFails e (R.remaining input.old)
+        (R.remaining input.new)) }
 {
     let mut bytes = Vec::new(alloc);
     let mut chunk = [0; 4096];
@@ -217,10 +241,12 @@ pub fn read_input<R: Read>(alloc: Global, input: &mut R) -> Result<Vec<u8>, Faul
 }
 
 /// Writes the whole listing.
+#[tactic(auto, using(crate::proofs::Known::appends_keeps, crate::proofs::ProgramLemmas::start_whole))]
 pub fn write_output<W: Write>(output: &mut W, text: &[u8]) -> Result<(), Fault>
     ensures whole { OnOk result (Appends (W.contents output.old) (W.contents output.new) text.now) }
+    ensures start { AppendsStart text.now (W.contents output.old) (W.contents output.new) }
     ensures fault { IfErr result (λ e. e ≡ Fault.WriteFault) }
 {
-    output.write_all(text).map_err(|_| Fault::WriteFault)?;
+    write_start(output, text).map_err(|_| Fault::WriteFault)?;
     output.flush().map_err(|_| Fault::WriteFault)
 }

@@ -32,6 +32,7 @@ pub fn list_frames(alloc: Global, kind: ListKind, input: &[u8]) -> Result<Listin
 }
 
 /// Returns the listing of a stream of which these bytes were recorded.
+#[tactic(auto, using(crate::proofs::ListingLemmas::begun_line))]
 fn list_stream<S: ReadsFrames + Drop>(
     alloc: Global,
     mut stream: S,

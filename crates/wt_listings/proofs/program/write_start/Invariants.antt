@@ -4,7 +4,7 @@ use Rattle.wt_listings.proofs.program.write_start.Given as goal
 
 -- the bytes written so far, and those that are left
 abbrev pub invariant-writes : goal.invariant-writes
-invariant-writes g l = (start : List ℕ) × (l.bytes ≡ start ++ l.rest) × Appends (g.E.Write.contents l.fn.errors) (g.E.Write.contents l.errors) start
+invariant-writes g l = (start : List ℕ) × (l.bytes ≡ start ++ l.rest) × Appends (g.W.Write.contents l.fn.writer) (g.W.Write.contents l.writer) start
 
 abbrev pub decreases-writes : goal.decreases-writes
 decreases-writes g l = length l.rest
