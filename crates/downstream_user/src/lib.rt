@@ -1,17 +1,20 @@
 //! A user's crate, which depends on `wtransport_proto` only: its contracts cite the definitions
 //! that the library re-exports, and its proofs use the library's laws. There is no product code
-//! here.
+//! here. `loops` has samples of loops, of which it is proved that they keep the condition of each
+//! call.
 #![tactic(auto)]
 
-ghost use Rattle.std.specs.Prelude.{◌≡◌, ◌≢◌, ◌↔◌, ◌++◌, Some, None, Ok, List, ℕ, IsTrue, IfSome, IfOk, IfErr, []};
+ghost use Rattle.std.specs.Prelude.{◌≡◌, ◌≢◌, ◌↔◌, ◌++◌, Option, Some, None, Ok, List, ℕ};
+ghost use Rattle.std.specs.Prelude.{IsTrue, IfSome, IfOk, IfErr, [], option_map, ◌≤◌};
 ghost use Rattle.wtransport_proto.specs.Capsule.{capsule_in};
 ghost use Rattle.wtransport_proto.specs.CloseSession.{AnswersClose};
-ghost use Rattle.wtransport_proto.specs.Content.{kind_in, payload_in};
+ghost use Rattle.wtransport_proto.specs.Content.{Content, content, kind_in, payload_in};
 ghost use Rattle.wtransport_proto.specs.FieldSection.{map_at};
 ghost use Rattle.wtransport_proto.specs.FrameCursor.{run_from};
 ghost use Rattle.wtransport_proto.specs.Front.{Begins, Framed, front};
-ghost use Rattle.wtransport_proto.specs.Run.{Tail, MayGoOn, H3, ends};
+ghost use Rattle.wtransport_proto.specs.Run.{Tail, MayGoOn, H3, ends, follows};
 ghost use Rattle.wtransport_proto.specs.SessionResponse.{status_value};
+ghost use Rattle.wtransport_proto.specs.Ids.{status_in};
 ghost use Rattle.wtransport_proto.specs.Settings.{setting_value};
 
 pub mod loops;
@@ -38,11 +41,13 @@ pub fn takes_datagrams(settings: &Settings) -> bool
     settings.get(SettingId::H3Datagram) == Some(VarInt::from_u32(1))
 }
 
-/// Returns the first frame of the input, by the wire grammar.
+/// Returns the first frame of the input, by the wire grammar. Returns `None` if no frame is first.
 pub fn first_frame<'a>(bytes: &'a [u8]) -> Option<Frame<'a>>
-    ensures { IfSome result
+    ensures some { IfSome result
         (λ frame. (rest : List ℕ) × (front bytes.now ≡ Framed frame rest)
         × Begins bytes.now (Framed frame rest)) }
+    ensures none { result ≡ None
+        → (frame : Content) (rest : List ℕ) → front bytes.now ≢ Framed frame rest }
 {
     front_is_unique();
     let mut rest = bytes;
@@ -65,6 +70,7 @@ pub fn is_empty(alloc: Global, section: &[u8]) -> Result<bool, DecodingError>
 }
 
 /// Returns whether a DATA frame starts with a capsule that closes its session with the code 0.
+/// Returns `false` as well if allocation failed.
 pub fn closes_cleanly(alloc: Global, frame: &Frame<'_>) -> bool
     requires { kind_in frame.now ≡ FrameKind.Data }
     ensures { IsTrue result
@@ -87,7 +93,7 @@ pub fn closes_cleanly(alloc: Global, frame: &Frame<'_>) -> bool
 
 /// Returns the status of a response, which has one.
 pub fn status(response: &SessionResponse) -> StatusCode
-    ensures { status_value response.now ≢ None }
+    ensures { option_map status_in (status_value response.now) ≡ Some result }
 {
     response.code()
 }
@@ -102,6 +108,10 @@ pub fn next_payload<'a>(
     cursor: &mut FrameCursor,
     bytes: &mut &'a [u8],
 ) -> Result<Option<&'a [u8]>, ErrorCode>
+    ensures some { IfOk result (λ taken. IfSome taken (λ payload. (kind : FrameKind) × (session : Option ℕ)
+        × ((more : List ℕ) (tail : Tail) → tail ≢ MayGoOn
+        → run_from cursor.old (bytes.old.now ++ more) tail
+        ≡ follows (content kind payload.now session) (run_from cursor.new (bytes.new.now ++ more) tail)))) }
     ensures none { result ≡ Ok None → (more : List ℕ) (tail : Tail) → tail ≢ MayGoOn
         → run_from cursor.old (bytes.old.now ++ more) tail ≡ run_from cursor.new (bytes.new.now ++ more) tail }
     ensures fault { IfErr result (λ c. (more : List ℕ) (tail : Tail) → tail ≢ MayGoOn
@@ -127,7 +137,9 @@ pub fn next_payload<'a>(
 ///
 /// Returns the first fault of the stream, `Frame` if it ends inside a frame, or `ExcessiveLoad` if
 /// it has more than `most` frames.
-pub fn count_frames(role: StreamRole, bytes: &[u8], most: u32) -> Result<u32, ErrorCode> {
+pub fn count_frames(role: StreamRole, bytes: &[u8], most: u32) -> Result<u32, ErrorCode>
+    ensures { IfOk result (λ count. count ≤ most) }
+{
     let mut cursor = FrameCursor::new(role);
     let mut rest = bytes;
     for count in 0..=most {

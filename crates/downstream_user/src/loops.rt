@@ -1,7 +1,10 @@
-//! Loops over each call that has a condition on the state that it changes. The condition still
-//! holds after the call, so a struct keeps it in a ghost field, and no loop needs a proof file.
-ghost use Rattle.std.specs.Prelude.{IsTrue};
-ghost use Rattle.wtransport_proto.specs.Streams.{CanRead, CanWrite, can_upgrade};
+//! Samples of loops over each call that has a condition on the state that it changes. The condition
+//! still holds after the call, so a struct keeps it in a ghost field, and no loop needs a proof
+//! file. What is proved of the loops is that each call may be made, and that they end; how far they
+//! come depends on what they read from.
+ghost use Rattle.std.specs.Prelude.{◌≡◌, ◌≢◌, ◌↔◌, IsSome, IsTrue, IfSome, IfOk, IfErr};
+ghost use Rattle.wtransport_proto.specs.Content.{kind_in};
+ghost use Rattle.wtransport_proto.specs.Streams.{CanRead, CanWrite, can_upgrade, session_of};
 ghost use Rattle.wtransport_proto.specs.StreamWriting.{WritesPlain};
 
 use std::alloc::Global;
@@ -15,11 +18,9 @@ use wtransport_proto::exchange::{ReceiveError, receive};
 use wtransport_proto::frame::{Frame, FrameKind, FrameOwned, FrameReading, FrameWriting};
 use wtransport_proto::ids::SessionId;
 use wtransport_proto::stream::bilocal::{StreamBiLocalH3, StreamBiLocalWT};
-use wtransport_proto::stream::biremote::StreamBiRemoteH3;
-use wtransport_proto::stream::session::StreamSession;
 use wtransport_proto::stream::unilocal::StreamUniLocalH3;
 use wtransport_proto::stream::uniremote::StreamUniRemoteH3;
-use wtransport_proto::stream::{Driven, IoReadError, drive};
+use wtransport_proto::stream::{Driven, IoReadError, ReadsFrames, drive};
 use wtransport_proto::stream_header::StreamKind;
 
 /// How often a loop runs at most.
@@ -34,7 +35,10 @@ pub struct FromPeer {
 
 impl FromPeer {
     /// Creates it from a stream, if frames may be read from it.
-    pub fn new(stream: StreamUniRemoteH3) -> Option<Self> {
+    pub fn new(stream: StreamUniRemoteH3) -> Option<Self>
+        ensures some { IsSome result ↔ CanRead stream }
+        ensures stream { IfSome result (λ made. made.stream ≡ stream) }
+    {
         if !stream.can_read() {
             return None;
         }
@@ -115,43 +119,17 @@ impl FromPeer {
     }
 }
 
-/// Polls a stream that the peer opened for its next frame.
-pub fn next_remote_frame<S: AsyncRead>(
-    stream: &mut StreamBiRemoteH3,
+/// Polls a stream of any kind for its next frame. Returns `Pending` as well if no frame may be read
+/// from it.
+pub fn next_frame<K: ReadsFrames, S: AsyncRead>(
+    stream: &mut K,
     reading: &mut FrameReading,
     source: &mut S,
 ) -> Polled<Result<FrameOwned, IoReadError>> {
     for _turn in 0..TURNS {
-        match stream.read_frame_async(reading, source) {
-            Polled::Pending | Polled::Again | Polled::NoMemory => {}
-            answer => return answer,
+        if !stream.can_read() {
+            break;
         }
-    }
-    Polled::Pending
-}
-
-/// Polls a stream that this end opened for its next frame.
-pub fn next_local_frame<S: AsyncRead>(
-    stream: &StreamBiLocalH3,
-    reading: &mut FrameReading,
-    source: &mut S,
-) -> Polled<Result<FrameOwned, IoReadError>> {
-    for _turn in 0..TURNS {
-        match stream.read_frame_async(reading, source) {
-            Polled::Pending | Polled::Again | Polled::NoMemory => {}
-            answer => return answer,
-        }
-    }
-    Polled::Pending
-}
-
-/// Polls the stream of a session for its next frame.
-pub fn next_session_frame<S: AsyncRead>(
-    stream: &StreamSession,
-    reading: &mut FrameReading,
-    source: &mut S,
-) -> Polled<Result<FrameOwned, IoReadError>> {
-    for _turn in 0..TURNS {
         match stream.read_frame_async(reading, source) {
             Polled::Pending | Polled::Again | Polled::NoMemory => {}
             answer => return answer,
@@ -169,7 +147,10 @@ pub struct ToPeer {
 
 impl ToPeer {
     /// Creates it from a stream, if frames may be written to it.
-    pub fn new(stream: StreamUniLocalH3) -> Option<Self> {
+    pub fn new(stream: StreamUniLocalH3) -> Option<Self>
+        ensures some { IsSome result ↔ CanWrite stream }
+        ensures stream { IfSome result (λ made. made.stream ≡ stream) }
+    {
         if stream.kind() == StreamKind::WebTransport {
             return None;
         }
@@ -241,7 +222,10 @@ pub struct Sending<'a> {
 
 impl<'a> Sending<'a> {
     /// Creates it from a stream and a frame, if the frame may be written to the stream.
-    pub fn new(stream: StreamBiLocalH3, frame: &'a Frame<'_>) -> Option<Self> {
+    pub fn new(stream: StreamBiLocalH3, frame: &'a Frame<'_>) -> Option<Self>
+        ensures some { IsSome result ↔ (kind_in frame.now ≢ FrameKind.WebTransport) }
+        ensures stream { IfSome result (λ made. made.stream ≡ stream) }
+    {
         if frame.kind() == FrameKind::WebTransport {
             return None;
         }
@@ -270,7 +254,10 @@ pub struct Unused {
 
 impl Unused {
     /// Creates it from a stream, if it can be upgraded.
-    pub fn new(stream: StreamBiLocalH3) -> Option<Self> {
+    pub fn new(stream: StreamBiLocalH3) -> Option<Self>
+        ensures some { IsSome result ↔ IsTrue (can_upgrade stream) }
+        ensures stream { IfSome result (λ made. made.stream ≡ stream) }
+    {
         if !stream.can_upgrade() {
             return None;
         }
@@ -282,7 +269,10 @@ impl Unused {
         self,
         session_id: SessionId,
         writer: &mut W,
-    ) -> Result<StreamBiLocalWT, Self> {
+    ) -> Result<StreamBiLocalWT, Self>
+        ensures ok { IfOk result (λ made. session_of made ≡ session_id) }
+        ensures err { IfErr result (λ same. same.stream ≡ self.stream) }
+    {
         match self.stream.upgrade(session_id, writer) {
             Ok(upgraded) => Ok(upgraded),
             Err((stream, _)) => Err(Unused { stream }),
@@ -294,7 +284,9 @@ impl Unused {
         self,
         session_id: SessionId,
         writer: &mut W,
-    ) -> Result<StreamBiLocalWT, Self> {
+    ) -> Result<StreamBiLocalWT, Self>
+        ensures { IfOk result (λ made. session_of made ≡ session_id) }
+    {
         let mut unused = self;
         for _turn in 0..TURNS {
             match unused.try_upgrade(session_id, writer) {
