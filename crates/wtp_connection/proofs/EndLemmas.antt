@@ -6,7 +6,7 @@ use Rattle.wtp_frames.specs.declared.fault.Fault.{Fault}
 use Rattle.wtp_frames.specs.declared.fault.Fault.TheVariants as fault
 use Rattle.wtp_frames.specs.declared.reader.Place.{Place}
 use Rattle.wtp_frames.specs.declared.reader.Place.TheVariants.{BeforeHeaders, Body, AfterTrailers, BeforeSettings, AfterSettings, Failed}
-use Rattle.wtp_frames.specs.Reading.{by_end, by_missing, incomplete}
+use Rattle.wtp_frames.specs.Reading.{by_end, incomplete}
 use Rattle.wtp_connection.specs.Opening.{is_control, is_closed}
 
 missing_end : (b : Bool) (whole : Result (Unit {0}) Fault) → is_closed whole ≡ false → is_closed (cond b whole (Err fault.Frame)) ≡ false

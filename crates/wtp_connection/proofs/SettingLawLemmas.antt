@@ -13,7 +13,6 @@ use Rattle.wtp_wire.specs.SettingPairs.{setting_items}
 use Rattle.wtp_wire.proofs.PairLemmas.{pair_at-encoded}
 use Rattle.wtp_wire.proofs.SettingPairsLemmas.{items-nil, items-pair, items-reserved, has_pairs-items}
 use Rattle.wtp_wire.proofs.SettingIdLemmas.{is_reserved-true}
-use Rattle.wtp_connection.specs.declared.fault.Fault.{Fault}
 use Rattle.wtp_connection.specs.declared.fault.Fault.TheVariants as fault
 use Rattle.wtp_connection.specs.declared.settings.Values.{Values}
 use Rattle.wtp_connection.specs.Settings.{AreValid, value_of, values_of, is_understood, is_flag, is_refused, whole, settings_after, settings_in}

@@ -1,6 +1,6 @@
 -- What a stream of the peer is for, by its first bytes (RFC 9114, sections 6.1 and 6.2;
 -- draft-ietf-webtrans-http3-02, sections 4.1 and 4.2).
-use Rattle.std.specs.Prelude.{ℕ, ◌%◌, nat_le, ◌==◌, ◌&&◌, if◌then◌else◌, List, Bool, true, false, Option, Some, None, Result, Ok, Err}
+use Rattle.std.specs.Prelude.{ℕ, ◌%◌, nat_le, ◌==◌, ◌&&◌, if◌then◌else◌, List, Bool, true, false, Option, Some, None, Result, Err}
 use Rattle.wtp_core.specs.Varint.{number_at}
 use Rattle.wtp_frames.specs.declared.endpoint.Endpoint.{Endpoint}
 use Rattle.wtp_frames.specs.declared.endpoint.Side.{Side}
