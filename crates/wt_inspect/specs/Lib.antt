@@ -1,0 +1,3 @@
+pub mod Statuses
+pub mod CommandLine
+pub mod Shown

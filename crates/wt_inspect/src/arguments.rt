@@ -1,4 +1,7 @@
 //! Parses the arguments.
+ghost use Rattle.std.specs.Prelude.{◌≡◌, Bool, codes, option_map};
+ghost use Rattle.clap.specs.Matches.{first_value, found_of};
+ghost use Rattle.wt_inspect.specs.CommandLine.{IsFlag, Names, output_of};
 
 use clap::{Arg, ArgAction, ArgMatches, Command, Error};
 use std::alloc::Global;
@@ -121,7 +124,18 @@ pub fn command<'a>(alloc: Global) -> Result<Command<'a>, Error> {
 }
 
 /// Returns the parsed arguments.
-pub fn read_arguments<'a>(matches: &ArgMatches<'a>) -> Arguments<'a> {
+pub fn read_arguments<'a>(matches: &ArgMatches<'a>) -> Arguments<'a>
+    ensures recorded { Names (first_value (found_of matches.now) (codes "kind")) result.recorded }
+    ensures output { (json : Bool) × (html : Bool)
+        × IsFlag (found_of matches.now) (codes "json") json
+        × IsFlag (found_of matches.now) (codes "html") html
+        × (result.output ≡ output_of json html) }
+    ensures is_hex { IsFlag (found_of matches.now) (codes "hex") result.is_hex }
+    ensures is_open { IsFlag (found_of matches.now) (codes "open") result.is_open }
+    ensures has_payload { IsFlag (found_of matches.now) (codes "payload") result.has_payload }
+    ensures file { option_map (λ path. path.now) result.file
+        ≡ first_value (found_of matches.now) (codes "file") }
+{
     Arguments {
         recorded: recorded_of(matches.get_str("kind")),
         output: output_of(matches.get_flag("json"), matches.get_flag("html")),
@@ -133,7 +147,9 @@ pub fn read_arguments<'a>(matches: &ArgMatches<'a>) -> Arguments<'a> {
 }
 
 /// Returns the kind of recording with this name.
-fn recorded_of(name: Option<&str>) -> Recorded {
+fn recorded_of(name: Option<&str>) -> Recorded
+    ensures { Names (option_map (λ text. text.now) name.entry) result }
+{
     match name {
         Some("answer") => Recorded::Answer,
         Some("uni") => Recorded::Uni,
@@ -146,7 +162,9 @@ fn recorded_of(name: Option<&str>) -> Recorded {
 }
 
 /// Returns the format of the output.
-fn output_of(json: bool, html: bool) -> Output {
+fn output_of(json: bool, html: bool) -> Output
+    ensures { result ≡ output_of json html }
+{
     if json {
         Output::Json
     } else if html {

@@ -1,4 +1,6 @@
 //! Errors of the program.
+ghost use Rattle.std.specs.Prelude.{◌≡◌};
+ghost use Rattle.wt_inspect.specs.Statuses.{failure_status};
 
 use std::alloc::AllocError;
 
@@ -30,7 +32,9 @@ pub enum Failure {
 
 impl Failure {
     /// Returns the exit status.
-    pub fn status(self) -> u8 {
+    pub fn status(self) -> u8
+        ensures { result ≡ failure_status self }
+    {
         match self {
             Failure::Arguments => 1,
             Failure::Memory => 4,
@@ -40,7 +44,9 @@ impl Failure {
 }
 
 impl From<AllocError> for Failure {
-    fn from(_: AllocError) -> Self {
+    fn from(_: AllocError) -> Self
+        ensures { result ≡ Failure.Memory }
+    {
         Failure::Memory
     }
 }

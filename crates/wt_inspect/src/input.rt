@@ -1,4 +1,6 @@
 //! Reads the input.
+ghost use Rattle.std.specs.Io.KnownBytes.{IsAtEnd};
+ghost use Rattle.std.specs.Prelude.{◌≡◌, ◌≤◌, ◌<◌, ◌⊎◌, Err, IfErr, IfOk, IfSome, length, vec_len};
 
 use crate::failure::Failure;
 use std::alloc::Global;
@@ -9,23 +11,34 @@ const MAX_INPUT_LEN: usize = 67_108_864;
 
 /// Reads all bytes of a reader.
 ///
+/// # Errors
+///
 /// Returns [`Failure::TooLong`] if there are more than 67108864 bytes, [`Failure::Input`] if
 /// reading fails, and [`Failure::Memory`] if allocation fails.
-pub fn read_all<R: Read>(alloc: Global, input: &mut R) -> Result<Vec<u8>, Failure> {
+pub fn read_all<R: Read>(alloc: Global, input: &mut R) -> Result<Vec<u8>, Failure>
+    ensures whole { IfOk result (λ bytes. IfSome (R.remaining input.old) (λ xs. bytes.items ≡ xs)) }
+    ensures short { IfOk result (λ bytes. vec_len bytes ≤ 67108864) }
+    ensures ended { IfOk result (λ _. IsAtEnd (R.remaining input.new)) }
+    ensures too_long { result ≡ Err Failure.TooLong
+        → IfSome (R.remaining input.old) (λ xs. 67108864 < length xs) }
+    ensures failures { IfErr result (λ e. (e ≡ Failure.TooLong)
+        ⊎ ((e ≡ Failure.Input) ⊎ (e ≡ Failure.Memory))) }
+{
     let mut bytes = Vec::new(alloc);
     let mut chunk = [0; 16_384];
-    // Each iteration except the last appends at least one byte.
-    for _ in 0..=MAX_INPUT_LEN {
+    // Each turn except the last appends at least one byte.
+    'turns: loop {
         let count = input.read(&mut chunk).map_err(|_| Failure::Input)?;
         if count == 0 {
             return Ok(bytes);
         }
-        bytes.extend_from_slice(&chunk[..count])?;
+        bytes
+            .extend_from_slice(&chunk[..count])
+            .map_err(|_| Failure::Memory)?;
         if bytes.len() > MAX_INPUT_LEN {
-            break;
+            return Err(Failure::TooLong);
         }
     }
-    Err(Failure::TooLong)
 }
 
 /// Decodes hexadecimal text. Blanks, line ends and `0x` are ignored.

@@ -1,6 +1,10 @@
 //! Shows the contents of a recorded stream or datagram.
 #![tactic(auto)]
 
+ghost use Rattle.std.specs.Prelude.{◌≡◌, ◌≤◌, ◌⊎◌, IfOk};
+ghost use Rattle.wt_inspect.specs.Shown.{IsView, Shows};
+ghost use Rattle.wt_inspect.specs.Statuses.{end_status};
+
 mod arguments;
 mod failure;
 mod input;
@@ -29,13 +33,17 @@ fn main(rt: HostRuntime) -> ExitCode {
 
 /// Runs the program and returns its exit status: 0, 1 for invalid arguments, or 2 if the input
 /// contains an error.
-fn run(rt: &HostRuntime) -> Result<u8, Failure> {
+fn run(rt: &HostRuntime) -> Result<u8, Failure>
+    ensures { IfOk result (λ status. status ≤ 2) }
+{
     let words = read_words(rt).map_err(|_| Failure::Arguments)?;
     run_words(rt, words.as_slice())
 }
 
 /// Runs the program with these words as its name and arguments.
-fn run_words<'a>(rt: &HostRuntime, words: &'a [String]) -> Result<u8, Failure> {
+fn run_words<'a>(rt: &HostRuntime, words: &'a [String]) -> Result<u8, Failure>
+    ensures { IfOk result (λ status. status ≤ 2) }
+{
     let command = command(rt.alloc()).map_err(|_| Failure::Memory)?;
     match command.try_get_matches_from(words) {
         Ok(matches) => show_input(rt, &read_arguments(&matches)),
@@ -48,7 +56,10 @@ fn run_words<'a>(rt: &HostRuntime, words: &'a [String]) -> Result<u8, Failure> {
 
 /// Shows the input that the arguments name. Returns the exit status: 0, or 2 if the input
 /// contains an error.
-fn show_input(rt: &HostRuntime, arguments: &Arguments<'_>) -> Result<u8, Failure> {
+#[tactic(auto, using(crate::proofs::StatusLemmas::end_statuses))]
+fn show_input(rt: &HostRuntime, arguments: &Arguments<'_>) -> Result<u8, Failure>
+    ensures { IfOk result (λ status. (status ≡ 0) ⊎ (status ≡ 2)) }
+{
     let alloc = rt.alloc();
     let bytes = read_input(rt, alloc, arguments)?;
     let (text, status) = show(alloc, arguments, bytes.as_slice())?;
@@ -92,7 +103,9 @@ fn read_bytes(rt: &HostRuntime, alloc: Global, file: Option<&str>) -> Result<Vec
 }
 
 /// Returns the output for these bytes and the exit status.
-fn show(alloc: Global, arguments: &Arguments<'_>, bytes: &[u8]) -> Result<(Vec<u8>, u8), Failure> {
+fn show(alloc: Global, arguments: &Arguments<'_>, bytes: &[u8]) -> Result<(Vec<u8>, u8), Failure>
+    ensures { IfOk result (λ shown. Shows arguments.now bytes.now shown.0.items shown.1) }
+{
     let inspection = inspect(alloc, arguments.recorded, bytes, arguments.is_open)?;
     let text = write_inspection(alloc, arguments, &inspection, bytes)?;
     Ok((text, status_of(inspection.end)))
@@ -104,7 +117,10 @@ fn write_inspection(
     arguments: &Arguments<'_>,
     inspection: &Inspection,
     bytes: &[u8],
-) -> Result<Vec<u8>, AllocError> {
+) -> Result<Vec<u8>, AllocError>
+    ensures { IfOk result (λ text. IsView arguments.now.output arguments.now.has_payload bytes.now
+        inspection.now text.items) }
+{
     match arguments.output {
         Output::Text => {
             let text = write_text(alloc, inspection, bytes, arguments.has_payload)?;
@@ -116,7 +132,9 @@ fn write_inspection(
 }
 
 /// Returns the exit status of an inspection with this end: 0, or 2 for an error.
-fn status_of(end: End) -> u8 {
+fn status_of(end: End) -> u8
+    ensures { result ≡ end_status end }
+{
     match end {
         End::Fault(_) => 2,
         End::Whole | End::Cut(_) => 0,

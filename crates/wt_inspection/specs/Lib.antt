@@ -9,4 +9,5 @@ pub mod Recording
 pub mod Walks
 pub mod Warnings
 pub mod ItemFrames
+pub mod Results
 pub use Rattle.wt_inspection_model.specs.Names
