@@ -88,3 +88,32 @@ fn sixteen_streams_wait(rt: HostRuntime) {
         "the seventeenth is rejected",
     );
 }
+
+#[test]
+fn nothing_is_joined_after_an_error_of_the_connection(rt: HostRuntime) {
+    let mut connection = connection_of(true, true);
+    let (mut stream, _left) = early(&mut connection, 6);
+    let mut control = Stream::of_peer(2);
+    let error = read(
+        &mut connection,
+        &mut control,
+        &[0x00, 0x21, 0x00],
+        64,
+        false,
+    );
+    let waits = code_of(connection.join(&mut stream, Known::Coming));
+    let refused = code_of(connection.join(&mut stream, Known::Impossible));
+    same(
+        &rt,
+        (error.code, waits, refused),
+        (0x10a, 0, 0),
+        "the error, and no other",
+    );
+    same(&rt, connection.waiting(), 0, "none waits");
+    same(
+        &rt,
+        stream.waits().is_none(),
+        true,
+        "the stream is unchanged",
+    );
+}

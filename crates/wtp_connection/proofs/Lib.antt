@@ -1,4 +1,5 @@
 pub mod EndLemmas
+pub mod FinishLemmas
 pub mod InstructionLemmas
 pub mod OpeningLemmas
 pub mod SettingLawLemmas

@@ -1,7 +1,7 @@
 -- What a call finds.
-use Rattle.std.proofs.Common.{◌≡◌, ℕ, ◌-◌, ◌<◌, ◌≤◌, ◌&&◌, ◌||◌, Bool, true, false, cond, List, [], ◌∷◌, ◌++◌, map, length, drop, Option, Some, None, Result, Ok, Err, refl, sym, ap, subst, ◌∙◌, arith, append_assoc, length-drop, inl, inr}
+use Rattle.std.proofs.Common.{◌≡◌, ℕ, ◌-◌, ◌<◌, ◌≤◌, ◌&&◌, ◌||◌, Bool, true, false, List, [], ◌∷◌, ◌++◌, map, length, drop, Option, Some, None, Result, Ok, Err, refl, sym, ap, subst, ◌∙◌, arith, inl, inr}
 use Rattle.std.proofs.lemmas.Bool.{cases_Bool}
-use Rattle.std.proofs.lemmas.List.{map-append, append-nil}
+use Rattle.std.proofs.lemmas.List.{map-append}
 use Rattle.std.proofs.Math.Seq.{take-length, drop-length}
 use Rattle.std.specs.List.{list_all}
 use Rattle.std.proofs.lemmas.List.Folds.{list_all-append}
@@ -30,8 +30,8 @@ use Rattle.wtp_connection.specs.declared.stream.Stream.TheVariants.{Uni, Bi, Fra
 use Rattle.wtp_connection.specs.declared.connection.Connection.{Connection}
 use Rattle.wtp_connection.specs.declared.connection.Found.{Found}
 use Rattle.wtp_connection.specs.declared.connection.Found.TheVariants as found
-use Rattle.wtp_connection.specs.Streams.{opens, opens_once, closed_by, Seen, Opened, Configured, Gave, Broke, Ended, StreamRun, rests, followed, all_given, by_settings, by_item, of_items, has_frames, of_frames, bytes_seen, by_capacity, by_place, breaks, run_open, by_purpose, by_opening, run_intact, run_stream, end_of, by_fault, ending, ended}
-use Rattle.wtp_connection.specs.Receiving.{IsFirst, opening_of, seen_of, rest_after, AreFew, Idle, StepIsFound, Settled, FoundIs, Outcome, has_frame, IsInside, fails, settings_found, frame_found, step_found, with_capacity, encoder_found, decoder_found, more_in, finish_by, finish_open, finish_of}
+use Rattle.wtp_connection.specs.Streams.{opens, opens_once, closed_by, Seen, Opened, Configured, Gave, Broke, StreamRun, rests, followed, all_given, by_settings, by_item, of_items, has_frames, of_frames, bytes_seen, by_capacity, by_place, breaks, run_open, by_purpose, by_opening, run_intact, run_stream}
+use Rattle.wtp_connection.specs.Receiving.{IsFirst, opening_of, AreFew, StepIsFound, Outcome, has_frame, IsInside, fails, settings_found, frame_found, step_found, with_capacity, encoder_found, decoder_found}
 use Rattle.wtp_connection.proofs.OpeningLemmas.{opening_more, opening_few}
 
 -- ---- a connection that an error did not end, and one that is over
@@ -39,7 +39,7 @@ use Rattle.wtp_connection.proofs.OpeningLemmas.{opening_more, opening_few}
 intact_run : (c : Connection) (s : Stream) (bytes : List ℕ) → c.over ≡ false → run_stream c s bytes ≡ run_intact c s bytes
 intact_run c s bytes e = rw e refl
 
-over_run : (c : Connection) (s : Stream) (bytes : List ℕ) → c.over ≡ true → run_stream c s bytes ≡ all_given c s []
+pub over_run : (c : Connection) (s : Stream) (bytes : List ℕ) → c.over ≡ true → run_stream c s bytes ≡ all_given c s []
 over_run c s bytes e = rw e refl
 
 no_bytes : (bytes : List ℕ) → length bytes ≡ 0 → bytes ≡ []
@@ -176,7 +176,7 @@ failed_frames d r g f more p = elim (cases_Bool d.over) [
   | inr intact ↦ sym (frames_run d r g more intact)
 ]
 
-over_given : (d : Connection) (more : List ℕ) → run_stream d Over more ≡ all_given d Over []
+pub over_given : (d : Connection) (more : List ℕ) → run_stream d Over more ≡ all_given d Over []
 over_given d more = elim (cases_Bool d.over) [
   | inl over ↦ over_run d Over more over
   | inr intact ↦ intact_run d Over more intact
@@ -403,138 +403,3 @@ open_more c s bytes i f e = record {
   );
   finds = λ more. refl;
 }
-
--- ---- the end
-
-followed_twice : (xs ys : List Seen) (y : StreamRun) → followed (xs ++ ys) y ≡ followed xs (followed ys y)
-followed_twice xs ys y = ap (λ (l : List Seen). record { seen = l; connection = y.connection; stream = y.stream; left = y.left }) (append_assoc xs ys y.seen)
-
-ended_followed : (xs : List Seen) (y : StreamRun) → ended (followed xs y) ≡ followed xs (ended y)
-ended_followed xs y = elim y.connection.over as (λ b. cond b (followed xs y) (followed (xs ++ y.seen) (ending y.connection y.stream y.left)) ≡ followed xs (cond b y (followed y.seen (ending y.connection y.stream y.left)))) [
-  | true ↦ refl
-  | false ↦ followed_twice xs y.seen (ending y.connection y.stream y.left)
-]
-
-ended_finds : (x : Found) (c : Connection) (s : Stream) (bytes : List ℕ) (d : Connection) (t : Stream) → StepIsFound x c s bytes d t → ended (run_stream c s bytes) ≡ followed (seen_of x bytes) (ended (run_stream d t (rest_after x bytes)))
-ended_finds x c s bytes d t h =
-    ap (λ (y : StreamRun). ended y) (
-    ap (λ (l : List ℕ). run_stream c s l) (sym (append-nil bytes))
-    ∙ h.finds []
-    ∙ ap (λ (l : List ℕ). followed (seen_of x bytes) (run_stream d t l)) (append-nil (rest_after x bytes)))
-    ∙ ended_followed (seen_of x bytes) (run_stream d t (rest_after x bytes))
-
-settled_none : (x : Found) (bytes : List ℕ) (d : Connection) (t : Stream) → more_in x ≡ None → Settled x bytes d t
-settled_none (found.More n) bytes d t e = absurd (cc)
-settled_none (found.Settings v start end) bytes d t e = tt
-settled_none (found.Frame kind start end) bytes d t e = tt
-settled_none (found.Data start end) bytes d t e = tt
-settled_none (found.TooLarge size n) bytes d t e = tt
-settled_none (found.Fault f) bytes d t e = tt
-settled_none (found.Opened p n) bytes d t e = tt
-settled_none found.End bytes d t e = tt
-
--- the stream goes on
-pub found_open : (x : Found) (c : Connection) (s : Stream) (bytes : List ℕ) (fin : Bool) (d : Connection) (t : Stream) → fin ≡ false → StepIsFound x c s bytes d t → FoundIs x c s bytes fin d t
-found_open x c s bytes fin d t e h = record {
-  fits = h.fits;
-  finds = λ more. rw e (h.finds more);
-  settled = λ is. absurd (cc (sym e ∙ is));
-}
-
--- the stream ends, after what is found
-pub found_before : (x : Found) (c : Connection) (s : Stream) (bytes : List ℕ) (fin : Bool) (d : Connection) (t : Stream) → fin ≡ true → more_in x ≡ None → StepIsFound x c s bytes d t → FoundIs x c s bytes fin d t
-found_before x c s bytes fin d t e none h = record {
-  fits = h.fits;
-  finds = λ more. rw e (ended_finds x c s bytes d t h);
-  settled = λ is. settled_none x bytes d t none;
-}
-
--- ---- the end of an idle stream
-
-all_over : (d : Connection) (s : Stream) → run_stream d s [] ≡ all_given d s [] → ended (run_stream d s []) ≡ followed [] (ended (all_given d s []))
-all_over d s e = ap (λ (y : StreamRun). ended y) e
-
-ended_over : (d : Connection) → ended (run_stream d Over []) ≡ all_given d Over []
-ended_over d = ap (λ (y : StreamRun). ended y) (over_given d []) ∙ (elim d.over as (λ b. cond b (all_given d Over []) (all_given d Over []) ≡ all_given d Over []) [ true ↦ refl | false ↦ refl ])
-
-cond_left : {A : Type 0} (b : Bool) (x y : A) → b ≡ true → cond b x y ≡ x
-cond_left true x y e = refl
-cond_left false x y e = absurd (cc)
-
-cond_right : {A : Type 0} (b : Bool) (x y : A) → b ≡ false → cond b x y ≡ y
-cond_right true x y e = absurd (cc)
-cond_right false x y e = refl
-
-idle_end : (d : Connection) (t : Stream) (rest : List ℕ) → d.over ≡ false → run_stream d t rest ≡ rests d t rest → ended (run_stream d t rest) ≡ ending d t rest
-idle_end d t rest e idle = ap (λ (y : StreamRun). ended y) idle ∙ cond_right d.over (rests d t rest) (ending d t rest) e
-
--- nothing is found at the end
-stays_found : (n : ℕ) (c : Connection) (s : Stream) (bytes : List ℕ) (fin : Bool) (d : Connection) (t : Stream) → fin ≡ true → StepIsFound (found.More n) c s bytes d t → ended (run_stream d t (drop n bytes)) ≡ rests d t (drop n bytes) → FoundIs (found.More n) c s bytes fin d t
-stays_found n c s bytes fin d t e h is = record {
-  fits = h.fits;
-  finds = λ more. rw e (ended_finds (found.More n) c s bytes d t h);
-  settled = λ x. is;
-}
-
--- the end is found
-end_found : (n : ℕ) (c : Connection) (s : Stream) (bytes : List ℕ) (fin : Bool) (d : Connection) (t : Stream) (o : Result (Unit {0}) StreamFault) → fin ≡ true → StepIsFound (found.More n) c s bytes d t → ended (run_stream d t (drop n bytes)) ≡ by_fault d o → FoundIs (finish_by d o).0 c s bytes fin (finish_by d o).1 (finish_by d o).2
-end_found n c s bytes fin d t (Ok u) e h is = record {
-  fits = tt;
-  finds = λ more. rw e (
-      ended_finds (found.More n) c s bytes d t h
-      ∙ is
-      ∙ ap (λ (y : StreamRun). followed (Ended ∷ []) y) (sym (ended_over d)));
-  settled = λ x. tt;
-}
-end_found n c s bytes fin d t (Err f) e h is = record {
-  fits = tt;
-  finds = λ more. rw e (
-      ended_finds (found.More n) c s bytes d t h
-      ∙ is
-      ∙ ap (λ (y : StreamRun). followed (Broke (fault.Stream f) ∷ []) y) (sym (ended_over (closed_by d (fault.Stream f)))));
-  settled = λ x. tt;
-}
-
--- by the stream that ends
-end_open : (n left : ℕ) (c : Connection) (s : Stream) (bytes : List ℕ) (fin : Bool) (d : Connection) (t : Stream) → fin ≡ true → d.over ≡ false → left ≡ length (drop n bytes) → StepIsFound (found.More n) c s bytes d t → ended (run_stream d t (drop n bytes)) ≡ ending d t (drop n bytes) → FoundIs (finish_open d t left n).0 c s bytes fin (finish_open d t left n).1 (finish_open d t left n).2
-end_open n left c s bytes fin d Uni e i l h is = end_found n c s bytes fin d Uni (Ok tt) e h is
-end_open n left c s bytes fin d Bi e i l h is = rw l (end_found n c s bytes fin d Bi (end_of d Bi (length (drop n bytes))) e h is)
-end_open n left c s bytes fin d (Frames r g) e i l h is = rw l (end_found n c s bytes fin d (Frames r g) (end_of d (Frames r g) (length (drop n bytes))) e h is)
-end_open n left c s bytes fin d (Joining k) e i l h is = stays_found n c s bytes fin d (Joining k) e h is
-end_open n left c s bytes fin d (Waiting k) e i l h is = stays_found n c s bytes fin d (Waiting k) e h is
-end_open n left c s bytes fin d (Session k) e i l h is = end_found n c s bytes fin d (Session k) (Ok tt) e h is
-end_open n left c s bytes fin d Encoder e i l h is = end_found n c s bytes fin d Encoder (end_of d Encoder left) e h is
-end_open n left c s bytes fin d (Decoder place) e i l h is = end_found n c s bytes fin d (Decoder place) (end_of d (Decoder place) left) e h is
-end_open n left c s bytes fin d Ignored e i l h is = end_found n c s bytes fin d Ignored (Ok tt) e h is
-end_open n left c s bytes fin d Over e i l h is = stays_found n c s bytes fin d Over e h (is ∙ ap (λ (k : List ℕ). rests d Over k) (over_rest h.fits.1))
-  where
-    over_rest : Idle d Over (drop n bytes) → [] ≡ drop n bytes
-    over_rest w = ap (λ (y : StreamRun). y.left) (sym (over_given d (drop n bytes)) ∙ w.idle)
-
-pub found_end : (x : Found) (n : ℕ) (c : Connection) (s : Stream) (bytes : List ℕ) (fin : Bool) (d e : Connection) (t u : Stream) (y : Found) → fin ≡ true → more_in x ≡ Some n → StepIsFound x c s bytes d t → (y, e, u) ≡ finish_of d t (length bytes - n) n → FoundIs y c s bytes fin e u
-found_end (found.Opened p k) n c s bytes fin d e t u y f m h is = absurd (cc)
-found_end found.End n c s bytes fin d e t u y f m h is = absurd (cc)
-found_end (found.Settings v start end) n c s bytes fin d e t u y f m h is = absurd (cc)
-found_end (found.Frame kind start end) n c s bytes fin d e t u y f m h is = absurd (cc)
-found_end (found.Data start end) n c s bytes fin d e t u y f m h is = absurd (cc)
-found_end (found.TooLarge size k) n c s bytes fin d e t u y f m h is = absurd (cc)
-found_end (found.Fault k) n c s bytes fin d e t u y f m h is = absurd (cc)
-found_end (found.More k) n c s bytes fin d e t u y f m h is =
-    let same : k ≡ n = some_is k n m in
-    elim (cases_Bool d.over) [
-      | inl over ↦
-          let at : (y, e, u) ≡ (found.More n, d, t) = is ∙ cond_left {A = Found × Connection × Stream} d.over (found.More n, d, t) (finish_open d t (length bytes - n) n) over in
-          subst (λ (z : Found × Connection × Stream). FoundIs z.0 c s bytes fin z.1 z.2) (sym at) (
-          subst (λ (i : ℕ). FoundIs (found.More i) c s bytes fin d t) same (
-          stays_found k c s bytes fin d t f h (
-          ap (λ (z : StreamRun). ended z) h.fits.1.idle
-          ∙ cond_left d.over (rests d t (drop k bytes)) (ending d t (drop k bytes)) over)))
-      | inr intact ↦
-          let at : (y, e, u) ≡ finish_open d t (length bytes - n) n = is ∙ cond_right {A = Found × Connection × Stream} d.over (found.More n, d, t) (finish_open d t (length bytes - n) n) intact in
-          subst (λ (z : Found × Connection × Stream). FoundIs z.0 c s bytes fin z.1 z.2) (sym at) (
-          subst (λ (i : ℕ). FoundIs (finish_open d t (length bytes - i) i).0 c s bytes fin (finish_open d t (length bytes - i) i).1 (finish_open d t (length bytes - i) i).2) same (
-          end_open k (length bytes - k) c s bytes fin d t f intact (sym (length-drop k bytes)) h (idle_end d t (drop k bytes) intact h.fits.1.idle)))
-    ]
-  where
-    some_is : (a b : ℕ) → Some a ≡ Some b → a ≡ b
-    some_is a b e = cc

@@ -1,5 +1,6 @@
 -- The streams of QPACK where the own settings allow no dynamic table (RFC 9204, section 3.2.3).
-use Rattle.std.specs.Prelude.{ℕ, ◌+◌, ◌*◌, ◌/◌, ◌%◌, ◌^◌, ◌==◌, nat_lt, if◌then◌else◌, Bool, List, [], ◌∷◌, Option, Some, None}
+use Rattle.std.specs.Prelude.{◌≡◌, ℕ, ◌+◌, ◌*◌, ◌/◌, ◌%◌, ◌^◌, ◌<◌, ◌==◌, nat_lt, if◌then◌else◌, Bool, List, [], ◌∷◌, ◌++◌, Option, Some, None}
+use Rattle.wtp_qpack.specs.Integer.{IsInt}
 use Rattle.wtp_connection.specs.declared.instructions.DecoderPlace.{DecoderPlace}
 use Rattle.wtp_connection.specs.declared.instructions.DecoderPlace.TheVariants.{Between, Within}
 
@@ -9,7 +10,30 @@ use Rattle.wtp_connection.specs.declared.instructions.DecoderPlace.TheVariants.{
 abbrev pub sets_zero : ℕ → Bool
 sets_zero byte = byte == 0x20
 
--- ---- the decoder stream (section 4.4), byte by byte
+-- ---- the decoder stream (section 4.4)
+
+-- the first two bits are 01
+abbrev pub BeginsCancellation : List ℕ → Type 0
+BeginsCancellation [] = ⊥
+BeginsCancellation (b ∷ bytes) = b / 64 ≡ 1
+
+-- s is the Stream Cancellation of this stream: 01, and the ID with a prefix of 6 bits (section
+-- 4.4.2)
+pub record IsCancellation (id : ℕ) (s : List ℕ) : Type 0 where
+  pub kind : BeginsCancellation s
+  pub integer : IsInt 6 id s
+  pub below : id < 2 ^ 62
+
+-- s is the cancellations of these streams
+abbrev pub AreCancellations : List ℕ → List ℕ → Type 0
+AreCancellations [] s = s ≡ []
+AreCancellations (id ∷ ids) s =
+    (first rest : List ℕ)
+    × IsCancellation id first
+    × AreCancellations ids rest
+    × (s ≡ first ++ rest)
+
+-- ---- the same, byte by byte
 
 -- 01 and the ID of a stream with a prefix of 6 bits: Stream Cancellation (section 4.4.2). If all
 -- bits of the prefix are ones, groups of seven bits follow.

@@ -4,6 +4,7 @@ use Rattle.std.specs.Prelude.{ℕ, ◌+◌, ◌-◌, nat_lt, ◌&&◌, ◌||◌,
 use Rattle.std.specs.List.{list_all}
 use Rattle.wtp_core.specs.declared.error.scope.ErrorScope.{ErrorScope}
 use Rattle.wtp_core.specs.declared.error.scope.ErrorScope.TheVariants as scope
+use Rattle.wtp_frames.specs.declared.endpoint.Endpoint.{Endpoint}
 use Rattle.wtp_frames.specs.declared.endpoint.Side.{Side}
 use Rattle.wtp_frames.specs.declared.endpoint.Side.TheVariants.{Client, Server}
 use Rattle.wtp_frames.specs.declared.fault.Fault.{Fault as StreamFault}
@@ -26,9 +27,22 @@ use Rattle.wtp_connection.specs.declared.connection.Connection.{Connection}
 use Rattle.wtp_connection.specs.declared.connection.Known.{Known}
 use Rattle.wtp_connection.specs.declared.connection.Known.TheVariants as known
 use Rattle.wtp_connection.specs.Fault.{scope_of}
-use Rattle.wtp_connection.specs.Settings.{settings_in}
+use Rattle.wtp_connection.specs.Settings.{values_of, with_defaults, settings_in}
 use Rattle.wtp_connection.specs.Instructions.{sets_zero, after_bytes}
 use Rattle.wtp_connection.specs.Opening.{uni_at, bi_at, is_critical, has_no_headers}
+
+-- a connection before its first byte: each setting of the peer has its default (RFC 9114, section
+-- 7.2.4.2)
+abbrev pub connection_of : Endpoint → Connection
+connection_of e = record {
+  endpoint = e;
+  control = false;
+  encoder = false;
+  decoder = false;
+  waiting = 0;
+  peer = with_defaults (values_of []);
+  over = false;
+}
 
 -- ---- what the connection makes of a stream
 

@@ -1,7 +1,6 @@
 //! What the streams of a connection have in common. It holds no bytes and no table of streams.
-ghost use Rattle.std.specs.Prelude.{◌≡◌, ◌≤◌, ◌||◌, length, drop, true, false, [], None, Some, MatchOption, IfSome, IfErr};
-ghost use Rattle.wtp_connection.specs.Settings.{values_of, with_defaults};
-ghost use Rattle.wtp_connection.specs.Streams.{opens, opening_result, closed_by, no_number as no_number_is};
+ghost use Rattle.std.specs.Prelude.{◌≡◌, ◌≤◌, ◌||◌, length, drop, true, false, None, Some, MatchOption, IfSome, IfErr};
+ghost use Rattle.wtp_connection.specs.Streams.{connection_of, opens, opening_result, closed_by, no_number as no_number_is};
 ghost use Rattle.wtp_connection.specs.Receiving.{FoundIs, StepIsFound, IsFirst, IsInside, opening_of, has_frame, step_found, encoder_found, decoder_found, fails, more_in, finish_of};
 
 mod sessions;
@@ -79,7 +78,7 @@ pub enum Found {
 impl Connection {
     /// Creates a connection.
     pub fn new(endpoint: Endpoint) -> Self
-        ensures { result ≡ record { endpoint = endpoint; control = false; encoder = false; decoder = false; waiting = 0; peer = with_defaults (values_of []); over = false } }
+        ensures { result ≡ connection_of endpoint }
     {
         Connection {
             endpoint,

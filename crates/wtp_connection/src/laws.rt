@@ -1,11 +1,13 @@
 //! Laws of the definitions that the contracts cite. Each function does nothing: its contract is the
 //! law.
-ghost use Rattle.std.specs.Prelude.{◌≡◌, ℕ, true, List, ◌++◌, Err};
+ghost use Rattle.std.specs.Prelude.{◌≡◌, ℕ, ◌/◌, true, List, ◌∷◌, ◌++◌, Some, None, Err};
 ghost use Rattle.wtp_frames.specs.declared.fault.Fault.TheVariants as stream;
 ghost use Rattle.wtp_wire.specs.Front.{EncodesPair};
 ghost use Rattle.wtp_wire.specs.SettingId.{IsReserved};
 ghost use Rattle.wtp_wire.specs.Settings.{ArePairs, IsCutSetting};
 ghost use Rattle.wtp_connection.specs.declared.fault.Fault.TheVariants as fault;
+ghost use Rattle.wtp_connection.specs.declared.instructions.DecoderPlace.TheVariants.{Between};
+ghost use Rattle.wtp_connection.specs.Instructions.{AreCancellations, after_bytes};
 ghost use Rattle.wtp_connection.specs.Settings.{AreValid, values_of, is_refused, whole, settings_in};
 
 /// Valid settings are read, in whatever order they are and whatever encodings they have: each field
@@ -25,4 +27,13 @@ pub fn invalid_settings_are_reported()
     ensures refused { (ps : List (ℕ × ℕ)) (front s more : List ℕ) (id value : ℕ)
         → ArePairs ps front → AreValid ps → EncodesPair id value s
         → is_refused ps id value ≡ true → settings_in (front ++ (s ++ more)) ≡ Err fault.Settings }
+{}
+
+/// Cancellations of streams are read on a decoder stream of QPACK, whatever encodings the IDs have.
+/// The first other instruction after them is not.
+pub fn cancelled_streams_are_read()
+    ensures cancelled { (ids s : List ℕ) → AreCancellations ids s
+        → after_bytes Between s ≡ Some Between }
+    ensures other { (ids s more : List ℕ) (b : ℕ) → AreCancellations ids s → (b / 64 ≡ 1 → ⊥)
+        → after_bytes Between (s ++ (b ∷ more)) ≡ None }
 {}

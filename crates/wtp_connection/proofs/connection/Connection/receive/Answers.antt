@@ -1,5 +1,5 @@
 use Rattle.std.proofs.Common.{sym, ◌∙◌}
-use Rattle.wtp_connection.proofs.StreamLemmas.{found_open, found_before, found_end}
+use Rattle.wtp_connection.proofs.FinishLemmas.{found_open, found_before, found_end}
 use Rattle.wtp_connection.proofs.connection.Connection.receive.Goals as goal
 
 pub returns-in-Some-clause-found : goal.returns-in-Some-clause-found
