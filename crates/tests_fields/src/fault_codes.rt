@@ -1,5 +1,5 @@
 //! The error codes for errors in field sections and messages.
-use crate::same::same;
+use crate::same::assert_same;
 use wtp_core::error::ErrorCode;
 use wtp_fields::huffman::HuffmanError;
 use wtp_fields::qpack::DecodingError;
@@ -26,15 +26,15 @@ static SECTIONS: [(DecodingError, Option<ErrorCode>); 6] = [
 #[test]
 fn faults_of_huffman_texts_have_codes(rt: HostRuntime) {
     let code = DecodingError::from(HuffmanError::Invalid).code();
-    same(&rt, code, Some(ErrorCode::Decompression), "invalid");
+    assert_same(&rt, code, Some(ErrorCode::Decompression), "invalid");
     let code = DecodingError::from(HuffmanError::Memory).code();
-    same(&rt, code, None, "no memory");
+    assert_same(&rt, code, None, "no memory");
 }
 
 #[test]
 fn faults_of_sections_have_codes(rt: HostRuntime) {
     for (fault, code) in &SECTIONS {
-        same(&rt, fault.code(), *code, fault);
+        assert_same(&rt, fault.code(), *code, fault);
     }
 }
 
@@ -71,6 +71,6 @@ static MESSAGES: [(HeadersParseError, Option<ErrorCode>); 11] = [
 #[test]
 fn faults_of_messages_have_codes(rt: HostRuntime) {
     for (fault, code) in &MESSAGES {
-        same(&rt, fault.code(), *code, fault);
+        assert_same(&rt, fault.code(), *code, fault);
     }
 }

@@ -1,6 +1,6 @@
 //! Field lists: sections as bytes, with repeated names and under a limit; the status and the target
 //! of a message; fields that are pushed; lists that are sent and read back; and refused memory.
-use crate::same::same;
+use crate::same::assert_same;
 use std::alloc::Global;
 use std::process::Abort;
 use wtp_core::error::ErrorCode;
@@ -19,74 +19,85 @@ fn list_of(alloc: Global, section: &[u8], limit: u64) -> Result<FieldList, Field
 }
 
 /// Asserts that a list has these fields and no other, in this order.
-fn assert_list(rt: &impl Abort, list: &FieldList, fields: &[(&[u8], &[u8])], shows: &str) {
-    same(rt, list.len(), fields.len(), shows);
-    same(rt, list.is_empty(), fields.is_empty(), shows);
+fn assert_list(rt: &impl Abort, list: &FieldList, fields: &[(&[u8], &[u8])], case: &str) {
+    assert_same(rt, list.len(), fields.len(), case);
+    assert_same(rt, list.is_empty(), fields.is_empty(), case);
     for (line, (name, value)) in list.iter().zip(fields) {
-        same(rt, line.name, *name, shows);
-        same(rt, line.value, *value, shows);
+        assert_same(rt, line.name, *name, case);
+        assert_same(rt, line.value, *value, case);
     }
 }
 
-/// What a row shows, a section, the size of its fields, and the fields.
-type SectionRow = (
-    &'static str,
-    &'static [u8],
-    u64,
-    &'static [(&'static [u8], &'static [u8])],
-);
+/// A section, and the list that it has.
+struct SectionRow {
+    case: &'static str,
+    section: &'static [u8],
+    /// The size of the fields.
+    size: u64,
+    fields: &'static [(&'static [u8], &'static [u8])],
+}
 
 /// Sections. The second is the first of RFC 9204, appendix B.1.
 static SECTIONS: [SectionRow; 6] = [
-    ("no line", b"\x00\x00", 0, &[]),
-    (
-        "RFC 9204, appendix B.1",
-        b"\x00\x00\x51\x0b/index.html",
-        48,
-        &[(b":path", b"/index.html")],
-    ),
-    (
-        "RFC 7541, appendix C.6.1: a Huffman value",
-        b"\x00\x00\x5f\x09\x82\x64\x02",
-        42,
-        &[(b":status", b"302")],
-    ),
-    (
-        "two set-cookie",
-        b"\x00\x00\xd9\x5e\x01a\x5e\x01b",
-        128,
-        &[
+    SectionRow {
+        case: "no line",
+        section: b"\x00\x00",
+        size: 0,
+        fields: &[],
+    },
+    SectionRow {
+        case: "RFC 9204, appendix B.1",
+        section: b"\x00\x00\x51\x0b/index.html",
+        size: 48,
+        fields: &[(b":path", b"/index.html")],
+    },
+    SectionRow {
+        case: "RFC 7541, appendix C.6.1: a Huffman value",
+        section: b"\x00\x00\x5f\x09\x82\x64\x02",
+        size: 42,
+        fields: &[(b":status", b"302")],
+    },
+    SectionRow {
+        case: "two set-cookie",
+        section: b"\x00\x00\xd9\x5e\x01a\x5e\x01b",
+        size: 128,
+        fields: &[
             (b":status", b"200"),
             (b"set-cookie", b"a"),
             (b"set-cookie", b"b"),
         ],
-    ),
-    (
-        "a value of Latin-1",
-        b"\x00\x00\x26x-name\x04caf\xe9",
-        42,
-        &[(b"x-name", b"caf\xe9")],
-    ),
-    (
-        "entries of the static table",
-        b"\x00\x00\xcf\xd7\xc1",
-        128,
-        &[
+    },
+    SectionRow {
+        case: "a value of Latin-1",
+        section: b"\x00\x00\x26x-name\x04caf\xe9",
+        size: 42,
+        fields: &[(b"x-name", b"caf\xe9")],
+    },
+    SectionRow {
+        case: "entries of the static table",
+        section: b"\x00\x00\xcf\xd7\xc1",
+        size: 128,
+        fields: &[
             (b":method", b"CONNECT"),
             (b":scheme", b"https"),
             (b":path", b"/"),
         ],
-    ),
+    },
 ];
 
 /// Asserts that a section has its fields under the limit of their size, and none under one less.
 fn assert_section(rt: &impl Abort, alloc: Global, row: &SectionRow) {
-    let (shows, section, size, fields) = *row;
+    let SectionRow {
+        case,
+        section,
+        size,
+        fields,
+    } = *row;
     let list = list_of(alloc, section, size).expect(rt, "refused");
-    assert_list(rt, &list, fields, shows);
+    assert_list(rt, &list, fields, case);
     if size > 0 {
         let fault = list_of(alloc, section, size - 1).err();
-        same(rt, fault, Some(FieldSectionError::TooLarge), shows);
+        assert_same(rt, fault, Some(FieldSectionError::TooLarge), case);
     }
 }
 
@@ -97,62 +108,70 @@ fn sections_past_refused_memory(rt: HostRuntime) {
     }
 }
 
-/// What a row shows, a section, a limit, and the reason that there is no list.
-static REFUSED: [(&str, &[u8], u64, FieldSectionError); 7] = [
-    (
-        "no prefix",
-        b"",
-        0,
-        FieldSectionError::Decoding(DecodingError::UnexpectedFin),
-    ),
-    (
-        "a value that is cut",
-        b"\x00\x00\x5e\x02a",
-        100,
-        FieldSectionError::Decoding(DecodingError::UnexpectedFin),
-    ),
-    (
-        "an index after the static table",
-        b"\x00\x00\xff\x24",
-        100,
-        FieldSectionError::Decoding(DecodingError::IndexNotfound),
-    ),
-    (
-        "no Huffman text: the padding has zeros (RFC 7541, section 5.2)",
-        b"\x00\x00\x5e\x81\x00",
-        100,
-        FieldSectionError::Decoding(DecodingError::InvalidString),
-    ),
-    (
-        "a line that fits before one of the dynamic table",
-        b"\x00\x00\xc1\x80",
-        38,
-        FieldSectionError::Decoding(DecodingError::DynamicNotSupported),
-    ),
-    (
-        "a line that does not fit before one of the dynamic table",
-        b"\x00\x00\xc1\x80",
-        37,
-        FieldSectionError::TooLarge,
-    ),
-    (
-        "a field counts 32 bytes more than its texts",
-        b"\x00\x00\xc1",
-        6,
-        FieldSectionError::TooLarge,
-    ),
+/// A section that has no list.
+struct RefusedRow {
+    case: &'static str,
+    section: &'static [u8],
+    limit: u64,
+    error: FieldSectionError,
+}
+
+/// Sections without a list under a limit, and the reason.
+static REFUSED: [RefusedRow; 7] = [
+    RefusedRow {
+        case: "no prefix",
+        section: b"",
+        limit: 0,
+        error: FieldSectionError::Decoding(DecodingError::UnexpectedFin),
+    },
+    RefusedRow {
+        case: "a value that is cut",
+        section: b"\x00\x00\x5e\x02a",
+        limit: 100,
+        error: FieldSectionError::Decoding(DecodingError::UnexpectedFin),
+    },
+    RefusedRow {
+        case: "an index after the static table",
+        section: b"\x00\x00\xff\x24",
+        limit: 100,
+        error: FieldSectionError::Decoding(DecodingError::IndexNotfound),
+    },
+    RefusedRow {
+        case: "no Huffman text: the padding has zeros (RFC 7541, section 5.2)",
+        section: b"\x00\x00\x5e\x81\x00",
+        limit: 100,
+        error: FieldSectionError::Decoding(DecodingError::InvalidString),
+    },
+    RefusedRow {
+        case: "a line that fits before one of the dynamic table",
+        section: b"\x00\x00\xc1\x80",
+        limit: 38,
+        error: FieldSectionError::Decoding(DecodingError::DynamicNotSupported),
+    },
+    RefusedRow {
+        case: "a line that does not fit before one of the dynamic table",
+        section: b"\x00\x00\xc1\x80",
+        limit: 37,
+        error: FieldSectionError::TooLarge,
+    },
+    RefusedRow {
+        case: "a field counts 32 bytes more than its texts",
+        section: b"\x00\x00\xc1",
+        limit: 6,
+        error: FieldSectionError::TooLarge,
+    },
 ];
 
 #[test]
 fn refused_lists_past_refused_memory(rt: HostRuntime) {
-    for (shows, section, limit, error) in &REFUSED {
-        let fault = list_of(rt.alloc(), section, *limit).err();
-        same(&rt, fault, Some(*error), shows);
-        let code = match error {
+    for row in &REFUSED {
+        let fault = list_of(rt.alloc(), row.section, row.limit).err();
+        assert_same(&rt, fault, Some(row.error), row.case);
+        let code = match row.error {
             FieldSectionError::Decoding(_) => Some(ErrorCode::Decompression),
             FieldSectionError::TooLarge | FieldSectionError::Memory => None,
         };
-        same(&rt, error.code(), code, shows);
+        assert_same(&rt, row.error.code(), code, row.case);
     }
 }
 
@@ -199,10 +218,10 @@ fn statuses_past_refused_memory(rt: HostRuntime) {
     for (section, wanted) in &STATUSES {
         let list = list_of(rt.alloc(), section, 4096).expect(&rt, "refused");
         match (list.status(), wanted) {
-            (Ok(code), Ok(number)) => same(&rt, code.into_inner(), *number, "the status"),
+            (Ok(code), Ok(number)) => assert_same(&rt, code.into_inner(), *number, "the status"),
             (Err(fault), Err(error)) => {
-                same(&rt, &fault, error, "the fault");
-                same(
+                assert_same(&rt, &fault, error, "the fault");
+                assert_same(
                     &rt,
                     fault.code(),
                     Some(ErrorCode::Message),
@@ -243,23 +262,23 @@ static FAULTS: [(&[u8], HeadersParseError); 8] = [
 fn requests_as_lists_past_refused_memory(rt: HostRuntime) {
     let list = list_of(rt.alloc(), REQUEST, 4096).expect(&rt, "refused");
     let target = list.session_request().expect(&rt, "a request");
-    same(&rt, target.authority, b"caf\xe9", "Latin-1");
-    same(&rt, target.path, b"/", "the last counts");
-    same(
+    assert_same(&rt, target.authority, b"caf\xe9", "Latin-1");
+    assert_same(&rt, target.path, b"/", "the last counts");
+    assert_same(
         &rt,
         list.first(b":path"),
         Some(b"x".as_slice()),
         "the first path",
     );
-    same(
+    assert_same(
         &rt,
         list.last(b":path"),
         Some(b"/".as_slice()),
         "the last path",
     );
-    same(&rt, list.first(b"path"), None, "no such name");
-    same(&rt, list.is_utf8(), false, "not UTF-8");
-    same(
+    assert_same(&rt, list.first(b"path"), None, "no such name");
+    assert_same(&rt, list.is_utf8(), false, "not UTF-8");
+    assert_same(
         &rt,
         list.to_headers(rt.alloc()).err(),
         Some(ToHeadersError::NotUtf8),
@@ -267,7 +286,7 @@ fn requests_as_lists_past_refused_memory(rt: HostRuntime) {
     );
     for (section, error) in &FAULTS {
         let list = list_of(rt.alloc(), section, 4096).expect(&rt, "refused");
-        same(
+        assert_same(
             &rt,
             list.session_request().err().as_ref(),
             Some(error),
@@ -280,38 +299,38 @@ fn requests_as_lists_past_refused_memory(rt: HostRuntime) {
 fn repeated_names_past_refused_memory(rt: HostRuntime) {
     let list = list_of(rt.alloc(), b"\x00\x00\xd9\x5e\x01a\x5e\x01b", 128).expect(&rt, "refused");
     let mut values = list.all(b"set-cookie");
-    same(
+    assert_same(
         &rt,
         values.next(),
         Some(b"a".as_slice()),
         "the first cookie",
     );
-    same(
+    assert_same(
         &rt,
         values.next(),
         Some(b"b".as_slice()),
         "the second cookie",
     );
-    same(&rt, values.next(), None, "no third");
-    same(
+    assert_same(&rt, values.next(), None, "no third");
+    assert_same(
         &rt,
         list.get(2).map(|line| line.value),
         Some(b"b".as_slice()),
         "by its index",
     );
-    same(&rt, list.get(3).is_none(), true, "past the last");
+    assert_same(&rt, list.get(3).is_none(), true, "past the last");
     let headers = match list.to_headers(rt.alloc()) {
         Err(ToHeadersError::Memory) => list.to_headers(rt.alloc()),
         result => result,
     };
     let headers = headers.expect(&rt, "a map");
-    same(
+    assert_same(
         &rt,
         headers.get("set-cookie"),
         Some("b"),
         "the last value of a name",
     );
-    same(&rt, headers.get(":status"), Some("200"), "the status");
+    assert_same(&rt, headers.get(":status"), Some("200"), "the status");
 }
 
 /// Names and values that are refused, and why.
@@ -350,7 +369,7 @@ fn push(rt: &impl Abort, list: &mut FieldList, name: &[u8], value: &[u8]) -> Res
     let before = list.len();
     match list.push(name, value) {
         Err(PushError::Memory) => {
-            same(rt, list.len(), before, "nothing is changed");
+            assert_same(rt, list.len(), before, "nothing is changed");
             list.push(name, value)
         }
         result => result,
@@ -372,7 +391,7 @@ fn pushed_fields_past_refused_memory(rt: HostRuntime) {
         Err(_) => FieldList::response(rt.alloc(), StatusCode::OK).expect(&rt, "memory"),
     };
     for (name, value, error) in &UNPUSHED {
-        same(
+        assert_same(
             &rt,
             push(&rt, &mut list, name, value),
             Err(*error),
@@ -381,11 +400,11 @@ fn pushed_fields_past_refused_memory(rt: HostRuntime) {
     }
     assert_list(&rt, &list, &PUSHED[..1], "nothing is changed");
     for (name, value) in &PUSHED[1..] {
-        same(&rt, push(&rt, &mut list, name, value), Ok(()), "pushed");
+        assert_same(&rt, push(&rt, &mut list, name, value), Ok(()), "pushed");
     }
     assert_list(&rt, &list, &PUSHED, "in their order");
     let frame = frame_of_list(&rt, rt.alloc(), &list);
-    same(&rt, frame.kind(), FrameKind::Headers, "a HEADERS frame");
+    assert_same(&rt, frame.kind(), FrameKind::Headers, "a HEADERS frame");
     let back = list_of(rt.alloc(), frame.payload(), 4096).expect(&rt, "refused");
     assert_list(&rt, &back, &PUSHED, "what was sent");
 }
@@ -419,7 +438,7 @@ fn requests_of_urls_past_refused_memory(rt: HostRuntime) {
             Some(UrlParseError::Memory) => FieldList::request(rt.alloc(), text).err(),
             fault => fault,
         };
-        same(&rt, fault, Some(error), text);
+        assert_same(&rt, fault, Some(error), text);
     }
 }
 
@@ -429,7 +448,7 @@ fn sent_responses_past_refused_memory(rt: HostRuntime) {
         &rt, "refused",
     );
     let frame = frame_of_list(&rt, rt.alloc(), &response);
-    same(
+    assert_same(
         &rt,
         frame.payload(),
         b"\x00\x00\x5f\x09\x82\x10\x01\x5e\x01a\x5e\x01b".as_slice(),
@@ -441,7 +460,7 @@ fn sent_responses_past_refused_memory(rt: HostRuntime) {
 fn sent_requests_past_refused_memory(rt: HostRuntime) {
     let mut list = request_of_url(&rt, rt.alloc());
     let origin = b"https://example.org";
-    same(
+    assert_same(
         &rt,
         push(&rt, &mut list, b"origin", origin),
         Ok(()),
@@ -451,9 +470,9 @@ fn sent_requests_past_refused_memory(rt: HostRuntime) {
     let back = list_of(rt.alloc(), frame.payload(), 4096).expect(&rt, "refused");
     let target = back.session_request().expect(&rt, "a request");
     let authority = b"example.org:4433".as_slice();
-    same(&rt, target.authority, authority, "the authority");
-    same(&rt, target.path, b"/chat?x=1".as_slice(), "the path");
-    same(
+    assert_same(&rt, target.authority, authority, "the authority");
+    assert_same(&rt, target.path, b"/chat?x=1".as_slice(), "the path");
+    assert_same(
         &rt,
         back.last(b"origin"),
         Some(origin.as_slice()),

@@ -1,5 +1,5 @@
 //! Payloads of header maps, errors in field sections, inserted fields, and failed allocations.
-use crate::same::same;
+use crate::same::assert_same;
 use std::alloc::{AllocError, Global};
 use std::borrow::CowSlice;
 use std::process::Abort;
@@ -53,15 +53,15 @@ pub(crate) fn assert_fields(
     rt: &impl Abort,
     headers: &Headers,
     expected: &[(&str, &str)],
-    shows: &str,
+    case: &str,
 ) {
-    same(rt, headers.as_ref().len(), expected.len(), shows);
+    assert_same(rt, headers.as_ref().len(), expected.len(), case);
     for (name, value) in expected {
-        same(rt, headers.get(name), Some(*value), shows);
+        assert_same(rt, headers.get(name), Some(*value), case);
     }
 }
 
-/// What a row shows, pairs, and the payload of their map. The payload decodes to exactly these
+/// The case, pairs, and the payload of their map. The payload decodes to exactly these
 /// pairs.
 type PayloadRow = (
     &'static str,
@@ -90,26 +90,20 @@ static PAYLOADS: [PayloadRow; 4] = [
 ];
 
 /// Asserts that the map of these pairs has this payload.
-fn assert_sent(
-    rt: &impl Abort,
-    alloc: Global,
-    pairs: &[(&str, &str)],
-    payload: &[u8],
-    shows: &str,
-) {
+fn assert_sent(rt: &impl Abort, alloc: Global, pairs: &[(&str, &str)], payload: &[u8], case: &str) {
     let headers = map_of(rt, alloc, pairs);
     let frame = frame_of(rt, alloc, &headers);
-    same(rt, frame.kind(), FrameKind::Headers, shows);
-    same(rt, frame.payload(), payload, shows);
+    assert_same(rt, frame.kind(), FrameKind::Headers, case);
+    assert_same(rt, frame.payload(), payload, case);
 }
 
 /// Asserts that the map of a row has its payload, and that the payload decodes to exactly its
 /// fields.
 fn assert_sent_and_read(rt: &impl Abort, alloc: Global, row: &PayloadRow) {
-    let (shows, pairs, payload) = *row;
-    assert_sent(rt, alloc, pairs, payload, shows);
+    let (case, pairs, payload) = *row;
+    assert_sent(rt, alloc, pairs, payload, case);
     let back = read(rt, alloc, payload).expect(rt, "refused");
-    assert_fields(rt, &back, pairs, shows);
+    assert_fields(rt, &back, pairs, case);
 }
 
 #[test]
@@ -119,7 +113,7 @@ fn payloads_past_refused_memory(rt: HostRuntime) {
     }
 }
 
-/// What a row shows, and a payload that is not a valid field section.
+/// The case, and a payload that is not a valid field section.
 static REFUSED: [(&str, &[u8]); 6] = [
     ("a cut prefix", b"\x00"),
     (
@@ -137,13 +131,13 @@ static REFUSED: [(&str, &[u8]); 6] = [
 
 #[test]
 fn refused_sections_past_refused_memory(rt: HostRuntime) {
-    for (shows, payload) in &REFUSED {
+    for (case, payload) in &REFUSED {
         let fault = read(&rt, rt.alloc(), payload).err();
-        same(
+        assert_same(
             &rt,
             fault,
             Some(Refused::Code(ErrorCode::Decompression)),
-            shows,
+            case,
         );
     }
 }
@@ -168,7 +162,7 @@ fn assert_comes_back(rt: &impl Abort, alloc: Global, headers: &Headers, pairs: &
     let back = read(rt, alloc, frame.payload()).expect(rt, "refused");
     assert_fields(rt, &back, pairs, "what was sent");
     for ((name, value), known) in back.as_ref().iter().zip(pairs) {
-        same(rt, (name.as_str(), value.as_str()), *known, "in order");
+        assert_same(rt, (name.as_str(), value.as_str()), *known, "in order");
     }
 }
 
@@ -188,7 +182,7 @@ static LAST: [(&str, &str); 3] = [("key1", "other"), ("key2", "value2"), ("key3"
 fn first_map(rt: &impl Abort, alloc: Global) -> Headers {
     let headers = map_of(rt, alloc, &GIVEN);
     assert_fields(rt, &headers, &FIRST, "the last value of a name");
-    same(rt, headers.get("key3"), None, "no such name");
+    assert_same(rt, headers.get("key3"), None, "no such name");
     headers
 }
 

@@ -1,6 +1,6 @@
 //! Requests from URLs and from header maps, their frames, their fields, and failed allocations.
 use crate::header_maps::{assert_fields, frame_of, map_of};
-use crate::same::same;
+use crate::same::assert_same;
 use std::alloc::Global;
 use std::borrow::CowSlice;
 use std::process::Abort;
@@ -26,10 +26,10 @@ fn assert_request(
     request: &SessionRequest,
     authority: &'static str,
     path: &'static str,
-    shows: &str,
+    case: &str,
 ) {
-    same(rt, request.authority(), authority, shows);
-    same(rt, request.path(), path, shows);
+    assert_same(rt, request.authority(), authority, case);
+    assert_same(rt, request.path(), path, case);
     let fields = [
         (":authority", authority),
         (":method", "CONNECT"),
@@ -37,45 +37,55 @@ fn assert_request(
         (":protocol", "webtransport"),
         (":scheme", "https"),
     ];
-    assert_fields(rt, request.headers(), &fields, shows);
+    assert_fields(rt, request.headers(), &fields, case);
 }
 
-/// What a row shows, a URL, and the authority and path of its request.
-type UrlRow = (&'static str, &'static str, &'static str, &'static str);
+/// A URL, and the authority and path of its request.
+struct UrlRow {
+    case: &'static str,
+    url: &'static str,
+    authority: &'static str,
+    path: &'static str,
+}
 
 /// Valid URLs.
 static URLS: [UrlRow; 4] = [
-    (
-        "a port, and a query",
-        "https://localhost:4433/foo/bar?p1=1&p2=2",
-        "localhost:4433",
-        "/foo/bar?p1=1&p2=2",
-    ),
-    (
-        "the default port, and a fragment",
-        "https://example.com:443/x#f",
-        "example.com",
-        "/x",
-    ),
-    (
-        "no path, and an empty query",
-        "https://example.com?",
-        "example.com",
-        "/?",
-    ),
-    (
-        "a user part, and an IPv6 address",
-        "https://user:password@[::1]:8443/",
-        "user:password@[::1]:8443",
-        "/",
-    ),
+    UrlRow {
+        case: "a port, and a query",
+        url: "https://localhost:4433/foo/bar?p1=1&p2=2",
+        authority: "localhost:4433",
+        path: "/foo/bar?p1=1&p2=2",
+    },
+    UrlRow {
+        case: "the default port, and a fragment",
+        url: "https://example.com:443/x#f",
+        authority: "example.com",
+        path: "/x",
+    },
+    UrlRow {
+        case: "no path, and an empty query",
+        url: "https://example.com?",
+        authority: "example.com",
+        path: "/?",
+    },
+    UrlRow {
+        case: "a user part, and an IPv6 address",
+        url: "https://user:password@[::1]:8443/",
+        authority: "user:password@[::1]:8443",
+        path: "/",
+    },
 ];
 
 /// Asserts that the request for the URL of a row has its authority and path.
 fn assert_requested(rt: &impl Abort, alloc: Global, row: &UrlRow) {
-    let (shows, url, authority, path) = *row;
+    let UrlRow {
+        case,
+        url,
+        authority,
+        path,
+    } = *row;
     let request = request_for(alloc, url).expect(rt, url);
-    assert_request(rt, &request, authority, path, shows);
+    assert_request(rt, &request, authority, path, case);
 }
 
 #[test]
@@ -102,7 +112,7 @@ static REFUSED_URLS: [(&str, UrlParseError); 9] = [
 fn refused_urls_past_refused_memory(rt: HostRuntime) {
     for (url, fault) in &REFUSED_URLS {
         let came = request_for(rt.alloc(), url).err();
-        same(&rt, came.as_ref(), Some(fault), url);
+        assert_same(&rt, came.as_ref(), Some(fault), url);
     }
 }
 
@@ -117,7 +127,7 @@ fn insert(rt: &impl Abort, request: &mut SessionRequest, row: &InsertedRow) {
     let (name, value, before) = *row;
     match insert_once(request, name, value) {
         Err(InsertError::Memory) => {
-            same(rt, request.get(name), before, "nothing is changed");
+            assert_same(rt, request.get(name), before, "nothing is changed");
             insert_once(request, name, value)
         }
         outcome => outcome,
@@ -130,11 +140,11 @@ fn assert_given(
     rt: &impl Abort,
     request: &SessionRequest,
     (origin, agent, x): (Option<&str>, Option<&str>, Option<&str>),
-    shows: &str,
+    case: &str,
 ) {
-    same(rt, request.origin(), origin, shows);
-    same(rt, request.user_agent(), agent, shows);
-    same(rt, request.get("x"), x, shows);
+    assert_same(rt, request.origin(), origin, case);
+    assert_same(rt, request.user_agent(), agent, case);
+    assert_same(rt, request.get("x"), x, case);
 }
 
 /// A field name, its value, and its previous value.
@@ -163,14 +173,14 @@ static RESERVED: [&str; 5] = [":method", ":scheme", ":protocol", ":authority", "
 
 /// Asserts that a name is reserved, so a field with this name cannot be inserted.
 fn assert_reserved(rt: &impl Abort, request: &mut SessionRequest, name: &'static str) {
-    same(
+    assert_same(
         rt,
         SessionRequest::RESERVED_HEADERS.contains(&name),
         true,
         name,
     );
     let outcome = request.insert(name, "example");
-    same(
+    assert_same(
         rt,
         outcome,
         Err(InsertError::Reserved(ReservedHeader)),
@@ -183,7 +193,7 @@ fn fields_of_a_request_past_refused_memory(rt: HostRuntime) {
     let mut request = request_with_fields(&rt, rt.alloc());
     let given = (Some("https://a.example"), Some("agent"), Some("z"));
     assert_given(&rt, &request, given, "the last value of a name");
-    same(
+    assert_same(
         &rt,
         SessionRequest::RESERVED_HEADERS.len(),
         5,
@@ -201,7 +211,7 @@ fn fault_of(headers: Headers) -> Option<HeadersParseError> {
     SessionRequest::try_from(headers).err()
 }
 
-/// What a row shows, pairs, and the error for the request with these fields.
+/// The case, pairs, and the error for the request with these fields.
 type FaultRow = (
     &'static str,
     &'static [(&'static str, &'static str)],
@@ -290,8 +300,8 @@ static FAULTS: [FaultRow; 10] = [
 
 #[test]
 fn faults_of_requests_past_refused_memory(rt: HostRuntime) {
-    for (shows, pairs, first) in &FAULTS {
-        same(&rt, &fault_of(map_of(&rt, rt.alloc(), pairs)), first, shows);
+    for (case, pairs, first) in &FAULTS {
+        assert_same(&rt, &fault_of(map_of(&rt, rt.alloc(), pairs)), first, case);
     }
 }
 
@@ -314,28 +324,29 @@ fn assert_parts(
     rt: &impl Abort,
     request: &SessionRequest,
     (authority, path, fields): (&str, &str, usize),
-    shows: &str,
+    case: &str,
 ) {
-    same(rt, request.authority(), authority, shows);
-    same(rt, request.path(), path, shows);
-    same(rt, request.headers().as_ref().len(), fields, shows);
+    assert_same(rt, request.authority(), authority, case);
+    assert_same(rt, request.path(), path, case);
+    assert_same(rt, request.headers().as_ref().len(), fields, case);
 }
 
 #[test]
 fn sent_request_past_refused_memory(rt: HostRuntime) {
     let frame = request_frame(&rt, rt.alloc());
-    same(&rt, frame.kind(), FrameKind::Headers, "the frame");
-    same(&rt, frame.write_size(), 42, "the size of the frame");
-    same(&rt, frame.payload(), PAYLOAD, "the payload of the frame");
+    assert_same(&rt, frame.kind(), FrameKind::Headers, "the frame");
+    assert_same(&rt, frame.write_size(), 42, "the size of the frame");
+    assert_same(&rt, frame.payload(), PAYLOAD, "the payload of the frame");
     let back = receive(rt.alloc(), &frame).expect(&rt, "refused");
     assert_parts(&rt, &back, ("example.com", "/", 5), "what comes back");
 }
 
 /// The payload of the request for `https://example.com/`.
 static PAYLOAD: &[u8] =
-    b"\x00\x00\x50\x88\x2f\x91\xd3\x5d\x05\x5c\x87\xa7\xcf\xc1\x2f\x00\xb9\x5d\x87\x49\xc8\x7a\x3f\x89\xf0\x58\xd3\x60\xea\x45\x67\xb1\x3f\x5f\x07\x84\x9d\x29\xad\x1f";
+    b"\x00\x00\x50\x88\x2f\x91\xd3\x5d\x05\x5c\x87\xa7\xcf\xc1\x2f\x00\xb9\x5d\x87\x49\xc8\x7a\x3f\
+    \x89\xf0\x58\xd3\x60\xea\x45\x67\xb1\x3f\x5f\x07\x84\x9d\x29\xad\x1f";
 
-/// What a row shows, the payload of a HEADERS frame that is not a request, and the error code.
+/// The case, the payload of a HEADERS frame that is not a request, and the error code.
 static REFUSED_PAYLOADS: [(&str, &[u8], ErrorCode); 3] = [
     (
         "a payload that is no section",
@@ -351,12 +362,12 @@ static REFUSED_PAYLOADS: [(&str, &[u8], ErrorCode); 3] = [
 ];
 
 /// Asserts that a frame is rejected as a request, with this error code.
-fn assert_refused(rt: &impl Abort, alloc: Global, frame: Frame<'_>, code: ErrorCode, shows: &str) {
-    same(
+fn assert_refused(rt: &impl Abort, alloc: Global, frame: Frame<'_>, code: ErrorCode, case: &str) {
+    assert_same(
         rt,
         receive(alloc, &frame).err(),
         Some(Refused::Code(code)),
-        shows,
+        case,
     );
 }
 
@@ -366,11 +377,11 @@ fn assert_refused_payload(
     alloc: Global,
     payload: &[u8],
     code: ErrorCode,
-    shows: &str,
+    case: &str,
 ) {
     assert!(rt; payload.len() < 2048);
     let frame = Frame::new_headers(CowSlice::Borrowed(payload));
-    assert_refused(rt, alloc, frame, code, shows);
+    assert_refused(rt, alloc, frame, code, case);
 }
 
 #[test]
@@ -383,7 +394,7 @@ fn refused_frames_past_refused_memory(rt: HostRuntime) {
         ErrorCode::FrameUnexpected,
         "another kind",
     );
-    for (shows, payload, code) in &REFUSED_PAYLOADS {
-        assert_refused_payload(&rt, rt.alloc(), payload, *code, shows);
+    for (case, payload, code) in &REFUSED_PAYLOADS {
+        assert_refused_payload(&rt, rt.alloc(), payload, *code, case);
     }
 }

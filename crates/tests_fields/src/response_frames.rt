@@ -1,6 +1,6 @@
 //! Responses in frames, their fields, copies of header maps, and failed allocations.
 use crate::header_maps::{assert_fields, insert, map_of};
-use crate::same::same;
+use crate::same::assert_same;
 use std::alloc::{AllocError, Global};
 use std::borrow::CowSlice;
 use std::process::Abort;
@@ -24,69 +24,73 @@ fn response_of(rt: &impl Abort, alloc: Global, payload: &[u8]) -> Result<Session
     receive(alloc, &Frame::new_headers(CowSlice::Borrowed(payload)))
 }
 
-/// What a row shows, a payload, the status code of its response, and all its fields.
-type ResponseRow = (
-    &'static str,
-    &'static [u8],
-    u16,
-    &'static [(&'static str, &'static str)],
-);
+/// A payload, and its response.
+struct ResponseRow {
+    case: &'static str,
+    payload: &'static [u8],
+    /// The status code.
+    code: u16,
+    /// All fields.
+    fields: &'static [(&'static str, &'static str)],
+}
 
 /// Payloads of responses. nghttp3 1.8.0 sent the last one.
 static RESPONSES: [ResponseRow; 4] = [
-    (
-        "a static entry",
-        b"\x00\x00\xd9",
-        200,
-        &[(":status", "200")],
-    ),
-    (
-        "the lowest",
-        b"\x00\x00\x5f\x09\x03100",
-        100,
-        &[(":status", "100")],
-    ),
-    (
-        "the highest",
-        b"\x00\x00\x5f\x09\x03599",
-        599,
-        &[(":status", "599")],
-    ),
-    (
-        "other fields, one of them twice",
+    ResponseRow {
+        case: "a static entry",
+        payload: b"\x00\x00\xd9",
+        code: 200,
+        fields: &[(":status", "200")],
+    },
+    ResponseRow {
+        case: "the lowest",
+        payload: b"\x00\x00\x5f\x09\x03100",
+        code: 100,
+        fields: &[(":status", "100")],
+    },
+    ResponseRow {
+        case: "the highest",
+        payload: b"\x00\x00\x5f\x09\x03599",
+        code: 599,
+        fields: &[(":status", "599")],
+    },
+    ResponseRow {
+        case: "other fields, one of them twice",
+
         // recorded: nghttp3static-s2c-8.bin, bytes 2 to 24
-        b"\x00\x00\xd9\x5f\x4d\x84\xae\xc3\xc6\x5f\xf4\x5e\x82\x1c\x01\x5e\x03\x62\x3d\x32\xff\x14",
-        200,
-        &[
+        payload: b"\x00\x00\xd9\x5f\x4d\x84\xae\xc3\xc6\x5f\xf4\x5e\x82\x1c\x01\x5e\x03\x62\x3d\x32\
+        \xff\x14",
+        code: 200,
+        fields: &[
             (":status", "200"),
             ("server", "probe"),
             ("content-type", "text/html; charset=utf-8"),
             ("set-cookie", "b=2"),
             ("alt-svc", "clear"),
         ],
-    ),
+    },
 ];
 
 /// Asserts the values of a response by name.
-fn assert_values(
-    rt: &impl Abort,
-    response: &SessionResponse,
-    fields: &[(&str, &str)],
-    shows: &str,
-) {
+fn assert_values(rt: &impl Abort, response: &SessionResponse, fields: &[(&str, &str)], case: &str) {
     for (name, value) in fields {
-        same(rt, response.get(name), Some(*value), shows);
+        assert_same(rt, response.get(name), Some(*value), case);
     }
-    same(rt, response.get("absent"), None, shows);
+    assert_same(rt, response.get("absent"), None, case);
 }
 
 /// Asserts that the payload of a row decodes to a response with its status code and fields.
 fn assert_response(rt: &impl Abort, alloc: Global, row: &ResponseRow) {
-    let (shows, payload, code, fields) = *row;
-    let response = response_of(rt, alloc, payload).expect(rt, shows);
-    same(rt, response.code().into_inner(), code, shows);
-    assert_fields(rt, response.headers(), fields, shows);
-    assert_values(rt, &response, fields, shows);
+    let ResponseRow {
+        case,
+        payload,
+        code,
+        fields,
+    } = *row;
+    let response = response_of(rt, alloc, payload).expect(rt, case);
+    assert_same(rt, response.code().into_inner(), code, case);
+    assert_fields(rt, response.headers(), fields, case);
+    assert_values(rt, &response, fields, case);
 }
 
 #[test]
@@ -96,7 +100,7 @@ fn received_responses_past_refused_memory(rt: HostRuntime) {
     }
 }
 
-/// What a row shows, a payload that is not a response, and the error code.
+/// The case, a payload that is not a response, and the error code.
 static REFUSED_PAYLOADS: [(&str, &[u8], ErrorCode); 7] = [
     ("no section", b"\x00", ErrorCode::Decompression),
     (
@@ -113,16 +117,16 @@ static REFUSED_PAYLOADS: [(&str, &[u8], ErrorCode); 7] = [
 
 #[test]
 fn refused_responses_past_refused_memory(rt: HostRuntime) {
-    for (shows, payload, code) in &REFUSED_PAYLOADS {
+    for (case, payload, code) in &REFUSED_PAYLOADS {
         let refused = response_of(&rt, rt.alloc(), payload).err();
-        same(&rt, refused, Some(Refused::Code(*code)), shows);
+        assert_same(&rt, refused, Some(Refused::Code(*code)), case);
     }
 }
 
 /// Asserts that a frame of another kind is not a response.
-fn assert_unexpected(rt: &impl Abort, alloc: Global, frame: Frame<'_>, shows: &str) {
+fn assert_unexpected(rt: &impl Abort, alloc: Global, frame: Frame<'_>, case: &str) {
     let unexpected = Some(Refused::Code(ErrorCode::FrameUnexpected));
-    same(rt, receive(alloc, &frame).err(), unexpected, shows);
+    assert_same(rt, receive(alloc, &frame).err(), unexpected, case);
 }
 
 #[test]
@@ -152,7 +156,7 @@ fn assert_copied(rt: &impl Abort, first: &Headers) {
     let mut second = copy(rt, first);
     assert_fields(rt, &second, &FIELDS, "the copy");
     insert(rt, &mut second, ("a", "3"), &FIELDS);
-    same(rt, second.get("a"), Some("3"), "the copy changed");
+    assert_same(rt, second.get("a"), Some("3"), "the copy changed");
 }
 
 #[test]

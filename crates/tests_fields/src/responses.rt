@@ -1,7 +1,7 @@
 //! Responses by status code and from header maps, their frames, their fields, and failed
 //! allocations.
 use crate::header_maps::{assert_fields, frame_of, map_of};
-use crate::same::same;
+use crate::same::assert_same;
 use std::alloc::{AllocError, Global};
 use std::process::Abort;
 use wtp_core::ids::StatusCode;
@@ -53,8 +53,8 @@ fn assert_response(rt: &impl Abort, alloc: Global, row: &CallRow) {
     let (call, code, payload) = *row;
     let response = response(rt, alloc, call);
     let frame = frame_of(rt, alloc, response.headers());
-    same(rt, response.code().into_inner(), code, code);
-    same(rt, frame.payload(), payload, code);
+    assert_same(rt, response.code().into_inner(), code, code);
+    assert_same(rt, frame.payload(), payload, code);
 }
 
 #[test]
@@ -80,7 +80,7 @@ fn add(
     match add_once(response, name, value) {
         Err(AddError::Memory) => {
             let came = response.headers().get(name);
-            same(rt, came, before, "nothing is changed");
+            assert_same(rt, came, before, "nothing is changed");
             add_once(response, name, value)
         }
         outcome => outcome,
@@ -94,8 +94,8 @@ static NO_CODES: [&str; 7] = ["abc", "", "+", "99", "600", "65736", "2 00"];
 /// Asserts that a text cannot be added as the status of a response, whose status code stays 200.
 fn assert_no_code(rt: &impl Abort, response: &mut SessionResponse, text: &str) {
     let outcome = add_once(response, ":status", text);
-    same(rt, outcome, Err(AddError::InvalidStatusCode), text);
-    same(rt, response.code(), StatusCode::OK, text);
+    assert_same(rt, outcome, Err(AddError::InvalidStatusCode), text);
+    assert_same(rt, response.code(), StatusCode::OK, text);
 }
 
 /// The fields after a status and another field were added.
@@ -105,9 +105,9 @@ static ADDED: [(&str, &str); 2] = [(":status", "0404"), ("x", "y")];
 fn assert_added(rt: &impl Abort, response: &mut SessionResponse) {
     add(rt, response, ("x", "y"), None);
     add(rt, response, (":status", "0404"), Some("200"));
-    same(rt, response.code(), StatusCode::NOT_FOUND, "0404");
-    let shows = "a good text is kept as it is written";
-    assert_fields(rt, response.headers(), &ADDED, shows);
+    assert_same(rt, response.code(), StatusCode::NOT_FOUND, "0404");
+    let case = "a good text is kept as it is written";
+    assert_fields(rt, response.headers(), &ADDED, case);
 }
 
 #[test]
@@ -140,7 +140,7 @@ fn response_of(
     }
 }
 
-/// What a row shows, pairs, and the error for the response with these fields.
+/// The case, pairs, and the error for the response with these fields.
 type NoResponseRow = (
     &'static str,
     &'static [(&'static str, &'static str)],
@@ -186,8 +186,8 @@ fn responses_of_maps_past_refused_memory(rt: HostRuntime) {
     for row in &STATUSES {
         assert_status(&rt, rt.alloc(), *row);
     }
-    for (shows, pairs, fault) in &NO_RESPONSES {
+    for (case, pairs, fault) in &NO_RESPONSES {
         let came = response_of(&rt, rt.alloc(), pairs).err();
-        same(&rt, came.as_ref(), Some(fault), shows);
+        assert_same(&rt, came.as_ref(), Some(fault), case);
     }
 }

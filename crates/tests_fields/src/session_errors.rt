@@ -1,5 +1,5 @@
 //! Texts of the errors of requests, responses and their header maps, and failed allocations.
-use crate::same::same;
+use crate::same::assert_same;
 use std::alloc::{AllocError, Global};
 use std::fmt::Display;
 use std::process::Abort;
@@ -18,7 +18,7 @@ fn text_of(alloc: Global, error: &impl Display) -> Result<String, AllocError> {
 /// Asserts the text of an error.
 fn assert_shown(rt: &impl Abort, alloc: Global, error: &impl Display, text: &str) {
     let came = text_of(alloc, error).expect(rt, "memory");
-    same(rt, came.as_str(), text, text);
+    assert_same(rt, came.as_str(), text, text);
 }
 
 /// Asserts the text of each error.
