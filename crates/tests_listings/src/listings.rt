@@ -1,144 +1,161 @@
 //! Listings of recorded streams.
-use crate::rows::{Row, check_listing, join};
+use crate::rows::{Row, check_listing, join, whole_rows};
 use std::alloc::{AllocError, Global};
 use std::process::Abort;
 use wt_listings::{ListKind, Listing, list_frames};
 
-static BI_REMOTE: [Row; 17] = [
-    (
-        b"\x40\x41\x04\x00\x01a",
-        "WEBTRANSPORT 4\nDATA 1\nEND 0\n",
-        0,
-        "a session, then data",
-    ),
-    (b"", "END 0\n", 0, "nothing"),
-    (b"\x00\x05a", "END 3\n", 0, "a cut frame"),
-    (
-        b"\x21\x07Payload\x40\x41\x00",
-        "EXERCISE 33 7\nFAULT FrameError 262\n",
-        2,
-        "a late session",
-    ),
-    (
-        b"\x00\x50\x01",
-        "FAULT ExcessiveLoad 263\n",
-        2,
-        "length 4097",
-    ),
-    (b"\x40\x41\x01", "FAULT IdError 264\n", 2, "no session"),
-    (
-        b"\x04\x02\x33\x01",
-        "FAULT FrameUnexpectedError 261\n",
-        2,
-        "settings",
-    ),
-    (
-        b"\x01\x02ab\x00\x00",
-        "HEADERS 2\nDATA 0\nEND 0\n",
-        0,
-        "headers, then data",
-    ),
-    (b"\x0a", "END 1\n", 0, "an unknown type alone"),
-    (
-        b"\x0a\x00\x00\x01a",
-        "DATA 1\nEND 0\n",
-        0,
-        "unknown and empty",
-    ),
-    (b"\x0a\x40\x41\x00", "END 4\n", 0, "unknown, of length 65"),
-    (
-        b"\x0a\x01x\x40\x41\x00",
-        "WEBTRANSPORT 0\nEND 0\n",
-        0,
-        "unknown, then a session",
-    ),
-    (
-        b"\x02\x00\x06\x01x\x00\x01a",
-        "DATA 1\nEND 0\n",
-        0,
-        "two unknown ones",
-    ),
-    (b"\x0a\x05a", "END 3\n", 0, "a cut unknown one"),
-    (
-        b"\x0a\xff\xff\xff\xff\xff\xff\xff\xff",
-        "END 9\n",
-        0,
-        "the largest unknown one",
-    ),
-    (
-        b"\x00\x01a\x0a\x00",
-        "DATA 1\nEND 2\n",
-        0,
-        "an unknown one after a frame",
-    ),
-    (
-        b"\x00\x01a\x0a\x05b",
-        "DATA 1\nEND 3\n",
-        0,
-        "a cut unknown one after a frame",
-    ),
+/// Streams that the peer opened, whose end is listed as the bytes that are left.
+static BI_REMOTE: [Row; 8] = [
+    Row {
+        case: "a cut frame",
+        input: b"\x00\x05a",
+        text: "END 3\n",
+        status: 0,
+    },
+    Row {
+        case: "settings",
+        input: b"\x04\x02\x33\x01",
+        text: "FAULT FrameUnexpectedError 261\n",
+        status: 2,
+    },
+    Row {
+        case: "an unknown type alone",
+        input: b"\x0a",
+        text: "END 1\n",
+        status: 0,
+    },
+    Row {
+        case: "unknown, of length 65",
+        input: b"\x0a\x40\x41\x00",
+        text: "END 4\n",
+        status: 0,
+    },
+    Row {
+        case: "a cut unknown one",
+        input: b"\x0a\x05a",
+        text: "END 3\n",
+        status: 0,
+    },
+    Row {
+        case: "the largest unknown one",
+        input: b"\x0a\xff\xff\xff\xff\xff\xff\xff\xff",
+        text: "END 9\n",
+        status: 0,
+    },
+    Row {
+        case: "an unknown one after a frame",
+        input: b"\x00\x01a\x0a\x00",
+        text: "DATA 1\nEND 2\n",
+        status: 0,
+    },
+    Row {
+        case: "a cut unknown one after a frame",
+        input: b"\x00\x01a\x0a\x05b",
+        text: "DATA 1\nEND 3\n",
+        status: 0,
+    },
 ];
 
 static BI_LOCAL: [Row; 8] = [
-    (
-        b"\x40\x41\x04\x00\x01a",
-        "FAULT FrameUnexpectedError 261\n",
-        2,
-        "a session",
-    ),
-    (b"", "END 0\n", 0, "nothing"),
-    (b"\x00\x05a", "END 3\n", 0, "a cut frame"),
-    (
-        b"\x01\x02ab\x21\x00\x00\x00\x04\x00",
-        "HEADERS 2\nEXERCISE 33 0\nDATA 0\nFAULT FrameUnexpectedError 261\n",
-        2,
-        "late settings",
-    ),
-    (b"\x40\x41\x01", "FAULT IdError 264\n", 2, "no session"),
-    (
-        b"\x00\x50\x01",
-        "FAULT ExcessiveLoad 263\n",
-        2,
-        "length 4097",
-    ),
-    (
-        b"\x0a\x01x\x00\x00\x0a",
-        "DATA 0\nEND 1\n",
-        0,
-        "unknown, data, and an unknown type alone",
-    ),
-    (b"\x40", "END 1\n", 0, "a cut type"),
+    Row {
+        case: "a session",
+        input: b"\x40\x41\x04\x00\x01a",
+        text: "FAULT FrameUnexpectedError 261\n",
+        status: 2,
+    },
+    Row {
+        case: "nothing",
+        input: b"",
+        text: "END 0\n",
+        status: 0,
+    },
+    Row {
+        case: "a cut frame",
+        input: b"\x00\x05a",
+        text: "END 3\n",
+        status: 0,
+    },
+    Row {
+        case: "late settings",
+        input: b"\x01\x02ab\x21\x00\x00\x00\x04\x00",
+        text: "HEADERS 2\nEXERCISE 33 0\nDATA 0\nFAULT FrameUnexpectedError 261\n",
+        status: 2,
+    },
+    Row {
+        case: "no session",
+        input: b"\x40\x41\x01",
+        text: "FAULT IdError 264\n",
+        status: 2,
+    },
+    Row {
+        case: "length 4097",
+        input: b"\x00\x50\x01",
+        text: "FAULT ExcessiveLoad 263\n",
+        status: 2,
+    },
+    Row {
+        case: "unknown, data, and an unknown type alone",
+        input: b"\x0a\x01x\x00\x00\x0a",
+        text: "DATA 0\nEND 1\n",
+        status: 0,
+    },
+    Row {
+        case: "a cut type",
+        input: b"\x40",
+        text: "END 1\n",
+        status: 0,
+    },
 ];
 
 static CONTROL: [Row; 8] = [
-    (
-        b"\x04\x00\x07\x01\x00\x04\x00",
-        "SETTINGS 0\nSETTINGS 0\nEND 0\n",
-        0,
-        "an unknown frame between settings",
-    ),
-    (b"\x00\x00", "FAULT FrameUnexpectedError 261\n", 2, "data"),
-    (
-        b"\x01\x00",
-        "FAULT FrameUnexpectedError 261\n",
-        2,
-        "headers",
-    ),
-    (
-        b"\x21\x01x\x40\x41\x04",
-        "EXERCISE 33 1\nFAULT FrameUnexpectedError 261\n",
-        2,
-        "exercise, then a session",
-    ),
-    (b"\x40\x41\x01", "FAULT IdError 264\n", 2, "no session"),
-    (
-        b"\x04\x50\x01",
-        "FAULT ExcessiveLoad 263\n",
-        2,
-        "length 4097",
-    ),
-    (b"\x04\x02\x33", "END 3\n", 0, "cut settings"),
-    (b"", "END 0\n", 0, "nothing"),
+    Row {
+        case: "an unknown frame between settings",
+        input: b"\x04\x00\x07\x01\x00\x04\x00",
+        text: "SETTINGS 0\nSETTINGS 0\nEND 0\n",
+        status: 0,
+    },
+    Row {
+        case: "data",
+        input: b"\x00\x00",
+        text: "FAULT FrameUnexpectedError 261\n",
+        status: 2,
+    },
+    Row {
+        case: "headers",
+        input: b"\x01\x00",
+        text: "FAULT FrameUnexpectedError 261\n",
+        status: 2,
+    },
+    Row {
+        case: "exercise, then a session",
+        input: b"\x21\x01x\x40\x41\x04",
+        text: "EXERCISE 33 1\nFAULT FrameUnexpectedError 261\n",
+        status: 2,
+    },
+    Row {
+        case: "no session",
+        input: b"\x40\x41\x01",
+        text: "FAULT IdError 264\n",
+        status: 2,
+    },
+    Row {
+        case: "length 4097",
+        input: b"\x04\x50\x01",
+        text: "FAULT ExcessiveLoad 263\n",
+        status: 2,
+    },
+    Row {
+        case: "cut settings",
+        input: b"\x04\x02\x33",
+        text: "END 3\n",
+        status: 0,
+    },
+    Row {
+        case: "nothing",
+        input: b"",
+        text: "END 0\n",
+        status: 0,
+    },
 ];
 
 /// Asserts the listing of an input.
@@ -148,34 +165,36 @@ fn check<R: Abort + AllocGlobal>(
     input: &[u8],
     text: &str,
     status: u8,
-    shows: &str,
+    case: &str,
 ) {
     let listing = list_frames(rt.alloc(), kind, input).expect(rt, "memory");
-    check_listing(rt, listing, text, status, shows);
+    check_listing(rt, listing, text, status, case);
+}
+
+/// Asserts the listing of the input of each row.
+fn check_rows<R: Abort + AllocGlobal>(rt: &R, kind: ListKind, rows: &[Row]) {
+    for row in rows {
+        check(rt, kind, row.input, row.text, row.status, row.case);
+    }
 }
 
 #[test]
 fn remote_bidirectional_streams_are_listed(rt: HostRuntime) {
-    for (input, text, status, word) in &BI_REMOTE {
-        check(&rt, ListKind::BiRemote, input, text, *status, word);
-    }
+    check_rows(&rt, ListKind::BiRemote, whole_rows());
+    check_rows(&rt, ListKind::BiRemote, &BI_REMOTE);
 }
 
 #[test]
 fn local_bidirectional_streams_are_listed(rt: HostRuntime) {
-    for (input, text, status, word) in &BI_LOCAL {
-        check(&rt, ListKind::BiLocal, input, text, *status, word);
-    }
+    check_rows(&rt, ListKind::BiLocal, &BI_LOCAL);
 }
 
 #[test]
 fn control_streams_are_listed(rt: HostRuntime) {
-    for (input, text, status, word) in &CONTROL {
-        check(&rt, ListKind::Control, input, text, *status, word);
-    }
+    check_rows(&rt, ListKind::Control, &CONTROL);
 }
 
-/// The parts of an input on a stream that the peer opened, its listing, and what the row shows.
+/// The parts of an input on a stream that the peer opened, its listing, and the case.
 type Long = (&'static [&'static [u8]], &'static str, &'static str);
 
 /// Inputs of thousands of bytes.

@@ -1,6 +1,6 @@
 //! The program, with readers and writers of the tests.
 use crate::rows::{REQUEST, REQUEST_LISTING};
-use crate::same::same;
+use crate::same::assert_same;
 use std::alloc::{AllocError, Global};
 use std::io::{self, Read, Write};
 use std::process::Abort;
@@ -108,7 +108,7 @@ fn check<R: Abort + AllocGlobal>(
     );
     let (status, output, errors) = wanted;
     let wanted = (words, rooms, status, output.as_bytes(), errors.as_bytes());
-    same(rt, came, wanted, "words, rooms, status, output, errors");
+    assert_same(rt, came, wanted, "words, rooms, status, output, errors");
 }
 
 const INPUT: [u8; 6] = [0x40, 0x41, 0x04, 0x00, 0x01, 0x61];
@@ -119,33 +119,118 @@ const FAULT: &str = "FAULT FrameUnexpectedError 261\n";
 
 const CUT: &str = "FAULT FrameError 262\n";
 
-/// The arguments of a command, its input, its exit status and its output.
-type Named = (&'static [&'static str], &'static [u8], u8, &'static str);
+/// The arguments of a command, and its listing.
+struct Named {
+    words: &'static [&'static str],
+    input: &'static [u8],
+    status: u8,
+    text: &'static str,
+}
 
 /// All commands.
 static NAMED: [Named; 17] = [
-    (&[], &INPUT, 0, LISTING),
-    (&["buffer"], &INPUT, 0, LISTING),
-    (&["buffer", "bi-remote"], &INPUT, 0, LISTING),
-    (&["buffer", "bi-local"], &INPUT, 2, FAULT),
-    (&["buffer", "bi-local"], b"\x00\x01a", 0, "DATA 1\nEND 0\n"),
-    (&["buffer", "control"], &INPUT, 2, FAULT),
-    (&["buffer", "control"], b"\x00\x01a", 2, FAULT),
-    (
-        &["buffer", "control"],
-        b"\x04\x00",
-        0,
-        "SETTINGS 0\nEND 0\n",
-    ),
-    (&["stepped", "1"], &INPUT, 0, LISTING),
-    (&["stepped", "1048576"], &INPUT, 0, LISTING),
-    (&["stepped", "0003"], &INPUT, 0, LISTING),
-    (&["stepped", "1"], b"\x00\x05a", 2, CUT),
-    (&["stepped", "01048576"], b"\x0a\x05a", 2, CUT),
-    (&["stepped", "0000000000000000000000002"], b"", 0, "END 0\n"),
-    (&["request"], &REQUEST, 0, REQUEST_LISTING),
-    (&["request"], b"\x00\x05a", 0, "END 3\n"),
-    (&["request"], &INPUT, 2, FAULT),
+    Named {
+        words: &[],
+        input: &INPUT,
+        status: 0,
+        text: LISTING,
+    },
+    Named {
+        words: &["buffer"],
+        input: &INPUT,
+        status: 0,
+        text: LISTING,
+    },
+    Named {
+        words: &["buffer", "bi-remote"],
+        input: &INPUT,
+        status: 0,
+        text: LISTING,
+    },
+    Named {
+        words: &["buffer", "bi-local"],
+        input: &INPUT,
+        status: 2,
+        text: FAULT,
+    },
+    Named {
+        words: &["buffer", "bi-local"],
+        input: b"\x00\x01a",
+        status: 0,
+        text: "DATA 1\nEND 0\n",
+    },
+    Named {
+        words: &["buffer", "control"],
+        input: &INPUT,
+        status: 2,
+        text: FAULT,
+    },
+    Named {
+        words: &["buffer", "control"],
+        input: b"\x00\x01a",
+        status: 2,
+        text: FAULT,
+    },
+    Named {
+        words: &["buffer", "control"],
+        input: b"\x04\x00",
+        status: 0,
+        text: "SETTINGS 0\nEND 0\n",
+    },
+    Named {
+        words: &["stepped", "1"],
+        input: &INPUT,
+        status: 0,
+        text: LISTING,
+    },
+    Named {
+        words: &["stepped", "1048576"],
+        input: &INPUT,
+        status: 0,
+        text: LISTING,
+    },
+    Named {
+        words: &["stepped", "0003"],
+        input: &INPUT,
+        status: 0,
+        text: LISTING,
+    },
+    Named {
+        words: &["stepped", "1"],
+        input: b"\x00\x05a",
+        status: 2,
+        text: CUT,
+    },
+    Named {
+        words: &["stepped", "01048576"],
+        input: b"\x0a\x05a",
+        status: 2,
+        text: CUT,
+    },
+    Named {
+        words: &["stepped", "0000000000000000000000002"],
+        input: b"",
+        status: 0,
+        text: "END 0\n",
+    },
+    Named {
+        words: &["request"],
+        input: &REQUEST,
+        status: 0,
+        text: REQUEST_LISTING,
+    },
+    Named {
+        words: &["request"],
+        input: b"\x00\x05a",
+        status: 0,
+        text: "END 3\n",
+    },
+    Named {
+        words: &["request"],
+        input: &INPUT,
+        status: 2,
+        text: FAULT,
+    },
 ];
 
 /// Asserts the exit status and the listing of a run with these arguments, whose input has one
@@ -167,8 +252,8 @@ fn check_listing<R: Abort + AllocGlobal>(
 
 #[test]
 fn the_words_choose_the_listing(rt: HostRuntime) {
-    for (words, bytes, status, text) in &NAMED {
-        check_listing(&rt, words, bytes, *status, text);
+    for row in &NAMED {
+        check_listing(&rt, row.words, row.input, row.status, row.text);
     }
 }
 
@@ -206,7 +291,7 @@ fn check_usage<R: Abort + AllocGlobal>(rt: &R, words: &[&str]) {
     };
     let wanted = (1, "", "wt_frames: usage\n");
     check(rt, words, &mut input, (100, 100), wanted);
-    same(rt, input.bytes.len(), 6, "nothing was read");
+    assert_same(rt, input.bytes.len(), 6, "nothing was read");
 }
 
 #[test]
@@ -302,7 +387,7 @@ fn check_status<R: Abort>(rt: &R, ran: &Ran, text: &str) {
     if ran.status == 4 {
         let no_memory = b"wt_frames: no memory\n".as_slice();
         let came = (ran.errors.as_slice(), ran.output.is_empty());
-        same(rt, came, (no_memory, true), text);
+        assert_same(rt, came, (no_memory, true), text);
     }
 }
 
@@ -323,7 +408,7 @@ fn check_refused<R: Abort + AllocGlobal>(rt: &R, words: &[&str], bytes: &[u8], t
     if ran.status >= 3 {
         ran = run_once(rt.alloc(), words.as_slice(), bytes);
     }
-    same(
+    assert_same(
         rt,
         (ran.status, ran.output.as_slice()),
         (0, text.as_bytes()),

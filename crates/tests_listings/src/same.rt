@@ -2,13 +2,12 @@
 use std::fmt::{Debug, Display};
 use std::process::Abort;
 
-/// Asserts that `came` equals `wanted`. A failure message gives what the row shows and both
-/// values.
-pub(crate) fn same<R: Abort, T: PartialEq + Debug + Drop, S: Display + Drop>(
+/// Asserts that `came` equals `wanted`. A failure message gives the case and both values.
+pub(crate) fn assert_same<R: Abort, T: PartialEq + Debug + Drop, S: Display + Drop>(
     rt: &R,
     came: T,
     wanted: T,
-    shows: S,
+    case: S,
 ) {
-    assert!(rt; came == wanted, "{shows}: {came:?}, and not {wanted:?}");
+    assert!(rt; came == wanted, "{case}: {came:?}, and not {wanted:?}");
 }

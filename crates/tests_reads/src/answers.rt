@@ -1,5 +1,5 @@
 //! Expected results of polls of streams.
-use crate::same::same;
+use crate::same::assert_same;
 use std::alloc::Global;
 use std::process::Abort;
 use test_io::End;
@@ -60,7 +60,7 @@ fn wanted_of<'a>(answer: &'a Answer<'_>) -> AnswerValue<'a> {
     }
 }
 
-/// Asserts the result of a poll. A failure message gives what the row shows and the position in
+/// Asserts the result of a poll. A failure message gives the case and the position in
 /// the row.
 pub(crate) fn check_answer<R: Abort>(
     rt: &R,
@@ -69,7 +69,7 @@ pub(crate) fn check_answer<R: Abort>(
     word: &str,
     place: usize,
 ) {
-    same(
+    assert_same(
         rt,
         (place, answer_of(answered)),
         (place, wanted_of(answer)),

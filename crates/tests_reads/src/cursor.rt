@@ -1,14 +1,14 @@
 //! Reading frames from bytes that the caller holds, split in every way.
 use crate::answers::{PollAnswer, number_and_payload, pad};
 use crate::opened::{control, of_session, opened_here, opened_there};
-use crate::reads::Reads;
-use crate::same::same;
+use crate::reads::poll;
+use crate::same::assert_same;
 use std::alloc::Global;
 use std::process::Abort;
 use wtransport_proto::bytes::{IoReadError as Fault, Polled};
 use wtransport_proto::error::ErrorCode;
 use wtransport_proto::frame::{Frame, FrameReading};
-use wtransport_proto::stream::{CursorStep, FrameCursor, IoReadError, StreamRole};
+use wtransport_proto::stream::{CursorStep, FrameCursor, IoReadError, ReadsFrames, StreamRole};
 
 /// How reading a stream ends: without an error, or with the code of its first error. An end
 /// inside a frame is the error `Frame` (RFC 9114, section 7.1).
@@ -17,8 +17,16 @@ type Ending = Result<(), ErrorCode>;
 /// A frame by its type and payload, or how the stream ends.
 type Next<'a> = Result<(u64, &'a [u8]), Ending>;
 
-/// The bytes of a stream, its frames by type and payload, how it ends, and what the row shows.
-type Row<'a> = (&'a [u8], &'a [(u64, &'a [u8])], Ending, &'a str);
+/// The bytes of a stream, and what is read from them.
+#[derive(Drop)]
+struct Row<'a> {
+    case: &'a str,
+    bytes: &'a [u8],
+    /// The frames by type and payload.
+    frames: &'a [(u64, &'a [u8])],
+    /// How the stream ends.
+    ending: Ending,
+}
 
 /// The bytes of a stream, some of which have arrived, and some of those are consumed.
 #[derive(Drop)]
@@ -76,7 +84,7 @@ impl<'a> Coming<'a> {
             if let Some(found) = self.step() {
                 return found;
             }
-            same(rt, self.held().len() <= 4111, true, "few bytes are held");
+            assert_same(rt, self.held().len() <= 4111, true, "few bytes are held");
             if let Some(ending) = self.receive(size) {
                 return Err(ending);
             }
@@ -85,25 +93,24 @@ impl<'a> Coming<'a> {
     }
 
     /// Asserts the next frame, or how the stream ends.
-    fn check<R: Abort>(&mut self, rt: &R, size: usize, wanted: Next<'_>, shows: &str) {
-        same(rt, (self.next(rt, size), size), (wanted, size), shows);
+    fn check<R: Abort>(&mut self, rt: &R, size: usize, wanted: Next<'_>, case: &str) {
+        assert_same(rt, (self.next(rt, size), size), (wanted, size), case);
     }
 }
 
 /// Asserts the frames and the end of a row whose bytes arrive at most `size` at a time.
 fn check_cut<R: Abort>(rt: &R, role: StreamRole, row: &Row<'_>, size: usize) {
-    let (bytes, frames, ending, shows) = *row;
-    let mut coming = Coming::new(bytes, role);
-    for frame in frames {
-        coming.check(rt, size, Ok(*frame), shows);
+    let mut coming = Coming::new(row.bytes, role);
+    for frame in row.frames {
+        coming.check(rt, size, Ok(*frame), row.case);
     }
-    coming.check(rt, size, Err(ending), shows);
+    coming.check(rt, size, Err(row.ending), row.case);
 }
 
 /// Asserts the frames and the end of each row, for pieces of each size.
 fn check_rows<R: Abort>(rt: &R, role: StreamRole, rows: &[Row<'_>]) {
     for row in rows {
-        for size in 1..=row.0.len() {
+        for size in 1..=row.bytes.len() {
             check_cut(rt, role, row, size);
         }
     }
@@ -121,13 +128,13 @@ fn next_of(answered: &PollAnswer) -> Next<'_> {
 }
 
 /// Returns the result of the next poll that neither skipped a frame nor failed to allocate.
-fn poll_next<K: Reads>(
+fn poll_next<K: ReadsFrames>(
     stream: &mut K,
     reading: &mut FrameReading,
     bytes: &mut &[u8],
 ) -> PollAnswer {
     for _turn in 0..20 {
-        match stream.poll(reading, bytes) {
+        match poll(stream, reading, bytes) {
             Polled::Again | Polled::NoMemory => {}
             answered => return answered,
         }
@@ -136,30 +143,35 @@ fn poll_next<K: Reads>(
 }
 
 /// Asserts the next polled frame, or how the stream ends.
-fn check_next<R: Abort, K: Reads>(
+fn check_next<R: Abort, K: ReadsFrames>(
     rt: &R,
     stream: &mut K,
     reading: &mut FrameReading,
     bytes: &mut &[u8],
     wanted: Next<'_>,
-    shows: &str,
+    case: &str,
 ) {
     let answered = poll_next(stream, reading, bytes);
-    same(rt, next_of(&answered), wanted, shows);
+    assert_same(rt, next_of(&answered), wanted, case);
 }
 
 /// Asserts that polling the stream reads the frames of a row, and then its end.
-fn check_polled<R: Abort + AllocGlobal, K: Reads>(rt: &R, stream: &mut K, row: &Row<'_>) {
-    let (mut bytes, frames, ending, shows) = *row;
+fn check_polled<R: Abort + AllocGlobal, K: ReadsFrames>(rt: &R, stream: &mut K, row: &Row<'_>) {
+    let mut bytes = row.bytes;
     let mut reading = Frame::read_async(rt.alloc());
-    for frame in frames {
-        check_next(rt, stream, &mut reading, &mut bytes, Ok(*frame), shows);
+    for frame in row.frames {
+        check_next(rt, stream, &mut reading, &mut bytes, Ok(*frame), row.case);
     }
-    check_next(rt, stream, &mut reading, &mut bytes, Err(ending), shows);
+    let ending = Err(row.ending);
+    check_next(rt, stream, &mut reading, &mut bytes, ending, row.case);
 }
 
 /// Asserts that polling the stream reads each row.
-fn check_polled_rows<R: Abort + AllocGlobal, K: Reads>(rt: &R, stream: &mut K, rows: &[Row<'_>]) {
+fn check_polled_rows<R: Abort + AllocGlobal, K: ReadsFrames>(
+    rt: &R,
+    stream: &mut K,
+    rows: &[Row<'_>],
+) {
     for row in rows {
         check_polled(rt, stream, row);
     }
@@ -167,82 +179,102 @@ fn check_polled_rows<R: Abort + AllocGlobal, K: Reads>(rt: &R, stream: &mut K, r
 
 /// A stream that the peer opened. A session frame may come first, but not after another frame.
 static OPENED_THERE: [Row<'static>; 16] = [
-    (b"\x00\x01a", &[(0x00, b"a")], Ok(()), "data"),
-    (
-        b"\x01\x01a\x00\x00",
-        &[(0x01, b"a"), (0x00, b"")],
-        Ok(()),
-        "headers and data",
-    ),
-    (
-        b"\x04\x00",
-        &[],
-        Err(ErrorCode::FrameUnexpected),
-        "settings",
-    ),
-    (b"\x40\x41\x04", &[(0x41, b"")], Ok(()), "a session"),
-    (b"\x21\x01a", &[(0x21, b"a")], Ok(()), "exercise"),
-    (
-        b"\x0a\x03\x00\x00\x00\x40\x41\x04",
-        &[(0x41, b"")],
-        Ok(()),
-        "a session after an unknown frame",
-    ),
-    (
-        b"\x00\x00\x40\x41\x04",
-        &[(0x00, b"")],
-        Err(ErrorCode::Frame),
-        "a session after data",
-    ),
-    (
-        b"\x40\x41\x00\x40\x41\x00",
-        &[(0x41, b"")],
-        Err(ErrorCode::Frame),
-        "a second session",
-    ),
-    (
-        b"\x40\x41\x01",
-        &[],
-        Err(ErrorCode::Id),
-        "a number that is none",
-    ),
-    (
-        b"\x00\x50\x01",
-        &[],
-        Err(ErrorCode::ExcessiveLoad),
-        "length 4097",
-    ),
-    (
-        b"\x00\xff\xff\xff\xff\xff\xff\xff\xff",
-        &[],
-        Err(ErrorCode::ExcessiveLoad),
-        "the largest length",
-    ),
-    (
-        b"\xc0\x00\x00\x00\x00\x00\x00\x00\x80\x00\x00\x02ab\x00\x01c",
-        &[(0x00, b"ab"), (0x00, b"c")],
-        Ok(()),
-        "long encodings",
-    ),
-    (
-        b"\x00\x02a",
-        &[],
-        Err(ErrorCode::Frame),
-        "an end in a payload",
-    ),
-    (
-        b"\x00\x00\x40",
-        &[(0x00, b"")],
-        Err(ErrorCode::Frame),
-        "an end in a number",
-    ),
-    (
-        b"\x0a\x02a",
-        &[],
-        Err(ErrorCode::Frame),
-        "an end in an unknown frame",
-    ),
-    (b"\x0a\x02ab\x0a\x00", &[], Ok(()), "unknown frames alone"),
+    Row {
+        case: "data",
+        bytes: b"\x00\x01a",
+        frames: &[(0x00, b"a")],
+        ending: Ok(()),
+    },
+    Row {
+        case: "headers and data",
+        bytes: b"\x01\x01a\x00\x00",
+        frames: &[(0x01, b"a"), (0x00, b"")],
+        ending: Ok(()),
+    },
+    Row {
+        case: "settings",
+        bytes: b"\x04\x00",
+        frames: &[],
+        ending: Err(ErrorCode::FrameUnexpected),
+    },
+    Row {
+        case: "a session",
+        bytes: b"\x40\x41\x04",
+        frames: &[(0x41, b"")],
+        ending: Ok(()),
+    },
+    Row {
+        case: "exercise",
+        bytes: b"\x21\x01a",
+        frames: &[(0x21, b"a")],
+        ending: Ok(()),
+    },
+    Row {
+        case: "a session after an unknown frame",
+        bytes: b"\x0a\x03\x00\x00\x00\x40\x41\x04",
+        frames: &[(0x41, b"")],
+        ending: Ok(()),
+    },
+    Row {
+        case: "a session after data",
+        bytes: b"\x00\x00\x40\x41\x04",
+        frames: &[(0x00, b"")],
+        ending: Err(ErrorCode::Frame),
+    },
+    Row {
+        case: "a second session",
+        bytes: b"\x40\x41\x00\x40\x41\x00",
+        frames: &[(0x41, b"")],
+        ending: Err(ErrorCode::Frame),
+    },
+    Row {
+        case: "a number that is none",
+        bytes: b"\x40\x41\x01",
+        frames: &[],
+        ending: Err(ErrorCode::Id),
+    },
+    Row {
+        case: "length 4097",
+        bytes: b"\x00\x50\x01",
+        frames: &[],
+        ending: Err(ErrorCode::ExcessiveLoad),
+    },
+    Row {
+        case: "the largest length",
+        bytes: b"\x00\xff\xff\xff\xff\xff\xff\xff\xff",
+        frames: &[],
+        ending: Err(ErrorCode::ExcessiveLoad),
+    },
+    Row {
+        case: "long encodings",
+        bytes: b"\xc0\x00\x00\x00\x00\x00\x00\x00\x80\x00\x00\x02ab\x00\x01c",
+        frames: &[(0x00, b"ab"), (0x00, b"c")],
+        ending: Ok(()),
+    },
+    Row {
+        case: "an end in a payload",
+        bytes: b"\x00\x02a",
+        frames: &[],
+        ending: Err(ErrorCode::Frame),
+    },
+    Row {
+        case: "an end in a number",
+        bytes: b"\x00\x00\x40",
+        frames: &[(0x00, b"")],
+        ending: Err(ErrorCode::Frame),
+    },
+    Row {
+        case: "an end in an unknown frame",
+        bytes: b"\x0a\x02a",
+        frames: &[],
+        ending: Err(ErrorCode::Frame),
+    },
+    Row {
+        case: "unknown frames alone",
+        bytes: b"\x0a\x02ab\x0a\x00",
+        frames: &[],
+        ending: Ok(()),
+    },
 ];
 
 /// Returns the rows of `OPENED_THERE`. Each use of a table is proved, so the tests share this
@@ -265,31 +297,36 @@ fn a_stream_opened_there_is_polled_so(rt: HostRuntime) {
 
 /// A bidirectional stream that this end opened, or that already belongs to a session.
 static OPENED_HERE: [Row<'static>; 5] = [
-    (
-        b"\x01\x01a\x00\x01b\x21\x01c",
-        &[(0x01, b"a"), (0x00, b"b"), (0x21, b"c")],
-        Ok(()),
-        "headers, data and exercise",
-    ),
-    (
-        b"\x04\x00",
-        &[],
-        Err(ErrorCode::FrameUnexpected),
-        "settings",
-    ),
-    (
-        b"\x40\x41\x04",
-        &[],
-        Err(ErrorCode::FrameUnexpected),
-        "a session",
-    ),
-    (b"\x40\x41\x01", &[], Err(ErrorCode::Id), "no session"),
-    (
-        b"\x00\x50\x01",
-        &[],
-        Err(ErrorCode::ExcessiveLoad),
-        "length 4097",
-    ),
+    Row {
+        case: "headers, data and exercise",
+        bytes: b"\x01\x01a\x00\x01b\x21\x01c",
+        frames: &[(0x01, b"a"), (0x00, b"b"), (0x21, b"c")],
+        ending: Ok(()),
+    },
+    Row {
+        case: "settings",
+        bytes: b"\x04\x00",
+        frames: &[],
+        ending: Err(ErrorCode::FrameUnexpected),
+    },
+    Row {
+        case: "a session",
+        bytes: b"\x40\x41\x04",
+        frames: &[],
+        ending: Err(ErrorCode::FrameUnexpected),
+    },
+    Row {
+        case: "no session",
+        bytes: b"\x40\x41\x01",
+        frames: &[],
+        ending: Err(ErrorCode::Id),
+    },
+    Row {
+        case: "length 4097",
+        bytes: b"\x00\x50\x01",
+        frames: &[],
+        ending: Err(ErrorCode::ExcessiveLoad),
+    },
 ];
 
 /// Returns the rows of `OPENED_HERE`, for each test that uses them.
@@ -311,27 +348,42 @@ fn streams_opened_here_are_polled_so(rt: HostRuntime) {
 
 /// A control stream that the peer opened, after its type.
 static CONTROL: [Row<'static>; 6] = [
-    (
-        b"\x04\x02\x33\x01\x07\x01\x00\x21\x00",
-        &[(0x04, b"\x33\x01"), (0x21, b"")],
-        Ok(()),
-        "settings, an unknown frame and exercise",
-    ),
-    (b"\x00\x00", &[], Err(ErrorCode::FrameUnexpected), "data"),
-    (b"\x01\x00", &[], Err(ErrorCode::FrameUnexpected), "headers"),
-    (
-        b"\x40\x41\x04",
-        &[],
-        Err(ErrorCode::FrameUnexpected),
-        "a session",
-    ),
-    (b"\x40\x41\x01", &[], Err(ErrorCode::Id), "no session"),
-    (
-        b"\x04\x50\x01",
-        &[],
-        Err(ErrorCode::ExcessiveLoad),
-        "length 4097",
-    ),
+    Row {
+        case: "settings, an unknown frame and exercise",
+        bytes: b"\x04\x02\x33\x01\x07\x01\x00\x21\x00",
+        frames: &[(0x04, b"\x33\x01"), (0x21, b"")],
+        ending: Ok(()),
+    },
+    Row {
+        case: "data",
+        bytes: b"\x00\x00",
+        frames: &[],
+        ending: Err(ErrorCode::FrameUnexpected),
+    },
+    Row {
+        case: "headers",
+        bytes: b"\x01\x00",
+        frames: &[],
+        ending: Err(ErrorCode::FrameUnexpected),
+    },
+    Row {
+        case: "a session",
+        bytes: b"\x40\x41\x04",
+        frames: &[],
+        ending: Err(ErrorCode::FrameUnexpected),
+    },
+    Row {
+        case: "no session",
+        bytes: b"\x40\x41\x01",
+        frames: &[],
+        ending: Err(ErrorCode::Id),
+    },
+    Row {
+        case: "length 4097",
+        bytes: b"\x04\x50\x01",
+        frames: &[],
+        ending: Err(ErrorCode::ExcessiveLoad),
+    },
 ];
 
 /// Returns the rows of `CONTROL`, for each test that uses them.
@@ -368,7 +420,12 @@ fn long_frames_are_read_however_cut(rt: HostRuntime) {
     let bytes = long_bytes(&rt, rt.alloc());
     let payload = bytes.get(5006..9102).expect(&rt, "a payload");
     let frames = [(0x00, payload), (0x01, b"a".as_slice())];
-    let row: Row<'_> = (&bytes, &frames, Ok(()), "unknown, data, headers");
+    let row = Row {
+        case: "unknown, data, headers",
+        bytes: &bytes,
+        frames: &frames,
+        ending: Ok(()),
+    };
     for size in &SIZES {
         check_cut(&rt, StreamRole::BiRemote, &row, *size);
     }

@@ -1,5 +1,5 @@
 //! Single calls of a cursor over bytes, and the rules of each kind of stream.
-use crate::same::same;
+use crate::same::assert_same;
 use std::process::Abort;
 use wtransport_proto::error::ErrorCode;
 use wtransport_proto::frame::FrameKind;
@@ -34,119 +34,137 @@ fn number_of(session: Option<SessionId>) -> Option<u64> {
     Some(session?.into_u64())
 }
 
-/// Whether no frame was read and how many bytes are left to skip before a call, its bytes, its
-/// result, the same two values after it, and what the row shows. The peer opened the stream.
-type StepRow = ((bool, u64), &'static [u8], Step, (bool, u64), &'static str);
+/// One call for a stream that the peer opened.
+struct StepRow {
+    case: &'static str,
+    /// Whether no frame was read, and how many bytes are left to skip, before the call.
+    before: (bool, u64),
+    bytes: &'static [u8],
+    step: Step,
+    /// The same two values after it.
+    after: (bool, u64),
+}
 
 static STEPS: [StepRow; 15] = [
-    ((true, 0), b"", Ok((None, 0)), (true, 0), "no byte"),
-    ((true, 0), b"\x00", Ok((None, 0)), (true, 0), "a type"),
-    (
-        (true, 0),
-        b"\x00\x02a",
-        Ok((None, 0)),
-        (true, 0),
-        "a cut payload is left",
-    ),
-    (
-        (true, 0),
-        b"\x0a\x00\x00",
-        Ok((None, 2)),
-        (true, 0),
-        "an unknown frame is consumed",
-    ),
-    (
-        (true, 0),
-        b"\x0a\x40",
-        Ok((None, 0)),
-        (true, 0),
-        "a cut head is left",
-    ),
-    (
-        (true, 0),
-        b"\x0a\x05abc",
-        Ok((None, 5)),
-        (true, 2),
-        "a cut unknown frame is consumed",
-    ),
-    (
-        (true, 0),
-        b"\x0a\xff\xff\xff\xff\xff\xff\xff\xff",
-        Ok((None, 9)),
-        (true, 0x3fff_ffff_ffff_ffff),
-        "the longest unknown frame",
-    ),
-    (
-        (true, 5),
-        b"abc",
-        Ok((None, 3)),
-        (true, 2),
-        "bytes that are due",
-    ),
-    (
-        (true, 3),
-        b"abc",
-        Ok((None, 3)),
-        (true, 0),
-        "the last bytes that are due",
-    ),
-    (
-        (true, 2),
-        b"ab\x40\x41\x04cd",
-        Ok((Some((0x41, Some(4), 5)), 5)),
-        (false, 0),
-        "a session, and none of its stream's bytes",
-    ),
-    (
-        (false, 0),
-        b"\x0a\x00\x00\x02ab\x00",
-        Ok((Some((0x00, None, 4)), 6)),
-        (false, 0),
-        "data",
-    ),
-    (
-        (false, 1),
-        b"a\x40\x41\x04",
-        Err(ErrorCode::Frame),
-        (false, 1),
-        "a late session",
-    ),
-    (
-        (true, 0),
-        b"\x04\x00",
-        Err(ErrorCode::FrameUnexpected),
-        (true, 0),
-        "a refused frame does not count",
-    ),
-    (
-        (true, 0),
-        b"\x40\x41\x02",
-        Err(ErrorCode::Id),
-        (true, 0),
-        "no session",
-    ),
-    (
-        (true, 1),
-        b"a\x00\x50\x01",
-        Err(ErrorCode::ExcessiveLoad),
-        (true, 1),
-        "length 4097",
-    ),
+    StepRow {
+        case: "no byte",
+        before: (true, 0),
+        bytes: b"",
+        step: Ok((None, 0)),
+        after: (true, 0),
+    },
+    StepRow {
+        case: "a type",
+        before: (true, 0),
+        bytes: b"\x00",
+        step: Ok((None, 0)),
+        after: (true, 0),
+    },
+    StepRow {
+        case: "a cut payload is left",
+        before: (true, 0),
+        bytes: b"\x00\x02a",
+        step: Ok((None, 0)),
+        after: (true, 0),
+    },
+    StepRow {
+        case: "an unknown frame is consumed",
+        before: (true, 0),
+        bytes: b"\x0a\x00\x00",
+        step: Ok((None, 2)),
+        after: (true, 0),
+    },
+    StepRow {
+        case: "a cut head is left",
+        before: (true, 0),
+        bytes: b"\x0a\x40",
+        step: Ok((None, 0)),
+        after: (true, 0),
+    },
+    StepRow {
+        case: "a cut unknown frame is consumed",
+        before: (true, 0),
+        bytes: b"\x0a\x05abc",
+        step: Ok((None, 5)),
+        after: (true, 2),
+    },
+    StepRow {
+        case: "the longest unknown frame",
+        before: (true, 0),
+        bytes: b"\x0a\xff\xff\xff\xff\xff\xff\xff\xff",
+        step: Ok((None, 9)),
+        after: (true, 0x3fff_ffff_ffff_ffff),
+    },
+    StepRow {
+        case: "bytes that are due",
+        before: (true, 5),
+        bytes: b"abc",
+        step: Ok((None, 3)),
+        after: (true, 2),
+    },
+    StepRow {
+        case: "the last bytes that are due",
+        before: (true, 3),
+        bytes: b"abc",
+        step: Ok((None, 3)),
+        after: (true, 0),
+    },
+    StepRow {
+        case: "a session, and none of its stream's bytes",
+        before: (true, 2),
+        bytes: b"ab\x40\x41\x04cd",
+        step: Ok((Some((0x41, Some(4), 5)), 5)),
+        after: (false, 0),
+    },
+    StepRow {
+        case: "data",
+        before: (false, 0),
+        bytes: b"\x0a\x00\x00\x02ab\x00",
+        step: Ok((Some((0x00, None, 4)), 6)),
+        after: (false, 0),
+    },
+    StepRow {
+        case: "a late session",
+        before: (false, 1),
+        bytes: b"a\x40\x41\x04",
+        step: Err(ErrorCode::Frame),
+        after: (false, 1),
+    },
+    StepRow {
+        case: "a refused frame does not count",
+        before: (true, 0),
+        bytes: b"\x04\x00",
+        step: Err(ErrorCode::FrameUnexpected),
+        after: (true, 0),
+    },
+    StepRow {
+        case: "no session",
+        before: (true, 0),
+        bytes: b"\x40\x41\x02",
+        step: Err(ErrorCode::Id),
+        after: (true, 0),
+    },
+    StepRow {
+        case: "length 4097",
+        before: (true, 1),
+        bytes: b"a\x00\x50\x01",
+        step: Err(ErrorCode::ExcessiveLoad),
+        after: (true, 1),
+    },
 ];
 
 /// Asserts the result of one call by its row.
 fn check_step<R: Abort>(rt: &R, row: &StepRow) {
-    let (before, bytes, answer, after, shows) = *row;
     let role = StreamRole::BiRemote;
-    let (first, skip_remaining) = before;
+    let (first, skip_remaining) = row.before;
     let mut cursor = FrameCursor {
         role,
         first,
         skip_remaining,
     };
-    same(rt, step_of(cursor.next(bytes)), answer, shows);
-    let (first, skip_remaining) = after;
-    same(
+    assert_same(rt, step_of(cursor.next(row.bytes)), row.step, row.case);
+    let (first, skip_remaining) = row.after;
+    assert_same(
         rt,
         cursor,
         FrameCursor {
@@ -154,7 +172,7 @@ fn check_step<R: Abort>(rt: &R, row: &StepRow) {
             first,
             skip_remaining,
         },
-        shows,
+        row.case,
     );
 }
 
@@ -165,27 +183,73 @@ fn one_call_answers_by_the_first_frame(rt: HostRuntime) {
     }
 }
 
-/// The type of a frame, whether it is the first, and its error on a stream that the peer opened,
-/// on a stream that this end opened, and on a control stream.
-type RuleRow = (
-    u32,
-    bool,
-    Option<ErrorCode>,
-    Option<ErrorCode>,
-    Option<ErrorCode>,
-);
+/// The errors of a frame by the kind of stream.
+struct RuleRow {
+    /// The type of the frame.
+    id: u32,
+    /// Whether it is the first.
+    first: bool,
+    /// The error on a stream that the peer opened.
+    remote: Option<ErrorCode>,
+    /// The error on a stream that this end opened.
+    local: Option<ErrorCode>,
+    /// The error on a control stream.
+    control: Option<ErrorCode>,
+}
 
 const UNEXPECTED: Option<ErrorCode> = Some(ErrorCode::FrameUnexpected);
 
 /// RFC 9114, table 1, and the WEBTRANSPORT_STREAM frame.
 static RULES: [RuleRow; 7] = [
-    (0x00, true, None, None, UNEXPECTED),
-    (0x01, true, None, None, UNEXPECTED),
-    (0x04, true, UNEXPECTED, UNEXPECTED, None),
-    (0x41, true, None, UNEXPECTED, UNEXPECTED),
-    (0x41, false, Some(ErrorCode::Frame), UNEXPECTED, UNEXPECTED),
-    (0x21, true, None, None, None),
-    (0x21, false, None, None, None),
+    RuleRow {
+        id: 0x00,
+        first: true,
+        remote: None,
+        local: None,
+        control: UNEXPECTED,
+    },
+    RuleRow {
+        id: 0x01,
+        first: true,
+        remote: None,
+        local: None,
+        control: UNEXPECTED,
+    },
+    RuleRow {
+        id: 0x04,
+        first: true,
+        remote: UNEXPECTED,
+        local: UNEXPECTED,
+        control: None,
+    },
+    RuleRow {
+        id: 0x41,
+        first: true,
+        remote: None,
+        local: UNEXPECTED,
+        control: UNEXPECTED,
+    },
+    RuleRow {
+        id: 0x41,
+        first: false,
+        remote: Some(ErrorCode::Frame),
+        local: UNEXPECTED,
+        control: UNEXPECTED,
+    },
+    RuleRow {
+        id: 0x21,
+        first: true,
+        remote: None,
+        local: None,
+        control: None,
+    },
+    RuleRow {
+        id: 0x21,
+        first: false,
+        remote: None,
+        local: None,
+        control: None,
+    },
 ];
 
 /// Returns the error for a frame of this type, or a sentinel that matches no row if the type is
@@ -199,14 +263,14 @@ fn fault(role: StreamRole, first: bool, id: u32) -> Option<ErrorCode> {
 
 #[test]
 fn each_stream_has_its_rule(rt: HostRuntime) {
-    for (id, first, remote, local, control) in &RULES {
-        let came = fault(StreamRole::BiRemote, *first, *id);
-        same(&rt, came, *remote, "opened by the peer");
-        let came = fault(StreamRole::BiLocal, *first, *id);
-        same(&rt, came, *local, "opened here");
-        let came = fault(StreamRole::Session, *first, *id);
-        same(&rt, came, *local, "of a session");
-        let came = fault(StreamRole::UniRemote, *first, *id);
-        same(&rt, came, *control, "a control stream");
+    for row in &RULES {
+        let came = fault(StreamRole::BiRemote, row.first, row.id);
+        assert_same(&rt, came, row.remote, "opened by the peer");
+        let came = fault(StreamRole::BiLocal, row.first, row.id);
+        assert_same(&rt, came, row.local, "opened here");
+        let came = fault(StreamRole::Session, row.first, row.id);
+        assert_same(&rt, came, row.local, "of a session");
+        let came = fault(StreamRole::UniRemote, row.first, row.id);
+        assert_same(&rt, came, row.control, "a control stream");
     }
 }

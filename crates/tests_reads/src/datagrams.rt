@@ -1,5 +1,5 @@
 //! Datagrams.
-use crate::same::same;
+use crate::same::assert_same;
 use std::process::Abort;
 use wtransport_proto::bytes::EndOfBuffer;
 use wtransport_proto::datagram::Datagram;
@@ -10,10 +10,10 @@ use wtransport_proto::ids::QStreamId;
 fn check_parts<R: Abort>(rt: &R, datagram: &Datagram<'_>, payload: &[u8], size: usize) {
     let number = datagram.qstream_id();
     let came = (number, datagram.payload());
-    same(rt, came, (QStreamId::MAX, payload), size);
+    assert_same(rt, came, (QStreamId::MAX, payload), size);
     let header = Datagram::header_size(number);
     let came = (header, datagram.payload().len(), datagram.write_size());
-    same(rt, came, (8, payload.len(), size), size);
+    assert_same(rt, came, (8, payload.len(), size), size);
 }
 
 /// Asserts the result of writing a datagram, and the bytes then in the buffer.
@@ -25,7 +25,7 @@ fn check_write<R: Abort>(
     word: &str,
 ) {
     let outcome = datagram.write(buffer);
-    same(rt, (outcome, &*buffer), wanted, word);
+    assert_same(rt, (outcome, &*buffer), wanted, word);
 }
 
 /// The largest quarter stream ID and the payload `x`.
@@ -47,7 +47,7 @@ fn a_long_payload_is_read_back(rt: HostRuntime) {
     let datagram = Datagram::new(QStreamId::MAX, LONG);
     check_parts(&rt, &datagram, LONG, 33);
     let mut buffer = [0; 75];
-    same(&rt, datagram.write(&mut buffer), Ok(33), "what is written");
+    assert_same(&rt, datagram.write(&mut buffer), Ok(33), "what is written");
     let read = Datagram::read(buffer.get(..33).unwrap_or(&[])).expect(&rt, "a datagram");
     check_parts(&rt, &read, LONG, 33);
 }
@@ -62,7 +62,7 @@ fn one_byte_too_little_room_leaves_the_buffer(rt: HostRuntime) {
     check_write(&rt, &short, &mut [7; 8], wanted, "8 bytes for 9");
 }
 
-/// Bytes that are not a datagram, and what the row shows.
+/// Bytes that are not a datagram, and the case.
 static FAULTS: [(&[u8], &str); 3] = [
     (&[], "nothing"),
     (&[0xcf], "a cut number"),
@@ -80,6 +80,6 @@ fn fault(bytes: &[u8]) -> Option<ErrorCode> {
 #[test]
 fn faults_are_answered(rt: HostRuntime) {
     for (bytes, word) in &FAULTS {
-        same(&rt, fault(bytes), Some(ErrorCode::Datagram), word);
+        assert_same(&rt, fault(bytes), Some(ErrorCode::Datagram), word);
     }
 }

@@ -1,7 +1,7 @@
 //! Driving streams.
 use crate::answers::{number_and_payload, pad};
 use crate::opened::{control, of_session, opened_here, opened_there};
-use crate::same::same;
+use crate::same::assert_same;
 use std::alloc::Global;
 use std::process::Abort;
 use test_io::{End, OneByteSource};
@@ -33,9 +33,9 @@ fn drive_again<K: ReadsFrames, S: AsyncRead>(
 
 /// Asserts the frames in the output, by type and payload.
 fn check_frames<R: Abort>(rt: &R, out: &Vec<FrameOwned>, frames: &[(u64, &[u8])]) {
-    same(rt, out.len(), frames.len(), "frames put out");
+    assert_same(rt, out.len(), frames.len(), "frames put out");
     for (place, wanted) in frames.iter().enumerate() {
-        same(rt, frame_at(out, place), Some(*wanted), place);
+        assert_same(rt, frame_at(out, place), Some(*wanted), place);
     }
 }
 
@@ -88,17 +88,24 @@ impl Driving {
     }
 
     /// Asserts the result of one drive. Frames are counted from the start of the stream.
-    fn check<R: Abort>(&mut self, rt: &R, bytes: &mut &[u8], part: &Part, shows: &str) {
-        let (polls, end, count, left) = part;
-        let came = self.on(bytes, *polls);
+    fn check<R: Abort>(&mut self, rt: &R, bytes: &mut &[u8], part: &Part, case: &str) {
+        let came = self.on(bytes, part.polls);
         let came = (&came, self.out.len(), bytes.len());
-        same(rt, came, (end, *count, *left), shows);
+        assert_same(rt, came, (&part.end, part.count, part.left), case);
     }
 }
 
-/// The number of polls, the result of the drive, the number of frames then in the output, and the
-/// number of bytes left.
-type Part = (u32, Driven, usize, usize);
+/// One drive over part of a stream.
+struct Part {
+    /// The most polls.
+    polls: u32,
+    /// The result of the drive.
+    end: Driven,
+    /// The number of frames that are then in the output.
+    count: usize,
+    /// The number of bytes that are then left.
+    left: usize,
+}
 
 const TWO: &[u8] = b"\x00\x01a\x00\x01b";
 
@@ -109,7 +116,7 @@ static TWO_FRAMES: [(u64, &[u8]); 2] = [(0x00, b"a"), (0x00, b"b")];
 fn drive_frames<R: Abort>(rt: &R, driving: &mut Driving, source: &mut &[u8]) -> Driven {
     match driving.once(source) {
         Driven::NoMemory => {
-            same(rt, driving.out.len() < 2, true, "one is not put out");
+            assert_same(rt, driving.out.len() < 2, true, "one is not put out");
             driving.once(source)
         }
         end => end,
@@ -121,7 +128,7 @@ fn refused_memory_loses_no_frame(rt: HostRuntime) {
     let mut driving = Driving::new(rt.alloc());
     let mut source = TWO;
     let end = drive_frames(&rt, &mut driving, &mut source);
-    same(&rt, end, FIN, "the end");
+    assert_same(&rt, end, FIN, "the end");
     check_frames(&rt, &driving.out, &TWO_FRAMES);
 }
 
@@ -142,9 +149,24 @@ fn check_parts<R: Abort + AllocGlobal>(
 }
 
 static ONE_BY_ONE: [Part; 3] = [
-    (1, Driven::Spent, 1, 3),
-    (1, Driven::Spent, 2, 0),
-    (1, FIN, 2, 0),
+    Part {
+        polls: 1,
+        end: Driven::Spent,
+        count: 1,
+        left: 3,
+    },
+    Part {
+        polls: 1,
+        end: Driven::Spent,
+        count: 2,
+        left: 0,
+    },
+    Part {
+        polls: 1,
+        end: FIN,
+        count: 2,
+        left: 0,
+    },
 ];
 
 #[test]
@@ -152,9 +174,17 @@ fn polls_are_spent_one_by_one(rt: HostRuntime) {
     check_parts(&rt, TWO, &ONE_BY_ONE, &TWO_FRAMES);
 }
 
+/// The drive over a cut unknown frame.
+const CUT_AT_ONCE: Part = Part {
+    polls: 2,
+    end: CUT,
+    count: 0,
+    left: 0,
+};
+
 #[test]
 fn a_cut_unknown_frame_ends_it(rt: HostRuntime) {
-    check_parts(&rt, b"\x0a\x0a\x00\x00", &[(2, CUT, 0, 0)], &[]);
+    check_parts(&rt, b"\x0a\x0a\x00\x00", &[CUT_AT_ONCE], &[]);
 }
 
 /// Asserts the results of the drives over an unknown frame of 8192 bytes and an empty DATA frame,
@@ -165,19 +195,47 @@ fn check_unknown<R: Abort + AllocGlobal>(rt: &R, parts: &[Part]) {
 }
 
 static IN_PARTS: [Part; 4] = [
-    (0, Driven::Spent, 0, 8197),
-    (1, Driven::Spent, 0, 4098),
-    (1, Driven::Spent, 0, 2),
-    (1, Driven::Spent, 1, 0),
+    Part {
+        polls: 0,
+        end: Driven::Spent,
+        count: 0,
+        left: 8197,
+    },
+    Part {
+        polls: 1,
+        end: Driven::Spent,
+        count: 0,
+        left: 4098,
+    },
+    Part {
+        polls: 1,
+        end: Driven::Spent,
+        count: 0,
+        left: 2,
+    },
+    Part {
+        polls: 1,
+        end: Driven::Spent,
+        count: 1,
+        left: 0,
+    },
 ];
+
+/// The drive over all parts.
+const ALL_AT_ONCE: Part = Part {
+    polls: 3,
+    end: Driven::Spent,
+    count: 1,
+    left: 0,
+};
 
 #[test]
 fn each_part_of_an_unknown_frame_is_a_poll(rt: HostRuntime) {
     check_unknown(&rt, &IN_PARTS);
-    check_unknown(&rt, &[(3, Driven::Spent, 1, 0)]);
+    check_unknown(&rt, &[ALL_AT_ONCE]);
 }
 
-/// The result of a drive, and what the row shows.
+/// The result of a drive, and the case.
 type EndRow = (Driven, &'static str);
 
 /// Asserts the result of a drive by its row.
@@ -187,8 +245,8 @@ fn check_end<R: Abort>(
     source: &mut OneByteSource<'_>,
     row: &EndRow,
 ) {
-    let (end, shows) = row;
-    same(rt, &driving.on(source, 10), end, shows);
+    let (end, case) = row;
+    assert_same(rt, &driving.on(source, 10), end, case);
 }
 
 static WAITING: EndRow = (Driven::Waiting, "a wait");
@@ -214,7 +272,12 @@ static CUT_SOURCE: [EndRow; 3] = [
 ];
 
 /// The drive over a second source with one more byte.
-static SECOND: Part = (10, FIN, 1, 0);
+static SECOND: Part = Part {
+    polls: 10,
+    end: FIN,
+    count: 1,
+    left: 0,
+};
 
 #[test]
 fn a_drive_goes_on_over_a_second_source(rt: HostRuntime) {
@@ -228,38 +291,37 @@ fn a_drive_goes_on_over_a_second_source(rt: HostRuntime) {
     check_frames(&rt, &driving.out, &[(0x00, b"a")]);
 }
 
-/// The bytes of a stream, the frames in the output, the result of the drive, and the name of the
-/// stream.
-type Row = (
-    &'static [u8],
-    &'static [(u64, &'static [u8])],
-    Driven,
-    &'static str,
-);
+/// A stream that is driven.
+struct Row {
+    name: &'static str,
+    bytes: &'static [u8],
+    /// The frames in the output.
+    frames: &'static [(u64, &'static [u8])],
+    /// The result of the drive.
+    end: Driven,
+}
 
 /// Asserts that driving the stream over the bytes of a row outputs its frames and returns its
 /// result.
 fn check_driven<R: Abort + AllocGlobal, K: ReadsFrames>(rt: &R, stream: &mut K, row: &Row) {
-    let (bytes, frames, wanted, word) = row;
     let mut reading = Frame::read_async(rt.alloc());
     let mut out = Vec::new(rt.alloc());
-    let mut source = *bytes;
+    let mut source = row.bytes;
     assert!(rt; stream.can_read());
     let end = drive_again(stream, &mut reading, &mut source, &mut out, 10);
-    same(rt, &end, wanted, word);
-    check_frames(rt, &out, frames);
+    assert_same(rt, &end, &row.end, row.name);
+    check_frames(rt, &out, row.frames);
 }
 
 /// Read from a buffer, the stream gives the first of the row's frames, or none.
 fn check_buffered<R: Abort, K: ReadsFrames>(rt: &R, stream: &mut K, row: &Row) {
-    let (bytes, frames, _, word) = row;
     assert!(rt; stream.can_read());
-    let first = match stream.read_frame_from_buffer(&mut BufferReader::new(bytes)) {
+    let first = match stream.read_frame_from_buffer(&mut BufferReader::new(row.bytes)) {
         Ok(Some(frame)) => Some(frame),
         Ok(None) | Err(_) => None,
     };
     let came = first.as_ref().map(number_and_payload);
-    same(rt, came, frames.first().copied(), word);
+    assert_same(rt, came, row.frames.first().copied(), row.name);
 }
 
 /// The result for a frame that the stream does not permit.
@@ -268,23 +330,33 @@ const UNEXPECTED: Driven = Driven::Ended(IoReadError::H3(ErrorCode::FrameUnexpec
 /// Two session frames.
 const SESSIONS: &[u8] = b"\x40\x41\x00\x40\x41\x00";
 
-static THERE: Row = (SESSIONS, &[(0x41, b"")], CUT, "opened there");
+static THERE: Row = Row {
+    name: "opened there",
+    bytes: SESSIONS,
+    frames: &[(0x41, b"")],
+    end: CUT,
+};
 
-static HERE: Row = (SESSIONS, &[], UNEXPECTED, "opened here");
+static HERE: Row = Row {
+    name: "opened here",
+    bytes: SESSIONS,
+    frames: &[],
+    end: UNEXPECTED,
+};
 
-static SESSION: Row = (
-    b"\x01\x01a\x04\x00",
-    &[(0x01, b"a")],
-    UNEXPECTED,
-    "of a session",
-);
+static SESSION: Row = Row {
+    name: "of a session",
+    bytes: b"\x01\x01a\x04\x00",
+    frames: &[(0x01, b"a")],
+    end: UNEXPECTED,
+};
 
-static CONTROL: Row = (
-    b"\x04\x00\x07\x01\x00\x04\x00",
-    &[(0x04, b""), (0x04, b"")],
-    FIN,
-    "control",
-);
+static CONTROL: Row = Row {
+    name: "control",
+    bytes: b"\x04\x00\x07\x01\x00\x04\x00",
+    frames: &[(0x04, b""), (0x04, b"")],
+    end: FIN,
+};
 
 #[test]
 fn each_reading_state_is_driven(rt: HostRuntime) {

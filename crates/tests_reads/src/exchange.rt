@@ -1,6 +1,6 @@
 //! Sending a header map over a stream, completely into a vector, and reading it back from the
 //! same bytes.
-use crate::same::same;
+use crate::same::assert_same;
 use std::alloc::{AllocError, Global};
 use std::process::Abort;
 use wtransport_proto::bytes::IoReadError;
@@ -107,7 +107,7 @@ fn travel_again<K: ReadsFrames>(
         return way;
     }
     let is_front = FRAME.starts_with(sink.as_slice());
-    same(rt, is_front, true, "what was sent before");
+    assert_same(rt, is_front, true, "what was sent before");
     sink.clear();
     *source = BYTES;
     travel(alloc, headers, sink, stream, source, 2)
@@ -115,9 +115,9 @@ fn travel_again<K: ReadsFrames>(
 
 /// Asserts that the map contains the pairs.
 fn check_back<R: Abort>(rt: &R, back: &Headers, word: &str) {
-    same(rt, back.as_ref().len(), 3, word);
+    assert_same(rt, back.as_ref().len(), 3, word);
     let came = (back.get("b"), back.get(":z"), back.get("a"));
-    same(rt, came, (Some("1"), Some("2"), Some("3")), word);
+    assert_same(rt, came, (Some("1"), Some("2"), Some("3")), word);
 }
 
 /// Asserts that the map is sent completely into a vector and is read back from the bytes.
@@ -133,7 +133,7 @@ fn travels<K: ReadsFrames>(
     let mut sink = Vec::new(alloc);
     let mut source = BYTES;
     let way = travel_again(rt, alloc, headers, &mut sink, stream, &mut source);
-    same(rt, (sink.as_slice(), source), (FRAME, REST), word);
+    assert_same(rt, (sink.as_slice(), source), (FRAME, REST), word);
     check_back(rt, &way.expect(rt, "a map"), word);
 }
 
@@ -158,8 +158,13 @@ fn a_map_comes_back(rt: HostRuntime) {
 fn check_waiting<R: Abort>(rt: &R, error: Option<ExchangeError>) {
     let waiting = Some(ExchangeError::Send(SendError::Waiting));
     match error {
-        Some(ExchangeError::Frame(error)) => same(rt, error, GenerateError::Memory, "the frame"),
-        error => same(rt, error, waiting, "the way"),
+        Some(ExchangeError::Frame(error)) => assert_same(
+            rt,
+            error,
+            GenerateError::Memory,
+            "the frame",
+        ),
+        error => assert_same(rt, error, waiting, "the way"),
     }
 }
 
@@ -171,7 +176,7 @@ fn no_turn_touches_nothing(rt: HostRuntime) {
     let mut source = BYTES;
     let way = travel(rt.alloc(), &headers, &mut sink, &mut stream, &mut source, 0);
     check_waiting(&rt, way.err());
-    same(&rt, (sink.is_empty(), source), (true, BYTES), "both ends");
+    assert_same(&rt, (sink.is_empty(), source), (true, BYTES), "both ends");
 }
 
 /// Asserts the error of reading a map from bytes that need no allocation, on a stream that the
@@ -186,7 +191,7 @@ fn check_refusal<R: Abort + AllocGlobal>(
     let mut stream = StreamBiRemoteQuic::accept_bi().upgrade();
     let mut source = bytes;
     let outcome = exchange::receive(rt.alloc(), &mut stream, &mut source, turns);
-    same(rt, outcome.err(), Some(wanted), word);
+    assert_same(rt, outcome.err(), Some(wanted), word);
 }
 
 #[test]

@@ -1,5 +1,5 @@
 //! The error codes for errors of streams and of exchanges.
-use crate::same::same;
+use crate::same::assert_same;
 use std::process::Abort;
 use wtransport_proto::bytes::{IoReadError, IoWriteError};
 use wtransport_proto::error::{ErrorCode, Refused};
@@ -23,9 +23,9 @@ fn refused(code: ErrorCode) -> ReceiveError {
 }
 
 /// Asserts the error code of a receive error, and that the exchange reports the same code.
-fn check<R: Abort>(rt: &R, error: ReceiveError, code: Option<ErrorCode>, shows: &str) {
-    same(rt, error.code(), code, shows);
-    same(rt, ExchangeError::Receive(error).code(), code, shows);
+fn check<R: Abort>(rt: &R, error: ReceiveError, code: Option<ErrorCode>, case: &str) {
+    assert_same(rt, error.code(), code, case);
+    assert_same(rt, ExchangeError::Receive(error).code(), code, case);
 }
 
 /// RFC 9114, sections 4.1 and 7.1; RFC 9204, section 6.
@@ -50,20 +50,20 @@ fn errors_of_exchanges_have_codes(rt: HostRuntime) {
 #[test]
 fn exchanges_that_end_before_have_no_codes(rt: HostRuntime) {
     let long = ExchangeError::Frame(GenerateError::PayloadTooLong);
-    same(&rt, long.code(), None, "too long");
+    assert_same(&rt, long.code(), None, "too long");
     let stopped = ExchangeError::Send(SendError::IO(IoWriteError::Stopped));
-    same(&rt, stopped.code(), None, "stopped");
+    assert_same(&rt, stopped.code(), None, "stopped");
 }
 
 #[test]
 fn faults_of_streams_have_codes(rt: HostRuntime) {
     let code = Some(ErrorCode::Id);
-    same(
+    assert_same(
         &rt,
         stream::IoReadError::H3(ErrorCode::Id).code(),
         code,
         "a rule",
     );
     let reset = stream::IoReadError::IO(IoReadError::Reset);
-    same(&rt, reset.code(), None, "a source");
+    assert_same(&rt, reset.code(), None, "a source");
 }

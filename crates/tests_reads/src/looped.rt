@@ -3,7 +3,7 @@ ghost use Rattle.wtransport_proto.specs.Streams.{CanRead};
 
 use crate::answers::{Answer, PollAnswer, check_answer};
 use crate::opened::control;
-use crate::same::same;
+use crate::same::assert_same;
 use std::alloc::Global;
 use std::process::Abort;
 use test_io::{End, OneByteSource};
@@ -63,5 +63,5 @@ fn settings_are_read_in_a_loop(rt: HostRuntime) {
     let mut source = OneByteSource::new(&[0x04, 0x02, 0x33, 0x01, 0x0d, 0x00], End::Fin);
     let came = read_one(&mut receiving, &mut source);
     check_answer(&rt, &came, &SETTINGS, "settings", 0);
-    same(&rt, source.rest(), REST, "bytes left");
+    assert_same(&rt, source.rest(), REST, "bytes left");
 }

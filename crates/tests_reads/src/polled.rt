@@ -1,8 +1,8 @@
 //! Reading frames from streams poll by poll.
 use crate::answers::{Answer, CUT, ENDS, FIN, PollAnswer, check_answer, pad};
 use crate::opened::opened_there;
-use crate::reads::{Reads, check_poll, check_polls, check_source};
-use crate::same::same;
+use crate::reads::{check_poll, check_polls, check_source, poll};
+use crate::same::assert_same;
 use std::alloc::Global;
 use std::process::Abort;
 use test_io::{Answers, End, OneByteSource};
@@ -12,85 +12,108 @@ use wtransport_proto::frame::{Frame, FrameReading};
 use wtransport_proto::stream::IoReadError;
 use wtransport_proto::stream::biremote::StreamBiRemoteH3;
 
-/// The bytes of a source and the steps in which it returns them, the results of the polls, and
-/// what the row shows.
-type Row = (
-    &'static [u8],
-    &'static [ReadStep],
-    &'static [Answer<'static>],
-    &'static str,
-);
+/// A source that answers by steps.
+struct Row {
+    case: &'static str,
+    bytes: &'static [u8],
+    /// The steps in which the bytes arrive.
+    steps: &'static [ReadStep],
+    /// The results of the polls.
+    answers: &'static [Answer<'static>],
+}
 
 static ROWS: [Row; 9] = [
-    (b"", &[], &[FIN], "nothing"),
-    (b"\x00", &[], &[CUT], "a cut frame"),
-    (
-        b"\x00",
-        &[ReadStep::Bytes(1), ReadStep::Reset],
-        &[Answer::Fault(IoReadError::IO(Fault::Reset))],
-        "a cut frame and a reset",
-    ),
-    (b"\x0a", &[], &[CUT], "an unknown type alone"),
-    (
-        b"\x0a\x00\x00\x01a",
-        &[],
-        &[Answer::Again, Answer::Frame(0x00, b"a"), FIN],
-        "unknown and empty, then data",
-    ),
-    (
-        b"\x04\x02\x33\x01\x40\x41\x00",
-        &[],
-        &[
+    Row {
+        case: "nothing",
+        bytes: b"",
+        steps: &[],
+        answers: &[FIN],
+    },
+    Row {
+        case: "a cut frame",
+        bytes: b"\x00",
+        steps: &[],
+        answers: &[CUT],
+    },
+    Row {
+        case: "a cut frame and a reset",
+        bytes: b"\x00",
+        steps: &[ReadStep::Bytes(1), ReadStep::Reset],
+        answers: &[Answer::Fault(IoReadError::IO(Fault::Reset))],
+    },
+    Row {
+        case: "an unknown type alone",
+        bytes: b"\x0a",
+        steps: &[],
+        answers: &[CUT],
+    },
+    Row {
+        case: "unknown and empty, then data",
+        bytes: b"\x0a\x00\x00\x01a",
+        steps: &[],
+        answers: &[Answer::Again, Answer::Frame(0x00, b"a"), FIN],
+    },
+    Row {
+        case: "a refused frame counts as the first",
+        bytes: b"\x04\x02\x33\x01\x40\x41\x00",
+        steps: &[],
+        answers: &[
             Answer::Fault(IoReadError::H3(ErrorCode::FrameUnexpected)),
             CUT,
             FIN,
         ],
-        "a refused frame counts as the first",
-    ),
-    (
-        b"\x0a\xff\xff\xff\xff\xff\xff\xff\xff",
-        &[],
-        &[CUT],
-        "unknown, of the largest length",
-    ),
-    (
-        b"\x0a\x05abcde\x00\x00",
-        &[ReadStep::Bytes(3), ReadStep::NotReady],
-        &[
+    },
+    Row {
+        case: "unknown, of the largest length",
+        bytes: b"\x0a\xff\xff\xff\xff\xff\xff\xff\xff",
+        steps: &[],
+        answers: &[CUT],
+    },
+    Row {
+        case: "not ready inside an unknown frame",
+        bytes: b"\x0a\x05abcde\x00\x00",
+        steps: &[ReadStep::Bytes(3), ReadStep::NotReady],
+        answers: &[
             Answer::Pending,
             Answer::Again,
             Answer::Frame(0x00, b""),
             FIN,
         ],
-        "not ready inside an unknown frame",
-    ),
-    (
-        b"\x00\x01a",
-        &[
+    },
+    Row {
+        case: "faults that pass",
+        bytes: b"\x00\x01a",
+        steps: &[
             ReadStep::Reset,
             ReadStep::Bytes(1),
             ReadStep::NotConnected,
             ReadStep::Bytes(1),
             ReadStep::Reset,
         ],
-        &[
+        answers: &[
             Answer::Fault(IoReadError::IO(Fault::Reset)),
             Answer::Fault(IoReadError::IO(Fault::NotConnected)),
             Answer::Fault(IoReadError::IO(Fault::Reset)),
             Answer::Frame(0x00, b"a"),
             FIN,
         ],
-        "faults that pass",
-    ),
+    },
 ];
 
 /// Asserts the results of polling a stream that the peer opened.
 fn check_row<R: Abort>(rt: &R, alloc: Global, row: &Row) {
-    let (bytes, steps, answers, word) = *row;
     let mut stream = opened_there();
     let mut reading = Frame::read_async(alloc);
-    let mut source = Answers::new(bytes, steps);
-    check_polls(rt, &mut stream, &mut reading, &mut source, answers, word);
+    let mut source = Answers::new(row.bytes, row.steps);
+    let answers = row.answers;
+    check_polls(
+        rt,
+        &mut stream,
+        &mut reading,
+        &mut source,
+        answers,
+        row.case,
+    );
 }
 
 #[test]
@@ -100,43 +123,50 @@ fn polls_answer_by_the_bytes(rt: HostRuntime) {
     }
 }
 
-/// The first bytes, which are padded with zeros, the total length, the results of the polls, and
-/// what the row shows.
-type LongRow = ([u8; 3], usize, &'static [Answer<'static>], &'static str);
+/// A source of thousands of bytes.
+struct LongRow {
+    case: &'static str,
+    /// The first bytes, which are padded with zeros.
+    front: [u8; 3],
+    /// The total length.
+    len: usize,
+    /// The results of the polls.
+    answers: &'static [Answer<'static>],
+}
 
 /// An empty DATA frame is two zeros.
 static LONG: [LongRow; 4] = [
-    (
-        [0x0a, 0x50, 0x00],
-        3 + 4096 + 2,
-        &[Answer::Again, Answer::Frame(0x00, b""), FIN],
-        "4096 bytes are one part",
-    ),
-    (
-        [0x0a, 0x50, 0x01],
-        3 + 4097 + 2,
-        &[Answer::Again, Answer::Again, Answer::Frame(0x00, b""), FIN],
-        "4097 bytes are two parts",
-    ),
-    (
-        [0x0a, 0x60, 0x00],
-        3 + 8192 + 2,
-        &[Answer::Again, Answer::Again, Answer::Frame(0x00, b""), FIN],
-        "8192 bytes are two parts",
-    ),
-    (
-        [0x0a, 0x50, 0x01],
-        3 + 4096,
-        &[Answer::Again, CUT],
-        "the last byte is missing",
-    ),
+    LongRow {
+        case: "4096 bytes are one part",
+        front: [0x0a, 0x50, 0x00],
+        len: 3 + 4096 + 2,
+        answers: &[Answer::Again, Answer::Frame(0x00, b""), FIN],
+    },
+    LongRow {
+        case: "4097 bytes are two parts",
+        front: [0x0a, 0x50, 0x01],
+        len: 3 + 4097 + 2,
+        answers: &[Answer::Again, Answer::Again, Answer::Frame(0x00, b""), FIN],
+    },
+    LongRow {
+        case: "8192 bytes are two parts",
+        front: [0x0a, 0x60, 0x00],
+        len: 3 + 8192 + 2,
+        answers: &[Answer::Again, Answer::Again, Answer::Frame(0x00, b""), FIN],
+    },
+    LongRow {
+        case: "the last byte is missing",
+        front: [0x0a, 0x50, 0x01],
+        len: 3 + 4096,
+        answers: &[Answer::Again, CUT],
+    },
 ];
 
 /// Asserts the results of polling a stream that the peer opened.
 fn check_long<R: Abort + AllocGlobal>(rt: &R, row: &LongRow) {
-    let (front, len, answers, word) = row;
-    let bytes = pad(rt, rt.alloc(), front, *len);
-    check_source(rt, &mut opened_there(), &(bytes.as_slice(), answers, word));
+    let bytes = pad(rt, rt.alloc(), &row.front, row.len);
+    let source = (bytes.as_slice(), row.answers, row.case);
+    check_source(rt, &mut opened_there(), &source);
 }
 
 #[test]
@@ -299,10 +329,10 @@ fn poll_payload<R: Abort>(
     reading: &mut FrameReading,
     source: &mut &[u8],
 ) -> PollAnswer {
-    match stream.poll(reading, source) {
+    match poll(stream, reading, source) {
         Polled::NoMemory => {
-            same(rt, *source, b"abc".as_slice(), "rest of the source");
-            stream.poll(reading, source)
+            assert_same(rt, *source, b"abc".as_slice(), "rest of the source");
+            poll(stream, reading, source)
         }
         answered => answered,
     }
@@ -318,5 +348,5 @@ fn refused_memory_for_a_payload_is_asked_for_again(rt: HostRuntime) {
     let mut source = b"\x00\x03abc".as_slice();
     let answered = poll_payload(&rt, &mut stream, &mut reading, &mut source);
     check_answer(&rt, &answered, &DATA, "data", 0);
-    same(&rt, source.len(), 0, "bytes left");
+    assert_same(&rt, source.len(), 0, "bytes left");
 }

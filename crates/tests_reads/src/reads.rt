@@ -4,6 +4,7 @@ use std::process::Abort;
 use wtransport_proto::bytes::{AsyncRead, BufferReader, Polled};
 use wtransport_proto::error::ErrorCode;
 use wtransport_proto::frame::{Frame, FrameReading};
+use wtransport_proto::stream::ReadsFrames;
 use wtransport_proto::stream::bilocal::StreamBiLocalH3;
 use wtransport_proto::stream::biremote::StreamBiRemoteH3;
 use wtransport_proto::stream::session::StreamSession;
@@ -12,83 +13,65 @@ use wtransport_proto::stream::uniremote::StreamUniRemoteH3;
 /// The result of one read.
 pub(crate) type Read<'a> = Result<Option<Frame<'a>>, ErrorCode>;
 
-/// A reading state, which reads by its own calls.
-pub(crate) trait Reads {
-    fn read_buffer<'a>(&mut self, reader: &mut BufferReader<'a>) -> Read<'a>;
-
+/// A reading state. If no frame may be read from it, each read returns a sentinel that matches no
+/// row.
+pub(crate) trait Reads: ReadsFrames {
+    /// Reads the next frame from a slice by the state's own call.
     fn read_slice<'a>(&mut self, rest: &mut &'a [u8]) -> Read<'a>;
-
-    fn poll<S: AsyncRead>(&mut self, reading: &mut FrameReading, source: &mut S) -> PollAnswer;
 }
 
 impl Reads for StreamBiRemoteH3 {
-    fn read_buffer<'a>(&mut self, reader: &mut BufferReader<'a>) -> Read<'a> {
-        self.read_frame_from_buffer(reader)
-    }
-
     fn read_slice<'a>(&mut self, rest: &mut &'a [u8]) -> Read<'a> {
         self.read_frame(rest)
-    }
-
-    fn poll<S: AsyncRead>(&mut self, reading: &mut FrameReading, source: &mut S) -> PollAnswer {
-        self.read_frame_async(reading, source)
     }
 }
 
 impl Reads for StreamBiLocalH3 {
-    fn read_buffer<'a>(&mut self, reader: &mut BufferReader<'a>) -> Read<'a> {
-        self.read_frame_from_buffer(reader)
-    }
-
     fn read_slice<'a>(&mut self, rest: &mut &'a [u8]) -> Read<'a> {
         self.read_frame(rest)
-    }
-
-    fn poll<S: AsyncRead>(&mut self, reading: &mut FrameReading, source: &mut S) -> PollAnswer {
-        self.read_frame_async(reading, source)
     }
 }
 
 impl Reads for StreamSession {
-    fn read_buffer<'a>(&mut self, reader: &mut BufferReader<'a>) -> Read<'a> {
-        self.read_frame_from_buffer(reader)
-    }
-
     fn read_slice<'a>(&mut self, rest: &mut &'a [u8]) -> Read<'a> {
         self.read_frame(rest)
-    }
-
-    fn poll<S: AsyncRead>(&mut self, reading: &mut FrameReading, source: &mut S) -> PollAnswer {
-        self.read_frame_async(reading, source)
     }
 }
 
-/// If no frame may be read, each read returns a sentinel that matches no row.
 impl Reads for StreamUniRemoteH3 {
-    fn read_buffer<'a>(&mut self, reader: &mut BufferReader<'a>) -> Read<'a> {
-        if !self.can_read() {
-            return Err(ErrorCode::NoError);
-        }
-        self.read_frame_from_buffer(reader)
-    }
-
     fn read_slice<'a>(&mut self, rest: &mut &'a [u8]) -> Read<'a> {
         if !self.can_read() {
             return Err(ErrorCode::NoError);
         }
         self.read_frame(rest)
     }
+}
 
-    fn poll<S: AsyncRead>(&mut self, reading: &mut FrameReading, source: &mut S) -> PollAnswer {
-        if !self.can_read() {
-            return Polled::NoMemory;
-        }
-        self.read_frame_async(reading, source)
+/// Reads the next frame from a buffer.
+pub(crate) fn read_buffer<'a, K: ReadsFrames>(
+    stream: &mut K,
+    reader: &mut BufferReader<'a>,
+) -> Read<'a> {
+    if !stream.can_read() {
+        return Err(ErrorCode::NoError);
     }
+    stream.read_frame_from_buffer(reader)
+}
+
+/// Polls for the next frame.
+pub(crate) fn poll<K: ReadsFrames, S: AsyncRead>(
+    stream: &mut K,
+    reading: &mut FrameReading,
+    source: &mut S,
+) -> PollAnswer {
+    if !stream.can_read() {
+        return Polled::NoMemory;
+    }
+    stream.read_frame_async(reading, source)
 }
 
 /// Asserts the result of the next poll. If allocation for a payload failed, the poll is repeated.
-pub(crate) fn check_poll<R: Abort, K: Reads, S: AsyncRead>(
+pub(crate) fn check_poll<R: Abort, K: ReadsFrames, S: AsyncRead>(
     rt: &R,
     stream: &mut K,
     reading: &mut FrameReading,
@@ -97,15 +80,15 @@ pub(crate) fn check_poll<R: Abort, K: Reads, S: AsyncRead>(
     place: (&str, usize),
 ) {
     let (word, turn) = place;
-    let answered = match stream.poll(reading, source) {
-        Polled::NoMemory => stream.poll(reading, source),
+    let answered = match poll(stream, reading, source) {
+        Polled::NoMemory => poll(stream, reading, source),
         answered => answered,
     };
     check_answer(rt, &answered, answer, word, turn);
 }
 
 /// Asserts the results of the next polls.
-pub(crate) fn check_polls<R: Abort, K: Reads, S: AsyncRead>(
+pub(crate) fn check_polls<R: Abort, K: ReadsFrames, S: AsyncRead>(
     rt: &R,
     stream: &mut K,
     reading: &mut FrameReading,
@@ -118,11 +101,11 @@ pub(crate) fn check_polls<R: Abort, K: Reads, S: AsyncRead>(
     }
 }
 
-/// The bytes of a source before its end, the results of the polls, and what the row shows.
+/// The bytes of a source before its end, the results of the polls, and the case.
 pub(crate) type PollRow = (&'static [u8], &'static [Answer<'static>], &'static str);
 
 /// Asserts the results of polling the stream by a row, with a new reader.
-pub(crate) fn check_source<R: Abort + AllocGlobal, K: Reads>(
+pub(crate) fn check_source<R: Abort + AllocGlobal, K: ReadsFrames>(
     rt: &R,
     stream: &mut K,
     row: &(&[u8], &[Answer<'_>], &str),
@@ -133,7 +116,7 @@ pub(crate) fn check_source<R: Abort + AllocGlobal, K: Reads>(
 }
 
 /// Asserts the results of polling the stream by each row.
-pub(crate) fn check_sources<R: Abort + AllocGlobal, K: Reads>(
+pub(crate) fn check_sources<R: Abort + AllocGlobal, K: ReadsFrames>(
     rt: &R,
     stream: &mut K,
     rows: &[PollRow],

@@ -2,7 +2,7 @@
 use crate::answers::{Answer, CUT, FIN};
 use crate::opened::{control, of_session, opened_here, opened_there};
 use crate::reads::{PollRow, check_source, check_sources};
-use crate::same::same;
+use crate::same::assert_same;
 use std::process::Abort;
 use wtransport_proto::error::ErrorCode;
 use wtransport_proto::stream::IoReadError;
@@ -80,7 +80,7 @@ fn streams_opened_here_keep_their_rule(rt: HostRuntime) {
     let rows = OPENED_HERE.as_slice();
     let mut local = opened_here();
     check_sources(&rt, &mut local, rows);
-    same(&rt, local.can_upgrade(), true, "reading does not count");
+    assert_same(&rt, local.can_upgrade(), true, "reading does not count");
     check_sources(&rt, &mut of_session(&rt, rt.alloc()), rows);
 }
 

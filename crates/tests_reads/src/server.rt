@@ -1,5 +1,5 @@
 //! A server's first steps over slices: reading a request and responding to it.
-use crate::same::same;
+use crate::same::assert_same;
 use std::alloc::{AllocError, Global};
 use std::process::Abort;
 use wtransport_proto::bytes::BufferReader;
@@ -101,7 +101,7 @@ fn check_answer<R: Abort>(rt: &R, alloc: Global, row: &AnswerRow) {
     let stream = serve(rt, alloc, bytes.as_slice(), &mut answer).expect(rt, "a session");
     let request = stream.request();
     let came = (request.authority(), request.path(), answer.as_slice());
-    same(rt, came, ("example.com", path, expected), url);
+    assert_same(rt, came, ("example.com", path, expected), url);
 }
 
 #[test]
@@ -118,5 +118,5 @@ fn a_request_that_is_not_whole_is_waited_for(rt: HostRuntime) {
     let mut answer = Vec::new(rt.alloc());
     let stream = serve(&rt, rt.alloc(), bytes.as_slice(), &mut answer);
     let came = (last.is_some(), stream.is_none(), answer.is_empty());
-    same(&rt, came, (true, true, true), "no answer");
+    assert_same(&rt, came, (true, true, true), "no answer");
 }

@@ -1,12 +1,12 @@
 //! Every reading state, with sources that wait, end, are reset or disconnect.
 use crate::answers::{Answer, CUT, ENDS, FIN, check_answer};
 use crate::opened::{control, of_session, opened_here, opened_there};
-use crate::reads::Reads;
+use crate::reads::poll;
 use std::process::Abort;
 use test_io::{End, OneByteSource};
 use wtransport_proto::bytes::IoReadError as Fault;
 use wtransport_proto::frame::{Frame, FrameReading};
-use wtransport_proto::stream::IoReadError;
+use wtransport_proto::stream::{IoReadError, ReadsFrames};
 
 /// An exercise frame of three bytes, an unknown frame of three, and an empty exercise frame of
 /// two. Every reading state permits them.
@@ -53,7 +53,7 @@ fn last_answer(end: End, is_whole: bool) -> Answer<'static> {
 }
 
 /// Asserts the result of the next poll. The poll is not repeated, so `NoMemory` fails the test.
-fn check_next<R: Abort, K: Reads>(
+fn check_next<R: Abort, K: ReadsFrames>(
     rt: &R,
     stream: &mut K,
     reading: &mut FrameReading,
@@ -61,12 +61,12 @@ fn check_next<R: Abort, K: Reads>(
     wanted: &Answer<'_>,
     len: usize,
 ) {
-    let answered = stream.poll(reading, source);
+    let answered = poll(stream, reading, source);
     check_answer(rt, &answered, wanted, "bytes come", len);
 }
 
 /// Asserts the results for a row, and that the last one repeats.
-fn check_row<R: Abort + AllocGlobal, K: Reads>(rt: &R, stream: &mut K, row: Row, end: End) {
+fn check_row<R: Abort + AllocGlobal, K: ReadsFrames>(rt: &R, stream: &mut K, row: Row, end: End) {
     let (len, polls, is_whole) = row;
     let mut reading = Frame::read_async(rt.alloc());
     let mut source = OneByteSource::new(BYTES.get(..len).unwrap_or(&[]), end);
@@ -80,7 +80,7 @@ fn check_row<R: Abort + AllocGlobal, K: Reads>(rt: &R, stream: &mut K, row: Row,
 }
 
 /// Asserts the results for each row and each end.
-fn check_rows<R: Abort + AllocGlobal, K: Reads>(rt: &R, stream: &mut K) {
+fn check_rows<R: Abort + AllocGlobal, K: ReadsFrames>(rt: &R, stream: &mut K) {
     for end in &ENDS {
         for row in &ROWS {
             check_row(rt, stream, *row, *end);

@@ -1,8 +1,8 @@
 //! Reading frames from a buffer and from a slice, by the rules of each state.
 use crate::answers::number_and_payload;
 use crate::opened::{control, of_session, opened_here, opened_there};
-use crate::reads::{Read, Reads};
-use crate::same::same;
+use crate::reads::{Read, Reads, read_buffer};
+use crate::same::assert_same;
 use std::process::Abort;
 use wtransport_proto::bytes::BufferReader;
 use wtransport_proto::error::ErrorCode;
@@ -25,10 +25,10 @@ fn check_buffer<R: Abort, K: Reads>(
     stream: &mut K,
     reader: &mut BufferReader<'_>,
     wanted: (Wanted<'_>, usize),
-    shows: &str,
+    case: &str,
 ) {
-    let read = stream.read_buffer(reader);
-    same(rt, (answer_of(&read), reader.offset()), wanted, shows);
+    let read = read_buffer(stream, reader);
+    assert_same(rt, (answer_of(&read), reader.offset()), wanted, case);
 }
 
 /// Asserts the result of the next read from the slice, and the number of bytes left.
@@ -37,22 +37,27 @@ fn check_slice<R: Abort, K: Reads>(
     stream: &mut K,
     bytes: &mut &[u8],
     wanted: (Wanted<'_>, usize),
-    shows: &str,
+    case: &str,
 ) {
     let read = stream.read_slice(bytes);
-    same(rt, (answer_of(&read), bytes.len()), wanted, shows);
+    assert_same(rt, (answer_of(&read), bytes.len()), wanted, case);
 }
 
-/// The bytes of a frame, the result of reading them, the offset of a buffer's reader after it,
-/// and what the row shows. A slice has no bytes left.
-type ReadRow = (&'static [u8], Wanted<'static>, usize, &'static str);
+/// The bytes of a frame, and the result of reading them. A slice then has no bytes left.
+struct ReadRow {
+    case: &'static str,
+    bytes: &'static [u8],
+    wanted: Wanted<'static>,
+    /// The offset of a buffer's reader after the read.
+    offset: usize,
+}
 
 /// Asserts that the stream reads a row from a buffer, and then from a slice.
 fn check_both<R: Abort, K: Reads>(rt: &R, stream: &mut K, row: &ReadRow) {
-    let (mut bytes, wanted, offset, shows) = *row;
-    let mut reader = BufferReader::new(bytes);
-    check_buffer(rt, stream, &mut reader, (wanted, offset), shows);
-    check_slice(rt, stream, &mut bytes, (wanted, 0), shows);
+    let mut reader = BufferReader::new(row.bytes);
+    check_buffer(rt, stream, &mut reader, (row.wanted, row.offset), row.case);
+    let mut bytes = row.bytes;
+    check_slice(rt, stream, &mut bytes, (row.wanted, 0), row.case);
 }
 
 /// Asserts that the stream reads each row.
@@ -64,46 +69,86 @@ fn check_rows<R: Abort, K: Reads>(rt: &R, stream: &mut K, rows: &[ReadRow]) {
 
 /// Reads from a bidirectional stream that this end opened, or that already belongs to a session.
 static OF_BOTH: [ReadRow; 5] = [
-    (b"\x00\x01a", Ok(Some((0x00, b"a"))), 3, "data"),
-    (b"\x01\x01a", Ok(Some((0x01, b"a"))), 3, "headers"),
-    (b"\x04\x00", Err(ErrorCode::FrameUnexpected), 0, "settings"),
-    (
-        b"\x40\x41\x04",
-        Err(ErrorCode::FrameUnexpected),
-        0,
-        "a session",
-    ),
-    (b"\x21\x01a", Ok(Some((0x21, b"a"))), 3, "exercise"),
+    ReadRow {
+        case: "data",
+        bytes: b"\x00\x01a",
+        wanted: Ok(Some((0x00, b"a"))),
+        offset: 3,
+    },
+    ReadRow {
+        case: "headers",
+        bytes: b"\x01\x01a",
+        wanted: Ok(Some((0x01, b"a"))),
+        offset: 3,
+    },
+    ReadRow {
+        case: "settings",
+        bytes: b"\x04\x00",
+        wanted: Err(ErrorCode::FrameUnexpected),
+        offset: 0,
+    },
+    ReadRow {
+        case: "a session",
+        bytes: b"\x40\x41\x04",
+        wanted: Err(ErrorCode::FrameUnexpected),
+        offset: 0,
+    },
+    ReadRow {
+        case: "exercise",
+        bytes: b"\x21\x01a",
+        wanted: Ok(Some((0x21, b"a"))),
+        offset: 3,
+    },
 ];
 
 /// Reads from a control stream.
 static OF_CONTROL: [ReadRow; 5] = [
-    (b"\x00\x01a", Err(ErrorCode::FrameUnexpected), 0, "data"),
-    (b"\x01\x01a", Err(ErrorCode::FrameUnexpected), 0, "headers"),
-    (b"\x04\x00", Ok(Some((0x04, b""))), 2, "settings"),
-    (
-        b"\x40\x41\x04",
-        Err(ErrorCode::FrameUnexpected),
-        0,
-        "a session",
-    ),
-    (b"\x21\x01a", Ok(Some((0x21, b"a"))), 3, "exercise"),
+    ReadRow {
+        case: "data",
+        bytes: b"\x00\x01a",
+        wanted: Err(ErrorCode::FrameUnexpected),
+        offset: 0,
+    },
+    ReadRow {
+        case: "headers",
+        bytes: b"\x01\x01a",
+        wanted: Err(ErrorCode::FrameUnexpected),
+        offset: 0,
+    },
+    ReadRow {
+        case: "settings",
+        bytes: b"\x04\x00",
+        wanted: Ok(Some((0x04, b""))),
+        offset: 2,
+    },
+    ReadRow {
+        case: "a session",
+        bytes: b"\x40\x41\x04",
+        wanted: Err(ErrorCode::FrameUnexpected),
+        offset: 0,
+    },
+    ReadRow {
+        case: "exercise",
+        bytes: b"\x21\x01a",
+        wanted: Ok(Some((0x21, b"a"))),
+        offset: 3,
+    },
 ];
 
 /// The largest possible length.
-static LARGEST: [ReadRow; 1] = [(
-    b"\x00\xff\xff\xff\xff\xff\xff\xff\xff",
-    Err(ErrorCode::ExcessiveLoad),
-    0,
-    "the largest length is too big",
-)];
+static LARGEST: [ReadRow; 1] = [ReadRow {
+    case: "the largest length is too big",
+    bytes: b"\x00\xff\xff\xff\xff\xff\xff\xff\xff",
+    wanted: Err(ErrorCode::ExcessiveLoad),
+    offset: 0,
+}];
 
 #[test]
 fn frames_are_read_by_the_rule(rt: HostRuntime) {
     let rows = OF_BOTH.as_slice();
     let mut local = opened_here();
     check_rows(&rt, &mut local, rows);
-    same(&rt, local.can_upgrade(), true, "reading does not count");
+    assert_same(&rt, local.can_upgrade(), true, "reading does not count");
     check_rows(&rt, &mut of_session(&rt, rt.alloc()), rows);
     check_rows(&rt, &mut opened_there(), &LARGEST);
 }
@@ -111,14 +156,20 @@ fn frames_are_read_by_the_rule(rt: HostRuntime) {
 #[test]
 fn frames_of_a_control_stream_are_read_by_the_rule(rt: HostRuntime) {
     let mut stream = control(&rt);
-    same(&rt, stream.can_read(), true, "frames may be read");
+    assert_same(&rt, stream.can_read(), true, "frames may be read");
     check_rows(&rt, &mut stream, &OF_CONTROL);
-    same(&rt, stream.can_read(), true, "frames may still be read");
+    assert_same(&rt, stream.can_read(), true, "frames may still be read");
 }
 
-/// The number of bytes that are skipped before a read, its result, the offset of the reader after
-/// it, and what the row shows.
-type Step = (usize, Wanted<'static>, usize, &'static str);
+/// One read from a buffer.
+struct Step {
+    case: &'static str,
+    /// The number of bytes that are skipped before the read.
+    passed: usize,
+    wanted: Wanted<'static>,
+    /// The offset of the reader after the read.
+    offset: usize,
+}
 
 /// The bytes of a buffer, its reads, and the number of bytes left.
 type BufferRow = (&'static [u8], &'static [Step], usize);
@@ -130,9 +181,8 @@ fn check_step<R: Abort, K: Reads>(
     reader: &mut BufferReader<'_>,
     step: &Step,
 ) {
-    let (passed, wanted, offset, shows) = *step;
-    reader.skip(passed).expect(rt, "bytes to pass over");
-    check_buffer(rt, stream, reader, (wanted, offset), shows);
+    reader.skip(step.passed).expect(rt, "bytes to pass over");
+    check_buffer(rt, stream, reader, (step.wanted, step.offset), step.case);
 }
 
 /// Asserts the results of the reads from one buffer.
@@ -142,7 +192,7 @@ fn check_steps<R: Abort, K: Reads>(rt: &R, stream: &mut K, row: &BufferRow) {
     for step in steps {
         check_step(rt, stream, &mut reader, step);
     }
-    same(rt, reader.capacity(), left, "bytes left");
+    assert_same(rt, reader.capacity(), left, "bytes left");
 }
 
 /// A stream that the peer opened; each row has a new one.
@@ -150,16 +200,36 @@ static THERE: [BufferRow; 2] = [
     (
         b"\x04\x02\x33\x01\x40\x41\x00",
         &[
-            (0, Err(ErrorCode::FrameUnexpected), 0, "settings"),
-            (4, Err(ErrorCode::Frame), 4, "a session after it"),
+            Step {
+                case: "settings",
+                passed: 0,
+                wanted: Err(ErrorCode::FrameUnexpected),
+                offset: 0,
+            },
+            Step {
+                case: "a session after it",
+                passed: 4,
+                wanted: Err(ErrorCode::Frame),
+                offset: 4,
+            },
         ],
         3,
     ),
     (
         b"\x21\x07Payload\x40\x41\x00",
         &[
-            (0, Ok(Some((0x21, b"Payload"))), 9, "exercise"),
-            (0, Err(ErrorCode::Frame), 9, "a late session"),
+            Step {
+                case: "exercise",
+                passed: 0,
+                wanted: Ok(Some((0x21, b"Payload"))),
+                offset: 9,
+            },
+            Step {
+                case: "a late session",
+                passed: 0,
+                wanted: Err(ErrorCode::Frame),
+                offset: 9,
+            },
         ],
         3,
     ),
@@ -176,17 +246,32 @@ fn each_frame_of_a_stream_opened_there_counts(rt: HostRuntime) {
 static HERE: [BufferRow; 3] = [
     (
         b"\x0a\x00\x00\x05a",
-        &[(0, Ok(None), 0, "too few bytes")],
+        &[Step {
+            case: "too few bytes",
+            passed: 0,
+            wanted: Ok(None),
+            offset: 0,
+        }],
         5,
     ),
     (
         b"\x40\x41\x01",
-        &[(0, Err(ErrorCode::Id), 0, "no session")],
+        &[Step {
+            case: "no session",
+            passed: 0,
+            wanted: Err(ErrorCode::Id),
+            offset: 0,
+        }],
         3,
     ),
     (
         b"\x00\x50\x01",
-        &[(0, Err(ErrorCode::ExcessiveLoad), 0, "length 4097")],
+        &[Step {
+            case: "length 4097",
+            passed: 0,
+            wanted: Err(ErrorCode::ExcessiveLoad),
+            offset: 0,
+        }],
         3,
     ),
 ];
@@ -203,9 +288,24 @@ fn too_few_bytes_and_faults_stay(rt: HostRuntime) {
 static BETWEEN: BufferRow = (
     b"\x04\x00\x07\x01\x00\x04\x00",
     &[
-        (0, Ok(Some((0x04, b""))), 2, "settings"),
-        (0, Ok(Some((0x04, b""))), 7, "settings again"),
-        (0, Ok(None), 7, "the end"),
+        Step {
+            case: "settings",
+            passed: 0,
+            wanted: Ok(Some((0x04, b""))),
+            offset: 2,
+        },
+        Step {
+            case: "settings again",
+            passed: 0,
+            wanted: Ok(Some((0x04, b""))),
+            offset: 7,
+        },
+        Step {
+            case: "the end",
+            passed: 0,
+            wanted: Ok(None),
+            offset: 7,
+        },
     ],
     0,
 );
@@ -215,14 +315,14 @@ fn an_unknown_frame_between_settings_is_passed_over_whole(rt: HostRuntime) {
     check_steps(&rt, &mut control(&rt), &BETWEEN);
 }
 
-/// The result of a read, the bytes left, and what the row shows.
+/// The result of a read, the bytes left, and the case.
 type LeftRow = (Wanted<'static>, &'static [u8], &'static str);
 
 /// Asserts the result of the next read from the slice by its row.
 fn check_left<R: Abort, K: Reads>(rt: &R, stream: &mut K, bytes: &mut &[u8], row: &LeftRow) {
-    let (wanted, left, shows) = *row;
-    check_slice(rt, stream, bytes, (wanted, left.len()), shows);
-    same(rt, *bytes, left, shows);
+    let (wanted, left, case) = *row;
+    check_slice(rt, stream, bytes, (wanted, left.len()), case);
+    assert_same(rt, *bytes, left, case);
 }
 
 static TOO_LONG: LeftRow = (
@@ -240,5 +340,5 @@ fn an_unknown_frame_and_a_fault_do_not_count(rt: HostRuntime) {
     check_left(&rt, &mut stream, &mut bytes, &TOO_LONG);
     check_left(&rt, &mut stream, &mut bytes, &FIRST);
     let read = stream.read_slice(&mut bytes);
-    same(&rt, answer_of(&read), Ok(None), "too few bytes");
+    assert_same(&rt, answer_of(&read), Ok(None), "too few bytes");
 }

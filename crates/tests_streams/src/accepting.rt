@@ -2,7 +2,7 @@
 //! carries a request. The result of a poll is dropped by a call of `drop`, since a drop at the
 //! end of a block is proved for each variant and field.
 use crate::opened::{front, opened_there, rest, stop_fault};
-use crate::same::same;
+use crate::same::assert_same;
 use std::alloc::Global;
 use std::fmt::Display;
 use std::mem::drop;
@@ -59,101 +59,142 @@ const FIN: IoReadError = IoReadError::IO(Fault::ImmediateFin);
 
 const NOTHING: IoReadError = IoReadError::H3(ErrorCode::NoError);
 
-/// The bytes of a stream, the outcome, the bytes then left in the source, and what the row shows.
-type Row = (&'static [u8], Outcome<'static>, &'static [u8], &'static str);
+/// The bytes of a stream, and its outcome.
+struct Row {
+    case: &'static str,
+    bytes: &'static [u8],
+    outcome: Outcome<'static>,
+    /// The bytes that are then left in the source.
+    left: &'static [u8],
+}
 
 static ROWS: [Row; 21] = [
-    (
-        b"\x40\x41\x04\x00\x01a",
-        Ok((Some(4), b"")),
-        b"\x00\x01a",
-        "a session, and bytes that look like a frame",
-    ),
-    (b"\x40\x41\x00", Ok((Some(0), b"")), b"", "a session alone"),
-    (
-        b"\x80\x00\x00\x41\x44\x04a",
-        Ok((Some(1028), b"")),
-        b"a",
-        "a session in longer numbers",
-    ),
-    (
-        b"\x0a\x02xy\x0b\x00\x40\x41\x04\xff",
-        Ok((Some(4), b"")),
-        b"\xff",
-        "a session after unknown frames",
-    ),
-    (
-        b"\x21\x01a\x40\x41\x04",
-        Err(&LATE),
-        b"",
-        "a session after a reserved frame",
-    ),
-    (
-        b"\x01\x02ab\x00\x01c",
-        Ok((None, b"ab")),
-        b"\x00\x01c",
-        "a request and its data",
-    ),
-    (
-        b"\x01\x00\x40\x41\x04",
-        Ok((None, b"")),
-        b"\x40\x41\x04",
-        "a request of no fields",
-    ),
-    (
-        b"\x21\x07Payload\x01\x01a",
-        Ok((None, b"a")),
-        b"",
-        "a request after a reserved frame",
-    ),
-    (
-        b"\x0a\x01x\x21\x00\x40\x5f\x00\x0b\x00\x01\x01a\x01",
-        Ok((None, b"a")),
-        b"\x01",
-        "a request after unknown and reserved frames",
-    ),
-    (
-        b"\x00\x01a\x01\x00",
-        Err(&UNEXPECTED),
-        b"\x01\x00",
-        "data first",
-    ),
-    (
-        b"\x21\x00\x00\x00\x01",
-        Err(&UNEXPECTED),
-        b"\x01",
-        "data after a reserved frame",
-    ),
-    (
-        b"\x04\x00\x01\x00",
-        Err(&UNEXPECTED),
-        b"\x01\x00",
-        "settings first",
-    ),
-    (
-        b"\x40\x41\x01\x01",
-        Err(&BAD_SESSION),
-        b"\x01",
-        "an invalid session ID",
-    ),
-    (
-        b"\x21\x00\x40\x41\x01\x01",
-        Err(&BAD_SESSION),
-        b"\x01",
-        "an invalid session ID after a reserved frame",
-    ),
-    (
-        b"\x01\x50\x01abc",
-        Err(&TOO_BIG),
-        b"abc",
-        "a request of 4097 bytes",
-    ),
-    (b"", Err(&FIN), b"", "nothing"),
-    (b"\x21\x00", Err(&FIN), b"", "a reserved frame alone"),
-    (b"\x0a\x00", Err(&FIN), b"", "an unknown frame alone"),
-    (b"\x40", Err(&LATE), b"", "half a type"),
-    (b"\x40\x41", Err(&LATE), b"", "half a session frame"),
-    (b"\x01\x02a", Err(&LATE), b"", "half a request"),
+    Row {
+        case: "a session, and bytes that look like a frame",
+        bytes: b"\x40\x41\x04\x00\x01a",
+        outcome: Ok((Some(4), b"")),
+        left: b"\x00\x01a",
+    },
+    Row {
+        case: "a session alone",
+        bytes: b"\x40\x41\x00",
+        outcome: Ok((Some(0), b"")),
+        left: b"",
+    },
+    Row {
+        case: "a session in longer numbers",
+        bytes: b"\x80\x00\x00\x41\x44\x04a",
+        outcome: Ok((Some(1028), b"")),
+        left: b"a",
+    },
+    Row {
+        case: "a session after unknown frames",
+        bytes: b"\x0a\x02xy\x0b\x00\x40\x41\x04\xff",
+        outcome: Ok((Some(4), b"")),
+        left: b"\xff",
+    },
+    Row {
+        case: "a session after a reserved frame",
+        bytes: b"\x21\x01a\x40\x41\x04",
+        outcome: Err(&LATE),
+        left: b"",
+    },
+    Row {
+        case: "a request and its data",
+        bytes: b"\x01\x02ab\x00\x01c",
+        outcome: Ok((None, b"ab")),
+        left: b"\x00\x01c",
+    },
+    Row {
+        case: "a request of no fields",
+        bytes: b"\x01\x00\x40\x41\x04",
+        outcome: Ok((None, b"")),
+        left: b"\x40\x41\x04",
+    },
+    Row {
+        case: "a request after a reserved frame",
+        bytes: b"\x21\x07Payload\x01\x01a",
+        outcome: Ok((None, b"a")),
+        left: b"",
+    },
+    Row {
+        case: "a request after unknown and reserved frames",
+        bytes: b"\x0a\x01x\x21\x00\x40\x5f\x00\x0b\x00\x01\x01a\x01",
+        outcome: Ok((None, b"a")),
+        left: b"\x01",
+    },
+    Row {
+        case: "data first",
+        bytes: b"\x00\x01a\x01\x00",
+        outcome: Err(&UNEXPECTED),
+        left: b"\x01\x00",
+    },
+    Row {
+        case: "data after a reserved frame",
+        bytes: b"\x21\x00\x00\x00\x01",
+        outcome: Err(&UNEXPECTED),
+        left: b"\x01",
+    },
+    Row {
+        case: "settings first",
+        bytes: b"\x04\x00\x01\x00",
+        outcome: Err(&UNEXPECTED),
+        left: b"\x01\x00",
+    },
+    Row {
+        case: "an invalid session ID",
+        bytes: b"\x40\x41\x01\x01",
+        outcome: Err(&BAD_SESSION),
+        left: b"\x01",
+    },
+    Row {
+        case: "an invalid session ID after a reserved frame",
+        bytes: b"\x21\x00\x40\x41\x01\x01",
+        outcome: Err(&BAD_SESSION),
+        left: b"\x01",
+    },
+    Row {
+        case: "a request of 4097 bytes",
+        bytes: b"\x01\x50\x01abc",
+        outcome: Err(&TOO_BIG),
+        left: b"abc",
+    },
+    Row {
+        case: "nothing",
+        bytes: b"",
+        outcome: Err(&FIN),
+        left: b"",
+    },
+    Row {
+        case: "a reserved frame alone",
+        bytes: b"\x21\x00",
+        outcome: Err(&FIN),
+        left: b"",
+    },
+    Row {
+        case: "an unknown frame alone",
+        bytes: b"\x0a\x00",
+        outcome: Err(&FIN),
+        left: b"",
+    },
+    Row {
+        case: "half a type",
+        bytes: b"\x40",
+        outcome: Err(&LATE),
+        left: b"",
+    },
+    Row {
+        case: "half a session frame",
+        bytes: b"\x40\x41",
+        outcome: Err(&LATE),
+        left: b"",
+    },
+    Row {
+        case: "half a request",
+        bytes: b"\x01\x02a",
+        outcome: Err(&LATE),
+        left: b"",
+    },
 ];
 
 /// Asserts the outcome of accepting a stream.
@@ -162,34 +203,50 @@ fn check_found<R: Abort, S: AsyncRead, N: Display + Drop>(
     accepting: BiAccepting,
     source: &mut S,
     wanted: Outcome<'static>,
-    shows: N,
+    case: N,
 ) {
     let found = poll_on(accepting, source);
-    same(rt, outcome_of(&found), wanted, shows);
+    assert_same(rt, outcome_of(&found), wanted, case);
     drop(found);
 }
 
 /// Asserts the outcome of a row whose bytes are in a slice.
 fn check_slice<R: Abort + AllocGlobal>(rt: &R, row: &Row) {
-    let (mut source, outcome, left, shows) = *row;
-    check_found(rt, accepting(rt.alloc()), &mut source, outcome, shows);
-    same(rt, source, left, shows);
+    let mut source = row.bytes;
+    check_found(
+        rt,
+        accepting(rt.alloc()),
+        &mut source,
+        row.outcome,
+        row.case,
+    );
+    assert_same(rt, source, row.left, row.case);
 }
 
 /// Asserts the outcome of a row whose bytes arrive one by one, with a wait before each.
 fn check_trickle<R: Abort + AllocGlobal>(rt: &R, row: &Row) {
-    let (bytes, outcome, left, shows) = *row;
-    let mut source = OneByteSource::new(bytes, End::Fin);
-    check_found(rt, accepting(rt.alloc()), &mut source, outcome, shows);
-    same(rt, source.rest(), left, shows);
+    let mut source = OneByteSource::new(row.bytes, End::Fin);
+    check_found(
+        rt,
+        accepting(rt.alloc()),
+        &mut source,
+        row.outcome,
+        row.case,
+    );
+    assert_same(rt, source.rest(), row.left, row.case);
 }
 
 /// Asserts the outcome of a row whose bytes arrive in these steps.
 fn check_steps<R: Abort + AllocGlobal>(rt: &R, steps: &[ReadStep], row: &Row) {
-    let (bytes, outcome, left, shows) = *row;
-    let mut source = Answers::new(bytes, steps);
-    check_found(rt, accepting(rt.alloc()), &mut source, outcome, shows);
-    same(rt, source.rest(), left, shows);
+    let mut source = Answers::new(row.bytes, steps);
+    check_found(
+        rt,
+        accepting(rt.alloc()),
+        &mut source,
+        row.outcome,
+        row.case,
+    );
+    assert_same(rt, source.rest(), row.left, row.case);
 }
 
 /// Two bytes per call, not ready before each call; then the rest at once.
@@ -258,7 +315,7 @@ fn count_turns<S: AsyncRead>(mut accepting: BiAccepting, source: &mut S) -> Turn
 }
 
 /// Bytes that arrive one by one with a wait before each, the number of waits and of skipped
-/// frames, and what the row shows.
+/// frames, and the case.
 type TurnRow = (&'static [u8], Turns, &'static str);
 
 /// The turns of a new stream.
@@ -271,10 +328,10 @@ static TURNS: [TurnRow; 4] = [
 
 /// Asserts the turns of a new stream whose bytes arrive one by one, with a wait before each.
 fn check_turns<R: Abort + AllocGlobal>(rt: &R, row: &TurnRow) {
-    let (bytes, wanted, shows) = *row;
+    let (bytes, wanted, case) = *row;
     let mut source = OneByteSource::new(bytes, End::Fin);
     let turns = count_turns(accepting(rt.alloc()), &mut source);
-    same(rt, turns, wanted, shows);
+    assert_same(rt, turns, wanted, case);
 }
 
 #[test]
@@ -293,8 +350,8 @@ fn a_long_unknown_frame_is_skipped_in_parts(rt: HostRuntime) {
     session.expect(&rt, "memory");
     let mut source = bytes.as_slice();
     let turns = count_turns(accepting(rt.alloc()), &mut source);
-    same(&rt, turns, (0, 2), "parts");
-    same(&rt, source, b"rest".as_slice(), "bytes left");
+    assert_same(&rt, turns, (0, 2), "parts");
+    assert_same(&rt, source, b"rest".as_slice(), "bytes left");
 }
 
 /// Asserts that the stream fails with this error. Returns its state.
@@ -306,7 +363,7 @@ fn check_fault<R: Abort, S: AsyncRead>(
     len: usize,
 ) -> BiAccepting {
     let found = poll_on(accepting, source);
-    same(rt, outcome_of(&found), Err(fault), len);
+    assert_same(rt, outcome_of(&found), Err(fault), len);
     state_of(rt, found)
 }
 
@@ -323,7 +380,7 @@ fn check_stop<R: Abort + AllocGlobal>(rt: &R, len: usize, end: End) {
     let state = check_fault(rt, state, &mut source, &fault, len);
     let mut source = rest(SESSION_4, len);
     check_found(rt, state, &mut source, Ok((Some(4), b"")), len);
-    same(rt, source, b"a".as_slice(), len);
+    assert_same(rt, source, b"a".as_slice(), len);
 }
 
 /// All endings of a source.
@@ -368,7 +425,7 @@ const LONG: &[u8] = b"\x21\x00\x01\x30aaaaaaaabbbbbbbbccccccccddddddddeeeeeeeeff
 fn poll_again<R: Abort>(rt: &R, state: BiAccepting, source: &mut &[u8]) -> BiAccepted {
     match state.poll(source) {
         BiAccepted::NoMemory(state) => {
-            same(rt, *source, rest(LONG, 4), "the head is held");
+            assert_same(rt, *source, rest(LONG, 4), "the head is held");
             state.poll(source)
         }
         found => found,
@@ -380,14 +437,14 @@ fn refused_memory_leaves_the_request(rt: HostRuntime) {
     let mut source = LONG;
     let state = state_of(&rt, accepting(rt.alloc()).poll(&mut source));
     let left = rest(LONG, 2);
-    same(&rt, source, left, "the reserved frame is skipped");
+    assert_same(&rt, source, left, "the reserved frame is skipped");
     let found = poll_again(&rt, state, &mut source);
-    same(&rt, source, b"\x07".as_slice(), "bytes left");
+    assert_same(&rt, source, b"\x07".as_slice(), "bytes left");
     let section = match &found {
         BiAccepted::Request(_, _, frame) => frame.payload(),
         _ => &[],
     };
-    same(&rt, section, front(rest(LONG, 4), 48), "the request");
+    assert_same(&rt, section, front(rest(LONG, 4), 48), "the request");
     drop(found);
 }
 
@@ -427,6 +484,6 @@ fn a_request_is_read_on(rt: HostRuntime) {
         Polled::Ready(Ok(frame)) => frame.payload(),
         _ => &[],
     };
-    same(&rt, payload, b"b".as_slice(), "data");
-    same(&rt, source, [].as_slice(), "bytes left");
+    assert_same(&rt, payload, b"b".as_slice(), "data");
+    assert_same(&rt, source, [].as_slice(), "bytes left");
 }

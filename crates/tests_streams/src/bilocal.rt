@@ -1,6 +1,6 @@
 //! Bidirectional streams that this end opened.
 use crate::opened::{front, opened_here, session_of_stream};
-use crate::same::same;
+use crate::same::assert_same;
 use std::borrow::CowSlice;
 use std::process::Abort;
 use wtransport_proto::bytes::{BufferWriter, EndOfBuffer, PutError};
@@ -18,12 +18,12 @@ fn check_put<R: Abort>(
     stream: &mut StreamBiLocalH3,
     room: &mut [u8],
     wanted: (Result<(), PutError>, &'static [u8], bool),
-    shows: &str,
+    case: &str,
 ) {
     let mut writer = BufferWriter::new(room);
     let answer = stream.write_frame(Frame::new_data(CowSlice::Borrowed(b"a")), &mut writer);
     let came = (answer, writer.buffer_written(), stream.can_upgrade());
-    same(rt, came, wanted, shows);
+    assert_same(rt, came, wanted, case);
 }
 
 #[test]
@@ -45,7 +45,7 @@ fn a_frame_that_was_written_whole_ends_upgrading(rt: HostRuntime) {
     let mut writer = BufferWriter::new(&mut buffer);
     let frame = Frame::new_data(CowSlice::Borrowed(b"a"));
     let answer = stream.write_frame_to_buffer(frame, &mut writer);
-    same(
+    assert_same(
         &rt,
         (answer, writer.offset(), stream.can_upgrade()),
         (Err(EndOfBuffer), 0, true),
@@ -53,7 +53,7 @@ fn a_frame_that_was_written_whole_ends_upgrading(rt: HostRuntime) {
     );
     let frame = Frame::new_headers(CowSlice::Borrowed(b""));
     let answer = stream.write_frame_to_buffer(frame, &mut writer);
-    same(
+    assert_same(
         &rt,
         (answer, writer.buffer_written(), stream.can_upgrade()),
         (Ok(()), HEADERS, false),
@@ -68,20 +68,20 @@ const FRAME_0: &[u8] = &[0x40, 0x41, 0x00];
 #[test]
 fn it_is_upgraded_where_there_is_room(rt: HostRuntime) {
     let session = session_of_stream(&rt, 0);
-    same(&rt, opened_here().upgrade_size(session), 3, "size");
+    assert_same(&rt, opened_here().upgrade_size(session), 3, "size");
     let mut buffer = [0; 2];
     let mut writer = BufferWriter::new(&mut buffer);
     let upgraded = opened_here().upgrade(session, &mut writer);
     let (stream, error) = upgraded.expect_err(&rt, "too little room");
-    same(&rt, error, PutError::EndOfBuffer, "too little room");
-    same(&rt, writer.buffer_written(), front(FRAME_0, 2), "the parts");
+    assert_same(&rt, error, PutError::EndOfBuffer, "too little room");
+    assert_same(&rt, writer.buffer_written(), front(FRAME_0, 2), "the parts");
     assert!(rt; stream.can_upgrade());
     let mut buffer = [0; 4];
     let mut writer = BufferWriter::new(&mut buffer);
     let upgraded = stream.upgrade(session, &mut writer);
     let stream = upgraded.expect(&rt, "there is room");
-    same(&rt, stream.session_id(), session, "its session");
-    same(&rt, writer.buffer_written(), FRAME_0, "the frame");
+    assert_same(&rt, stream.session_id(), session, "its session");
+    assert_same(&rt, writer.buffer_written(), FRAME_0, "the frame");
 }
 
 /// The frame of session 64.
@@ -100,8 +100,8 @@ fn upgrade_again<R: Abort>(rt: &R, session: SessionId, vector: &mut Vec<u8>) -> 
     match opened_here().upgrade(session, vector) {
         Ok(stream) => stream,
         Err((stream, error)) => {
-            same(rt, error, PutError::Memory, "error");
-            same(rt, are_parts(vector.as_slice()), true, "whole parts");
+            assert_same(rt, error, PutError::Memory, "error");
+            assert_same(rt, are_parts(vector.as_slice()), true, "whole parts");
             vector.clear();
             stream.upgrade(session, vector).expect(rt, "memory")
         }
@@ -113,6 +113,6 @@ fn refused_memory_hands_the_stream_back(rt: HostRuntime) {
     let session = session_of_stream(&rt, 64);
     let mut vector = Vec::new(rt.alloc());
     let stream = upgrade_again(&rt, session, &mut vector);
-    same(&rt, stream.session_id(), session, "its session");
-    same(&rt, vector.as_slice(), FRAME_64, "the frame");
+    assert_same(&rt, stream.session_id(), session, "its session");
+    assert_same(&rt, vector.as_slice(), FRAME_64, "the frame");
 }

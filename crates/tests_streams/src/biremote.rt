@@ -1,6 +1,6 @@
 //! Bidirectional streams that the peer opened.
 use crate::opened::{opened_there, session_of_stream};
-use crate::same::same;
+use crate::same::assert_same;
 use std::borrow::CowSlice;
 use wtransport_proto::bytes::{BufferReader, BufferWriter, EndOfBuffer};
 use wtransport_proto::frame::{Frame, FrameKind};
@@ -14,7 +14,7 @@ fn frames_are_written(rt: HostRuntime) {
     let frame = Frame::new_data(CowSlice::Borrowed(b"abc"));
     let written = opened_there().write_frame(frame, &mut vector);
     written.expect(&rt, "memory");
-    same(&rt, vector.as_slice(), WIRE, "a vector");
+    assert_same(&rt, vector.as_slice(), WIRE, "a vector");
 }
 
 #[test]
@@ -23,12 +23,12 @@ fn frames_are_written_to_a_buffer(rt: HostRuntime) {
     let mut writer = BufferWriter::new(&mut buffer);
     let frame = Frame::new_data(CowSlice::Borrowed(b"abc"));
     let answer = opened_there().write_frame_to_buffer(frame, &mut writer);
-    same(&rt, answer, Ok(()), "a buffer");
-    same(&rt, writer.offset(), 5, "a buffer");
+    assert_same(&rt, answer, Ok(()), "a buffer");
+    assert_same(&rt, writer.offset(), 5, "a buffer");
     let frame = Frame::new_data(CowSlice::Borrowed(b""));
     let answer = opened_there().write_frame_to_buffer(frame, &mut writer);
-    same(&rt, answer, Err(EndOfBuffer), "a full buffer");
-    same(&rt, writer.buffer_written(), WIRE, "what it has");
+    assert_same(&rt, answer, Err(EndOfBuffer), "a full buffer");
+    assert_same(&rt, writer.buffer_written(), WIRE, "what it has");
 }
 
 #[test]
@@ -38,14 +38,14 @@ fn a_session_frame_makes_it_a_stream_of_the_session(rt: HostRuntime) {
     let mut reader = BufferReader::new(&[0x40, 0x41, 0x00]);
     let read = stream.read_frame_from_buffer(&mut reader);
     let frame = read.expect(&rt, "no fault").expect(&rt, "a frame");
-    same(&rt, frame.kind(), FrameKind::WebTransport, "its kind");
-    same(&rt, frame.session_id(), Some(session), "its session");
-    same(&rt, stream.upgrade(session).session_id(), session, "made");
+    assert_same(&rt, frame.kind(), FrameKind::WebTransport, "its kind");
+    assert_same(&rt, frame.session_id(), Some(session), "its session");
+    assert_same(&rt, stream.upgrade(session).session_id(), session, "made");
 }
 
 #[test]
 fn the_protocol_is_named(rt: HostRuntime) {
-    same(
+    assert_same(
         &rt,
         wtransport_proto::WEBTRANSPORT_ALPN.as_slice(),
         b"h3".as_slice(),

@@ -1,6 +1,6 @@
 //! Debug output of streams, upgrades and their results.
 use crate::opened::{opened_here, opened_there, session_4};
-use crate::same::same;
+use crate::same::assert_same;
 use std::fmt::Debug;
 use std::process::Abort;
 use wtransport_proto::bytes::{IoReadError as Fault, Polled};
@@ -14,7 +14,7 @@ use wtransport_proto::stream::uniremote::StreamUniRemoteQuic;
 /// Asserts the debug output of a value.
 fn check_printed<R: Abort + AllocGlobal, T: Debug>(rt: &R, value: &T, wanted: &str) {
     let text = format!(in rt.alloc(); "{value:?}").expect(rt, "memory");
-    same(rt, text.as_str(), wanted, "printed");
+    assert_same(rt, text.as_str(), wanted, "printed");
 }
 
 #[test]
@@ -80,7 +80,7 @@ fn faults_of_a_stream_are_printed(rt: HostRuntime) {
     let code = IoReadError::H3(ErrorCode::FrameUnexpected);
     let fault = IoReadError::IO(Fault::UnexpectedFin);
     let text = format!(in rt.alloc(); "{code}; {fault}").expect(&rt, "memory");
-    same(
+    assert_same(
         &rt,
         text.as_str(),
         "FrameUnexpectedError; read operation failed because EOF reached after first byte",

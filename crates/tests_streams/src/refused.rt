@@ -1,6 +1,6 @@
 //! Writing frames from each writing state into a vector whose allocation fails.
 use crate::opened::{front, open_session, opened_here, opened_there, rest};
-use crate::same::same;
+use crate::same::assert_same;
 use std::alloc::Global;
 use std::borrow::CowSlice;
 use std::mem::drop;
@@ -66,13 +66,13 @@ const HEAD: &[u8] = &[0x00, 0x40, 0x64];
 fn check_refused<R: Abort + AllocGlobal, K: Writes>(rt: &R, stream: &mut K) {
     let mut out = Vec::new(rt.alloc());
     if let Err(error) = stream.write(&mut out) {
-        same(rt, error, PutError::Memory, "fault");
-        same(rt, are_parts(out.as_slice()), true, "whole parts");
+        assert_same(rt, error, PutError::Memory, "fault");
+        assert_same(rt, are_parts(out.as_slice()), true, "whole parts");
         out.clear();
         stream.write(&mut out).expect(rt, "memory");
     }
-    same(rt, front(out.as_slice(), 3), HEAD, "head");
-    same(rt, rest(out.as_slice(), 3), PAYLOAD.as_slice(), "payload");
+    assert_same(rt, front(out.as_slice(), 3), HEAD, "head");
+    assert_same(rt, rest(out.as_slice(), 3), PAYLOAD.as_slice(), "payload");
 }
 
 #[test]
@@ -87,8 +87,8 @@ fn check_left<R: Abort + AllocGlobal>(rt: &R, stream: &mut StreamBiLocalH3) {
     match stream.write(&mut out) {
         Ok(()) => {}
         Err(_) => {
-            same(rt, are_parts(out.as_slice()), true, "whole parts");
-            same(rt, stream.can_upgrade(), true, "nothing is written");
+            assert_same(rt, are_parts(out.as_slice()), true, "whole parts");
+            assert_same(rt, stream.can_upgrade(), true, "nothing is written");
             check_refused(rt, stream);
         }
     }
@@ -98,7 +98,7 @@ fn check_left<R: Abort + AllocGlobal>(rt: &R, stream: &mut StreamBiLocalH3) {
 fn refused_memory_leaves_a_stream_opened_here(rt: HostRuntime) {
     let mut stream = opened_here();
     check_left(&rt, &mut stream);
-    same(&rt, stream.can_upgrade(), false, "a frame is written");
+    assert_same(&rt, stream.can_upgrade(), false, "a frame is written");
     check_refused(&rt, &mut stream);
 }
 

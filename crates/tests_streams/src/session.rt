@@ -1,6 +1,6 @@
 //! Streams that carry a session request.
 use crate::opened::{front, open_session, opened_there};
-use crate::same::same;
+use crate::same::assert_same;
 use std::borrow::CowSlice;
 use std::mem::drop;
 use wtransport_proto::bytes::{BufferWriter, EndOfBuffer, PutError};
@@ -11,14 +11,14 @@ use wtransport_proto::session::SessionRequest;
 fn it_keeps_its_request(rt: HostRuntime) {
     let stream = open_session(rt.alloc()).expect(&rt, "memory");
     let request = stream.request();
-    same(&rt, request.authority(), "example.com", "opened here");
-    same(&rt, request.path(), "/a?b", "opened here");
+    assert_same(&rt, request.authority(), "example.com", "opened here");
+    assert_same(&rt, request.path(), "/a?b", "opened here");
     drop(stream);
     let request = SessionRequest::new(rt.alloc(), "https://localhost:4433");
     let request = request.expect(&rt, "memory");
     let stream = opened_there().into_session(request);
     let authority = stream.request().authority();
-    same(&rt, authority, "localhost:4433", "opened there");
+    assert_same(&rt, authority, "localhost:4433", "opened there");
     drop(stream);
 }
 
@@ -35,14 +35,14 @@ fn frames_are_written(rt: HostRuntime) {
     let mut writer = BufferWriter::new(&mut buffer);
     let frame = Frame::new_data(CowSlice::Borrowed(b"a"));
     let answer = stream.write_frame_to_buffer(frame, &mut writer);
-    same(&rt, answer, Ok(()), "the first");
+    assert_same(&rt, answer, Ok(()), "the first");
     let frame = Frame::new_data(CowSlice::Borrowed(b""));
     let answer = stream.write_frame_to_buffer(frame, &mut writer);
-    same(&rt, answer, Err(EndOfBuffer), "whole");
-    same(&rt, writer.buffer_written(), front(WRITTEN, 3), "whole");
+    assert_same(&rt, answer, Err(EndOfBuffer), "whole");
+    assert_same(&rt, writer.buffer_written(), front(WRITTEN, 3), "whole");
     let frame = Frame::new_headers(CowSlice::Borrowed(b""));
     let answer = stream.write_frame(frame, &mut writer);
-    same(&rt, answer, Err(PutError::EndOfBuffer), "in parts");
-    same(&rt, writer.buffer_written(), WRITTEN, "in parts");
+    assert_same(&rt, answer, Err(PutError::EndOfBuffer), "in parts");
+    assert_same(&rt, writer.buffer_written(), WRITTEN, "in parts");
     drop(stream);
 }

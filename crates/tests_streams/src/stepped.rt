@@ -1,6 +1,6 @@
 //! Upgrading streams poll by poll.
 use crate::opened::{front, opened_here, rest, session_4, stop_fault};
-use crate::same::same;
+use crate::same::assert_same;
 use std::fmt::Display;
 use std::process::Abort;
 use test_io::{End, OneByteSource, ScriptedSink, stops_after};
@@ -54,8 +54,8 @@ fn check_stopped<R: Abort, P: Drop, T: Drop>(
     taken: &'static [u8],
 ) -> P {
     let (state, fault) = take_failed(rt, stepped);
-    same(rt, fault, IoWriteError::Stopped, taken.len());
-    same(rt, sink.output(), taken, "the sink took");
+    assert_same(rt, fault, IoWriteError::Stopped, taken.len());
+    assert_same(rt, sink.output(), taken, "the sink took");
     state
 }
 
@@ -63,8 +63,8 @@ fn check_stopped<R: Abort, P: Drop, T: Drop>(
 fn check_session_made<R: Abort + AllocGlobal>(rt: &R, upgrading: BiUpgrading, wire: &'static [u8]) {
     let mut vector = Vec::new(rt.alloc());
     let stream = make_session(rt, upgrading, &mut vector);
-    same(rt, vector.as_slice(), wire, "to a vector");
-    same(rt, stream.session_id(), session_4(rt), wire.len());
+    assert_same(rt, vector.as_slice(), wire, "to a vector");
+    assert_same(rt, stream.session_id(), session_4(rt), wire.len());
 }
 
 /// The frame of session 4.
@@ -107,12 +107,12 @@ fn a_session_frame_waits_for_its_sink(rt: HostRuntime) {
     let mut sink = ScriptedSink::new(rt.alloc(), &HALTS);
     let upgrading = take_pending(&rt, session_frame_4(&rt).poll(&mut sink));
     let upgrading = take_pending(&rt, upgrading.poll(&mut sink));
-    same(&rt, sink.output(), front(SESSION_FRAME, 2), "two bytes");
+    assert_same(&rt, sink.output(), front(SESSION_FRAME, 2), "two bytes");
     let (upgrading, fault) = take_failed(&rt, upgrading.poll(&mut sink));
-    same(&rt, fault, IoWriteError::NotConnected, "lost");
+    assert_same(&rt, fault, IoWriteError::NotConnected, "lost");
     let stream = take_result(&rt, upgrading.poll(&mut sink));
-    same(&rt, sink.output(), SESSION_FRAME, "done");
-    same(&rt, stream.session_id(), session_4(&rt), "its session");
+    assert_same(&rt, sink.output(), SESSION_FRAME, "done");
+    assert_same(&rt, stream.session_id(), session_4(&rt), "its session");
 }
 
 #[test]
@@ -144,9 +144,9 @@ fn check_header_made<R: Abort + AllocGlobal>(
 ) {
     let mut vector = Vec::new(rt.alloc());
     let stream = write_header(rt, upgrading, &mut vector);
-    same(rt, vector.as_slice(), wire, "to a vector");
+    assert_same(rt, vector.as_slice(), wire, "to a vector");
     let came = (stream.kind(), stream.session_id());
-    same(rt, came, wanted, wire.len());
+    assert_same(rt, came, wanted, wire.len());
 }
 
 /// Returns an upgrade that writes the header of session 4 to a new stream.
@@ -181,12 +181,12 @@ fn a_header_waits_for_its_sink(rt: HostRuntime) {
     let mut sink = ScriptedSink::new(rt.alloc(), &HALTS);
     let upgrading = take_pending(&rt, header_4(&rt).poll(&mut sink));
     let upgrading = take_pending(&rt, upgrading.poll(&mut sink));
-    same(&rt, sink.output(), front(HEADER, 2), "two bytes");
+    assert_same(&rt, sink.output(), front(HEADER, 2), "two bytes");
     let (upgrading, fault) = take_failed(&rt, upgrading.poll(&mut sink));
-    same(&rt, fault, IoWriteError::NotConnected, "lost");
+    assert_same(&rt, fault, IoWriteError::NotConnected, "lost");
     let stream = take_result(&rt, upgrading.poll(&mut sink));
-    same(&rt, sink.output(), HEADER, "done");
-    same(&rt, stream.kind(), StreamKind::WebTransport, "its kind");
+    assert_same(&rt, sink.output(), HEADER, "done");
+    assert_same(&rt, stream.kind(), StreamKind::WebTransport, "its kind");
 }
 
 #[test]
@@ -203,7 +203,7 @@ fn check_failed<R: Abort, S: AsyncRead>(
     wanted: IoReadError,
 ) -> UniAccepting {
     let (accepting, fault) = take_failed(rt, accepting.poll(source));
-    same(rt, fault, wanted, "the fault");
+    assert_same(rt, fault, wanted, "the fault");
     accepting
 }
 
@@ -213,13 +213,13 @@ fn check_accepted<R: Abort, N: Display + Drop>(
     accepting: UniAccepting,
     source: &mut &[u8],
     wanted: Made,
-    shows: N,
+    case: N,
 ) {
     let stream = take_result(rt, accepting.poll(source));
-    same(rt, (stream.kind(), stream.session_id()), wanted, shows);
+    assert_same(rt, (stream.kind(), stream.session_id()), wanted, case);
 }
 
-/// The bytes of a header and its end, the error, and what the row shows.
+/// The bytes of a header and its end, the error, and the case.
 type FaultRow = (&'static [u8], IoReadError, &'static str);
 
 /// Headers that are rejected.
@@ -240,12 +240,12 @@ static FAULTS: [FaultRow; 4] = [
 
 /// Asserts that the header of a row is rejected with its error, and that no byte is left.
 fn check_refusal<R: Abort>(rt: &R, row: &FaultRow) {
-    let (bytes, fault, shows) = row;
+    let (bytes, fault, case) = row;
     let mut source = *bytes;
     let accepting = StreamUniRemoteQuic::accept_uni().upgrade_async();
     let (_, came) = take_failed(rt, accepting.poll(&mut source));
-    same(rt, &came, fault, shows);
-    same(rt, source.len(), 0, shows);
+    assert_same(rt, &came, fault, case);
+    assert_same(rt, source.len(), 0, case);
 }
 
 #[test]
@@ -261,7 +261,7 @@ fn headers_are_accepted(rt: HostRuntime) {
     let accepting = StreamUniRemoteQuic::accept_uni().upgrade_async();
     let wanted = (StreamKind::Control, None);
     check_accepted(&rt, accepting, &mut source, wanted, "control");
-    same(&rt, source, b"\x04\x00".as_slice(), "bytes left");
+    assert_same(&rt, source, b"\x04\x00".as_slice(), "bytes left");
 }
 
 #[test]

@@ -1,6 +1,6 @@
 //! Unidirectional streams that this end opened.
 use crate::opened::{front, session_4, session_of_stream};
-use crate::same::same;
+use crate::same::assert_same;
 use std::borrow::CowSlice;
 use std::process::Abort;
 use wtransport_proto::bytes::{BufferWriter, EndOfBuffer, PutError};
@@ -15,12 +15,12 @@ const CONTROL: &[u8] = &[0x00, 0x04, 0x00, 0x04, 0x00];
 #[test]
 fn a_control_stream_writes_settings(rt: HostRuntime) {
     let header = StreamHeader::new_control();
-    same(&rt, StreamUniLocalQuic::upgrade_size(header), 1, "size");
+    assert_same(&rt, StreamUniLocalQuic::upgrade_size(header), 1, "size");
     let mut buffer = [0; 5];
     let mut writer = BufferWriter::new(&mut buffer);
     let upgraded = StreamUniLocalQuic::open_uni().upgrade(header, &mut writer);
     let mut stream = upgraded.expect(&rt, "there is room");
-    same(
+    assert_same(
         &rt,
         (writer.buffer_written(), stream.kind(), stream.session_id()),
         (front(CONTROL, 1), StreamKind::Control, None),
@@ -31,16 +31,16 @@ fn a_control_stream_writes_settings(rt: HostRuntime) {
     }
     let frame = Frame::new_settings(CowSlice::Borrowed(&[]));
     let answer = stream.write_frame(frame, &mut writer);
-    same(&rt, answer, Ok(()), "in parts");
-    same(&rt, writer.buffer_written(), front(CONTROL, 3), "in parts");
+    assert_same(&rt, answer, Ok(()), "in parts");
+    assert_same(&rt, writer.buffer_written(), front(CONTROL, 3), "in parts");
     let frame = Frame::new_settings(CowSlice::Borrowed(&[0x33, 0x01]));
     let answer = stream.write_frame_to_buffer(frame, &mut writer);
-    same(&rt, answer, Err(EndOfBuffer), "too little room");
-    same(&rt, writer.offset(), 3, "too little room");
+    assert_same(&rt, answer, Err(EndOfBuffer), "too little room");
+    assert_same(&rt, writer.offset(), 3, "too little room");
     let frame = Frame::new_settings(CowSlice::Borrowed(&[]));
     let answer = stream.write_frame_to_buffer(frame, &mut writer);
-    same(&rt, answer, Ok(()), "whole");
-    same(&rt, writer.buffer_written(), CONTROL, "whole");
+    assert_same(&rt, answer, Ok(()), "whole");
+    assert_same(&rt, writer.buffer_written(), CONTROL, "whole");
 }
 
 /// The header of session 4.
@@ -51,22 +51,22 @@ const HEADER: &[u8] = &[0x40, 0x54, 0x04];
 fn it_is_upgraded_where_there_is_room(rt: HostRuntime) {
     let session = session_4(&rt);
     let header = StreamHeader::new_webtransport(session);
-    same(&rt, StreamUniLocalQuic::upgrade_size(header), 3, "size");
+    assert_same(&rt, StreamUniLocalQuic::upgrade_size(header), 3, "size");
     let mut buffer = [0; 2];
     let mut writer = BufferWriter::new(&mut buffer);
     let upgraded = StreamUniLocalQuic::open_uni().upgrade(header, &mut writer);
     let (stream, error) = upgraded.expect_err(&rt, "too little room");
-    same(&rt, error, PutError::EndOfBuffer, "too little room");
-    same(&rt, writer.buffer_written(), front(HEADER, 2), "the parts");
+    assert_same(&rt, error, PutError::EndOfBuffer, "too little room");
+    assert_same(&rt, writer.buffer_written(), front(HEADER, 2), "the parts");
     let mut buffer = [0; 3];
     let mut writer = BufferWriter::new(&mut buffer);
     let upgraded = stream.upgrade(header, &mut writer);
     let stream = upgraded.expect(&rt, "there is room");
-    same(&rt, stream.session_id(), Some(session), "the session named");
-    same(&rt, writer.buffer_written(), HEADER, "the header");
+    assert_same(&rt, stream.session_id(), Some(session), "the session named");
+    assert_same(&rt, writer.buffer_written(), HEADER, "the header");
     match stream.kind() {
         StreamKind::WebTransport => {
-            same(&rt, stream.upgrade().session_id(), session, "its session");
+            assert_same(&rt, stream.upgrade().session_id(), session, "its session");
         }
         _ => rt.panic("a stream of a session"),
     }
@@ -88,8 +88,8 @@ fn upgrade_again<R: Abort>(rt: &R, header: StreamHeader, vector: &mut Vec<u8>) -
     match StreamUniLocalQuic::open_uni().upgrade(header, vector) {
         Ok(stream) => stream,
         Err((stream, error)) => {
-            same(rt, error, PutError::Memory, "error");
-            same(rt, are_parts(vector.as_slice()), true, "whole parts");
+            assert_same(rt, error, PutError::Memory, "error");
+            assert_same(rt, are_parts(vector.as_slice()), true, "whole parts");
             vector.clear();
             stream.upgrade(header, vector).expect(rt, "memory")
         }
@@ -102,6 +102,6 @@ fn refused_memory_hands_the_stream_back(rt: HostRuntime) {
     let mut vector = Vec::new(rt.alloc());
     let header = StreamHeader::new_webtransport(session);
     let stream = upgrade_again(&rt, header, &mut vector);
-    same(&rt, stream.session_id(), Some(session), "its session");
-    same(&rt, vector.as_slice(), HEADER_64, "the header");
+    assert_same(&rt, stream.session_id(), Some(session), "its session");
+    assert_same(&rt, vector.as_slice(), HEADER_64, "the header");
 }

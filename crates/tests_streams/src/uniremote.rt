@@ -1,6 +1,6 @@
 //! Unidirectional streams that the peer opened.
 use crate::opened::session_4;
-use crate::same::same;
+use crate::same::assert_same;
 use std::process::Abort;
 use wtransport_proto::error::ErrorCode;
 use wtransport_proto::ids::SessionId;
@@ -24,11 +24,11 @@ fn read_header<R: Abort>(
 type Summary = (StreamKind, Option<SessionId>, bool);
 
 /// Asserts that the bytes start with the header of this stream, and which bytes are left.
-fn check_header<R: Abort>(rt: &R, mut bytes: &[u8], wanted: Summary, left: &[u8], shows: &str) {
+fn check_header<R: Abort>(rt: &R, mut bytes: &[u8], wanted: Summary, left: &[u8], case: &str) {
     let stream = read_header(rt, StreamUniRemoteQuic::accept_uni(), &mut bytes);
     let came = (stream.kind(), stream.session_id(), stream.can_read());
-    same(rt, came, wanted, shows);
-    same(rt, bytes, left, shows);
+    assert_same(rt, came, wanted, case);
+    assert_same(rt, bytes, left, case);
 }
 
 #[test]
@@ -53,8 +53,8 @@ fn check_cut<R: Abort>(rt: &R, mut bytes: &[u8], left: usize) {
         rt.panic("too few bytes")
     };
     let stream = read_header(rt, stream, &mut b"\x40\x54\x04".as_slice());
-    same(rt, bytes.len(), left, "bytes left");
-    same(rt, stream.kind(), StreamKind::WebTransport, "the kind");
+    assert_same(rt, bytes.len(), left, "bytes left");
+    assert_same(rt, stream.kind(), StreamKind::WebTransport, "the kind");
 }
 
 #[test]
@@ -64,7 +64,7 @@ fn a_cut_header_is_read_on(rt: HostRuntime) {
     check_cut(&rt, b"\x40\x54", 0);
 }
 
-/// The bytes of a header, the error code, and what the row shows.
+/// The bytes of a header, the error code, and the case.
 type FaultRow = (&'static [u8], ErrorCode, &'static str);
 
 /// Headers that are rejected.
@@ -80,10 +80,10 @@ static FAULTS: [FaultRow; 3] = [
 
 /// Asserts that the header of a row is rejected with its error code, and that no byte is left.
 fn check_refusal<R: Abort>(rt: &R, row: &FaultRow) {
-    let (mut bytes, code, shows) = *row;
+    let (mut bytes, code, case) = *row;
     let answer = StreamUniRemoteQuic::accept_uni().upgrade(&mut bytes);
-    same(rt, answer.err(), Some(code), shows);
-    same(rt, bytes.len(), 0, shows);
+    assert_same(rt, answer.err(), Some(code), case);
+    assert_same(rt, bytes.len(), 0, case);
 }
 
 #[test]
@@ -100,7 +100,7 @@ fn it_becomes_a_stream_of_its_session(rt: HostRuntime) {
     match stream.kind() {
         StreamKind::WebTransport => {
             let session = stream.upgrade().session_id();
-            same(&rt, session, session_4(&rt), "its session");
+            assert_same(&rt, session, session_4(&rt), "its session");
         }
         _ => rt.panic("a stream of a session"),
     }

@@ -4,7 +4,7 @@ ghost use Rattle.wtransport_proto.specs.StreamWriting.{WritesPlain};
 ghost use Rattle.wtransport_proto.specs.Streams.{CanWrite};
 
 use crate::opened::{front, open_session, opened_here, opened_there, rest};
-use crate::same::same;
+use crate::same::assert_same;
 use std::borrow::CowSlice;
 use std::mem::drop;
 use std::process::Abort;
@@ -91,7 +91,7 @@ fn send_again<K: Sends, W: AsyncWrite>(sending: &mut K, sink: &mut W) -> SendAns
 
 /// Asserts that the frame is sent, and that these bytes were written.
 fn check_sent<R: Abort>(rt: &R, answer: SendAnswer, came: &[u8], wire: &'static [u8]) {
-    same(rt, (answer, came), (DONE, wire), "all is sent");
+    assert_same(rt, (answer, came), (DONE, wire), "all is sent");
 }
 
 /// Asserts that the rest of the frame is written to a vector, as these bytes.
@@ -116,9 +116,9 @@ fn check_stop<R: Abort + AllocGlobal>(rt: &R, room: usize) {
     let answer = sending.send(&mut sink);
     let came = (answer, sink.output(), sending.stream.can_upgrade());
     let stopped = Polled::Ready(Err(IoWriteError::Stopped));
-    same(rt, came, (stopped, front(DATA, room), true), room);
+    assert_same(rt, came, (stopped, front(DATA, room), true), room);
     check_rest(rt, &mut sending, rest(DATA, room));
-    same(rt, sending.stream.can_upgrade(), false, room);
+    assert_same(rt, sending.stream.can_upgrade(), false, room);
 }
 
 #[test]
@@ -129,7 +129,7 @@ fn a_frame_goes_on_elsewhere(rt: HostRuntime) {
 }
 
 /// The result of a poll with a sink that halts, whether the stream can be upgraded after it, and
-/// what the row shows.
+/// the case.
 type HaltRow = (SendAnswer, bool, &'static str);
 
 /// Asserts the result of a poll by its row.
@@ -139,10 +139,10 @@ fn check_halt<R: Abort>(
     sink: &mut ScriptedSink<'_>,
     row: &HaltRow,
 ) {
-    let (answer, can_upgrade, shows) = row;
+    let (answer, can_upgrade, case) = row;
     let came = sending.send(sink);
     let upgradable = sending.stream.can_upgrade();
-    same(rt, (&came, upgradable), (answer, *can_upgrade), shows);
+    assert_same(rt, (&came, upgradable), (answer, *can_upgrade), case);
 }
 
 /// The polls with a sink that halts.
@@ -180,8 +180,8 @@ fn a_frame_that_was_written_ends_upgrading(rt: HostRuntime) {
     for row in &HALTING {
         check_halt(&rt, &mut sending, &mut sink, row);
     }
-    same(&rt, sink.left(), 1, "the sink is not called");
-    same(&rt, sink.output(), b"\x00\x01a".as_slice(), "the sink");
+    assert_same(&rt, sink.left(), 1, "the sink is not called");
+    assert_same(&rt, sink.output(), b"\x00\x01a".as_slice(), "the sink");
 }
 
 /// Polls once. If allocation failed, asserts that the stream can still be upgraded, and polls
@@ -189,7 +189,7 @@ fn a_frame_that_was_written_ends_upgrading(rt: HostRuntime) {
 fn send_refused<R: Abort>(rt: &R, sending: &mut ToBoth<'_>, vector: &mut Vec<u8>) -> SendAnswer {
     match sending.send(vector) {
         Polled::NoMemory => {
-            same(rt, sending.stream.can_upgrade(), true, "refused");
+            assert_same(rt, sending.stream.can_upgrade(), true, "refused");
             sending.send(vector)
         }
         answer => answer,
@@ -206,7 +206,7 @@ fn refused_memory_for_a_frame_is_asked_for_again(rt: HostRuntime) {
     let mut vector = Vec::new(rt.alloc());
     let answer = send_refused(&rt, &mut sending, &mut vector);
     check_sent(&rt, answer, vector.as_slice(), DATA);
-    same(&rt, sending.stream.can_upgrade(), false, "written");
+    assert_same(&rt, sending.stream.can_upgrade(), false, "written");
 }
 
 #[test]
@@ -217,7 +217,7 @@ fn a_frame_is_written_whole(rt: HostRuntime) {
         writing: frame.write_async(),
     };
     check_rest(&rt, &mut sending, b"\x00\x01a");
-    same(&rt, sending.stream.can_upgrade(), false, "written whole");
+    assert_same(&rt, sending.stream.can_upgrade(), false, "written whole");
 }
 
 #[test]
@@ -304,7 +304,7 @@ fn a_frame_is_written_in_a_loop(rt: HostRuntime) {
     };
     let answer = write_on(&mut sending, &mut sink);
     check_sent(&rt, answer, sink.output(), DATA);
-    same(&rt, sending.stream.can_upgrade(), false, "written");
+    assert_same(&rt, sending.stream.can_upgrade(), false, "written");
 }
 
 /// The stream type is written to another sink.

@@ -1,6 +1,6 @@
 //! Capsules found in bytes that the caller holds, split in every way.
 use crate::capsule_readings::{Ending, RECORDED, ROWS};
-use crate::same::same;
+use crate::same::assert_same;
 use std::process::Abort;
 use wtp_core::varint::VarInt;
 use wtp_wire::capsule::{AnyCapsule, CapsuleCursor, CapsuleStep, UnknownCapsule};
@@ -64,7 +64,7 @@ fn check_cut<R: Abort>(
     cut: usize,
     values: &[&'static [u8]],
     ending: Ending,
-    shows: &str,
+    case: &str,
 ) {
     let mut coming = Coming {
         data,
@@ -72,49 +72,38 @@ fn check_cut<R: Abort>(
         cursor: CapsuleCursor::new(),
     };
     for value in values {
-        same(rt, (coming.step(cut), cut), (Ok(*value), cut), shows);
+        assert_same(rt, (coming.step(cut), cut), (Ok(*value), cut), case);
     }
-    same(rt, (coming.step(cut), cut), (Err(ending), cut), shows);
+    assert_same(rt, (coming.step(cut), cut), (Err(ending), cut), case);
 }
 
 /// Asserts these capsules and this end for data that is split at each offset.
-fn check_cuts<R: Abort>(
-    rt: &R,
-    data: &[u8],
-    values: &[&'static [u8]],
-    ending: Ending,
-    shows: &str,
-) {
+fn check_cuts<R: Abort>(rt: &R, data: &[u8], values: &[&'static [u8]], ending: Ending, case: &str) {
     for cut in 0..=data.len() {
-        check_cut(rt, data, cut, values, ending, shows);
+        check_cut(rt, data, cut, values, ending, case);
     }
 }
 
 #[test]
 fn held_data_may_be_cut_anywhere(rt: HostRuntime) {
-    for (data, values, ending, shows) in &ROWS {
-        check_cuts(&rt, data, values, *ending, shows);
+    for row in &ROWS {
+        check_cuts(&rt, row.data, row.values, row.ending, row.case);
     }
 }
 
 /// Asserts the close in the payloads, split at each offset.
-fn check_close<R: Abort + AllocGlobal>(
-    rt: &R,
-    pieces: &[&[u8]],
-    value: &'static [u8],
-    shows: &str,
-) {
+fn check_close<R: Abort + AllocGlobal>(rt: &R, pieces: &[&[u8]], value: &'static [u8], case: &str) {
     let mut data = Vec::new(rt.alloc());
     for piece in pieces {
         data.extend_from_slice(piece).expect(rt, "memory");
     }
-    check_cuts(rt, data.as_slice(), &[value], Ending::Clean, shows);
+    check_cuts(rt, data.as_slice(), &[value], Ending::Clean, case);
 }
 
 #[test]
 fn recorded_closes_may_be_cut_anywhere(rt: HostRuntime) {
-    for (pieces, value, shows) in &RECORDED {
-        check_close(&rt, pieces, value, shows);
+    for (pieces, value, case) in &RECORDED {
+        check_close(&rt, pieces, value, case);
     }
 }
 
@@ -128,28 +117,28 @@ fn unknown_capsules_are_found_by_number(rt: HostRuntime) {
         announced: VarInt::from_u32(3),
         start: 2,
     });
-    same(
+    assert_same(
         &rt,
         cursor.next_any(&[0x17, 3, 7]),
         found,
         "a reserved type",
     );
-    same(&rt, cursor.missing(&[]), 3, "its value");
-    same(
+    assert_same(&rt, cursor.missing(&[]), 3, "its value");
+    assert_same(
         &rt,
         cursor.next_any(&[7, 8]),
         AnyCapsule::More(2),
         "two bytes",
     );
-    same(&rt, cursor.missing(&[]), 1, "one is left");
+    assert_same(&rt, cursor.missing(&[]), 1, "one is left");
     let left = [0x68, 0x43];
-    same(
+    assert_same(
         &rt,
         cursor.next_any(&[9, 0x68, 0x43]),
         AnyCapsule::More(1),
         "the last, and a type",
     );
-    same(
+    assert_same(
         &rt,
         cursor.missing(&left),
         1,

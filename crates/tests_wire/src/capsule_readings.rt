@@ -1,5 +1,5 @@
 //! Capsules read from data that is split anywhere, and close capsules that are written.
-use crate::same::same;
+use crate::same::assert_same;
 use std::alloc::Global;
 use std::process::Abort;
 use wtp_core::bytes::PutError;
@@ -38,29 +38,29 @@ fn check_piece<R: Abort>(
     piece: &[u8],
     values: &[&'static [u8]],
     count: usize,
-    shows: &str,
+    case: &str,
 ) -> (usize, bool) {
     let mut rest = piece;
     let mut count = count;
     for _ in 0..=values.len() {
         match next(reading, &mut rest) {
             Ok(Some(capsule)) => {
-                same(
+                assert_same(
                     rt,
                     Some(capsule.payload()),
                     values.get(count).copied(),
-                    shows,
+                    case,
                 );
                 count = count.saturating_add(1);
             }
             Ok(None) => break,
             Err(fault) => {
-                same(rt, fault, CapsuleError::TooLong, shows);
+                assert_same(rt, fault, CapsuleError::TooLong, case);
                 return (count, true);
             }
         }
     }
-    same(rt, rest, [].as_slice(), shows);
+    assert_same(rt, rest, [].as_slice(), case);
     (count, false)
 }
 
@@ -70,20 +70,20 @@ fn check_pieces<R: Abort + AllocGlobal>(
     pieces: &[&[u8]],
     values: &[&'static [u8]],
     ending: Ending,
-    shows: &str,
+    case: &str,
 ) {
     let mut reading = CapsuleReading::new(rt.alloc());
     let mut count = 0;
     for piece in pieces {
-        let (found, too_long) = check_piece(rt, &mut reading, piece, values, count, shows);
+        let (found, too_long) = check_piece(rt, &mut reading, piece, values, count, case);
         if too_long {
-            same(rt, (Ending::TooLong, found), (ending, values.len()), shows);
+            assert_same(rt, (Ending::TooLong, found), (ending, values.len()), case);
             return;
         }
         count = found;
     }
     let came = (ending_of(&reading), count);
-    same(rt, came, (ending, values.len()), shows);
+    assert_same(rt, came, (ending, values.len()), case);
 }
 
 /// Returns how data ends that leaves a reader in this state.
@@ -94,20 +94,20 @@ fn ending_of(reading: &CapsuleReading) -> Ending {
     }
 }
 
-/// Data, the values of its close capsules, how it ends, and what the row shows.
-pub type Row = (
-    &'static [u8],
-    &'static [&'static [u8]],
-    Ending,
-    &'static str,
-);
+/// Data, and what is read from it.
+pub struct Row {
+    pub case: &'static str,
+    pub data: &'static [u8],
+    /// The values of the close capsules.
+    pub values: &'static [&'static [u8]],
+    pub ending: Ending,
+}
 
 /// Asserts a row that is split at each offset.
 fn check_cuts<R: Abort + AllocGlobal>(rt: &R, row: &Row) {
-    let (bytes, values, ending, shows) = *row;
-    for at in 0..=bytes.len() {
-        let (front, rest) = bytes.split_at(at);
-        check_pieces(rt, &[front, rest], values, ending, shows);
+    for at in 0..=row.data.len() {
+        let (front, rest) = row.data.split_at(at);
+        check_pieces(rt, &[front, rest], row.values, row.ending, row.case);
     }
 }
 
@@ -118,91 +118,106 @@ const BYE: &[u8] = b"\x00\x00\x12\x34bye, w\xc3\xb6rld";
 const END: &[u8] = b"\x00\x00\x00\x07end";
 
 /// One close capsule.
-const CLOSE: Row = (
-    &[0x68, 0x43, 0x07, 0, 0, 0, 7, 0x65, 0x6e, 0x64],
-    &[END],
-    Ending::Clean,
-    "a close",
-);
+const CLOSE: Row = Row {
+    case: "a close",
+    data: &[0x68, 0x43, 0x07, 0, 0, 0, 7, 0x65, 0x6e, 0x64],
+    values: &[END],
+    ending: Ending::Clean,
+};
 
 /// Worked rows. Types 0x17, 0x40 and 0x69 are reserved: 0x29 * N + 0x17 (RFC 9297, section 5.4).
 pub static ROWS: [Row; 14] = [
-    (&[], &[], Ending::Clean, "no data"),
+    Row {
+        case: "no data",
+        data: &[],
+        values: &[],
+        ending: Ending::Clean,
+    },
     CLOSE,
-    (
-        &[0x17, 0x00, 0x68, 0x43, 0x07, 0, 0, 0, 7, 0x65, 0x6e, 0x64],
-        &[END],
-        Ending::Clean,
-        "an empty reserved capsule",
-    ),
-    (
-        &[
+    Row {
+        case: "an empty reserved capsule",
+        data: &[0x17, 0x00, 0x68, 0x43, 0x07, 0, 0, 0, 7, 0x65, 0x6e, 0x64],
+        values: &[END],
+        ending: Ending::Clean,
+    },
+    Row {
+        case: "two reserved capsules",
+        data: &[
             0x40, 0x40, 0x03, 0x68, 0x43, 0x00, 0x40, 0x69, 0x40, 0x01, 0xff, 0x68, 0x43, 0x07, 0,
             0, 0, 7, 0x65, 0x6e, 0x64,
         ],
-        &[END],
-        Ending::Clean,
-        "two reserved capsules",
-    ),
-    (
-        &[
+        values: &[END],
+        ending: Ending::Clean,
+    },
+    Row {
+        case: "longer encodings, and a datagram after it",
+        data: &[
             0x80, 0x00, 0x28, 0x43, 0x40, 0x07, 0, 0, 0, 7, 0x65, 0x6e, 0x64, 0x00, 0x01, 0x61,
         ],
-        &[END],
-        Ending::Clean,
-        "longer encodings, and a datagram after it",
-    ),
-    (
-        &[
+        values: &[END],
+        ending: Ending::Clean,
+    },
+    Row {
+        case: "three closes",
+        data: &[
             0x68, 0x43, 0x07, 0, 0, 0, 7, 0x65, 0x6e, 0x64, 0x68, 0x43, 0x00, 0x68, 0x43, 0x01,
             0x05,
         ],
-        &[END, b"", b"\x05"],
-        Ending::Clean,
-        "three closes",
-    ),
-    (&[0x68], &[], Ending::Cut, "half of a type"),
-    (&[0x68, 0x43], &[], Ending::Cut, "no length"),
-    (
-        &[0x68, 0x43, 0x07, 0, 0, 0, 7, 0x65, 0x6e],
-        &[],
-        Ending::Cut,
-        "a byte is missing",
-    ),
-    (
-        &[0x17, 0x02, 0x68],
-        &[],
-        Ending::Cut,
-        "a byte of an unknown one is missing",
-    ),
-    (
-        &[
+        values: &[END, b"", b"\x05"],
+        ending: Ending::Clean,
+    },
+    Row {
+        case: "half of a type",
+        data: &[0x68],
+        values: &[],
+        ending: Ending::Cut,
+    },
+    Row {
+        case: "no length",
+        data: &[0x68, 0x43],
+        values: &[],
+        ending: Ending::Cut,
+    },
+    Row {
+        case: "a byte is missing",
+        data: &[0x68, 0x43, 0x07, 0, 0, 0, 7, 0x65, 0x6e],
+        values: &[],
+        ending: Ending::Cut,
+    },
+    Row {
+        case: "a byte of an unknown one is missing",
+        data: &[0x17, 0x02, 0x68],
+        values: &[],
+        ending: Ending::Cut,
+    },
+    Row {
+        case: "the longest length",
+        data: &[
             0x17, 0xff, 0xff, 0xff, 0xff, 0xff, 0xff, 0xff, 0xff, 0x68, 0x43, 0x00,
         ],
-        &[],
-        Ending::Cut,
-        "the longest length",
-    ),
-    (
-        &[0x68, 0x43, 0x00, 0x68, 0x43, 0x44, 0x05, 0x68, 0x43, 0x00],
-        &[b""],
-        Ending::TooLong,
-        "a length of 1029",
-    ),
-    (
-        &[0x68, 0x43, 0x44, 0x04, 0x68, 0x43, 0x00],
-        &[],
-        Ending::Cut,
-        "a length of 1028",
-    ),
-    (
-        &[
+        values: &[],
+        ending: Ending::Cut,
+    },
+    Row {
+        case: "a length of 1029",
+        data: &[0x68, 0x43, 0x00, 0x68, 0x43, 0x44, 0x05, 0x68, 0x43, 0x00],
+        values: &[b""],
+        ending: Ending::TooLong,
+    },
+    Row {
+        case: "a length of 1028",
+        data: &[0x68, 0x43, 0x44, 0x04, 0x68, 0x43, 0x00],
+        values: &[],
+        ending: Ending::Cut,
+    },
+    Row {
+        case: "the longest length of a close",
+        data: &[
             0x68, 0x43, 0xff, 0xff, 0xff, 0xff, 0xff, 0xff, 0xff, 0xff, 0x00,
         ],
-        &[],
-        Ending::TooLong,
-        "the longest length of a close",
-    ),
+        values: &[],
+        ending: Ending::TooLong,
+    },
 ];
 
 #[test]
@@ -221,33 +236,25 @@ fn a_cut_close_is_found_past_refused_memory(rt: HostRuntime) {
 pub static RECORDED: [(&[&[u8]], &[u8], &str); 5] = [
     (
         &[
-            &[
-                0xc4, 0x08, 0x82, 0x42, 0xd8, 0x39, 0x59, 0xfa, 0x3b, 0x80, 0xb2, 0x65, 0x7e, 0x03,
-                0x7e, 0xde, 0x1f, 0x37, 0x08, 0xc2, 0x3b, 0x07, 0xff, 0x8c, 0x54, 0x61, 0x55, 0xe2,
-                0x4d, 0xec, 0x63, 0x6a, 0x26, 0xbd, 0xd5, 0x5d, 0x8b, 0x75, 0xea, 0xe6, 0x48, 0xdc,
-                0x29, 0x88, 0x0f, 0xb1, 0x9f, 0x39, 0x43, 0x43, 0x5b, 0x82, 0xcc, 0xf1, 0xd4, 0x15,
-                0xad, 0x34, 0x52, 0x74, 0x52, 0xbd, 0x51, 0xdc, 0xeb, 0xbe, 0xcb, 0x41,
-            ],
-            &[
-                0x68, 0x43, 0x0f, 0x00, 0x00, 0x12, 0x34, 0x62, 0x79, 0x65, 0x2c, 0x20, 0x77, 0xc3,
-                0xb6, 0x72, 0x6c, 0x64,
-            ],
+            // recorded: chr07-0-c2s-0.bin, bytes 137 to 205
+            b"\xc4\x08\x82\x42\xd8\x39\x59\xfa\x3b\x80\xb2\x65\x7e\x03\x7e\xde\x1f\x37\x08\xc2\x3b\
+            \x07\xff\x8c\x54\x61\x55\xe2\x4d\xec\x63\x6a\x26\xbd\xd5\x5d\x8b\x75\xea\xe6\x48\xdc\
+            \x29\x88\x0f\xb1\x9f\x39\x43\x43\x5b\x82\xcc\xf1\xd4\x15\xad\x34\x52\x74\x52\xbd\x51\
+            \xdc\xeb\xbe\xcb\x41",
+            // recorded: chr07-0-c2s-0.bin, bytes 207 to 225
+            b"\x68\x43\x0f\x00\x00\x12\x34\x62\x79\x65\x2c\x20\x77\xc3\xb6\x72\x6c\x64",
         ],
         BYE,
         "Chromium 156, a reserved capsule in front",
     ),
     (
         &[
-            &[
-                0xc6, 0xe1, 0xff, 0xfd, 0xf6, 0xd8, 0x78, 0x63, 0x2b, 0x7d, 0xf1, 0xbc, 0x7a, 0x62,
-                0xb9, 0x55, 0x56, 0x96, 0xe7, 0x3c, 0x20, 0xf3, 0xe2, 0x0d, 0x4b, 0x90, 0x21, 0x78,
-                0x37, 0x29, 0xf5, 0xe8, 0x0d, 0x7d, 0x54, 0xe1, 0xb0, 0xcd, 0x47, 0x8f, 0x47, 0xe0,
-                0xa5, 0xb0, 0x6d, 0x94, 0xc6, 0x74, 0x85, 0x24, 0x4b, 0xbf,
-            ],
-            &[
-                0x68, 0x43, 0x0f, 0x00, 0x00, 0x12, 0x34, 0x62, 0x79, 0x65, 0x2c, 0x20, 0x77, 0xc3,
-                0xb6, 0x72, 0x6c, 0x64,
-            ],
+            // recorded: chrdyn-0-c2s-0.bin, bytes 14 to 66
+            b"\xc6\xe1\xff\xfd\xf6\xd8\x78\x63\x2b\x7d\xf1\xbc\x7a\x62\xb9\x55\x56\x96\xe7\x3c\x20\
+            \xf3\xe2\x0d\x4b\x90\x21\x78\x37\x29\xf5\xe8\x0d\x7d\x54\xe1\xb0\xcd\x47\x8f\x47\xe0\
+            \xa5\xb0\x6d\x94\xc6\x74\x85\x24\x4b\xbf",
+            // recorded: chrdyn-0-c2s-0.bin, bytes 68 to 86
+            b"\x68\x43\x0f\x00\x00\x12\x34\x62\x79\x65\x2c\x20\x77\xc3\xb6\x72\x6c\x64",
         ],
         BYE,
         "Chromium 156, another session",
@@ -281,15 +288,15 @@ pub static RECORDED: [(&[&[u8]], &[u8], &str); 5] = [
 
 #[test]
 fn recorded_closes_are_found_past_refused_memory(rt: HostRuntime) {
-    for (pieces, value, shows) in &RECORDED {
-        check_pieces(&rt, pieces, &[*value], Ending::Clean, shows);
+    for (pieces, value, case) in &RECORDED {
+        check_pieces(&rt, pieces, &[*value], Ending::Clean, case);
     }
 }
 
 #[test]
 fn values_have_a_limit(rt: HostRuntime) {
     let limit = CapsuleKind::CloseWebTransportSession.max_value_len();
-    same(&rt, limit, 1028, "the limit");
+    assert_same(&rt, limit, 1028, "the limit");
 }
 
 /// The result of creating a close.
@@ -330,7 +337,7 @@ fn check_written<R: Abort + AllocGlobal>(rt: &R, code: u32, reason: &str, wanted
     let mut bytes = Vec::new(rt.alloc());
     let outcome = write(&close, &mut bytes);
     let came = (outcome, bytes.as_slice(), close.write_size());
-    same(rt, came, (Ok(()), wanted, wanted.len()), reason);
+    assert_same(rt, came, (Ok(()), wanted, wanted.len()), reason);
 }
 
 /// Error codes and reasons, and the bytes of their capsules.
@@ -363,7 +370,7 @@ fn size_of<R: AllocGlobal>(rt: &R, reason: &[u8]) -> Result<usize, CapsuleError>
 fn made_reasons_have_a_limit_past_refused_memory(rt: HostRuntime) {
     let letters = [0x61; 1025];
     let over = size_of(&rt, &letters);
-    same(&rt, over, Err(CapsuleError::TooLong), "1025 bytes");
+    assert_same(&rt, over, Err(CapsuleError::TooLong), "1025 bytes");
     let size = size_of(&rt, &letters[..1024]);
-    same(&rt, size, Ok(1032), "1024 bytes");
+    assert_same(&rt, size, Ok(1032), "1024 bytes");
 }

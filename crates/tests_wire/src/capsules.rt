@@ -1,5 +1,5 @@
 //! Worked rows of capsules, and the effect of failed allocations.
-use crate::same::same;
+use crate::same::assert_same;
 use std::borrow::CowSlice;
 use std::process::Abort;
 use wtp_core::error::{ErrorCode, Refused};
@@ -41,63 +41,73 @@ fn check<R: Abort + AllocGlobal>(
     rt: &R,
     payload: &[u8],
     wanted: Option<Result<(u64, &[u8]), Refused>>,
-    shows: &str,
+    case: &str,
 ) {
     match answer(rt, payload) {
         Some(Ok(close)) => {
             let came = (close.error_code().into_inner(), close.reason().as_bytes());
-            same(rt, Some(Ok(came)), wanted, shows);
+            assert_same(rt, Some(Ok(came)), wanted, case);
         }
-        Some(Err(fault)) => same(rt, Some(Err(fault)), wanted, shows),
-        None => same(rt, None, wanted, shows),
+        Some(Err(fault)) => assert_same(rt, Some(Err(fault)), wanted, case),
+        None => assert_same(rt, None, wanted, case),
     }
 }
 
 /// Asserts the kind and value length of the close capsule in this payload of a DATA frame.
-fn check_close<R: Abort>(rt: &R, payload: &[u8], len: usize, shows: &str) {
+fn check_close<R: Abort>(rt: &R, payload: &[u8], len: usize, case: &str) {
     assert!(rt; payload.len() < 2048);
     let frame = Frame::new_data(CowSlice::Borrowed(payload));
     let capsule = Capsule::with_frame(&frame).expect(rt, "a capsule");
     let came = (capsule.kind(), capsule.payload().len());
     let kind = CapsuleKind::CloseWebTransportSession;
-    same(rt, came, (kind, len), shows);
+    assert_same(rt, came, (kind, len), case);
 }
 
-/// Payloads that close a session, the error code, the reason, and what the row shows.
-static CLOSES: [(&[u8], u64, &[u8], &str); 3] = [
-    (
-        &[0x68, 0x43, 0x05, 0x00, 0x00, 0x00, 0x07, 0x78, 0xff, 0xff],
-        7,
-        b"x",
-        "bytes follow",
-    ),
-    (
-        &[0x68, 0x43, 0x04, 0x00, 0x00, 0x00, 0x00],
-        0,
-        b"",
-        "no reason",
-    ),
-    (
-        &[0x80, 0x00, 0x28, 0x43, 0x40, 0x04, 0x01, 0x02, 0x03, 0x04],
-        0x0102_0304,
-        b"",
-        "longer encodings",
-    ),
+/// The payload of a capsule that closes a session.
+struct CloseRow {
+    case: &'static str,
+    payload: &'static [u8],
+    /// The error code.
+    code: u64,
+    reason: &'static [u8],
+}
+
+/// Payloads that close a session.
+static CLOSES: [CloseRow; 3] = [
+    CloseRow {
+        case: "bytes follow",
+        payload: &[0x68, 0x43, 0x05, 0x00, 0x00, 0x00, 0x07, 0x78, 0xff, 0xff],
+        code: 7,
+        reason: b"x",
+    },
+    CloseRow {
+        case: "no reason",
+        payload: &[0x68, 0x43, 0x04, 0x00, 0x00, 0x00, 0x00],
+        code: 0,
+        reason: b"",
+    },
+    CloseRow {
+        case: "longer encodings",
+        payload: &[0x80, 0x00, 0x28, 0x43, 0x40, 0x04, 0x01, 0x02, 0x03, 0x04],
+        code: 0x0102_0304,
+        reason: b"",
+    },
 ];
 
 #[test]
 fn sessions_are_closed_past_refused_memory(rt: HostRuntime) {
-    for (payload, code, reason, word) in &CLOSES {
-        check(&rt, payload, Some(Ok((*code, *reason))), word);
+    for row in &CLOSES {
+        let wanted = Some(Ok((row.code, row.reason)));
+        check(&rt, row.payload, wanted, row.case);
     }
 }
 
 #[test]
 fn the_close_capsule_has_its_number(rt: HostRuntime) {
     let number = capsule_types::CAPSULE_TYPE_CLOSE_WEBTRANSPORT_SESSION;
-    same(&rt, number.into_inner(), 0x2843, "the number");
+    assert_same(&rt, number.into_inner(), 0x2843, "the number");
     let kind = CapsuleKind::parse(number).expect(&rt, "a kind");
-    same(&rt, kind, CapsuleKind::CloseWebTransportSession, "the kind");
+    assert_same(&rt, kind, CapsuleKind::CloseWebTransportSession, "the kind");
 }
 
 /// Unknown capsule types: DATAGRAM (RFC 9297, section 3.5), the numbers next to the known type, a
@@ -108,7 +118,7 @@ static UNKNOWN_TYPES: [u64; 5] = [0x00, 0x2842, 0x2844, 0x17, 0x3fff_ffff_ffff_f
 fn other_types_have_no_kind(rt: HostRuntime) {
     for number in &UNKNOWN_TYPES {
         let id = VarInt::try_from_u64(*number).expect(&rt, "a number");
-        same(&rt, CapsuleKind::parse(id), None, *number);
+        assert_same(&rt, CapsuleKind::parse(id), None, *number);
     }
 }
 
@@ -123,7 +133,7 @@ fn bad_closes_are_refused(rt: HostRuntime) {
     check(&rt, no_text, FAULT, "no UTF-8");
 }
 
-/// Payloads without a complete known capsule, and what the row shows.
+/// Payloads without a complete known capsule, and the case.
 static OTHERS: [(&[u8], &str); 5] = [
     (&[], "nothing"),
     (&[0x68, 0x43, 0x04, 0x00, 0x00, 0x00], "cut"),

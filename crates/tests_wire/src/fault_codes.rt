@@ -1,12 +1,12 @@
 //! The error codes for errors of frames, stream headers and capsules.
-use crate::same::same;
+use crate::same::assert_same;
 use wtp_core::bytes::IoReadError;
 use wtp_core::error::ErrorCode;
 use wtp_wire::capsule::{CapsuleError, TruncatedCapsule};
 use wtp_wire::{frame, stream_header};
 
 /// An error of reading a frame, its error code (RFC 9114, sections 7.1, 9 and 10.5; WebTransport
-/// over HTTP/3, "Session IDs"), and what the row shows.
+/// over HTTP/3, "Session IDs"), and the case.
 static FRAMES: [(frame::IoReadError, Option<ErrorCode>, &str); 7] = [
     (
         frame::IoReadError::Parse(frame::ParseError::UnknownFrame),
@@ -42,7 +42,7 @@ static FRAMES: [(frame::IoReadError, Option<ErrorCode>, &str); 7] = [
 ];
 
 /// An error of reading a header, its error code (RFC 9114, section 6.2; WebTransport over HTTP/3,
-/// "Session IDs"), and what the row shows.
+/// "Session IDs"), and the case.
 static HEADERS: [(stream_header::IoReadError, Option<ErrorCode>, &str); 6] = [
     (
         stream_header::IoReadError::Parse(stream_header::ParseError::UnknownStream),
@@ -78,15 +78,15 @@ static HEADERS: [(stream_header::IoReadError, Option<ErrorCode>, &str); 6] = [
 
 #[test]
 fn faults_of_frames_have_codes(rt: HostRuntime) {
-    for (fault, code, shows) in &FRAMES {
-        same(&rt, fault.code(), *code, shows);
+    for (fault, code, case) in &FRAMES {
+        assert_same(&rt, fault.code(), *code, case);
     }
 }
 
 #[test]
 fn faults_of_headers_have_codes(rt: HostRuntime) {
-    for (fault, code, shows) in &HEADERS {
-        same(&rt, fault.code(), *code, shows);
+    for (fault, code, case) in &HEADERS {
+        assert_same(&rt, fault.code(), *code, case);
     }
 }
 
@@ -94,8 +94,8 @@ fn faults_of_headers_have_codes(rt: HostRuntime) {
 #[test]
 fn faults_of_capsules_have_codes(rt: HostRuntime) {
     let code = CapsuleError::TooLong.code();
-    same(&rt, code, Some(ErrorCode::Datagram), "too long");
-    same(&rt, CapsuleError::Memory.code(), None, "no memory");
+    assert_same(&rt, code, Some(ErrorCode::Datagram), "too long");
+    assert_same(&rt, CapsuleError::Memory.code(), None, "no memory");
     let code = ErrorCode::from(TruncatedCapsule);
-    same(&rt, code, ErrorCode::Message, "cut");
+    assert_same(&rt, code, ErrorCode::Message, "cut");
 }

@@ -1,13 +1,13 @@
 //! The first two numbers of a frame, a capsule and a setting.
-use crate::same::same;
+use crate::same::assert_same;
 use std::process::Abort;
 use wtp_wire::head::{first_pair, missing_bytes, pair_size};
 
 /// The start of a frame, a capsule or a setting; its first two numbers and their length, or
 /// `None` if they are incomplete; the least length of two numbers that start with these bytes
-/// (RFC 9000, section 16); and what the row shows.
+/// (RFC 9000, section 16); and the case.
 struct Row {
-    shows: &'static str,
+    case: &'static str,
     bytes: &'static [u8],
     pair: Option<(u64, u64, usize)>,
     size: usize,
@@ -15,43 +15,43 @@ struct Row {
 
 static ROWS: [Row; 8] = [
     Row {
-        shows: "no byte",
+        case: "no byte",
         bytes: &[],
         pair: None,
         size: 2,
     },
     Row {
-        shows: "the first number alone",
+        case: "the first number alone",
         bytes: &[0x00],
         pair: None,
         size: 2,
     },
     Row {
-        shows: "one byte of two, and one of the second number at least",
+        case: "one byte of two, and one of the second number at least",
         bytes: &[0x40],
         pair: None,
         size: 3,
     },
     Row {
-        shows: "the first number, and one byte of eight",
+        case: "the first number, and one byte of eight",
         bytes: &[0x40, 0x41, 0xc0],
         pair: None,
         size: 10,
     },
     Row {
-        shows: "a DATA frame of three bytes, one of which is there",
+        case: "a DATA frame of three bytes, one of which is there",
         bytes: &[0x00, 0x03, 0xff],
         pair: Some((0, 3, 2)),
         size: 2,
     },
     Row {
-        shows: "the WebTransport type and a session",
+        case: "the WebTransport type and a session",
         bytes: &[0x40, 0x41, 0x04],
         pair: Some((0x41, 4, 3)),
         size: 3,
     },
     Row {
-        shows: "the numbers 494878333 and 151288809941952652 of the RFC",
+        case: "the numbers 494878333 and 151288809941952652 of the RFC",
         bytes: &[
             0x9d, 0x7f, 0x3e, 0x7d, 0xc2, 0x19, 0x7c, 0x5e, 0xff, 0x14, 0xe8, 0x8c,
         ],
@@ -59,7 +59,7 @@ static ROWS: [Row; 8] = [
         size: 12,
     },
     Row {
-        shows: "a length that is not in its shortest encoding",
+        case: "a length that is not in its shortest encoding",
         bytes: &[0x68, 0x43, 0x80, 0x00, 0x00, 0x04, 0x00],
         pair: Some((0x2843, 4, 6)),
         size: 6,
@@ -72,10 +72,10 @@ fn check_row<R: Abort>(rt: &R, row: &Row) {
         Some(pair) => Some((pair.first.into_inner(), pair.second.into_inner(), pair.size)),
         None => None,
     };
-    same(rt, pair, row.pair, row.shows);
-    same(rt, pair_size(row.bytes), row.size, row.shows);
+    assert_same(rt, pair, row.pair, row.case);
+    assert_same(rt, pair_size(row.bytes), row.size, row.case);
     let missing = row.size.saturating_sub(row.bytes.len());
-    same(rt, missing_bytes(row.bytes), missing, row.shows);
+    assert_same(rt, missing_bytes(row.bytes), missing, row.case);
 }
 
 #[test]

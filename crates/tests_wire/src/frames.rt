@@ -1,5 +1,5 @@
 //! Reading and writing complete frames.
-use crate::same::same;
+use crate::same::assert_same;
 use crate::texts::has_text;
 use std::borrow::CowSlice;
 use std::fmt::Display;
@@ -12,8 +12,8 @@ use wtp_wire::frame::{Frame, FrameKind, ParseError, frame_kind_ids};
 /// Asserts that a frame kind and its constant have this number.
 fn check_kind<R: Abort>(rt: &R, kind: FrameKind, constant: VarInt, number: u64) {
     let came = (kind.id(), constant.into_inner());
-    same(rt, came, (constant, number), number);
-    same(rt, FrameKind::parse(constant).as_ref(), Some(&kind), number);
+    assert_same(rt, came, (constant, number), number);
+    assert_same(rt, FrameKind::parse(constant).as_ref(), Some(&kind), number);
 }
 
 #[test]
@@ -31,7 +31,7 @@ fn kinds_have_their_numbers(rt: HostRuntime) {
 fn check_no_kind<R: Abort>(rt: &R, number: u32) {
     let id = VarInt::from_u32(number);
     let came = (FrameKind::parse(id), FrameKind::is_id_exercise(id));
-    same(rt, came, (None, false), number);
+    assert_same(rt, came, (None, false), number);
 }
 
 /// Numbers without a frame kind.
@@ -43,12 +43,12 @@ fn other_numbers_are_no_kind(rt: HostRuntime) {
         check_no_kind(&rt, *number);
     }
     let is_exercise = FrameKind::is_id_exercise(VarInt::from_u32(0x21));
-    same(&rt, is_exercise, true, "the least of an exercise");
+    assert_same(&rt, is_exercise, true, "the least of an exercise");
 }
 
 /// Asserts the kind and payload of a new frame.
 fn check_created<R: Abort>(rt: &R, frame: &Frame<'_>, kind: FrameKind, payload: &[u8]) {
-    same(
+    assert_same(
         rt,
         (frame.kind(), frame.payload()),
         (kind, payload),
@@ -77,35 +77,61 @@ fn from_slice<'a>(bytes: &'a [u8]) -> (Outcome<'a>, &'a [u8]) {
     (outcome, rest)
 }
 
-/// Bytes, the type, payload and size of the frame, and what the row shows.
-type ReadRow = (&'static [u8], u64, &'static [u8], usize, &'static str);
+/// Bytes, and the frame at their start.
+struct ReadRow {
+    case: &'static str,
+    bytes: &'static [u8],
+    /// The type of the frame.
+    number: u64,
+    payload: &'static [u8],
+    /// How many bytes the frame has.
+    size: usize,
+}
 
 /// Bytes that start with a frame.
 static READ: [ReadRow; 6] = [
-    (&[0x00, 0x01, 0x61], 0x00, b"a", 3, "data"),
-    (
-        &[0x01, 0x00, 0x02],
-        0x01,
-        b"",
-        2,
-        "empty headers, one byte after them",
-    ),
-    (
-        &[0x04, 0x02, 0x33, 0x01],
-        0x04,
-        &[0x33, 0x01],
-        4,
-        "settings",
-    ),
-    (&[0x40, 0x41, 0x00], 0x41, b"", 3, "session 0"),
-    (b"\x21\x07Payload", 0x21, b"Payload", 9, "exercise"),
-    (
-        b"\xc0\0\0\0\0\0\0\0\xc0\0\0\0\0\0\0\x01a",
-        0x00,
-        b"a",
-        17,
-        "the longest encodings",
-    ),
+    ReadRow {
+        case: "data",
+        bytes: &[0x00, 0x01, 0x61],
+        number: 0x00,
+        payload: b"a",
+        size: 3,
+    },
+    ReadRow {
+        case: "empty headers, one byte after them",
+        bytes: &[0x01, 0x00, 0x02],
+        number: 0x01,
+        payload: b"",
+        size: 2,
+    },
+    ReadRow {
+        case: "settings",
+        bytes: &[0x04, 0x02, 0x33, 0x01],
+        number: 0x04,
+        payload: &[0x33, 0x01],
+        size: 4,
+    },
+    ReadRow {
+        case: "session 0",
+        bytes: &[0x40, 0x41, 0x00],
+        number: 0x41,
+        payload: b"",
+        size: 3,
+    },
+    ReadRow {
+        case: "exercise",
+        bytes: b"\x21\x07Payload",
+        number: 0x21,
+        payload: b"Payload",
+        size: 9,
+    },
+    ReadRow {
+        case: "the longest encodings",
+        bytes: b"\xc0\0\0\0\0\0\0\0\xc0\0\0\0\0\0\0\x01a",
+        number: 0x00,
+        payload: b"a",
+        size: 17,
+    },
 ];
 
 /// Returns the type and payload of a frame.
@@ -137,22 +163,22 @@ fn check_reader<R: Abort, S: Display + Drop>(
     let mut reader = BufferReader::new(bytes);
     let outcome = Frame::read_from_buffer(&mut reader);
     let came = (by_parts(&outcome), reader.offset());
-    same(rt, came, (wanted, offset), word);
+    assert_same(rt, came, (wanted, offset), word);
 }
 
 /// Asserts the result of reading these bytes as a slice, and the number of bytes read.
 fn check_from_slice<R: Abort>(rt: &R, bytes: &[u8], wanted: Parts<'_>, size: usize, word: &str) {
     let (outcome, rest) = from_slice(bytes);
     let came = (by_parts(&outcome), Some(rest));
-    same(rt, came, (wanted, bytes.get(size..)), word);
+    assert_same(rt, came, (wanted, bytes.get(size..)), word);
 }
 
 #[test]
 fn frames_are_read(rt: HostRuntime) {
-    for (bytes, number, payload, size, word) in &READ {
-        let wanted = Ok(Some((*number, *payload)));
-        check_reader(&rt, bytes, wanted, *size, *word);
-        check_from_slice(&rt, bytes, wanted, *size, word);
+    for row in &READ {
+        let wanted = Ok(Some((row.number, row.payload)));
+        check_reader(&rt, row.bytes, wanted, row.size, row.case);
+        check_from_slice(&rt, row.bytes, wanted, row.size, row.case);
     }
 }
 
@@ -170,49 +196,56 @@ fn too_few_bytes_are_no_frame(rt: HostRuntime) {
     check_fronts(&rt, &[0x40, 0x41, 0x00]);
 }
 
-/// Bytes, the error, the number of bytes consumed from a slice, and what the row shows.
-type FaultRow = (&'static [u8], ParseError, usize, &'static str);
+/// Bytes, and the error at their start.
+struct FaultRow {
+    case: &'static str,
+    bytes: &'static [u8],
+    fault: ParseError,
+    /// How many bytes are consumed from a slice.
+    size: usize,
+}
 
 /// Bytes that start with an error.
 static FAULTS: [FaultRow; 5] = [
-    (
-        b"\x80\x42\x42\x42\x16This is a test payload",
-        ParseError::UnknownFrame,
-        27,
-        "unknown",
-    ),
-    (
-        &[0x0a, 0x00, 0x00],
-        ParseError::UnknownFrame,
-        2,
-        "unknown and empty",
-    ),
-    (
-        &[0x40, 0x41, 0x01],
-        ParseError::InvalidSessionId,
-        3,
-        "no session",
-    ),
-    (
-        &[0x00, 0x50, 0x01],
-        ParseError::PayloadTooBig,
-        3,
-        "length 4097",
-    ),
-    (
-        &[0x00, 0xff, 0xff, 0xff, 0xff, 0xff, 0xff, 0xff, 0xff],
-        ParseError::PayloadTooBig,
-        9,
-        "the largest length",
-    ),
+    FaultRow {
+        case: "unknown",
+        bytes: b"\x80\x42\x42\x42\x16This is a test payload",
+        fault: ParseError::UnknownFrame,
+        size: 27,
+    },
+    FaultRow {
+        case: "unknown and empty",
+        bytes: &[0x0a, 0x00, 0x00],
+        fault: ParseError::UnknownFrame,
+        size: 2,
+    },
+    FaultRow {
+        case: "no session",
+        bytes: &[0x40, 0x41, 0x01],
+        fault: ParseError::InvalidSessionId,
+        size: 3,
+    },
+    FaultRow {
+        case: "length 4097",
+        bytes: &[0x00, 0x50, 0x01],
+        fault: ParseError::PayloadTooBig,
+        size: 3,
+    },
+    FaultRow {
+        case: "the largest length",
+        bytes: &[0x00, 0xff, 0xff, 0xff, 0xff, 0xff, 0xff, 0xff, 0xff],
+        fault: ParseError::PayloadTooBig,
+        size: 9,
+    },
 ];
 
 /// An error leaves a reader before the frame, but moves a slice past it.
 #[test]
 fn faults_are_named(rt: HostRuntime) {
-    for (bytes, fault, size, word) in &FAULTS {
-        check_reader(&rt, bytes, Err(fault), 0, *word);
-        check_from_slice(&rt, bytes, Err(fault), *size, word);
+    for row in &FAULTS {
+        let wanted = Err(&row.fault);
+        check_reader(&rt, row.bytes, wanted, 0, row.case);
+        check_from_slice(&rt, row.bytes, wanted, row.size, row.case);
     }
 }
 
@@ -221,7 +254,7 @@ fn check_vector<R: Abort + AllocGlobal>(rt: &R, frame: &Frame<'_>, bytes: &[u8],
     let mut vector = Vec::new(rt.alloc());
     let outcome = frame.write(&mut vector);
     let came = (outcome, vector.as_slice(), frame.write_size());
-    same(rt, came, (Ok(()), bytes, bytes.len()), word);
+    assert_same(rt, came, (Ok(()), bytes, bytes.len()), word);
 }
 
 /// Asserts that the frame is written as these bytes into a slice of exactly this size.
@@ -231,18 +264,18 @@ fn check_slice<R: Abort>(rt: &R, frame: &Frame<'_>, bytes: &[u8], word: &str) {
     let mut writer = BufferWriter::new(room);
     let outcome = frame.write_to_buffer(&mut writer);
     let came = (outcome, writer.buffer_written());
-    same(rt, came, (Ok(()), bytes), word);
+    assert_same(rt, came, (Ok(()), bytes), word);
 }
 
 /// Asserts that the frame is read back from these bytes, with its kind, payload and session ID,
 /// and that no byte is left.
 fn check_read_back<R: Abort>(rt: &R, frame: &Frame<'_>, bytes: &[u8], word: &str) {
     let (outcome, rest) = from_slice(bytes);
-    same(rt, rest.len(), 0, word);
+    assert_same(rt, rest.len(), 0, word);
     let read = outcome.expect(rt, word).expect(rt, word);
     let came = (read.kind(), read.payload(), read.session_id());
     let wanted = (frame.kind(), frame.payload(), frame.session_id());
-    same(rt, came, wanted, word);
+    assert_same(rt, came, wanted, word);
 }
 
 /// Asserts that the frame is written as these bytes, and read back from them.
@@ -316,10 +349,10 @@ fn check_room<R: Abort>(rt: &R, frame: &Frame<'_>, room: usize, written: &[u8]) 
     let mut buffer = [0; 8];
     let mut writer = BufferWriter::new(&mut buffer[..room]);
     let outcome = frame.write_to_buffer(&mut writer);
-    same(rt, (outcome, writer.offset()), (Err(EndOfBuffer), 0), room);
+    assert_same(rt, (outcome, writer.offset()), (Err(EndOfBuffer), 0), room);
     let outcome = frame.write(&mut writer);
     let wanted = (Err(PutError::EndOfBuffer), written);
-    same(rt, (outcome, writer.buffer_written()), wanted, room);
+    assert_same(rt, (outcome, writer.buffer_written()), wanted, room);
 }
 
 /// Each room, and the bytes of a nine-byte frame that are written into it.
@@ -340,7 +373,7 @@ fn check_refused<R: Abort>(rt: &R, error: PutError, written: &[u8]) {
         1 => &[0x00],
         _ => &[0x00, 0x40, 0x64],
     };
-    same(
+    assert_same(
         rt,
         (error, written),
         (PutError::Memory, parts),
@@ -372,7 +405,7 @@ fn refused_memory_keeps_whole_parts(rt: HostRuntime) {
     let frame = Frame::new_data(CowSlice::Borrowed(&payload));
     let mut vector = Vec::new(rt.alloc());
     put_again(&rt, &frame, &mut vector).expect(&rt, "the whole frame");
-    same(&rt, vector.len(), 103, "the whole frame");
+    assert_same(&rt, vector.len(), 103, "the whole frame");
 }
 
 #[test]

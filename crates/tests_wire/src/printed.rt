@@ -12,8 +12,8 @@ use wtp_wire::frame::{Frame, FrameOwned, FrameReading, IoReadError};
 use wtp_wire::stream_header::StreamHeader;
 
 /// Asserts the debug output of a frame.
-fn check_frame<R: Abort + AllocGlobal>(rt: &R, frame: Frame<'_>, text: &str, shows: &str) {
-    prints(rt, &frame, text, shows);
+fn check_frame<R: Abort + AllocGlobal>(rt: &R, frame: Frame<'_>, text: &str, case: &str) {
+    prints(rt, &frame, text, case);
 }
 
 #[test]

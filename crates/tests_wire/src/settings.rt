@@ -1,6 +1,6 @@
 //! Worked rows of settings, and the effect of failed allocations.
 use crate::frames::put;
-use crate::same::same;
+use crate::same::assert_same;
 use crate::texts::has_text;
 use std::alloc::{AllocError, Global};
 use std::borrow::CowSlice;
@@ -89,10 +89,10 @@ pub fn check_frame<R: Abort + AllocGlobal>(
     rt: &R,
     settings: &Settings,
     payload: &[u8],
-    shows: &str,
+    case: &str,
 ) {
     let frame = frame_of(rt.alloc(), settings).expect(rt, "a frame");
-    same(rt, frame.payload(), payload, shows);
+    assert_same(rt, frame.payload(), payload, case);
 }
 
 /// Writes the whole frame into the empty vector, from the start again if allocation failed.
@@ -107,10 +107,10 @@ fn write(frame: &Frame<'_>, out: &mut Vec<u8>) -> Result<(), PutError> {
 }
 
 /// Asserts the bytes of the frame in a vector.
-fn check_written<R: Abort + AllocGlobal>(rt: &R, frame: &Frame<'_>, bytes: &[u8], shows: &str) {
+fn check_written<R: Abort + AllocGlobal>(rt: &R, frame: &Frame<'_>, bytes: &[u8], case: &str) {
     let mut whole = Vec::new(rt.alloc());
     write(frame, &mut whole).expect(rt, "room");
-    same(rt, whole.as_slice(), bytes, shows);
+    assert_same(rt, whole.as_slice(), bytes, case);
 }
 
 /// The payload of `steps`, in ascending order of the identifiers.
@@ -119,7 +119,7 @@ const STEPS: [u8; 20] = [
     0x71, 0x70, 0x6a, 0x03,
 ];
 
-/// Invalid payloads, the error code, and what the row shows.
+/// Invalid payloads, the error code, and the case.
 static FAULTS: [(&[u8], ErrorCode, &str); 11] = [
     (&[0x33, 0x01, 0x33, 0x00], ErrorCode::Settings, "again"),
     (&[0x33, 0x01, 0x33], ErrorCode::Frame, "again, but cut"),
@@ -147,9 +147,9 @@ static FAULTS: [(&[u8], ErrorCode, &str); 11] = [
 ];
 
 /// Asserts the error code of a payload.
-fn check_fault<R: Abort + AllocGlobal>(rt: &R, payload: &[u8], code: ErrorCode, shows: &str) {
+fn check_fault<R: Abort + AllocGlobal>(rt: &R, payload: &[u8], code: ErrorCode, case: &str) {
     let fault = answer(rt, payload).err();
-    same(rt, fault, Some(Refused::Code(code)), shows);
+    assert_same(rt, fault, Some(Refused::Code(code)), case);
 }
 
 #[test]
@@ -165,13 +165,13 @@ fn check_value<R: Abort>(
     settings: &Settings,
     id: SettingId,
     wanted: Option<u64>,
-    shows: &str,
+    case: &str,
 ) {
     let value = match settings.get(id) {
         Some(value) => Some(value.into_inner()),
         None => None,
     };
-    same(rt, value, wanted, shows);
+    assert_same(rt, value, wanted, case);
 }
 
 #[test]
@@ -202,7 +202,7 @@ fn check_in_buffer<R: Abort>(rt: &R, frame: &Frame<'_>) {
     let mut writer = BufferWriter::new(&mut room);
     let outcome = frame.write_to_buffer(&mut writer);
     let wanted = (Ok(()), WHOLE.as_slice());
-    same(rt, (outcome, room.as_slice()), wanted, "into a buffer");
+    assert_same(rt, (outcome, room.as_slice()), wanted, "into a buffer");
 }
 
 /// Asserts the bytes of the frame of `steps` in a buffer and in a vector.
@@ -218,11 +218,11 @@ fn check_lent<R: Abort>(
     settings: &Settings,
     buffer: &mut [u8],
     payload: &[u8],
-    shows: &str,
+    case: &str,
 ) {
     assert!(rt; buffer.len() < 64);
     let frame = settings.generate_frame_ref(buffer).expect(rt, "room");
-    same(rt, frame.payload(), payload, shows);
+    assert_same(rt, frame.payload(), payload, case);
 }
 
 /// Asserts the payload of `steps`, written without a frame into a longer buffer.
@@ -231,7 +231,7 @@ fn check_alone<R: Abort>(rt: &R, settings: &Settings, buffer: &mut [u8]) {
     let came = (size, buffer.get(..20), buffer.get(20..));
     let rest = [0x55; 20];
     let wanted = (20, Some(STEPS.as_slice()), Some(rest.as_slice()));
-    same(
+    assert_same(
         rt,
         came,
         wanted,
@@ -277,16 +277,16 @@ fn copy<R: Abort + AllocGlobal>(rt: &R, connect: &Settings) -> Settings {
 }
 
 /// Asserts the frame and the value of the settings for the connect protocol.
-fn check_connect<R: Abort + AllocGlobal>(rt: &R, settings: &Settings, shows: &str) {
+fn check_connect<R: Abort + AllocGlobal>(rt: &R, settings: &Settings, case: &str) {
     let frame = frame_of(rt.alloc(), settings).expect(rt, "a frame");
-    same(rt, frame.payload(), &[0x08, 0x01], shows);
-    check_written(rt, &frame, &[0x04, 0x02, 0x08, 0x01], shows);
+    assert_same(rt, frame.payload(), &[0x08, 0x01], case);
+    check_written(rt, &frame, &[0x04, 0x02, 0x08, 0x01], case);
     check_value(
         rt,
         settings,
         SettingId::EnableConnectProtocol,
         Some(1),
-        shows,
+        case,
     );
 }
 
@@ -299,11 +299,11 @@ fn a_step_sets_one_setting_past_refused_memory(rt: HostRuntime) {
 
 /// Asserts that the settings do not fit into a buffer of this size, and the contents of the
 /// buffer after that.
-fn check_short<R: Abort>(rt: &R, settings: &Settings, room: usize, holds: &[u8], shows: &str) {
+fn check_short<R: Abort>(rt: &R, settings: &Settings, room: usize, holds: &[u8], case: &str) {
     assert!(rt; room <= 10);
     let mut buffer = [0x55; 10];
     let is_refused = settings.generate_frame_ref(&mut buffer[..room]).is_err();
-    same(rt, (is_refused, &buffer[..room]), (true, holds), shows);
+    assert_same(rt, (is_refused, &buffer[..room]), (true, holds), case);
 }
 
 #[test]

@@ -1,5 +1,5 @@
 //! The names of settings in the standards, and settings listed one by one.
-use crate::same::same;
+use crate::same::assert_same;
 use crate::settings::{answer, check_frame};
 use crate::texts::prints;
 use std::process::Abort;
@@ -43,9 +43,9 @@ fn setting_of<R: Abort>(rt: &R, number: u64) -> Option<SettingId> {
 /// Asserts the name and the number of the setting with this identifier.
 fn check_name<R: Abort + AllocGlobal>(rt: &R, number: u64, name: &str) {
     let id = setting_of(rt, number).expect(rt, "no such setting");
-    same(rt, id.id().into_inner(), number, name);
+    assert_same(rt, id.id().into_inner(), number, name);
     let text = id.to_string(rt.alloc()).expect(rt, "memory");
-    same(rt, text.as_str(), name, "its name");
+    assert_same(rt, text.as_str(), name, "its name");
 }
 
 #[test]
@@ -57,13 +57,13 @@ fn settings_have_their_names(rt: HostRuntime) {
 
 #[test]
 fn other_numbers_have_no_setting(rt: HostRuntime) {
-    for (number, shows) in &UNKNOWN {
-        same(&rt, setting_of(&rt, *number), None, shows);
+    for (number, case) in &UNKNOWN {
+        assert_same(&rt, setting_of(&rt, *number), None, case);
     }
 }
 
 /// The payload of a SETTINGS frame, the settings in it, in ascending order of their identifiers,
-/// and what the row shows.
+/// and the case.
 type Row = (&'static [u8], &'static [(u64, u64)], &'static str);
 
 /// SETTINGS payloads.
@@ -107,22 +107,22 @@ fn next_pair(listed: &mut SettingsIter<'_>) -> Option<(u64, u64)> {
 }
 
 /// Asserts the listed settings: each pair, the number of pairs left before it, and the end.
-fn check_listed<R: Abort>(rt: &R, settings: &Settings, pairs: &[(u64, u64)], shows: &str) {
+fn check_listed<R: Abort>(rt: &R, settings: &Settings, pairs: &[(u64, u64)], case: &str) {
     let mut listed = settings.iter();
     let mut left = pairs.len();
     for pair in pairs {
         let came = (listed.size_hint(), next_pair(&mut listed));
-        same(rt, came, ((left, Some(left)), Some(*pair)), shows);
+        assert_same(rt, came, ((left, Some(left)), Some(*pair)), case);
         left = left.saturating_sub(1);
     }
-    same(rt, (listed.len(), next_pair(&mut listed)), (0, None), shows);
+    assert_same(rt, (listed.len(), next_pair(&mut listed)), (0, None), case);
 }
 
 /// Asserts the settings in the payload of a row.
 fn check_row<R: Abort + AllocGlobal>(rt: &R, row: &Row) {
-    let (payload, pairs, shows) = *row;
-    let settings = answer(rt, payload).expect(rt, shows);
-    check_listed(rt, &settings, pairs, shows);
+    let (payload, pairs, case) = *row;
+    let settings = answer(rt, payload).expect(rt, case);
+    check_listed(rt, &settings, pairs, case);
 }
 
 #[test]
@@ -147,7 +147,7 @@ fn check_left<R: Abort + AllocGlobal>(rt: &R, settings: &Settings) {
     let mut listed = settings.iter();
     let left = listed.clone().expect(rt, "memory");
     let _ = listed.next();
-    same(rt, left.len(), 3, "a copy");
+    assert_same(rt, left.len(), 3, "a copy");
     let text = "{Exercise(33): 5, H3Datagram: 1}";
     prints(rt, &listed, text, "those that are left");
 }

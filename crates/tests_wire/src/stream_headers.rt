@@ -1,5 +1,5 @@
 //! Worked rows of stream headers, and the effect of failed allocations.
-use crate::same::same;
+use crate::same::assert_same;
 use crate::texts::has_text;
 use std::process::Abort;
 use wtp_core::bytes::{BufferReader, BufferWriter, EndOfBuffer, PutError};
@@ -36,12 +36,12 @@ fn answer(bytes: &[u8]) -> Answer {
 
 /// Asserts the result of reading the bytes, both from a slice and from a buffer, and the offset
 /// of the buffer's reader after it.
-fn check<R: Abort>(rt: &R, bytes: &[u8], wanted: Answer, place: usize, shows: &str) {
+fn check<R: Abort>(rt: &R, bytes: &[u8], wanted: Answer, place: usize, case: &str) {
     let read = answer(bytes);
-    same(rt, &read, &wanted, shows);
+    assert_same(rt, &read, &wanted, case);
     let mut reader = BufferReader::new(bytes);
     let buffered = by_parts(StreamHeader::read_from_buffer(&mut reader));
-    same(rt, (&buffered, reader.offset()), (&wanted, place), shows);
+    assert_same(rt, (&buffered, reader.offset()), (&wanted, place), case);
 }
 
 /// Returns the session ID with this number.
@@ -56,9 +56,9 @@ fn check_header<R: Abort>(
     bytes: &[u8],
     kind: StreamKind,
     session: Option<u64>,
-    shows: &str,
+    case: &str,
 ) {
-    check(rt, bytes, Ok(Some((kind, session))), bytes.len(), shows);
+    check(rt, bytes, Ok(Some((kind, session))), bytes.len(), case);
 }
 
 #[test]
@@ -76,7 +76,7 @@ fn headers_are_read(rt: HostRuntime) {
     check_header(&rt, &[0x40, 0xbc], far, None, "a further exercise type");
 }
 
-/// Bytes that are not a header, and what the row shows.
+/// Bytes that are not a header, and the case.
 static UNKNOWN: [(&[u8], &str); 3] = [
     (&[0x01], "push"),
     (&[0x22], "after an exercise type"),
@@ -92,7 +92,7 @@ fn other_headers_are_refused(rt: HostRuntime) {
     check(&rt, &[0x40, 0x54, 0x01], fault, 0, "no session");
 }
 
-/// Bytes that end before their header does, and what the row shows.
+/// Bytes that end before their header does, and the case.
 static FRONTS: [(&[u8], &str); 6] = [
     (&[], "nothing"),
     (&[0x80], "unknown, one byte"),
@@ -110,16 +110,16 @@ fn fronts_of_headers_are_none(rt: HostRuntime) {
 }
 
 /// Asserts the size and the bytes of the header, and that it is read back from them.
-fn check_written<R: Abort>(rt: &R, header: StreamHeader, bytes: &[u8], shows: &str) {
+fn check_written<R: Abort>(rt: &R, header: StreamHeader, bytes: &[u8], case: &str) {
     let mut room = [0x55; StreamHeader::MAX_SIZE];
     let mut writer = BufferWriter::new(&mut room);
     header.write_to_buffer(&mut writer).expect(rt, "room");
     let came = (header.write_size(), writer.buffer_written());
-    same(rt, came, (bytes.len(), bytes), shows);
-    same(rt, answer(bytes), Ok(Some(parts(header))), shows);
+    assert_same(rt, came, (bytes.len(), bytes), case);
+    assert_same(rt, answer(bytes), Ok(Some(parts(header))), case);
 }
 
-/// A session ID, the bytes of its header, and what the row shows.
+/// A session ID, the bytes of its header, and the case.
 static WRITTEN: [(u64, &[u8], &str); 3] = [
     (0, &[0x40, 0x54, 0x00], "session 0"),
     (4, &[0x40, 0x54, 0x04], "session 4"),
@@ -132,9 +132,9 @@ static WRITTEN: [(u64, &[u8], &str); 3] = [
 
 /// Asserts the size and the bytes of the header of this session, and that it is read back from
 /// them.
-fn check_session<R: Abort>(rt: &R, number: u64, bytes: &[u8], shows: &str) {
+fn check_session<R: Abort>(rt: &R, number: u64, bytes: &[u8], case: &str) {
     let header = StreamHeader::new_webtransport(session(rt, number));
-    check_written(rt, header, bytes, shows);
+    check_written(rt, header, bytes, case);
 }
 
 #[test]
@@ -154,17 +154,17 @@ fn headers_need_their_room(rt: HostRuntime) {
     let mut writer = BufferWriter::new(&mut two);
     let whole = header.write_to_buffer(&mut writer);
     let wanted = (Err(EndOfBuffer), 0);
-    same(&rt, (whole, writer.offset()), wanted, "whole or not at all");
+    assert_same(&rt, (whole, writer.offset()), wanted, "whole or not at all");
     let by_parts = header.write(&mut writer);
     let wanted = (Err(PutError::EndOfBuffer), [0x40, 0x54].as_slice());
-    same(&rt, (by_parts, writer.buffer_written()), wanted, "by parts");
+    assert_same(&rt, (by_parts, writer.buffer_written()), wanted, "by parts");
 }
 
 /// Asserts that a failed allocation left nothing, or the first part of the header.
 fn check_refused<R: Abort>(rt: &R, fault: PutError, out: &[u8]) {
-    same(rt, fault, PutError::Memory, "the refusal");
+    assert_same(rt, fault, PutError::Memory, "the refusal");
     let parts: &[u8] = if out.is_empty() { &[] } else { &[0x40, 0x54] };
-    same(rt, out, parts, "parts before the refusal");
+    assert_same(rt, out, parts, "parts before the refusal");
 }
 
 /// Writes the header.
@@ -191,7 +191,7 @@ fn refused_memory_leaves_whole_parts(rt: HostRuntime) {
     let mut out = Vec::new(rt.alloc());
     let outcome = write(&rt, &header, &mut out);
     let wanted = (Ok(()), [0x40, 0x54, 0x04].as_slice());
-    same(&rt, (outcome, out.as_slice()), wanted, "session 4");
+    assert_same(&rt, (outcome, out.as_slice()), wanted, "session 4");
 }
 
 /// Asserts that a number is the number of a stream kind.
@@ -201,7 +201,7 @@ fn check_kind<R: Abort>(rt: &R, number: u32) {
         Some(kind) => Some(kind.id()),
         None => None,
     };
-    same(rt, came, Some(id), number);
+    assert_same(rt, came, Some(id), number);
 }
 
 /// Numbers of stream kinds.
@@ -217,7 +217,7 @@ fn kinds_have_their_numbers(rt: HostRuntime) {
 /// Asserts whether a number is reserved for exercise.
 fn check_exercise<R: Abort>(rt: &R, number: u32, wanted: bool) {
     let id = VarInt::from_u32(number);
-    same(rt, StreamKind::is_id_exercise(id), wanted, number);
+    assert_same(rt, StreamKind::is_id_exercise(id), wanted, number);
 }
 
 /// Numbers, and whether they are reserved for exercise.

@@ -2,7 +2,7 @@
 //! them.
 use crate::polled::frame_answers::{Answer, NO_SESSION, UNEXPECTED_FIN, UNKNOWN};
 use crate::polled::readings::{Reading, check_polls};
-use crate::same::same;
+use crate::same::assert_same;
 use std::process::Abort;
 use test_io::{End, OneByteSource};
 use wtp_core::bytes::{AsyncRead, Polled, ReadStep};
@@ -51,13 +51,13 @@ fn check_take<R: Abort>(rt: &R, source: &mut &[u8], row: &Take) {
     let (count, takes, left) = *row;
     let is_taken = source.take_buffered(count);
     let came = (is_taken, *source, source.buffered());
-    same(rt, came, (takes, left, left), count);
+    assert_same(rt, came, (takes, left, left), count);
 }
 
 #[test]
 fn a_slice_has_buffered_all_of_its_bytes(rt: HostRuntime) {
     let mut source = b"abcde".as_slice();
-    same(&rt, source.buffered(), b"abcde".as_slice(), "the whole");
+    assert_same(&rt, source.buffered(), b"abcde".as_slice(), "the whole");
     for row in &TAKES {
         check_take(&rt, &mut source, row);
     }
@@ -66,9 +66,9 @@ fn a_slice_has_buffered_all_of_its_bytes(rt: HostRuntime) {
 #[test]
 fn a_source_need_not_have_buffered_any(rt: HostRuntime) {
     let mut source = OneByteSource::new(b"abc", End::Fin);
-    same(&rt, source.buffered(), [].as_slice(), "no byte is shown");
-    same(&rt, source.take_buffered(1), false, "no byte is taken");
-    same(&rt, source.rest(), b"abc".as_slice(), "the rest");
+    assert_same(&rt, source.buffered(), [].as_slice(), "no byte is shown");
+    assert_same(&rt, source.take_buffered(1), false, "no byte is taken");
+    assert_same(&rt, source.rest(), b"abc".as_slice(), "the rest");
 }
 
 /// Asserts that a DATA frame with a payload of `len` bytes, followed by `after` bytes, is read
@@ -81,12 +81,12 @@ fn check_sizes<R: Abort + AllocGlobal>(rt: &R, bytes: &[u8], len: usize, after: 
     let wanted = Polled::Ready(Ok((0x00, None, payload)));
     let mut reading = FrameReading::new(rt.alloc());
     reading.check(rt, &mut source, &wanted, payload, after);
-    same(rt, (Some(source), len), (bytes.get(end..all), len), after);
+    assert_same(rt, (Some(source), len), (bytes.get(end..all), len), after);
 }
 
 #[test]
 fn a_frame_has_56_bytes(rt: HostRuntime) {
-    same(&rt, size_of::<FrameOwned>(), 56, "size");
+    assert_same(&rt, size_of::<FrameOwned>(), 56, "size");
 }
 
 /// The payload lengths, and the numbers of bytes after the frame.
@@ -148,7 +148,7 @@ fn check_window<R: Abort + AllocGlobal>(rt: &R, most: usize) {
     let mut source = Window { rest: FRAMES, most };
     let shown = FRAMES.get(..most).unwrap_or(&[]);
     check_polls::<_, FrameReading, _>(rt, &mut source, &EACH, shown);
-    same(rt, source.rest, [].as_slice(), most);
+    assert_same(rt, source.rest, [].as_slice(), most);
 }
 
 #[test]

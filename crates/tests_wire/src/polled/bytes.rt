@@ -1,10 +1,10 @@
 //! Numbers and buffers, read and written poll by poll.
 use crate::polled::readings::{
-    ENDS, NewReading, Reading, check_answers, check_each, check_end, check_fronts, check_pending,
-    check_slow, check_whole, same_of,
+    ENDS, NewReading, Reading, assert_same_of, check_answers, check_each, check_end, check_fronts,
+    check_pending, check_slow, check_whole,
 };
 use crate::polled::writings::{DONE, Writing, check_refused, check_stopped, check_written};
-use crate::same::same;
+use crate::same::assert_same;
 use std::alloc::Global;
 use std::fmt::Display;
 use std::io;
@@ -44,10 +44,10 @@ impl Reading for GetVarint {
         source: &mut S,
         wanted: &Number,
         row: &[u8],
-        shows: N,
+        case: N,
     ) {
         let came = polled(self, source);
-        same_of(rt, row, &came, wanted, shows);
+        assert_same_of(rt, row, &came, wanted, case);
     }
 }
 
@@ -131,7 +131,7 @@ const NUMBER_AND_MORE: &[u8; 5] = &[0x9d, 0x7f, 0x3e, 0x7d, 0x25];
 fn a_number_is_read_past_stops(rt: HostRuntime) {
     let mut reading = GetVarint::new();
     let rest = check_answers(&rt, &mut reading, (NUMBER_AND_MORE, &STOPS), &PAST_STOPS);
-    same(&rt, rest, &[0x25], "the byte after the number");
+    assert_same(&rt, rest, &[0x25], "the byte after the number");
 }
 
 const TEXT: &[u8; 12] = b"WebTransport";
@@ -155,10 +155,10 @@ impl Reading for GetBuffer<'_> {
         source: &mut S,
         wanted: &Filled,
         row: &[u8],
-        shows: N,
+        case: N,
     ) {
         let came = self.poll(source);
-        same_of(rt, row, &came, wanted, shows);
+        assert_same_of(rt, row, &came, wanted, case);
     }
 }
 
@@ -172,14 +172,14 @@ fn check_filled<R: Abort, S: AsyncRead>(
 ) {
     let mut reading = source.get_buffer(buffer);
     check_each(rt, &mut reading, source, each, bytes);
-    same(rt, &*buffer, bytes, "the buffer");
+    assert_same(rt, &*buffer, bytes, "the buffer");
 }
 
 #[test]
 fn a_buffer_is_filled(rt: HostRuntime) {
     let mut whole = b"WebTransport!".as_slice();
     check_filled(&rt, &mut whole, &mut [0; 12], &[FULL, FULL], TEXT);
-    same(&rt, whole, b"!", "the rest");
+    assert_same(&rt, whole, b"!", "the rest");
 }
 
 /// The results of polling for twelve bytes that arrive one by one.
@@ -211,7 +211,7 @@ fn check_cut_buffer<R: Abort>(rt: &R, front: &[u8]) {
     for end in &ENDS {
         let mut buffer = [0; 12];
         check_end(rt, &mut GetBuffer::new(&mut buffer), front, *end);
-        same(rt, buffer.get(..front.len()), Some(front), "the buffer");
+        assert_same(rt, buffer.get(..front.len()), Some(front), "the buffer");
     }
 }
 
@@ -234,14 +234,14 @@ const FULL_PAST_STOPS: [Filled; 4] = [
 fn a_buffer_is_filled_past_stops(rt: HostRuntime) {
     let mut source = Answers::new(b"Web!", &STOPS);
     check_filled(&rt, &mut source, &mut [0; 3], &FULL_PAST_STOPS, b"Web");
-    same(&rt, source.rest(), b"!", "the rest");
+    assert_same(&rt, source.rest(), b"!", "the rest");
 }
 
 #[test]
 fn an_empty_buffer_is_full(rt: HostRuntime) {
     let mut source = Answers::new(TEXT, &[ReadStep::Reset]);
     check_filled(&rt, &mut source, &mut [], &[FULL], &[]);
-    same(&rt, source.left(), 1, "no call");
+    assert_same(&rt, source.left(), 1, "no call");
 }
 
 /// Asserts that a number is written into a vector and into a slow sink.
@@ -287,7 +287,7 @@ fn an_empty_buffer_is_written(rt: HostRuntime) {
     let mut sink = ScriptedSink::new(rt.alloc(), &[WriteStep::Stopped]);
     let mut writing = sink.put_buffer(&[]);
     let came = writing.write_on(&mut sink);
-    same(&rt, (came, sink.left()), (DONE, 1), "no call");
+    assert_same(&rt, (came, sink.left()), (DONE, 1), "no call");
 }
 
 #[test]
@@ -309,7 +309,7 @@ fn check_error<R: Abort>(rt: &R, kind: ErrorKind, read: IoReadError, write: IoWr
         IoReadError::from(io::Error::from(kind)),
         IoWriteError::from(io::Error::from(kind)),
     );
-    same(rt, came, (kind, read, write), "the error");
+    assert_same(rt, came, (kind, read, write), "the error");
 }
 
 /// System errors that mean that the connection is lost.
@@ -334,7 +334,7 @@ fn errors_of_the_system_are_stops(rt: HostRuntime) {
 /// Asserts the text of an error.
 pub(crate) fn check_printed<R: Abort + AllocGlobal, T: Display>(rt: &R, error: &T, text: &str) {
     let shown = error.to_string(rt.alloc()).expect(rt, "memory");
-    same(rt, shown.as_str(), text, "printed");
+    assert_same(rt, shown.as_str(), text, "printed");
 }
 
 /// Read errors and their texts.

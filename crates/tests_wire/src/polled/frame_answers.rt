@@ -1,6 +1,6 @@
 //! Results of polls that read frames, in a form that can be compared.
 use crate::polled::readings::{NewReading, Reading};
-use crate::same::same;
+use crate::same::assert_same;
 use std::alloc::Global;
 use std::fmt::Display;
 use std::process::Abort;
@@ -94,10 +94,10 @@ impl Reading for FrameReading {
         source: &mut S,
         wanted: &Answer<'static>,
         row: &[u8],
-        shows: N,
+        case: N,
     ) {
         let answer = polled(self, source);
-        same(rt, (row, &seen(&answer)), (row, wanted), shows);
+        assert_same(rt, (row, &seen(&answer)), (row, wanted), case);
     }
 }
 

@@ -1,6 +1,6 @@
 //! Frames written poll by poll.
 use crate::polled::frames::{ABC, FIELDS, HEADERS, SESSION, SETTINGS, TABLE};
-use crate::polled::readings::same_of;
+use crate::polled::readings::assert_same_of;
 use crate::polled::writings::{STOPPED, check_refused, check_stopped, check_taken, check_written};
 use std::borrow::CowSlice;
 use std::process::Abort;
@@ -12,7 +12,7 @@ use wtp_wire::frame::Frame;
 
 /// Asserts that the frame is written into a vector and into a slow sink.
 fn check_frame_written<R: Abort + AllocGlobal>(rt: &R, frame: Frame<'_>, bytes: &[u8]) {
-    same_of(rt, bytes, &frame.write_size(), &bytes.len(), "size");
+    assert_same_of(rt, bytes, &frame.write_size(), &bytes.len(), "size");
     check_written(
         rt,
         &mut frame.write_async(),

@@ -8,7 +8,7 @@ use crate::polled::readings::{
     ENDS, Reading, check_answers, check_each, check_fronts, check_pending, check_polls, check_read,
     check_tail,
 };
-use crate::same::same;
+use crate::same::assert_same;
 use std::process::Abort;
 use test_io::{End, OneByteSource};
 use wtp_core::bytes;
@@ -118,46 +118,52 @@ fn unknown_frames_are_passed_over_whole(rt: HostRuntime) {
 
 static ZEROS: [u8; 8192] = [0; 8192];
 
-/// The encoded length of an unknown frame, the number of zeros after it, the bytes after those,
-/// and the results of the polls.
-type LongRow = (
-    &'static [u8],
-    usize,
-    &'static [u8],
-    &'static [Answer<'static>],
-);
+/// An unknown frame, and the results of polling it.
+struct LongRow {
+    /// The encoded length.
+    length: &'static [u8],
+    /// The number of zeros after it.
+    zeros: usize,
+    /// The bytes after those.
+    after: &'static [u8],
+    answers: &'static [Answer<'static>],
+}
 
 /// Asserts the results of polling an unknown frame, the bytes after it, and an end.
 fn check_long<R: Abort + AllocGlobal>(rt: &R, row: &LongRow) {
-    let (length, zeros, after, each) = *row;
-    let zeros = ZEROS.get(..zeros).unwrap_or(&[]);
-    let parts = [[0x0a].as_slice(), length, zeros, after];
+    let zeros = ZEROS.get(..row.zeros).unwrap_or(&[]);
+    let parts = [[0x0a].as_slice(), row.length, zeros, row.after];
     let bytes = parts.concat(rt.alloc()).expect(rt, "memory");
     let mut source = bytes.as_slice();
-    check_polls::<_, FrameReading, _>(rt, &mut source, each, length);
+    check_polls::<_, FrameReading, _>(rt, &mut source, row.answers, row.length);
 }
 
 /// Unknown frames of 4096 bytes, of one more, of twice as many, and a truncated one.
 static LONG: [LongRow; 4] = [
-    (&[0x50, 0x00], 4096, &[0x00, 0x00], &[UNKNOWN, EMPTY_DATA]),
-    (
-        &[0x50, 0x01],
-        4097,
-        &[0x00, 0x00],
-        &[Polled::Again, UNKNOWN, EMPTY_DATA],
-    ),
-    (
-        &[0x60, 0x00],
-        8192,
-        &[0x00, 0x00],
-        &[Polled::Again, UNKNOWN, EMPTY_DATA, IMMEDIATE_FIN],
-    ),
-    (
-        &[0x50, 0x01],
-        4096,
-        &[],
-        &[Polled::Again, UNEXPECTED_FIN, UNEXPECTED_FIN],
-    ),
+    LongRow {
+        length: &[0x50, 0x00],
+        zeros: 4096,
+        after: &[0x00, 0x00],
+        answers: &[UNKNOWN, EMPTY_DATA],
+    },
+    LongRow {
+        length: &[0x50, 0x01],
+        zeros: 4097,
+        after: &[0x00, 0x00],
+        answers: &[Polled::Again, UNKNOWN, EMPTY_DATA],
+    },
+    LongRow {
+        length: &[0x60, 0x00],
+        zeros: 8192,
+        after: &[0x00, 0x00],
+        answers: &[Polled::Again, UNKNOWN, EMPTY_DATA, IMMEDIATE_FIN],
+    },
+    LongRow {
+        length: &[0x50, 0x01],
+        zeros: 4096,
+        after: &[],
+        answers: &[Polled::Again, UNEXPECTED_FIN, UNEXPECTED_FIN],
+    },
 ];
 
 #[test]
@@ -167,42 +173,43 @@ fn long_unknown_frames_take_more_polls(rt: HostRuntime) {
     }
 }
 
-/// Bytes, the steps in which they arrive, the results of the polls, the bytes of a second source,
-/// which is a slice, and the results of polling that.
-type StepsRow = (
-    &'static [u8],
-    &'static [ReadStep],
-    &'static [Answer<'static>],
-    &'static [u8],
-    &'static [Answer<'static>],
-);
+/// The bytes of two sources, and the results of polling them.
+struct StepsRow {
+    bytes: &'static [u8],
+    /// The steps in which the bytes arrive.
+    steps: &'static [ReadStep],
+    answers: &'static [Answer<'static>],
+    /// The bytes of the second source, which is a slice.
+    second: &'static [u8],
+    second_answers: &'static [Answer<'static>],
+}
 
 /// Asserts the results of a new reader for the bytes of a row, which arrive in its steps, and
 /// then for those of the second source.
 fn check_steps<R: Abort + AllocGlobal>(rt: &R, row: &StepsRow) {
-    let (bytes, steps, first, other, second) = *row;
     let mut reading = FrameReading::new(rt.alloc());
-    check_answers(rt, &mut reading, (bytes, steps), first);
-    let mut source = other;
-    check_each(rt, &mut reading, &mut source, second, other);
+    check_answers(rt, &mut reading, (row.bytes, row.steps), row.answers);
+    let mut source = row.second;
+    let answers = row.second_answers;
+    check_each(rt, &mut reading, &mut source, answers, row.second);
 }
 
 /// Rows with an unknown frame of five bytes, three of which arrive first.
 static DUE: [StepsRow; 2] = [
-    (
-        &[0x0a, 0x05, 0x61, 0x62, 0x63, 0x64, 0x65, 0x00, 0x00],
-        &[ReadStep::Bytes(3), ReadStep::NotReady],
-        &[Polled::Pending, UNKNOWN, EMPTY_DATA, IMMEDIATE_FIN],
-        &[],
-        &[],
-    ),
-    (
-        &[0x0a, 0x05, 0x61, 0x62, 0x63, 0x64, 0x65, 0x00, 0x00],
-        &[ReadStep::Bytes(3), ReadStep::Reset],
-        &[RESET],
-        &[0x62, 0x63, 0x64, 0x65, 0x00, 0x00],
-        &[UNKNOWN, EMPTY_DATA],
-    ),
+    StepsRow {
+        bytes: &[0x0a, 0x05, 0x61, 0x62, 0x63, 0x64, 0x65, 0x00, 0x00],
+        steps: &[ReadStep::Bytes(3), ReadStep::NotReady],
+        answers: &[Polled::Pending, UNKNOWN, EMPTY_DATA, IMMEDIATE_FIN],
+        second: &[],
+        second_answers: &[],
+    },
+    StepsRow {
+        bytes: &[0x0a, 0x05, 0x61, 0x62, 0x63, 0x64, 0x65, 0x00, 0x00],
+        steps: &[ReadStep::Bytes(3), ReadStep::Reset],
+        answers: &[RESET],
+        second: &[0x62, 0x63, 0x64, 0x65, 0x00, 0x00],
+        second_answers: &[UNKNOWN, EMPTY_DATA],
+    },
 ];
 
 #[test]
@@ -213,13 +220,13 @@ fn what_is_due_stays_due(rt: HostRuntime) {
 }
 
 /// A frame whose first byte comes from one source and whose other bytes come from another.
-const TWO_SOURCES: StepsRow = (
-    &[0x00],
-    &[ReadStep::Bytes(1), ReadStep::NotReady],
-    &[Polled::Pending],
-    &[0x01, 0x61],
-    &[DATA],
-);
+const TWO_SOURCES: StepsRow = StepsRow {
+    bytes: &[0x00],
+    steps: &[ReadStep::Bytes(1), ReadStep::NotReady],
+    answers: &[Polled::Pending],
+    second: &[0x01, 0x61],
+    second_answers: &[DATA],
+};
 
 #[test]
 fn a_frame_is_read_on_over_a_second_source(rt: HostRuntime) {
@@ -227,9 +234,9 @@ fn a_frame_is_read_on_over_a_second_source(rt: HostRuntime) {
 }
 
 /// A frame with an interruption before each byte.
-const STOPS: StepsRow = (
-    &[0x00, 0x01, 0x61],
-    &[
+const STOPS: StepsRow = StepsRow {
+    bytes: &[0x00, 0x01, 0x61],
+    steps: &[
         ReadStep::Reset,
         ReadStep::Bytes(1),
         ReadStep::NotConnected,
@@ -237,10 +244,10 @@ const STOPS: StepsRow = (
         ReadStep::Reset,
         ReadStep::Bytes(1),
     ],
-    &[RESET, NOT_CONNECTED, RESET, DATA],
-    &[],
-    &[],
-);
+    answers: &[RESET, NOT_CONNECTED, RESET, DATA],
+    second: &[],
+    second_answers: &[],
+};
 
 #[test]
 fn a_frame_is_read_past_stops(rt: HostRuntime) {
@@ -303,8 +310,8 @@ fn read_again<R: Abort>(
 ) -> Polled<Result<FrameOwned, IoReadError>> {
     match polled(reading, source) {
         Polled::NoMemory => {
-            let shows = "the room before the first byte";
-            same(rt, *source, b"abc".as_slice(), shows);
+            let case = "the room before the first byte";
+            assert_same(rt, *source, b"abc".as_slice(), case);
             polled(reading, source)
         }
         answer => answer,
@@ -315,8 +322,8 @@ fn read_again<R: Abort>(
 fn refused_memory_loses_no_byte_read(rt: HostRuntime) {
     let mut source = ABC.as_slice();
     let answer = read_again(&rt, &mut FrameReading::new(rt.alloc()), &mut source);
-    same(&rt, seen(&answer), ABC_DATA, "the frame");
-    same(&rt, source, &[], "all is read");
+    assert_same(&rt, seen(&answer), ABC_DATA, "the frame");
+    assert_same(&rt, source, &[], "all is read");
 }
 
 #[test]

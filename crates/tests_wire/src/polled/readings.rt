@@ -1,6 +1,6 @@
 //! Checks for every polled reader, over bytes at once and over a source that returns one byte per
 //! poll and then ends.
-use crate::same::same;
+use crate::same::assert_same;
 use std::alloc::Global;
 use std::fmt::{Debug, Display};
 use std::process::Abort;
@@ -22,7 +22,7 @@ pub(crate) trait Reading {
         source: &mut S,
         wanted: &Polled<Self::Ready>,
         row: &[u8],
-        shows: N,
+        case: N,
     );
 }
 
@@ -33,14 +33,14 @@ pub(crate) trait NewReading: Reading + Drop {
 }
 
 /// Asserts a result for the bytes of a row.
-pub(crate) fn same_of<R: Abort, T: PartialEq + Debug, N: Display + Drop>(
+pub(crate) fn assert_same_of<R: Abort, T: PartialEq + Debug, N: Display + Drop>(
     rt: &R,
     row: &[u8],
     came: &T,
     wanted: &T,
-    shows: N,
+    case: N,
 ) {
-    same(rt, (row, came), (row, wanted), shows);
+    assert_same(rt, (row, came), (row, wanted), case);
 }
 
 /// Asserts the results of polling a new reader.
@@ -154,7 +154,7 @@ pub(crate) fn check_whole<R: Abort, K: Reading>(
 ) {
     let mut whole = bytes;
     reading.check(rt, &mut whole, answer, bytes, "whole");
-    same(rt, (bytes, whole), (bytes, &[]), "whole");
+    assert_same(rt, (bytes, whole), (bytes, &[]), "whole");
     check_stops(rt, reading, &mut whole, bytes, IoReadError::ImmediateFin);
 }
 
@@ -168,7 +168,7 @@ pub(crate) fn check_slow<R: Abort, K: Reading>(
     let mut slow = OneByteSource::new(bytes, End::Fin);
     check_pending(rt, reading, &mut slow, bytes, bytes.len());
     reading.check(rt, &mut slow, answer, bytes, "byte by byte");
-    same(rt, (bytes, slow.rest()), (bytes, &[]), "byte by byte");
+    assert_same(rt, (bytes, slow.rest()), (bytes, &[]), "byte by byte");
     check_tail(rt, reading, &mut slow, (bytes, End::Fin), 0);
 }
 

@@ -1,10 +1,10 @@
 //! Stream headers read and written poll by poll.
 use crate::polled::bytes::check_printed;
 use crate::polled::readings::{
-    NewReading, Reading, check_answers, check_each, check_fronts, check_read, same_of,
+    NewReading, Reading, assert_same_of, check_answers, check_each, check_fronts, check_read,
 };
 use crate::polled::writings::{check_refused, check_stopped, check_written};
-use crate::same::same;
+use crate::same::assert_same;
 use std::alloc::Global;
 use std::fmt::Display;
 use std::process::Abort;
@@ -50,10 +50,10 @@ impl Reading for HeaderReading {
         source: &mut S,
         wanted: &Answer,
         row: &[u8],
-        shows: N,
+        case: N,
     ) {
         let came = polled(self, source);
-        same_of(rt, row, &came, wanted, shows);
+        assert_same_of(rt, row, &came, wanted, case);
     }
 }
 
@@ -142,7 +142,7 @@ const FOURTH_BYTES: &[u8; 4] = &[0x40, 0x54, 0x04, 0x00];
 fn a_header_is_read_past_stops(rt: HostRuntime) {
     let mut reading = HeaderReading::new();
     let rest = check_answers(&rt, &mut reading, (FOURTH_BYTES, &STOPS), &PAST_STOPS);
-    same(&rt, rest, &[0x00], "and no more");
+    assert_same(&rt, rest, &[0x00], "and no more");
 }
 
 /// One byte, and then not ready.
@@ -165,7 +165,7 @@ fn session<R: Abort>(rt: &R, number: u64) -> StreamHeader {
 
 /// Asserts that the header is written into a vector and into a slow sink.
 fn check_header_written<R: Abort + AllocGlobal>(rt: &R, header: StreamHeader, bytes: &[u8]) {
-    same_of(rt, bytes, &header.write_size(), &bytes.len(), "size");
+    assert_same_of(rt, bytes, &header.write_size(), &bytes.len(), "size");
     check_written(
         rt,
         &mut header.write_async(),

@@ -1,6 +1,6 @@
 //! Checks for every polled writer, with vectors and with sinks that are not ready or stop.
-use crate::polled::readings::same_of;
-use crate::same::same;
+use crate::polled::readings::assert_same_of;
+use crate::same::assert_same;
 use std::fmt::Display;
 use std::process::Abort;
 use test_io::{BYTE_BY_BYTE, ScriptedSink, stops_after};
@@ -51,10 +51,10 @@ fn check_poll<R: Abort, K: Writing, W: AsyncWrite, S: Display + Drop>(
     sink: &mut W,
     row: &[u8],
     wanted: &Written,
-    shows: S,
+    case: S,
 ) {
     let came = writing.write_on(sink);
-    same_of(rt, row, &came, wanted, shows);
+    assert_same_of(rt, row, &came, wanted, case);
 }
 
 /// Asserts the result of one poll, and the number of bytes that the sink has then accepted.
@@ -66,7 +66,7 @@ pub(crate) fn check_taken<R: Abort, K: Writing>(
     wanted: &Written,
 ) {
     check_poll(rt, writing, sink, bytes, wanted, sent);
-    same(rt, Some(sink.output()), bytes.get(..sent), sent);
+    assert_same(rt, Some(sink.output()), bytes.get(..sent), sent);
 }
 
 /// Asserts that a new or interrupted writer writes these bytes into a vector, and polls it twice.
@@ -74,7 +74,7 @@ fn check_whole<R: Abort + AllocGlobal, K: Writing>(rt: &R, writing: &mut K, byte
     let mut vector = Vec::new(rt.alloc());
     check_poll(rt, writing, &mut vector, bytes, &DONE, "whole");
     check_poll(rt, writing, &mut vector, bytes, &DONE, "finished");
-    same(rt, vector.as_slice(), bytes, "whole");
+    assert_same(rt, vector.as_slice(), bytes, "whole");
 }
 
 /// Asserts that a writer writes these bytes to a sink that accepts one byte per poll.
@@ -151,5 +151,5 @@ pub(crate) fn check_refused<R: Abort + AllocGlobal, K: Writing>(
     let answer = write_again(rt, writing, &mut vector, head);
     let written = vector.as_slice().split_at_checked(head.len());
     let wanted = (DONE, Some((head, rest)));
-    same(rt, (answer, written), wanted, "written: the head, the rest");
+    assert_same(rt, (answer, written), wanted, "written: the head, the rest");
 }
