@@ -103,14 +103,14 @@ fn nothing_is_joined_after_an_error_of_the_connection(rt: HostRuntime) {
     );
     let waits = code_of(connection.join(&mut stream, Known::Coming));
     let refused = code_of(connection.join(&mut stream, Known::Impossible));
-    same(
+    assert_same(
         &rt,
         (error.code, waits, refused),
         (0x10a, 0, 0),
         "the error, and no other",
     );
-    same(&rt, connection.waiting(), 0, "none waits");
-    same(
+    assert_same(&rt, connection.waiting(), 0, "none waits");
+    assert_same(
         &rt,
         stream.waits().is_none(),
         true,
