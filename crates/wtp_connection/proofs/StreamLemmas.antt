@@ -118,7 +118,7 @@ data_none c n bytes e l = rw (no_bytes bytes l) (record {
 
 -- ---- frames
 
-frames_run : (c : Connection) (r : Reader) (g : Bool) (bytes : List ℕ) → c.over ≡ false → run_stream c (Frames r g) bytes ≡ of_frames c g (run r bytes)
+pub frames_run : (c : Connection) (r : Reader) (g : Bool) (bytes : List ℕ) → c.over ≡ false → run_stream c (Frames r g) bytes ≡ of_frames c g (run r bytes)
 frames_run c r g bytes e = intact_run c (Frames r g) bytes e
 
 item_same : (i : Item) (c : Connection) (f g : Connection → StreamRun) → ((d : Connection) → f d ≡ g d) → by_item c f i ≡ by_item c g i
@@ -138,7 +138,7 @@ items_bytes : (bytes : List ℕ) (c : Connection) (f : Connection → StreamRun)
 items_bytes [] c f = refl
 items_bytes (b ∷ bytes) c f = ap (λ (y : StreamRun). followed (Gave (Byte b) ∷ []) y) (items_bytes bytes c f)
 
-or_true : (b : Bool) → true ≡ (b || true)
+pub or_true : (b : Bool) → true ≡ (b || true)
 or_true true = refl
 or_true false = refl
 

@@ -44,6 +44,14 @@ connection_of e = record {
   over = false;
 }
 
+-- its control stream was opened
+abbrev pub with_control : Endpoint → Connection
+with_control e = record (connection_of e) { control = true }
+
+-- SETTINGS came on it
+abbrev pub with_settings : Endpoint → PeerSettings → Connection
+with_settings e v = record (connection_of e) { control = true; peer = v }
+
 -- ---- what the connection makes of a stream
 
 -- a stream that may be opened once, where this tells whether it was

@@ -1,11 +1,21 @@
 //! Laws of the definitions that the contracts cite. Each function does nothing: its contract is the
 //! law.
-ghost use Rattle.std.specs.Prelude.{◌≡◌, ℕ, ◌/◌, true, List, ◌∷◌, ◌++◌, Some, None, Err};
+ghost use Rattle.std.specs.Prelude.{◌≡◌, ℕ, ◌/◌, ◌≤◌, Bool, true, List, [], ◌∷◌, ◌++◌, length, Some, None, Ok, Err};
+ghost use Rattle.wtp_core.specs.Varint.{Encodes};
+ghost use Rattle.wtp_frames.specs.declared.endpoint.Endpoint.{Endpoint};
 ghost use Rattle.wtp_frames.specs.declared.fault.Fault.TheVariants as stream;
+ghost use Rattle.wtp_frames.specs.declared.reader.Place.TheVariants.{AfterSettings};
+ghost use Rattle.wtp_frames.specs.Grammar.{Frame, written, IsFrame};
+ghost use Rattle.wtp_frames.specs.Start.{between};
 ghost use Rattle.wtp_wire.specs.Front.{EncodesPair};
 ghost use Rattle.wtp_wire.specs.SettingId.{IsReserved};
 ghost use Rattle.wtp_wire.specs.Settings.{ArePairs, IsCutSetting};
+ghost use Rattle.wtp_connection.specs.declared.fault.Fault.{Fault};
 ghost use Rattle.wtp_connection.specs.declared.fault.Fault.TheVariants as fault;
+ghost use Rattle.wtp_connection.specs.declared.settings.PeerSettings.{PeerSettings};
+ghost use Rattle.wtp_connection.specs.declared.stream.Purpose.TheVariants as «for»;
+ghost use Rattle.wtp_connection.specs.declared.stream.Stream.TheVariants.{Uni, Frames, Over};
+ghost use Rattle.wtp_connection.specs.Streams.{connection_of, with_control, with_settings, closed_by, Opened, Configured, Broke, followed, all_given, run_stream};
 ghost use Rattle.wtp_connection.specs.declared.instructions.DecoderPlace.TheVariants.{Between};
 ghost use Rattle.wtp_connection.specs.Instructions.{AreCancellations, after_bytes};
 ghost use Rattle.wtp_connection.specs.Settings.{AreValid, values_of, is_refused, whole, settings_in};
@@ -27,6 +37,22 @@ pub fn invalid_settings_are_reported()
     ensures refused { (ps : List (ℕ × ℕ)) (front s more : List ℕ) (id value : ℕ)
         → ArePairs ps front → AreValid ps → EncodesPair id value s
         → is_refused ps id value ≡ true → settings_in (front ++ (s ++ more)) ≡ Err fault.Settings }
+{}
+
+/// A control stream that begins with SETTINGS gives what they define, and the connection has it from
+/// then on. If they are not valid the stream gives their error, and nothing after it.
+pub fn settings_are_found()
+    ensures values { (e : Endpoint) (t more : List ℕ) (f : Frame) (v : PeerSettings)
+        → Encodes 0x00 t → IsFrame 0x04 f → length f.payload ≤ 4096 → settings_in f.payload ≡ Ok v
+        → (streamed : Bool) × (idle : ℕ)
+        × (run_stream (connection_of e) Uni (t ++ (written f ++ more))
+        ≡ followed (Opened «for».Control ∷ Configured v f.payload ∷ [])
+        (run_stream (with_settings e v)
+        (Frames (between e (AfterSettings None None) streamed idle) true) more)) }
+    ensures fault { (e : Endpoint) (t more : List ℕ) (f : Frame) (x : Fault)
+        → Encodes 0x00 t → IsFrame 0x04 f → length f.payload ≤ 4096 → settings_in f.payload ≡ Err x
+        → run_stream (connection_of e) Uni (t ++ (written f ++ more))
+        ≡ all_given (closed_by (with_control e) x) Over (Opened «for».Control ∷ Broke x ∷ []) }
 {}
 
 /// Cancellations of streams are read on a decoder stream of QPACK, whatever encodings the IDs have.

@@ -1,0 +1,70 @@
+-- A control stream up to the end of SETTINGS.
+use Rattle.std.proofs.Common.{◌≡◌, ℕ, ◌≤◌, Bool, true, false, List, [], ◌∷◌, ◌++◌, length, Option, None, Result, Ok, Err, refl, sym, ap, ◌∙◌, append-nil}
+use Rattle.wtp_core.specs.Varint.{Encodes}
+use Rattle.wtp_core.proofs.EncodingLemmas.{number_at-encoding}
+use Rattle.wtp_frames.specs.declared.endpoint.Endpoint.{Endpoint}
+use Rattle.wtp_frames.specs.declared.frame_type.FrameType.TheVariants as kind
+use Rattle.wtp_frames.specs.declared.reader.Place.TheVariants.{AfterSettings}
+use Rattle.wtp_frames.specs.Grammar.{Frame, written, IsFrame, IdsEnd}
+use Rattle.wtp_frames.specs.Item.{Whole}
+use Rattle.wtp_frames.specs.Run.{Run, preceded, run}
+use Rattle.wtp_frames.specs.Start.{control_reader, between}
+use Rattle.wtp_frames.proofs.GrammarLemmas.{Settles, settings_run}
+use Rattle.wtp_connection.specs.declared.fault.Fault.{Fault}
+use Rattle.wtp_connection.specs.declared.settings.PeerSettings.{PeerSettings}
+use Rattle.wtp_connection.specs.declared.stream.Purpose.TheVariants as «for»
+use Rattle.wtp_connection.specs.declared.stream.Stream.TheVariants.{Uni, Frames, Over}
+use Rattle.wtp_connection.specs.declared.connection.Connection.{Connection}
+use Rattle.wtp_connection.specs.Settings.{settings_in}
+use Rattle.wtp_connection.specs.Opening.{uni_by, uni_at}
+use Rattle.wtp_connection.specs.Streams.{connection_of, with_control, with_settings, closed_by, Opened, Configured, Broke, StreamRun, rests, followed, all_given, by_settings, of_items, has_frames, of_frames, by_opening, run_stream}
+use Rattle.wtp_connection.proofs.StreamLemmas.{or_true, frames_run}
+
+-- the stream is a control stream
+control_run : (e : Endpoint) (t bytes : List ℕ) → Encodes 0x00 t → run_stream (connection_of e) Uni (t ++ bytes) ≡ followed (Opened «for».Control ∷ []) (of_frames (with_control e) false (run (control_reader e) bytes))
+unfolding uni_at
+control_run e t bytes h = ap (λ (o : Option (ℕ × List ℕ)). by_opening (connection_of e) Uni (t ++ bytes) (uni_by e o)) (number_at-encoding 0x00 t bytes h)
+
+-- SETTINGS are its first frame
+record Starts (e : Endpoint) (f : Frame) (more : List ℕ) : Type 0 where
+  streamed : Bool
+  idle : ℕ
+  is : run (control_reader e) (written f ++ more) ≡ preceded (Whole kind.Settings f.payload ∷ []) (run (between e (AfterSettings None None) streamed idle) more)
+
+starts : (e : Endpoint) (f : Frame) (more : List ℕ) → IsFrame 0x04 f → length f.payload ≤ 4096 → Starts e f more
+starts e f more frame size =
+    let x : Settles (control_reader e) (written f ++ []) (Whole kind.Settings f.payload ∷ []) e None None more = settings_run e f IdsEnd more frame size tt in
+    record {
+      streamed = x.streamed;
+      idle = x.idle;
+      is = ap (λ (l : List ℕ). run (control_reader e) (l ++ more)) (sym (append-nil (written f))) ∙ x.is;
+    }
+
+-- what follows them
+abbrev then_items : Run → Connection → StreamRun
+then_items y d = of_items d (λ k. rests k (Frames y.reader true) y.left) y.items
+
+settings_start : (e : Endpoint) (t more : List ℕ) (f : Frame) (r : Result PeerSettings Fault) (s : Starts e f more) → Encodes 0x00 t → settings_in f.payload ≡ r → run_stream (connection_of e) Uni (t ++ (written f ++ more)) ≡ followed (Opened «for».Control ∷ []) (by_settings (with_control e) f.payload (then_items (run (between e (AfterSettings None None) s.streamed s.idle) more)) r)
+settings_start e t more f r s h is =
+    control_run e t (written f ++ more) h
+    ∙ ap (λ (y : Run). followed (Opened «for».Control ∷ []) (of_frames (with_control e) false y)) s.is
+    ∙ ap (λ (o : Result PeerSettings Fault). followed (Opened «for».Control ∷ []) (by_settings (with_control e) f.payload (then_items (run (between e (AfterSettings None None) s.streamed s.idle) more)) o)) is
+
+-- after SETTINGS the stream had a frame
+goes_on : (d : Connection) (e : Endpoint) (streamed : Bool) (idle : ℕ) (more : List ℕ) → d.over ≡ false → then_items (run (between e (AfterSettings None None) streamed idle) more) d ≡ run_stream d (Frames (between e (AfterSettings None None) streamed idle) true) more
+goes_on d e streamed idle more over =
+    let y : Run = run (between e (AfterSettings None None) streamed idle) more in
+    ap (λ (b : Bool). of_items d (λ k. rests k (Frames y.reader b) y.left) y.items) (or_true (has_frames y.items))
+    ∙ sym (frames_run d (between e (AfterSettings None None) streamed idle) true more over)
+
+pub settings_found : (e : Endpoint) (t more : List ℕ) (f : Frame) (v : PeerSettings) → Encodes 0x00 t → IsFrame 0x04 f → length f.payload ≤ 4096 → settings_in f.payload ≡ Ok v → (streamed : Bool) × (idle : ℕ) × (run_stream (connection_of e) Uni (t ++ (written f ++ more)) ≡ followed (Opened «for».Control ∷ Configured v f.payload ∷ []) (run_stream (with_settings e v) (Frames (between e (AfterSettings None None) streamed idle) true) more))
+settings_found e t more f v h frame size is =
+    let s : Starts e f more = starts e f more frame size in (
+      s.streamed,
+      s.idle,
+      settings_start e t more f (Ok v) s h is
+          ∙ ap (λ (y : StreamRun). followed (Opened «for».Control ∷ Configured v f.payload ∷ []) y) (goes_on (with_settings e v) e s.streamed s.idle more refl),
+    )
+
+pub settings_broken : (e : Endpoint) (t more : List ℕ) (f : Frame) (x : Fault) → Encodes 0x00 t → IsFrame 0x04 f → length f.payload ≤ 4096 → settings_in f.payload ≡ Err x → run_stream (connection_of e) Uni (t ++ (written f ++ more)) ≡ all_given (closed_by (with_control e) x) Over (Opened «for».Control ∷ Broke x ∷ [])
+settings_broken e t more f x h frame size is = settings_start e t more f (Err x) (starts e f more frame size) h is
