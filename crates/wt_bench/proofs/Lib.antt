@@ -1,2 +1,3 @@
+mod BodyLemmas
 mod CountLemmas
 mod SizeLemmas

@@ -1,5 +1,9 @@
 //! Reads a request of which `size` bytes come at a time, and its end with the last ones. Each call
 //! returns the number of bytes of its body, or -1 if the bytes are invalid.
+
+ghost use Rattle.std.specs.Prelude.{◌≡◌, ◌≢◌, pos, negsuc, IfOk, IfErr, IfSome};
+ghost use Rattle.wt_bench.specs.Bodies.{IsWithin, GoesOn, request_size, size_from};
+
 use wtp_connection::connection::{Connection, Found};
 use wtp_connection::fields::Fields;
 use wtp_connection::stream::Stream;
@@ -7,11 +11,14 @@ use wtp_frames::endpoint::{Endpoint, Side};
 use wtp_frames::reader::{Reader, Step};
 
 /// Returns this number of bytes.
-fn answer(body: usize) -> i64 {
+fn answer(body: usize) -> i64
+    ensures { result ≢ negsuc 0 → result ≡ pos body }
+{
     i64::try_from(body).unwrap_or(-1)
 }
 
-/// Reads the request as a server's connection does.
+/// Reads the request as a server's connection does. Its contract says nothing of the number, which
+/// the driver compares.
 #[unsafe(no_mangle)]
 pub extern "C" fn wt_bench_connection(bytes: &[u8], size: usize) -> i64 {
     let mut connection = Connection::new(Endpoint::new(Side::Server));
@@ -33,6 +40,9 @@ pub extern "C" fn wt_bench_connection(bytes: &[u8], size: usize) -> i64 {
             }
             Found::Opened(_, n) => start = start.saturating_add(n),
             Found::Step(Step::More(n)) => {
+                if is_last {
+                    return -1;
+                }
                 start = start.saturating_add(n);
                 end = end.saturating_add(size).min(bytes.len());
             }
@@ -43,32 +53,78 @@ pub extern "C" fn wt_bench_connection(bytes: &[u8], size: usize) -> i64 {
     -1
 }
 
+/// How far a request was read.
+#[derive(Clone, Copy)]
+struct Progress {
+    /// How many bytes are consumed.
+    start: usize,
+    /// How many bytes came.
+    end: usize,
+    /// How many bytes of the body there were.
+    body: usize,
+}
+
+/// Takes the next step. Returns how far the request is read then. At its end the error is the number
+/// of bytes of the whole body, or none if the bytes are invalid.
+fn advance(
+    reader: &mut Reader,
+    bytes: &[u8],
+    size: usize,
+    at: Progress,
+) -> Result<Progress, Option<usize>>
+    requires { IsWithin at bytes.now }
+    ensures read { IfOk result (λ p. GoesOn reader.old reader.new at p bytes.now) }
+    ensures ended { IfErr result (λ end. IfSome end
+        (λ n. n ≡ size_from reader.old at bytes.now)) }
+{
+    let Progress { start, end, body } = at;
+    match reader.next(&bytes[start..end]) {
+        Step::Data(from, to) => Ok(Progress {
+            start: start + to,
+            end,
+            body: body + (to - from),
+        }),
+        Step::Frame(_, _, n) => Ok(Progress {
+            start: start + n,
+            end,
+            body,
+        }),
+        Step::TooLarge(_, n) => Ok(Progress {
+            start: start + n,
+            end,
+            body,
+        }),
+        Step::More(n) => {
+            let start = start + n;
+            if end == bytes.len() {
+                return match reader.finish(end - start) {
+                    Ok(()) => Err(Some(body)),
+                    Err(_) => Err(None),
+                };
+            }
+            let end = end.saturating_add(size).min(bytes.len());
+            Ok(Progress { start, end, body })
+        }
+        Step::Fault(_) => Err(None),
+    }
+}
+
 /// Reads the frames of the request alone.
 #[unsafe(no_mangle)]
-pub extern "C" fn wt_bench_message(bytes: &[u8], size: usize) -> i64 {
+pub extern "C" fn wt_bench_message(bytes: &[u8], size: usize) -> i64
+    ensures { result ≢ negsuc 0 → result ≡ pos (request_size bytes.now) }
+{
     let mut reader = Reader::message(Endpoint::new(Side::Server));
-    let mut body: usize = 0;
-    let mut start: usize = 0;
-    let mut end = size.min(bytes.len());
+    let mut at = Progress {
+        start: 0,
+        end: size.min(bytes.len()),
+        body: 0,
+    };
     for _turn in 0..u64::MAX {
-        let piece = bytes.get(start..end).unwrap_or(&[]);
-        match reader.next(piece) {
-            Step::Data(from, to) => {
-                body = body.saturating_add(to.saturating_sub(from));
-                start = start.saturating_add(to);
-            }
-            Step::Frame(_, _, n) | Step::TooLarge(_, n) => start = start.saturating_add(n),
-            Step::More(n) => {
-                start = start.saturating_add(n);
-                if end == bytes.len() {
-                    return match reader.finish(end.saturating_sub(start)) {
-                        Ok(()) => answer(body),
-                        Err(_) => -1,
-                    };
-                }
-                end = end.saturating_add(size).min(bytes.len());
-            }
-            Step::Fault(_) => return -1,
+        match advance(&mut reader, bytes, size, at) {
+            Ok(next) => at = next,
+            Err(Some(body)) => return answer(body),
+            Err(None) => return -1,
         }
     }
     -1
