@@ -31,22 +31,22 @@ pub extern "C" fn wt_bench_connection(bytes: &[u8], size: usize) -> i64 {
         let piece = bytes.get(start..end).unwrap_or(&[]);
         let is_last = end == bytes.len();
         match connection.receive(&mut stream, piece, is_last, &mut fields) {
-            Found::Step(Step::Data(from, to)) => {
+            Found::Data(from, to) => {
                 body = body.saturating_add(to.saturating_sub(from));
                 start = start.saturating_add(to);
             }
-            Found::Step(Step::Frame(_, _, n)) | Found::Step(Step::TooLarge(_, n)) => {
-                start = start.saturating_add(n);
-            }
-            Found::Opened(_, n) => start = start.saturating_add(n),
-            Found::Step(Step::More(n)) => {
+            Found::Opened(_, n)
+            | Found::Settings(_, _, n)
+            | Found::Frame(_, _, n)
+            | Found::TooLarge(_, n) => start = start.saturating_add(n),
+            Found::More(n) => {
                 if is_last {
                     return -1;
                 }
                 start = start.saturating_add(n);
                 end = end.saturating_add(size).min(bytes.len());
             }
-            Found::Step(Step::Fault(_)) => return -1,
+            Found::Fault(_) => return -1,
             Found::End => return answer(body),
         }
     }
