@@ -6,4 +6,4 @@ mod sink;
 mod source;
 
 pub use sink::{BYTE_BY_BYTE, ScriptedSink, stops_after};
-pub use source::{Answers, End, OneByteSource};
+pub use source::{End, OneByteSource, ScriptedSource};

@@ -82,7 +82,7 @@ impl<'a> ScriptedSink<'a> {
 }
 
 impl AsyncWrite for ScriptedSink<'_> {
-    ghost tells = { λ s. Some (record {
+    ghost model = { λ s. Some (record {
       taken = s.taken.items;
       waits = s.waits;
       stops = s.stops;

@@ -20,7 +20,7 @@ pub enum End {
 
 impl End {
     /// All endings.
-    pub const EACH: [End; 3] = [End::Fin, End::Reset, End::NotConnected];
+    pub const ALL: [End; 3] = [End::Fin, End::Reset, End::NotConnected];
 
     /// Returns the error of a read at this end, after `taken` bytes of the value being read.
     pub fn fault(self, taken: usize) -> IoReadError
@@ -69,7 +69,7 @@ impl<'a> OneByteSource<'a> {
 }
 
 impl AsyncRead for OneByteSource<'_> {
-    ghost tells = { λ s. Some (record {
+    ghost model = { λ s. Some (record {
       ahead = s.rest.now;
       ending = ending_of s.end;
       asked = 0;
@@ -104,19 +104,19 @@ impl AsyncRead for OneByteSource<'_> {
 /// call if the buffer has room for them, and `Bytes(0)` is an end. After the list it returns the
 /// remaining bytes, as a slice does. It has no model.
 #[derive(Drop)]
-pub struct Answers<'a> {
+pub struct ScriptedSource<'a> {
     rest: &'a [u8],
     steps: &'a [ReadStep],
     piece: usize,
 }
 
-impl<'a> Answers<'a> {
+impl<'a> ScriptedSource<'a> {
     /// Creates a source over these bytes that returns these results.
     pub fn new(bytes: &'a [u8], steps: &'a [ReadStep]) -> Self
         ensures { (result.rest.now ≡ bytes.now) × (result.steps.now ≡ steps.now)
             × (result.piece ≡ 0) }
     {
-        Answers {
+        ScriptedSource {
             rest: bytes,
             steps,
             piece: 0,
@@ -138,7 +138,7 @@ impl<'a> Answers<'a> {
     }
 }
 
-impl AsyncRead for Answers<'_> {
+impl AsyncRead for ScriptedSource<'_> {
     fn poll_read(&mut self, buf: &mut [u8]) -> ReadStep {
         if buf.is_empty() {
             return ReadStep::Bytes(0);

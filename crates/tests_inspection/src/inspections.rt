@@ -99,7 +99,7 @@ static STREAMS: [Row; 22] = [
     },
     Row {
         case: "a response of aioquic",
-        kind: Recorded::Answer,
+        kind: Recorded::Response,
 
         // recorded: chr07-0-s2c-0.bin
         bytes: b"\x01\x1f\x00\x00\xd9\x2f\x0d\x41\x48\xb7\x82\xc6\x9b\x07\x52\x2b\x3d\x89\x5a\x74\
@@ -246,7 +246,7 @@ fn name_of(item: &Item) -> &'static str {
 /// Returns the state of an end, and the error code if it is an error.
 fn state_of(end: End) -> (&'static str, u64) {
     match end {
-        End::Whole => ("whole", 0),
+        End::Complete => ("whole", 0),
         End::Cut(_) => ("cut", 0),
         End::Fault(fault) => ("fault", fault.code.to_code().into_inner()),
     }

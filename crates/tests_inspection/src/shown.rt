@@ -84,7 +84,7 @@ static ROWS: [Row; 9] = [
         case: "a response",
         given: Given {
             bytes: b"\x01\x03\x00\x00\xd9",
-            kind: Recorded::Answer,
+            kind: Recorded::Response,
             open: false,
             payload: false,
         },

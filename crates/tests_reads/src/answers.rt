@@ -27,7 +27,7 @@ pub(crate) const FIN: Answer<'static> = Answer::Fault(IoReadError::IO(Fault::Imm
 pub(crate) const CUT: Answer<'static> = Answer::Fault(IoReadError::H3(ErrorCode::Frame));
 
 /// All endings of a source.
-pub(crate) static ENDS: [End; 3] = End::EACH;
+pub(crate) static ENDS: [End; 3] = End::ALL;
 
 /// Returns these bytes, padded with zeros to a length of `len`.
 pub(crate) fn pad<R: Abort>(rt: &R, alloc: Global, front: &[u8], len: usize) -> Vec<u8> {

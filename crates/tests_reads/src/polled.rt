@@ -5,7 +5,7 @@ use crate::reads::{check_poll, check_polls, check_source, poll};
 use crate::same::assert_same;
 use std::alloc::Global;
 use std::process::Abort;
-use test_io::{Answers, End, OneByteSource};
+use test_io::{End, OneByteSource, ScriptedSource};
 use wtransport_proto::bytes::{IoReadError as Fault, Polled, ReadStep};
 use wtransport_proto::error::ErrorCode;
 use wtransport_proto::frame::{Frame, FrameReading};
@@ -104,7 +104,7 @@ static ROWS: [Row; 9] = [
 fn check_row<R: Abort>(rt: &R, alloc: Global, row: &Row) {
     let mut stream = opened_there();
     let mut reading = Frame::read_async(alloc);
-    let mut source = Answers::new(row.bytes, row.steps);
+    let mut source = ScriptedSource::new(row.bytes, row.steps);
     let answers = row.answers;
     check_polls(
         rt,
@@ -222,7 +222,7 @@ static REST: [Answer<'static>; 3] = [Answer::Again, Answer::Frame(0x00, b""), FI
 fn a_second_source_goes_on(rt: HostRuntime) {
     let mut stream = opened_there();
     let mut reading = Frame::read_async(rt.alloc());
-    let mut source = Answers::new(b"\x0a\x05a", &RESET_INSIDE);
+    let mut source = ScriptedSource::new(b"\x0a\x05a", &RESET_INSIDE);
     check_polls(&rt, &mut stream, &mut reading, &mut source, &RESET, "first");
     let mut source = b"bcde\x00\x00".as_slice();
     check_polls(&rt, &mut stream, &mut reading, &mut source, &REST, "second");

@@ -7,7 +7,7 @@ use std::alloc::Global;
 use std::fmt::Display;
 use std::mem::drop;
 use std::process::Abort;
-use test_io::{Answers, End, OneByteSource};
+use test_io::{End, OneByteSource, ScriptedSource};
 use wtransport_proto::bytes::{AsyncRead, IoReadError as Fault, Polled, ReadStep};
 use wtransport_proto::error::ErrorCode;
 use wtransport_proto::frame::{Frame, FrameOwned, FrameReading};
@@ -238,7 +238,7 @@ fn check_trickle<R: Abort + AllocGlobal>(rt: &R, row: &Row) {
 
 /// Asserts the outcome of a row whose bytes arrive in these steps.
 fn check_steps<R: Abort + AllocGlobal>(rt: &R, steps: &[ReadStep], row: &Row) {
-    let mut source = Answers::new(row.bytes, steps);
+    let mut source = ScriptedSource::new(row.bytes, steps);
     check_found(
         rt,
         accepting(rt.alloc()),
@@ -384,7 +384,7 @@ fn check_stop<R: Abort + AllocGlobal>(rt: &R, len: usize, end: End) {
 }
 
 /// All endings of a source.
-static ENDS: [End; 3] = End::EACH;
+static ENDS: [End; 3] = End::ALL;
 
 #[test]
 fn a_second_source_goes_on(rt: HostRuntime) {

@@ -287,7 +287,7 @@ fn check_header_stop<R: Abort>(rt: &R, len: usize, end: End) {
 }
 
 /// All endings of a source.
-static ENDS: [End; 3] = End::EACH;
+static ENDS: [End; 3] = End::ALL;
 
 #[test]
 fn a_header_may_stop_at_each_place(rt: HostRuntime) {

@@ -46,7 +46,7 @@ impl<'a> Incoming<'a> {
 }
 
 impl AsyncRead for Incoming<'_> {
-    ghost tells = { λ s. Some (record {
+    ghost model = { λ s. Some (record {
       ahead = s.rest.now;
       ending = AtEnd;
       asked = 0;
@@ -106,7 +106,7 @@ impl Outgoing {
 }
 
 impl AsyncWrite for Outgoing {
-    ghost tells = { λ s. Some (record {
+    ghost model = { λ s. Some (record {
       taken = s.taken.items;
       waits = s.waits;
       stops = 0;

@@ -14,7 +14,7 @@ const VERSION: &str = "0.8.0";
 const MORE: &str = "\
 KIND says what the bytes are, from the first one on, in one direction of one stream:
   bi        a bidirectional stream, by the end that opened it: a request, or a WebTransport stream
-  answer    the other direction of a request: a response
+  response  the other direction of a request: a response
   uni       a unidirectional stream: control, QPACK encoder or decoder, WebTransport, push
   datagram  the payload of one QUIC datagram
   capsules  the content of the DATA frames of a session
@@ -43,7 +43,7 @@ failed, 4 out of memory.";
 
 /// The names of the kinds of recordings.
 static KINDS: [&str; 7] = [
-    "bi", "answer", "uni", "datagram", "capsules", "section", "settings",
+    "bi", "response", "uni", "datagram", "capsules", "section", "settings",
 ];
 
 /// The format of the output.
@@ -151,7 +151,7 @@ fn recorded_of(name: Option<&str>) -> Recorded
     ensures { Names (option_map (λ text. text.now) name.entry) result }
 {
     match name {
-        Some("answer") => Recorded::Answer,
+        Some("response") => Recorded::Response,
         Some("uni") => Recorded::Uni,
         Some("datagram") => Recorded::Datagram,
         Some("capsules") => Recorded::Capsules,

@@ -137,6 +137,6 @@ fn status_of(end: End) -> u8
 {
     match end {
         End::Fault(_) => 2,
-        End::Whole | End::Cut(_) => 0,
+        End::Complete | End::Cut(_) => 0,
     }
 }

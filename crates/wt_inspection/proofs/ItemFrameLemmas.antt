@@ -6,7 +6,7 @@ use Rattle.std.proofs.lemmas.List.{drop-drop}
 use Rattle.wtp_core.specs.Varint.{bytes_at}
 use Rattle.wtp_core.specs.declared.error.ErrorCode.{ErrorCode}
 use Rattle.wtp_wire.specs.Front.{Front, Framed, Unknown, BadId, TooBig, Short, front_after, front}
-use Rattle.wtp_wire.specs.FrameHead.{announcement_of}
+use Rattle.wtp_wire.specs.FramePrefix.{announcement_of}
 use Rattle.wtp_wire.specs.declared.frame.kind.FrameKind.{FrameKind}
 use Rattle.wtp_wire.specs.declared.frame.kind.FrameKind.TheVariants as kind-is
 use Rattle.wtp_wire.proofs.FrontLemmas.{front-head}

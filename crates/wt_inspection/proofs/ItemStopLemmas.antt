@@ -4,7 +4,7 @@ use Rattle.std.specs.Prelude.{◌==◌}
 use Rattle.wtp_core.specs.declared.error.ErrorCode.{ErrorCode}
 use Rattle.wtp_core.specs.declared.error.ErrorCode.TheVariants as code-is
 use Rattle.wtp_wire.specs.Front.{Framed, BadId, Short, front_after, front}
-use Rattle.wtp_wire.specs.FrameHead.{announcement_of}
+use Rattle.wtp_wire.specs.FramePrefix.{announcement_of}
 use Rattle.wtp_wire.specs.declared.frame.kind.FrameKind.{FrameKind}
 use Rattle.wtp_wire.specs.declared.frame.kind.FrameKind.TheVariants as kind-is
 use Rattle.wtp_wire.proofs.FrontLemmas.{front-headless}

@@ -314,7 +314,7 @@ missing_is walk came h = by walk.unknown walk.held.items h.0
     by None held (zero, same, part) = none_missing walk.cursor held came zero same
     by (Some u) held (some, none, lacks) = missing_due walk.cursor held some ∙ lacks_missing u walk.cursor.skip_remaining came lacks
 
-pub ends_whole : (walk : CapsuleWalk) (stage : Stage) → IsStage (phase-is.Session walk) stage → ((came : List ℕ) → Holds walk came → came ≡ []) → EndsStage stage end-is.Whole
+pub ends_whole : (walk : CapsuleWalk) (stage : Stage) → IsStage (phase-is.Session walk) stage → ((came : List ℕ) → Holds walk came → came ≡ []) → EndsStage stage end-is.Complete
 ends_whole walk (Session held start) h none = rw (none held h.0) refl
 ends_whole walk Opening h none = absurd h
 ends_whole walk Plain h none = absurd h

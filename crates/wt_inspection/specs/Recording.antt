@@ -404,7 +404,7 @@ Reads before stage bytes (item ∷ items) last final rest =
 -- what a recording begins with
 abbrev pub start_of : Recorded → Next
 start_of recorded-is.Bi = next-is.Frames role-is.BiRemote true
-start_of recorded-is.Answer = next-is.Frames role-is.BiLocal true
+start_of recorded-is.Response = next-is.Frames role-is.BiLocal true
 start_of recorded-is.Uni = next-is.Head
 start_of recorded-is.Datagram = next-is.Datagram
 start_of recorded-is.Capsules = next-is.Capsules
@@ -420,18 +420,18 @@ code_of_nothing other = None
 -- the end of no bytes, whose fault has this code, if they have one
 abbrev pub EndsEmpty : Option ErrorCode → End → Type 0
 EndsEmpty (Some c) end = IsFaultAt 0 c end
-EndsEmpty None end = end ≡ end-is.Whole
+EndsEmpty None end = end ≡ end-is.Complete
 
 -- the end of bytes that have no fault: they are complete unless they end within a capsule
 abbrev pub EndsStage : Stage → End → Type 0
 EndsStage (Session (byte ∷ held) start) end =
     IsCutAt start (codes "capsule") (missing_of (pair_at (byte ∷ held)) (byte ∷ held)) end
-EndsStage other end = end ≡ end-is.Whole
+EndsStage other end = end ≡ end-is.Complete
 
 -- a stream of frames, no bytes of which follow, may not end within one (RFC 9114, section 7.1)
 abbrev pub may_not_be_cut : Recorded → Bool → Bool
 may_not_be_cut recorded-is.Bi more = not more
-may_not_be_cut recorded-is.Answer more = not more
+may_not_be_cut recorded-is.Response more = not more
 may_not_be_cut other more = false
 
 -- how bytes end whose reading stops so: where it stops, or, if they are cut and may not be, with

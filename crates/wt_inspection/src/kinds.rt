@@ -33,7 +33,7 @@ use wtp_wire::stream_header::StreamKind;
 /// Each is what the bytes at its place are after the items before it. The bytes after the first
 /// fault, and too few bytes for an item, are one item that is not read. The end is then that fault,
 /// or where the bytes are cut: [`End::Cut`], unless `kind` is [`Recorded::Bi`] or
-/// [`Recorded::Answer`] and they are not `open`. A stream may not end within a frame, so that is
+/// [`Recorded::Response`] and they are not `open`. A stream may not end within a frame, so that is
 /// the fault [`ErrorCode::Frame`] (RFC 9114, section 7.1).
 ///
 /// DATA frames contain capsules if the first header section, or the first that is not of an interim

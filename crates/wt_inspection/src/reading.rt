@@ -18,7 +18,7 @@ pub enum Recorded {
     /// WebTransport stream.
     Bi,
     /// The other direction of a request: a response.
-    Answer,
+    Response,
     /// A unidirectional stream.
     Uni,
     /// The payload of a QUIC datagram.
@@ -57,7 +57,7 @@ pub(crate) fn start_of(kind: Recorded) -> Next
 {
     match kind {
         Recorded::Bi => Next::Frames(StreamRole::BiRemote, true),
-        Recorded::Answer => Next::Frames(StreamRole::BiLocal, true),
+        Recorded::Response => Next::Frames(StreamRole::BiLocal, true),
         Recorded::Uni => Next::Head,
         Recorded::Datagram => Next::Datagram,
         Recorded::Capsules => Next::Capsules,
@@ -130,9 +130,9 @@ impl Reading {
         match &self.phase {
             Phase::Session(walk) => match walk.pending() {
                 Some(cut) => End::Cut(cut),
-                None => End::Whole,
+                None => End::Complete,
             },
-            Phase::Opening | Phase::Plain => End::Whole,
+            Phase::Opening | Phase::Plain => End::Complete,
         }
     }
 }
@@ -152,8 +152,11 @@ pub(crate) fn end_of_nothing(kind: Recorded) -> End
             ErrorCode::Decompression,
             "a field section begins with its prefix (RFC 9204, section 4.5.1)",
         ),
-        Recorded::Bi | Recorded::Answer | Recorded::Uni | Recorded::Capsules | Recorded::Settings =>
-            End::Whole,
+        Recorded::Bi
+        | Recorded::Response
+        | Recorded::Uni
+        | Recorded::Capsules
+        | Recorded::Settings => End::Complete,
     }
 }
 
@@ -207,7 +210,7 @@ pub(crate) fn end_at(kind: Recorded, open: bool, stop: End) -> End
             why: "the stream ends within a frame (RFC 9114, section 7.1)",
             missing,
         }),
-        End::Fault(_) | End::Whole => stop,
+        End::Fault(_) | End::Complete => stop,
     }
 }
 
@@ -216,7 +219,7 @@ fn may_not_be_cut(kind: Recorded, open: bool) -> bool
     ensures { result ≡ may_not_be_cut kind «open» }
 {
     match kind {
-        Recorded::Bi | Recorded::Answer => !open,
+        Recorded::Bi | Recorded::Response => !open,
         Recorded::Uni
         | Recorded::Datagram
         | Recorded::Capsules

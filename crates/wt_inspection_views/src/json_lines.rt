@@ -224,7 +224,7 @@ fn add_end(object: &mut Object, end: End, length: usize)
     ensures { AddsMembers object.old object.new }
 {
     match end {
-        End::Whole => add_whole(object, length),
+        End::Complete => add_whole(object, length),
         End::Cut(cut) => add_cut(object, cut),
         End::Fault(fault) => add_fault(object, fault),
     }

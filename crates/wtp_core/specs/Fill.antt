@@ -35,9 +35,9 @@ FillMoves (Ok _) held new a b = Gains held new a b 0
 FillMoves (Err h) held new a b = Gains held new a b 1 × HaltIsTrue h a b
 
 -- the same for a source that may have no model
-abbrev pub FillTells :
+abbrev pub FillModel :
     {U : Type 0} → Result U Interrupted → List ℕ → List ℕ → Option Source → Option Source → Type 0
-FillTells r held new old now = HasModel old now (λ a b. FillMoves r held new a b)
+FillModel r held new old now = HasModel old now (λ a b. FillMoves r held new a b)
 
 -- how often the source was not ready: once if this is the reason why no more bytes came, and
 -- otherwise never

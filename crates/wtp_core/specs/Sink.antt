@@ -41,8 +41,8 @@ SinkMoves NotConnected buf a b = Took a b [] 0 0 1
 SinkMoves NoMemory buf a b = Took a b [] 0 0 0
 
 -- the same for a sink that may have no model
-abbrev pub SinkTells : WriteStep → List ℕ → Option Sink → Option Sink → Type 0
-SinkTells step buf old new = HasModel old new (λ a b. SinkMoves step buf a b)
+abbrev pub SinkModel : WriteStep → List ℕ → Option Sink → Option Sink → Type 0
+SinkModel step buf old new = HasModel old new (λ a b. SinkMoves step buf a b)
 
 -- the whole buffer was taken, or allocation failed
 abbrev pub TakesWhole : WriteStep → ℕ → Type 0

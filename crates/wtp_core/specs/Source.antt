@@ -63,8 +63,8 @@ StepMoves Reset buf a b = IsOver a b AtReset
 StepMoves NotConnected buf a b = IsOver a b AtDisconnection
 
 -- the effect of one call on a source that may have no model
-abbrev pub StepTells : ReadStep → List ℕ → Option Source → Option Source → Type 0
-StepTells step buf old new = HasModel old new (λ a b. AsksOnce a b × StepMoves step buf a b)
+abbrev pub StepModel : ReadStep → List ℕ → Option Source → Option Source → Type 0
+StepModel step buf old new = HasModel old new (λ a b. AsksOnce a b × StepMoves step buf a b)
 
 -- how often the source was not ready in one call: once or never
 abbrev pub step_waits : ReadStep → ℕ

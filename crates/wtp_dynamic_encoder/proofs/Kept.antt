@@ -175,6 +175,7 @@ waiting_has known stream (x ∷ xs) waits = by_later (may_wait known stream xs) 
     among : (b : Bool) → IsAmong stream (waiting_streams known xs) → IsAmong stream (cond b (x.stream ∷ waiting_streams known xs) (waiting_streams known xs))
     among true is = inr is
     among false is = is
+
     by_later : (b : Bool) → may_wait known stream xs ≡ b → (may_wait known stream xs ≡ true → IsAmong stream (waiting_streams known xs)) → IsAmong stream (waiting_streams known (x ∷ xs))
     by_later true later has = among (nat_lt known x.required && not (may_wait known x.stream xs)) (has later)
     by_later false later has = elim (or_cases (nat_lt known x.required && x.stream == stream) (may_wait known stream xs) waits) [
@@ -187,21 +188,32 @@ waiting_has known stream (x ∷ xs) waits = by_later (may_wait known stream xs) 
     ]
 
 few_push : (most known : ℕ) (xs : List Sent) (y : Sent) → (y.required ≤ known) ⊎ (may_block most y.stream (known, xs) ≡ true) → FewWait most known xs → FewWait most known (xs ++ y ∷ [])
-few_push most known xs y (inl few) (streams, size, all) = (streams, size, λ stream waits. elim (wait_push known stream xs y waits) [
-  | inl before ↦ all stream before
-  | inr this ↦ absurd (omega (arith, this.0))
-])
-few_push most known xs y (inr block) (streams, size, all) = elim (or_cases (may_wait known y.stream xs) (nat_lt (length (waiting_streams known xs)) most) block) [
-  | inl already ↦ (streams, size, λ stream waits. elim (wait_push known stream xs y waits) [
+few_push most known xs y (inl few) (streams, size, all) = (
+  streams,
+  size,
+  λ stream waits. elim (wait_push known stream xs y waits) [
     | inl before ↦ all stream before
-    | inr this ↦ all stream (subst (λ (s : ℕ). may_wait known s xs ≡ true) this.1 already)
-  ])
+    | inr this ↦ absurd (omega (arith, this.0))
+  ],
+)
+few_push most known xs y (inr block) (streams, size, all) = elim (or_cases (may_wait known y.stream xs) (nat_lt (length (waiting_streams known xs)) most) block) [
+  | inl already ↦ (
+    streams,
+    size,
+    λ stream waits. elim (wait_push known stream xs y waits) [
+      | inl before ↦ all stream before
+      | inr this ↦ all stream (subst (λ (s : ℕ). may_wait known s xs ≡ true) this.1 already)
+    ],
+  )
   | inr room ↦
-      let fits : length (waiting_streams known xs) < most = below_is (length (waiting_streams known xs)) most room.1 in
-      (y.stream ∷ waiting_streams known xs, omega arith, λ stream waits. elim (wait_push known stream xs y waits) [
-        | inl before ↦ inr (waiting_has known stream xs before)
-        | inr this ↦ inl (sym this.1)
-      ])
+      let fits : length (waiting_streams known xs) < most = below_is (length (waiting_streams known xs)) most room.1 in (
+        y.stream ∷ waiting_streams known xs,
+        omega arith,
+        λ stream waits. elim (wait_push known stream xs y waits) [
+          | inl before ↦ inr (waiting_has known stream xs before)
+          | inr this ↦ inl (sym this.1)
+        ],
+      )
 ]
 
 pub opened_keeps : (t : Table) (most : ℕ) (l after : Ledger) (sent : Sent) → after ≡ opened sent l → Both t most l → t.dropped ≤ sent.lowest → (sent.required ≡ 0) ⊎ (sent.lowest < sent.required) → sent.required ≤ insert_count t
@@ -213,6 +225,7 @@ opened_keeps t most l after sent is kept live some few allowed = subst (λ (z : 
       | inl zero ↦ cc (eq-eqb sent.required 0 zero, fails)
       | inr more ↦ more
     ]
+
     by_none : (b : Bool) → (sent.required == 0) ≡ b → Both t most (cond b l (l.0, l.1 ++ sent ∷ []))
     by_none true none = kept
     by_none false fails = (owes_section sent (encoder_of t l) kept.0 live (some_then fails) few, few_push most l.0 l.1 sent allowed kept.1)

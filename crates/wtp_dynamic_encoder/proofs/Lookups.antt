@@ -29,6 +29,7 @@ static_decides index entry name value r there is = (
     same said =
         let two = both (bytes_eq entry.0 name) (bytes_eq entry.1 value) (sym is ∙ said) in
         ap (λ (x : List ℕ). (x, entry.1)) ((bytes_eq-Decides entry.0 name).0 two.0) ∙ ap (λ (x : List ℕ). (name, x)) ((bytes_eq-Decides entry.1 value).0 two.1)
+
     back : entry ≡ (name, value) → (bytes_eq entry.0 name && bytes_eq entry.1 value) ≡ true
     back e = rw ((bytes_eq-Decides entry.0 name).1 (ap (λ (x : Field). x.0) e), (bytes_eq-Decides entry.1 value).1 (ap (λ (x : Field). x.1) e)) refl
 

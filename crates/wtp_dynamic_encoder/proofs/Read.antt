@@ -48,8 +48,10 @@ sent_reads stream most fields written before after section sent now decoder owes
   where
     base : ℕ
     base = base_for (needed sent.plans) (insert_count written)
+
     base_small : base < 2 ^ 64
     base_small = base_few (needed sent.plans) (insert_count written) small
+
     by_state : (needed sent.plans ≡ 0) ⊎ IsOpen (sent_of stream sent.plans sent.lowest) now.sections → HasFields decoder (section_of decoder.limit (needed sent.plans) base sent.plans) fields
     by_state (inl none) =
         pair_reads written now.table decoder (needed sent.plans) base sent.plans fields

@@ -191,7 +191,7 @@ lines_sent stream most t bound fields bytes required lowest old new before after
   few = omega (arith, lines.exact, lines.few);
   from = lines.from;
   bytes = more ∙ ap (λ (z : List ℕ). before ++ (prefix_for t required ++ z)) (lines.bytes_are ∙ lines_based (insert_count t) required lines.plans lines.exact)
-    ∙ ap (λ (n : ℕ). before ++ (prefix_for t n ++ flat_map (planned_line (base_for n (insert_count t))) lines.plans)) lines.exact;
+      ∙ ap (λ (n : ℕ). before ++ (prefix_for t n ++ flat_map (planned_line (base_for n (insert_count t))) lines.plans)) lines.exact;
   ledger = noted ∙ ap (λ (n : ℕ). opened (sent_at stream n lowest) old) lines.exact;
   allowed = within allowed;
 }

@@ -60,11 +60,7 @@ fn read_first(bytes: &[u8]) -> First<'_>
 }
 
 /// Does an instruction, where so many entries were inserted. An error changes nothing.
-fn apply(
-    ledger: &mut Ledger,
-    inserted: u64,
-    next: Acknowledgment,
-) -> Result<(), DecoderStreamError>
+fn apply(ledger: &mut Ledger, inserted: u64, next: Acknowledgment) -> Result<(), DecoderStreamError>
     ensures { Steps (step next inserted ledger.old) ledger.old ledger.new result }
 {
     match next {

@@ -92,10 +92,10 @@ impl Model for QpackEncoder {
     ghost Value = { State };
 
     ghost view = { λ e. record {
-        table = e.table;
-        ledger = e.ledger;
-        progress = progress_of e.fault e.decoder;
-        most = e.most;
+      table = e.table;
+      ledger = e.ledger;
+      progress = progress_of e.fault e.decoder;
+      most = e.most;
     } };
 
     ghost invariant = { λ e. Owes (encoder_of e.table e.ledger)
@@ -110,10 +110,10 @@ impl QpackEncoder {
     pub fn new(alloc: Global, limit: u64, most: u64) -> Self
         requires { limit < 2 ^ 60 }
         ensures { result ≡ record {
-            table = empty_table limit;
-            ledger = (0, []);
-            progress = Runs [];
-            most = most;
+          table = empty_table limit;
+          ledger = (0, []);
+          progress = Runs [];
+          most = most;
         } }
     {
         QpackEncoder {
@@ -256,7 +256,10 @@ impl QpackEncoder {
             return Err(fault);
         }
         let count = self.table.insert_count();
-        match self.decoder.read(self.alloc, &mut self.ledger, count, piece) {
+        match self
+            .decoder
+            .read(self.alloc, &mut self.ledger, count, piece)
+        {
             Ok(()) => Ok(()),
             Err(fault) => {
                 self.fault = Some(fault);

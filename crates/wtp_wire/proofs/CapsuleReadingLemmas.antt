@@ -8,8 +8,8 @@ use Rattle.wtp_core.specs.VarintLenNeeded.{varint_len_needed}
 use Rattle.wtp_core.proofs.NeedLemmas.{number_at-cut, number_at-full, drop_all}
 use Rattle.wtp_core.proofs.EncodingLemmas.{number_at-more, bytes_at-append}
 use Rattle.wtp_wire.specs.declared.capsule.CapsuleKind.{CapsuleKind}
-use Rattle.wtp_wire.specs.declared.capsule.reading.CapsuleHead.{CapsuleHead}
-use Rattle.wtp_wire.specs.declared.capsule.reading.CapsuleHead.TheVariants as head-is
+use Rattle.wtp_wire.specs.declared.capsule.reading.CapsuleAnnouncement.{CapsuleAnnouncement}
+use Rattle.wtp_wire.specs.declared.capsule.reading.CapsuleAnnouncement.TheVariants as head-is
 use Rattle.wtp_wire.specs.declared.capsule.reading.Reached.TheVariants as reached-is
 use Rattle.wtp_wire.specs.Capsule.{capsule_number_of, capsule_kind_of}
 use Rattle.wtp_wire.specs.CapsuleFront.{Found, Unknown, TooLong, Cut, End, max_value_len, or_cut, value_front, capsule_front}
@@ -20,7 +20,7 @@ use Rattle.wtp_wire.specs.CapsuleSteps.{HasRoom, length_says, head_says, front_a
 use Rattle.wtp_wire.specs.Front.{EncodesPair}
 use Rattle.wtp_wire.specs.FrameNeed.{frame_need, frame_need_is, frame_need_some}
 use Rattle.wtp_wire.specs.Held.{Held}
-use Rattle.wtp_wire.proofs.FrameHeadLemmas.{parts_of}
+use Rattle.wtp_wire.proofs.FramePrefixLemmas.{parts_of}
 use Rattle.wtp_wire.proofs.CapsuleFrontLemmas.{front_end, front_none, front_one, front_two, TwoNumbers, two_numbers, same_number}
 use Rattle.wtp_wire.proofs.CapsuleStreamLemmas.{next-by}
 
@@ -47,7 +47,7 @@ front_says h xs w =
     let p = parts_of h w in
     front_two (h ++ xs) (p.behind ++ xs) xs p.id p.n (number_at-more p.id h p.behind xs p.first) (number_at-more p.n p.behind [] xs p.second)
     ∙ value_after (capsule_kind_of p.id) p.n xs
-    ∙ ap (λ (s : CapsuleHead). front_after s xs) (sym (two_say h p.behind [] p.id p.n p.first p.second))
+    ∙ ap (λ (s : CapsuleAnnouncement). front_after s xs) (sym (two_say h p.behind [] p.id p.n p.first p.second))
 
 -- a head that is not complete
 record Unready (h : List ℕ) : Type 0 where
@@ -192,18 +192,18 @@ joins_skip h b n d d' z is w e more = elim (cases_lt 0 n) [
 ]
   where
     start : next_held (hold h d) (b ++ more) ≡ skip_unknown (λ rest. next_capsule rest) (or_cut (bytes_at n (b ++ more)) (λ value. Unknown value.1))
-    start = held_none h d (b ++ more) z ∙ next-by (h ++ (b ++ more)) (front_after (head_says h) (b ++ more)) (front_says h (b ++ more) w) ∙ ap (λ (s : CapsuleHead). skip_unknown (λ rest. next_capsule rest) (front_after s (b ++ more))) e
+    start = held_none h d (b ++ more) z ∙ next-by (h ++ (b ++ more)) (front_after (head_says h) (b ++ more)) (front_says h (b ++ more) w) ∙ ap (λ (s : CapsuleAnnouncement). skip_unknown (λ rest. next_capsule rest) (front_after s (b ++ more))) e
 
     over : (o : Option (List ℕ × List ℕ)) → skip_unknown (λ rest. next_capsule rest) (or_cut o (λ value. Unknown value.1)) ≡ or_cut o (λ value. next_capsule value.1)
     over None = refl
     over (Some x) = refl
 
 pub held_long : (h v : List ℕ) (d : ℕ) → d ≡ 0 → v ≡ [] → frame_need h ≡ length h → head_says h ≡ head-is.TooLong → (more : List ℕ) → next_held (hold (h ++ v) d) more ≡ TooLong more
-held_long h v d z none w e more = held_says h v more d z w ∙ ap (λ (s : CapsuleHead). skip_unknown (λ rest. next_capsule rest) (front_after s (v ++ more))) e ∙ ap (λ (x : List ℕ). TooLong (x ++ more)) none
+held_long h v d z none w e more = held_says h v more d z w ∙ ap (λ (s : CapsuleAnnouncement). skip_unknown (λ rest. next_capsule rest) (front_after s (v ++ more))) e ∙ ap (λ (x : List ℕ). TooLong (x ++ more)) none
 
 pub held_found : (h v : List ℕ) (k : CapsuleKind) (n d : ℕ) → d ≡ 0 → length v ≡ n → frame_need h ≡ length h → head_says h ≡ head-is.Keep k n → (more : List ℕ) → next_held (hold (h ++ v) d) more ≡ Found k v more
 held_found h v k n d z size w e more =
-    held_says h v more d z w ∙ ap (λ (s : CapsuleHead). skip_unknown (λ rest. next_capsule rest) (front_after s (v ++ more))) (e ∙ ap (λ (m : ℕ). head-is.Keep k m) (sym size))
+    held_says h v more d z w ∙ ap (λ (s : CapsuleAnnouncement). skip_unknown (λ rest. next_capsule rest) (front_after s (v ++ more))) (e ∙ ap (λ (m : ℕ). head-is.Keep k m) (sym size))
     ∙ rw (bytes_at-append v more) refl
 
 -- too few bytes
@@ -213,7 +213,7 @@ no_more n s l = rw (lt-ltb (length s) n l) refl
 
 pub short_value : (h v : List ℕ) (k : CapsuleKind) (n d : ℕ) → d ≡ 0 → length v < n → frame_need h ≡ length h → head_says h ≡ head-is.Keep k n → next_held (hold (h ++ v) d) [] ≡ Cut
 short_value h v k n d z l w e =
-    held_says h v [] d z w ∙ ap (λ (s : CapsuleHead). skip_unknown (λ rest. next_capsule rest) (front_after s (v ++ []))) e
+    held_says h v [] d z w ∙ ap (λ (s : CapsuleAnnouncement). skip_unknown (λ rest. next_capsule rest) (front_after s (v ++ []))) e
     ∙ rw (no_more n (v ++ []) (omega (arith, length-append v []))) refl
 
 pub short_due : (t : List ℕ) (d : ℕ) → 0 < d → next_held (hold t d) [] ≡ Cut
@@ -266,7 +266,7 @@ ends_cut h v d p some e = elim (cases_lt 0 d) [
       ]
 ]
   where
-    by : d ≡ 0 → frame_need h ≡ length h → (s : CapsuleHead) → head_says h ≡ s → FitsHead s v → ⊥
+    by : d ≡ 0 → frame_need h ≡ length h → (s : CapsuleAnnouncement) → head_says h ≡ s → FitsHead s v → ⊥
     by z w head-is.Unfinished is f = says_whole h w is
     by z w (head-is.Keep k n) is f = let bad : Cut ≡ End = sym (short_value h v k n d z f w is) ∙ e in cc
     by z w (head-is.Skip n) is f = f
@@ -319,7 +319,7 @@ joins_head h v d a h' c t =
     (joins_due (h ++ v) d a (λ l. let e = none_held h v d t.part l in rw (e.0, e.1) refl))
     (joins_bytes (h ++ v) (h' ++ v) (drop d a) c (d - length a) (d - length a) t.zero t.zero (with_value h v h' (drop d a) c (before h v h' (drop d a) c d t.part t.head) t.head))
 
-fits_after : (h v h' b c : List ℕ) (d : ℕ) (s : CapsuleHead) → IsPart h v d → TakesHead h b h' c → head_says h' ≡ s → FitsHead s v ⊎ (v ≡ [])
+fits_after : (h v h' b c : List ℕ) (d : ℕ) (s : CapsuleAnnouncement) → IsPart h v d → TakesHead h b h' c → head_says h' ≡ s → FitsHead s v ⊎ (v ≡ [])
 fits_after h v h' b c d s p t is = elim (before h v h' b c d p t) [
   | inl same ↦ let says : head_says h ≡ s = ap head_says (sym same) ∙ is in inl (rw says at p.fits)
   | inr none ↦ inr none
@@ -415,7 +415,7 @@ size_of head len room fits = omega (arith, length-take len head)
 
 -- ---- the room for a value
 
-pub no_room : (s : CapsuleHead) (n room : ℕ) → n ≡ 0 → HasRoom s n room
+pub no_room : (s : CapsuleAnnouncement) (n room : ℕ) → n ≡ 0 → HasRoom s n room
 no_room head-is.Unfinished n room e = tt
 no_room (head-is.Keep k len) n room e = λ l. absurd (omega arith)
 no_room (head-is.Skip len) n room e = tt

@@ -23,7 +23,7 @@ use Rattle.wtp_wire.specs.Held.{Held, skip_front, front_held, IsUnknownHead, Ski
 use Rattle.wtp_wire.specs.FramePolling.{FramePolled, FrameGiven, KeepsHeld, Answered}
 use Rattle.wtp_wire.specs.PartialFrame.{Part, bytes_in, IsReading}
 use Rattle.wtp_wire.specs.FrameSteps.{IsComplete, Skipped, PassedOn, PassedPlain, BeginsFrame, BeginsPlain, Grew}
-use Rattle.wtp_wire.proofs.FrameHeadLemmas.{front_announcement, announcement_skip}
+use Rattle.wtp_wire.proofs.FramePrefixLemmas.{front_announcement, announcement_skip}
 use Rattle.wtp_core.specs.declared.bytes.polled.IoReadError as bytes-is
 use Rattle.std.specs.Prelude.{replicate}
 use Rattle.std.proofs.lemmas.List.{length-replicate}

@@ -22,14 +22,14 @@ use Rattle.wtp_wire.specs.declared.frame.reading.IoReadError.{IoReadError}
 use Rattle.wtp_wire.specs.declared.frame.reading.IoReadError.TheVariants.{IO}
 use Rattle.wtp_wire.specs.Content.{Content, WebTransportOf, content}
 use Rattle.wtp_wire.specs.Front.{Front, Framed, BadId, TooBig, Short, front_after, front}
-use Rattle.wtp_wire.specs.FrameHead.{announcement_at}
+use Rattle.wtp_wire.specs.FramePrefix.{announcement_at}
 use Rattle.wtp_wire.specs.FrameNeed.{frame_need, frame_need_most, frame_need_some}
 use Rattle.wtp_wire.specs.PartialFrame.{Part, new_part, bytes_in, IsReading}
 use Rattle.wtp_wire.specs.Limits.{max_payload, max_calls}
 use Rattle.wtp_wire.specs.Held.{Held, skip_front, front_held, IsUnfinished, IsPayloadHead, Leaves}
 use Rattle.wtp_wire.specs.FramePolling.{FramePolled, FrameGiven, Decided, Stopped, KeepsHeld, Answered}
 use Rattle.wtp_wire.specs.FrameSteps.{IsComplete, WantsRoom, IsAnswer, CanAnswer, Grew}
-use Rattle.wtp_wire.proofs.FrameHeadLemmas.{front_announcement, front_part, payload_head, announcement_payload, announcement_whole}
+use Rattle.wtp_wire.proofs.FramePrefixLemmas.{front_announcement, front_part, payload_head, announcement_payload, announcement_whole}
 use Rattle.wtp_wire.proofs.FrameReadingLemmas.{no_items}
 
 abbrev pub hold : List ℕ → ℕ → Held

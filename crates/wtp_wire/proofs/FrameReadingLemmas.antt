@@ -8,7 +8,7 @@ use Rattle.wtp_core.specs.Fill.{Gains, FillKeepsLengths}
 use Rattle.std.proofs.Common.{Result, Ok, Err}
 use Rattle.std.proofs.lemmas.Bool.{cases_lt}
 use Rattle.wtp_wire.specs.FrameNeed.{frame_need}
-use Rattle.wtp_wire.specs.FrameHead.{announcement_at}
+use Rattle.wtp_wire.specs.FramePrefix.{announcement_at}
 use Rattle.wtp_wire.specs.PartialFrame.{Part, bytes_in, IsReading}
 use Rattle.wtp_wire.specs.FrameSteps.{IsComplete, StopMoves, PayloadKeeps, AdvanceKeeps, Grew, payload_size}
 use Rattle.wtp_wire.specs.declared.frame.kind.FrameKind.{FrameKind}

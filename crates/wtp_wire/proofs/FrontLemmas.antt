@@ -11,7 +11,7 @@ use Rattle.wtp_wire.specs.declared.frame.head.Announcement.{Announcement}
 use Rattle.wtp_wire.specs.declared.frame.head.Announcement.TheVariants as announces
 use Rattle.wtp_wire.specs.Kind.{frame_type_of, IsKind, kind_of}
 use Rattle.wtp_wire.specs.Content.{Content, PlainOf, WebTransportOf}
-use Rattle.wtp_wire.specs.FrameHead.{announcement_of, head_at}
+use Rattle.wtp_wire.specs.FramePrefix.{announcement_of, head_at}
 use Rattle.wtp_wire.specs.Front.{Front, Framed, Unknown, BadId, TooBig, Short, EncodesPair, IsPlainFrame, IsFrame, Begins, front_after, front, extended}
 use Rattle.wtp_wire.proofs.KindLemmas.{kind_of-is, is-kind_of, kind_of-none}
 

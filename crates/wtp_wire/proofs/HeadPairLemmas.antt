@@ -4,10 +4,10 @@ use Rattle.std.proofs.lemmas.Bool.{cases_lt}
 use Rattle.wtp_core.specs.Varint.{number_at}
 use Rattle.wtp_core.specs.VarintLenNeeded.{varint_len_needed}
 use Rattle.wtp_core.proofs.NeedLemmas.{number_at-cut, number_at-full}
-use Rattle.wtp_wire.specs.declared.capsule.reading.CapsuleHead.TheVariants as head-is
+use Rattle.wtp_wire.specs.declared.capsule.reading.CapsuleAnnouncement.TheVariants as head-is
 use Rattle.wtp_wire.specs.Capsule.{capsule_kind_of}
 use Rattle.wtp_wire.specs.CapsuleSteps.{head_says, length_says}
-use Rattle.wtp_wire.specs.FrameHead.{announcement_of, head_at}
+use Rattle.wtp_wire.specs.FramePrefix.{announcement_of, head_at}
 use Rattle.wtp_wire.specs.FrameNeed.{frame_need, frame_need_is, frame_need_least}
 use Rattle.wtp_wire.specs.Kind.{kind_of}
 use Rattle.wtp_wire.specs.Settings.{pair_at}

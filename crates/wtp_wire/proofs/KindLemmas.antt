@@ -6,7 +6,7 @@ use Rattle.std.proofs.lemmas.Bool.Decides.{nat_tests}
 use Rattle.wtp_wire.specs.declared.frame.kind.FrameKind.{FrameKind}
 use Rattle.wtp_wire.specs.declared.frame.kind.FrameKind.TheVariants.{Exercise}
 use Rattle.wtp_wire.specs.Kind.{IsKind, IsExercise, IsKnown, is_exercise, frame_type_of, registered, kind_among, registered_kind, or_reserved, kind_of}
-use Rattle.wtp_wire.specs.KindNumber.{or_exercise, kind_numbered, number_of_kind_numbered}
+use Rattle.wtp_wire.specs.FrameType.{or_exercise, kind_numbered, number_of_kind_numbered}
 
 pub exercise_test : (id : ℕ) → IsExercise id → is_exercise id ≡ true
 exercise_test id h =

@@ -3,7 +3,7 @@ pub mod KindLemmas
 pub mod NamedLemmas
 pub mod FrontLemmas
 pub mod WireLemmas
-pub mod FrameHeadLemmas
+pub mod FramePrefixLemmas
 pub mod FrameReadingLemmas
 pub mod WholeLemmas
 pub mod FramePollLemmas

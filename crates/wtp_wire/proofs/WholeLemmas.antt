@@ -12,7 +12,7 @@ use Rattle.wtp_wire.specs.declared.frame.kind.FrameKind.{FrameKind}
 use Rattle.wtp_wire.specs.declared.frame.head.Announcement.{Announcement}
 use Rattle.wtp_wire.specs.declared.frame.head.Announcement.TheVariants as announces
 use Rattle.wtp_wire.specs.Content.{Content, PlainOf, payload_in}
-use Rattle.wtp_wire.specs.FrameHead.{head_at}
+use Rattle.wtp_wire.specs.FramePrefix.{head_at}
 use Rattle.wtp_wire.specs.Front.{Front, Framed, Unknown, BadId, TooBig, Short, Begins, IsFrame, extended, front}
 use Rattle.wtp_wire.specs.PartialFrame.{Part, bytes_in, IsReading}
 use Rattle.wtp_wire.specs.Limits.{max_calls}

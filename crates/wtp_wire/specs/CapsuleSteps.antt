@@ -3,8 +3,8 @@ use Rattle.std.specs.Prelude.{◌≡◌, ℕ, ◌<◌, ◌≤◌, List, [], ◌+
 use Rattle.wtp_core.specs.Varint.{number_at, bytes_at}
 use Rattle.wtp_wire.specs.declared.capsule.CapsuleError.{CapsuleError}
 use Rattle.wtp_wire.specs.declared.capsule.CapsuleKind.{CapsuleKind}
-use Rattle.wtp_wire.specs.declared.capsule.reading.CapsuleHead.{CapsuleHead}
-use Rattle.wtp_wire.specs.declared.capsule.reading.CapsuleHead.TheVariants as head-is
+use Rattle.wtp_wire.specs.declared.capsule.reading.CapsuleAnnouncement.{CapsuleAnnouncement}
+use Rattle.wtp_wire.specs.declared.capsule.reading.CapsuleAnnouncement.TheVariants as head-is
 use Rattle.wtp_wire.specs.declared.capsule.reading.Reached.{Reached}
 use Rattle.wtp_wire.specs.declared.capsule.reading.Reached.TheVariants as reached-is
 use Rattle.wtp_wire.specs.Capsule.{capsule_kind_of}
@@ -16,23 +16,23 @@ use Rattle.wtp_wire.specs.Held.{Held}
 -- ---- the type and the length
 
 -- what a length says after the type of a kind, or after an unknown type
-abbrev pub length_says : Option CapsuleKind → ℕ → CapsuleHead
+abbrev pub length_says : Option CapsuleKind → ℕ → CapsuleAnnouncement
 length_says None len = head-is.Skip len
 length_says (Some kind) len =
     if nat_lt (max_value_len kind) len then head-is.TooLong else head-is.Keep kind len
 
-abbrev pub or_unfinished : Option (ℕ × List ℕ) → (ℕ × List ℕ → CapsuleHead) → CapsuleHead
+abbrev pub or_unfinished : Option (ℕ × List ℕ) → (ℕ × List ℕ → CapsuleAnnouncement) → CapsuleAnnouncement
 or_unfinished None next = head-is.Unfinished
 or_unfinished (Some x) next = next x
 
 -- what the type and the length at the start say
-unfoldable pub head_says : List ℕ → CapsuleHead
+unfoldable pub head_says : List ℕ → CapsuleAnnouncement
 head_says bytes =
     or_unfinished (number_at bytes)
     (λ id. or_unfinished (number_at id.1) (λ len. length_says (capsule_kind_of id.0) len.0))
 
 -- the first capsule, given what its type and length say and the bytes after them
-abbrev pub front_after : CapsuleHead → List ℕ → CapsuleFront
+abbrev pub front_after : CapsuleAnnouncement → List ℕ → CapsuleFront
 front_after head-is.Unfinished bytes = Cut
 front_after (head-is.Keep kind len) bytes =
     or_cut (bytes_at len bytes) (λ value. Found kind value.0 value.1)
@@ -41,7 +41,7 @@ front_after head-is.TooLong bytes = TooLong bytes
 
 -- ---- what is held: h of a type and a length, v of a value
 
-abbrev pub FitsHead : CapsuleHead → List ℕ → Type 0
+abbrev pub FitsHead : CapsuleAnnouncement → List ℕ → Type 0
 FitsHead head-is.Unfinished v = v ≡ []
 FitsHead (head-is.Keep kind len) v = length v < len
 FitsHead (head-is.Skip len) v = ⊥
@@ -53,7 +53,7 @@ pub record IsPart (h v : List ℕ) (skip_remaining : ℕ) : Type 0 where
   pub alone : 0 < skip_remaining → h ≡ []
 
 -- where n bytes of a value are held, there is room for all of it
-abbrev pub HasRoom : CapsuleHead → ℕ → ℕ → Type 0
+abbrev pub HasRoom : CapsuleAnnouncement → ℕ → ℕ → Type 0
 HasRoom (head-is.Keep kind len) n room = 0 < n → len ≤ room
 HasRoom head n room = Unit {0}
 

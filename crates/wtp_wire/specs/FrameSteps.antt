@@ -19,7 +19,7 @@ use Rattle.wtp_wire.specs.Kind.{IsKnown}
 use Rattle.wtp_wire.specs.Content.{Content, WebTransportOf, content}
 use Rattle.wtp_wire.specs.Front.{Framed, front}
 use Rattle.wtp_wire.specs.FrameNeed.{frame_need}
-use Rattle.wtp_wire.specs.FrameHead.{announcement_at}
+use Rattle.wtp_wire.specs.FramePrefix.{announcement_at}
 use Rattle.wtp_wire.specs.PartialFrame.{Part, IsReading}
 use Rattle.wtp_wire.specs.Limits.{max_head, max_payload}
 use Rattle.wtp_wire.specs.Held.{Held}

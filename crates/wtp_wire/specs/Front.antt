@@ -8,7 +8,7 @@ use Rattle.wtp_wire.specs.declared.frame.head.Announcement.{Announcement}
 use Rattle.wtp_wire.specs.declared.frame.head.Announcement.TheVariants as announces
 use Rattle.wtp_wire.specs.Kind.{frame_type_of, IsKind}
 use Rattle.wtp_wire.specs.Content.{Content, PlainOf, WebTransportOf}
-use Rattle.wtp_wire.specs.FrameHead.{head_at}
+use Rattle.wtp_wire.specs.FramePrefix.{head_at}
 
 -- What the bytes start with, and the bytes after it. Short means that more bytes are needed.
 pub data Front : Type 0 where

@@ -1,8 +1,8 @@
 pub mod Kind
-pub mod KindNumber
+pub mod FrameType
 pub mod Content
 pub mod Body
-pub mod FrameHead
+pub mod FramePrefix
 pub mod PastNumber
 pub mod Front
 pub mod FrameReading

@@ -3,7 +3,7 @@ use Rattle.std.specs.Prelude.{◌≡◌, ℕ, ◌<◌, ◌≤◌, List, [], ◌+
 use Rattle.wtp_wire.specs.declared.frame.kind.FrameKind.{FrameKind}
 use Rattle.wtp_wire.specs.declared.frame.head.Announcement.TheVariants as announces
 use Rattle.wtp_wire.specs.FrameNeed.{frame_need}
-use Rattle.wtp_wire.specs.FrameHead.{announcement_at}
+use Rattle.wtp_wire.specs.FramePrefix.{announcement_at}
 
 -- the bytes received of the head, the size allocated for the payload, and the bytes received of the
 -- payload

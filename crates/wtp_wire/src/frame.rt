@@ -17,7 +17,7 @@ pub mod writing;
 use crate::frame::body::Body;
 use crate::frame::head::{Announcement, get_head};
 pub use crate::frame::kind::FrameKind;
-use crate::frame::kind::KindNumber;
+use crate::frame::kind::FrameType;
 pub use reading::{FrameReading, IoReadError};
 use std::borrow::CowSlice;
 use std::fmt;
@@ -59,7 +59,7 @@ pub enum GenerateError {
 /// A frame whose payload is borrowed or owned. A short payload may be stored in the frame itself.
 #[derive(Drop)]
 pub struct Frame<'a> {
-    kind: KindNumber,
+    kind: FrameType,
     body: Body<'a>,
 }
 
@@ -92,7 +92,7 @@ impl<'a> Frame<'a> {
     ghost use Rattle.std.specs.Cow.{cow_slice_items};
     ghost use Rattle.wtp_wire.specs.Content.{kind_in, payload_in, session_in, DataOf, HeadersOf, SettingsOf, WebTransportOf, ExerciseOf};
     ghost use Rattle.wtp_wire.specs.Kind.{IsKnown, is_exercise, kind_of};
-    ghost use Rattle.wtp_wire.specs.FrameHead.{AnnouncesKind};
+    ghost use Rattle.wtp_wire.specs.FramePrefix.{AnnouncesKind};
     ghost use Rattle.wtp_wire.specs.Front.{front, front_after};
     ghost use Rattle.wtp_wire.specs.FrameReading.{Answers, AnswersWhole};
     ghost use Rattle.wtp_wire.specs.PastNumber.{past_two};
@@ -105,7 +105,7 @@ impl<'a> Frame<'a> {
         ensures { result ≡ HeadersOf (cow_slice_items payload.entry) }
     {
         Frame {
-            kind: KindNumber::of(FrameKind::Headers),
+            kind: FrameType::of(FrameKind::Headers),
             body: Body::of(payload),
         }
     }
@@ -117,7 +117,7 @@ impl<'a> Frame<'a> {
         ensures { result ≡ SettingsOf (cow_slice_items payload.entry) }
     {
         Frame {
-            kind: KindNumber::of(FrameKind::Settings),
+            kind: FrameType::of(FrameKind::Settings),
             body: Body::of(payload),
         }
     }
@@ -128,7 +128,7 @@ impl<'a> Frame<'a> {
         ensures { result ≡ WebTransportOf session_id }
     {
         Frame {
-            kind: KindNumber::of(FrameKind::WebTransport),
+            kind: FrameType::of(FrameKind::WebTransport),
             body: Body::Session(session_id),
         }
     }
@@ -142,7 +142,7 @@ impl<'a> Frame<'a> {
         ensures { result ≡ ExerciseOf id (cow_slice_items payload.entry) }
     {
         Frame {
-            kind: KindNumber::of(FrameKind::Exercise(id)),
+            kind: FrameType::of(FrameKind::Exercise(id)),
             body: Body::of(payload),
         }
     }
@@ -154,7 +154,7 @@ impl<'a> Frame<'a> {
         ensures { result ≡ DataOf (cow_slice_items payload.entry) }
     {
         Frame {
-            kind: KindNumber::of(FrameKind::Data),
+            kind: FrameType::of(FrameKind::Data),
             body: Body::of(payload),
         }
     }
@@ -223,7 +223,7 @@ impl<'a> Frame<'a> {
         match announcement {
             Announcement::Payload(kind, size) => match reader.get_bytes(size as usize) {
                 Some(payload) => Ok(Some(Frame {
-                    kind: KindNumber::with_number(id, kind),
+                    kind: FrameType::with_number(id, kind),
                     body: Body::Borrowed(payload),
                 })),
                 None => Ok(None),

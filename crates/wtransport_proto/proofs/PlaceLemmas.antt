@@ -12,7 +12,7 @@ use Rattle.wtp_wire.specs.Rule.{Role, rule}
 use Rattle.wtp_wire.specs.Run.{Run, skip_unknown, follows}
 use Rattle.wtransport_proto.specs.HeldRun.{tail_of, run_of}
 use Rattle.wtransport_proto.specs.StreamPolling.{Faults, StreamTakesFrame, PassesUnknown, SourceIsAfter}
-use Rattle.wtransport_proto.specs.Place.{Place, if_allowed, remainder, place_after, place_by, place_held, place_of, BeginsUnknown, SkipAdvances, Remains, SamePlace, LeftByFault, AtFault}
+use Rattle.wtransport_proto.specs.Place.{Place, if_allowed, remainder, place_after, place_by, place_held, place_of, BeginsUnknown, SkipAdvances, NothingLost, SamePlace, LeftByFault, AtFault}
 use Rattle.wtp_wire.proofs.RunLemmas.{skip_unknown-framed, skip_unknown-bad, skip_unknown-big, skip_unknown-short}
 use Rattle.wtransport_proto.proofs.RemainderLemmas.{after-unknown, after-known}
 use Rattle.wtransport_proto.proofs.HeldRunLemmas.{run_framed}
@@ -67,7 +67,7 @@ place-refused role first h xs rest f code e refused =
 
 -- ---- nothing is lost
 
-pub remains_same : (h : Held) (xs : List ℕ) → Remains h h xs xs
+pub remains_same : (h : Held) (xs : List ℕ) → NothingLost h h xs xs
 remains_same h xs = record {
   same = refl;
   kept = λ z. (z, refl);
@@ -90,7 +90,7 @@ begins_then whole ys zs m n p q = record {
   is_head = let n : length p.payload + m ≡ length (p.payload ++ q.payload) + n = omega (arith, q.counts, length-append p.payload q.payload) in rw n at p.is_head;
 }
 
-pub remains_then : (old mid new : Held) (xs ys zs : List ℕ) → Remains old mid xs ys → Remains mid new ys zs → Remains old new xs zs
+pub remains_then : (old mid new : Held) (xs ys zs : List ℕ) → NothingLost old mid xs ys → NothingLost mid new ys zs → NothingLost old new xs zs
 remains_then old mid new xs ys zs p q = record {
   same = q.same ∙ p.same;
   kept = λ z. let m = q.kept z in let o = p.kept m.0 in (o.0, m.1 ∙ o.1);
@@ -121,7 +121,7 @@ skips_going old new a b u s l =
       },
     )
 
-pub leaves_remains : (old new : Held) (a b : Source) → IsUnfinished old → Leaves old new a b → Remains old new a.ahead b.ahead
+pub leaves_remains : (old new : Held) (a b : Source) → IsUnfinished old → Leaves old new a b → NothingLost old new a.ahead b.ahead
 leaves_remains old new a b u v = record {
   same = v.same;
   kept = v.kept;
@@ -132,7 +132,7 @@ leaves_remains old new a b u v = record {
   ];
 }
 
-part_remains : (first next : Bool) (old new : Held) (a b : Source) → IsUnfinished old → PassesUnknown first next old new a b → 0 < new.skip_remaining → Remains old new a.ahead b.ahead
+part_remains : (first next : Bool) (old new : Held) (a b : Source) → IsUnfinished old → PassesUnknown first next old new a b → 0 < new.skip_remaining → NothingLost old new a.ahead b.ahead
 part_remains first next old new a b u p l = let w = p.part l in record {
   same = w.0;
   kept = λ z. absurd (omega arith);
@@ -149,11 +149,11 @@ same_then p q r x y = record { first = y.first ∙ x.first; remains = remains_th
 same_of : (p q : Place) → p ≡ q → SamePlace p q
 same_of p q e = rw e (same_refl q)
 
-moved_choice : (o : Option ErrorCode) (first : Bool) (old new : Held) (xs ys : List ℕ) (onward : Place) → Remains old new xs ys → SamePlace (if_allowed o onward (record { first = first; held = old; ahead = xs })) (if_allowed o onward (record { first = first; held = new; ahead = ys }))
+moved_choice : (o : Option ErrorCode) (first : Bool) (old new : Held) (xs ys : List ℕ) (onward : Place) → NothingLost old new xs ys → SamePlace (if_allowed o onward (record { first = first; held = old; ahead = xs })) (if_allowed o onward (record { first = first; held = new; ahead = ys }))
 moved_choice None first old new xs ys onward r = same_refl onward
 moved_choice (Some c) first old new xs ys onward r = record { first = refl; remains = r }
 
-moved_by : (role : Role) (first : Bool) (old new : Held) (xs ys : List ℕ) (c : Front) → Remains old new xs ys → SamePlace (place_by role first old xs c) (place_by role first new ys c)
+moved_by : (role : Role) (first : Bool) (old new : Held) (xs ys : List ℕ) (c : Front) → NothingLost old new xs ys → SamePlace (place_by role first old xs c) (place_by role first new ys c)
 moved_by role first old new xs ys (Framed f rest) r = moved_choice (rule role first (kind_in f)) first old new xs ys (place_after (remainder role false rest)) r
 moved_by role first old new xs ys (Unknown rest) r = same_refl (place_after (remainder role first rest))
 moved_by role first old new xs ys (BadId rest) r = record { first = refl; remains = r }
@@ -161,7 +161,7 @@ moved_by role first old new xs ys (TooBig rest) r = record { first = refl; remai
 moved_by role first old new xs ys Short r = record { first = refl; remains = r }
 
 -- what remains has the same place
-pub remains_place : (role : Role) (first : Bool) (old new : Held) (xs ys : List ℕ) → Remains old new xs ys → SamePlace (place_held role first old xs) (place_held role first new ys)
+pub remains_place : (role : Role) (first : Bool) (old new : Held) (xs ys : List ℕ) → NothingLost old new xs ys → SamePlace (place_held role first old xs) (place_held role first new ys)
 remains_place role first old new xs ys r =
     rw (place_case role first old xs (front_held old xs) refl, place_case role first new ys (front_held old xs) r.same) (moved_by role first old new xs ys (front_held old xs) r)
 
@@ -200,7 +200,7 @@ fault_here role first next old new x a b (BadId rest) e t = place_case role firs
 fault_here role first next old new x a b (TooBig rest) e t = place_case role first old a.ahead (TooBig rest) e
 fault_here role first next old new x a b Short e t = place_case role first old a.ahead Short e
 
-left_after : (p : Place) (old new : Held) (a b : Source) (c : Front) → IsUnfinished old → Remains p.held old p.ahead a.ahead → SourceIsAfter c old new a b → LeftByFault p c new b.ahead
+left_after : (p : Place) (old new : Held) (a b : Source) (c : Front) → IsUnfinished old → NothingLost p.held old p.ahead a.ahead → SourceIsAfter c old new a b → LeftByFault p c new b.ahead
 left_after p old new a b (Framed f rest) u r s = (s.0, sym s.1)
 left_after p old new a b (Unknown rest) u r s = s
 left_after p old new a b (BadId rest) u r s = (s.0, sym s.1)

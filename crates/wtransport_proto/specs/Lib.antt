@@ -40,7 +40,7 @@ pub use Rattle.wtp_wire.specs.Front
 pub use Rattle.wtp_wire.specs.FrameReading
 pub use Rattle.wtp_wire.specs.Held
 pub use Rattle.wtp_wire.specs.FrameNeed
-pub use Rattle.wtp_wire.specs.FrameHead
+pub use Rattle.wtp_wire.specs.FramePrefix
 pub use Rattle.wtp_wire.specs.Limits
 pub use Rattle.wtp_wire.specs.FrameSteps
 pub use Rattle.wtp_wire.specs.FramePolling

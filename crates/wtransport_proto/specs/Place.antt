@@ -103,7 +103,7 @@ pub record SkipAdvances (skip_remaining : ℕ) (ahead : List ℕ) (now : ℕ) (l
 
 -- The bytes held and ahead are the same before and after, except that bytes of an unknown frame
 -- were skipped and more of it are left to skip.
-pub record Remains (old new : Held) (ahead left : List ℕ) : Type 0 where
+pub record NothingLost (old new : Held) (ahead left : List ℕ) : Type 0 where
   pub same : front_held new left ≡ front_held old ahead
   pub kept : new.skip_remaining ≡ 0 → (old.skip_remaining ≡ 0) × (new.taken ++ left ≡ old.taken ++ ahead)
   pub begun :
@@ -117,7 +117,7 @@ pub record Remains (old new : Held) (ahead left : List ℕ) : Type 0 where
 -- Two positions are the same: no byte was lost between them.
 pub record SamePlace (old new : Place) : Type 0 where
   pub first : new.first ≡ old.first
-  pub remains : Remains old.held new.held old.ahead new.ahead
+  pub remains : NothingLost old.held new.held old.ahead new.ahead
 
 -- ---- after an error
 
@@ -129,7 +129,7 @@ LeftByFault p (Framed f rest) new left = (new ≡ new_held) × (left ≡ rest)
 LeftByFault p (Unknown rest) new left = ⊥
 LeftByFault p (BadId rest) new left = (new ≡ new_held) × (left ≡ rest)
 LeftByFault p (TooBig rest) new left = (new ≡ new_held) × (left ≡ rest)
-LeftByFault p Short new left = (left ≡ []) × Remains p.held new p.ahead []
+LeftByFault p Short new left = (left ≡ []) × NothingLost p.held new p.ahead []
 
 -- The state after the error at this position: new is the reading state, these bytes are ahead, and
 -- next is whether the next frame is the first one of its stream.

@@ -71,7 +71,7 @@ pub enum ExchangeError {
 /// On an error a part of the frame was sent, and the rest cannot be sent any more. Returns
 /// `Waiting` if the sink was not ready in each turn.
 pub fn send<W: AsyncWrite>(frame: &Frame<'_>, sink: &mut W, turns: u32) -> Result<(), SendError>
-    ensures { HasModel (W.tells sink.old) (W.tells sink.new)
+    ensures { HasModel (W.model sink.old) (W.model sink.new)
         (SendDid (wire frame.now) turns result) }
 {
     let mut writing = frame.write_async();
@@ -97,9 +97,9 @@ fn next_frame<K: ReadsFrames, S: AsyncRead>(
     requires { K.can stream.old }
     ensures can { K.can stream.new }
     ensures changes { ChangesFirst K.first stream.old stream.new }
-    ensures read { HasModel (S.tells source.old) (S.tells source.new)
+    ensures read { HasModel (S.model source.old) (S.model source.new)
         (FrameDid K.role (K.first stream.old) (K.first stream.new) turns result) }
-    ensures asks { HasModel (S.tells source.old) (S.tells source.new) (PollsAtMost (4112 * turns)) }
+    ensures asks { HasModel (S.model source.old) (S.model source.new) (PollsAtMost (4112 * turns)) }
 {
     let mut reading = FrameReading::new(alloc);
     for _turn in 0..turns {
@@ -131,11 +131,11 @@ pub fn receive<K: ReadsFrames, S: AsyncRead>(
     requires { K.can stream.old }
     ensures can { K.can stream.new }
     ensures changes { ChangesFirst K.first stream.old stream.new }
-    ensures read { HasModel (S.tells source.old) (S.tells source.new)
+    ensures read { HasModel (S.model source.old) (S.model source.new)
         (MapDid K.role (K.first stream.old) (K.first stream.new) turns result) }
     ensures back { (m : List Field) → IsMap m → AreTexts m
-        → HasModel (S.tells source.old) (S.tells source.new) (ReadsBack K.role m turns result) }
-    ensures asks { HasModel (S.tells source.old) (S.tells source.new) (PollsAtMost (4112 * turns)) }
+        → HasModel (S.model source.old) (S.model source.new) (ReadsBack K.role m turns result) }
+    ensures asks { HasModel (S.model source.old) (S.model source.new) (PollsAtMost (4112 * turns)) }
 {
     let frame = next_frame(alloc, stream, source, turns)?;
     match frame.kind() {
@@ -162,13 +162,13 @@ pub fn send_and_receive<W: AsyncWrite, K: ReadsFrames, S: AsyncRead>(
     turns: u32,
 ) -> Result<Headers, ExchangeError>
     requires { K.can stream.old }
-    ensures back { HasModel (S.tells source.old) (S.tells source.new)
+    ensures back { HasModel (S.model source.old) (S.model source.new)
         (SentBack K.role headers.now turns result) }
-    ensures sent { HasModel (W.tells sink.old) (W.tells sink.new)
+    ensures sent { HasModel (W.model sink.old) (W.model sink.new)
         (Sent (wire (HeadersOf (payload headers.now))) turns result) }
-    ensures received { HasModel (S.tells source.old) (S.tells source.new)
+    ensures received { HasModel (S.model source.old) (S.model source.new)
         (Received K.role (K.first stream.old) (K.first stream.new) turns result) }
-    ensures asks { HasModel (S.tells source.old) (S.tells source.new) (PollsAtMost (4112 * turns)) }
+    ensures asks { HasModel (S.model source.old) (S.model source.new) (PollsAtMost (4112 * turns)) }
     ensures unread { UnlessRead result ((stream.new ≡ stream.old) × (source.new ≡ source.old)) }
     ensures too_long { result ≡ Err (ExchangeError.Frame GenerateError.PayloadTooLong)
         → 2 ^ 62 ≤ length (payload headers.now) }

@@ -20,7 +20,7 @@ impl AsyncRead for Window<'_> {
     ghost use Rattle.std.specs.Prelude.{Some};
     ghost use Rattle.wtp_core.specs.Source.{all_ahead};
 
-    ghost tells = { λ s. Some (all_ahead s.rest.now) };
+    ghost model = { λ s. Some (all_ahead s.rest.now) };
 
     fn poll_read(&mut self, buf: &mut [u8]) -> ReadStep {
         self.rest.poll_read(buf)
@@ -133,7 +133,7 @@ const FRAMES: &[u8; 22] = &[
 ];
 
 /// The results of polling these bytes.
-static EACH: [Answer<'static>; 7] = [
+static ALL: [Answer<'static>; 7] = [
     Polled::Ready(Ok((0x00, None, b"abc"))),
     UNKNOWN,
     Polled::Ready(Ok((0x41, Some(4), b""))),
@@ -147,7 +147,7 @@ static EACH: [Answer<'static>; 7] = [
 fn check_window<R: Abort + AllocGlobal>(rt: &R, most: usize) {
     let mut source = Window { rest: FRAMES, most };
     let shown = FRAMES.get(..most).unwrap_or(&[]);
-    check_polls::<_, FrameReading, _>(rt, &mut source, &EACH, shown);
+    check_polls::<_, FrameReading, _>(rt, &mut source, &ALL, shown);
     assert_same(rt, source.rest, [].as_slice(), most);
 }
 

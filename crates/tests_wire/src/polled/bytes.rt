@@ -10,7 +10,7 @@ use std::fmt::Display;
 use std::io;
 use std::io::ErrorKind;
 use std::process::Abort;
-use test_io::{Answers, End, OneByteSource, ScriptedSink};
+use test_io::{End, OneByteSource, ScriptedSink, ScriptedSource};
 use wtp_core::bytes::{
     AsyncRead, BytesReaderAsync, BytesWriterAsync, GetBuffer, GetVarint, IoReadError, IoWriteError,
     Polled, PutBuffer, PutVarint, ReadStep, WriteStep,
@@ -101,7 +101,7 @@ const READ_ON: [Number; 3] = [
 
 #[test]
 fn a_number_is_read_on(rt: HostRuntime) {
-    let mut source = Answers::new(&[0x7b, 0xbd], &[ReadStep::Bytes(1), ReadStep::NotReady]);
+    let mut source = ScriptedSource::new(&[0x7b, 0xbd], &[ReadStep::Bytes(1), ReadStep::NotReady]);
     let mut reading = source.get_varint();
     check_each(&rt, &mut reading, &mut source, &READ_ON, &[0x7b, 0xbd]);
 }
@@ -232,14 +232,14 @@ const FULL_PAST_STOPS: [Filled; 4] = [
 
 #[test]
 fn a_buffer_is_filled_past_stops(rt: HostRuntime) {
-    let mut source = Answers::new(b"Web!", &STOPS);
+    let mut source = ScriptedSource::new(b"Web!", &STOPS);
     check_filled(&rt, &mut source, &mut [0; 3], &FULL_PAST_STOPS, b"Web");
     assert_same(&rt, source.rest(), b"!", "the rest");
 }
 
 #[test]
 fn an_empty_buffer_is_full(rt: HostRuntime) {
-    let mut source = Answers::new(TEXT, &[ReadStep::Reset]);
+    let mut source = ScriptedSource::new(TEXT, &[ReadStep::Reset]);
     check_filled(&rt, &mut source, &mut [], &[FULL], &[]);
     assert_same(&rt, source.left(), 1, "no call");
 }

@@ -4,7 +4,7 @@ use crate::same::assert_same;
 use std::alloc::Global;
 use std::fmt::{Debug, Display};
 use std::process::Abort;
-use test_io::{Answers, End, OneByteSource};
+use test_io::{End, OneByteSource, ScriptedSource};
 use wtp_core::bytes::{AsyncRead, IoReadError, Polled, ReadStep};
 
 /// A reader of numbers, buffers, frames or headers.
@@ -74,7 +74,7 @@ pub(crate) fn check_answers<'a, R: Abort, K: Reading>(
     (bytes, steps): (&'a [u8], &'a [ReadStep]),
     each: &[Polled<K::Ready>],
 ) -> &'a [u8] {
-    let mut source = Answers::new(bytes, steps);
+    let mut source = ScriptedSource::new(bytes, steps);
     check_each(rt, reading, &mut source, each, bytes);
     source.rest()
 }
@@ -126,7 +126,7 @@ pub(crate) fn check_end<R: Abort, K: Reading>(rt: &R, reading: &mut K, front: &[
 }
 
 /// All endings.
-pub(crate) static ENDS: [End; 3] = End::EACH;
+pub(crate) static ENDS: [End; 3] = End::ALL;
 
 /// Asserts the results for a proper prefix, at once and byte by byte up to each end.
 fn check_cut<R: Abort + AllocGlobal, K: NewReading>(rt: &R, front: &[u8]) {

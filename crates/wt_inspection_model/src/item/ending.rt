@@ -6,7 +6,7 @@ use wtp_core::error::ErrorCode;
 #[derive(Clone, Copy, Debug, PartialEq, Eq)]
 pub enum End {
     /// After a complete item.
-    Whole,
+    Complete,
     /// Within an item that more bytes may complete.
     Cut(Cut),
     /// At the first error. Reading stops at the item that contains it.

@@ -1,6 +1,6 @@
 //! A source over recorded bytes that returns few bytes per call and is not always ready.
 ghost use Rattle.std.specs.Prelude.{◌≡◌, ◌+◌, ◌^◌, ◌<◌, ◌≤◌, length, Some, false, if◌then◌else◌};
-ghost use Rattle.wtransport_proto.specs.Source.{StepKeepsLengths, StepTells};
+ghost use Rattle.wtransport_proto.specs.Source.{StepKeepsLengths, StepModel};
 ghost use Rattle.wt_listings.specs.CutSource.{source_of, Cuts};
 
 use wtransport_proto::bytes::{AsyncRead, ReadStep};
@@ -41,11 +41,11 @@ impl<'a> CutSource<'a> {
 }
 
 impl AsyncRead for CutSource<'_> {
-    ghost tells = { λ s. Some (source_of s.rest.now s.waits_left) };
+    ghost model = { λ s. Some (source_of s.rest.now s.waits_left) };
 
     fn poll_read(&mut self, buf: &mut [u8]) -> ReadStep
         ensures lengths { StepKeepsLengths result (length buf.new) }
-        ensures tells { StepTells result buf.new
+        ensures model { StepModel result buf.new
             (Some (source_of self.old.rest.now self.old.waits_left))
             (Some (source_of self.new.rest.now self.new.waits_left)) }
         ensures cuts { Cuts result (length buf.new)

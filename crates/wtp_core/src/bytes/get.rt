@@ -9,7 +9,7 @@ ghost use Rattle.wtp_core.specs.Get.{VarintPolled, VarintGiven, BufferPolled, Bu
 use crate::bytes::polled::{IoReadError, Polled};
 use crate::bytes::source::AsyncRead;
 use crate::polling::fill::{fill, halt_result};
-use crate::polling::head::{Head, fill_head};
+use crate::polling::head::{Prefix, fill_prefix};
 use crate::varint::{VarInt, first_varint};
 use std::marker::Model;
 
@@ -26,9 +26,9 @@ pub fn varint_len_needed(held: &[u8]) -> usize
 }
 
 /// A variable-length integer consists of its head only.
-struct VarintHead;
+struct VarintPrefix;
 
-impl Head for VarintHead {
+impl Prefix for VarintPrefix {
     ghost len_needed = { varint_len_needed };
 
     ghost most = { 8 };
@@ -80,12 +80,12 @@ impl GetVarint {
         ensures was_cut { number_at self.old ≡ None }
         ensures cut { number_at self.new ≡ None }
         ensures given { VarintGiven result self.old self.new }
-        ensures polled { HasModel (S.tells source.old) (S.tells source.new)
+        ensures polled { HasModel (S.model source.old) (S.model source.new)
             (VarintPolled result self.old self.new) }
-        ensures waits { HasModel (S.tells source.old) (S.tells source.new) (WaitsAs result) }
-        ensures asks { HasModel (S.tells source.old) (S.tells source.new) (PollsAtMost 8) }
+        ensures waits { HasModel (S.model source.old) (S.model source.new) (WaitsAs result) }
+        ensures asks { HasModel (S.model source.old) (S.model source.new) (PollsAtMost 8) }
     {
-        match fill_head::<VarintHead, S>(source, &mut self.bytes, &mut self.len) {
+        match fill_prefix::<VarintPrefix, S>(source, &mut self.bytes, &mut self.len) {
             Ok(()) => {}
             Err(halt) => return halt_result(halt, self.len),
         }
@@ -131,10 +131,10 @@ impl<'a> GetBuffer<'a> {
         ensures room { room_of self.new ≡ room_of self.old }
         ensures given { BufferGiven result (room_of self.old) (taken_of self.old)
             (taken_of self.new) }
-        ensures polled { HasModel (S.tells source.old) (S.tells source.new)
+        ensures polled { HasModel (S.model source.old) (S.model source.new)
             (BufferPolled result (taken_of self.old) (taken_of self.new)) }
-        ensures waits { HasModel (S.tells source.old) (S.tells source.new) (WaitsAs result) }
-        ensures asks { HasModel (S.tells source.old) (S.tells source.new) (PollsAtMost (room_of self.old)) }
+        ensures waits { HasModel (S.model source.old) (S.model source.new) (WaitsAs result) }
+        ensures asks { HasModel (S.model source.old) (S.model source.new) (PollsAtMost (room_of self.old)) }
         ensures finished { length (taken_of self.old) ≡ room_of self.old
             → (source.new ≡ source.old) × (result ≡ Polled.Ready (Ok tt))
             × (buffer_of self.new ≡ buffer_of self.old) }

@@ -43,7 +43,7 @@ impl PutVarint {
     pub fn poll<W: AsyncWrite>(&mut self, sink: &mut W) -> Polled<Result<(), IoWriteError>>
         ensures on { GoesOn self.old self.new }
         ensures whole { IsSent result self.new }
-        ensures polled { HasModel (W.tells sink.old) (W.tells sink.new)
+        ensures polled { HasModel (W.model sink.old) (W.model sink.new)
             (WritePolled result self.old self.new) }
         ensures finished { self.old.sent ≡ length self.old.bytes
             → (sink.new ≡ sink.old) × (result ≡ Polled.Ready (Ok tt)) }
@@ -85,7 +85,7 @@ impl<'a> PutBuffer<'a> {
     pub fn poll<W: AsyncWrite>(&mut self, sink: &mut W) -> Polled<Result<(), IoWriteError>>
         ensures on { GoesOn self.old self.new }
         ensures whole { IsSent result self.new }
-        ensures polled { HasModel (W.tells sink.old) (W.tells sink.new)
+        ensures polled { HasModel (W.model sink.old) (W.model sink.new)
             (WritePolled result self.old self.new) }
         ensures finished { self.old.sent ≡ length self.old.bytes
             → (sink.new ≡ sink.old) × (result ≡ Polled.Ready (Ok tt)) }

@@ -1,6 +1,6 @@
 //! The `AsyncRead` trait of polled sources, and its implementation for slices.
 ghost use Rattle.std.specs.Prelude.{◌≡◌, Option, Some, None, ◌≤◌, ◌↔◌, length, min, false, IsTrue};
-ghost use Rattle.wtp_core.specs.Source.{Source, StepKeepsLengths, StepTells, HasModel, Shows, TakesBuffered, all_ahead};
+ghost use Rattle.wtp_core.specs.Source.{Source, StepKeepsLengths, StepModel, HasModel, Shows, TakesBuffered, all_ahead};
 
 /// The result of one call of a source.
 #[derive(Clone, Copy, Debug, PartialEq, Eq)]
@@ -20,25 +20,25 @@ pub enum ReadStep {
 ///
 /// Implementations must satisfy the contract. Nothing checks this for an `impl` in unchecked code.
 ///
-/// A source may have a model, `tells`: the bytes ahead, how they end, a count that each call raises
+/// A source may declare a `model`: the bytes ahead, how they end, a count that each call raises
 /// by at most one, and how often it was not ready. Each `NotReady` raises that last count by
 /// exactly one. A source that keeps it in an integer must therefore use `checked_add`. If that
 /// fails, it must not return `NotReady`: it gives the next bytes, or reports how it ends.
 pub trait AsyncRead {
     // The model of the source, if it has one: the bytes ahead, how they end, a count of calls and
     // how often it was not ready. A source with a model never loses it.
-    ghost tells: { Self → Option Source } = { λ _. None };
+    ghost model: { Self → Option Source } = { λ _. None };
 
     /// Moves bytes to the start of the buffer, or returns the reason why there are none. Returns
     /// `Bytes(0)` if the buffer is empty.
     fn poll_read(&mut self, buf: &mut [u8]) -> ReadStep
         ensures lengths { StepKeepsLengths result (length buf.new) }
-        ensures tells { StepTells result buf.new (tells self.old) (tells self.new) };
+        ensures model { StepModel result buf.new (model self.old) (model self.new) };
 
     /// Returns buffered bytes without taking them: a prefix of the bytes ahead. A source may return
     /// none here; all bytes then come from `poll_read`.
     fn buffered(&self) -> &[u8]
-        ensures shows { Shows result.now (tells self.now) }
+        ensures shows { Shows result.now (model self.now) }
     {
         &[]
     }
@@ -48,7 +48,7 @@ pub trait AsyncRead {
     /// in the Rust crate.
     fn take_buffered(&mut self, count: usize) -> bool
         ensures taken { IsTrue result
-            → HasModel (tells self.old) (tells self.new) (TakesBuffered count) }
+            → HasModel (model self.old) (model self.new) (TakesBuffered count) }
         ensures none { result ≡ false → self.new ≡ self.old }
     {
         let _ = count;
@@ -57,13 +57,13 @@ pub trait AsyncRead {
 }
 
 impl AsyncRead for &[u8] {
-    ghost tells = { λ s. Some (all_ahead s.now) };
+    ghost model = { λ s. Some (all_ahead s.now) };
 
     /// Gives as many bytes as fit into the buffer, and `Bytes(0)` at the end. It is always ready.
     #[inline(always)]
     fn poll_read(&mut self, buf: &mut [u8]) -> ReadStep
         ensures lengths { StepKeepsLengths result (length buf.new) }
-        ensures tells { StepTells result buf.new (Some (all_ahead self.old.now))
+        ensures model { StepModel result buf.new (Some (all_ahead self.old.now))
             (Some (all_ahead self.new.now)) }
         ensures fits { result ≡ ReadStep.Bytes (min (length self.old.now) (length buf.old)) }
     {

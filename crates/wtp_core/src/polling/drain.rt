@@ -24,7 +24,7 @@ pub fn drain<W: AsyncWrite>(
     requires { sent.old ≤ length bytes.now }
     ensures on { GoesOn (writing bytes.now sent.old) (writing bytes.now sent.new) }
     ensures whole { IsSent result (writing bytes.now sent.new) }
-    ensures polled { HasModel (W.tells sink.old) (W.tells sink.new)
+    ensures polled { HasModel (W.model sink.old) (W.model sink.new)
         (WritePolled result (writing bytes.now sent.old) (writing bytes.now sent.new)) }
     ensures finished { sent.old ≡ length bytes.now
         → (sink.new ≡ sink.old) × (result ≡ Polled.Ready (Ok tt)) }

@@ -1,7 +1,7 @@
 //! Reading from a source into a buffer until it is full or the source gives no more.
 ghost use Rattle.std.specs.Prelude.{◌≡◌, ◌≤◌, length, take};
 ghost use Rattle.wtp_core.specs.Source.{HasModel};
-ghost use Rattle.wtp_core.specs.Fill.{FillKeepsLengths, FillTells, HaltWaits, halt_fault, HaltsAs};
+ghost use Rattle.wtp_core.specs.Fill.{FillKeepsLengths, FillModel, HaltWaits, halt_fault, HaltsAs};
 
 use crate::bytes::polled::{IoReadError, Polled};
 use crate::bytes::source::{AsyncRead, ReadStep};
@@ -33,9 +33,9 @@ pub fn fill<S: AsyncRead>(source: &mut S, buf: &mut [u8], at: &mut usize) -> Res
     ensures front { take at.old buf.new ≡ take at.old buf.old }
     ensures forward { at.old ≤ at.new }
     ensures lengths { FillKeepsLengths result at.new (length buf.new) }
-    ensures tells { FillTells result (take at.old buf.old) (take at.new buf.new)
-        (S.tells source.old) (S.tells source.new) }
-    ensures waits { HasModel (S.tells source.old) (S.tells source.new) (HaltWaits result) }
+    ensures model { FillModel result (take at.old buf.old) (take at.new buf.new)
+        (S.model source.old) (S.model source.new) }
+    ensures waits { HasModel (S.model source.old) (S.model source.new) (HaltWaits result) }
 {
     while *at < buf.len() {
         match source.poll_read(&mut buf[*at..]) {

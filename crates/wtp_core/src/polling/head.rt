@@ -2,13 +2,13 @@
 //! determine its length.
 ghost use Rattle.std.specs.Prelude.{◌≡◌, ℕ, ◌<◌, ◌≤◌, List, ◌++◌, length, take, OnOk, OnErr};
 ghost use Rattle.wtp_core.specs.Source.{HasModel};
-ghost use Rattle.wtp_core.specs.Fill.{FillTells, HaltWaits};
+ghost use Rattle.wtp_core.specs.Fill.{FillModel, HaltWaits};
 
 use crate::bytes::source::AsyncRead;
 use crate::polling::fill::{Interrupted, fill};
 
 /// A kind of head, given by the length that the bytes received so far determine.
-pub trait Head {
+pub trait Prefix {
     // The minimum length of a head that starts with these bytes.
     ghost len_needed: { List ℕ → ℕ };
 
@@ -33,7 +33,7 @@ pub trait Head {
 /// the old `len` are unchanged, and a later call continues from there. The errors are those of
 /// `fill`.
 #[inline(always)]
-pub fn fill_head<H: Head, S: AsyncRead>(
+pub fn fill_prefix<H: Prefix, S: AsyncRead>(
     source: &mut S,
     buf: &mut [u8],
     len: &mut usize,
@@ -48,9 +48,9 @@ pub fn fill_head<H: Head, S: AsyncRead>(
     // A complete head is left unchanged.
     ensures stays { H.len_needed (take len.old buf.old) ≡ len.old
         → (len.new ≡ len.old) × (buf.new ≡ buf.old) }
-    ensures tells { FillTells result (take len.old buf.old) (take len.new buf.new)
-        (S.tells source.old) (S.tells source.new) }
-    ensures waits { HasModel (S.tells source.old) (S.tells source.new) (HaltWaits result) }
+    ensures model { FillModel result (take len.old buf.old) (take len.new buf.new)
+        (S.model source.old) (S.model source.new) }
+    ensures waits { HasModel (S.model source.old) (S.model source.new) (HaltWaits result) }
 {
     loop {
         let len_needed = H::len_needed(&buf[..*len]);

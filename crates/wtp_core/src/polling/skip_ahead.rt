@@ -23,9 +23,9 @@ pub fn skip_bytes<S: AsyncRead>(source: &mut S, skip_remaining: &mut u64) -> Res
         → skip_remaining.new + max_passed ≡ skip_remaining.old) }
     ensures part { OnErr result (0 < skip_remaining.new) }
     ensures some { OnErr result (skip_remaining.old < skip_remaining.new + max_passed) }
-    ensures tells { PassTells result (skip_remaining.old - skip_remaining.new)
-        (S.tells source.old) (S.tells source.new) }
-    ensures waits { HasModel (S.tells source.old) (S.tells source.new) (HaltWaits result) }
+    ensures model { PassTells result (skip_remaining.old - skip_remaining.new)
+        (S.model source.old) (S.model source.new) }
+    ensures waits { HasModel (S.model source.old) (S.model source.new) (HaltWaits result) }
 {
     let mut room = MAX_SKIPPED;
     let mut scratch = [0; 64];
@@ -50,8 +50,8 @@ fn read_some<S: AsyncRead>(source: &mut S, buf: &mut [u8; 64], want: usize) -> R
     requires some { 0 < want }
     requires fits { want ≤ 64 }
     ensures lengths { CountFits result want }
-    ensures tells { StepPasses result (S.tells source.old) (S.tells source.new) }
-    ensures waits { HasModel (S.tells source.old) (S.tells source.new) (StepWaits result) }
+    ensures model { StepPasses result (S.model source.old) (S.model source.new) }
+    ensures waits { HasModel (S.model source.old) (S.model source.new) (StepWaits result) }
 {
     source.poll_read(&mut buf[..want])
 }

@@ -97,7 +97,7 @@ impl From<ParseError> for UrlParseError {
 
 /// The minimum length in bytes, 16 MiB, of a text whose URL may reach 4 GB, which `url` rejects.
 /// The URL of a shorter text would need more than 256 bytes for each byte of the text.
-const LONG_TEXT: usize = 1 << 24;
+const MIN_OVERFLOW_LEN: usize = 1 << 24;
 
 /// The name is reserved: it is that of a field that every request sets itself.
 #[derive(Debug, Drop, PartialEq, Eq, Error)]
@@ -170,11 +170,11 @@ impl SessionRequest {
             (λ request. request_at (parse_url None url.now) ≡ Ok request)
             (λ e. (request_at (parse_url None url.now) ≡ Err e)
             ⊎ ((e ≡ answered.Memory) ⊎ (e ≡ answered.Overflow))) }
-        ensures overflow { result ≡ Err answered.Overflow → LONG_TEXT ≤ length url.now }
+        ensures overflow { result ≡ Err answered.Overflow → MIN_OVERFLOW_LEN ≤ length url.now }
     {
         let parsed = match Url::parse(alloc, url) {
             Ok(parsed) => parsed,
-            Err(ParseError::Overflow) if url.len() < LONG_TEXT => {
+            Err(ParseError::Overflow) if url.len() < MIN_OVERFLOW_LEN => {
                 return Err(UrlParseError::Memory);
             }
             Err(fault) => return Err(UrlParseError::from(fault)),

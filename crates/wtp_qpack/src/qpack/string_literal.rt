@@ -56,7 +56,7 @@ fn check(texts: Texts, bytes: &[u8]) -> Result<(), DecodingError>
 }
 
 /// Allocates `most` bytes for a room that has fewer.
-fn make_room(room: &mut Vec<u8>, most: usize) -> Result<(), AllocError>
+fn reserve(room: &mut Vec<u8>, most: usize) -> Result<(), AllocError>
     requires few { vec_len room.old ≤ most }
     ensures items { room.new.items ≡ room.old.items }
     ensures len { vec_len room.new ≡ vec_len room.old }
@@ -81,7 +81,7 @@ fn decode(room: &mut Vec<u8>, most: usize, texts: Texts, body: &[u8]) -> Result<
     ensures memory { result ≡ Err Memory → vec_capacity room.old < most }
 {
     let start = room.len();
-    make_room(room, most)?;
+    reserve(room, most)?;
     match huffman::append_decoded(room, body) {
         Ok(true) => Ok(()),
         Ok(false) => check(texts, &room[start..]),

@@ -7,13 +7,13 @@ ghost use Rattle.wtp_wire.specs.FrameNeed.{frame_need};
 ghost use Rattle.wtp_wire.specs.Held.{Held, new_held};
 
 use crate::capsule::{Capsule, CapsuleError, CapsuleKind, CapsuleOwned};
-use crate::frame::head::FrameHead;
+use crate::frame::head::FramePrefix;
 use crate::head::first_pair;
 use std::alloc::{AllocError, Global};
 use std::borrow::CowSlice;
 use std::marker::Model;
 use std::{fmt, mem};
-use wtp_core::polling::head::fill_head;
+use wtp_core::polling::head::fill_prefix;
 use wtp_core::varint::VarInt;
 
 /// The data ended within a capsule.
@@ -177,14 +177,18 @@ impl CapsulePart {
             return Reached::More;
         }
         match read_head(&self.head[..self.len]) {
-            CapsuleHead::Unfinished => unreachable!(),
-            CapsuleHead::TooLong => Reached::TooLong,
-            CapsuleHead::Skip(size) => {
+            CapsuleAnnouncement::Unfinished => unreachable!(),
+            CapsuleAnnouncement::TooLong => Reached::TooLong,
+            CapsuleAnnouncement::Skip(size) => {
                 self.len = 0;
                 self.skip_remaining = size;
                 Reached::Skipping
             }
-            CapsuleHead::Keep(kind, size) => match take_value(bytes, &mut self.value, size) {
+            CapsuleAnnouncement::Keep(kind, size) => match take_value(
+                bytes,
+                &mut self.value,
+                size,
+            ) {
                 Ok(true) => Reached::Complete(kind),
                 Ok(false) => Reached::More,
                 Err(_) => Reached::Memory,
@@ -226,7 +230,7 @@ fn take_head(bytes: &mut &[u8], head: &mut [u8; 16], len: &mut usize) -> bool
     ensures joins { take len.old head.old ++ bytes.old.now
         ≡ take len.new head.new ++ bytes.new.now }
 {
-    match fill_head::<FrameHead, _>(bytes, head, len) {
+    match fill_prefix::<FramePrefix, _>(bytes, head, len) {
         Ok(()) => true,
         Err(_) => false,
     }
@@ -234,7 +238,7 @@ fn take_head(bytes: &mut &[u8], head: &mut [u8; 16], len: &mut usize) -> bool
 
 /// What the type and the length of a capsule say about the value after them.
 #[derive(Clone, Copy)]
-enum CapsuleHead {
+enum CapsuleAnnouncement {
     /// They are not both complete.
     Unfinished,
     /// It has this length, and the capsule is of this kind.
@@ -247,18 +251,18 @@ enum CapsuleHead {
 
 /// Returns what the type and the length say.
 #[tactic(auto, using(crate::proofs::HeadPairLemmas::capsule_steps))]
-fn read_head(held: &[u8]) -> CapsuleHead
+fn read_head(held: &[u8]) -> CapsuleAnnouncement
     ensures { result ≡ head_says held.now }
 {
     let Some(head) = first_pair(held) else {
-        return CapsuleHead::Unfinished;
+        return CapsuleAnnouncement::Unfinished;
     };
     let Some(kind) = CapsuleKind::parse(head.first) else {
-        return CapsuleHead::Skip(head.second.into_inner());
+        return CapsuleAnnouncement::Skip(head.second.into_inner());
     };
     match value_len(kind, head.second) {
-        Some(len) => CapsuleHead::Keep(kind, len),
-        None => CapsuleHead::TooLong,
+        Some(len) => CapsuleAnnouncement::Keep(kind, len),
+        None => CapsuleAnnouncement::TooLong,
     }
 }
 

@@ -2,7 +2,7 @@
 ghost use Rattle.std.specs.Prelude.{◌≡◌, ◌+◌, ◌<◌, ◌≤◌, length, Some, None, MatchOption, IfSome};
 ghost use Rattle.wtp_core.specs.Reader.{IsRest};
 ghost use Rattle.wtp_wire.specs.FrameNeed.{frame_need, frame_need_most, frame_need_grows};
-ghost use Rattle.wtp_wire.specs.FrameHead.{head_at, announcement_at, announcement_of, AnnouncesKind};
+ghost use Rattle.wtp_wire.specs.FramePrefix.{head_at, announcement_at, announcement_of, AnnouncesKind};
 ghost use Rattle.wtp_wire.specs.Kind.{kind_of};
 ghost use Rattle.wtp_wire.specs.PastNumber.{past_two};
 
@@ -10,7 +10,7 @@ use crate::frame::FrameKind;
 use crate::head::{first_pair, pair_size};
 use wtp_core::bytes::BytesReader;
 use wtp_core::ids::SessionId;
-use wtp_core::polling::head::Head;
+use wtp_core::polling::head::Prefix;
 use wtp_core::varint::VarInt;
 
 /// The maximum length of a payload that is read, in bytes.
@@ -34,9 +34,9 @@ pub(crate) enum Announcement {
 }
 
 /// The head of a frame: its first two numbers. Every frame starts with both.
-pub(crate) struct FrameHead;
+pub(crate) struct FramePrefix;
 
-impl Head for FrameHead {
+impl Prefix for FramePrefix {
     ghost len_needed = { frame_need };
 
     ghost most = { 16 };
@@ -53,7 +53,7 @@ impl Head for FrameHead {
 
 /// A complete head at the start of some bytes.
 #[derive(Clone, Copy)]
-pub(crate) struct FirstHead<'a> {
+pub(crate) struct ParsedHead<'a> {
     /// The type.
     pub(crate) id: VarInt,
     /// What follows the head.
@@ -65,14 +65,14 @@ pub(crate) struct FirstHead<'a> {
 /// Returns the head at the start of the bytes, or `None` if its two numbers are not both complete.
 #[inline(always)]
 #[tactic(auto, using(crate::proofs::HeadPairLemmas::head_steps))]
-pub(crate) fn first_head<'a>(bytes: &'a [u8]) -> Option<FirstHead<'a>>
+pub(crate) fn first_head<'a>(bytes: &'a [u8]) -> Option<ParsedHead<'a>>
     ensures head { MatchOption result (head_at bytes.now ≡ None)
         (λ h. head_at bytes.now ≡ Some (h.announcement, h.after.now)) }
     ensures kind { IfSome result (λ h. AnnouncesKind (kind_of h.id) h.announcement) }
     ensures within { IfSome result (λ h. length h.after.now ≤ length bytes.now) }
 {
     let pair = first_pair(bytes)?;
-    Some(FirstHead {
+    Some(ParsedHead {
         id: pair.first,
         announcement: classify_head(pair.first, pair.second),
         after: &bytes[pair.size..],
@@ -83,7 +83,7 @@ pub(crate) fn first_head<'a>(bytes: &'a [u8]) -> Option<FirstHead<'a>>
 /// if the two numbers are not both complete. The reader has then moved past the first number if
 /// that is complete.
 #[inline(always)]
-#[tactic(auto, unfolding(crate::specs::FrameHead::head_at))]
+#[tactic(auto, unfolding(crate::specs::FramePrefix::head_at))]
 pub(crate) fn get_head<'a, R: BytesReader<'a>>(reader: &mut R) -> Option<(VarInt, Announcement)>
     ensures head { MatchOption result (head_at (R.left reader.old) ≡ None)
         (λ h. head_at (R.left reader.old) ≡ Some (h.1, R.left reader.new)) }
@@ -99,7 +99,7 @@ pub(crate) fn get_head<'a, R: BytesReader<'a>>(reader: &mut R) -> Option<(VarInt
 
 /// Returns what follows the head at the start of the bytes.
 #[inline(always)]
-#[tactic(auto, unfolding(crate::specs::FrameHead::announcement_at))]
+#[tactic(auto, unfolding(crate::specs::FramePrefix::announcement_at))]
 pub(crate) fn read_head(held: &[u8]) -> Announcement
     ensures { result ≡ announcement_at held.now }
 {

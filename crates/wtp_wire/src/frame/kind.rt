@@ -78,14 +78,14 @@ impl FrameKind {
 
 /// A kind stored as its type, which takes half the space.
 #[derive(Clone, Copy)]
-pub(crate) struct KindNumber {
+pub(crate) struct FrameType {
     id: VarInt,
 }
 
-impl Model for KindNumber {
+impl Model for FrameType {
     ghost use Rattle.wtp_wire.specs.declared.frame.kind.FrameKind.{FrameKind};
     ghost use Rattle.wtp_wire.specs.Kind.{frame_type_of};
-    ghost use Rattle.wtp_wire.specs.KindNumber.{kind_numbered, number_of_kind_numbered};
+    ghost use Rattle.wtp_wire.specs.FrameType.{kind_numbered, number_of_kind_numbered};
 
     ghost Value = { FrameKind };
 
@@ -96,7 +96,7 @@ impl Model for KindNumber {
     ghost inverse_ok = { λ k h i. record { id = number_of_kind_numbered k.id i } };
 }
 
-impl KindNumber {
+impl FrameType {
     /// Stores a kind.
     #[inline(always)]
     #[tactic(auto, using(crate::proofs::KindLemmas::numbered))]
@@ -104,7 +104,7 @@ impl KindNumber {
         requires { IsKnown kind }
         ensures { result ≡ kind }
     {
-        KindNumber { id: kind.id() }
+        FrameType { id: kind.id() }
     }
 
     /// Stores a kind with its type, which must be the given one.
@@ -114,12 +114,12 @@ impl KindNumber {
         requires { kind_of id ≡ Some kind }
         ensures { result ≡ kind }
     {
-        KindNumber { id }
+        FrameType { id }
     }
 
     /// Returns the kind.
     #[inline(always)]
-    #[tactic(auto, unfolding(crate::specs::KindNumber::kind_numbered))]
+    #[tactic(auto, unfolding(crate::specs::FrameType::kind_numbered))]
     pub(crate) fn kind(self) -> FrameKind
         ensures { result ≡ self }
     {

@@ -10,7 +10,7 @@ mod part;
 
 use crate::frame::body::Body;
 use crate::frame::head::Announcement;
-use crate::frame::kind::KindNumber;
+use crate::frame::kind::FrameType;
 use crate::frame::reading::part::{PartialFrame, ReadInterrupted};
 use crate::frame::whole::parse_buffered;
 use crate::frame::{Frame, FrameOwned, ParseError};
@@ -126,10 +126,10 @@ impl FrameReading {
         ensures was_unfinished { IsUnfinished self.old }
         ensures unfinished { IsUnfinished self.new }
         ensures given { FrameGiven result self.old self.new }
-        ensures polled { HasModel (S.tells source.old) (S.tells source.new)
+        ensures polled { HasModel (S.model source.old) (S.model source.new)
             (FramePolled result self.old self.new) }
-        ensures waits { HasModel (S.tells source.old) (S.tells source.new) (WaitsAs result) }
-        ensures asks { HasModel (S.tells source.old) (S.tells source.new) (PollsAtMost 4112) }
+        ensures waits { HasModel (S.model source.old) (S.model source.new) (WaitsAs result) }
+        ensures asks { HasModel (S.model source.old) (S.model source.new) (PollsAtMost 4112) }
     {
         if self.skip_remaining == 0 && self.part.head_len() == 0 {
             if let Some(frame) = take_buffered_frame(self.alloc, source) {
@@ -144,10 +144,10 @@ impl FrameReading {
         ensures was_unfinished { IsUnfinished self.old }
         ensures unfinished { IsUnfinished self.new }
         ensures given { FrameGiven result self.old self.new }
-        ensures polled { HasModel (S.tells source.old) (S.tells source.new)
+        ensures polled { HasModel (S.model source.old) (S.model source.new)
             (FramePolled result self.old self.new) }
-        ensures waits { HasModel (S.tells source.old) (S.tells source.new) (WaitsAs result) }
-        ensures asks { HasModel (S.tells source.old) (S.tells source.new) (PollsAtMost 4112) }
+        ensures waits { HasModel (S.model source.old) (S.model source.new) (WaitsAs result) }
+        ensures asks { HasModel (S.model source.old) (S.model source.new) (PollsAtMost 4112) }
     {
         if self.skip_remaining > 0 {
             return skip_payload(source, &mut self.skip_remaining);
@@ -174,7 +174,7 @@ impl FrameReading {
 fn take_buffered_frame<S: AsyncRead>(alloc: Global, source: &mut S) -> Option<FrameOwned>
     ensures framed { IfSome result IsFramed }
     ensures takes { IfSome result
-        (λ f. HasModel (S.tells source.old) (S.tells source.new) (TakesFrame f)) }
+        (λ f. HasModel (S.model source.old) (S.model source.new) (TakesFrame f)) }
     ensures none { result ≡ None → source.new ≡ source.old }
 {
     let (frame, size) = parse_buffered(alloc, source.buffered())?;
@@ -193,7 +193,7 @@ fn answer(announcement: Announcement, payload: Vec<u8>) -> Result<FrameOwned, Io
 {
     match announcement {
         Announcement::Payload(kind, _) => Ok(Frame {
-            kind: KindNumber::of(kind),
+            kind: FrameType::of(kind),
             body: Body::Owned(payload),
         }),
         Announcement::Session(id) => Ok(Frame::new_webtransport(id)),
@@ -209,9 +209,9 @@ fn skip_payload<S: AsyncRead>(
     skip_remaining: &mut u64,
 ) -> Polled<Result<FrameOwned, IoReadError>>
     ensures plain { PassedPlain result skip_remaining.old skip_remaining.new }
-    ensures passed { HasModel (S.tells source.old) (S.tells source.new)
+    ensures passed { HasModel (S.model source.old) (S.model source.new)
         (PassedOn result skip_remaining.old skip_remaining.new) }
-    ensures waits { HasModel (S.tells source.old) (S.tells source.new) (WaitsAs result) }
+    ensures waits { HasModel (S.model source.old) (S.model source.new) (WaitsAs result) }
 {
     match skip_bytes(source, skip_remaining) {
         Ok(()) => {

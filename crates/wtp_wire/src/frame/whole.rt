@@ -5,7 +5,7 @@ ghost use Rattle.wtp_wire.specs.Front.{Framed, front};
 
 use crate::frame::body::Body;
 use crate::frame::head::{Announcement, first_head};
-use crate::frame::kind::KindNumber;
+use crate::frame::kind::FrameType;
 use crate::frame::{Frame, FrameOwned};
 use std::alloc::Global;
 
@@ -28,7 +28,7 @@ pub(crate) fn parse_buffered(alloc: Global, bytes: &[u8]) -> Option<(FrameOwned,
     match announcement {
         Announcement::Payload(kind, size) => {
             let body = Body::copy(alloc, head.after, size as usize)?;
-            let kind = KindNumber::with_number(head.id, kind);
+            let kind = FrameType::with_number(head.id, kind);
             let rest = head.after.len() - size as usize;
             Some((Frame { kind, body }, bytes.len() - rest))
         }

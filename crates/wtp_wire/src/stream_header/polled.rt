@@ -15,7 +15,7 @@ use wtp_core::bytes::get::varint_len_needed;
 use wtp_core::bytes::{AsyncRead, AsyncWrite, IoWriteError, Polled};
 use wtp_core::polling::encoded::VarintWriting;
 use wtp_core::polling::fill::halt_result;
-use wtp_core::polling::head::{Head, fill_head};
+use wtp_core::polling::head::{Prefix, fill_prefix};
 use wtp_core::varint::first_varint;
 
 /// The reason why no header was read from a source.
@@ -67,9 +67,9 @@ impl StreamHeader {
 }
 
 /// The head of a stream: its type, followed by a session ID if that is the WebTransport type.
-struct HeaderHead;
+struct HeaderPrefix;
 
-impl Head for HeaderHead {
+impl Prefix for HeaderPrefix {
     ghost len_needed = { header_need };
 
     ghost most = { 16 };
@@ -148,12 +148,12 @@ impl HeaderReading {
         ensures was_cut { header_front self.old ≡ Short }
         ensures cut { header_front self.new ≡ Short }
         ensures given { HeaderGiven result self.old self.new }
-        ensures polled { HasModel (S.tells source.old) (S.tells source.new)
+        ensures polled { HasModel (S.model source.old) (S.model source.new)
             (HeaderPolled result self.old self.new) }
-        ensures waits { HasModel (S.tells source.old) (S.tells source.new) (WaitsAs result) }
-        ensures asks { HasModel (S.tells source.old) (S.tells source.new) (PollsAtMost 16) }
+        ensures waits { HasModel (S.model source.old) (S.model source.new) (WaitsAs result) }
+        ensures asks { HasModel (S.model source.old) (S.model source.new) (PollsAtMost 16) }
     {
-        match fill_head::<HeaderHead, S>(source, &mut self.bytes, &mut self.len) {
+        match fill_prefix::<HeaderPrefix, S>(source, &mut self.bytes, &mut self.len) {
             Ok(()) => {}
             Err(halt) => return halt_result(halt, self.len),
         }
@@ -205,7 +205,7 @@ impl HeaderWriting {
     pub fn poll<W: AsyncWrite>(&mut self, sink: &mut W) -> Polled<Result<(), IoWriteError>>
         ensures on { GoesOn self.old self.new }
         ensures whole { IsSent result self.new }
-        ensures polled { HasModel (W.tells sink.old) (W.tells sink.new)
+        ensures polled { HasModel (W.model sink.old) (W.model sink.new)
             (WritePolled result self.old self.new) }
         ensures finished { self.old.sent ≡ length self.old.bytes
             → (sink.new ≡ sink.old) × (result ≡ Polled.Ready (Ok tt)) }

@@ -43,10 +43,10 @@ impl UniAccepting {
         source: &mut S,
     ) -> Stepped<Self, StreamUniRemoteH3, IoReadError>
         ensures given { AcceptGiven result self }
-        ensures polled { HasModel (S.tells source.old) (S.tells source.new)
+        ensures polled { HasModel (S.model source.old) (S.model source.new)
             (AcceptPolled result self.reading) }
-        ensures waits { HasModel (S.tells source.old) (S.tells source.new) (AcceptWaits result) }
-        ensures asks { HasModel (S.tells source.old) (S.tells source.new) (PollsAtMost 16) }
+        ensures waits { HasModel (S.model source.old) (S.model source.new) (AcceptWaits result) }
+        ensures asks { HasModel (S.model source.old) (S.model source.new) (PollsAtMost 16) }
     {
         match self.reading.poll(source) {
             Polled::Ready(Ok(header)) => Stepped::Done(Stream {
@@ -129,13 +129,13 @@ impl BiAccepting {
         ensures was_unfinished { IsUnfinished self.reading }
         ensures unfinished { IsUnfinished (held_in result) }
         ensures given { BiAcceptGiven result (first_of self.stream) self.reading }
-        ensures polled { HasModel (S.tells source.old) (S.tells source.new)
+        ensures polled { HasModel (S.model source.old) (S.model source.new)
             (BiAcceptPolled result (first_of self.stream) self.reading) }
-        ensures waits { HasModel (S.tells source.old) (S.tells source.new) (BiAcceptWaits result) }
-        ensures asks { HasModel (S.tells source.old) (S.tells source.new) (PollsAtMost 4112) }
+        ensures waits { HasModel (S.model source.old) (S.model source.new) (BiAcceptWaits result) }
+        ensures asks { HasModel (S.model source.old) (S.model source.new) (PollsAtMost 4112) }
     {
         match self.stream.read_frame_async(&mut self.reading, source) {
-            Polled::Ready(Ok(frame)) => self.judge(frame),
+            Polled::Ready(Ok(frame)) => self.classify(frame),
             Polled::Ready(Err(fault)) => BiAccepted::Failed(self, fault),
             Polled::Again => BiAccepted::Again(self),
             Polled::Pending => BiAccepted::Pending(self),
@@ -144,7 +144,7 @@ impl BiAccepting {
     }
 
     // Returns the result for a frame that the stream allows.
-    fn judge(self, frame: FrameOwned) -> BiAccepted
+    fn classify(self, frame: FrameOwned) -> BiAccepted
         requires { (first : Bool) × (rule RemoteBi first (kind_in frame) ≡ None) }
         ensures { Judges result self frame.entry }
     {

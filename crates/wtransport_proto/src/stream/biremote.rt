@@ -133,11 +133,11 @@ impl StreamBiRemoteH3 {
         ensures unfinished { IsUnfinished reading.new }
         ensures given { StreamGiven RemoteBi result (first_of self.old) (first_of self.new)
             reading.old reading.new }
-        ensures polled { HasModel (S.tells source.old) (S.tells source.new)
+        ensures polled { HasModel (S.model source.old) (S.model source.new)
             (StreamPolled RemoteBi result (first_of self.old) (first_of self.new) reading.old
             reading.new) }
-        ensures waits { HasModel (S.tells source.old) (S.tells source.new) (WaitsAs result) }
-        ensures asks { HasModel (S.tells source.old) (S.tells source.new) (PollsAtMost 4112) }
+        ensures waits { HasModel (S.model source.old) (S.model source.new) (WaitsAs result) }
+        ensures asks { HasModel (S.model source.old) (S.model source.new) (PollsAtMost 4112) }
     {
         let first = !self.stage.first_frame_done;
         let answer = reading.poll(source);
@@ -205,7 +205,7 @@ impl StreamBiRemoteH3 {
     ) -> Polled<Result<(), IoWriteError>>
         ensures on { GoesOn writing.old writing.new }
         ensures whole { IsSent result writing.new }
-        ensures polled { HasModel (W.tells sink.old) (W.tells sink.new)
+        ensures polled { HasModel (W.model sink.old) (W.model sink.new)
             (WritePolled result writing.old writing.new) }
         ensures finished { writing.old.sent ≡ length writing.old.bytes
             → (sink.new ≡ sink.old) × (result ≡ Polled.Ready (Ok tt)) }

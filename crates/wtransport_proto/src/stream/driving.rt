@@ -63,10 +63,10 @@ pub trait ReadsFrames {
         ensures unfinished { IsUnfinished reading.new }
         ensures given { StreamGiven role result (first self.old) (first self.new) reading.old
             reading.new }
-        ensures polled { HasModel (S.tells source.old) (S.tells source.new)
+        ensures polled { HasModel (S.model source.old) (S.model source.new)
             (StreamPolled role result (first self.old) (first self.new) reading.old reading.new) }
-        ensures waits { HasModel (S.tells source.old) (S.tells source.new) (WaitsAs result) }
-        ensures asks { HasModel (S.tells source.old) (S.tells source.new) (PollsAtMost 4112) };
+        ensures waits { HasModel (S.model source.old) (S.model source.new) (WaitsAs result) }
+        ensures asks { HasModel (S.model source.old) (S.model source.new) (PollsAtMost 4112) };
 }
 
 impl ReadsFrames for StreamBiRemoteH3 {
@@ -232,7 +232,7 @@ pub fn drive<K: ReadsFrames, S: AsyncRead>(
     ensures unfinished { IsUnfinished reading.old → IsUnfinished reading.new }
     ensures appends { out.new.items ≡ out.old.items ++ drop (length out.old.items) out.new.items }
     ensures most { length (drop (length out.old.items) out.new.items) ≤ polls }
-    ensures did { HasModel (S.tells source.old) (S.tells source.new)
+    ensures did { HasModel (S.model source.old) (S.model source.new)
         (DriveDid K.role result (K.first stream.old) (K.first stream.new)
         reading.old reading.new (drop (length out.old.items) out.new.items) polls) }
     ensures none { polls ≡ 0

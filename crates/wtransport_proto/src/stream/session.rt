@@ -88,10 +88,10 @@ impl StreamSession {
         ensures was_unfinished { IsUnfinished reading.old }
         ensures unfinished { IsUnfinished reading.new }
         ensures given { StreamGiven InSession result false false reading.old reading.new }
-        ensures polled { HasModel (S.tells source.old) (S.tells source.new)
+        ensures polled { HasModel (S.model source.old) (S.model source.new)
             (StreamPolled InSession result false false reading.old reading.new) }
-        ensures waits { HasModel (S.tells source.old) (S.tells source.new) (WaitsAs result) }
-        ensures asks { HasModel (S.tells source.old) (S.tells source.new) (PollsAtMost 4112) }
+        ensures waits { HasModel (S.model source.old) (S.model source.new) (WaitsAs result) }
+        ensures asks { HasModel (S.model source.old) (S.model source.new) (PollsAtMost 4112) }
     {
         polled::apply_rule::<Self>(false, reading.poll(source))
     }
@@ -139,7 +139,7 @@ impl StreamSession {
     ) -> Polled<Result<(), IoWriteError>>
         ensures on { GoesOn writing.old writing.new }
         ensures whole { IsSent result writing.new }
-        ensures polled { HasModel (W.tells sink.old) (W.tells sink.new)
+        ensures polled { HasModel (W.model sink.old) (W.model sink.new)
             (WritePolled result writing.old writing.new) }
         ensures finished { writing.old.sent ≡ length writing.old.bytes
             → (sink.new ≡ sink.old) × (result ≡ Polled.Ready (Ok tt)) }

@@ -140,7 +140,7 @@ impl StreamUniLocalH3 {
         requires { CanWrite self.old }
         ensures on { GoesOn writing.old writing.new }
         ensures whole { IsSent result writing.new }
-        ensures polled { HasModel (W.tells sink.old) (W.tells sink.new)
+        ensures polled { HasModel (W.model sink.old) (W.model sink.new)
             (WritePolled result writing.old writing.new) }
         ensures finished { writing.old.sent ≡ length writing.old.bytes
             → (sink.new ≡ sink.old) × (result ≡ Polled.Ready (Ok tt)) }

@@ -30,7 +30,7 @@ impl BiUpgrading {
         sink: &mut W,
     ) -> Stepped<Self, StreamBiLocalWT, IoWriteError>
         ensures stepped { BiStepped result self }
-        ensures sends { HasModel (W.tells sink.old) (W.tells sink.new)
+        ensures sends { HasModel (W.model sink.old) (W.model sink.new)
             (StepSends bi_writing result self.writing) }
     {
         match self.writing.poll(sink) {
@@ -70,7 +70,7 @@ impl UniUpgrading {
         sink: &mut W,
     ) -> Stepped<Self, StreamUniLocalH3, IoWriteError>
         ensures stepped { UniStepped result self }
-        ensures sends { HasModel (W.tells sink.old) (W.tells sink.new)
+        ensures sends { HasModel (W.model sink.old) (W.model sink.new)
             (StepSends uni_writing result self.writing) }
     {
         match self.writing.poll(sink) {

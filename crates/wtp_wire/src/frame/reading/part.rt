@@ -5,13 +5,13 @@ ghost use Rattle.wtp_core.specs.Source.{HasModel};
 ghost use Rattle.wtp_wire.specs.PartialFrame.{Part, new_part, bytes_in, IsReading};
 ghost use Rattle.wtp_wire.specs.FrameSteps.{LacksPayloadRoom, PayloadKeeps, AdvanceKeeps, StopMoves, StopWaits, Grew};
 
-use crate::frame::head::{Announcement, FrameHead, read_head};
+use crate::frame::head::{Announcement, FramePrefix, read_head};
 use std::alloc::Global;
 use std::marker::Model;
 use std::mem;
 use wtp_core::bytes::AsyncRead;
 use wtp_core::polling::fill::{Interrupted, fill};
-use wtp_core::polling::head::fill_head;
+use wtp_core::polling::head::fill_prefix;
 
 // The maximum length of a head in bytes: two numbers of at most 8 bytes.
 const MAX_HEAD: usize = 16;
@@ -101,11 +101,11 @@ impl PartialFrame {
         requires { IsReading self.old }
         ensures keeps { AdvanceKeeps result self.old self.new }
         ensures grew { Grew (bytes_in self.old) (bytes_in self.new) }
-        ensures moves { HasModel (S.tells source.old) (S.tells source.new)
+        ensures moves { HasModel (S.model source.old) (S.model source.new)
             (StopMoves result (bytes_in self.old) (bytes_in self.new)) }
-        ensures waits { HasModel (S.tells source.old) (S.tells source.new) (StopWaits result) }
+        ensures waits { HasModel (S.model source.old) (S.model source.new) (StopWaits result) }
     {
-        match fill_head::<FrameHead, S>(source, &mut self.head, &mut self.len) {
+        match fill_prefix::<FramePrefix, S>(source, &mut self.head, &mut self.len) {
             Ok(()) => {}
             Err(halt) => return Err(ReadInterrupted::Source(halt)),
         }
@@ -130,11 +130,11 @@ impl PartialFrame {
         ensures head { self.new.head ≡ self.old.head }
         ensures keeps { PayloadKeeps result size self.old self.new }
         ensures grew { Grew self.old.payload self.new.payload }
-        ensures moves { HasModel (S.tells source.old) (S.tells source.new)
+        ensures moves { HasModel (S.model source.old) (S.model source.new)
             (StopMoves result self.old.payload self.new.payload) }
-        ensures waits { HasModel (S.tells source.old) (S.tells source.new) (StopWaits result) }
+        ensures waits { HasModel (S.model source.old) (S.model source.new) (StopWaits result) }
     {
-        if !self.take_room(size) {
+        if !self.reserve(size) {
             return Err(ReadInterrupted::NoMemory);
         }
         match fill(source, self.payload.as_mut_slice(), &mut self.filled) {
@@ -146,7 +146,7 @@ impl PartialFrame {
     /// Allocates a payload of `size` bytes, unless this was done before. Returns `false` if
     /// allocation failed.
     #[inline(always)]
-    fn take_room(&mut self, size: usize) -> bool
+    fn reserve(&mut self, size: usize) -> bool
         requires { 0 < self.old.room → self.old.room ≡ size }
         ensures head { self.new.head ≡ self.old.head }
         ensures payload { self.new.payload ≡ self.old.payload }

@@ -8,8 +8,8 @@ loop-turn-init g c = record {
   can = c.requires;
   unfinished = nothing_held _ c.new-reading.ensures;
   changes = first_same g.K.ReadsFrames.first c.args.stream.now;
-  tells = told_start (g.S.AsyncRead.tells c.args.source.now) g.K.ReadsFrames.role (g.K.ReadsFrames.first c.args.stream.now) _ c.new-reading.ensures;
-  asks = asks_start (g.S.AsyncRead.tells c.args.source.now);
+  model = told_start (g.S.AsyncRead.model c.args.source.now) g.K.ReadsFrames.role (g.K.ReadsFrames.first c.args.stream.now) _ c.new-reading.ensures;
+  asks = asks_start (g.S.AsyncRead.model c.args.source.now);
 }
 
 pub loop-turn-preserved : goal.loop-turn-preserved
@@ -17,59 +17,59 @@ loop-turn-preserved g c = record {
   can = c.read_frame_async.ensures.can;
   unfinished = c.read_frame_async.ensures.unfinished;
   changes = first_on g.K.ReadsFrames.first _ _ _ c.loop-turn.invariant.changes c.read_frame_async.ensures.changes;
-  tells = elim c.in-Pending.is [
-    | inl e ↦ told_waiting (g.S.AsyncRead.tells c.args.source.now) (g.S.AsyncRead.tells c.loop-turn.source) (g.S.AsyncRead.tells c.read_frame_async.new.source)
+  model = elim c.in-Pending.is [
+    | inl e ↦ told_waiting (g.S.AsyncRead.model c.args.source.now) (g.S.AsyncRead.model c.loop-turn.source) (g.S.AsyncRead.model c.read_frame_async.new.source)
         g.K.ReadsFrames.role (g.K.ReadsFrames.first c.args.stream.now) (g.K.ReadsFrames.first c.loop-turn.stream) (g.K.ReadsFrames.first c.read_frame_async.new.self)
-        c.loop-turn._turn c.loop-turn.reading c.read_frame_async.new.reading c.loop-turn.invariant.tells (rw e at c.read_frame_async.ensures.polled) c.read_frame_async.ensures.asks
-    | inr e ↦ told_unknown (g.S.AsyncRead.tells c.args.source.now) (g.S.AsyncRead.tells c.loop-turn.source) (g.S.AsyncRead.tells c.read_frame_async.new.source)
+        c.loop-turn._turn c.loop-turn.reading c.read_frame_async.new.reading c.loop-turn.invariant.model (rw e at c.read_frame_async.ensures.polled) c.read_frame_async.ensures.asks
+    | inr e ↦ told_unknown (g.S.AsyncRead.model c.args.source.now) (g.S.AsyncRead.model c.loop-turn.source) (g.S.AsyncRead.model c.read_frame_async.new.source)
         g.K.ReadsFrames.role (g.K.ReadsFrames.first c.args.stream.now) (g.K.ReadsFrames.first c.loop-turn.stream) (g.K.ReadsFrames.first c.read_frame_async.new.self)
-        c.loop-turn._turn c.loop-turn.reading c.read_frame_async.new.reading c.loop-turn.invariant.tells (rw e at c.read_frame_async.ensures.polled) c.read_frame_async.ensures.asks
+        c.loop-turn._turn c.loop-turn.reading c.read_frame_async.new.reading c.loop-turn.invariant.model (rw e at c.read_frame_async.ensures.polled) c.read_frame_async.ensures.asks
   ];
-  asks = asks_on (g.S.AsyncRead.tells c.args.source.now) (g.S.AsyncRead.tells c.loop-turn.source) (g.S.AsyncRead.tells c.read_frame_async.new.source) c.loop-turn._turn c.loop-turn.invariant.asks c.read_frame_async.ensures.asks;
+  asks = asks_on (g.S.AsyncRead.model c.args.source.now) (g.S.AsyncRead.model c.loop-turn.source) (g.S.AsyncRead.model c.read_frame_async.new.source) c.loop-turn._turn c.loop-turn.invariant.asks c.read_frame_async.ensures.asks;
 }
 
 pub returns-in-Ready-Ok : goal.returns-in-Ready-Ok
 returns-in-Ready-Ok g c =
-    let s = g.S.AsyncRead.tells c.args.source.now in
-    let t = g.S.AsyncRead.tells c.loop-turn.source in
-    let u = g.S.AsyncRead.tells c.read_frame_async.new.source in
+    let s = g.S.AsyncRead.model c.args.source.now in
+    let t = g.S.AsyncRead.model c.loop-turn.source in
+    let u = g.S.AsyncRead.model c.read_frame_async.new.source in
     let f0 = g.K.ReadsFrames.first c.args.stream.now in
     let f1 = g.K.ReadsFrames.first c.loop-turn.stream in
     let f2 = g.K.ReadsFrames.first c.read_frame_async.new.self in
     record {
       can = c.read_frame_async.ensures.can;
       changes = first_on g.K.ReadsFrames.first _ _ _ c.loop-turn.invariant.changes c.read_frame_async.ensures.changes;
-      read = told_taken s t u g.K.ReadsFrames.role f0 f1 f2 c.loop-turn._turn c.args.turns c.loop-turn.reading c.read_frame_async.new.reading c.in-Ready-Ok.frame c.loop-turn.invariant.tells (rw c.in-Ready-Ok.field-0-is at c.in-Ready-Ok.ensures.polled);
+      read = told_taken s t u g.K.ReadsFrames.role f0 f1 f2 c.loop-turn._turn c.args.turns c.loop-turn.reading c.read_frame_async.new.reading c.in-Ready-Ok.frame c.loop-turn.invariant.model (rw c.in-Ready-Ok.field-0-is at c.in-Ready-Ok.ensures.polled);
       asks = asks_end s t u c.loop-turn._turn c.args.turns c.loop-turn-test.true c.loop-turn.invariant.asks c.read_frame_async.ensures.asks;
     }
 
 pub returns-in-Ready-Err : goal.returns-in-Ready-Err
 returns-in-Ready-Err g c =
-    let s = g.S.AsyncRead.tells c.args.source.now in
-    let t = g.S.AsyncRead.tells c.loop-turn.source in
-    let u = g.S.AsyncRead.tells c.read_frame_async.new.source in
+    let s = g.S.AsyncRead.model c.args.source.now in
+    let t = g.S.AsyncRead.model c.loop-turn.source in
+    let u = g.S.AsyncRead.model c.read_frame_async.new.source in
     let f0 = g.K.ReadsFrames.first c.args.stream.now in
     let f1 = g.K.ReadsFrames.first c.loop-turn.stream in
     let f2 = g.K.ReadsFrames.first c.read_frame_async.new.self in
     record {
       can = c.read_frame_async.ensures.can;
       changes = first_on g.K.ReadsFrames.first _ _ _ c.loop-turn.invariant.changes c.read_frame_async.ensures.changes;
-      read = told_broken s t u g.K.ReadsFrames.role f0 f1 f2 c.loop-turn._turn c.args.turns c.loop-turn.reading c.read_frame_async.new.reading c.in-Ready-Err.fault c.loop-turn.invariant.tells (rw c.in-Ready-Err.field-0-is at c.in-Ready-Err.ensures.polled);
+      read = told_broken s t u g.K.ReadsFrames.role f0 f1 f2 c.loop-turn._turn c.args.turns c.loop-turn.reading c.read_frame_async.new.reading c.in-Ready-Err.fault c.loop-turn.invariant.model (rw c.in-Ready-Err.field-0-is at c.in-Ready-Err.ensures.polled);
       asks = asks_end s t u c.loop-turn._turn c.args.turns c.loop-turn-test.true c.loop-turn.invariant.asks c.read_frame_async.ensures.asks;
     }
 
 pub returns-in-NoMemory : goal.returns-in-NoMemory
 returns-in-NoMemory g c =
-    let s = g.S.AsyncRead.tells c.args.source.now in
-    let t = g.S.AsyncRead.tells c.loop-turn.source in
-    let u = g.S.AsyncRead.tells c.read_frame_async.new.source in
+    let s = g.S.AsyncRead.model c.args.source.now in
+    let t = g.S.AsyncRead.model c.loop-turn.source in
+    let u = g.S.AsyncRead.model c.read_frame_async.new.source in
     let f0 = g.K.ReadsFrames.first c.args.stream.now in
     let f1 = g.K.ReadsFrames.first c.loop-turn.stream in
     let f2 = g.K.ReadsFrames.first c.read_frame_async.new.self in
     record {
       can = c.read_frame_async.ensures.can;
       changes = first_on g.K.ReadsFrames.first _ _ _ c.loop-turn.invariant.changes c.read_frame_async.ensures.changes;
-      read = told_memory s t u g.K.ReadsFrames.role f0 f1 f2 c.loop-turn._turn c.args.turns c.loop-turn.reading c.read_frame_async.new.reading c.loop-turn-test.true c.read_frame_async.ensures.unfinished c.loop-turn.invariant.tells c.in-NoMemory.ensures.polled c.read_frame_async.ensures.asks;
+      read = told_memory s t u g.K.ReadsFrames.role f0 f1 f2 c.loop-turn._turn c.args.turns c.loop-turn.reading c.read_frame_async.new.reading c.loop-turn-test.true c.read_frame_async.ensures.unfinished c.loop-turn.invariant.model c.in-NoMemory.ensures.polled c.read_frame_async.ensures.asks;
       asks = asks_end s t u c.loop-turn._turn c.args.turns c.loop-turn-test.true c.loop-turn.invariant.asks c.read_frame_async.ensures.asks;
     }
 
@@ -79,7 +79,7 @@ returns g c =
     record {
       can = c.loop-turn.invariant.can;
       changes = c.loop-turn.invariant.changes;
-      read = told_waited (g.S.AsyncRead.tells c.args.source.now) (g.S.AsyncRead.tells c.loop-turn.source) g.K.ReadsFrames.role (g.K.ReadsFrames.first c.args.stream.now) (g.K.ReadsFrames.first c.loop-turn.stream)
-          c.args.turns c.loop-turn.reading c.loop-turn.invariant.unfinished (rw all at c.loop-turn.invariant.tells);
+      read = told_waited (g.S.AsyncRead.model c.args.source.now) (g.S.AsyncRead.model c.loop-turn.source) g.K.ReadsFrames.role (g.K.ReadsFrames.first c.args.stream.now) (g.K.ReadsFrames.first c.loop-turn.stream)
+          c.args.turns c.loop-turn.reading c.loop-turn.invariant.unfinished (rw all at c.loop-turn.invariant.model);
       asks = rw all at c.loop-turn.invariant.asks;
     }

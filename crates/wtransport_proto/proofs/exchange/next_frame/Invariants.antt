@@ -11,6 +11,6 @@ invariant-loop-turn g l = record {
   can : g.K.ReadsFrames.can l.stream;
   unfinished : IsUnfinished l.reading;
   changes : ChangesFirst g.K.ReadsFrames.first l.fn.stream l.stream;
-  tells : HasModel (g.S.AsyncRead.tells l.fn.source) (g.S.AsyncRead.tells l.source) (Turned g.K.ReadsFrames.role (g.K.ReadsFrames.first l.fn.stream) (g.K.ReadsFrames.first l.stream) l._turn l.reading);
-  asks : HasModel (g.S.AsyncRead.tells l.fn.source) (g.S.AsyncRead.tells l.source) (PollsAtMost (4112 * l._turn));
+  model : HasModel (g.S.AsyncRead.model l.fn.source) (g.S.AsyncRead.model l.source) (Turned g.K.ReadsFrames.role (g.K.ReadsFrames.first l.fn.stream) (g.K.ReadsFrames.first l.stream) l._turn l.reading);
+  asks : HasModel (g.S.AsyncRead.model l.fn.source) (g.S.AsyncRead.model l.source) (PollsAtMost (4112 * l._turn));
 }

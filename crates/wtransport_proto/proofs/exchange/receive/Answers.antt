@@ -6,8 +6,8 @@ use Rattle.wtransport_proto.proofs.exchange.receive.Goals as goal
 
 pub returns-in_err-frame-clause-back : goal.returns-in_err-frame-clause-back
 returns-in_err-frame-clause-back g c = λ m ordered texts.
-    let s = g.S.AsyncRead.tells c.args.source.now in
-    let t = g.S.AsyncRead.tells c.next_frame.new.source in
+    let s = g.S.AsyncRead.model c.args.source.now in
+    let t = g.S.AsyncRead.model c.next_frame.new.source in
     let role = g.K.ReadsFrames.role in
     let first = g.K.ReadsFrames.first c.args.stream.now in
     let next = g.K.ReadsFrames.first c.next_frame.new.stream in
@@ -17,8 +17,8 @@ returns-in_err-frame-clause-back g c = λ m ordered texts.
 
 pub returns-in-Ok-clause-back : goal.returns-in-Ok-clause-back
 returns-in-Ok-clause-back g c = λ m ordered texts.
-    let s = g.S.AsyncRead.tells c.args.source.now in
-    let t = g.S.AsyncRead.tells c.next_frame.new.source in
+    let s = g.S.AsyncRead.model c.args.source.now in
+    let t = g.S.AsyncRead.model c.next_frame.new.source in
     let role = g.K.ReadsFrames.role in
     let first = g.K.ReadsFrames.first c.args.stream.now in
     let next = g.K.ReadsFrames.first c.next_frame.new.stream in
@@ -26,13 +26,13 @@ returns-in-Ok-clause-back g c = λ m ordered texts.
 
 pub returns-in-Headers-clause-read : goal.returns-in-Headers-clause-read
 returns-in-Headers-clause-read g c =
-    told_section (g.S.AsyncRead.tells c.args.source.now) (g.S.AsyncRead.tells c.next_frame.new.source) g.K.ReadsFrames.role (g.K.ReadsFrames.first c.args.stream.now) (g.K.ReadsFrames.first c.next_frame.new.stream)
+    told_section (g.S.AsyncRead.model c.args.source.now) (g.S.AsyncRead.model c.next_frame.new.source) g.K.ReadsFrames.role (g.K.ReadsFrames.first c.args.stream.now) (g.K.ReadsFrames.first c.next_frame.new.stream)
     c.args.turns c.in_ok-frame.frame c.in-Err.refused (sym c.kind.ensures.kind ∙ c.in-Headers.is) c.in-Err.ensures.read (λ z. c.in-Err.ensures.memory (ap Err z)) c.in_ok-frame.ensures.read
 
 pub returns-in-Headers-clause-back : goal.returns-in-Headers-clause-back
 returns-in-Headers-clause-back g c = λ m ordered texts.
-    let s = g.S.AsyncRead.tells c.args.source.now in
-    let t = g.S.AsyncRead.tells c.next_frame.new.source in
+    let s = g.S.AsyncRead.model c.args.source.now in
+    let t = g.S.AsyncRead.model c.next_frame.new.source in
     let role = g.K.ReadsFrames.role in
     let first = g.K.ReadsFrames.first c.args.stream.now in
     let next = g.K.ReadsFrames.first c.next_frame.new.stream in
@@ -40,8 +40,8 @@ returns-in-Headers-clause-back g c = λ m ordered texts.
 
 pub returns : goal.returns
 returns g c =
-    let s = g.S.AsyncRead.tells c.args.source.now in
-    let t = g.S.AsyncRead.tells c.next_frame.new.source in
+    let s = g.S.AsyncRead.model c.args.source.now in
+    let t = g.S.AsyncRead.model c.next_frame.new.source in
     let role = g.K.ReadsFrames.role in
     let first = g.K.ReadsFrames.first c.args.stream.now in
     let next = g.K.ReadsFrames.first c.next_frame.new.stream in

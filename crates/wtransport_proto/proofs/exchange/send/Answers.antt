@@ -7,7 +7,7 @@ pub loop-turn-init : goal.loop-turn-init
 loop-turn-init g c = rw c.write_async-writing.ensures (record {
   bytes = refl;
   part = wire_some c.args.frame.now;
-  tells = told_none (g.W.AsyncWrite.tells c.args.sink.now) (wire c.args.frame.now);
+  model = told_none (g.W.AsyncWrite.model c.args.sink.now) (wire c.args.frame.now);
 })
 
 pub loop-turn-preserved : goal.loop-turn-preserved
@@ -16,20 +16,20 @@ loop-turn-preserved g c =
     record {
       bytes = same;
       part = rw (ap length same) at c.in-Pending.ensures.whole;
-      tells = told_more (g.W.AsyncWrite.tells c.args.sink.now) (g.W.AsyncWrite.tells c.loop-turn.sink) (g.W.AsyncWrite.tells c.poll.new.sink)
-          (wire c.args.frame.now) c.loop-turn._turn c.loop-turn.writing c.poll.new.self c.loop-turn.invariant.bytes c.poll.ensures.on.forward c.loop-turn.invariant.tells c.in-Pending.ensures.polled;
+      model = told_more (g.W.AsyncWrite.model c.args.sink.now) (g.W.AsyncWrite.model c.loop-turn.sink) (g.W.AsyncWrite.model c.poll.new.sink)
+          (wire c.args.frame.now) c.loop-turn._turn c.loop-turn.writing c.poll.new.self c.loop-turn.invariant.bytes c.poll.ensures.on.forward c.loop-turn.invariant.model c.in-Pending.ensures.polled;
     }
 
 pub returns-in-Ready-Err : goal.returns-in-Ready-Err
 returns-in-Ready-Err g c =
     let same = c.poll.ensures.on.same ∙ c.loop-turn.invariant.bytes in
-    rw c.in-Ready-Err.fault-is (told_fault (g.W.AsyncWrite.tells c.args.sink.now) (g.W.AsyncWrite.tells c.loop-turn.sink) (g.W.AsyncWrite.tells c.poll.new.sink)
+    rw c.in-Ready-Err.fault-is (told_fault (g.W.AsyncWrite.model c.args.sink.now) (g.W.AsyncWrite.model c.loop-turn.sink) (g.W.AsyncWrite.model c.poll.new.sink)
     (wire c.args.frame.now) c.loop-turn._turn c.args.turns c.in-Ready-Err.fault c.loop-turn.writing c.poll.new.self (omega arith) c.loop-turn.invariant.bytes c.poll.ensures.on.forward
-    (rw (ap length same) at (rw c.in-Ready-Err.field-0-is at c.in-Ready-Err.ensures.whole)) c.loop-turn.invariant.tells (rw c.in-Ready-Err.field-0-is at c.in-Ready-Err.ensures.polled))
+    (rw (ap length same) at (rw c.in-Ready-Err.field-0-is at c.in-Ready-Err.ensures.whole)) c.loop-turn.invariant.model (rw c.in-Ready-Err.field-0-is at c.in-Ready-Err.ensures.polled))
 
 pub returns-in-NoMemory : goal.returns-in-NoMemory
 returns-in-NoMemory g c =
     let same = c.poll.ensures.on.same ∙ c.loop-turn.invariant.bytes in
-    told_memory (g.W.AsyncWrite.tells c.args.sink.now) (g.W.AsyncWrite.tells c.loop-turn.sink) (g.W.AsyncWrite.tells c.poll.new.sink)
+    told_memory (g.W.AsyncWrite.model c.args.sink.now) (g.W.AsyncWrite.model c.loop-turn.sink) (g.W.AsyncWrite.model c.poll.new.sink)
     (wire c.args.frame.now) c.loop-turn._turn c.args.turns c.loop-turn.writing c.poll.new.self (omega arith) c.loop-turn.invariant.bytes c.poll.ensures.on.forward
-    (rw (ap length same) at c.in-NoMemory.ensures.whole) c.loop-turn.invariant.tells c.in-NoMemory.ensures.polled
+    (rw (ap length same) at c.in-NoMemory.ensures.whole) c.loop-turn.invariant.model c.in-NoMemory.ensures.polled

@@ -8,5 +8,5 @@ abbrev pub invariant-loop-turn : goal.invariant-loop-turn
 invariant-loop-turn g l = record {
   bytes : l.writing.bytes ≡ wire l.frame;
   part : l.writing.sent < length (wire l.frame);
-  tells : HasModel (g.W.AsyncWrite.tells l.fn.sink) (g.W.AsyncWrite.tells l.sink) (Waited (wire l.frame) l.writing.sent l._turn);
+  model : HasModel (g.W.AsyncWrite.model l.fn.sink) (g.W.AsyncWrite.model l.sink) (Waited (wire l.frame) l.writing.sent l._turn);
 }

@@ -10,18 +10,18 @@ loop-sent-preserved g c =
     record {
       forward = omega arith;
       within = omega (arith, c.in-Bytes.ensures.lengths, length-drop c.loop-sent.sent c.args.bytes.now);
-      tells = telling_then _ _ _ _ _ _ (λ x y z p q. took_more c.args.bytes.now c.args.sent.now c.loop-sent.sent c.in-Bytes.n x y z inv.forward inv.within p q) inv.tells (rw (take_rest c.args.bytes.now c.loop-sent.sent) at c.in-Bytes.ensures.tells);
+      model = telling_then _ _ _ _ _ _ (λ x y z p q. took_more c.args.bytes.now c.args.sent.now c.loop-sent.sent c.in-Bytes.n x y z inv.forward inv.within p q) inv.model (rw (take_rest c.args.bytes.now c.loop-sent.sent) at c.in-Bytes.ensures.model);
       finished = λ e. absurd (omega arith);
     }
 
 pub returns-in-NotReady-clause-polled : goal.returns-in-NotReady-clause-polled
-returns-in-NotReady-clause-polled g c = telling_then _ _ _ _ _ _ (λ x y z p q. took_none _ 1 0 0 x y z p q) c.loop-sent.invariant.tells c.in-NotReady.ensures.tells
+returns-in-NotReady-clause-polled g c = telling_then _ _ _ _ _ _ (λ x y z p q. took_none _ 1 0 0 x y z p q) c.loop-sent.invariant.model c.in-NotReady.ensures.model
 
 pub returns-in-Stopped-clause-polled : goal.returns-in-Stopped-clause-polled
-returns-in-Stopped-clause-polled g c = telling_then _ _ _ _ _ _ (λ x y z p q. took_none _ 0 1 0 x y z p q) c.loop-sent.invariant.tells c.in-Stopped.ensures.tells
+returns-in-Stopped-clause-polled g c = telling_then _ _ _ _ _ _ (λ x y z p q. took_none _ 0 1 0 x y z p q) c.loop-sent.invariant.model c.in-Stopped.ensures.model
 
 pub returns-in-NotConnected-clause-polled : goal.returns-in-NotConnected-clause-polled
-returns-in-NotConnected-clause-polled g c = telling_then _ _ _ _ _ _ (λ x y z p q. took_none _ 0 0 1 x y z p q) c.loop-sent.invariant.tells c.in-NotConnected.ensures.tells
+returns-in-NotConnected-clause-polled g c = telling_then _ _ _ _ _ _ (λ x y z p q. took_none _ 0 0 1 x y z p q) c.loop-sent.invariant.model c.in-NotConnected.ensures.model
 
 pub returns-in-NoMemory-clause-polled : goal.returns-in-NoMemory-clause-polled
-returns-in-NoMemory-clause-polled g c = telling_then _ _ _ _ _ _ (λ x y z p q. took_none _ 0 0 0 x y z p q) c.loop-sent.invariant.tells c.in-NoMemory.ensures.tells
+returns-in-NoMemory-clause-polled g c = telling_then _ _ _ _ _ _ (λ x y z p q. took_none _ 0 0 0 x y z p q) c.loop-sent.invariant.model c.in-NoMemory.ensures.model

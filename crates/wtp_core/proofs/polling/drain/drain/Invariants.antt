@@ -7,7 +7,7 @@ abbrev pub invariant-loop-sent : goal.invariant-loop-sent
 invariant-loop-sent g l = record {
   forward : l.fn.sent ≤ l.sent;
   within : l.sent ≤ length l.bytes;
-  tells : HasModel (g.W.AsyncWrite.tells l.fn.sink) (g.W.AsyncWrite.tells l.sink) (λ a b. Took a b (drop l.fn.sent (take l.sent l.bytes)) 0 0 0);
+  model : HasModel (g.W.AsyncWrite.model l.fn.sink) (g.W.AsyncWrite.model l.sink) (λ a b. Took a b (drop l.fn.sent (take l.sent l.bytes)) 0 0 0);
   finished : l.fn.sent ≡ length l.bytes → l.sink ≡ l.fn.sink;
 }
 

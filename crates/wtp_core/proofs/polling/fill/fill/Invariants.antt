@@ -8,8 +8,8 @@ invariant-loop-at g l = record {
   front : take l.fn.at l.buf ≡ take l.fn.at l.fn.buf;
   forward : l.fn.at ≤ l.at;
   within : l.at ≤ length l.buf;
-  waits : HasModel (g.S.AsyncRead.tells l.fn.source) (g.S.AsyncRead.tells l.source) (λ a b. b.waits ≡ a.waits);
-  tells : HasModel (g.S.AsyncRead.tells l.fn.source) (g.S.AsyncRead.tells l.source) (λ a b. Gains (take l.fn.at l.fn.buf) (take l.at l.buf) a b 0);
+  waits : HasModel (g.S.AsyncRead.model l.fn.source) (g.S.AsyncRead.model l.source) (λ a b. b.waits ≡ a.waits);
+  model : HasModel (g.S.AsyncRead.model l.fn.source) (g.S.AsyncRead.model l.source) (λ a b. Gains (take l.fn.at l.fn.buf) (take l.at l.buf) a b 0);
 }
 
 abbrev pub decreases-loop-at : goal.decreases-loop-at

@@ -19,6 +19,6 @@ loop-skip_remaining-preserved g c =
       room = omega arith;
       most = omega arith;
       waits = none_waits _ _ (waits_then 0 _ _ _ inv.waits c.in-Bytes.ensures.waits);
-      tells = telling_then _ _ _ _ _ (λ x z. Passed (c.args.skip_remaining.now - (c.loop-skip_remaining.skip_remaining - n)) x z 0)
-          (λ x y z p q. passed_then (c.args.skip_remaining.now - c.loop-skip_remaining.skip_remaining) n _ 0 x y z (omega arith) p (passed_some n y z some q.0 q.1)) inv.tells c.in-Bytes.ensures.tells;
+      model = telling_then _ _ _ _ _ (λ x z. Passed (c.args.skip_remaining.now - (c.loop-skip_remaining.skip_remaining - n)) x z 0)
+          (λ x y z p q. passed_then (c.args.skip_remaining.now - c.loop-skip_remaining.skip_remaining) n _ 0 x y z (omega arith) p (passed_some n y z some q.0 q.1)) inv.model c.in-Bytes.ensures.model;
     }

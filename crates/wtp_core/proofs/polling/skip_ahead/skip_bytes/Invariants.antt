@@ -8,8 +8,8 @@ invariant-loop-skip_remaining g l = record {
   fewer : l.skip_remaining ≤ l.fn.skip_remaining;
   room : l.skip_remaining + max_passed ≡ l.fn.skip_remaining + l.room;
   most : l.room ≤ max_passed;
-  waits : HasModel (g.S.AsyncRead.tells l.fn.source) (g.S.AsyncRead.tells l.source) (λ a b. b.waits ≡ a.waits);
-  tells : HasModel (g.S.AsyncRead.tells l.fn.source) (g.S.AsyncRead.tells l.source) (λ a b. Passed (l.fn.skip_remaining - l.skip_remaining) a b 0);
+  waits : HasModel (g.S.AsyncRead.model l.fn.source) (g.S.AsyncRead.model l.source) (λ a b. b.waits ≡ a.waits);
+  model : HasModel (g.S.AsyncRead.model l.fn.source) (g.S.AsyncRead.model l.source) (λ a b. Passed (l.fn.skip_remaining - l.skip_remaining) a b 0);
 }
 
 abbrev pub decreases-loop-skip_remaining : goal.decreases-loop-skip_remaining

@@ -23,5 +23,5 @@ returns c =
       refl,
       refl,
       sent_is c.send.result c.args.stream c.self.inside.most c.bound_of-bound.result c.insert_all.new.table _ _ _ _ c.self.inside.ledger c.send.new.ledger _ _
-      c.send.ensures c.in_ok-lines.ensures.lines c.bound_of-bound.ensures.within c.bound_of-bound.ensures.allowed,
+          c.send.ensures c.in_ok-lines.ensures.lines c.bound_of-bound.ensures.within c.bound_of-bound.ensures.allowed,
     )

@@ -9,8 +9,8 @@ pub returns-in-Ok-clause-memory : goal.returns-in-Ok-clause-memory
 returns-in-Ok-clause-memory c = λ memory.
     let found = c.read_lines.ensures.memory memory in
     record {
-      reached = record {lines = c.in-Ok.lines.now; fields = found.0; rest = found.1; prefix = c.in-Ok.ensures; good = found.2; some = found.3};
-      needs = found.4
+      reached = record { lines = c.in-Ok.lines.now; fields = found.0; rest = found.1; prefix = c.in-Ok.ensures; good = found.2; some = found.3 };
+      needs = found.4;
     }
 
 pub returns-in-Err-clause-read : goal.returns-in-Err-clause-read

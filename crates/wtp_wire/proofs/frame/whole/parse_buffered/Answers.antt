@@ -1,7 +1,7 @@
 use Rattle.std.proofs.Common.{◌≡◌, ◌-◌, List, ℕ, take, drop, length, Some, arith, length-drop}
 use Rattle.wtp_wire.specs.declared.frame.head.Announcement.TheVariants as announces
 use Rattle.wtp_wire.specs.Content.{PlainOf, WebTransportOf}
-use Rattle.wtp_wire.specs.FrameHead.{head_at}
+use Rattle.wtp_wire.specs.FramePrefix.{head_at}
 use Rattle.wtp_wire.proofs.FrontLemmas.{front-head}
 use Rattle.wtp_wire.proofs.WholeLemmas.{after_frame, framed_payload, enough_after, no_head, no_plain}
 use Rattle.wtp_wire.proofs.frame.whole.parse_buffered.Goals as goal

@@ -1,4 +1,4 @@
-use Rattle.wtp_wire.proofs.FrameHeadLemmas.{passed_unknown}
+use Rattle.wtp_wire.proofs.FramePrefixLemmas.{passed_unknown}
 use Rattle.wtp_wire.proofs.laws.polled.passed_is_unknown.Goals as goal
 
 pub returns-clause-begun : goal.returns-clause-begun

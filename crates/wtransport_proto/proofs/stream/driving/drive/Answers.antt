@@ -10,7 +10,7 @@ loop-turn-init g c = record {
   unfinished = λ h. h;
   appends = sym (ap (λ l. c.args.out.now.items ++ l) (none_yet c.args.out.now.items) ∙ append-nil c.args.out.now.items);
   most = omega (arith, ap length (none_yet c.args.out.now.items));
-  tells = told_start (g.S.AsyncRead.tells c.args.source.now) g.K.ReadsFrames.role (g.K.ReadsFrames.first c.args.stream.now) c.args.reading.now _ (none_yet c.args.out.now.items);
+  model = told_start (g.S.AsyncRead.model c.args.source.now) g.K.ReadsFrames.role (g.K.ReadsFrames.first c.args.stream.now) c.args.reading.now _ (none_yet c.args.out.now.items);
   none = λ _. (refl, refl, refl, refl);
 }
 
@@ -25,10 +25,10 @@ loop-turn-preserved g c =
             unfinished = λ _. c.read_frame_async.ensures.unfinished;
             appends = pushed_appends _ c.loop-turn.out.items _ w.in-Ready-Ok.frame c.loop-turn.invariant.appends p;
             most = pushed_most _ c.loop-turn.out.items _ w.in-Ready-Ok.frame c.loop-turn._turn c.loop-turn.invariant.appends p c.loop-turn.invariant.most;
-            tells = told_frame (g.S.AsyncRead.tells c.args.source.now) (g.S.AsyncRead.tells c.loop-turn.source) (g.S.AsyncRead.tells c.read_frame_async.new.source)
+            model = told_frame (g.S.AsyncRead.model c.args.source.now) (g.S.AsyncRead.model c.loop-turn.source) (g.S.AsyncRead.model c.read_frame_async.new.source)
                 g.K.ReadsFrames.role (g.K.ReadsFrames.first c.args.stream.now) (g.K.ReadsFrames.first c.loop-turn.stream) (g.K.ReadsFrames.first c.read_frame_async.new.self)
                 c.args.reading.now c.loop-turn.reading c.read_frame_async.new.reading (drop (length c.args.out.now.items) c.loop-turn.out.items)
-                _ w.in-Ready-Ok.frame c.loop-turn._turn (pushed _ c.loop-turn.out.items _ w.in-Ready-Ok.frame c.loop-turn.invariant.appends p) c.loop-turn.invariant.tells (rw w.in-Ready-Ok.field-0-is at w.in-Ready-Ok.ensures.polled) c.read_frame_async.ensures.asks;
+                _ w.in-Ready-Ok.frame c.loop-turn._turn (pushed _ c.loop-turn.out.items _ w.in-Ready-Ok.frame c.loop-turn.invariant.appends p) c.loop-turn.invariant.model (rw w.in-Ready-Ok.field-0-is at w.in-Ready-Ok.ensures.polled) c.read_frame_async.ensures.asks;
             none = λ z. absurd (omega arith);
           }
       | in-Again w ↦ record {
@@ -37,10 +37,10 @@ loop-turn-preserved g c =
         unfinished = λ _. c.read_frame_async.ensures.unfinished;
         appends = rw (w.out-is, c.reserve.ensures.items) c.loop-turn.invariant.appends;
         most = rw (w.out-is, c.reserve.ensures.items) (let most = c.loop-turn.invariant.most in omega arith);
-        tells = rw (w.out-is, c.reserve.ensures.items) (told_unknown (g.S.AsyncRead.tells c.args.source.now) (g.S.AsyncRead.tells c.loop-turn.source) (g.S.AsyncRead.tells c.read_frame_async.new.source)
+        model = rw (w.out-is, c.reserve.ensures.items) (told_unknown (g.S.AsyncRead.model c.args.source.now) (g.S.AsyncRead.model c.loop-turn.source) (g.S.AsyncRead.model c.read_frame_async.new.source)
             g.K.ReadsFrames.role (g.K.ReadsFrames.first c.args.stream.now) (g.K.ReadsFrames.first c.loop-turn.stream) (g.K.ReadsFrames.first c.read_frame_async.new.self)
             c.args.reading.now c.loop-turn.reading c.read_frame_async.new.reading (drop (length c.args.out.now.items) c.loop-turn.out.items)
-            c.loop-turn._turn c.read_frame_async.ensures.was_unfinished c.loop-turn.invariant.tells w.in-Again.ensures.polled c.read_frame_async.ensures.asks);
+            c.loop-turn._turn c.read_frame_async.ensures.was_unfinished c.loop-turn.invariant.model w.in-Again.ensures.polled c.read_frame_async.ensures.asks);
         none = λ z. absurd (omega arith);
       }
     ]
@@ -52,16 +52,16 @@ returns-in-Err g c = record {
   unfinished = c.loop-turn.invariant.unfinished;
   appends = rw c.reserve.ensures.items c.loop-turn.invariant.appends;
   most = rw c.reserve.ensures.items (omega arith);
-  did = rw c.reserve.ensures.items (told_full (g.S.AsyncRead.tells c.args.source.now) (g.S.AsyncRead.tells c.loop-turn.source) g.K.ReadsFrames.role (g.K.ReadsFrames.first c.args.stream.now) (g.K.ReadsFrames.first c.loop-turn.stream)
-      c.args.reading.now c.loop-turn.reading (drop (length c.args.out.now.items) c.loop-turn.out.items) c.loop-turn._turn c.args.polls (omega arith) c.loop-turn.invariant.tells);
+  did = rw c.reserve.ensures.items (told_full (g.S.AsyncRead.model c.args.source.now) (g.S.AsyncRead.model c.loop-turn.source) g.K.ReadsFrames.role (g.K.ReadsFrames.first c.args.stream.now) (g.K.ReadsFrames.first c.loop-turn.stream)
+      c.args.reading.now c.loop-turn.reading (drop (length c.args.out.now.items) c.loop-turn.out.items) c.loop-turn._turn c.args.polls (omega arith) c.loop-turn.invariant.model);
   none = λ z. absurd (omega arith);
 }
 
 pub returns-in-Pending : goal.returns-in-Pending
 returns-in-Pending g c =
-    let s = g.S.AsyncRead.tells c.args.source.now in
-    let t = g.S.AsyncRead.tells c.loop-turn.source in
-    let u = g.S.AsyncRead.tells c.read_frame_async.new.source in
+    let s = g.S.AsyncRead.model c.args.source.now in
+    let t = g.S.AsyncRead.model c.loop-turn.source in
+    let u = g.S.AsyncRead.model c.read_frame_async.new.source in
     let f0 = g.K.ReadsFrames.first c.args.stream.now in
     let f1 = g.K.ReadsFrames.first c.loop-turn.stream in
     let f2 = g.K.ReadsFrames.first c.read_frame_async.new.self in
@@ -72,15 +72,15 @@ returns-in-Pending g c =
       unfinished = λ _. c.read_frame_async.ensures.unfinished;
       appends = rw c.reserve.ensures.items c.loop-turn.invariant.appends;
       most = rw c.reserve.ensures.items (omega arith);
-      did = rw c.reserve.ensures.items (told_waiting s t u g.K.ReadsFrames.role f0 f1 f2 c.args.reading.now c.loop-turn.reading c.read_frame_async.new.reading xs c.loop-turn._turn c.args.polls c.loop-turn-test.true c.read_frame_async.ensures.was_unfinished c.loop-turn.invariant.tells c.in-Pending.ensures.polled c.read_frame_async.ensures.asks);
+      did = rw c.reserve.ensures.items (told_waiting s t u g.K.ReadsFrames.role f0 f1 f2 c.args.reading.now c.loop-turn.reading c.read_frame_async.new.reading xs c.loop-turn._turn c.args.polls c.loop-turn-test.true c.read_frame_async.ensures.was_unfinished c.loop-turn.invariant.model c.in-Pending.ensures.polled c.read_frame_async.ensures.asks);
       none = λ z. absurd (omega arith);
     }
 
 pub returns-in-NoMemory : goal.returns-in-NoMemory
 returns-in-NoMemory g c =
-    let s = g.S.AsyncRead.tells c.args.source.now in
-    let t = g.S.AsyncRead.tells c.loop-turn.source in
-    let u = g.S.AsyncRead.tells c.read_frame_async.new.source in
+    let s = g.S.AsyncRead.model c.args.source.now in
+    let t = g.S.AsyncRead.model c.loop-turn.source in
+    let u = g.S.AsyncRead.model c.read_frame_async.new.source in
     let f0 = g.K.ReadsFrames.first c.args.stream.now in
     let f1 = g.K.ReadsFrames.first c.loop-turn.stream in
     let f2 = g.K.ReadsFrames.first c.read_frame_async.new.self in
@@ -91,15 +91,15 @@ returns-in-NoMemory g c =
       unfinished = λ _. c.read_frame_async.ensures.unfinished;
       appends = rw c.reserve.ensures.items c.loop-turn.invariant.appends;
       most = rw c.reserve.ensures.items (omega arith);
-      did = rw c.reserve.ensures.items (told_still s t u g.K.ReadsFrames.role f0 f1 f2 c.args.reading.now c.loop-turn.reading c.read_frame_async.new.reading xs c.loop-turn._turn c.args.polls c.loop-turn-test.true c.read_frame_async.ensures.was_unfinished c.loop-turn.invariant.tells c.in-NoMemory.ensures.polled c.read_frame_async.ensures.asks);
+      did = rw c.reserve.ensures.items (told_still s t u g.K.ReadsFrames.role f0 f1 f2 c.args.reading.now c.loop-turn.reading c.read_frame_async.new.reading xs c.loop-turn._turn c.args.polls c.loop-turn-test.true c.read_frame_async.ensures.was_unfinished c.loop-turn.invariant.model c.in-NoMemory.ensures.polled c.read_frame_async.ensures.asks);
       none = λ z. absurd (omega arith);
     }
 
 pub returns-in-Ready-Err : goal.returns-in-Ready-Err
 returns-in-Ready-Err g c =
-    let s = g.S.AsyncRead.tells c.args.source.now in
-    let t = g.S.AsyncRead.tells c.loop-turn.source in
-    let u = g.S.AsyncRead.tells c.read_frame_async.new.source in
+    let s = g.S.AsyncRead.model c.args.source.now in
+    let t = g.S.AsyncRead.model c.loop-turn.source in
+    let u = g.S.AsyncRead.model c.read_frame_async.new.source in
     let f0 = g.K.ReadsFrames.first c.args.stream.now in
     let f1 = g.K.ReadsFrames.first c.loop-turn.stream in
     let f2 = g.K.ReadsFrames.first c.read_frame_async.new.self in
@@ -110,7 +110,7 @@ returns-in-Ready-Err g c =
       unfinished = λ _. c.read_frame_async.ensures.unfinished;
       appends = rw c.reserve.ensures.items c.loop-turn.invariant.appends;
       most = rw c.reserve.ensures.items (omega arith);
-      did = rw c.reserve.ensures.items (told_ended s t u g.K.ReadsFrames.role f0 f1 f2 c.args.reading.now c.loop-turn.reading c.read_frame_async.new.reading xs c.in-Ready-Err.fault c.loop-turn._turn c.args.polls c.loop-turn-test.true c.read_frame_async.ensures.was_unfinished c.loop-turn.invariant.tells (rw c.in-Ready-Err.field-0-is at c.in-Ready-Err.ensures.polled) c.read_frame_async.ensures.asks);
+      did = rw c.reserve.ensures.items (told_ended s t u g.K.ReadsFrames.role f0 f1 f2 c.args.reading.now c.loop-turn.reading c.read_frame_async.new.reading xs c.in-Ready-Err.fault c.loop-turn._turn c.args.polls c.loop-turn-test.true c.read_frame_async.ensures.was_unfinished c.loop-turn.invariant.model (rw c.in-Ready-Err.field-0-is at c.in-Ready-Err.ensures.polled) c.read_frame_async.ensures.asks);
       none = λ z. absurd (omega arith);
     }
 
@@ -123,7 +123,7 @@ returns g c =
       unfinished = c.loop-turn.invariant.unfinished;
       appends = c.loop-turn.invariant.appends;
       most = omega arith;
-      did = told_spent (g.S.AsyncRead.tells c.args.source.now) (g.S.AsyncRead.tells c.loop-turn.source) g.K.ReadsFrames.role (g.K.ReadsFrames.first c.args.stream.now) (g.K.ReadsFrames.first c.loop-turn.stream)
-          c.args.reading.now c.loop-turn.reading (drop (length c.args.out.now.items) c.loop-turn.out.items) c.args.polls (rw all at c.loop-turn.invariant.tells);
+      did = told_spent (g.S.AsyncRead.model c.args.source.now) (g.S.AsyncRead.model c.loop-turn.source) g.K.ReadsFrames.role (g.K.ReadsFrames.first c.args.stream.now) (g.K.ReadsFrames.first c.loop-turn.stream)
+          c.args.reading.now c.loop-turn.reading (drop (length c.args.out.now.items) c.loop-turn.out.items) c.args.polls (rw all at c.loop-turn.invariant.model);
       none = λ z. let kept = c.loop-turn.invariant.none (omega arith) in (refl, kept.0, kept.1, kept.2, kept.3);
     }

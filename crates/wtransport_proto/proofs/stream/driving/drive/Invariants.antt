@@ -11,7 +11,7 @@ invariant-loop-turn g l = record {
   unfinished : IsUnfinished l.fn.reading → IsUnfinished l.reading;
   appends : l.out.items ≡ l.fn.out.items ++ drop (length l.fn.out.items) l.out.items;
   most : length (drop (length l.fn.out.items) l.out.items) ≤ l._turn;
-  tells : HasModel (g.S.AsyncRead.tells l.fn.source) (g.S.AsyncRead.tells l.source) (Drove g.K.ReadsFrames.role (g.K.ReadsFrames.first l.fn.stream) (g.K.ReadsFrames.first l.stream)
+  model : HasModel (g.S.AsyncRead.model l.fn.source) (g.S.AsyncRead.model l.source) (Drove g.K.ReadsFrames.role (g.K.ReadsFrames.first l.fn.stream) (g.K.ReadsFrames.first l.stream)
       l.fn.reading l.reading (drop (length l.fn.out.items) l.out.items) l._turn);
   none : l._turn ≡ 0 → (l.stream ≡ l.fn.stream) × (l.reading ≡ l.fn.reading) × (l.source ≡ l.fn.source) × (l.out ≡ l.fn.out);
 }

@@ -14,23 +14,23 @@ pub returns-in-Err-clause-was_cut : goal.returns-in-Err-clause-was_cut
 returns-in-Err-clause-was_cut g c = rw (← c.self.view_is) (number_at-cut (take c.self.inside.len c.self.inside.bytes) c.self.invariant.1)
 
 pub returns-in-Err-clause-cut : goal.returns-in-Err-clause-cut
-returns-in-Err-clause-cut g c = number_at-cut (take c.fill_head.new.len c.fill_head.new.buf) (omega (arith, c.in-Err.ensures.cut, length-take c.fill_head.new.len c.fill_head.new.buf))
+returns-in-Err-clause-cut g c = number_at-cut (take c.fill_prefix.new.len c.fill_prefix.new.buf) (omega (arith, c.in-Err.ensures.cut, length-take c.fill_prefix.new.len c.fill_prefix.new.buf))
 
 pub returns-in-Err-clause-waits : goal.returns-in-Err-clause-waits
-returns-in-Err-clause-waits g c = rw (halted_plain _ _ _ c.halt_result.ensures) (halted_waits ℕ IoReadError (Unit {0}) (λ f. f) c.in-Err.halt c.fill_head.new.len _ _ c.in-Err.ensures.waits)
+returns-in-Err-clause-waits g c = rw (halted_plain _ _ _ c.halt_result.ensures) (halted_waits ℕ IoReadError (Unit {0}) (λ f. f) c.in-Err.halt c.fill_prefix.new.len _ _ c.in-Err.ensures.waits)
 
 pub returns-in-Err-clause-given : goal.returns-in-Err-clause-given
-returns-in-Err-clause-given g c = rw (halted_plain _ _ _ c.halt_result.ensures, ← c.self.view_is) (halted_varint_given c.in-Err.halt c.fill_head.new.len c.self.inside.len _ (take c.fill_head.new.len c.fill_head.new.buf)
-    (held_front c.self.inside.len c.fill_head.new.len c.self.inside.bytes c.fill_head.new.buf c.fill_head.ensures.forward c.fill_head.ensures.front))
+returns-in-Err-clause-given g c = rw (halted_plain _ _ _ c.halt_result.ensures, ← c.self.view_is) (halted_varint_given c.in-Err.halt c.fill_prefix.new.len c.self.inside.len _ (take c.fill_prefix.new.len c.fill_prefix.new.buf)
+    (held_front c.self.inside.len c.fill_prefix.new.len c.self.inside.bytes c.fill_prefix.new.buf c.fill_prefix.ensures.forward c.fill_prefix.ensures.front))
 
 pub returns-in-Err-clause-polled : goal.returns-in-Err-clause-polled
-returns-in-Err-clause-polled g c = rw (halted_plain _ _ _ c.halt_result.ensures, ← c.self.view_is) (halted_varint_told (g.S.AsyncRead.tells c.args.source.now) (g.S.AsyncRead.tells c.fill_head.new.source) c.in-Err.halt c.fill_head.new.len
-    (take c.self.inside.len c.self.inside.bytes) (take c.fill_head.new.len c.fill_head.new.buf)
-    (omega (arith, c.fill_head.ensures.room, length-take c.fill_head.new.len c.fill_head.new.buf)) (omega (arith, c.in-Err.ensures.cut, length-take c.fill_head.new.len c.fill_head.new.buf)) c.in-Err.ensures.tells)
+returns-in-Err-clause-polled g c = rw (halted_plain _ _ _ c.halt_result.ensures, ← c.self.view_is) (halted_varint_told (g.S.AsyncRead.model c.args.source.now) (g.S.AsyncRead.model c.fill_prefix.new.source) c.in-Err.halt c.fill_prefix.new.len
+    (take c.self.inside.len c.self.inside.bytes) (take c.fill_prefix.new.len c.fill_prefix.new.buf)
+    (omega (arith, c.fill_prefix.ensures.room, length-take c.fill_prefix.new.len c.fill_prefix.new.buf)) (omega (arith, c.in-Err.ensures.cut, length-take c.fill_prefix.new.len c.fill_prefix.new.buf)) c.in-Err.ensures.model)
 
 pub unreachable-requires : goal.unreachable-requires
 unreachable-requires g c =
-    let (v, is) = number_at-whole (take c.fill_head.new.len c.fill_head.new.buf) (omega (arith, c.in-Ok.ensures.whole, c.fill_head.ensures.room, length-take c.fill_head.new.len c.fill_head.new.buf)) in
+    let (v, is) = number_at-whole (take c.fill_prefix.new.len c.fill_prefix.new.buf) (omega (arith, c.in-Ok.ensures.whole, c.fill_prefix.ensures.room, length-take c.fill_prefix.new.len c.fill_prefix.new.buf)) in
     cc (is, c.in_default.ensures.found)
 
 pub returns-clause-was_cut : goal.returns-clause-was_cut
@@ -40,11 +40,11 @@ pub returns-clause-cut : goal.returns-clause-cut
 returns-clause-cut g c = number_at-cut [] (omega arith)
 
 pub returns-clause-given : goal.returns-clause-given
-returns-clause-given g c = rw (← c.self.view_is) (whole_varint_given _ _ c.self.inside.len _ (take c.fill_head.new.len c.fill_head.new.buf)
-    (held_front c.self.inside.len c.fill_head.new.len c.self.inside.bytes c.fill_head.new.buf c.fill_head.ensures.forward c.fill_head.ensures.front)
-    (omega (arith, c.in-Ok.ensures.whole, c.fill_head.ensures.room, length-take c.fill_head.new.len c.fill_head.new.buf)) c.in-Some.ensures.found)
+returns-clause-given g c = rw (← c.self.view_is) (whole_varint_given _ _ c.self.inside.len _ (take c.fill_prefix.new.len c.fill_prefix.new.buf)
+    (held_front c.self.inside.len c.fill_prefix.new.len c.self.inside.bytes c.fill_prefix.new.buf c.fill_prefix.ensures.forward c.fill_prefix.ensures.front)
+    (omega (arith, c.in-Ok.ensures.whole, c.fill_prefix.ensures.room, length-take c.fill_prefix.new.len c.fill_prefix.new.buf)) c.in-Some.ensures.found)
 
 pub returns-clause-polled : goal.returns-clause-polled
-returns-clause-polled g c = rw (← c.self.view_is) (whole_varint_told (g.S.AsyncRead.tells c.args.source.now) (g.S.AsyncRead.tells c.fill_head.new.source) _ _
-    (take c.self.inside.len c.self.inside.bytes) (take c.fill_head.new.len c.fill_head.new.buf)
-    (omega (arith, c.in-Ok.ensures.whole, c.fill_head.ensures.room, length-take c.fill_head.new.len c.fill_head.new.buf)) c.in-Some.ensures.found c.in-Ok.ensures.tells)
+returns-clause-polled g c = rw (← c.self.view_is) (whole_varint_told (g.S.AsyncRead.model c.args.source.now) (g.S.AsyncRead.model c.fill_prefix.new.source) _ _
+    (take c.self.inside.len c.self.inside.bytes) (take c.fill_prefix.new.len c.fill_prefix.new.buf)
+    (omega (arith, c.in-Ok.ensures.whole, c.fill_prefix.ensures.room, length-take c.fill_prefix.new.len c.fill_prefix.new.buf)) c.in-Some.ensures.found c.in-Ok.ensures.model)

@@ -1,6 +1,6 @@
 use Rattle.std.proofs.Common.{◌≡◌, take, length, vec_len, vec_capacity, refl, sym, ◌∙◌, arith, rules}
 use Rattle.wtp_wire.specs.CapsuleSteps.{head_says}
-use Rattle.wtp_wire.specs.declared.capsule.reading.CapsuleHead.TheVariants.{Keep}
+use Rattle.wtp_wire.specs.declared.capsule.reading.CapsuleAnnouncement.TheVariants.{Keep}
 use Rattle.wtp_wire.specs.FrameNeed.{frame_need}
 use Rattle.wtp_wire.proofs.CapsuleReadingLemmas.{Headed, headed, size_of, says_whole, advanced_due, advanced_head, advanced_long, advanced_skip, value_fits, advanced_found, advanced_value, advanced_memory, room_new, room_head}
 use Rattle.wtp_wire.proofs.capsule.reading.CapsulePart.advance.Goals as goal

@@ -16,8 +16,8 @@ pub returns-then-self-gt0 : goal.returns-then-self-gt0
 returns-then-self-gt0 g c =
     let old = c.self.inside.part in
     let d = c.self.inside.skip_remaining in
-    let s = g.S.AsyncRead.tells c.args.source.now in
-    let t = g.S.AsyncRead.tells c.skip_payload.new.source in
+    let s = g.S.AsyncRead.model c.args.source.now in
+    let t = g.S.AsyncRead.model c.skip_payload.new.source in
     let q = polls_as s t c.skip_payload.result (hold (bytes_in old) d) c.args.self.now (hold (bytes_in old) c.skip_payload.new.skip_remaining) (hold (bytes_in old) c.skip_payload.new.skip_remaining) c.self.view_is refl
     (due_polls s t c.skip_payload.result old d c.skip_payload.new.skip_remaining c.if-self-gt0.true c.self.invariant.0 (c.self.invariant.1 c.if-self-gt0.true) c.skip_payload.ensures.plain c.skip_payload.ensures.passed) in
     record { was_unfinished = q.was_unfinished; unfinished = q.unfinished; given = q.given; polled = q.polled; waits = c.skip_payload.ensures.waits; asks = q.asks }
@@ -27,8 +27,8 @@ returns-in-Err-Source g c =
     let old = c.self.inside.part in
     let d = c.self.inside.skip_remaining in
     let new = c.advance.new.self in
-    let s = g.S.AsyncRead.tells c.args.source.now in
-    let t = g.S.AsyncRead.tells c.advance.new.source in
+    let s = g.S.AsyncRead.model c.args.source.now in
+    let t = g.S.AsyncRead.model c.advance.new.source in
     let halt = c.in-Err-Source.halt in
     let moves : HasModel s t (λ a b. StopMoves {U = Announcement} (Err (stopped.Source halt)) (bytes_in old) (bytes_in new) a b) =
     (rw c.in-Err-Source.field-0-is at c.in-Err-Source.ensures.moves) in
@@ -41,8 +41,8 @@ returns-in-Err-NoMemory g c =
     let old = c.self.inside.part in
     let d = c.self.inside.skip_remaining in
     let new = c.advance.new.self in
-    let s = g.S.AsyncRead.tells c.args.source.now in
-    let t = g.S.AsyncRead.tells c.advance.new.source in
+    let s = g.S.AsyncRead.model c.args.source.now in
+    let t = g.S.AsyncRead.model c.advance.new.source in
     let moves : HasModel s t (λ a b. StopMoves {U = Announcement} (Err stopped.NoMemory) (bytes_in old) (bytes_in new) a b) =
     (rw c.in-Err-NoMemory.field-0-is at c.in-Err-NoMemory.ensures.moves) in
     let k = rw c.in-Err-NoMemory.field-0-is at c.in-Err-NoMemory.ensures.keeps in
@@ -64,9 +64,9 @@ returns-in-Skip g c =
     let old = c.self.inside.part in
     let d = c.self.inside.skip_remaining in
     let new = c.advance.new.self in
-    let s = g.S.AsyncRead.tells c.args.source.now in
-    let t = g.S.AsyncRead.tells c.advance.new.source in
-    let u = g.S.AsyncRead.tells c.skip_payload-in-Skip.new.source in
+    let s = g.S.AsyncRead.model c.args.source.now in
+    let t = g.S.AsyncRead.model c.advance.new.source in
+    let u = g.S.AsyncRead.model c.skip_payload-in-Skip.new.source in
     let m = c.in-Skip.size in
     let d' = c.skip_payload-in-Skip.new.skip_remaining in
     let moves : HasModel s t (λ a b. StopMoves (Ok c.in-Ok.announcement) (bytes_in old) (bytes_in new) a b) =
@@ -81,8 +81,8 @@ returns-in_default g c =
     let old = c.self.inside.part in
     let d = c.self.inside.skip_remaining in
     let new = c.advance.new.self in
-    let s = g.S.AsyncRead.tells c.args.source.now in
-    let t = g.S.AsyncRead.tells c.advance.new.source in
+    let s = g.S.AsyncRead.model c.args.source.now in
+    let t = g.S.AsyncRead.model c.advance.new.source in
     let moves : HasModel s t (λ a b. StopMoves (Ok c.in-Ok.announcement) (bytes_in old) (bytes_in new) a b) =
     c.in-Ok.ensures.moves in
     let q = polls_as s t (Ready c.answer.result) (hold (bytes_in old) d) c.args.self.now (hold [] d) (hold (bytes_in c.take_payload-payload.new.self) d) c.self.view_is

@@ -13,20 +13,20 @@ pub returns-in-Err-clause-was_cut : goal.returns-in-Err-clause-was_cut
 returns-in-Err-clause-was_cut g c = rw (← c.self.view_is) (header_cut (take c.self.inside.len c.self.inside.bytes) c.self.invariant.1)
 
 pub returns-in-Err-clause-cut : goal.returns-in-Err-clause-cut
-returns-in-Err-clause-cut g c = header_cut (take c.fill_head.new.len c.fill_head.new.buf) (omega (arith, c.in-Err.ensures.cut, length-take c.fill_head.new.len c.fill_head.new.buf))
+returns-in-Err-clause-cut g c = header_cut (take c.fill_prefix.new.len c.fill_prefix.new.buf) (omega (arith, c.in-Err.ensures.cut, length-take c.fill_prefix.new.len c.fill_prefix.new.buf))
 
 pub returns-in-Err-clause-given : goal.returns-in-Err-clause-given
-returns-in-Err-clause-given g c = rw (halted_header _ _ _ c.halt_result.ensures, ← c.self.view_is) (halted_given c.in-Err.halt c.fill_head.new.len c.self.inside.len _ (take c.fill_head.new.len c.fill_head.new.buf)
-    (held_front c.self.inside.len c.fill_head.new.len c.self.inside.bytes c.fill_head.new.buf c.fill_head.ensures.forward c.fill_head.ensures.front))
+returns-in-Err-clause-given g c = rw (halted_header _ _ _ c.halt_result.ensures, ← c.self.view_is) (halted_given c.in-Err.halt c.fill_prefix.new.len c.self.inside.len _ (take c.fill_prefix.new.len c.fill_prefix.new.buf)
+    (held_front c.self.inside.len c.fill_prefix.new.len c.self.inside.bytes c.fill_prefix.new.buf c.fill_prefix.ensures.forward c.fill_prefix.ensures.front))
 
 pub returns-in-Err-clause-polled : goal.returns-in-Err-clause-polled
-returns-in-Err-clause-polled g c = rw (halted_header _ _ _ c.halt_result.ensures, ← c.self.view_is) (halted_told (g.S.AsyncRead.tells c.args.source.now) (g.S.AsyncRead.tells c.fill_head.new.source) c.in-Err.halt c.fill_head.new.len
-    (take c.self.inside.len c.self.inside.bytes) (take c.fill_head.new.len c.fill_head.new.buf)
-    (omega (arith, c.fill_head.ensures.room, length-take c.fill_head.new.len c.fill_head.new.buf)) (omega (arith, c.in-Err.ensures.cut, length-take c.fill_head.new.len c.fill_head.new.buf)) c.in-Err.ensures.tells)
+returns-in-Err-clause-polled g c = rw (halted_header _ _ _ c.halt_result.ensures, ← c.self.view_is) (halted_told (g.S.AsyncRead.model c.args.source.now) (g.S.AsyncRead.model c.fill_prefix.new.source) c.in-Err.halt c.fill_prefix.new.len
+    (take c.self.inside.len c.self.inside.bytes) (take c.fill_prefix.new.len c.fill_prefix.new.buf)
+    (omega (arith, c.fill_prefix.ensures.room, length-take c.fill_prefix.new.len c.fill_prefix.new.buf)) (omega (arith, c.in-Err.ensures.cut, length-take c.fill_prefix.new.len c.fill_prefix.new.buf)) c.in-Err.ensures.model)
 
 pub returns-in-Err-clause-asks : goal.returns-in-Err-clause-asks
-returns-in-Err-clause-asks g c = asks_halted (g.S.AsyncRead.tells c.args.source.now) (g.S.AsyncRead.tells c.fill_head.new.source) c.in-Err.halt
-    (take c.self.inside.len c.self.inside.bytes) (take c.fill_head.new.len c.fill_head.new.buf) (omega (arith, c.in-Err.ensures.cut, length-take c.fill_head.new.len c.fill_head.new.buf)) c.in-Err.ensures.tells
+returns-in-Err-clause-asks g c = asks_halted (g.S.AsyncRead.model c.args.source.now) (g.S.AsyncRead.model c.fill_prefix.new.source) c.in-Err.halt
+    (take c.self.inside.len c.self.inside.bytes) (take c.fill_prefix.new.len c.fill_prefix.new.buf) (omega (arith, c.in-Err.ensures.cut, length-take c.fill_prefix.new.len c.fill_prefix.new.buf)) c.in-Err.ensures.model
 
 pub invariant_of-self-2 : goal.invariant_of-self-2
 invariant_of-self-2 g c = (omega arith, omega (arith, header_need_is [], (varint_need_range []).0))
@@ -38,9 +38,9 @@ pub returns-clause-cut : goal.returns-clause-cut
 returns-clause-cut g c = header_cut [] (omega (arith, header_need_is [], (varint_need_range []).0))
 
 pub returns-clause-given : goal.returns-clause-given
-returns-clause-given g c = rw (← c.self.view_is) (whole_given _ c.self.inside.len _ (take c.fill_head.new.len c.fill_head.new.buf)
-    (held_front c.self.inside.len c.fill_head.new.len c.self.inside.bytes c.fill_head.new.buf c.fill_head.ensures.forward c.fill_head.ensures.front) c.read_whole-answer.ensures)
+returns-clause-given g c = rw (← c.self.view_is) (whole_given _ c.self.inside.len _ (take c.fill_prefix.new.len c.fill_prefix.new.buf)
+    (held_front c.self.inside.len c.fill_prefix.new.len c.self.inside.bytes c.fill_prefix.new.buf c.fill_prefix.ensures.forward c.fill_prefix.ensures.front) c.read_whole-answer.ensures)
 
 pub returns-clause-polled : goal.returns-clause-polled
-returns-clause-polled g c = rw (← c.self.view_is) (whole_told (g.S.AsyncRead.tells c.args.source.now) (g.S.AsyncRead.tells c.fill_head.new.source) c.read_whole-answer.result
-    (take c.self.inside.len c.self.inside.bytes) (take c.fill_head.new.len c.fill_head.new.buf) c.read_whole-answer.ensures c.in-Ok.ensures.tells)
+returns-clause-polled g c = rw (← c.self.view_is) (whole_told (g.S.AsyncRead.model c.args.source.now) (g.S.AsyncRead.model c.fill_prefix.new.source) c.read_whole-answer.result
+    (take c.self.inside.len c.self.inside.bytes) (take c.fill_prefix.new.len c.fill_prefix.new.buf) c.read_whole-answer.ensures c.in-Ok.ensures.model)

@@ -12,7 +12,7 @@ use Rattle.wtp_wire.specs.declared.frame.head.Announcement.{Announcement}
 use Rattle.wtp_wire.specs.declared.frame.head.Announcement.TheVariants as announces
 use Rattle.wtp_wire.specs.Kind.{IsKnown, kind_of}
 use Rattle.wtp_wire.specs.Front.{Short, EncodesPair, IsUnknown, front_after, front}
-use Rattle.wtp_wire.specs.FrameHead.{announcement_at, announcement_of}
+use Rattle.wtp_wire.specs.FramePrefix.{announcement_at, announcement_of}
 use Rattle.wtp_wire.specs.FrameNeed.{frame_need, frame_need_is, frame_need_least}
 use Rattle.wtp_wire.specs.Held.{Held, IsUnknownHead, IsPayloadHead, Skips}
 use Rattle.wtp_wire.proofs.KindLemmas.{is-kind_of, kind_of-is, is_kind-known}
