@@ -15,7 +15,7 @@ use Rattle.wtp_wire.proofs.SettingPairsLemmas.{items-nil, items-pair, items-rese
 use Rattle.wtp_wire.proofs.SettingIdLemmas.{is_reserved-true}
 use Rattle.wtp_connection.specs.declared.fault.Fault.TheVariants as fault
 use Rattle.wtp_connection.specs.declared.settings.Values.{Values}
-use Rattle.wtp_connection.specs.Settings.{AreValid, value_of, values_of, is_understood, is_flag, is_refused, whole, settings_after, settings_in}
+use Rattle.wtp_connection.specs.Settings.{AreValid, value_of, values_of, is_understood, is_flag, is_refused, with_defaults, settings_after, settings_in}
 
 -- ---- the pairs of a payload
 
@@ -131,12 +131,12 @@ after_front ps front rest h v =
     ap (λ (l : List (Result SettingPair ErrorCode)). settings_after [] l) (items_pairs ps front rest h v)
     ∙ take_pairs ps [] (setting_items rest) v (λ k u is. refl)
 
-pub valid_read : (ps : List (ℕ × ℕ)) (payload : List ℕ) → ArePairs ps payload → AreValid ps → settings_in payload ≡ whole (values_of ps)
+pub valid_read : (ps : List (ℕ × ℕ)) (payload : List ℕ) → ArePairs ps payload → AreValid ps → settings_in payload ≡ Ok (with_defaults (values_of ps))
 valid_read ps payload h v =
     ap (λ (l : List ℕ). settings_in l) (sym (append-nil payload))
     ∙ after_front ps payload [] h v
     ∙ ap (λ (l : List (Result SettingPair ErrorCode)). settings_after (onto ps []) l) items-nil
-    ∙ ap (λ (x : Values). whole x) (values_all ps v)
+    ∙ ap (λ (x : Values). Ok (with_defaults x)) (values_all ps v)
 
 -- ---- the first that is not valid
 

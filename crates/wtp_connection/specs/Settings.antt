@@ -1,7 +1,7 @@
 -- The settings of the peer: what identifiers and values define (RFC 9114, sections 7.2.4 and
 -- 7.2.4.1; RFC 9204, section 5; RFC 9220, section 3; RFC 9297, section 2.1.1; WebTransport over
 -- HTTP/3).
-use Rattle.std.specs.Prelude.{◌≡◌, ℕ, ◌==◌, ◌&&◌, ◌||◌, not, nat_lt, if◌then◌else◌, Bool, false, List, [], ◌∷◌, Option, Some, None, is_some, unwrap_or, Result, Ok, Err}
+use Rattle.std.specs.Prelude.{◌≡◌, ℕ, ◌==◌, ◌&&◌, ◌||◌, nat_lt, if◌then◌else◌, Bool, false, List, [], ◌∷◌, Option, Some, None, is_some, unwrap_or, Result, Ok, Err}
 use Rattle.wtp_core.specs.declared.error.ErrorCode.{ErrorCode}
 use Rattle.wtp_core.specs.declared.error.ErrorCode.TheVariants as code
 use Rattle.wtp_frames.specs.declared.fault.Fault.TheVariants as stream
@@ -68,13 +68,6 @@ abbrev pub is_refused : List (ℕ × ℕ) → ℕ → ℕ → Bool
 is_refused ps id value =
     (is_flag id && nat_lt 1 value) || (is_understood id && is_some (value_of id ps))
 
--- WebTransport needs datagrams (draft-ietf-webtrans-http3-02, section 3.1)
-abbrev pub whole : Values → Result PeerSettings Fault
-whole v =
-    if is_on v.enable_webtransport && not (is_on v.h3_datagram)
-    then Err fault.Settings
-    else Ok (with_defaults v)
-
 -- pairs in byte order, each of which is neither of HTTP/2 (RFC 9114, section 7.2.4.1) nor refused
 -- beside those that follow
 abbrev pub AreValid : List (ℕ × ℕ) → Type 0
@@ -91,7 +84,7 @@ pair_fault other = fault.Settings
 
 -- the settings, or the first fault in byte order, after these pairs
 abbrev pub settings_after : List (ℕ × ℕ) → List (Result SettingPair ErrorCode) → Result PeerSettings Fault
-settings_after ps [] = whole (values_of ps)
+settings_after ps [] = Ok (with_defaults (values_of ps))
 settings_after ps (Err e ∷ items) = Err (pair_fault e)
 settings_after ps (Ok p ∷ items) =
     if is_refused ps p.id p.value

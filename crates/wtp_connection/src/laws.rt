@@ -18,13 +18,13 @@ ghost use Rattle.wtp_connection.specs.declared.stream.Stream.TheVariants.{Uni, F
 ghost use Rattle.wtp_connection.specs.Streams.{connection_of, with_control, with_settings, closed_by, Opened, Configured, Broke, followed, all_given, run_stream};
 ghost use Rattle.wtp_connection.specs.declared.instructions.DecoderPlace.TheVariants.{Between};
 ghost use Rattle.wtp_connection.specs.Instructions.{AreCancellations, after_bytes};
-ghost use Rattle.wtp_connection.specs.Settings.{AreValid, values_of, is_refused, whole, settings_in};
+ghost use Rattle.wtp_connection.specs.Settings.{AreValid, values_of, is_refused, with_defaults, settings_in};
 
 /// Valid settings are read, in whatever order they are and whatever encodings they have: each field
 /// has the value beside its identifier, or its default.
 pub fn valid_settings_are_read()
     ensures { (ps : List (ℕ × ℕ)) (payload : List ℕ) → ArePairs ps payload → AreValid ps
-        → settings_in payload ≡ whole (values_of ps) }
+        → settings_in payload ≡ Ok (with_defaults (values_of ps)) }
 {}
 
 /// The first setting that is not valid is reported after any valid ones, whatever follows.

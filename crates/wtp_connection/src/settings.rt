@@ -1,7 +1,7 @@
 //! The settings of the peer (RFC 9114, section 7.2.4; RFC 9204, section 5; RFC 9220, section 3; RFC
 //! 9297, section 2.1.1; WebTransport over HTTP/3).
 ghost use Rattle.std.specs.Prelude.{◌≡◌, [], None};
-ghost use Rattle.wtp_connection.specs.Settings.{values_of, stored as stored_is, held as held_is, taken, with_item, is_flag as is_flag_is, is_on as is_on_is, with_defaults, whole as whole_is, settings_in};
+ghost use Rattle.wtp_connection.specs.Settings.{values_of, stored as stored_is, held as held_is, taken, with_item, is_flag as is_flag_is, is_on as is_on_is, with_defaults, settings_in};
 
 use crate::fault::Fault;
 use wtp_core::error::ErrorCode;
@@ -65,8 +65,8 @@ impl PeerSettings {
     /// The first one in byte order: `Frame` if an identifier or a value is truncated. `Settings`
     /// for an identifier of HTTP/2 (0x00, 0x02 to 0x05), for a repeated one of these settings, and
     /// for a value other than 0 and 1 of 0x08, 0x33 and 0x2b603742 (RFC 9114, section 7.2.4; RFC
-    /// 8441, section 3; RFC 9297, section 2.1.1). At the end `Settings` if WebTransport is supported
-    /// and datagrams are not (draft-ietf-webtrans-http3-02, section 3.1).
+    /// 8441, section 3; RFC 9297, section 2.1.1). WebTransport without datagrams is no error; a
+    /// session needs both.
     pub fn read(payload: &[u8]) -> Result<Self, Fault>
         ensures { result ≡ settings_in payload.now }
     {
@@ -75,7 +75,7 @@ impl PeerSettings {
         'pairs: while let Some(item) = pairs.next() {
             values = values.with_item(item)?;
         }
-        values.whole()
+        Ok(values.with_defaults())
     }
 }
 
@@ -177,16 +177,6 @@ impl Values {
             },
             _ => self,
         }
-    }
-
-    // Returns the settings, if they may stand together.
-    fn whole(self) -> Result<PeerSettings, Fault>
-        ensures { result ≡ whole_is self }
-    {
-        if is_on(self.enable_webtransport) && !is_on(self.h3_datagram) {
-            return Err(Fault::Settings);
-        }
-        Ok(self.with_defaults())
     }
 
     // Returns the value of each setting, or its default.
