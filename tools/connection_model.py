@@ -1,8 +1,8 @@
 """What a stream of a connection has to give, from all of its bytes at once.
 
-It is written from RFC 9114 and draft-ietf-webtrans-http3-02 and shares no code with the program. A
-section is one of RFC 9114. What SETTINGS, field sections and instructions of QPACK contain is not
-judged.
+It is written from RFC 9114, RFC 9204 and draft-ietf-webtrans-http3-02 and shares no code with the
+program. A section is one of RFC 9114. What field sections contain is not judged, so that a message
+has no interim responses. The own settings allow no dynamic table.
 """
 
 from dataclasses import dataclass
@@ -12,12 +12,77 @@ DATA, HEADERS, CANCEL_PUSH, SETTINGS, PUSH_PROMISE, GOAWAY, MAX_PUSH_ID = 0, 1, 
 HTTP2 = {0x02, 0x06, 0x08, 0x09}
 WEBTRANSPORT = 0x41
 NAMES = {HEADERS: "HEADERS", SETTINGS: "SETTINGS", GOAWAY: "GOAWAY", MAX_PUSH_ID: "MAX_PUSH_ID"}
+# Settings with their defaults, those that are 0 or 1, and those of HTTP/2 (7.2.4.1, 11.2.2).
+CAPACITY, LIMIT, BLOCKED, CONNECT, DATAGRAM, WEBTRANSPORT_ON = (
+    0x01,
+    0x06,
+    0x07,
+    0x08,
+    0x33,
+    0x2B603742,
+)
+DEFAULTS = {CAPACITY: "0", LIMIT: "none", BLOCKED: "0", CONNECT: "0", DATAGRAM: "0"}
+DEFAULTS |= {WEBTRANSPORT_ON: "0", 0xC671706A: "0", 0x14E9CD29: "0"}
+FLAGS, OF_HTTP2 = {CONNECT, DATAGRAM, WEBTRANSPORT_ON}, {0x00, 0x02, 0x03, 0x04, 0x05}
 # The errors of a stream (8.1).
 OF_STREAM = {0x10D, 0x10E, 0x170D7B68, 0x3994BD84}
 MAX_SECTION, MAX_SETTINGS, MAX_IDLE = 65_536, 4096, 1024
 # What comes of a stream by what became of its session.
 SESSION_FAULTS = {"over": 0x170D7B68, "refused": 0x3994BD84, "impossible": 0x108}
 CRITICAL = {"control", "encoder", "decoder"}
+
+
+def number_in(content, at, end):
+    """Returns the number at an offset and the offset after it, or None if it is not whole before
+    the end (RFC 9000, section 16)."""
+    if at >= end:
+        return None
+    size = 1 << (content[at] >> 6)
+    if at + size > end:
+        return None
+    return int.from_bytes(content[at : at + size], "big") % (1 << (8 * size - 2)), at + size
+
+
+def values_of(pairs):
+    """Returns the values of settings in the order of DEFAULTS."""
+    given = {name: str(value) for name, value in pairs}
+    return tuple(given.get(name, default) for name, default in DEFAULTS.items())
+
+
+def settings_in(content, at, end):
+    """Returns the values of SETTINGS, or the code of their first error (7.2.4; RFC 8441, section 3;
+    RFC 9297, section 2.1.1; draft-ietf-webtrans-http3-02, section 3.1)."""
+    pairs = {}
+    while at < end:
+        name = number_in(content, at, end)
+        value = name and number_in(content, name[1], end)
+        if value is None:
+            return 0x106
+        at = value[1]
+        if name[0] in OF_HTTP2 or name[0] in pairs or (name[0] in FLAGS and value[0] > 1):
+            return 0x109
+        if name[0] in DEFAULTS:
+            pairs[name[0]] = value[0]
+    if pairs.get(WEBTRANSPORT_ON) == 1 and pairs.get(DATAGRAM) != 1:
+        return 0x109
+    return values_of(pairs.items())
+
+
+def decoder_fault(content):
+    """Returns whether the instructions of a decoder stream are more than Stream Cancellations (RFC
+    9204, section 4.4). One that is cut is judged by the bytes that came."""
+    at = 0
+    while at < len(content):
+        if content[at] >> 6 != 1:
+            return True
+        value, shift, more = content[at] & 63, 0, content[at] & 63 == 63
+        at += 1
+        while more and at < len(content):
+            value += (content[at] & 127) << shift
+            more, shift, at = content[at] >= 128, shift + 7, at + 1
+            if value >= 1 << 62:
+                return True
+    return False
 
 
 @dataclass
@@ -52,13 +117,7 @@ class Model:
     def number(self, at):
         """Returns the number at an offset and the offset after it, or None if it is not whole (RFC
         9000, section 16)."""
-        content = self.content
-        if at >= len(content):
-            return None
-        size = 1 << (content[at] >> 6)
-        if at + size > len(content):
-            return None
-        return int.from_bytes(content[at : at + size], "big") % (1 << (8 * size - 2)), at + size
+        return number_in(self.content, at, len(self.content))
 
     def head(self):
         """Returns the type and the length of the next frame and the offset after them, or None."""
@@ -81,6 +140,10 @@ class Model:
         self.events.append(("opened", self.at, self.purpose))
         if self.purpose == "control":
             return self.control()
+        if self.purpose == "encoder" and self.content[self.at :].strip(b"\x20"):
+            return self.fault(0x201)
+        if self.purpose == "decoder" and decoder_fault(self.content[self.at :]):
+            return self.fault(0x202)
         if self.fin and self.purpose in CRITICAL:
             return self.fault(0x104)
         return self.end() if self.fin else None
@@ -196,7 +259,12 @@ class Model:
                 if code:
                     return self.fault(code)
             has_settings = True
-            if is_whole:
+            if kind == SETTINGS:
+                values = settings_in(self.content, start, start + size)
+                if not isinstance(values, tuple):
+                    return self.fault(values)
+                self.events.append(("settings", start, start + size, values))
+            elif is_whole:
                 self.events.append(("frame", NAMES[kind], start, start + size))
             self.at = min(start + size, len(self.content))
             if self.at < start + size:

@@ -1,7 +1,7 @@
 """Wrong inputs, and inputs that look wrong, by the rule that each violates or keeps.
 
 The codes are those of RFC 9114 and of draft-ietf-webtrans-http3-02; a section is one of RFC 9114.
-What SETTINGS, field sections and instructions of QPACK contain is not judged here.
+What field sections contain is not judged here. The own settings allow no dynamic table of QPACK.
 """
 
 from dataclasses import dataclass
@@ -9,7 +9,8 @@ from dataclasses import dataclass
 from replay import ends_connection
 
 STREAM_CREATION, CLOSED_CRITICAL, UNEXPECTED, FRAME, LOAD = 0x103, 0x104, 0x105, 0x106, 0x107
-ID, MISSING_SETTINGS, INCOMPLETE, MESSAGE = 0x108, 0x10A, 0x10D, 0x10E
+ID, WRONG_SETTINGS, MISSING_SETTINGS, INCOMPLETE, MESSAGE = 0x108, 0x109, 0x10A, 0x10D, 0x10E
+ENCODER, DECODER = 0x201, 0x202
 SESSION_GONE, REJECTED = 0x170D7B68, 0x3994BD84
 # Errors of a stream; all others end the connection.
 OF_STREAM = {INCOMPLETE, MESSAGE, SESSION_GONE, REJECTED}
@@ -84,6 +85,10 @@ def control(*frames):
 
 def request(*frames):
     return HEADERS + b"".join(frames)
+
+
+def settings(*pairs):
+    return b"\0" + frame(0x04, b"".join(number(name) + number(value) for name, value in pairs))
 
 
 HTTP2 = (0x02, 0x06, 0x08, 0x09)
@@ -168,6 +173,7 @@ ROWS = [
         UNEXPECTED,
         after="abandon 2\nbytes 2 0400",
     ),
+    Row("a reset before HEADERS (4.1.1)", REQUEST, frame(0x21), INCOMPLETE, after="reset 0"),
     Row("a reset request", REQUEST, HEADERS, after="reset 0\nbytes 0 0400"),
     Row(
         "a session that is told after an error of the connection",
@@ -220,6 +226,26 @@ ROWS = [
         Row(f"a frame of type {kind} on it (7.2.8)", CONTROL, control(frame(kind)), UNEXPECTED)
         for kind in HTTP2
     ),
+    # Settings (7.2.4).
+    *(
+        Row(f"the setting {name} of HTTP/2 (7.2.4.1)", CONTROL, settings((name, 0)), WRONG_SETTINGS)
+        for name in (0, 2, 3, 4, 5)
+    ),
+    Row("a setting that is repeated", CONTROL, settings((8, 1), (8, 1)), WRONG_SETTINGS),
+    Row("one that is unknown twice", CONTROL, settings((0x21, 1), (0x21, 1))),
+    Row("a setting without its value (7.1)", CONTROL, b"\0" + frame(4, b"\x08"), FRAME),
+    Row("half of a value (7.1)", CONTROL, b"\0" + frame(4, b"\x08\x40"), FRAME),
+    Row("datagrams neither on nor off", CONTROL, settings((0x33, 2)), WRONG_SETTINGS),
+    Row("extended CONNECT neither on nor off", CONTROL, settings((8, 2)), WRONG_SETTINGS),
+    Row("the largest limit of a section", CONTROL, settings((6, 2**62 - 1))),
+    # QPACK's streams, without a table (RFC 9204, sections 3.2.3, 4.3 and 4.4).
+    Row("an insertion into a table of no capacity", OTHER, b"\x02\x37aaaa", ENCODER),
+    Row("a capacity above 0", OTHER, b"\x02\x3f\xe1\x1f", ENCODER),
+    Row("a duplicate", OTHER, b"\x02\0", ENCODER),
+    Row("a capacity of 0, twice", OTHER, b"\x02\x20\x20"),
+    Row("an acknowledgment of no section", OTHER, b"\x03\x80", DECODER),
+    Row("an increment by no insertions", OTHER, b"\x03\0", DECODER),
+    Row("cancellations, one of a large stream", OTHER, b"\x03\x4c\x7f\x85\x01"),
     # Requests and responses (4.1, 7.2).
     Row("DATA before HEADERS (4.1)", REQUEST, frame(0, b"x"), UNEXPECTED),
     Row("DATA after trailers (4.1)", REQUEST, request(HEADERS, frame(0)), UNEXPECTED),

@@ -9,7 +9,7 @@ the other streams may be cut short, and nothing may follow.
 import random
 from dataclasses import dataclass
 
-from connection_model import CRITICAL, SESSION_FAULTS, Side, events_of
+from connection_model import CRITICAL, Side, events_of
 from connection_rows import frame, number
 from recorded_connections import number_at
 from replay import around_error, by_streams, ends_connection, events_in, is_start, replayed
@@ -29,6 +29,7 @@ SECTIONS = {
 SETTINGS = [(0x01, 0), (0x06, 99), (0x07, 0), (0x08, 1), (0x33, 1), (0x2B603742, 1), (0x21, 7)]
 # A session of streams that this end opened, of which nothing more is said.
 OWN_SESSION = 12
+WRONG_SETTINGS = [(0x02, 0), (0x00, 1), (0x08, 2), (0x33, 3), (0x06, 1), (0xC671706A, 9)]
 STATES = ["open", "open", "open", "over", "refused", None, "impossible"]
 
 
@@ -97,6 +98,10 @@ class Maker:
     def control(self):
         rng = self.rng
         pairs = rng.sample(SETTINGS, rng.randrange(len(SETTINGS)))
+        if (0x2B603742, 1) in pairs and (0x33, 1) not in pairs:
+            pairs.append((0x33, 1))
+        if self.has_errors and rng.random() < 0.1:
+            pairs.append(rng.choice(WRONG_SETTINGS))
         settings = b"".join(self.number(name) + self.number(value) for name, value in pairs)
         frames, falling = [self.frame(0x04, settings)], 400
         for _ in range(rng.randrange(5)):
@@ -122,13 +127,22 @@ class Maker:
         elif kind == 0x54:
             rest = self.number(self.session()) + self.bytes(30)
         elif kind == 2:
-            rest = b"\x20" * rng.randrange(3)
+            rest = b"\x20" * rng.randrange(3) + self.wrong_instruction()
         elif kind == 3:
             rest = bytes(0x40 | rng.randrange(60) for _ in range(rng.randrange(3)))
+            rest += rng.choice((b"", b"\x7f\x05", b"\x7f\x85\x01")) + self.wrong_instruction()
         else:
             rest = self.bytes(12)
         content = self.number(kind) + rest
         return content[: rng.randrange(3)] if self.has_errors and rng.random() < 0.1 else content
+
+    def wrong_instruction(self):
+        """Returns an instruction of QPACK that may not come, sometimes."""
+        if self.has_errors and self.rng.random() < 0.1:
+            return self.rng.choice(
+                (b"\x37aaaa", b"\x3f\xe1\x1f", b"\x80", b"\x00", b"\x7f" + b"\xff" * 9)
+            )
+        return b""
 
     def session(self):
         if self.has_errors and self.rng.random() < 0.1:
@@ -168,6 +182,8 @@ class Stream:
         elif self.fin:
             lines.append(f"end {self.stream}\n")
         if self.left_by:
+            # (a stream is there from its first line on)
+            lines = lines or [f"bytes {self.stream}\n"]
             lines.append(f"{self.left_by} {self.stream}\n")
         return lines
 
@@ -220,9 +236,11 @@ class Script:
             stream.left_by = "reset"
         if stream.left_by == "reset" or stream.left_by and not is_critical_stream:
             stream.events = [event for event in events if event[0] != "left"]
-        if stream.left_by == "reset" and is_critical_stream:
-            if not any(event[0] == "fault" for event in events):
+        if stream.left_by == "reset" and not any(event[0] == "fault" for event in events):
+            if is_critical_stream:
                 stream.events.append(("fault", 0x104, "connection"))
+            elif self.side.is_server and has_no_headers(stream):
+                stream.events.append(("fault", 0x10D, "stream"))
 
     # ---- its three ways
 
@@ -290,7 +308,7 @@ class Script:
                     return self.unlike(stream, shown)
             return None
         until, after = around_error(found)
-        if not until or not ends_connection(until[-1][1]) or not all(map(is_of_join, after)):
+        if not until or not ends_connection(until[-1][1]) or after:
             return f"no error that ends the connection, or something after it: {until[-1:] + after}"
         second = [("fault", 0x103, "connection")]
         for index, events in by_streams(until).items():
@@ -314,10 +332,10 @@ def joined(found):
     return [one for one in found if one[1][0] != "left"]
 
 
-def is_of_join(one):
-    """Returns whether an event is one that `join` gives, also after an error that ended the
-    connection. (None should come then: see KNOWN in tools/connections.)"""
-    return one[1][0] == "fault" and one[1][1] in SESSION_FAULTS.values()
+def has_no_headers(stream):
+    """Returns whether a stream is a request of which no HEADERS came (RFC 9114, 4.1.1)."""
+    names = {event[0] for event in stream.events}
+    return stream.stream % 4 == 0 and not stream.opened and not names & {"frame", "skipped"}
 
 
 class Batch:

@@ -7,13 +7,14 @@ A folder of recordings is described in tools/recordings.d/README.md.
 import json
 from dataclasses import dataclass, field
 
+from connection_model import decoder_fault, values_of
 from replay import by_streams, ends_connection
 
 # The frames that are given whole, by the name of the index.
-WHOLE = {"HEADERS", "SETTINGS", "GOAWAY", "MAX_PUSH_ID"}
+WHOLE = {"HEADERS", "GOAWAY", "MAX_PUSH_ID"}
 # What is no frame.
 OTHERS = {"capsules", "left", "stream", "WEBTRANSPORT", "application bytes"}
-ID_ERROR = 0x108
+ID_ERROR, ENCODER_STREAM_ERROR, DECODER_STREAM_ERROR = 0x108, 0x201, 0x202
 SESSION, REQUEST = "session", "request"
 
 
@@ -108,6 +109,16 @@ class Wanted:
             word = name.split()[-1] if name.startswith("QPACK") else name
             word = "ignored" if " 0x" in name else word
             self.events.append(("opened", self.at, word))
+            self.instructions(word)
+
+    def instructions(self, word):
+        """Adds the error of instructions for a table, since none is allowed here. (What they are
+        is not in the index.)"""
+        content = self.content[self.at :]
+        if word == "encoder" and content.strip(b"\x20"):
+            self.events.append(("fault", ENCODER_STREAM_ERROR, "connection"))
+        elif word == "decoder" and decoder_fault(content):
+            self.events.append(("fault", DECODER_STREAM_ERROR, "connection"))
 
     def with_session(self, session):
         self.session, self.at = number_at(self.content, self.at)
@@ -140,6 +151,10 @@ class Wanted:
                     self.events.append(("fault", ID_ERROR, "connection"))
                     return
                 self.frame(name, size)
+                if name == "SETTINGS":
+                    pairs = [(int(number, 16), value) for number, value in thing["is"]]
+                    place = (self.at - size, self.at)
+                    self.events.append(("settings", *place, values_of(pairs)))
 
     def frame(self, name, size):
         _, length_at = number_at(self.content, self.at)

@@ -57,6 +57,9 @@ def events_in(lines):
             found.append((stream, ("data", first, last)))
         elif name == "frame":
             found.append((stream, (name, words[2], at + int(words[0]), at + int(words[1]))))
+        elif name == "settings":
+            values = tuple(words[2:])
+            found.append((stream, (name, at + int(words[0]), at + int(words[1]), values)))
         elif name == "opened":
             found.append((stream, (name, at + int(words[0]), *words[1:])))
         elif name == "skipped":

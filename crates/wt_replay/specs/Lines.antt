@@ -1,16 +1,15 @@
 -- The lines of events.
-use Rattle.std.specs.Prelude.{ℕ, List, [], ◌++◌, codes}
+use Rattle.std.specs.Prelude.{ℕ, Bool, true, false, List, [], ◌++◌, Option, Some, None, codes}
 use Rattle.std.specs.Fmt.{decimal}
 use Rattle.wtp_core.specs.declared.error.scope.ErrorScope.{ErrorScope}
 use Rattle.wtp_core.specs.declared.error.scope.ErrorScope.TheVariants as scope
-use Rattle.wtp_frames.specs.declared.fault.Fault.{Fault}
 use Rattle.wtp_frames.specs.declared.frame_type.FrameType.{FrameType}
 use Rattle.wtp_frames.specs.declared.frame_type.FrameType.TheVariants as kind
-use Rattle.wtp_frames.specs.declared.reader.Step.{Step}
-use Rattle.wtp_frames.specs.declared.reader.Step.TheVariants as step
-use Rattle.wtp_frames.specs.Fault.{code_of, scope_of}
 use Rattle.wtp_connection.specs.declared.connection.Found.{Found}
 use Rattle.wtp_connection.specs.declared.connection.Found.TheVariants as found
+use Rattle.wtp_connection.specs.declared.fault.Fault.{Fault}
+use Rattle.wtp_connection.specs.declared.settings.PeerSettings.{PeerSettings}
+use Rattle.wtp_connection.specs.Fault.{code_of, scope_of}
 use Rattle.wtp_connection.specs.declared.stream.Purpose.{Purpose}
 use Rattle.wtp_connection.specs.declared.stream.Purpose.TheVariants as purpose
 
@@ -56,15 +55,41 @@ abbrev pub skipped_line : ℕ → ℕ → ℕ → ℕ → List ℕ
 skipped_line id at size n = place id at ++ codes " skipped " ++ decimal n
     ++ codes " " ++ decimal size ++ codes "\n"
 
--- an item of a stream of frames: where its payload begins and ends, counted from the offset
-abbrev pub step_line : ℕ → ℕ → Step → List ℕ
-step_line id at (step.Frame kind start end) = place id at ++ codes " frame " ++ decimal start
+-- the payload of a frame, which begins and ends at these offsets
+abbrev pub frame_line : ℕ → ℕ → FrameType → ℕ → ℕ → List ℕ
+frame_line id at kind start end = place id at ++ codes " frame " ++ decimal start
     ++ codes " " ++ decimal end ++ codes " " ++ kind_name kind ++ codes "\n"
-step_line id at (step.Data start end) = place id at ++ codes " data " ++ decimal start
+
+-- bytes of DATA, or of an application
+abbrev pub data_line : ℕ → ℕ → ℕ → ℕ → List ℕ
+data_line id at start end = place id at ++ codes " data " ++ decimal start
     ++ codes " " ++ decimal end ++ codes "\n"
-step_line id at (step.TooLarge size n) = skipped_line id at size n
-step_line id at (step.More n) = []
-step_line id at (step.Fault fault) = fault_line id at fault
+
+abbrev pub flag_name : Bool → List ℕ
+flag_name true = codes "1"
+flag_name false = codes "0"
+
+abbrev pub limit_name : Option ℕ → List ℕ
+limit_name (Some size) = decimal size
+limit_name None = codes "none"
+
+abbrev pub limits_text : PeerSettings → List ℕ
+limits_text s = codes " " ++ decimal s.qpack_max_table_capacity
+    ++ codes " " ++ limit_name s.max_field_section_size
+    ++ codes " " ++ decimal s.qpack_blocked_streams
+
+abbrev pub flags_text : PeerSettings → List ℕ
+flags_text s = codes " " ++ flag_name s.enable_connect_protocol
+    ++ codes " " ++ flag_name s.h3_datagram ++ codes " " ++ flag_name s.enable_webtransport
+
+abbrev pub sessions_text : PeerSettings → List ℕ
+sessions_text s = codes " " ++ decimal s.webtransport_max_sessions
+    ++ codes " " ++ decimal s.wt_max_sessions ++ codes "\n"
+
+-- SETTINGS: where their payload is, and the values
+abbrev pub settings_line : ℕ → ℕ → PeerSettings → ℕ → ℕ → List ℕ
+settings_line id at s start end = place id at ++ codes " settings " ++ decimal start
+    ++ codes " " ++ decimal end ++ limits_text s ++ flags_text s ++ sessions_text s
 
 -- what a stream is for, after so many bytes, and its session
 abbrev pub opened_line : ℕ → ℕ → Purpose → ℕ → List ℕ
@@ -76,7 +101,12 @@ opened_line id at other n = place id at ++ codes " opened " ++ decimal n
 -- what was found at an offset of a stream
 abbrev pub found_line : ℕ → ℕ → Found → List ℕ
 found_line id at (found.Opened p n) = opened_line id at p n
-found_line id at (found.Step s) = step_line id at s
+found_line id at (found.Settings s start end) = settings_line id at s start end
+found_line id at (found.Frame kind start end) = frame_line id at kind start end
+found_line id at (found.Data start end) = data_line id at start end
+found_line id at (found.TooLarge size n) = skipped_line id at size n
+found_line id at (found.More n) = []
+found_line id at (found.Fault f) = fault_line id at f
 found_line id at found.End = place id at ++ codes " end\n"
 
 -- how many bytes of a stream are left over

@@ -1,15 +1,15 @@
 //! The lines of events.
 
 ghost use Rattle.std.specs.Prelude.{◌≡◌, ◌++◌, OnOk, string_bytes};
-ghost use Rattle.wt_replay.specs.Lines.{found_line, opened_line, step_line, skipped_line, fault_line, left_line, purpose_name as purpose_name_is, kind_name as kind_name_is, scope_name as scope_name_is};
+ghost use Rattle.wt_replay.specs.Lines.{found_line, opened_line, settings_line, limits_text, flags_text, sessions_text, frame_line, data_line, skipped_line, fault_line, left_line, flag_name as flag_name_is, purpose_name as purpose_name_is, kind_name as kind_name_is, scope_name as scope_name_is};
 
 use std::alloc::AllocError;
 use wtp_connection::connection::Found;
+use wtp_connection::fault::Fault;
+use wtp_connection::settings::PeerSettings;
 use wtp_connection::stream::Purpose;
 use wtp_core::error::ErrorScope;
-use wtp_frames::fault::Fault;
 use wtp_frames::frame_type::FrameType;
-use wtp_frames::reader::Step;
 
 /// Appends the line of what was found on a stream, at an offset in it to which the offsets of the
 /// event are relative. `More` has no line.
@@ -18,7 +18,12 @@ pub fn add_found(out: &mut String, id: u64, at: u64, found: Found) -> Result<(),
 {
     match found {
         Found::Opened(purpose, n) => add_opened(out, id, at, purpose, n),
-        Found::Step(step) => add_step(out, id, at, step),
+        Found::Settings(settings, start, end) => { add_settings(out, id, at, settings, start, end) }
+        Found::Frame(kind, start, end) => add_frame(out, id, at, kind, start, end),
+        Found::Data(start, end) => add_data(out, id, at, start, end),
+        Found::TooLarge(size, n) => add_skipped(out, id, at, size, n),
+        Found::More(_) => Ok(()),
+        Found::Fault(fault) => add_fault(out, id, at, fault),
         Found::End => writeln!(out, "{id} {at} end"),
     }
 }
@@ -41,20 +46,86 @@ fn add_opened(
     }
 }
 
-/// Appends the line of an item of a stream.
-fn add_step(out: &mut String, id: u64, at: u64, step: Step) -> Result<(), AllocError>
-    ensures { OnOk result (string_bytes out.new ≡ string_bytes out.old ++ step_line id at step) }
+/// Appends the line of SETTINGS: where their payload is, and their values, in the order of
+/// [`PeerSettings`].
+fn add_settings(
+    out: &mut String,
+    id: u64,
+    at: u64,
+    settings: PeerSettings,
+    start: usize,
+    end: usize,
+) -> Result<(), AllocError>
+    ensures { OnOk result (string_bytes out.new
+        ≡ string_bytes out.old ++ settings_line id at settings start end) }
 {
-    match step {
-        Step::Frame(kind, start, end) => {
-            let name = kind_name(kind);
-            writeln!(out, "{id} {at} frame {start} {end} {name}")
-        }
-        Step::Data(start, end) => writeln!(out, "{id} {at} data {start} {end}"),
-        Step::TooLarge(size, n) => add_skipped(out, id, at, size, n),
-        Step::More(_) => Ok(()),
-        Step::Fault(fault) => add_fault(out, id, at, fault),
+    write!(out, "{id} {at} settings {start} {end}")?;
+    add_limits(out, settings)?;
+    add_flags(out, settings)?;
+    add_sessions(out, settings)
+}
+
+/// Appends the limits of SETTINGS.
+fn add_limits(out: &mut String, settings: PeerSettings) -> Result<(), AllocError>
+    ensures { OnOk result (string_bytes out.new ≡ string_bytes out.old ++ limits_text settings) }
+{
+    let capacity = settings.qpack_max_table_capacity;
+    let blocked = settings.qpack_blocked_streams;
+    match settings.max_field_section_size {
+        Some(size) => write!(out, " {capacity} {size} {blocked}"),
+        None => write!(out, " {capacity} none {blocked}"),
     }
+}
+
+/// Appends what SETTINGS enable.
+fn add_flags(out: &mut String, settings: PeerSettings) -> Result<(), AllocError>
+    ensures { OnOk result (string_bytes out.new ≡ string_bytes out.old ++ flags_text settings) }
+{
+    let connect = flag_name(settings.enable_connect_protocol);
+    let datagram = flag_name(settings.h3_datagram);
+    let webtransport = flag_name(settings.enable_webtransport);
+    write!(out, " {connect} {datagram} {webtransport}")
+}
+
+/// Appends how many sessions SETTINGS allow, and ends the line.
+fn add_sessions(out: &mut String, settings: PeerSettings) -> Result<(), AllocError>
+    ensures { OnOk result (string_bytes out.new ≡ string_bytes out.old ++ sessions_text settings) }
+{
+    let sessions = settings.webtransport_max_sessions;
+    let later = settings.wt_max_sessions;
+    writeln!(out, " {sessions} {later}")
+}
+
+/// Returns the value of a setting that is on or off.
+fn flag_name(is_on: bool) -> &'static str
+    ensures { result.now ≡ flag_name_is is_on }
+{
+    if is_on { "1" } else { "0" }
+}
+
+/// Appends the line of a frame.
+fn add_frame(
+    out: &mut String,
+    id: u64,
+    at: u64,
+    kind: FrameType,
+    start: usize,
+    end: usize,
+) -> Result<(), AllocError>
+    ensures { OnOk result (string_bytes out.new
+        ≡ string_bytes out.old ++ frame_line id at kind start end) }
+{
+    let name = kind_name(kind);
+    write!(out, "{id} {at} frame {start} {end}")?;
+    writeln!(out, " {name}")
+}
+
+/// Appends the line of bytes of DATA or of an application.
+fn add_data(out: &mut String, id: u64, at: u64, start: usize, end: usize) -> Result<(), AllocError>
+    ensures { OnOk result (string_bytes out.new
+        ≡ string_bytes out.old ++ data_line id at start end) }
+{
+    writeln!(out, "{id} {at} data {start} {end}")
 }
 
 /// Appends the line of a field section of this size, which is skipped after `n` bytes.

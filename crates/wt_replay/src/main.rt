@@ -18,6 +18,7 @@
 //!
 //! - `opened N PURPOSE`: what the stream is for, after N bytes; a session with its ID.
 //! - `frame START END TYPE`: a frame that is given whole, with its payload.
+//! - `settings START END VALUE ..`: the same of SETTINGS, with the values that they define.
 //! - `data START END`: a piece of DATA, or bytes of an application.
 //! - `skipped N SIZE`: a field section of this size that is not given, after N bytes.
 //! - `fault CODE SCOPE`: an error, and what it ends.

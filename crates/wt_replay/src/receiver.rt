@@ -7,7 +7,6 @@ use wtp_connection::connection::{Connection, Found, Known};
 use wtp_connection::fields::Fields;
 use wtp_connection::stream::{Purpose, Stream};
 use wtp_frames::endpoint::Endpoint;
-use wtp_frames::reader::Step;
 
 /// A stream.
 #[derive(Drop)]
@@ -118,7 +117,7 @@ impl Receiver {
                     let known = self.known(session);
                     self.join(id, entry, known)?;
                 }
-                Found::Step(Step::More(_)) => break,
+                Found::More(_) => break,
                 _ => {}
             }
         }
@@ -167,11 +166,12 @@ impl Receiver {
 /// Returns how many of `len` bytes were consumed.
 fn consumed(found: Found, len: usize) -> usize {
     match found {
-        Found::Opened(_, n) => n,
-        Found::Step(Step::Frame(_, _, end)) => end,
-        Found::Step(Step::Data(_, end)) => end,
-        Found::Step(Step::TooLarge(_, n)) => n,
-        Found::Step(Step::More(n)) => n,
-        Found::Step(Step::Fault(_)) | Found::End => len,
+        Found::Opened(_, n)
+        | Found::Settings(_, _, n)
+        | Found::Frame(_, _, n)
+        | Found::Data(_, n)
+        | Found::TooLarge(_, n)
+        | Found::More(n) => n,
+        Found::Fault(_) | Found::End => len,
     }
 }
