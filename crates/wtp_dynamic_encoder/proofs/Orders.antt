@@ -1,7 +1,8 @@
 -- The orders of an encoder, one after the other.
-use Rattle.std.proofs.Common.{◌≡◌, ℕ, ◌+◌, ◌-◌, ◌*◌, ◌^◌, ◌<◌, ◌≤◌, nat_lt, nat_le, inl, inr, Bool, true, false, ◌&&◌, List, [], ◌∷◌, ◌++◌, length, refl, sym, ◌∙◌, ap, subst, arith, append-nil, append_assoc, Option, Some, None, Result, Ok, Err}
+use Rattle.std.proofs.Common.{◌≡◌, ℕ, ◌+◌, ◌-◌, ◌*◌, ◌^◌, ◌<◌, ◌≤◌, nat_lt, nat_le, inl, inr, Bool, true, false, ◌&&◌, List, [], ◌∷◌, ◌++◌, length, refl, sym, ◌∙◌, ap, subst, arith, append-nil, append_assoc, Option, Some, None, Result, Ok, Err, zero, suc, ◌/◌}
 use Rattle.std.specs.List.{flat_map}
-use Rattle.std.proofs.lemmas.Bool.{lt-leb, le-ltb, leb-true, ltb-true}
+use Rattle.std.proofs.lemmas.Bool.{lt-leb, le-ltb, leb-true, ltb-true, cases_lt, lt-ltb}
+use Rattle.wtp_qpack.specs.Integer.{shortest_groups, shortest_int}
 use Rattle.std.proofs.lemmas.List.{flat_map_more}
 use Rattle.wtp_qpack.specs.Field.{Field, IsOctets}
 use Rattle.wtp_qpack.specs.StaticTable.{entry_at, first_entry}
@@ -15,7 +16,7 @@ use Rattle.wtp_dynamic.specs.Writing.{Order, Sets, InsertsNamed, InsertsLiteral,
 use Rattle.wtp_dynamic.specs.EncoderState.{Encoder, Owes, all_above, may_insert, may_resize}
 use Rattle.wtp_dynamic.proofs.Owed.{owes_entry, owes_capacity}
 use Rattle.wtp_dynamic_encoder.specs.Acknowledging.{Ledger}
-use Rattle.wtp_dynamic_encoder.specs.Encoding.{encoder_of, order_by, order_for, can_insert, InsertsIf, Ordered}
+use Rattle.wtp_dynamic_encoder.specs.Encoding.{encoder_of, order_by, order_for, can_insert, InsertsIf, ResizesIf, Ordered}
 
 both : (a b : Bool) → (a && b) ≡ true → (a ≡ true) × (b ≡ true)
 both true b e = (refl, e)
@@ -121,6 +122,36 @@ pub owes_by : {E : Type 0} (entry : Field) (l : Ledger) (u v : Table) (before af
 owes_by entry l u v before after (Ok true) (test, is, more) owes = owes_after u v l entry test is owes
 owes_by entry l u v before after (Ok false) (test, is, more) owes = owes_same u v l is owes
 owes_by entry l u v before after (Err e) (is, more) owes = owes_same u v l is owes
+
+-- ---- a capacity
+
+groups_few : (k m : ℕ) → length (shortest_groups k m) ≤ suc k
+unfolding shortest_groups
+groups_few zero m = omega arith
+groups_few (suc k) m = elim (cases_lt m 128) [
+  | inl few ↦ rw (lt-ltb m 128 few) (omega arith)
+  | inr many ↦ rw (le-ltb m 128 many) (omega (arith, groups_few k (m / 128)))
+]
+
+int_few : (n flags v : ℕ) → length (shortest_int n flags v) ≤ 11
+unfolding shortest_int
+int_few n flags v = elim (cases_lt v (2 ^ n - 1)) [
+  | inl few ↦ rw (lt-ltb v (2 ^ n - 1) few) (omega arith)
+  | inr many ↦ rw (le-ltb v (2 ^ n - 1) many) (omega (arith, groups_few 9 (v - (2 ^ n - 1))))
+]
+
+sets : (capacity : ℕ) (u : Table) → capacity ≤ u.limit → set_step capacity u ≡ Ok (resized capacity u)
+sets capacity u within = rw (le-ltb u.limit capacity within) refl
+
+pub resized_by : {E : Type 0} (capacity : ℕ) (l : Ledger) (u v : Table) (before after : List ℕ) (r : Result Bool E) → capacity < 2 ^ 64 → ResizesIf capacity l u v before after r → Ordered u v before after
+resized_by capacity l u v before after (Ok true) small (test, is, more) =
+    let left : Table = evicted capacity u in
+    let a = both (nat_le capacity u.limit && nat_le left.dropped l.0) (all_above left.dropped l.1) test in
+    let b = both (nat_le capacity u.limit) (nat_le left.dropped l.0) a.0 in
+    let short : length (shortest_int 5 1 capacity) ≤ most_bytes u.limit = omega (arith, int_few 5 1 capacity) in
+    ordered_push u u v before before after (Sets capacity) (ordered_none u u before before refl refl) small short (sets capacity u (leb-true capacity u.limit b.0) ∙ ap done (sym is)) more
+resized_by capacity l u v before after (Ok false) small (test, is, more) = ordered_none u v before after is more
+resized_by capacity l u v before after (Err e) small (is, more) = ordered_none u v before after is more
 
 pub ruleset one_step = (ordered_none, owes_same, owes_resized)
 

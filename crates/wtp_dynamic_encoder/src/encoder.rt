@@ -5,11 +5,11 @@ ghost use Rattle.wtp_dynamic.specs.Table.{empty_table, insert_count};
 ghost use Rattle.wtp_dynamic.specs.InsertCount.{most_entries};
 ghost use Rattle.wtp_dynamic.specs.EncoderState.{Owes, FewWait, may_block};
 ghost use Rattle.wtp_dynamic_encoder.specs.Acknowledging.{most_bytes};
-ghost use Rattle.wtp_dynamic_encoder.specs.Encoding.{Runs, State, encoder_of, field_of, InsertsIf, ResizesIf, prefix_for, sent_at, opened, Encodes, PieceRead};
+ghost use Rattle.wtp_dynamic_encoder.specs.Encoding.{Runs, State, encoder_of, field_of, InsertsIf, ResizesIf, Ordered, prefix_for, sent_at, opened, Encodes, PieceRead};
 
 use crate::decoder_stream::DecoderStream;
 use crate::insertion;
-use crate::section::{Lines, Proposal, write_lines};
+use crate::section::{Lines, Proposal, are_octets, write_lines};
 use std::alloc::{AllocError, Global};
 use std::marker::Model;
 use wtp_dynamic::error::DecoderStreamError;
@@ -164,6 +164,8 @@ impl QpackEncoder {
     ) -> Result<bool, AllocError>
         ensures table { ResizesIf capacity self.old.ledger self.old.table self.new.table
             encoder_stream.old.items encoder_stream.new.items result }
+        ensures orders { Ordered self.old.table self.new.table encoder_stream.old.items
+            encoder_stream.new.items }
         ensures same { self.new ≡ record self.old { table = self.new.table } }
     {
         insertion::set_capacity(
@@ -189,8 +191,12 @@ impl QpackEncoder {
     ) -> Result<bool, AllocError>
         ensures table { InsertsIf (name.now, value.now) self.old.ledger self.old.table
             self.new.table encoder_stream.old.items encoder_stream.new.items result }
+        ensures orders { Ordered self.old.table self.new.table encoder_stream.old.items
+            encoder_stream.new.items }
         ensures same { self.new ≡ record self.old { table = self.new.table } }
     {
+        are_octets(name);
+        are_octets(value);
         insertion::insert_entry(
             self.alloc,
             &mut self.table,
