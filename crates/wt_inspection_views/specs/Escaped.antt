@@ -18,6 +18,10 @@ abbrev pub escaped_byte : ℕ → List ℕ
 escaped_byte b =
     if is_plain_byte b then b ∷ [] else codes "\\x" ++ digit_of (b / 16) ∷ digit_of (b % 16) ∷ []
 
+-- the two hexadecimal digits of a byte
+abbrev pub hex_byte : ℕ → List ℕ
+hex_byte b = digit_of (b / 16) ∷ digit_of (b % 16) ∷ []
+
 -- no byte is a backslash
 abbrev pub HasNoBackslash : List ℕ → Type 0
 HasNoBackslash bytes = list_any (λ b. nat_eq b 92) bytes ≡ false

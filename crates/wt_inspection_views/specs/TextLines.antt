@@ -1,6 +1,7 @@
--- The number of lines in the text of an inspection.
+-- The number of lines in the text of an inspection, and what the lines of a field and of a reason
+-- have.
 use Rattle.std.specs.Prelude.{◌≡◌, ℕ, ◌+◌, ◌-◌, ◌/◌, ◌≤◌, Bool, if◌then◌else◌, List, [], length}
-use Rattle.std.specs.Prelude.{take, drop, nat_le, sum_by, Option, Some, None}
+use Rattle.std.specs.Prelude.{◌++◌, take, drop, nat_le, sum_by, Option, Some, None, codes, string_bytes}
 use Rattle.wtp_wire.specs.declared.frame.kind.FrameKind.TheVariants as kind-is
 use Rattle.wt_inspection_model.specs.declared.item.Content.{Content}
 use Rattle.wt_inspection_model.specs.declared.item.Content.TheVariants as content-is
@@ -13,7 +14,9 @@ use Rattle.wt_inspection_model.specs.declared.item.Parts.TheVariants as parts-is
 use Rattle.wt_inspection_model.specs.declared.item.capsule.CapsuleItem.{CapsuleItem}
 use Rattle.wt_inspection_model.specs.declared.item.capsule.CloseReason.{CloseReason}
 use Rattle.wt_inspection_model.specs.declared.item.fields.FieldSection.{FieldSection}
+use Rattle.wt_inspection_model.specs.declared.item.fields.Line.{Line}
 use Rattle.wt_inspection_model.specs.declared.item.fields.SectionFault.{SectionFault}
+use Rattle.wt_inspection_views.specs.Escaped.{IsShown}
 use Rattle.wt_inspection_model.specs.declared.item.names.FrameName.{FrameName}
 use Rattle.wt_inspection_model.specs.declared.item.names.FrameName.TheVariants as name-is
 
@@ -91,3 +94,16 @@ abbrev pub inspection_lines : Bool → List ℕ → Inspection → ℕ
 inspection_lines payload bytes inspection =
     sum_by (item_lines payload bytes) inspection.items.items
     + length inspection.warnings.items + 1
+
+-- the line of a field has the displayed forms of its name and its value
+abbrev pub IsFieldLine : Line → List ℕ → Type 0
+IsFieldLine field words =
+    (name : List ℕ) × (value : List ℕ)
+    × IsShown field.name.items name × IsShown field.value.items value
+    × (words ≡ codes "        " ++ name ++ codes " = " ++ value)
+
+-- the line of the reason of a close has the displayed form of its text
+abbrev pub IsReasonLine : CloseReason → List ℕ → Type 0
+IsReasonLine close words =
+    (reason : List ℕ) × IsShown (string_bytes close.reason) reason
+    × (words ≡ codes "            reason = " ++ reason)

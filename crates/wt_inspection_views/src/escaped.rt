@@ -3,7 +3,7 @@ ghost use Rattle.std.specs.Prelude.{◌≡◌, ◌<◌, ◌++◌, IfOk, IsTrue, 
 ghost use Rattle.std.specs.Char.{is_control};
 ghost use Rattle.std.specs.Str.{NoCharPasses};
 ghost use Rattle.wt_inspection_views.specs.Escaped.{AddsShown, HasNoBackslash, digit_of};
-ghost use Rattle.wt_inspection_views.specs.Escaped.{escaped_byte, is_plain_byte};
+ghost use Rattle.wt_inspection_views.specs.Escaped.{escaped_byte, hex_byte, is_plain_byte};
 
 use std::alloc::AllocError;
 
@@ -65,7 +65,10 @@ fn is_printable(byte: u8) -> bool
 }
 
 /// Appends the two hexadecimal digits of a byte.
-pub(crate) fn add_hex_byte(words: &mut String, byte: u8) -> Result<(), AllocError> {
+pub(crate) fn add_hex_byte(words: &mut String, byte: u8) -> Result<(), AllocError>
+    ensures { IfOk result
+        (λ _. string_bytes words.new ≡ string_bytes words.old ++ hex_byte byte) }
+{
     words.push(hex_digit(byte / 16))?;
     words.push(hex_digit(byte % 16))
 }

@@ -1,8 +1,10 @@
 //! Lines of JSON, one object per line.
 ghost use Rattle.std.specs.Prelude.{◌≡◌, ℕ, Bool, true, false, List, [], ◌∷◌, ◌++◌, IfOk, IfSome};
-ghost use Rattle.std.specs.Prelude.{OnErr, OnOk, IsTrue};
+ghost use Rattle.std.specs.List.{flat_map};
+ghost use Rattle.std.specs.Prelude.{OnErr, OnOk, IsTrue, string_bytes};
 ghost use Rattle.std.specs.Str.{NoCharPasses};
 ghost use Rattle.json.specs.Token.{Token};
+ghost use Rattle.wt_inspection_views.specs.Escaped.{hex_byte};
 ghost use Rattle.wt_inspection_views.specs.JsonLines.{AreJsonLines, is_late_control};
 
 use crate::escaped::add_hex_byte;
@@ -305,7 +307,9 @@ fn has_late_control(text: &str) -> bool
 }
 
 /// Returns the hexadecimal digits of `bytes`.
-fn digits_of(alloc: Global, bytes: &[u8]) -> Result<String, AllocError> {
+fn digits_of(alloc: Global, bytes: &[u8]) -> Result<String, AllocError>
+    ensures { IfOk result (λ digits. string_bytes digits ≡ flat_map hex_byte bytes.now) }
+{
     let mut digits = String::new(alloc);
     for byte in bytes {
         add_hex_byte(&mut digits, *byte)?;

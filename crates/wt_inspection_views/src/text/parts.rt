@@ -1,8 +1,11 @@
 //! The indented lines below an item.
-ghost use Rattle.std.specs.Prelude.{length};
+ghost use Rattle.std.specs.List.{flat_map};
+ghost use Rattle.std.specs.Prelude.{◌≡◌, ◌++◌, ◌∷◌, IfOk, length, string_bytes};
+ghost use Rattle.wt_inspection_views.specs.Escaped.{hex_byte};
 ghost use Rattle.wt_inspection_views.specs.Lines.{Gains};
 ghost use Rattle.wt_inspection_views.specs.TextLines.{capsule_lines, close_lines, field_lines};
 ghost use Rattle.wt_inspection_views.specs.TextLines.{hex_lines, stop_lines};
+ghost use Rattle.wt_inspection_views.specs.TextLines.{IsFieldLine, IsReasonLine};
 
 use super::lines::Lines;
 use crate::escaped::{add_escaped, add_hex_byte};
@@ -59,8 +62,10 @@ fn add_fault(text: &mut Lines, fault: SectionFault, insert_count: Option<u64>)
     }
 }
 
-/// Returns the line of a field.
-fn words_of_field(alloc: Global, field: &Line) -> Result<String, AllocError> {
+/// Returns the line of a field: the displayed forms of its name and of its value.
+fn words_of_field(alloc: Global, field: &Line) -> Result<String, AllocError>
+    ensures { IfOk result (λ words. IsFieldLine field.now (string_bytes words)) }
+{
     let mut words = String::from_str(alloc, "        ")?;
     add_escaped(&mut words, field.name.as_slice())?;
     words.push_str(" = ")?;
@@ -160,8 +165,10 @@ fn add_reason(text: &mut Lines, close: &CloseReason)
     text.add_formatted(words_of_reason(text.alloc, close));
 }
 
-/// Returns the line of the reason for closing a session.
-fn words_of_reason(alloc: Global, close: &CloseReason) -> Result<String, AllocError> {
+/// Returns the line of the reason for closing a session: its displayed form.
+fn words_of_reason(alloc: Global, close: &CloseReason) -> Result<String, AllocError>
+    ensures { IfOk result (λ words. IsReasonLine close.now (string_bytes words)) }
+{
     let mut words = String::from_str(alloc, "            reason = ")?;
     add_escaped(&mut words, close.reason.as_bytes())?;
     Ok(words)
@@ -210,7 +217,10 @@ fn hex_line(alloc: Global, row: &[u8]) -> Result<String, AllocError> {
 }
 
 /// Appends the hexadecimal digits of `bytes`, with a space before each byte.
-pub(crate) fn add_digits(words: &mut String, bytes: &[u8]) -> Result<(), AllocError> {
+pub(crate) fn add_digits(words: &mut String, bytes: &[u8]) -> Result<(), AllocError>
+    ensures { IfOk result (λ _. string_bytes words.new
+        ≡ string_bytes words.old ++ flat_map (λ byte. 32 ∷ hex_byte byte) bytes.now) }
+{
     for byte in bytes {
         words.push(' ')?;
         add_hex_byte(words, *byte)?;
