@@ -5,7 +5,11 @@
 #[cfg(test)]
 mod appendix;
 #[cfg(test)]
+mod decoders;
+#[cfg(test)]
 mod encoder_streams;
+#[cfg(test)]
+mod encoders;
 #[cfg(test)]
 mod sections;
 #[cfg(test)]
