@@ -1,4 +1,6 @@
 //! A client for WebTransport sessions.
+ghost use Rattle.std.specs.Prelude.{◌≡◌, ◌/◌, IfOk};
+ghost use Rattle.wtransport_proto.specs.Datagram.{datagram_wire};
 
 use crate::server::{TURNS, send_headers};
 use anyhow::{Result, bail};
@@ -67,7 +69,9 @@ fn write_data<W: BytesWriter>(data: &[u8], out: &mut W) -> Result<()> {
 }
 
 /// Returns a datagram of a session with this payload.
-pub fn datagram(alloc: Global, session: SessionId, payload: &[u8]) -> Result<Vec<u8>> {
+pub fn datagram(alloc: Global, session: SessionId, payload: &[u8]) -> Result<Vec<u8>>
+    ensures { IfOk result (λ v. v.items ≡ datagram_wire (session / 4, payload.now)) }
+{
     let datagram = Datagram::new(QStreamId::from_session_id(session), payload);
     let mut buffer = [0; 1200];
     let size = datagram.write(&mut buffer)?;

@@ -1,7 +1,10 @@
 //! What an endpoint closes after an error, and with which error code.
+ghost use Rattle.std.specs.Prelude.{◌≡◌, ◌≢◌};
+ghost use Rattle.wtransport_proto.specs.ErrorCodes.{code_number};
+ghost use Rattle.wt_endpoint.specs.Closing.{closing_after, closing_for};
 
 use wtransport_proto::error::{ErrorCode, ErrorScope};
-use wtransport_proto::stream;
+use wtransport_proto::stream::IoReadError;
 use wtransport_proto::varint::VarInt;
 
 /// What an endpoint closes.
@@ -16,20 +19,29 @@ pub enum Closing {
 }
 
 /// Returns what to close after an error in the frames of a stream.
-pub fn after_fault(fault: &stream::IoReadError) -> Closing {
+pub fn after_fault(fault: &IoReadError) -> Closing
+    ensures { result ≡ closing_after fault.now }
+{
     match fault {
-        stream::IoReadError::H3(code) => after_code(*code),
-        stream::IoReadError::IO(_) => Closing::Nothing,
+        IoReadError::H3(code) => after_code(*code),
+        IoReadError::IO(_) => Closing::Nothing,
     }
 }
 
 /// Returns what to close after an error in the header of a unidirectional stream. The peer may
 /// end a stream inside its header, and an unknown stream type closes only the stream (RFC 9114,
 /// section 6.2).
-pub fn after_header_fault(fault: &stream::IoReadError) -> Closing {
+pub fn after_header_fault(fault: &IoReadError) -> Closing
+    ensures cut { fault.now ≡ IoReadError.H3 ErrorCode.Frame → result ≡ Closing.Nothing }
+    ensures unknown { fault.now ≡ IoReadError.H3 ErrorCode.StreamCreation
+        → result ≡ Closing.Stream (code_number ErrorCode.StreamCreation) }
+    ensures other { fault.now ≢ IoReadError.H3 ErrorCode.Frame
+        → fault.now ≢ IoReadError.H3 ErrorCode.StreamCreation
+        → result ≡ closing_after fault.now }
+{
     match fault {
-        stream::IoReadError::H3(ErrorCode::Frame) => Closing::Nothing,
-        stream::IoReadError::H3(ErrorCode::StreamCreation) => {
+        IoReadError::H3(ErrorCode::Frame) => Closing::Nothing,
+        IoReadError::H3(ErrorCode::StreamCreation) => {
             Closing::Stream(ErrorCode::StreamCreation.to_code())
         }
         _ => after_fault(fault),
@@ -38,7 +50,9 @@ pub fn after_header_fault(fault: &stream::IoReadError) -> Closing {
 
 /// Returns what to close for an error code. Codes that may close either close the connection
 /// here.
-pub fn after_code(code: ErrorCode) -> Closing {
+pub fn after_code(code: ErrorCode) -> Closing
+    ensures { result ≡ closing_for code }
+{
     match code.scope() {
         ErrorScope::Stream => Closing::Stream(code.to_code()),
         ErrorScope::Connection | ErrorScope::Either => Closing::Connection(code.to_code()),

@@ -1,6 +1,8 @@
 //! Unidirectional streams that the peer opens, including its control stream.
 
-ghost use Rattle.wtransport_proto.specs.Streams.{CanRead};
+ghost use Rattle.std.specs.Prelude.{◌≡◌, ◌≢◌, IfNone, IfSome};
+ghost use Rattle.wtransport_proto.specs.Header.{header_kind};
+ghost use Rattle.wtransport_proto.specs.Streams.{CanRead, header_of};
 
 use crate::server::TURNS;
 use anyhow::{Result, bail};
@@ -36,7 +38,11 @@ pub struct Control {
 
 impl Control {
     /// Wraps an accepted stream. Returns `None` if it is not a control stream.
-    pub fn new(stream: StreamUniRemoteH3) -> Option<Self> {
+    pub fn new(stream: StreamUniRemoteH3) -> Option<Self>
+        ensures control { IfSome result (λ control. (control.stream ≡ stream)
+            × (header_kind (header_of stream) ≡ StreamKind.Control)) }
+        ensures other { IfNone result (header_kind (header_of stream) ≢ StreamKind.Control) }
+    {
         if stream.kind() != StreamKind::Control {
             return None;
         }

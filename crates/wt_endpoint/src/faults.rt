@@ -1,4 +1,7 @@
 //! Invalid inputs, and what an endpoint closes after each.
+ghost use Rattle.std.specs.Prelude.{◌≡◌};
+ghost use Rattle.wtransport_proto.specs.Datagram.{datagram_in};
+ghost use Rattle.wt_endpoint.specs.Closing.{datagram_closing};
 
 use crate::closing::{Closing, after_code, after_fault, after_header_fault};
 use std::alloc::Global;
@@ -39,7 +42,9 @@ fn print_one<R: Print>(rt: &R, fault: &str, closing: Closing) -> io::Result<()> 
 }
 
 /// Returns what is closed after a datagram.
-fn datagram(bytes: &[u8]) -> Closing {
+fn datagram(bytes: &[u8]) -> Closing
+    ensures { result ≡ datagram_closing (datagram_in bytes.now) }
+{
     match Datagram::read(bytes) {
         Ok(_) => Closing::Nothing,
         Err(code) => after_code(code),

@@ -1,4 +1,7 @@
 //! A server for WebTransport sessions.
+ghost use Rattle.std.specs.Prelude.{◌≡◌, ◌≢◌, IfOk, OnErr, codes};
+ghost use Rattle.wt_endpoint.specs.Datagrams.{Receives};
+ghost use Rattle.wt_endpoint.specs.Responses.{response_with};
 
 use anyhow::{Result, bail};
 use std::alloc::Global;
@@ -70,7 +73,10 @@ pub fn send_headers<W: AsyncWrite>(alloc: Global, headers: &Headers, sink: &mut 
 }
 
 /// Returns the response for a path.
-fn response_for(alloc: Global, path: &str) -> Result<SessionResponse> {
+fn response_for(alloc: Global, path: &str) -> Result<SessionResponse>
+    ensures chat { path.now ≡ codes "/chat" → IfOk result (λ r. r ≡ response_with 200) }
+    ensures other { path.now ≢ codes "/chat" → IfOk result (λ r. r ≡ response_with 404) }
+{
     let code = match path {
         "/chat" => StatusCode::OK,
         _ => StatusCode::NOT_FOUND,
@@ -95,8 +101,12 @@ pub fn respond<W: AsyncWrite>(
     Ok(Some(stream.into_session(request)))
 }
 
-/// Reads a datagram. Appends its payload to `out` and returns its session ID.
-pub fn read_datagram(bytes: &[u8], out: &mut Vec<u8>) -> Result<SessionId> {
+/// Reads a datagram. Appends its payload to `out` and returns its session ID. On an error `out` is
+/// unchanged.
+pub fn read_datagram(bytes: &[u8], out: &mut Vec<u8>) -> Result<SessionId>
+    ensures ok { IfOk result (λ id. Receives bytes.now id out.old.items out.new.items) }
+    ensures err { OnErr result (out.new.items ≡ out.old.items) }
+{
     let datagram = Datagram::read(bytes)?;
     out.extend_from_slice(datagram.payload())?;
     Ok(datagram.qstream_id().into_session_id())

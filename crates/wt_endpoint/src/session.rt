@@ -1,4 +1,8 @@
 //! The stream of a session after the response: capsules in DATA frames.
+ghost use Rattle.std.specs.Prelude.{◌≡◌, ◌↔◌, ◌⊎◌, [], IfOk, IsOk, IsTrue};
+ghost use Rattle.wtransport_proto.specs.CapsuleFront.{End};
+ghost use Rattle.wtransport_proto.specs.CapsuleStream.{next_held};
+ghost use Rattle.wt_endpoint.specs.Ends.{CanContinue, HasEnded};
 
 use crate::server::TURNS;
 use anyhow::{Result, bail};
@@ -47,7 +51,11 @@ fn poll_close<S: AsyncRead>(
 }
 
 /// Returns whether the stream has ended. It must not end inside a capsule.
-fn has_ended(driven: Driven, capsules: &CapsuleReading) -> Result<bool> {
+fn has_ended(driven: Driven, capsules: &CapsuleReading) -> Result<bool>
+    ensures value { IfOk result (λ ended. IsTrue ended ↔ HasEnded driven) }
+    ensures ok { IsOk result
+        ↔ (CanContinue driven ⊎ (HasEnded driven × (next_held capsules.now [] ≡ End))) }
+{
     match driven {
         Driven::Waiting | Driven::Spent => Ok(false),
         Driven::NoMemory => bail!("out of memory"),

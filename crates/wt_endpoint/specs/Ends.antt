@@ -1,0 +1,14 @@
+-- How a drive of a session's stream ends (RFC 9114, section 4.1).
+use Rattle.std.specs.Prelude.{◌≡◌, ◌⊎◌}
+use Rattle.wtransport_proto.specs.declared.bytes.polled.IoReadError.TheVariants.{ImmediateFin}
+use Rattle.wtransport_proto.specs.declared.stream.driving.Driven.{Driven}
+use Rattle.wtransport_proto.specs.declared.stream.driving.Driven.TheVariants.{Ended, Waiting, Spent}
+use Rattle.wtransport_proto.specs.declared.stream.polled.IoReadError.TheVariants.{IO}
+
+-- the stream ended where a frame may start
+abbrev pub HasEnded : Driven → Type 0
+HasEnded driven = driven ≡ Ended (IO ImmediateFin)
+
+-- more frames may follow
+abbrev pub CanContinue : Driven → Type 0
+CanContinue driven = (driven ≡ Waiting) ⊎ (driven ≡ Spent)
