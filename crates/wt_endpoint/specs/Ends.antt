@@ -1,4 +1,4 @@
--- How a drive of a session's stream ends (RFC 9114, section 4.1).
+-- How a drive of a session's stream ends (WebTransport over HTTP/3, "Session Termination").
 use Rattle.std.specs.Prelude.{◌≡◌, ◌⊎◌}
 use Rattle.wtransport_proto.specs.declared.bytes.polled.IoReadError.TheVariants.{ImmediateFin}
 use Rattle.wtransport_proto.specs.declared.stream.driving.Driven.{Driven}
