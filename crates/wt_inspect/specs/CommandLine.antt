@@ -12,7 +12,7 @@ use Rattle.wt_inspect.specs.declared.arguments.Output.TheVariants as output-is
 -- the name of a kind of recording
 abbrev pub kind_name : Recorded → List ℕ
 kind_name recorded-is.Bi = codes "bi"
-kind_name recorded-is.Response = codes "answer"
+kind_name recorded-is.Response = codes "response"
 kind_name recorded-is.Uni = codes "uni"
 kind_name recorded-is.Datagram = codes "datagram"
 kind_name recorded-is.Capsules = codes "capsules"
