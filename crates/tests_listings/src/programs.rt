@@ -6,7 +6,8 @@ use std::io::{self, Read, Write};
 use std::process::Abort;
 use wt_listings::run_program;
 
-/// A reader that returns these bytes, at most `step` per call, and then fails or ends.
+/// A reader that returns these bytes, at most `step` per call, then fails once if it is to, and
+/// then ends.
 #[derive(Drop)]
 struct Input<'a> {
     bytes: &'a [u8],
@@ -18,6 +19,7 @@ impl Read for Input<'_> {
     fn read(&mut self, buf: &mut [u8]) -> io::Result<usize> {
         let count = self.step.min(self.bytes.len()).min(buf.len());
         if count == 0 && self.fails {
+            self.fails = false;
             return Err(io::Error::from(io::ErrorKind::TimedOut));
         }
         let (front, rest) = self.bytes.split_at(count);
@@ -55,6 +57,30 @@ impl Write for Output {
     }
 
     fn flush(&mut self) -> io::Result<()> {
+        Ok(())
+    }
+}
+
+/// A writer that passes its bytes on when it is flushed, unless that fails.
+#[derive(Drop)]
+struct Held {
+    waiting: Vec<u8>,
+    passed: Vec<u8>,
+    fails: bool,
+}
+
+impl Write for Held {
+    fn write(&mut self, buf: &[u8]) -> io::Result<usize> {
+        self.waiting.extend_from_slice(buf)?;
+        Ok(buf.len())
+    }
+
+    fn flush(&mut self) -> io::Result<()> {
+        if self.fails {
+            return Err(io::Error::from(io::ErrorKind::BrokenPipe));
+        }
+        self.passed.extend_from_slice(self.waiting.as_slice())?;
+        self.waiting.clear();
         Ok(())
     }
 }
@@ -321,6 +347,34 @@ fn a_failing_read_ends_the_run(rt: HostRuntime) {
     };
     let wanted = (3, "", "wt_frames: read fault\n");
     check(&rt, &[], &mut input, (100, 100), wanted);
+}
+
+/// Asserts the exit status, and what a run passes on to an output that is flushed or fails to be.
+fn check_flush<R: Abort + AllocGlobal>(rt: &R, fails: bool, status: u8, text: &str) {
+    let mut input = Input {
+        bytes: &INPUT,
+        step: 2,
+        fails: false,
+    };
+    let mut output = Held {
+        waiting: Vec::new(rt.alloc()),
+        passed: Vec::new(rt.alloc()),
+        fails,
+    };
+    let mut errors = Output::new(rt.alloc(), 100);
+    let came = run_program(rt.alloc(), &[], &mut input, &mut output, &mut errors);
+    assert_same(
+        rt,
+        (came, output.passed.as_slice()),
+        (status, text.as_bytes()),
+        "a run whose output is flushed",
+    );
+}
+
+#[test]
+fn the_listing_is_flushed(rt: HostRuntime) {
+    check_flush(&rt, false, 0, LISTING);
+    check_flush(&rt, true, 3, "");
 }
 
 /// The room of an output that is too small, and the bytes that it accepts.
