@@ -108,7 +108,7 @@ def listed(program, row):
     data = (REQUEST if row.kind == SESSION else b"") + row.data
     done = subprocess.run([program, *row.listing], input=data, capture_output=True, check=False)
     last = done.stdout.decode().strip().split("\n")[-1].split(" ")
-    return int(last[2]) if last[0] == "ERROR" else None
+    return int(last[2]) if last[0] == "FAULT" else None
 
 
 async def provoke(client, row):
