@@ -1,89 +1,10 @@
 //! The program, with readers and writers of the tests.
+use crate::devices::{Held, Input, Output};
 use crate::rows::{REQUEST, REQUEST_LISTING};
 use crate::same::assert_same;
 use std::alloc::{AllocError, Global};
-use std::io::{self, Read, Write};
 use std::process::Abort;
 use wt_listings::run_program;
-
-/// A reader that returns these bytes, at most `step` per call, then fails once if it is to, and
-/// then ends.
-#[derive(Drop)]
-struct Input<'a> {
-    bytes: &'a [u8],
-    step: usize,
-    fails: bool,
-}
-
-impl Read for Input<'_> {
-    fn read(&mut self, buf: &mut [u8]) -> io::Result<usize> {
-        let count = self.step.min(self.bytes.len()).min(buf.len());
-        if count == 0 && self.fails {
-            self.fails = false;
-            return Err(io::Error::from(io::ErrorKind::TimedOut));
-        }
-        let (front, rest) = self.bytes.split_at(count);
-        buf[..count].copy_from_slice(front);
-        self.bytes = rest;
-        Ok(count)
-    }
-}
-
-/// A writer that accepts a limited number of bytes and then fails.
-#[derive(Drop)]
-struct Output {
-    bytes: Vec<u8>,
-    room: usize,
-}
-
-impl Output {
-    fn new(alloc: Global, room: usize) -> Self {
-        Output {
-            bytes: Vec::new(alloc),
-            room,
-        }
-    }
-}
-
-impl Write for Output {
-    fn write(&mut self, buf: &[u8]) -> io::Result<usize> {
-        let count = self.room.min(buf.len());
-        if count == 0 && !buf.is_empty() {
-            return Err(io::Error::from(io::ErrorKind::BrokenPipe));
-        }
-        self.bytes.extend_from_slice(&buf[..count])?;
-        self.room -= count;
-        Ok(count)
-    }
-
-    fn flush(&mut self) -> io::Result<()> {
-        Ok(())
-    }
-}
-
-/// A writer that passes its bytes on when it is flushed, unless that fails.
-#[derive(Drop)]
-struct Held {
-    waiting: Vec<u8>,
-    passed: Vec<u8>,
-    fails: bool,
-}
-
-impl Write for Held {
-    fn write(&mut self, buf: &[u8]) -> io::Result<usize> {
-        self.waiting.extend_from_slice(buf)?;
-        Ok(buf.len())
-    }
-
-    fn flush(&mut self) -> io::Result<()> {
-        if self.fails {
-            return Err(io::Error::from(io::ErrorKind::BrokenPipe));
-        }
-        self.passed.extend_from_slice(self.waiting.as_slice())?;
-        self.waiting.clear();
-        Ok(())
-    }
-}
 
 /// The exit status and the output of a run of the program.
 #[derive(Drop)]
