@@ -25,8 +25,8 @@ PassMoves (Ok _) gone a b = Passed gone a b 0
 PassMoves (Err h) gone a b = Passed gone a b 1 × HaltIsTrue h a b
 
 -- the same for a source that may have no model
-abbrev pub PassTells : {U : Type 0} → Result U Interrupted → ℕ → Option Source → Option Source → Type 0
-PassTells r gone old now = HasModel old now (λ a b. PassMoves r gone a b)
+abbrev pub PassModel : {U : Type 0} → Result U Interrupted → ℕ → Option Source → Option Source → Type 0
+PassModel r gone old now = HasModel old now (λ a b. PassMoves r gone a b)
 
 -- ---- one call
 

@@ -2,7 +2,7 @@
 ghost use Rattle.std.specs.Prelude.{◌≡◌, ◌+◌, ◌-◌, ◌<◌, ◌≤◌, OnOk, OnErr};
 ghost use Rattle.wtp_core.specs.Source.{HasModel, StepWaits};
 ghost use Rattle.wtp_core.specs.Fill.{HaltWaits};
-ghost use Rattle.wtp_core.specs.SkipAhead.{max_passed, PassTells, CountFits, StepPasses};
+ghost use Rattle.wtp_core.specs.SkipAhead.{max_passed, PassModel, CountFits, StepPasses};
 
 use crate::bytes::source::{AsyncRead, ReadStep};
 use crate::polling::fill::Interrupted;
@@ -23,7 +23,7 @@ pub fn skip_bytes<S: AsyncRead>(source: &mut S, skip_remaining: &mut u64) -> Res
         → skip_remaining.new + max_passed ≡ skip_remaining.old) }
     ensures part { OnErr result (0 < skip_remaining.new) }
     ensures some { OnErr result (skip_remaining.old < skip_remaining.new + max_passed) }
-    ensures model { PassTells result (skip_remaining.old - skip_remaining.new)
+    ensures model { PassModel result (skip_remaining.old - skip_remaining.new)
         (S.model source.old) (S.model source.new) }
     ensures waits { HasModel (S.model source.old) (S.model source.new) (HaltWaits result) }
 {
