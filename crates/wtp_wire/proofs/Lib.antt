@@ -1,4 +1,5 @@
 pub mod ContentLemmas
+pub mod ItemLemmas
 pub mod KindLemmas
 pub mod NamedLemmas
 pub mod FrontLemmas

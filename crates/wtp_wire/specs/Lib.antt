@@ -6,6 +6,7 @@ pub mod FramePrefix
 pub mod PastNumber
 pub mod Front
 pub mod FrameReading
+pub mod Item
 pub mod Wire
 pub mod Datagram
 pub mod Limits

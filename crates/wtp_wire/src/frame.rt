@@ -18,6 +18,7 @@ use crate::frame::body::Body;
 use crate::frame::head::{Announcement, get_head};
 pub use crate::frame::kind::FrameKind;
 use crate::frame::kind::FrameType;
+use crate::item::{self, Item, Tail};
 pub use reading::{FrameReading, IoReadError};
 use std::borrow::CowSlice;
 use std::fmt;
@@ -247,12 +248,7 @@ impl<'a> Frame<'a> {
             (left_of reader.new) }
         ensures whole { whole_of reader.new ≡ whole_of reader.old }
     {
-        let mut ahead = BufferReader::new(reader.buffer_remaining());
-        let Some(frame) = Self::read(&mut ahead)? else {
-            return Ok(None);
-        };
-        reader.move_to(&ahead);
-        Ok(Some(frame))
+        item::read_from_buffer(reader)
     }
 
     /// Writes the frame, with each number in its shortest encoding.
@@ -266,15 +262,7 @@ impl<'a> Frame<'a> {
             → LacksRoom (W.room writer.old) (length (wire self.now)) }
         ensures target { W.target writer.new ≡ W.target writer.old }
     {
-        writer.put_varint(self.kind.id())?;
-        match self.body.session() {
-            Some(session_id) => writer.put_varint(session_id.into_varint()),
-            None => {
-                let payload = self.body.payload();
-                writer.put_varint(VarInt::from_u64_unchecked(payload.len() as u64))?;
-                writer.put_bytes(payload)
-            }
-        }
+        item::write(self, writer)
     }
 
     /// Writes the complete frame as `write` does. Returns `EndOfBuffer` exactly if less space than
@@ -285,12 +273,7 @@ impl<'a> Frame<'a> {
         ensures err { OnErr result (IsUnwritten writer.old writer.new) }
         ensures loan { loan_of writer.new ≡ loan_of writer.old }
     {
-        if writer.capacity() < self.write_size() {
-            return Err(EndOfBuffer);
-        }
-        let written = self.write(writer);
-        prove!(written.is_ok());
-        Ok(())
+        item::write_to_buffer(self, writer)
     }
 
     /// Returns the number of bytes that `write` writes.
@@ -306,5 +289,35 @@ impl<'a> Frame<'a> {
                 head + VarInt::from_u64_unchecked(len as u64).size() + len
             }
         }
+    }
+}
+
+impl<'a> Item<'a> for Frame<'a> {
+    ghost use Rattle.wtp_wire.specs.Front.{front};
+    ghost use Rattle.wtp_wire.specs.FrameReading.{Answers};
+    ghost use Rattle.wtp_wire.specs.Wire.{parts_of};
+
+    type Fault = ParseError;
+
+    ghost is_read = { λ bytes result left. Answers (front bytes) result left };
+
+    ghost parts = { parts_of };
+
+    #[inline(always)]
+    fn read_first(reader: &mut BufferReader<'a>) -> Result<Option<Self>, ParseError> {
+        Frame::read(reader)
+    }
+
+    #[inline(always)]
+    fn head(&self) -> (VarInt, Tail<'_>) {
+        let tail = match self.body.session() {
+            Some(session_id) => Tail::Session(session_id),
+            None => Tail::Payload(self.body.payload()),
+        };
+        (self.kind.id(), tail)
+    }
+
+    fn write_size(&self) -> usize {
+        Frame::write_size(self)
     }
 }

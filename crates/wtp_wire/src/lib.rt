@@ -7,6 +7,7 @@ mod codes;
 pub mod datagram;
 pub mod frame;
 pub mod head;
+mod item;
 pub mod laws;
 pub mod rules;
 pub mod settings;

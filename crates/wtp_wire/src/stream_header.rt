@@ -8,6 +8,7 @@ ghost use Rattle.wtp_core.specs.BufferWriter.{room_in, loan_of, IsUnwritten, Wro
 
 pub mod polled;
 
+use crate::item::{self, Item, Tail};
 pub use polled::{HeaderReading, HeaderWriting, IoReadError};
 use std::marker::Model;
 pub use wtp_core::bytes::IoWriteError;
@@ -216,12 +217,7 @@ impl StreamHeader {
             (left_of reader.old) (left_of reader.new) }
         ensures whole { whole_of reader.new ≡ whole_of reader.old }
     {
-        let mut ahead = BufferReader::new(reader.buffer_remaining());
-        let Some(header) = Self::read(&mut ahead)? else {
-            return Ok(None);
-        };
-        reader.move_to(&ahead);
-        Ok(Some(header))
+        item::read_from_buffer(reader)
     }
 
     /// Writes the header, with each number in its shortest encoding.
@@ -235,11 +231,7 @@ impl StreamHeader {
             → LacksRoom (W.room writer.old) (length (header_wire self.now)) }
         ensures target { W.target writer.new ≡ W.target writer.old }
     {
-        writer.put_varint(self.kind.id())?;
-        match self.session_id {
-            Some(session_id) => writer.put_varint(session_id.into_varint()),
-            None => Ok(()),
-        }
+        item::write(self, writer)
     }
 
     /// Writes the complete header as `write` does. Returns `EndOfBuffer` exactly if less space than
@@ -250,12 +242,7 @@ impl StreamHeader {
         ensures err { OnErr result (IsUnwritten writer.old writer.new) }
         ensures loan { loan_of writer.new ≡ loan_of writer.old }
     {
-        if writer.capacity() < self.write_size() {
-            return Err(EndOfBuffer);
-        }
-        let written = self.write(writer);
-        prove!(written.is_ok());
-        Ok(())
+        item::write_to_buffer(self, writer)
     }
 
     /// Returns the number of bytes that `write` writes.
@@ -269,5 +256,33 @@ impl StreamHeader {
             Some(session_id) => head + session_id.into_varint().size(),
             None => head,
         }
+    }
+}
+
+impl<'a> Item<'a> for StreamHeader {
+    ghost use Rattle.wtp_wire.specs.HeaderFront.{header_front};
+    ghost use Rattle.wtp_wire.specs.HeaderReading.{AnswersHeader};
+    ghost use Rattle.wtp_wire.specs.HeaderWire.{header_parts};
+
+    type Fault = ParseError;
+
+    ghost is_read = { λ bytes result left. AnswersHeader (header_front bytes) result left };
+
+    ghost parts = { header_parts };
+
+    fn read_first(reader: &mut BufferReader<'a>) -> Result<Option<Self>, ParseError> {
+        StreamHeader::read(reader)
+    }
+
+    fn head(&self) -> (VarInt, Tail<'_>) {
+        let tail = match self.session_id {
+            Some(session_id) => Tail::Session(session_id),
+            None => Tail::Nothing,
+        };
+        (self.kind.id(), tail)
+    }
+
+    fn write_size(&self) -> usize {
+        StreamHeader::write_size(self)
     }
 }
