@@ -17,11 +17,11 @@ mod message;
 mod writing;
 
 pub use iter::{Fields, Values};
-pub use message::{RequestTarget, ToHeadersError};
+pub use message::{RequestTarget, ToHeadersError, three_digits};
 use std::alloc::{AllocError, Global};
 use std::marker::Model;
 use thiserror::Error;
-pub use writing::{PushError, check_field};
+pub use writing::{PushError, check_field, is_field_value, is_token};
 use wtp_core::error::ErrorCode;
 pub use wtp_qpack::qpack::FieldLine;
 use wtp_qpack::qpack::{DecodingError, FieldBuffer, FieldLines};

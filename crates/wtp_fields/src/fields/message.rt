@@ -190,8 +190,8 @@ fn digit_of(byte: u8) -> Option<u32>
     }
 }
 
-/// Parses a number of exactly three decimal digits.
-fn three_digits(text: &[u8]) -> Option<u32>
+/// Parses a number of exactly three decimal digits, as a status code has (RFC 9110, section 15).
+pub fn three_digits(text: &[u8]) -> Option<u32>
     ensures { result ≡ three_digits text.now }
 {
     match text {

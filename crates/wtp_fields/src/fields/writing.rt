@@ -212,8 +212,9 @@ fn has_upper(name: &[u8]) -> bool
     false
 }
 
-/// Returns whether all bytes are allowed in tokens.
-fn is_token(name: &[u8]) -> bool
+/// Returns whether all bytes are allowed in tokens (RFC 9110, section 5.6.2). A token has at least
+/// one byte, which is not checked.
+pub fn is_token(name: &[u8]) -> bool
     ensures { result ≡ list_all is_tchar name.now }
 {
     for byte in name {
@@ -238,8 +239,9 @@ fn is_mark(byte: u8) -> bool
     b"!#$%&'*+-.^_`|~".contains(&byte)
 }
 
-/// Returns whether the bytes are a valid field value.
-fn is_field_value(value: &[u8]) -> bool
+/// Returns whether the bytes are a valid field value (RFC 9110, section 5.5): no control characters
+/// other than tabs, and no space or tab at either end.
+pub fn is_field_value(value: &[u8]) -> bool
     ensures { result ≡ is_field_value value.now }
 {
     are_value_bytes(value) && !is_blank_at(value.first()) && !is_blank_at(value.last())

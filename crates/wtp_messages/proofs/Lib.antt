@@ -1,0 +1,5 @@
+pub mod LengthLemmas
+pub mod LineLemmas
+pub mod NameLemmas
+pub mod RequestLemmas
+pub mod ResponseLemmas

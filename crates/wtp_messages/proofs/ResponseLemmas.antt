@@ -1,0 +1,66 @@
+-- Responses whose rules were checked one by one.
+use Rattle.std.proofs.Common.{◌≡◌, Bool, true, false, ◌||◌, List, refl, is_some, Result, Ok, Err, MatchResult}
+use Rattle.std.specs.Result.{IsErrAnd}
+use Rattle.wtp_qpack.specs.Field.{Field}
+use Rattle.wtp_messages.specs.declared.section.SectionKind.TheVariants as section
+use Rattle.wtp_messages.specs.declared.response.Asked.{Asked}
+use Rattle.wtp_messages.specs.declared.response.Response.{Response}
+use Rattle.wtp_messages.specs.declared.malformed.Malformed.{Malformed}
+use Rattle.wtp_messages.specs.declared.malformed.Malformed.TheVariants.{InvalidName, InvalidValue, ConnectionField, InvalidTe, UnknownPseudoHeader, LatePseudoHeader, RepeatedPseudoHeader, InvalidContentLength, MissingMethod, InvalidMethod, MissingScheme, InvalidScheme, MissingPath, InvalidPath, MissingAuthority, InvalidAuthority, ConnectWithTarget, UnexpectedProtocol, InvalidProtocol, ContentField, MissingStatus, InvalidStatus, UnexpectedStatus, ContentTooLong, ContentTooShort}
+use Rattle.wtp_messages.specs.Names.{is_and_not}
+use Rattle.wtp_messages.specs.Section.{section_breaks, IsSection}
+use Rattle.wtp_messages.specs.Response.{status_text, is_status_text, status_breaks, response_breaks, HasNoContent, IsResponse}
+
+-- the rules of responses, one by one
+pub status_by_rows : (kind : Asked) (fields : List Field) → is_some (status_text fields) ≡ true → is_and_not is_status_text (status_text fields) ≡ false
+    → HasNoContent kind fields → (rule : Malformed) → status_breaks kind fields rule ≡ false
+status_by_rows kind fields some valid session InvalidName = refl
+status_by_rows kind fields some valid session InvalidValue = refl
+status_by_rows kind fields some valid session ConnectionField = refl
+status_by_rows kind fields some valid session InvalidTe = refl
+status_by_rows kind fields some valid session UnknownPseudoHeader = refl
+status_by_rows kind fields some valid session LatePseudoHeader = refl
+status_by_rows kind fields some valid session RepeatedPseudoHeader = refl
+status_by_rows kind fields some valid session InvalidContentLength = refl
+status_by_rows kind fields some valid session MissingMethod = refl
+status_by_rows kind fields some valid session InvalidMethod = refl
+status_by_rows kind fields some valid session MissingScheme = refl
+status_by_rows kind fields some valid session InvalidScheme = refl
+status_by_rows kind fields some valid session MissingPath = refl
+status_by_rows kind fields some valid session InvalidPath = refl
+status_by_rows kind fields some valid session MissingAuthority = refl
+status_by_rows kind fields some valid session InvalidAuthority = refl
+status_by_rows kind fields some valid session ConnectWithTarget = refl
+status_by_rows kind fields some valid session UnexpectedProtocol = refl
+status_by_rows kind fields some valid session InvalidProtocol = refl
+status_by_rows kind fields some valid session ContentField = session.none
+status_by_rows kind fields some valid session MissingStatus = rw some refl
+status_by_rows kind fields some valid session InvalidStatus = valid
+status_by_rows kind fields some valid session UnexpectedStatus = session.status
+status_by_rows kind fields some valid session ContentTooLong = refl
+status_by_rows kind fields some valid session ContentTooShort = refl
+
+-- no rule is broken
+pub well_formed : (kind : Asked) (fields : List Field) → IsSection section.Response fields → ((rule : Malformed) → status_breaks kind fields rule ≡ false) → (rule : Malformed) → response_breaks kind fields rule ≡ false
+unfolding response_breaks
+well_formed kind fields whole rows rule = rw (whole rule, rows rule) refl
+
+or_true : (b c : Bool) → c ≡ true → (b || c) ≡ true
+or_true true c e = refl
+or_true false c e = e
+
+-- a rule of every section is broken
+pub by_section : (kind : Asked) (fields : List Field) (rule : Malformed) → section_breaks section.Response fields rule ≡ true → response_breaks kind fields rule ≡ true
+unfolding response_breaks
+by_section kind fields rule e = rw e refl
+
+-- a rule of responses is broken
+pub by_status : (kind : Asked) (fields : List Field) (rule : Malformed) → status_breaks kind fields rule ≡ true → response_breaks kind fields rule ≡ true
+unfolding response_breaks
+by_status kind fields rule e = or_true (section_breaks section.Response fields rule) (status_breaks kind fields rule) e
+
+-- the error of a response
+pub response_error : (kind : Asked) (fields : List Field) (rule : Malformed) (result : Result Response Malformed) → IsErrAnd result (λ e. e ≡ rule) → response_breaks kind fields rule ≡ true
+    → MatchResult result (IsResponse kind fields) (λ rule. response_breaks kind fields rule ≡ true)
+response_error kind fields rule (Ok x) is e = absurd is
+response_error kind fields rule (Err x) is e = rw is e

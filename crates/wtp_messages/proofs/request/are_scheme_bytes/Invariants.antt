@@ -1,0 +1,7 @@
+use Rattle.std.proofs.Common.{◌≡◌, drop}
+use Rattle.std.specs.List.{list_all}
+use Rattle.wtp_messages.specs.Request.{is_scheme_byte}
+use Rattle.wtp_messages.proofs.request.are_scheme_bytes.Given as goal
+
+abbrev pub invariant-loop-byte : goal.invariant-loop-byte
+invariant-loop-byte l = list_all is_scheme_byte (drop l.byte-index l.text) ≡ list_all is_scheme_byte l.text

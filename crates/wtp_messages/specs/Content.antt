@@ -1,0 +1,22 @@
+-- The content of a message: the bytes of its DATA frames (RFC 9114, section 4.1.2).
+use Rattle.std.specs.Prelude.{ℕ, ◌-◌, ◌==◌, nat_le, Bool, true, Option, Some, None}
+use Rattle.wtp_messages.specs.declared.content.Content.{Content}
+
+-- the content of a message that announced this length, or none
+abbrev pub content_of : Option ℕ → Content
+content_of announced = record { left = announced }
+
+-- so many bytes more are not above what is left; if no length was announced, any number may come
+abbrev pub fits : Option ℕ → ℕ → Bool
+fits None len = true
+fits (Some left) len = nat_le len left
+
+-- what is left after so many bytes more
+abbrev pub left_after : Option ℕ → ℕ → Option ℕ
+left_after None len = None
+left_after (Some left) len = Some (left - len)
+
+-- nothing is left of the announced length, or none was announced
+abbrev pub is_complete : Option ℕ → Bool
+is_complete None = true
+is_complete (Some left) = left == 0

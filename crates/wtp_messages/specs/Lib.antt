@@ -1,0 +1,6 @@
+pub mod Names
+pub mod Section
+pub mod Length
+pub mod Request
+pub mod Response
+pub mod Content

@@ -1,0 +1,13 @@
+//! Requests, responses and trailers of HTTP/3: which field sections are malformed, and how much
+//! content a message has (RFC 9114, section 4).
+#![tactic(auto)]
+
+pub mod content;
+mod length;
+pub mod malformed;
+mod names;
+pub mod request;
+pub mod response;
+mod section;
+
+pub use section::{SectionKind, check_trailers};

@@ -1,0 +1,119 @@
+//! Responses (RFC 9114, sections 4.1 and 4.3.2; RFC 9110, section 15).
+ghost use Rattle.std.specs.Prelude.{◌≡◌, true, false, Some, MatchOption, MatchResult, nat_lt};
+ghost use Rattle.wtp_fields.specs.FieldMessages.{three_digits as three_digits_of};
+ghost use Rattle.wtp_messages.specs.Response.{is_status_text, is_success as is_success_status};
+ghost use Rattle.wtp_messages.specs.Response.{status_of, expected as expected_length};
+ghost use Rattle.wtp_messages.specs.Response.{status_breaks, response_breaks, HasNoContent, IsResponse};
+
+use crate::content::Content;
+use crate::malformed::Malformed;
+use crate::names::has_field;
+use crate::section::{SectionKind, check_section};
+use wtp_fields::fields::{FieldList, three_digits};
+
+/// What a request asked for, as far as the meaning of its response depends on it.
+#[derive(Clone, Copy, Debug, PartialEq, Eq)]
+pub enum Asked {
+    /// A HEAD request, whose responses have no content.
+    Head,
+    /// A CONNECT request other than for a session, whose 2xx response opens a tunnel.
+    Connect,
+    /// A request for a session of WebTransport.
+    Session,
+    /// Any other request.
+    Other,
+}
+
+/// What a response says.
+#[derive(Clone, Copy, Debug, PartialEq, Eq)]
+pub struct Response {
+    /// The status code: from 100 to 999, and not 101. One from 600 on is to be handled as 5xx (RFC
+    /// 9110, section 15).
+    pub status: u32,
+    /// The content that is to come. Of a 2xx response to a CONNECT request this is any number of
+    /// bytes, of a response without content it is none.
+    pub content: Content,
+}
+
+impl Response {
+    /// Reads a response to a request.
+    ///
+    /// Returns a rule that the response breaks, if it breaks one; then it is malformed (RFC 9114,
+    /// section 4.1.2). Of several broken rules it may be any.
+    #[tactic(auto, using(crate::proofs::ResponseLemmas::well_formed, crate::proofs::ResponseLemmas::status_by_rows, crate::proofs::ResponseLemmas::by_section, crate::proofs::ResponseLemmas::by_status, crate::proofs::ResponseLemmas::response_error))]
+    pub fn read(list: &FieldList, asked: Asked) -> Result<Self, Malformed>
+        ensures { MatchResult result (λ response. IsResponse asked list.now response)
+            (λ rule. response_breaks asked list.now rule ≡ true) }
+    {
+        let announced = check_section(list, SectionKind::Response)?;
+        let Some(text) = list.first(b":status") else {
+            return Err(Malformed::MissingStatus);
+        };
+        let Some(status) = status_in(text) else {
+            return Err(Malformed::InvalidStatus);
+        };
+        check_session(list, asked, status)?;
+        Ok(Response {
+            status,
+            content: Content::new(expected(asked, status, announced)),
+        })
+    }
+
+    /// Returns whether the response is interim, so that another one follows (RFC 9110, section
+    /// 15.2).
+    pub fn is_interim(&self) -> bool
+        ensures { result ≡ nat_lt self.now.status 200 }
+    {
+        self.status < 200
+    }
+}
+
+/// Checks a response that accepts a session. Returns a rule that it breaks.
+fn check_session(list: &FieldList, asked: Asked, status: u32) -> Result<(), Malformed>
+    requires { status_of list.now ≡ Some status }
+    ensures { MatchResult result (λ _. HasNoContent asked list.now)
+        (λ rule. status_breaks asked list.now rule ≡ true) }
+{
+    if asked != Asked::Session || !is_success(status) {
+        return Ok(());
+    }
+    if status == 204 || status == 205 || status == 206 {
+        return Err(Malformed::UnexpectedStatus);
+    }
+    if has_field(list, b"content-length") || has_field(list, b"content-type") {
+        return Err(Malformed::ContentField);
+    }
+    Ok(())
+}
+
+/// Returns the status that a text denotes, or `None` if it is invalid.
+fn status_in(text: &[u8]) -> Option<u32>
+    ensures { MatchOption result (is_status_text text.now ≡ false)
+        (λ code. (is_status_text text.now ≡ true) × (three_digits_of text.now ≡ Some code)) }
+{
+    let code = three_digits(text)?;
+    if code < 100 || code == 101 {
+        return None;
+    }
+    Some(code)
+}
+
+/// Returns whether a status is one of success.
+fn is_success(status: u32) -> bool
+    ensures { result ≡ is_success_status (Some status) }
+{
+    status > 199 && status < 300
+}
+
+/// Returns the length of the content that is to come, if it is known.
+fn expected(asked: Asked, status: u32, announced: Option<u64>) -> Option<u64>
+    ensures { result ≡ expected_length asked status announced }
+{
+    if asked == Asked::Head || status < 200 || status == 204 || status == 304 {
+        return Some(0);
+    }
+    match asked {
+        Asked::Connect | Asked::Session if is_success(status) => None,
+        _ => announced,
+    }
+}
