@@ -7,4 +7,5 @@ pub mod ItemFrameLemmas
 pub mod ItemStopLemmas
 pub mod CapsuleLemmas
 pub mod WalkLemmas
+pub mod MessageLemmas
 pub mod FlagLemmas

@@ -210,7 +210,7 @@ fn whole_frame(
 
 /// Returns what the present payload of a cut frame contains, which begins at this place. The
 /// reading ends so, unless there is a fault before.
-#[tactic(auto, using(crate::proofs::WalkLemmas::data_leads, crate::proofs::WalkLemmas::data_has, crate::proofs::WalkLemmas::opaque_leads, crate::proofs::WalkLemmas::cut_part))]
+#[tactic(auto, using(crate::proofs::MessageLemmas::data_leads, crate::proofs::MessageLemmas::data_has, crate::proofs::MessageLemmas::opaque_leads, crate::proofs::MessageLemmas::cut_part))]
 fn cut_parts(
     reading: &mut Reading,
     role: StreamRole,
@@ -328,7 +328,7 @@ fn still_first(first: bool, number: VarInt) -> bool
 }
 
 /// Returns what the payload of a complete frame contains. A fault in it ends the reading.
-#[tactic(auto, using(crate::proofs::WalkLemmas::data_leads, crate::proofs::WalkLemmas::data_has, crate::proofs::WalkLemmas::opaque_leads))]
+#[tactic(auto, using(crate::proofs::MessageLemmas::data_leads, crate::proofs::MessageLemmas::data_has, crate::proofs::MessageLemmas::opaque_leads))]
 fn parts_of(
     reading: &mut Reading,
     role: StreamRole,
@@ -352,7 +352,7 @@ fn parts_of(
 }
 
 /// Returns what the payload of a complete frame contains, if it is not a DATA frame.
-#[tactic(auto, using(crate::proofs::WalkLemmas::opaque_leads))]
+#[tactic(auto, using(crate::proofs::MessageLemmas::opaque_leads))]
 fn other_parts(
     reading: &mut Reading,
     role: StreamRole,

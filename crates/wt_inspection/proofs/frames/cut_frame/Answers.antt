@@ -1,5 +1,5 @@
 use Rattle.std.proofs.Common.{arith, length-drop}
-use Rattle.wt_inspection.proofs.WalkLemmas.{cut_leads, present_all}
+use Rattle.wt_inspection.proofs.MessageLemmas.{cut_leads, present_all}
 use Rattle.wt_inspection.proofs.frames.cut_frame.Goals as goal
 
 pub returns-clause-stage : goal.returns-clause-stage

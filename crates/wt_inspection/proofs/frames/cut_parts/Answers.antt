@@ -1,7 +1,8 @@
 use Rattle.std.proofs.Common.{◌≡◌, true, false, Err, sym, ◌∙◌}
 use Rattle.wt_inspection_model.specs.Names.{frame_name_of}
 use Rattle.wt_inspection.specs.Recording.{is_data}
-use Rattle.wt_inspection.proofs.WalkLemmas.{cut_part, ok_map, opaque_leads}
+use Rattle.wt_inspection.proofs.WalkLemmas.{ok_map}
+use Rattle.wt_inspection.proofs.MessageLemmas.{cut_part, opaque_leads}
 use Rattle.wt_inspection.proofs.frames.cut_parts.Goals as goal
 
 pub returns-then-is_data-clause-parts : goal.returns-then-is_data-clause-parts

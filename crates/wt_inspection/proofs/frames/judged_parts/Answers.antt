@@ -3,7 +3,7 @@ use Rattle.wt_inspection_model.specs.Names.{frame_name_of}
 use Rattle.wt_inspection.specs.Recording.{name_fault, still_first}
 use Rattle.wt_inspection_model.specs.declared.item.Parts.TheVariants.{Opaque}
 use Rattle.wt_inspection.specs.declared.reading.Next.TheVariants.{Frames}
-use Rattle.wt_inspection.proofs.WalkLemmas.{refused_takes}
+use Rattle.wt_inspection.proofs.MessageLemmas.{refused_takes}
 use Rattle.wt_inspection.proofs.frames.judged_parts.Goals as goal
 
 pub returns-in-Some-clause-stage : goal.returns-in-Some-clause-stage

@@ -1,4 +1,4 @@
-use Rattle.wt_inspection.proofs.WalkLemmas.{no_frame_leads}
+use Rattle.wt_inspection.proofs.MessageLemmas.{no_frame_leads}
 use Rattle.wt_inspection.proofs.frames.next_frame.Goals as goal
 
 pub returns-in_default-clause-stage : goal.returns-in_default-clause-stage

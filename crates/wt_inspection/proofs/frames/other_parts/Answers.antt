@@ -1,6 +1,7 @@
 use Rattle.std.proofs.Common.{Ok}
 use Rattle.wt_inspection_model.specs.Names.{frame_name_of}
-use Rattle.wt_inspection.proofs.WalkLemmas.{headers_leads, ok_map, settings_leads}
+use Rattle.wt_inspection.proofs.WalkLemmas.{ok_map}
+use Rattle.wt_inspection.proofs.MessageLemmas.{headers_leads, settings_leads}
 use Rattle.wt_inspection.proofs.frames.other_parts.Goals as goal
 
 pub returns-in-Read-Settings-clause-stage : goal.returns-in-Read-Settings-clause-stage

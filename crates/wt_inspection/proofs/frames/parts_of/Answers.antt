@@ -1,7 +1,8 @@
 use Rattle.std.proofs.Common.{◌≡◌, true, Ok, sym, ◌∙◌}
 use Rattle.wt_inspection_model.specs.Names.{frame_name_of}
 use Rattle.wt_inspection.specs.Recording.{is_data}
-use Rattle.wt_inspection.proofs.WalkLemmas.{data_has, ok_map}
+use Rattle.wt_inspection.proofs.WalkLemmas.{ok_map}
+use Rattle.wt_inspection.proofs.MessageLemmas.{data_has}
 use Rattle.wt_inspection.proofs.frames.parts_of.Goals as goal
 
 pub returns-then-is_data-clause-parts : goal.returns-then-is_data-clause-parts

@@ -1,5 +1,5 @@
 use Rattle.std.proofs.Common.{◌≡◌, take, drop, sym, ap, ◌∙◌}
-use Rattle.wt_inspection.proofs.WalkLemmas.{whole_leads}
+use Rattle.wt_inspection.proofs.MessageLemmas.{whole_leads}
 use Rattle.wt_inspection.proofs.frames.whole_frame.Goals as goal
 
 pub returns-clause-stage : goal.returns-clause-stage

@@ -2,7 +2,7 @@ use Rattle.std.proofs.Common.{◌≡◌, ◌≤◌, [], Ok, drop, length, sym, a
 use Rattle.std.proofs.lemmas.Bool.{eqb-true}
 use Rattle.std.proofs.lemmas.List.{drop_all}
 use Rattle.wt_inspection.specs.DataCapsules.{Opening}
-use Rattle.wt_inspection.proofs.WalkLemmas.{stage_start}
+use Rattle.wt_inspection.proofs.MessageLemmas.{stage_start}
 use Rattle.wt_inspection.proofs.RecordingLemmas.{reads_none, reads_more}
 use Rattle.wt_inspection.proofs.kinds.inspect.Goals as goal
 

@@ -1,7 +1,8 @@
 use Rattle.std.proofs.Common.{Ok, refl, ap}
 use Rattle.wt_inspection.specs.declared.reading.Next.{Next}
 use Rattle.wt_inspection.specs.declared.reading.Next.TheVariants as next-is
-use Rattle.wt_inspection.proofs.WalkLemmas.{ok_map, other_leads}
+use Rattle.wt_inspection.proofs.WalkLemmas.{ok_map}
+use Rattle.wt_inspection.proofs.MessageLemmas.{other_leads}
 use Rattle.wt_inspection.proofs.kinds.next_item.Goals as goal
 
 pub returns-in-Head-clause-stage : goal.returns-in-Head-clause-stage
