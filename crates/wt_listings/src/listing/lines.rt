@@ -39,7 +39,7 @@ impl Lines {
 
     /// Appends the line of a frame.
     ///
-    /// Returns [`AllocError`] if allocation fails. The line may then be incomplete.
+    /// Returns [`AllocError`] if allocation fails. The lines are then unspecified.
     pub fn frame(&mut self, frame: &Frame<'_>) -> Result<(), AllocError>
         ensures { IfOk result (λ _. self.new ≡ self.old ++ line frame.now) }
     {
@@ -62,7 +62,7 @@ impl Lines {
 
     /// Appends `words` as a line. It must not contain a line feed.
     ///
-    /// Returns [`AllocError`] if allocation fails. The line may then be incomplete.
+    /// Returns [`AllocError`] if allocation fails. The lines are then unspecified.
     pub fn add(&mut self, words: &str) -> Result<(), AllocError>
         ensures { IfOk result (λ _. self.new ≡ self.old ++ words.now ++ codes "\n") }
     {
@@ -71,7 +71,7 @@ impl Lines {
 
     /// Appends the line of a field.
     ///
-    /// Returns [`AllocError`] if allocation fails. The line may then be incomplete.
+    /// Returns [`AllocError`] if allocation fails. The lines are then unspecified.
     pub fn field(&mut self, name: &str, value: &str) -> Result<(), AllocError>
         ensures { IfOk result (λ _. self.new ≡ self.old ++ field_line (name.now, value.now)) }
     {
