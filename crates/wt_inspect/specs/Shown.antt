@@ -5,7 +5,7 @@ use Rattle.wt_inspection.specs.Results.{Inspection}
 use Rattle.wt_inspection.specs.Tiles.{Tiles}
 use Rattle.wt_inspection_views.specs.Escaped.{IsClean, line_count}
 use Rattle.wt_inspection_views.specs.Html.{IsPage}
-use Rattle.wt_inspection_views.specs.JsonLines.{AreJsonLines}
+use Rattle.wt_inspection_views.specs.JsonLines.{AreJsonLines, object_lines}
 use Rattle.wt_inspection_views.specs.TextLines.{inspection_lines}
 use Rattle.wt_inspect.specs.Statuses.{end_status}
 use Rattle.wt_inspect.specs.declared.arguments.Arguments.{Arguments}
@@ -16,7 +16,8 @@ use Rattle.wt_inspect.specs.declared.arguments.Output.TheVariants as output-is
 abbrev pub IsView : Output → Bool → List ℕ → Inspection → List ℕ → Type 0
 IsView output-is.Text payload bytes inspection text =
     IsClean text × (line_count text ≡ inspection_lines payload bytes inspection)
-IsView output-is.Json payload bytes inspection text = AreJsonLines text
+IsView output-is.Json payload bytes inspection text =
+    AreJsonLines (object_lines inspection) text
 IsView output-is.Html payload bytes inspection text = IsPage text
 
 -- what is shown of these bytes by these arguments: their items, which tile them, and how they end

@@ -14,6 +14,10 @@ none_from_any p (c ∷ cs) e =
     let both = or_parts (p c) (list_any p cs) e in
     (both.0, none_from_any p cs both.1)
 
+pub any_from_none : (p : ℕ → Bool) (cs : List ℕ) → NonePass p cs → list_any p cs ≡ false
+any_from_none p [] n = refl
+any_from_none p (c ∷ cs) n = or_from (p c) (list_any p cs) n.0 (any_from_none p cs n.1)
+
 none_hidden : (cs : List ℕ) → NonePass is_control cs → NonePass is_hidden cs
 none_hidden [] n = tt
 none_hidden (c ∷ cs) n = (ap (λ (b : Bool). b && not (nat_eq c 10)) n.0, none_hidden cs n.1)
@@ -61,12 +65,12 @@ no_control-all (b ∷ bytes) fits =
     (no_control-all bytes (λ k. fits (suc k)))
 
 no_control-shown : (bytes shown : List ℕ) → ((k : ℕ) → get_or bytes k 0 < 2 ^ 8) → IsShown bytes shown → NoCharPasses is_control shown
-no_control-shown bytes shown fits (inl s) = subst (NoCharPasses is_control) (sym s.0) s.1
-no_control-shown bytes shown fits (inr s) = subst (NoCharPasses is_control) (sym s) (no_control-all bytes fits)
+no_control-shown bytes shown fits (inl s) = subst (NoCharPasses is_control) (sym s.0) s.1.1
+no_control-shown bytes shown fits (inr s) = subst (NoCharPasses is_control) (sym s.0) (no_control-all bytes fits)
 
 pub no_control-plain : (words plain : List ℕ) → ((k : ℕ) → get_or words k 0 < 2 ^ 8) → IsPlain words plain → NoCharPasses is_control plain
 no_control-plain words plain fits (inl s) = subst (NoCharPasses is_control) (sym s.0) s.1
-no_control-plain words plain fits (inr s) = no_control-shown words plain fits s
+no_control-plain words plain fits (inr s) = no_control-shown words plain fits s.0
 
 clean_line_feed : IsClean (10 ∷ [])
 clean_line_feed = (10 ∷ [], ap (λ (x : List ℕ). x ++ []) (encode_ascii 10 (omega arith)), (refl, tt))

@@ -1,3 +1,4 @@
+pub mod FrontLemmas
 pub mod CleanLemmas
 pub mod JsonLemmas
 pub mod PageLemmas

@@ -1,6 +1,5 @@
 -- Concatenation of the pieces of a page.
 use Rattle.std.proofs.Common.{arith, ◌≡◌, ℕ, Bool, true, false, cond, IsTrue, List, [], ◌∷◌, ◌++◌, sym, subst, ap, ◌∙◌}
-use Rattle.std.specs.List.{flat_map}
 use Rattle.std.proofs.lemmas.List.{flat_map_more}
 use Rattle.wt_inspection_views.specs.declared.html.page.Markup.TheVariants.{Head, Tail}
 use Rattle.wt_inspection_views.specs.Html.{BeginsPage, IsPage, Piece, markup, piece_bytes}

@@ -1,6 +1,6 @@
 -- Different bytes have different displayed forms.
 use Rattle.std.proofs.Common.{arith, suc, inl, inr, ◌≡◌, ℕ, ◌+◌, ◌<◌, ◌/◌, ◌%◌, ◌^◌, cond, Bool, true, false, nat_eq, nat_lt, List, [], ◌∷◌, ◌++◌, get_or, drop, All, refl, sym, ap, ap₂, ◌∙◌, subst}
-use Rattle.std.specs.List.{flat_map, list_any}
+use Rattle.std.specs.List.{flat_map}
 use Rattle.std.proofs.lemmas.Bool.{or_parts, ltb-true}
 use Rattle.wt_inspection_views.specs.Escaped.{IsShown, HasNoBackslash, escaped_byte, is_plain_byte, digit_of}
 
@@ -65,9 +65,9 @@ escaped_told_apart (b ∷ x) (c ∷ y) a d e =
 pub shown_told_apart : (x y shown : List ℕ) → All (λ b. b < 2 ^ 8) x → All (λ b. b < 2 ^ 8) y → IsShown x shown → IsShown y shown → x ≡ y
 shown_told_apart x y shown a b (inl s) (inl t) = sym s.0 ∙ t.0
 shown_told_apart x y shown a b (inl s) (inr t) =
-    let free = subst HasNoBackslash (sym s.0 ∙ t) s.2 in
-    sym s.0 ∙ (t ∙ as_they_are y free)
+    let free = subst HasNoBackslash (sym s.0 ∙ t.0) s.1.2 in
+    sym s.0 ∙ (t.0 ∙ as_they_are y free)
 shown_told_apart x y shown a b (inr s) (inl t) =
-    let free = subst HasNoBackslash (sym t.0 ∙ s) t.2 in
-    sym (as_they_are x free) ∙ (sym s ∙ t.0)
-shown_told_apart x y shown a b (inr s) (inr t) = escaped_told_apart x y a b (sym s ∙ t)
+    let free = subst HasNoBackslash (sym t.0 ∙ s.0) t.1.2 in
+    sym (as_they_are x free) ∙ (sym s.0 ∙ t.0)
+shown_told_apart x y shown a b (inr s) (inr t) = escaped_told_apart x y a b (sym s.0 ∙ t.0)

@@ -3,7 +3,7 @@ use Rattle.std.specs.Prelude.{◌≡◌, ◌⊎◌, ℕ, ◌+◌, ◌/◌, ◌%�
 use Rattle.std.specs.Prelude.{List, [], ◌∷◌, ◌++◌, nat_eq, nat_lt, nat_le, count_by, codes}
 use Rattle.std.specs.Char.{is_control}
 use Rattle.std.specs.List.{flat_map, list_any}
-use Rattle.std.specs.Str.{NoCharPasses}
+use Rattle.std.specs.Str.{IsUtf8, NoCharPasses}
 
 -- the character of a hexadecimal digit
 abbrev pub digit_of : ℕ → ℕ
@@ -26,16 +26,30 @@ hex_byte b = digit_of (b / 16) ∷ digit_of (b % 16) ∷ []
 abbrev pub HasNoBackslash : List ℕ → Type 0
 HasNoBackslash bytes = list_any (λ b. nat_eq b 92) bytes ≡ false
 
--- the displayed form of bytes: the bytes themselves, if they contain no control characters and no
--- backslashes, or each byte in its escaped form
+-- the bytes are UTF-8 without control characters and backslashes
+abbrev pub IsPlainText : List ℕ → Type 0
+IsPlainText bytes = IsUtf8 bytes × NoCharPasses is_control bytes × HasNoBackslash bytes
+
+-- the displayed form of bytes: the bytes themselves if they are plain text, otherwise each byte in
+-- its escaped form
 abbrev pub IsShown : List ℕ → List ℕ → Type 0
 IsShown bytes shown =
-    ((shown ≡ bytes) × NoCharPasses is_control bytes × HasNoBackslash bytes)
-    ⊎ (shown ≡ flat_map escaped_byte bytes)
+    ((shown ≡ bytes) × IsPlainText bytes)
+    ⊎ ((shown ≡ flat_map escaped_byte bytes) × ¬ (IsPlainText bytes))
 
 -- the displayed form of these bytes was appended to a line
 abbrev pub AddsShown : List ℕ → List ℕ → List ℕ → Type 0
 AddsShown bytes old new = (shown : List ℕ) × IsShown bytes shown × (new ≡ old ++ shown)
+
+-- of these bytes only the first were appended to a line
+abbrev pub AppendsFront : List ℕ → List ℕ → List ℕ → Type 0
+AppendsFront bytes old new =
+    (front : List ℕ) × (rest : List ℕ) × (bytes ≡ front ++ rest) × (new ≡ old ++ front)
+
+-- only the first bytes of the displayed form of these bytes were appended to a line
+abbrev pub AddsFront : List ℕ → List ℕ → List ℕ → Type 0
+AddsFront bytes old new =
+    (shown : List ℕ) × IsShown bytes shown × AppendsFront shown old new
 
 -- a control character (Unicode's category Cc) other than a line feed
 abbrev pub is_hidden : ℕ → Bool
@@ -45,10 +59,12 @@ is_hidden c = is_control c && not (nat_eq c 10)
 abbrev pub IsClean : List ℕ → Type 0
 IsClean = NoCharPasses is_hidden
 
--- the displayed form of words in a line: the words themselves, if they contain no control
--- characters, or their form as displayed bytes
+-- the displayed form of words in a line: the words themselves if they contain no control
+-- characters, otherwise their form as displayed bytes
 abbrev pub IsPlain : List ℕ → List ℕ → Type 0
-IsPlain words plain = ((plain ≡ words) × NoCharPasses is_control words) ⊎ IsShown words plain
+IsPlain words plain =
+    ((plain ≡ words) × NoCharPasses is_control words)
+    ⊎ (IsShown words plain × ¬ (NoCharPasses is_control words))
 
 -- the line contains the displayed form of these words and ends with a line feed
 abbrev pub IsLine : List ℕ → List ℕ → Type 0

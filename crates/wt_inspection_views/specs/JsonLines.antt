@@ -1,9 +1,11 @@
 -- Lines of JSON, one object per line.
-use Rattle.std.specs.Prelude.{◌≡◌, ℕ, Bool, true, false, List, [], ◌∷◌, ◌++◌, ◌&&◌, nat_le, fold}
+use Rattle.std.specs.Prelude.{◌≡◌, ℕ, ◌+◌, Bool, true, false, List, [], ◌∷◌, ◌++◌, ◌&&◌, nat_le, fold}
+use Rattle.std.specs.Prelude.{length}
 use Rattle.std.specs.List.{flat_map}
 use Rattle.json.specs.Token.{Token}
 use Rattle.json.specs.Lex.{tokens}
 use Rattle.json.specs.Print.{print}
+use Rattle.wt_inspection_model.specs.declared.item.Inspection.{Inspection}
 
 -- the state of a JSON text after some tokens: before its object; in an object, before a member or
 -- the end; after the name of a member; in an array; after the object; or not valid JSON. The list
@@ -84,10 +86,16 @@ abbrev pub AreObjects : List (List Token) → Type 0
 AreObjects [] = Unit {0}
 AreObjects (ts ∷ more) = (ReadsBack ts × IsObject ts) × AreObjects more
 
--- the bytes are lines of JSON and nothing else
-abbrev pub AreJsonLines : List ℕ → Type 0
-AreJsonLines bytes =
-    (lines : List (List Token)) × (bytes ≡ flat_map json_line lines) × AreObjects lines
+-- the bytes are this number of lines of JSON and nothing else
+abbrev pub AreJsonLines : ℕ → List ℕ → Type 0
+AreJsonLines n bytes =
+    (lines : List (List Token))
+    × (length lines ≡ n) × (bytes ≡ flat_map json_line lines) × AreObjects lines
+
+-- the number of lines for an inspection: its items, its warnings, and one for how the input ends
+abbrev pub object_lines : Inspection → ℕ
+object_lines inspection =
+    length inspection.items.items + length inspection.warnings.items + 1
 
 -- a control character that JSON does not escape: DEL, or U+0080 to U+009F
 abbrev pub is_late_control : ℕ → Bool

@@ -1,6 +1,8 @@
--- JSON objects while members are appended.
-use Rattle.std.specs.Prelude.{◌≡◌, Bool, true, false, IsTrue, List, ◌∷◌}
+-- JSON objects while members are appended, and lines of JSON while objects are.
+use Rattle.std.specs.Prelude.{◌≡◌, ℕ, ◌+◌, Bool, IsTrue, List}
+use Rattle.wt_inspection_views.specs.JsonLines.{AreJsonLines}
 use Rattle.wt_inspection_views.specs.JsonLines.{Place, in_object, after_name, in_array, place_of}
+use Rattle.wt_inspection_views.specs.declared.json_lines.object.Lines.{Lines}
 use Rattle.wt_inspection_views.specs.declared.json_lines.object.Object.{Object}
 
 -- the object is in this state, unless an allocation failed
@@ -22,3 +24,11 @@ AddsElements old new = (outer : List Bool) → IsAt (in_array outer) old → IsA
 -- the value of a member was appended
 abbrev pub AddsValue : Object → Object → Type 0
 AddsValue old new = (outer : List Bool) → IsAt (after_name outer) old → IsAt (in_object outer) new
+
+-- these are n lines, unless an allocation failed
+unfoldable pub HasLines : ℕ → Lines → Type 0
+HasLines n lines = IsTrue lines.is_whole → AreJsonLines n lines.text.items
+
+-- n lines were appended
+abbrev pub AddsLines : ℕ → Lines → Lines → Type 0
+AddsLines n old new = (k : ℕ) → HasLines k old → HasLines (k + n) new

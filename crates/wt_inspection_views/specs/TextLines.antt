@@ -1,6 +1,6 @@
 -- The number of lines in the text of an inspection, and what the lines of a field and of a reason
 -- have.
-use Rattle.std.specs.Prelude.{◌≡◌, ℕ, ◌+◌, ◌-◌, ◌/◌, ◌≤◌, Bool, if◌then◌else◌, List, [], length}
+use Rattle.std.specs.Prelude.{◌≡◌, ℕ, ◌+◌, ◌-◌, ◌/◌, Bool, if◌then◌else◌, List, [], length}
 use Rattle.std.specs.Prelude.{◌++◌, take, drop, nat_le, sum_by, Option, Some, None, codes, string_bytes}
 use Rattle.wtp_wire.specs.declared.frame.kind.FrameKind.TheVariants as kind-is
 use Rattle.wt_inspection_model.specs.declared.item.Content.{Content}

@@ -1,8 +1,9 @@
 //! Displays bytes within a line.
-ghost use Rattle.std.specs.Prelude.{◌≡◌, ◌<◌, ◌++◌, IfOk, IsTrue, string_bytes};
+ghost use Rattle.std.specs.Prelude.{◌≡◌, ◌<◌, ◌++◌, IfNone, IfOk, IfSome, IsTrue, OnErr, false, string_bytes};
 ghost use Rattle.std.specs.Char.{is_control};
 ghost use Rattle.std.specs.Str.{NoCharPasses};
-ghost use Rattle.wt_inspection_views.specs.Escaped.{AddsShown, HasNoBackslash, digit_of};
+ghost use Rattle.std.specs.List.{flat_map};
+ghost use Rattle.wt_inspection_views.specs.Escaped.{AddsFront, AddsShown, AppendsFront, HasNoBackslash, IsPlainText, digit_of};
 ghost use Rattle.wt_inspection_views.specs.Escaped.{escaped_byte, hex_byte, is_plain_byte};
 
 use std::alloc::AllocError;
@@ -13,48 +14,77 @@ use std::alloc::AllocError;
 /// have different displayed forms
 /// ([`shown_bytes_are_told_apart`](crate::laws::shown_bytes_are_told_apart)).
 ///
-/// Returns [`AllocError`] if allocation fails. Some of the bytes may then be appended.
+/// Returns [`AllocError`] if allocation fails. Of the displayed form only the first bytes, or none,
+/// are then appended.
 pub fn add_escaped(line: &mut String, bytes: &[u8]) -> Result<(), AllocError>
-    ensures { IfOk result (λ _.
+    ensures added { IfOk result (λ _.
         AddsShown bytes.now (string_bytes line.old) (string_bytes line.new)) }
+    ensures begun { OnErr result
+        (AddsFront bytes.now (string_bytes line.old) (string_bytes line.new)) }
 {
-    if let Ok(text) = str::from_utf8(bytes) {
-        if is_plain(text) {
-            return line.push_str(text);
-        }
+    match plain_text(bytes) {
+        Some(text) => line.push_str(text),
+        None => add_each(line, bytes),
     }
-    for byte in bytes {
-        add_byte(line, *byte)?;
+}
+
+/// Returns bytes as text if they are UTF-8 without control characters and backslashes.
+fn plain_text(bytes: &[u8]) -> Option<&str>
+    ensures plain { IfSome result (λ t. (t.now ≡ bytes.now) × IsPlainText bytes.now) }
+    ensures other { IfNone result (¬ (IsPlainText bytes.now)) }
+{
+    match str::from_utf8(bytes) {
+        Ok(text) if is_plain(text) => Some(text),
+        _ => None,
     }
-    Ok(())
 }
 
 /// Returns whether a text contains no control characters and no backslashes.
 fn is_plain(text: &str) -> bool
-    ensures control { IsTrue result → NoCharPasses is_control text.now }
-    ensures backslash { IsTrue result → HasNoBackslash text.now }
+    ensures plain { IsTrue result
+        → NoCharPasses is_control text.now × HasNoBackslash text.now }
+    ensures other { NoCharPasses is_control text.now → HasNoBackslash text.now
+        → IsTrue result }
 {
     has_no_control(text) && !text.as_bytes().contains(&b'\\')
 }
 
 /// Returns whether a text contains no control characters.
 pub(crate) fn has_no_control(text: &str) -> bool
-    ensures { IsTrue result → NoCharPasses is_control text.now }
+    ensures none { IsTrue result → NoCharPasses is_control text.now }
+    ensures some { NoCharPasses is_control text.now → IsTrue result }
 {
     !text.chars().any(|c| c.is_control())
 }
 
+/// Appends each byte, escaped unless it is plain.
+fn add_each(line: &mut String, bytes: &[u8]) -> Result<(), AllocError>
+    ensures added { IfOk result (λ _. string_bytes line.new
+        ≡ string_bytes line.old ++ flat_map escaped_byte bytes.now) }
+    ensures begun { OnErr result (AppendsFront (flat_map escaped_byte bytes.now)
+        (string_bytes line.old) (string_bytes line.new)) }
+{
+    for byte in bytes {
+        add_byte(line, *byte)?;
+    }
+    Ok(())
+}
+
 /// Appends a byte, escaped unless it is plain.
 fn add_byte(line: &mut String, byte: u8) -> Result<(), AllocError>
-    ensures { IfOk result
+    ensures added { IfOk result
         (λ _. string_bytes line.new ≡ string_bytes line.old ++ escaped_byte byte) }
+    ensures begun { OnErr result
+        (AppendsFront (escaped_byte byte) (string_bytes line.old) (string_bytes line.new)) }
 {
     if is_printable(byte) {
-        return line.push(byte as char);
+        line.push(byte as char)?;
+        return Ok(());
     }
     line.push_str("\\x")?;
     line.push(hex_digit(byte / 16))?;
-    line.push(hex_digit(byte % 16))
+    line.push(hex_digit(byte % 16))?;
+    Ok(())
 }
 
 /// Returns whether a byte is printable ASCII other than a backslash.

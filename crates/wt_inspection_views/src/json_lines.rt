@@ -1,7 +1,7 @@
 //! Displays inspections as JSON (RFC 8259), one object per line.
-ghost use Rattle.std.specs.Prelude.{[], IfOk};
-ghost use Rattle.wt_inspection_views.specs.JsonLines.{AreJsonLines, in_object};
-ghost use Rattle.wt_inspection_views.specs.Objects.{AddsMembers, IsAt};
+ghost use Rattle.std.specs.Prelude.{[], ◌+◌, ◌-◌, ◌≤◌, IfOk, length};
+ghost use Rattle.wt_inspection_views.specs.JsonLines.{AreJsonLines, in_object, object_lines};
+ghost use Rattle.wt_inspection_views.specs.Objects.{AddsLines, AddsMembers, IsAt};
 
 mod object;
 mod parts;
@@ -34,7 +34,8 @@ pub fn write_json(
     bytes: &[u8],
     payload: bool,
 ) -> Result<Vec<u8>, AllocError>
-    ensures lines { IfOk result (λ text. AreJsonLines text.items) }
+    ensures lines { IfOk result
+        (λ text. AreJsonLines (object_lines inspection.now) text.items) }
 {
     let mut lines = Lines::new(alloc);
     let mut warnings = inspection.warnings.as_slice();
@@ -54,7 +55,10 @@ fn write_all_of<'a>(
     item: &Item,
     shown: &[u8],
     warnings: &'a [Warning],
-) -> &'a [Warning] {
+) -> &'a [Warning]
+    ensures fewer { length result.now ≤ length warnings.now }
+    ensures lines { AddsLines (1 + (length warnings.now - length result.now)) lines.old lines.new }
+{
     let (here, later) = split_warnings(item, warnings);
     write_item(lines, item, shown);
     write_warnings(lines, here);
@@ -62,7 +66,9 @@ fn write_all_of<'a>(
 }
 
 /// Appends the line of an item, with `shown` as its payload bytes.
-fn write_item(lines: &mut Lines, item: &Item, shown: &[u8]) {
+fn write_item(lines: &mut Lines, item: &Item, shown: &[u8])
+    ensures { AddsLines 1 lines.old lines.new }
+{
     let mut object = Object::new(lines.alloc);
     object.add_number("at", item.at as u64);
     object.add_number("length", item.length as u64);
@@ -186,14 +192,18 @@ fn add_datagram(object: &mut Object, head: DatagramHead)
 }
 
 /// Appends the lines of warnings.
-fn write_warnings(lines: &mut Lines, warnings: &[Warning]) {
+fn write_warnings(lines: &mut Lines, warnings: &[Warning])
+    ensures { AddsLines (length warnings.now) lines.old lines.new }
+{
     for warning in warnings {
         write_warning(lines, warning);
     }
 }
 
 /// Appends the line of a warning.
-fn write_warning(lines: &mut Lines, warning: &Warning) {
+fn write_warning(lines: &mut Lines, warning: &Warning)
+    ensures { AddsLines 1 lines.old lines.new }
+{
     let mut object = Object::new(lines.alloc);
     object.add_number("at", warning.at as u64);
     object.add_text("item", "warning");
@@ -213,7 +223,9 @@ fn add_place(object: &mut Object, line: Option<usize>)
 }
 
 /// Appends the line that says how an input of this length ends.
-fn write_end(lines: &mut Lines, end: End, length: usize) {
+fn write_end(lines: &mut Lines, end: End, length: usize)
+    ensures { AddsLines 1 lines.old lines.new }
+{
     let mut object = Object::new(lines.alloc);
     add_end(&mut object, end, length);
     lines.add(object)

@@ -1,16 +1,15 @@
 //! Lines of JSON, one object per line.
-ghost use Rattle.std.specs.Prelude.{◌≡◌, ℕ, Bool, true, false, List, [], ◌∷◌, ◌++◌, IfOk, IfSome};
+ghost use Rattle.std.specs.Prelude.{◌≡◌, ℕ, Bool, true, false, List, [], ◌∷◌, IfOk, IfSome};
 ghost use Rattle.std.specs.List.{flat_map};
 ghost use Rattle.std.specs.Prelude.{OnErr, OnOk, IsTrue, string_bytes};
 ghost use Rattle.std.specs.Str.{NoCharPasses};
 ghost use Rattle.json.specs.Token.{Token};
 ghost use Rattle.wt_inspection_views.specs.Escaped.{hex_byte};
-ghost use Rattle.wt_inspection_views.specs.JsonLines.{AreJsonLines, is_late_control};
+ghost use Rattle.wt_inspection_views.specs.JsonLines.{is_late_control};
 
 use crate::escaped::add_hex_byte;
 use json::Writer;
 use std::alloc::{AllocError, Global};
-use std::marker::Model;
 
 /// The initial capacity of an object, in bytes.
 const INITIAL_CAPACITY: usize = 256;
@@ -25,22 +24,14 @@ pub(super) struct Lines {
     is_whole: bool,
 }
 
-// The bytes of the lines.
-impl Model for Lines {
-    ghost Value = { List ℕ };
-
-    ghost view = { λ lines. lines.text.items };
-
-    ghost invariant = { λ lines. AreJsonLines lines.text.items };
-}
-
 impl Lines {
-    ghost use Rattle.wt_inspection_views.specs.JsonLines.{AreJsonLines, IsJsonLine, in_object};
-    ghost use Rattle.wt_inspection_views.specs.Objects.{IsAt};
+    ghost use Rattle.wt_inspection_views.specs.JsonLines.{AreJsonLines, in_object};
+    ghost use Rattle.wt_inspection_views.specs.Objects.{AddsLines, HasLines, IsAt};
 
     /// Creates an empty list of lines.
+    #[tactic(auto, unfolding(crate::specs::Objects::HasLines))]
     pub(super) fn new(alloc: Global) -> Self
-        ensures { result ≡ [] }
+        ensures { HasLines 0 result }
     {
         Lines {
             alloc,
@@ -50,8 +41,10 @@ impl Lines {
     }
 
     /// Ends an object and appends it as a line. Records a failed allocation.
+    #[tactic(auto, unfolding(crate::specs::Objects::HasLines))]
     pub(super) fn add(&mut self, object: Object)
         requires { IsAt (in_object []) object }
+        ensures { AddsLines 1 self.old self.new }
     {
         if self.try_add(object).is_err() {
             self.is_whole = false;
@@ -63,17 +56,18 @@ impl Lines {
     /// Returns [`AllocError`] if an allocation failed. The lines are then unchanged.
     fn try_add(&mut self, object: Object) -> Result<(), AllocError>
         requires { IsAt (in_object []) object }
-        ensures added { IfOk result
-            (λ _. (line : List ℕ) × IsJsonLine line × (self.new ≡ self.old ++ line)) }
-        ensures kept { OnErr result (self.new ≡ self.old) }
+        ensures added { OnOk result (AddsLines 1 self.old self.new) }
+        ensures kept { OnErr result (self.new.text.items ≡ self.old.text.items) }
     {
         let line = object.into_line()?;
-        self.text.extend_from_slice(line.as_slice())
+        self.text.extend_from_slice(line.as_slice())?;
+        Ok(())
     }
 
     /// Returns the lines, or [`AllocError`] if an allocation failed.
+    #[tactic(auto, unfolding(crate::specs::Objects::HasLines))]
     pub(super) fn into_bytes(self) -> Result<Vec<u8>, AllocError>
-        ensures { IfOk result (λ text. AreJsonLines text.items) }
+        ensures { (n : ℕ) → HasLines n self → IfOk result (λ text. AreJsonLines n text.items) }
     {
         if self.is_whole {
             Ok(self.text)

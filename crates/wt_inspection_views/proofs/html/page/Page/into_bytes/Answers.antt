@@ -1,4 +1,4 @@
-use Rattle.std.proofs.Common.{◌≡◌, ◌++◌, List, ℕ, cond, is_ok, ap, subst, ◌∙◌}
+use Rattle.std.proofs.Common.{◌≡◌, ◌++◌, List, ℕ, ap, ◌∙◌}
 use Rattle.wt_inspection_views.specs.declared.html.page.Markup.TheVariants.{Tail}
 use Rattle.wt_inspection_views.specs.Html.{markup_bytes}
 use Rattle.wt_inspection_views.proofs.PageLemmas.{IsPage-ended}

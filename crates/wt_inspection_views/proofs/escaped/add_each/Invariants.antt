@@ -2,7 +2,7 @@ use Rattle.std.proofs.Common.{◌≡◌, ◌++◌, take}
 use Rattle.std.specs.List.{flat_map}
 use Rattle.std.specs.String.{string_bytes}
 use Rattle.wt_inspection_views.specs.Escaped.{escaped_byte}
-use Rattle.wt_inspection_views.proofs.escaped.add_escaped.Given as goal
+use Rattle.wt_inspection_views.proofs.escaped.add_each.Given as goal
 
 abbrev pub invariant-loop-byte : goal.invariant-loop-byte
 invariant-loop-byte l =
