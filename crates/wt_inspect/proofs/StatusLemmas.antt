@@ -1,5 +1,5 @@
 -- The statuses of inspections.
-use Rattle.std.proofs.Common.{◌≡◌, ℕ, Bool, true, false, List, refl, inl, inr, ◌⊎◌, ◌∙◌}
+use Rattle.std.proofs.Common.{◌≡◌, ℕ, Bool, true, false, List, refl, inl, inr, ◌⊎◌}
 use Rattle.wt_inspection.specs.Results.{End, has_fault}
 use Rattle.wt_inspect.specs.Shown.{Shows}
 use Rattle.wt_inspect.specs.Statuses.{end_status}

@@ -1,3 +1,6 @@
+pub mod Input
+pub mod HexText
+pub mod HexReading
 pub mod Statuses
 pub mod CommandLine
 pub mod Shown
