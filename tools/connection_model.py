@@ -1,8 +1,8 @@
 """What a stream of a connection has to give, from all of its bytes at once.
 
 It is written from RFC 9114, RFC 9204 and draft-ietf-webtrans-http3-02 and shares no code with the
-program. A section is one of RFC 9114. What field sections contain is not judged, so that a message
-has no interim responses. The own settings allow no dynamic table.
+program. A section is one of RFC 9114. What field sections contain is not judged; which of them are
+those of interim responses is said by their number. The own settings allow no dynamic table.
 """
 
 from dataclasses import dataclass
@@ -26,7 +26,7 @@ DEFAULTS |= {WEBTRANSPORT_ON: "0", 0xC671706A: "0", 0x14E9CD29: "0"}
 FLAGS, OF_HTTP2 = {CONNECT, DATAGRAM, WEBTRANSPORT_ON}, {0x00, 0x02, 0x03, 0x04, 0x05}
 # The errors of a stream (8.1).
 OF_STREAM = {0x10D, 0x10E, 0x170D7B68, 0x3994BD84}
-MAX_SECTION, MAX_SETTINGS, MAX_IDLE = 65_536, 4096, 1024
+MAX_SECTION, MAX_SETTINGS, MAX_IDLE, MAX_INTERIMS = 65_536, 4096, 1024, 64
 # What comes of a stream by what became of its session.
 SESSION_FAULTS = {"over": 0x170D7B68, "refused": 0x3994BD84, "impossible": 0x108}
 CRITICAL = {"control", "encoder", "decoder"}
@@ -94,15 +94,16 @@ class Side:
 
 
 class Model:
-    """The events of one stream: its bytes, whether it ends after them, who opened it, and what
-    becomes of each session, of those for which it is known."""
+    """The events of one stream: its bytes, whether it ends after them, what becomes of each session,
+    of those for which it is known, and how many of its sections are those of interim responses."""
 
-    def __init__(self, side, content, fin, states):
+    def __init__(self, side, content, fin, states, interims=0):
         self.side, self.content, self.fin, self.states = side, content, fin, states
+        self.interims = interims
         self.at, self.events, self.is_over, self.purpose = 0, [], False, None
 
-    def fault(self, code):
-        scope = "stream" if code in OF_STREAM else "connection"
+    def fault(self, code, of_stream=False):
+        scope = "stream" if of_stream or code in OF_STREAM else "connection"
         self.events.append(("fault", code, scope))
         self.is_over = True
 
@@ -188,7 +189,7 @@ class Model:
     # ---- the frames of a message (4.1)
 
     def message(self):
-        sections = idle = 0
+        sections = idle = told = 0
         while (head := self.head()) is not None:
             kind, size, start = head
             known = self.known_fault(kind, sections)
@@ -203,6 +204,11 @@ class Model:
             sections += kind == HEADERS
             if not self.take(kind, size, start):
                 return self.fault(0x106) if self.fin else None
+            if kind == HEADERS and size <= MAX_SECTION and self.interims:
+                self.interims -= 1
+                if sections == 1 and told == MAX_INTERIMS:
+                    return self.fault(0x107, of_stream=True)
+                told, sections = (told + 1, 0) if sections == 1 else (told, sections)
         return self.end_of_message(sections)
 
     def known_fault(self, kind, sections):
@@ -299,10 +305,11 @@ class Model:
         return 0x108 if before is not None and number > before else None
 
 
-def events_of(side, stream, content, fin, states, opened=None):
+def events_of(side, stream, content, fin, states, opened=None, interims=0):
     """Returns the events of a stream, and what it is for. `opened` is what this end opened it for:
-    "request" or "session"."""
-    model = Model(side, content, fin, states)
+    "request" or "session"; `interims` says how many sections of a response are those of interim
+    ones."""
+    model = Model(side, content, fin, states, interims)
     if opened == "request":
         model.message()
     elif opened:

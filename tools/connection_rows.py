@@ -35,7 +35,8 @@ SETTINGS = b"\0" + frame(0x04)
 class Row:
     """The bytes of a stream, whether it ends, and the code of its error, or None. The end that
     reads is a server with WebTransport, unless `client` or `plain` say otherwise. `before` is a
-    line of the script, or several, that come first; `after` comes last."""
+    line of the script, or several, that come first; `after` comes last. The error ends the stream
+    alone if its code is one of streams, or if `of_stream` says so."""
 
     shows: str
     stream: int
@@ -46,6 +47,12 @@ class Row:
     plain: bool = False
     before: str = ""
     after: str = ""
+    of_stream: bool = False
+
+    def faults(self):
+        """Returns the errors: the code of each, and what it ends."""
+        scope = "stream" if self.of_stream or self.code in OF_STREAM else "connection"
+        return [(self.code, scope)] if self.code is not None else []
 
     def script(self, size, with_neighbour):
         """Returns the script, in pieces of this size, and beside another stream or alone."""
@@ -68,10 +75,8 @@ class Row:
     def difference(self, found, with_neighbour):
         """Returns what is wrong with the events."""
         faults = [event[1:] for _, event in found if event[0] == "fault"]
-        scope = "stream" if self.code in OF_STREAM else "connection"
-        wanted = [(self.code, scope)] if self.code is not None else []
-        if faults != wanted:
-            return f"wanted the errors {wanted}, found {faults}"
+        if faults != self.faults():
+            return f"wanted the errors {self.faults()}, found {faults}"
         is_over = any(ends_connection(event) for _, event in found)
         ends = [event for stream, event in found if event[0] == "end" and int(stream) >= 1000]
         if with_neighbour and (len(ends) != 1) != is_over:
@@ -89,6 +94,14 @@ def request(*frames):
 
 def settings(*pairs):
     return b"\0" + frame(0x04, b"".join(number(name) + number(value) for name, value in pairs))
+
+
+def response(shows, *frames, told, code=None):
+    """Returns the row of a response that begins with HEADERS, and ends. So many of its sections are
+    those of interim ones."""
+    row = Row(shows, 0, request(*frames), code, end=True, client=True)
+    row.before, row.of_stream = f"request 0\ninterims 0 {told}", code == LOAD and told > 64
+    return row
 
 
 HTTP2 = (0x02, 0x06, 0x08, 0x09)
@@ -283,6 +296,22 @@ ROWS = [
     Row(
         "a response without bytes (4.1)", 0, b"", MESSAGE, client=True, end=True, before="request 0"
     ),
+    # Interim responses (4.1).
+    response("an interim response, and the final one", frame(0x21) + HEADERS, frame(0, b"x"), told=1),
+    response("two interim responses, and trailers", HEADERS, request(frame(0, b"x"), HEADERS), told=2),
+    response("DATA after an interim response", frame(0, b"x"), code=UNEXPECTED, told=1),
+    response("an empty DATA frame after one", frame(0), code=UNEXPECTED, told=1),
+    response("two sections after the final one", request(HEADERS, HEADERS), code=UNEXPECTED, told=1),
+    response("DATA after trailers", HEADERS, HEADERS, frame(0, b"x"), code=UNEXPECTED, told=1),
+    response("SETTINGS after one", frame(4), code=UNEXPECTED, told=1),
+    response("an interim response alone", code=MESSAGE, told=1),
+    response("one, and reserved frames", frame(0x21), frame(0x40), code=MESSAGE, told=1),
+    response("an end within HEADERS after one", b"\x01\x02\0", code=FRAME, told=1),
+    response("64 interim responses", HEADERS * 64, frame(0, b"x"), told=64),
+    response("65 interim responses", HEADERS * 65, code=LOAD, told=65),
+    response("1024 frames without content after one", frame(0x21) * 1024, HEADERS, told=1),
+    response("1025 of them", frame(0x21) * 1025, HEADERS, code=LOAD, told=1),
+    Row("no response to a server", REQUEST, request(frame(0, b"x")), before="interims 0 1"),
     Row("HEADERS of 4097 bytes", REQUEST, b"\1" + number(4097) + bytes(4097), end=True),
     Row("HEADERS of 65537 bytes (4.2.2)", REQUEST, b"\1" + number(65537) + bytes(9)),
     Row("DATA of 2^62 - 1 bytes", REQUEST, request(b"\0" + number(2**62 - 1) + b"abc")),

@@ -24,6 +24,7 @@ SECTIONS = {
     # a request, a response, and trailers, with one more line to make them longer
     "request": b"\0\0\xd1\xd7\x50\x01a\xc1",
     "response": b"\0\0\xd9",
+    "interim": b"\0\0\xd8",
     "trailers": b"\0\0\x23abc\x01x",
 }
 SETTINGS = [(0x01, 0), (0x06, 99), (0x07, 0), (0x08, 1), (0x33, 1), (0x2B603742, 1), (0x21, 7)]
@@ -83,13 +84,14 @@ class Maker:
     def unknown(self):
         return self.frame(self.rng.choice(UNKNOWN), self.bytes(12))
 
-    def message(self, name):
+    def message(self, name, interims=0):
+        """Returns a message, with so many interim responses before it."""
         rng, frames = self.rng, []
-        for part in (name, None, "trailers"):
+        for part in (*["interim"] * interims, name, None, "trailers"):
             frames += [self.unknown() for _ in range(rng.choice((0, 0, 0, 1, 2)))]
             if part is None:
                 frames += [self.frame(0x00, self.bytes(40)) for _ in range(rng.randrange(4))]
-            elif part == name or rng.random() < 0.3:
+            elif part != "trailers" or rng.random() < 0.3:
                 frames.append(self.section(part))
         if rng.random() < 0.01:
             frames += [frame(0x21)] * rng.choice((1022, 1023, 1024, 1025, 1026))
@@ -161,7 +163,8 @@ def is_critical(stream, content):
 @dataclass
 class Stream:
     """A stream of a script: its ID, its bytes, whether it ends after them, who opened it, what it
-    has to give, what it is for, and whether it is reset or abandoned at last."""
+    has to give, what it is for, whether it is reset or abandoned at last, and how many of its sections
+    are said to be those of interim responses."""
 
     stream: int
     content: bytes
@@ -170,6 +173,7 @@ class Stream:
     events: list
     purpose: str
     left_by: str = ""
+    interims: int = 0
 
     def lines(self, pieces):
         """Returns the lines of its pieces, which end at these offsets, and of its end."""
@@ -205,7 +209,7 @@ class Script:
     def add(self, counts):
         """Adds a stream of a random kind."""
         rng, maker, side = self.rng, self.maker, self.side
-        draw, opened = rng.random(), None
+        draw, opened, interims = rng.random(), None, 0
         if draw < 0.4:
             first, content = 2 if side.is_server else 3, maker.unidirectional()
         elif draw < 0.55:
@@ -215,12 +219,15 @@ class Script:
         elif side.is_server:
             first, content = 0, maker.message("request")
         else:
-            first, content, opened = 0, maker.message("response"), "request"
+            interims = rng.choice((0, 0, 0, 1, 1, 2, 3)) if rng.random() < 0.98 else 64
+            first, content, opened = 0, maker.message("response", interims), "request"
+            if maker.has_errors and rng.random() < 0.2:
+                interims = rng.choice((0, 1, 2, 4, 65))
         stream = first + 4 * counts.get(first, 0)
         counts[first] = counts.get(first, 0) + 1
         fin = rng.random() < 0.6 and (maker.has_errors or not is_critical(stream, content))
-        events, purpose = events_of(side, stream, content, fin, self.states, opened)
-        self.streams.append(Stream(stream, content, fin, opened, events, purpose))
+        events, purpose = events_of(side, stream, content, fin, self.states, opened, interims)
+        self.streams.append(Stream(stream, content, fin, opened, events, purpose, interims=interims))
         if not fin and rng.random() < 0.2:
             self.leave(self.streams[-1])
 
@@ -250,6 +257,7 @@ class Script:
         for stream in self.streams:
             if stream.opened == "request":
                 lines.append(f"request {stream.stream}\n")
+                lines.append(f"interims {stream.stream} {stream.interims}\n")
             elif stream.opened:
                 lines.append(f"session {stream.stream} {OWN_SESSION}\n")
         return "".join(lines)

@@ -28,21 +28,21 @@ def number_at(content, at):
 @dataclass
 class Recorded:
     """A stream of a connection, as the peer of its sender receives it: its ID, its bytes, how it
-    ended, who opened it (None: the sender), its session if it has one, whether it has interim
-    responses, and its events."""
+    ended, who opened it (None: the sender), its session if it has one, how many interim responses it
+    has, and its events."""
 
     stream: int
     content: bytes
     ended: str
     opened: str = None
     session: int = None
-    is_interim: bool = False
+    interims: int = 0
     events: list = field(default_factory=list)
 
-    def first_line(self):
-        """Returns the line that comes before its bytes."""
+    def first_lines(self):
+        """Returns the lines that come before its bytes."""
         if self.opened == REQUEST:
-            return f"request {self.stream}\n"
+            return f"request {self.stream}\ninterims {self.stream} {self.interims}\n"
         if self.opened == SESSION:
             return f"session {self.stream} {self.session}\n"
         return ""
@@ -194,10 +194,8 @@ class Connection:
         return sorted({stream.session for stream in self.streams} - {None})
 
     def without_errors(self):
-        """Returns the same connection without streams that end it and without interim responses,
-        or None if there are none."""
-        kept = [s for s in self.streams if not s.is_interim]
-        kept = [s for s in kept if not any(map(ends_connection, s.events))]
+        """Returns the same connection without streams that end it, or None if there are none."""
+        kept = [s for s in self.streams if not any(map(ends_connection, s.events))]
         if len(kept) == len(self.streams):
             return None
         other = Connection(self.name)
@@ -214,7 +212,7 @@ class Connection:
         rng.shuffle(order)
         left = [iter(lines) for lines in parts]
         side = "server" if self.is_to_server else "client"
-        head = [f"{side} webtransport\n", *(stream.first_line() for stream in self.streams)]
+        head = [f"{side} webtransport\n", *(stream.first_lines() for stream in self.streams)]
         last = [stream.reset_line() for stream in self.streams if stream.is_reset_last()]
         return "".join([*head, *(next(left[index]) for index in order), *last])
 
@@ -234,7 +232,7 @@ def connections_in(folder):
         wanted = Wanted(content, kind, ended, found[file])
         recorded = Recorded(stream, content, ended, events=wanted.all())
         recorded.session = wanted.session
-        recorded.is_interim = has_interim(said[file])
+        recorded.interims = interims_in(said[file])
         if kind == "WebTransport stream, opened by the other end":
             recorded.opened, recorded.session = SESSION, session_of(file, found)
         elif kind == "response, opened by the other end":
@@ -243,10 +241,10 @@ def connections_in(folder):
     return list(connections.values())
 
 
-def has_interim(said):
-    """Returns whether there is an interim response (RFC 9114, section 4.1)."""
+def interims_in(said):
+    """Returns how many interim responses there are (RFC 9114, section 4.1)."""
     sections = [thing["HEADERS"] for thing in said if "HEADERS" in thing]
-    return any(name == ":status" and value < "2" for lines in sections for name, value in lines)
+    return sum(name == ":status" and value < "2" for lines in sections for name, value in lines)
 
 
 def session_of(file, found):

@@ -16,19 +16,23 @@ class ModelTest(unittest.TestCase):
             states = {session: "open" for session in connection.sessions()}
             for stream in connection.streams:
                 fin = stream.ended == "fin"
+                opened, interims = stream.opened, stream.interims
                 events, _ = events_of(
-                    side, stream.stream, stream.content, fin, states, stream.opened
+                    side, stream.stream, stream.content, fin, states, opened, interims
                 )
                 self.assertEqual(events, stream.events, f"{connection.name} {stream.stream}")
 
     def test_rows_of_one_stream(self):
         for row in ROWS:
-            if row.after or row.before not in ("", "request 0"):
+            if row.after or (row.before and not row.before.startswith("request 0")):
                 continue
-            side, opened = Side(not row.client, not row.plain), row.before.split(" ")[0]
-            events, _ = events_of(side, row.stream, row.data, row.end, {}, opened)
-            codes = [event[1] for event in events if event[0] == "fault"]
-            self.assertEqual(codes, [] if row.code is None else [row.code], row.shows)
+            side, words = Side(not row.client, not row.plain), row.before.split()
+            opened, interims = words[:1], int(words[-1]) if "interims" in words else 0
+            events, _ = events_of(
+                side, row.stream, row.data, row.end, {}, opened and opened[0], interims
+            )
+            faults = [event[1:] for event in events if event[0] == "fault"]
+            self.assertEqual(faults, row.faults(), row.shows)
 
 
 class DifferenceTest(unittest.TestCase):

@@ -7,6 +7,8 @@ mod bounds;
 #[cfg(test)]
 mod control_streams;
 #[cfg(test)]
+mod interims;
+#[cfg(test)]
 mod messages;
 #[cfg(test)]
 mod reading;

@@ -12,6 +12,8 @@ pub enum Command {
     Begin(Side, bool),
     /// The stream with this ID is a request that was opened here.
     Request(u64),
+    /// So many HEADERS of the response on this stream are those of interim responses.
+    Interims(u64, u64),
     /// The stream with this ID was opened here for this session.
     Session(u64, u64),
     /// The next bytes of a stream, and whether it ends after them.
@@ -38,6 +40,10 @@ impl Command {
             "server" => Ok(Command::Begin(Side::Server, rest == "webtransport")),
             "client" => Ok(Command::Begin(Side::Client, rest == "webtransport")),
             "request" => Ok(Command::Request(number(rest)?)),
+            "interims" => {
+                let (id, count) = first_word(rest);
+                Ok(Command::Interims(number(id)?, number(count)?))
+            }
             "session" => {
                 let (id, session) = first_word(rest);
                 Ok(Command::Session(number(id)?, number(session)?))
@@ -58,7 +64,7 @@ fn first_word(line: &str) -> (&str, &str) {
     line.split_once(' ').unwrap_or((line, ""))
 }
 
-/// Reads an ID.
+/// Reads an ID or a count.
 fn number(word: &str) -> Result<u64> {
     word.parse::<u64>().context("no number")
 }

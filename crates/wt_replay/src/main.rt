@@ -6,6 +6,7 @@
 //!   side, whose own SETTINGS enable WebTransport or do not. What is left of the one before is
 //!   printed first.
 //! - `request ID`: stream ID is a request that was opened here.
+//! - `interims ID N`: the first N HEADERS of that stream are those of interim responses.
 //! - `session ID SESSION`: stream ID was opened here for this session.
 //! - `bytes ID HEX`: the next bytes of a stream. Without one of the lines above the peer opened it.
 //! - `end ID HEX`, `end ID`: its last bytes, and its end.

@@ -7,6 +7,7 @@ use wtp_connection::connection::{Connection, Found, Known};
 use wtp_connection::fields::Fields;
 use wtp_connection::stream::{Purpose, Stream};
 use wtp_frames::endpoint::Endpoint;
+use wtp_frames::frame_type::FrameType;
 
 /// A stream.
 #[derive(Drop)]
@@ -19,6 +20,8 @@ pub struct Entry {
     bytes: Vec<u8>,
     /// Whether it ends after them.
     fin: bool,
+    /// How many of the next HEADERS are those of interim responses.
+    interims: u64,
 }
 
 impl Entry {
@@ -29,6 +32,7 @@ impl Entry {
             at: 0,
             bytes: Vec::new(alloc),
             fin: false,
+            interims: 0,
         }
     }
 
@@ -37,6 +41,11 @@ impl Entry {
         self.bytes.extend_from_slice(bytes)?;
         self.fin |= fin;
         Ok(())
+    }
+
+    /// Sets how many of the next HEADERS are those of interim responses.
+    pub fn expect_interims(&mut self, count: u64) {
+        self.interims = count;
     }
 
     /// Returns whether it is a stream of this session.
@@ -117,11 +126,24 @@ impl Receiver {
                     let known = self.known(session);
                     self.join(id, entry, known)?;
                 }
+                Found::Frame(FrameType::Headers, _, _) => self.tell(id, entry)?,
                 Found::More(_) => break,
                 _ => {}
             }
         }
         entry.consume(alloc, start)
+    }
+
+    /// Says that the HEADERS that came last are those of an interim response, if they are.
+    fn tell(&mut self, id: u64, entry: &mut Entry) -> Result<(), AllocError> {
+        if entry.interims == 0 {
+            return Ok(());
+        }
+        entry.interims -= 1;
+        match self.connection.interim(&mut entry.stream) {
+            Some(fault) => add_fault(&mut self.text, id, entry.at, fault),
+            None => Ok(()),
+        }
     }
 
     /// Returns what is known of a session.

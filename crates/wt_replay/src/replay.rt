@@ -50,6 +50,11 @@ impl Replay {
                 let stream = Stream::of_request(self.endpoint);
                 self.streams.insert(id, Entry::new(alloc, stream))?;
             }
+            Command::Interims(id, count) => {
+                if let Some(entry) = self.streams.get_mut(&id) {
+                    entry.expect_interims(count);
+                }
+            }
             Command::Session(id, session) => {
                 let stream = Stream::of_session(session);
                 self.streams.insert(id, Entry::new(alloc, stream))?;

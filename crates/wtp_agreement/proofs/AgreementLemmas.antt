@@ -1,5 +1,5 @@
 -- A frame of the wire grammar in a run.
-use Rattle.std.proofs.Common.{◌≡◌, ℕ, ◌≤◌, Bool, true, List, [], ◌∷◌, ◌++◌, map, length, None, refl, sym, ap, subst, ◌∙◌, arith, append_assoc, inl, inr}
+use Rattle.std.proofs.Common.{◌≡◌, ℕ, ◌≤◌, Bool, true, false, List, [], ◌∷◌, ◌++◌, map, length, None, refl, sym, ap, subst, ◌∙◌, arith, append_assoc, inl, inr}
 use Rattle.std.proofs.lemmas.Bool.{le-ltb}
 use Rattle.wtp_wire.specs.declared.frame.kind.FrameKind.{FrameKind}
 use Rattle.wtp_wire.specs.declared.frame.kind.FrameKind.TheVariants as wire
@@ -56,37 +56,37 @@ has_frame k payload bytes rest e =
           ∙ append_assoc first second payload);
     }
 
-pub headers_first : (e : Endpoint) (s : Bool) (n : ℕ) (bytes payload rest : List ℕ) → 4096 ≤ e.max_section → front bytes ≡ Framed (PlainOf wire.Headers payload) rest → run (between e BeforeHeaders s n) bytes ≡ preceded (Whole kind.Headers payload ∷ []) (run (between e Body s 0) rest)
-headers_first e s n bytes payload rest l h =
+pub headers_first : (e : Endpoint) (k : ℕ) (s : Bool) (n : ℕ) (bytes payload rest : List ℕ) → 4096 ≤ e.max_section → front bytes ≡ Framed (PlainOf wire.Headers payload) rest → run (between e k BeforeHeaders s n) bytes ≡ preceded (Whole kind.Headers payload ∷ []) (run (between e k Body false 0) rest)
+headers_first e k s n bytes payload rest l h =
     let x : HasFrame wire.Headers payload bytes rest = has_frame wire.Headers payload bytes rest h in
     let typed : IsFrame 0x01 x.frame = subst (λ (i : ℕ). IsFrame i x.frame) x.is_kind x.is in
     let small : length x.frame.payload ≤ e.max_section = omega (arith, l, x.small, ap length x.same) in
-    ap (λ (b : List ℕ). run (between e BeforeHeaders s n) b) x.parts
-    ∙ whole_written (between e BeforeHeaders s n) 0x01 x.frame rest Body (record { intact = refl; none = refl }) typed (rw (le-ltb e.max_section (length x.frame.payload) small) refl) refl
-    ∙ ap (λ (p : List ℕ). preceded (Whole kind.Headers p ∷ []) (run (between e Body s 0) rest)) x.same
+    ap (λ (b : List ℕ). run (between e k BeforeHeaders s n) b) x.parts
+    ∙ whole_written (between e k BeforeHeaders s n) 0x01 x.frame rest Body (record { intact = refl; none = refl }) typed (rw (le-ltb e.max_section (length x.frame.payload) small) refl) refl
+    ∙ ap (λ (p : List ℕ). preceded (Whole kind.Headers p ∷ []) (run (between e k Body false 0) rest)) x.same
 
-pub headers_after : (e : Endpoint) (s : Bool) (n : ℕ) (bytes payload rest : List ℕ) → 4096 ≤ e.max_section → front bytes ≡ Framed (PlainOf wire.Headers payload) rest → run (between e Body s n) bytes ≡ preceded (Whole kind.Headers payload ∷ []) (run (between e AfterTrailers s 0) rest)
-headers_after e s n bytes payload rest l h =
+pub headers_after : (e : Endpoint) (k : ℕ) (s : Bool) (n : ℕ) (bytes payload rest : List ℕ) → 4096 ≤ e.max_section → front bytes ≡ Framed (PlainOf wire.Headers payload) rest → run (between e k Body s n) bytes ≡ preceded (Whole kind.Headers payload ∷ []) (run (between e k AfterTrailers false 0) rest)
+headers_after e k s n bytes payload rest l h =
     let x : HasFrame wire.Headers payload bytes rest = has_frame wire.Headers payload bytes rest h in
     let typed : IsFrame 0x01 x.frame = subst (λ (i : ℕ). IsFrame i x.frame) x.is_kind x.is in
     let small : length x.frame.payload ≤ e.max_section = omega (arith, l, x.small, ap length x.same) in
-    ap (λ (b : List ℕ). run (between e Body s n) b) x.parts
-    ∙ whole_written (between e Body s n) 0x01 x.frame rest AfterTrailers (record { intact = refl; none = refl }) typed (rw (le-ltb e.max_section (length x.frame.payload) small) refl) refl
-    ∙ ap (λ (p : List ℕ). preceded (Whole kind.Headers p ∷ []) (run (between e AfterTrailers s 0) rest)) x.same
+    ap (λ (b : List ℕ). run (between e k Body s n) b) x.parts
+    ∙ whole_written (between e k Body s n) 0x01 x.frame rest AfterTrailers (record { intact = refl; none = refl }) typed (rw (le-ltb e.max_section (length x.frame.payload) small) refl) refl
+    ∙ ap (λ (p : List ℕ). preceded (Whole kind.Headers p ∷ []) (run (between e k AfterTrailers false 0) rest)) x.same
 
-pub settings_first : (e : Endpoint) (s : Bool) (n : ℕ) (bytes payload rest : List ℕ) → front bytes ≡ Framed (PlainOf wire.Settings payload) rest → run (between e BeforeSettings s n) bytes ≡ preceded (Whole kind.Settings payload ∷ []) (run (between e (AfterSettings None None) s 0) rest)
-settings_first e s n bytes payload rest h =
+pub settings_first : (e : Endpoint) (k : ℕ) (s : Bool) (n : ℕ) (bytes payload rest : List ℕ) → front bytes ≡ Framed (PlainOf wire.Settings payload) rest → run (between e k BeforeSettings s n) bytes ≡ preceded (Whole kind.Settings payload ∷ []) (run (between e k (AfterSettings None None) false 0) rest)
+settings_first e k s n bytes payload rest h =
     let x : HasFrame wire.Settings payload bytes rest = has_frame wire.Settings payload bytes rest h in
     let typed : IsFrame 0x04 x.frame = subst (λ (i : ℕ). IsFrame i x.frame) x.is_kind x.is in
     let small : length x.frame.payload ≤ 4096 = omega (arith, x.small, ap length x.same) in
-    ap (λ (b : List ℕ). run (between e BeforeSettings s n) b) x.parts
-    ∙ whole_written (between e BeforeSettings s n) 0x04 x.frame rest (AfterSettings None None) (record { intact = refl; none = refl }) typed (rw (le-ltb 4096 (length x.frame.payload) small) refl) refl
-    ∙ ap (λ (p : List ℕ). preceded (Whole kind.Settings p ∷ []) (run (between e (AfterSettings None None) s 0) rest)) x.same
+    ap (λ (b : List ℕ). run (between e k BeforeSettings s n) b) x.parts
+    ∙ whole_written (between e k BeforeSettings s n) 0x04 x.frame rest (AfterSettings None None) (record { intact = refl; none = refl }) typed (rw (le-ltb 4096 (length x.frame.payload) small) refl) refl
+    ∙ ap (λ (p : List ℕ). preceded (Whole kind.Settings p ∷ []) (run (between e k (AfterSettings None None) false 0) rest)) x.same
 
-pub data_after : (e : Endpoint) (s : Bool) (n : ℕ) (bytes payload rest : List ℕ) → HasRoom n payload → front bytes ≡ Framed (PlainOf wire.Data payload) rest → run (between e Body s n) bytes ≡ preceded (map Byte payload) (run (between e Body true (count_data n payload)) rest)
-data_after e s n bytes payload rest l h =
+pub data_after : (e : Endpoint) (k : ℕ) (s : Bool) (n : ℕ) (bytes payload rest : List ℕ) → HasRoom n payload → front bytes ≡ Framed (PlainOf wire.Data payload) rest → run (between e k Body s n) bytes ≡ preceded (map Byte payload) (run (between e k Body true (count_data n payload)) rest)
+data_after e k s n bytes payload rest l h =
     let x : HasFrame wire.Data payload bytes rest = has_frame wire.Data payload bytes rest h in
     let typed : IsFrame 0x00 x.frame = subst (λ (i : ℕ). IsFrame i x.frame) x.is_kind x.is in
-    ap (λ (b : List ℕ). run (between e Body s n) b) x.parts
-    ∙ data_run e s n x.frame rest typed (subst (λ (p : List ℕ). HasRoom n p) (sym x.same) l)
-    ∙ ap (λ (p : List ℕ). preceded (map Byte p) (run (between e Body true (count_data n p)) rest)) x.same
+    ap (λ (b : List ℕ). run (between e k Body s n) b) x.parts
+    ∙ data_run e k s n x.frame rest typed (subst (λ (p : List ℕ). HasRoom n p) (sym x.same) l)
+    ∙ ap (λ (p : List ℕ). preceded (map Byte p) (run (between e k Body true (count_data n p)) rest)) x.same

@@ -2,7 +2,7 @@
 //! and no rule is new. There is no product code here.
 #![tactic(auto)]
 
-ghost use Rattle.std.specs.Prelude.{◌≡◌, ℕ, ◌<◌, ◌≤◌, Bool, true, List, [], ◌∷◌, map, None};
+ghost use Rattle.std.specs.Prelude.{◌≡◌, ℕ, ◌<◌, ◌≤◌, Bool, false, true, List, [], ◌∷◌, map, None};
 ghost use Rattle.wtp_wire.specs.Content.{PlainOf};
 ghost use Rattle.wtp_wire.specs.Front.{Framed, front};
 ghost use Rattle.wtp_wire.specs.declared.frame.kind.FrameKind.TheVariants as wire;
@@ -27,21 +27,21 @@ mod instances;
 /// - A HEADERS frame after it, as `01 01 d2`: these are the trailers, and no DATA frame may follow.
 /// - The first frame of a control stream, as `04 02 33 01`: it is given whole.
 pub fn run_goes_by_front()
-    ensures headers { (e : Endpoint) (s : Bool) (n : ℕ) (bytes payload rest : List ℕ)
+    ensures headers { (e : Endpoint) (k : ℕ) (s : Bool) (n : ℕ) (bytes payload rest : List ℕ)
         → 4096 ≤ e.max_section → front bytes ≡ Framed (PlainOf wire.Headers payload) rest
-        → run (between e BeforeHeaders s n) bytes
-        ≡ preceded (Whole kind.Headers payload ∷ []) (run (between e Body s 0) rest) }
-    ensures content { (e : Endpoint) (s : Bool) (n : ℕ) (bytes payload rest : List ℕ)
+        → run (between e k BeforeHeaders s n) bytes
+        ≡ preceded (Whole kind.Headers payload ∷ []) (run (between e k Body false 0) rest) }
+    ensures content { (e : Endpoint) (k : ℕ) (s : Bool) (n : ℕ) (bytes payload rest : List ℕ)
         → HasRoom n payload → front bytes ≡ Framed (PlainOf wire.Data payload) rest
-        → run (between e Body s n) bytes
-        ≡ preceded (map Byte payload) (run (between e Body true (count_data n payload)) rest) }
-    ensures trailers { (e : Endpoint) (s : Bool) (n : ℕ) (bytes payload rest : List ℕ)
+        → run (between e k Body s n) bytes
+        ≡ preceded (map Byte payload) (run (between e k Body true (count_data n payload)) rest) }
+    ensures trailers { (e : Endpoint) (k : ℕ) (s : Bool) (n : ℕ) (bytes payload rest : List ℕ)
         → 4096 ≤ e.max_section → front bytes ≡ Framed (PlainOf wire.Headers payload) rest
-        → run (between e Body s n) bytes
-        ≡ preceded (Whole kind.Headers payload ∷ []) (run (between e AfterTrailers s 0) rest) }
-    ensures settings { (e : Endpoint) (s : Bool) (n : ℕ) (bytes payload rest : List ℕ)
+        → run (between e k Body s n) bytes
+        ≡ preceded (Whole kind.Headers payload ∷ []) (run (between e k AfterTrailers false 0) rest) }
+    ensures settings { (e : Endpoint) (k : ℕ) (s : Bool) (n : ℕ) (bytes payload rest : List ℕ)
         → front bytes ≡ Framed (PlainOf wire.Settings payload) rest
-        → run (between e BeforeSettings s n) bytes
+        → run (between e k BeforeSettings s n) bytes
         ≡ preceded (Whole kind.Settings payload ∷ [])
-        (run (between e (AfterSettings None None) s 0) rest) }
+        (run (between e k (AfterSettings None None) false 0) rest) }
 {}

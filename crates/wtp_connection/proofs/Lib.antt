@@ -6,3 +6,4 @@ pub mod SettingFrameLemmas
 pub mod SettingLawLemmas
 pub mod SettingLemmas
 pub mod StreamLemmas
+pub mod InterimLemmas

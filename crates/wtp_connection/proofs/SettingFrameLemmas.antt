@@ -29,7 +29,7 @@ control_run e t bytes h = ap (λ (o : Option (ℕ × List ℕ)). by_opening (con
 record Starts (e : Endpoint) (f : Frame) (more : List ℕ) : Type 0 where
   streamed : Bool
   idle : ℕ
-  is : run (control_reader e) (written f ++ more) ≡ preceded (Whole kind.Settings f.payload ∷ []) (run (between e (AfterSettings None None) streamed idle) more)
+  is : run (control_reader e) (written f ++ more) ≡ preceded (Whole kind.Settings f.payload ∷ []) (run (between e 0 (AfterSettings None None) streamed idle) more)
 
 starts : (e : Endpoint) (f : Frame) (more : List ℕ) → IsFrame 0x04 f → length f.payload ≤ 4096 → Starts e f more
 starts e f more frame size =
@@ -44,20 +44,20 @@ starts e f more frame size =
 abbrev then_items : Run → Connection → StreamRun
 then_items y d = of_items d (λ k. rests k (Frames y.reader true) y.left) y.items
 
-settings_start : (e : Endpoint) (t more : List ℕ) (f : Frame) (r : Result PeerSettings Fault) (s : Starts e f more) → Encodes 0x00 t → settings_in f.payload ≡ r → run_stream (connection_of e) Uni (t ++ (written f ++ more)) ≡ followed (Opened «for».Control ∷ []) (by_settings (with_control e) f.payload (then_items (run (between e (AfterSettings None None) s.streamed s.idle) more)) r)
+settings_start : (e : Endpoint) (t more : List ℕ) (f : Frame) (r : Result PeerSettings Fault) (s : Starts e f more) → Encodes 0x00 t → settings_in f.payload ≡ r → run_stream (connection_of e) Uni (t ++ (written f ++ more)) ≡ followed (Opened «for».Control ∷ []) (by_settings (with_control e) f.payload (then_items (run (between e 0 (AfterSettings None None) s.streamed s.idle) more)) r)
 settings_start e t more f r s h is =
     control_run e t (written f ++ more) h
     ∙ ap (λ (y : Run). followed (Opened «for».Control ∷ []) (of_frames (with_control e) false y)) s.is
-    ∙ ap (λ (o : Result PeerSettings Fault). followed (Opened «for».Control ∷ []) (by_settings (with_control e) f.payload (then_items (run (between e (AfterSettings None None) s.streamed s.idle) more)) o)) is
+    ∙ ap (λ (o : Result PeerSettings Fault). followed (Opened «for».Control ∷ []) (by_settings (with_control e) f.payload (then_items (run (between e 0 (AfterSettings None None) s.streamed s.idle) more)) o)) is
 
 -- after SETTINGS the stream had a frame
-goes_on : (d : Connection) (e : Endpoint) (streamed : Bool) (idle : ℕ) (more : List ℕ) → d.over ≡ false → then_items (run (between e (AfterSettings None None) streamed idle) more) d ≡ run_stream d (Frames (between e (AfterSettings None None) streamed idle) true) more
+goes_on : (d : Connection) (e : Endpoint) (streamed : Bool) (idle : ℕ) (more : List ℕ) → d.over ≡ false → then_items (run (between e 0 (AfterSettings None None) streamed idle) more) d ≡ run_stream d (Frames (between e 0 (AfterSettings None None) streamed idle) true) more
 goes_on d e streamed idle more over =
-    let y : Run = run (between e (AfterSettings None None) streamed idle) more in
+    let y : Run = run (between e 0 (AfterSettings None None) streamed idle) more in
     ap (λ (b : Bool). of_items d (λ k. rests k (Frames y.reader b) y.left) y.items) (or_true (has_frames y.items))
-    ∙ sym (frames_run d (between e (AfterSettings None None) streamed idle) true more over)
+    ∙ sym (frames_run d (between e 0 (AfterSettings None None) streamed idle) true more over)
 
-pub settings_found : (e : Endpoint) (t more : List ℕ) (f : Frame) (v : PeerSettings) → Encodes 0x00 t → IsFrame 0x04 f → length f.payload ≤ 4096 → settings_in f.payload ≡ Ok v → (streamed : Bool) × (idle : ℕ) × (run_stream (connection_of e) Uni (t ++ (written f ++ more)) ≡ followed (Opened «for».Control ∷ Configured v f.payload ∷ []) (run_stream (with_settings e v) (Frames (between e (AfterSettings None None) streamed idle) true) more))
+pub settings_found : (e : Endpoint) (t more : List ℕ) (f : Frame) (v : PeerSettings) → Encodes 0x00 t → IsFrame 0x04 f → length f.payload ≤ 4096 → settings_in f.payload ≡ Ok v → (streamed : Bool) × (idle : ℕ) × (run_stream (connection_of e) Uni (t ++ (written f ++ more)) ≡ followed (Opened «for».Control ∷ Configured v f.payload ∷ []) (run_stream (with_settings e v) (Frames (between e 0 (AfterSettings None None) streamed idle) true) more))
 settings_found e t more f v h frame size is =
     let s : Starts e f more = starts e f more frame size in (
       s.streamed,

@@ -14,7 +14,9 @@ use Rattle.wtp_frames.specs.declared.reader.Step.{Step}
 use Rattle.wtp_frames.specs.declared.reader.Step.TheVariants as step
 use Rattle.wtp_frames.specs.Item.{Item, Whole, Byte, TooLarge, Broken}
 use Rattle.wtp_frames.specs.Run.{Run, is_failed, run}
-use Rattle.wtp_frames.specs.Reading.{StepIs, items_of, left_after, slice}
+use Rattle.wtp_frames.specs.Reading.{StepIs, IsPast, items_of, left_after, slice}
+use Rattle.wtp_frames.specs.Start.{between}
+use Rattle.wtp_frames.specs.declared.endpoint.Endpoint.{Endpoint}
 use Rattle.wtp_connection.specs.declared.fault.Fault.{Fault}
 use Rattle.wtp_connection.specs.declared.fault.Fault.TheVariants as fault
 use Rattle.wtp_connection.specs.declared.settings.PeerSettings.{PeerSettings}
@@ -31,7 +33,7 @@ use Rattle.wtp_connection.specs.declared.connection.Connection.{Connection}
 use Rattle.wtp_connection.specs.declared.connection.Found.{Found}
 use Rattle.wtp_connection.specs.declared.connection.Found.TheVariants as found
 use Rattle.wtp_connection.specs.Streams.{opens, opens_once, closed_by, Seen, Opened, Configured, Gave, Broke, StreamRun, rests, followed, all_given, by_settings, by_item, of_items, has_frames, of_frames, bytes_seen, by_capacity, by_place, breaks, run_open, by_purpose, by_opening, run_intact, run_stream}
-use Rattle.wtp_connection.specs.Receiving.{IsFirst, opening_of, AreFew, StepIsFound, Outcome, has_frame, IsInside, fails, settings_found, frame_found, step_found, with_capacity, encoder_found, decoder_found}
+use Rattle.wtp_connection.specs.Receiving.{IsFirst, opening_of, AreFew, IsBetween, StepIsFound, Outcome, has_frame, IsInside, fails, settings_found, frame_found, step_found, with_capacity, encoder_found, decoder_found}
 use Rattle.wtp_connection.proofs.OpeningLemmas.{opening_more, opening_few}
 
 -- ---- a connection that an error did not end, and one that is over
@@ -202,10 +204,19 @@ settings_case (Err x) start end c old new g bytes is e h = record {
       ∙ ap (λ (y : StreamRun). followed (Broke x ∷ []) y) (sym (over_given (closed_by c x) more));
 }
 
+-- the reader is before the next frame
+stands_between : (old new : Reader) (k : FrameType) (payload : List ℕ) → IsPast k payload old new → IsBetween (Frames new true)
+stands_between old new k payload h =
+    let kept : new.endpoint ≡ old.endpoint = ap (λ (r : Reader). r.endpoint) h.reader in
+    let counted : new.interims ≡ old.interims = ap (λ (r : Reader). r.interims) h.reader in
+    h.reader
+    ∙ ap (λ (e : Endpoint). between e old.interims new.place false 0) (sym kept)
+    ∙ ap (λ (n : ℕ). between new.endpoint n new.place false 0) (sym counted)
+
 -- another frame
 other_case : (k : FrameType) (start end : ℕ) (c : Connection) (old new : Reader) (g : Bool) (bytes : List ℕ) → ((f : Connection → StreamRun) → by_item c f (Whole k (slice start end bytes)) ≡ followed (Gave (Whole k (slice start end bytes)) ∷ []) (f c)) → c.over ≡ false → StepIs (step.Frame k start end) old bytes new → StepIsFound (found.Frame k start end) c (Frames old g) bytes c (Frames new true)
 other_case k start end c old new g bytes is e h = record {
-  fits = h.within;
+  fits = (h.within.0, h.within.1, h.within.2, stands_between old new k (slice start end bytes) h.next);
   finds = λ more.
       frames_step (step.Frame k start end) c old new g bytes more e h
       ∙ is (λ d. of_frames d true (run new (drop end bytes ++ more)))
@@ -245,7 +256,7 @@ frames_found (step.Fault f) c old new g bytes e h = record {
   fits = tt;
   finds = λ more.
       frames_step (step.Fault f) c old new g bytes more e h
-      ∙ ap (λ (y : StreamRun). followed (Broke (fault.Stream f) ∷ []) y) (failed_frames (closed_by c (fault.Stream f)) new g f more h.within.1);
+      ∙ ap (λ (y : StreamRun). followed (Broke (fault.Stream f) ∷ []) y) (failed_frames (closed_by c (fault.Stream f)) new g f more h.next.place);
 }
 
 pub step_inside : (x : Step) (old new : Reader) (bytes : List ℕ) → StepIs x old bytes new → IsInside x bytes

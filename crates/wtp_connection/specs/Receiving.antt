@@ -9,6 +9,7 @@ use Rattle.wtp_frames.specs.declared.reader.Step.{Step}
 use Rattle.wtp_frames.specs.declared.reader.Step.TheVariants as step
 use Rattle.wtp_frames.specs.Item.{Whole, TooLarge}
 use Rattle.wtp_frames.specs.Reading.{slice, longest}
+use Rattle.wtp_frames.specs.Start.{between}
 use Rattle.wtp_connection.specs.declared.fault.Fault.{Fault}
 use Rattle.wtp_connection.specs.declared.fault.Fault.TheVariants as fault
 use Rattle.wtp_connection.specs.declared.settings.PeerSettings.{PeerSettings}
@@ -73,12 +74,18 @@ pub record Idle (c : Connection) (s : Stream) (bytes : List ℕ) : Type 0 where
   pub idle : run_stream c s bytes ≡ rests c s bytes
   pub few : AreFew s bytes
 
+-- the reader of a stream is before the next frame, and counts from 0
+abbrev pub IsBetween : Stream → Type 0
+IsBetween (Frames r given) = r ≡ between r.endpoint r.interims r.place false 0
+IsBetween other = ⊥
+
 -- Places are within the bytes. The connection has the settings that are given.
 abbrev pub Fits : Found → List ℕ → Connection → Stream → Type 0
 Fits (found.Opened p n) bytes c s = n ≤ length bytes
 Fits (found.Settings v start end) bytes c s =
     (0 < start) × (start ≤ end) × (end ≤ length bytes) × (c.peer ≡ v)
-Fits (found.Frame kind start end) bytes c s = (0 < start) × (start ≤ end) × (end ≤ length bytes)
+Fits (found.Frame kind start end) bytes c s =
+    (0 < start) × (start ≤ end) × (end ≤ length bytes) × IsBetween s
 Fits (found.Data start end) bytes c s = (start < end) × (end ≤ length bytes)
 Fits (found.TooLarge size n) bytes c s = (0 < n) × (n ≤ length bytes)
 Fits (found.More n) bytes c s = (n ≤ length bytes) × Idle c s (drop n bytes)

@@ -1,6 +1,6 @@
 -- The run of a stream's bytes under the state of the connection, and its end (RFC 9114, sections 6,
 -- 7.1 and 8).
-use Rattle.std.specs.Prelude.{ℕ, ◌+◌, ◌-◌, nat_lt, ◌&&◌, ◌||◌, not, if◌then◌else◌, Bool, true, false, List, [], ◌∷◌, ◌++◌, map, length, Option, Some, None, Result, Ok, Err}
+use Rattle.std.specs.Prelude.{◌≡◌, ℕ, ◌+◌, ◌-◌, nat_lt, ◌&&◌, ◌||◌, not, if◌then◌else◌, Bool, true, false, List, [], ◌∷◌, ◌++◌, map, length, Option, Some, None, Result, Ok, Err}
 use Rattle.std.specs.List.{list_all}
 use Rattle.wtp_core.specs.declared.error.scope.ErrorScope.{ErrorScope}
 use Rattle.wtp_core.specs.declared.error.scope.ErrorScope.TheVariants as scope
@@ -12,6 +12,9 @@ use Rattle.wtp_frames.specs.declared.fault.Fault.TheVariants as stream
 use Rattle.wtp_frames.specs.declared.frame_type.FrameType.TheVariants as kind
 use Rattle.wtp_frames.specs.Item.{Item, Whole, Byte, TooLarge, Broken}
 use Rattle.wtp_frames.specs.Run.{Run, run}
+use Rattle.wtp_frames.specs.declared.reader.Reader.{Reader}
+use Rattle.wtp_frames.specs.Grammar.{Interim, interim_bytes, interim_section}
+use Rattle.wtp_frames.specs.Interim.{after_interim}
 use Rattle.wtp_frames.specs.Reading.{by_missing, by_end}
 use Rattle.wtp_frames.specs.Start.{message_reader, control_reader}
 use Rattle.wtp_connection.specs.declared.stream.Purpose.{Purpose}
@@ -274,6 +277,31 @@ joins_open c other k = (c, other, None)
 -- the connection
 abbrev pub joins : Connection → Stream → Known → Joined
 joins c s k = if c.over then (c, s, None) else joins_open c s k
+
+-- ---- interim responses (RFC 9114, section 4.1)
+
+-- what the reader of a stream is then, and its error
+abbrev pub by_interim : Connection → Bool → Reader × Option StreamFault → Joined
+by_interim c given (r, None) = (c, Frames r given, None)
+by_interim c given (r, Some f) = refuses c f
+
+abbrev pub tells_open : Connection → Stream → Joined
+tells_open c (Frames r given) = by_interim c given (after_interim r)
+tells_open c other = (c, other, None)
+
+-- the HEADERS that a stream gave last are those of an interim response; nothing changes after an
+-- error of the connection
+abbrev pub tells_interim : Connection → Stream → Joined
+tells_interim c s = if c.over then (c, s, None) else tells_open c s
+
+-- a stream gives the section of an interim response, whatever follows, and this is what comes of it
+-- once the caller says what it is
+abbrev pub FindsInterim : Connection → Stream → Interim → Joined → Type 0
+FindsInterim c s i end =
+    (mid : Stream)
+    × ((more : List ℕ) → run_stream c s (interim_bytes i ++ more)
+    ≡ followed (Gave (Whole kind.Headers (interim_section i)) ∷ []) (run_stream c mid more))
+    × (tells_interim c mid ≡ end)
 
 -- ---- a stream that is reset, or that is not read to its end
 

@@ -1,12 +1,16 @@
 //! Laws of the definitions that the contracts cite. Each function does nothing: its contract is the
 //! law.
-ghost use Rattle.std.specs.Prelude.{◌≡◌, ℕ, ◌/◌, ◌≤◌, Bool, true, List, [], ◌∷◌, ◌++◌, length, Some, None, Ok, Err};
+ghost use Rattle.std.specs.Prelude.{◌≡◌, ℕ, ◌+◌, ◌/◌, ◌<◌, ◌≤◌, Bool, true, false, List, [], ◌∷◌, ◌++◌, length, Some, None, Ok, Err};
 ghost use Rattle.wtp_core.specs.Varint.{Encodes};
 ghost use Rattle.wtp_frames.specs.declared.endpoint.Endpoint.{Endpoint};
 ghost use Rattle.wtp_frames.specs.declared.fault.Fault.TheVariants as stream;
 ghost use Rattle.wtp_frames.specs.declared.reader.Place.TheVariants.{AfterSettings};
-ghost use Rattle.wtp_frames.specs.Grammar.{Frame, written, IsFrame};
-ghost use Rattle.wtp_frames.specs.Start.{between};
+ghost use Rattle.wtp_frames.specs.declared.endpoint.Side.TheVariants.{Client};
+ghost use Rattle.wtp_frames.specs.Grammar.{Frame, written, IsFrame, Interim, ValidInterim};
+ghost use Rattle.wtp_frames.specs.Start.{between, awaiting};
+ghost use Rattle.wtp_core.specs.declared.error.scope.ErrorScope.TheVariants as scope;
+ghost use Rattle.wtp_connection.specs.declared.connection.Connection.{Connection};
+ghost use Rattle.wtp_connection.specs.Fault.{code_of, scope_of};
 ghost use Rattle.wtp_wire.specs.Front.{EncodesPair};
 ghost use Rattle.wtp_wire.specs.SettingId.{IsReserved};
 ghost use Rattle.wtp_wire.specs.Settings.{ArePairs, IsCutSetting};
@@ -15,7 +19,7 @@ ghost use Rattle.wtp_connection.specs.declared.fault.Fault.TheVariants as fault;
 ghost use Rattle.wtp_connection.specs.declared.settings.PeerSettings.{PeerSettings};
 ghost use Rattle.wtp_connection.specs.declared.stream.Purpose.TheVariants as «for»;
 ghost use Rattle.wtp_connection.specs.declared.stream.Stream.TheVariants.{Uni, Frames, Over};
-ghost use Rattle.wtp_connection.specs.Streams.{connection_of, with_control, with_settings, closed_by, Opened, Configured, Broke, followed, all_given, run_stream};
+ghost use Rattle.wtp_connection.specs.Streams.{connection_of, with_control, with_settings, closed_by, Opened, Configured, Broke, followed, all_given, run_stream, FindsInterim};
 ghost use Rattle.wtp_connection.specs.declared.instructions.DecoderPlace.TheVariants.{Between};
 ghost use Rattle.wtp_connection.specs.Instructions.{AreCancellations, after_bytes};
 ghost use Rattle.wtp_connection.specs.Settings.{AreValid, values_of, is_refused, with_defaults, settings_in};
@@ -48,11 +52,28 @@ pub fn settings_are_found()
         × (run_stream (connection_of e) Uni (t ++ (written f ++ more))
         ≡ followed (Opened «for».Control ∷ Configured v f.payload ∷ [])
         (run_stream (with_settings e v)
-        (Frames (between e (AfterSettings None None) streamed idle) true) more)) }
+        (Frames (between e 0 (AfterSettings None None) streamed idle) true) more)) }
     ensures fault { (e : Endpoint) (t more : List ℕ) (f : Frame) (x : Fault)
         → Encodes 0x00 t → IsFrame 0x04 f → length f.payload ≤ 4096 → settings_in f.payload ≡ Err x
         → run_stream (connection_of e) Uni (t ++ (written f ++ more))
         ≡ all_given (closed_by (with_control e) x) Over (Opened «for».Control ∷ Broke x ∷ []) }
+{}
+
+/// An interim response gives its section, and once the caller says what it is the stream is before the
+/// next HEADERS, as often as 64 times. One more ends the stream alone, with H3_EXCESSIVE_LOAD.
+pub fn interim_responses_are_found()
+    ensures found { (c : Connection) (i : Interim) (k : ℕ) (given : Bool)
+        → c.over ≡ false → c.endpoint.side ≡ Client → k < 64
+        → ValidInterim c.endpoint.webtransport c.endpoint.max_section 0 i
+        → FindsInterim c (Frames (awaiting c.endpoint k) given) i
+        (c, Frames (awaiting c.endpoint (k + 1)) true, None) }
+    ensures bound { (c : Connection) (i : Interim) (given : Bool)
+        → c.over ≡ false → c.endpoint.side ≡ Client
+        → ValidInterim c.endpoint.webtransport c.endpoint.max_section 0 i
+        → FindsInterim c (Frames (awaiting c.endpoint 64) given) i
+        (c, Over, Some (fault.Stream stream.TooManyInterim)) }
+    ensures code { code_of (fault.Stream stream.TooManyInterim) ≡ 0x0107 }
+    ensures scope { scope_of (fault.Stream stream.TooManyInterim) ≡ scope.Stream }
 {}
 
 /// Cancellations of streams are read on a decoder stream of QPACK, whatever encodings the IDs have.

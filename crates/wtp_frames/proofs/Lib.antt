@@ -9,3 +9,4 @@ pub mod PieceLemmas
 pub mod WrittenLemmas
 pub mod GrammarLemmas
 pub mod RowLemmas
+pub mod InterimLemmas

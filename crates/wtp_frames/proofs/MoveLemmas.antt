@@ -20,8 +20,9 @@ use Rattle.wtp_frames.specs.declared.rules.Action.TheVariants.{Give, Stream, Ski
 use Rattle.wtp_frames.specs.FrameType.{type_of}
 use Rattle.wtp_frames.specs.Rules.{promised, without_content, before_headers, in_body, after_trailers, before_settings, number_frame, push_limit, after_settings, action_of, accepted}
 use Rattle.wtp_frames.specs.Item.{Item, Whole, Byte, TooLarge, Broken}
+use Rattle.wtp_frames.specs.Start.{between}
 use Rattle.wtp_frames.specs.Run.{Run, preceded, pieces, failed, streams, skips, skips_section, moved, breaks, head_at, by_place, by_payload, action_at, is_failed, run}
-use Rattle.wtp_frames.specs.Reading.{Gives, Waits, longest, slice, payload_move, all_passed, MoveIs}
+use Rattle.wtp_frames.specs.Reading.{IsAt, Gives, Waits, longest, slice, payload_move, all_passed, MoveIs}
 use Rattle.wtp_frames.proofs.HeadLemmas.{head_more, head_none, head_shorter, head_size, bytes_more, bytes_there, bytes_missing}
 use Rattle.wtp_frames.proofs.RunLemmas.{AtHead, InPayload, run_failed, run_none, run_head, run_frame, run_all, run_past}
 
@@ -107,31 +108,32 @@ gives_nothing r bytes more = refl
 
 -- ---- one move
 
-payload_moves : (b : Bool) (n : ℕ) (old new : Reader) (bytes : List ℕ) → 0 < n → n ≤ length bytes → new.endpoint ≡ old.endpoint → Gives old bytes (pieces b (take n bytes)) new (drop n bytes) → MoveIs (payload_move b n) old bytes new
-payload_moves true n old new bytes l m e g = record { within = (l, m); endpoint = e; gives = g }
-payload_moves false n old new bytes l m e g = record { within = (l, m); endpoint = e; gives = g }
+payload_moves : (b : Bool) (n : ℕ) (old new : Reader) (bytes : List ℕ) → 0 < n → n ≤ length bytes → new.endpoint ≡ old.endpoint → IsAt old.place old new → Gives old bytes (pieces b (take n bytes)) new (drop n bytes) → MoveIs (payload_move b n) old bytes new
+payload_moves true n old new bytes l m e i g = record { within = (l, m); endpoint = e; next = i; gives = g }
+payload_moves false n old new bytes l m e i g = record { within = (l, m); endpoint = e; next = i; gives = g }
 
 pub moves_all : (r : Reader) (bytes : List ℕ) → InPayload r → 0 < length bytes → length bytes < r.remaining → MoveIs (payload_move r.streamed (length bytes)) r bytes (record r { remaining = r.remaining - length bytes })
-moves_all r bytes z some few = payload_moves r.streamed (length bytes) r (record r { remaining = r.remaining - length bytes }) bytes some (omega arith) refl (rw (take-length bytes, drop-length bytes) (gives_all r bytes z few))
+moves_all r bytes z some few = payload_moves r.streamed (length bytes) r (record r { remaining = r.remaining - length bytes }) bytes some (omega arith) refl (record { place = refl; interims = refl }) (rw (take-length bytes, drop-length bytes) (gives_all r bytes z few))
 
 pub moves_rest : (r : Reader) (bytes : List ℕ) → InPayload r → r.remaining ≤ length bytes → MoveIs (payload_move r.streamed r.remaining) r bytes (record r { remaining = 0 })
-moves_rest r bytes z all = payload_moves r.streamed r.remaining r (record r { remaining = 0 }) bytes z.some all refl (gives_rest r bytes z all)
+moves_rest r bytes z all = payload_moves r.streamed r.remaining r (record r { remaining = 0 }) bytes z.some all refl (record { place = refl; interims = refl }) (gives_rest r bytes z all)
 
 no_bytes : (bytes : List ℕ) → length bytes ≡ 0 → bytes ≡ []
 no_bytes [] e = refl
 no_bytes (b ∷ bytes) e = absurd (omega (arith, e))
 
 pub stuck_empty : (r : Reader) (bytes : List ℕ) → length bytes ≡ 0 → MoveIs move.Stuck r bytes r
-stuck_empty r bytes e = rw (no_bytes bytes e) (record { within = waits_empty r; endpoint = refl; gives = gives_nothing r [] })
+stuck_empty r bytes e = rw (no_bytes bytes e) (record { within = waits_empty r; endpoint = refl; next = record { place = refl; interims = refl }; gives = gives_nothing r [] })
 
 pub stuck_head : (r : Reader) (bytes : List ℕ) → AtHead r → head_at bytes ≡ None → MoveIs move.Stuck r bytes r
-stuck_head r bytes z e = record { within = waits_head r bytes z e; endpoint = refl; gives = gives_nothing r bytes }
+stuck_head r bytes z e = record { within = waits_head r bytes z e; endpoint = refl; next = record { place = refl; interims = refl }; gives = gives_nothing r bytes }
 
 -- after a fault
 pub passed_failed : (r : Reader) (bytes : List ℕ) → is_failed r.place ≡ true → 0 < length bytes → MoveIs (move.Passed (length bytes)) r bytes r
 passed_failed r bytes e some = record {
   within = (some, omega arith);
   endpoint = refl;
+  next = record { place = refl; interims = refl };
   gives = λ more. run_failed r (bytes ++ more) e ∙ sym (run_failed r (drop (length bytes) bytes ++ more) e);
 }
 
@@ -229,6 +231,7 @@ stuck_payload r bytes k id n start z same e w is less =
     record {
       within = waits_payload r bytes (drop start bytes) id n z e (rw same at is) (bytes_missing n (drop start bytes) rest) rest (given_small r.endpoint r.place r.idle k n is);
       endpoint = refl;
+      next = record { place = refl; interims = refl };
       gives = gives_nothing r bytes;
     }
 
@@ -243,17 +246,22 @@ passed r bytes id n start e = omega (arith, head_shorter bytes (drop start bytes
 some_bytes : (bytes rest : List ℕ) (id n : ℕ) → head_at bytes ≡ Some (id, n, rest) → 0 < length bytes
 some_bytes bytes rest id n e = omega (arith, head_shorter bytes rest id n e)
 
+whole_next : (r : Reader) (place : Place) → r.remaining ≡ 0 → moved r place ≡ between r.endpoint r.interims place false 0
+whole_next r place e = ap (λ (n : ℕ). record { endpoint = r.endpoint; place = place; remaining = n; streamed = false; idle = 0; interims = r.interims }) e
+
 pub whole_move : (r : Reader) (bytes : List ℕ) (k : FrameType) (id n start : ℕ) (place : Place) → AtHead r → k ≡ type_of id → head_at bytes ≡ Some (id, n, drop start bytes) → start ≤ length bytes → action_at r k n ≡ Give → n ≤ length bytes - start → accepted r.endpoint.side r.place k (slice start (start + n) bytes) ≡ Ok place → MoveIs (move.Whole k start (start + n)) r bytes (moved r place)
 whole_move r bytes k id n start place z same e w is l a = record {
   within = (passed r bytes id n start e, omega arith, omega (arith, w, l));
   endpoint = refl;
+  next = record { place = a; reader = whole_next r place z.none };
   gives = rw same (gives_whole r bytes (drop start bytes) (slice start (start + n) bytes) (drop (start + n) bytes) id n place z e (rw same at is) (place_end n start bytes w l) (rw same at a));
 }
 
 pub unaccepted_move : (r : Reader) (bytes : List ℕ) (k : FrameType) (id n start : ℕ) (f : Fault) → AtHead r → k ≡ type_of id → head_at bytes ≡ Some (id, n, drop start bytes) → start ≤ length bytes → action_at r k n ≡ Give → n ≤ length bytes - start → accepted r.endpoint.side r.place k (slice start (start + n) bytes) ≡ Err f → MoveIs (move.Failed f) r bytes (failed r f)
 unaccepted_move r bytes k id n start f z same e w is l a = record {
-  within = (some_bytes bytes (drop start bytes) id n e, refl);
+  within = some_bytes bytes (drop start bytes) id n e;
   endpoint = refl;
+  next = record { place = refl; interims = refl };
   gives = gives_unaccepted r bytes (drop start bytes) (slice start (start + n) bytes) (drop (start + n) bytes) id n f z e (rw same at is) (place_end n start bytes w l) (rw same at a);
 }
 
@@ -261,6 +269,7 @@ pub streamed_move : (r : Reader) (bytes : List ℕ) (k : FrameType) (id n start 
 streamed_move r bytes k id n start z same e w is = record {
   within = (passed r bytes id n start e, w);
   endpoint = refl;
+  next = record { place = refl; interims = refl };
   gives = gives_streamed r bytes (drop start bytes) id n z e (rw same at is);
 }
 
@@ -268,6 +277,7 @@ pub skipped_move : (r : Reader) (bytes : List ℕ) (k : FrameType) (id n start :
 skipped_move r bytes k id n start z same e w is = record {
   within = (passed r bytes id n start e, w);
   endpoint = refl;
+  next = record { place = refl; interims = refl };
   gives = gives_skipped r bytes (drop start bytes) id n z e (rw same at is);
 }
 
@@ -275,12 +285,14 @@ pub too_large_move : (r : Reader) (bytes : List ℕ) (k : FrameType) (id n start
 too_large_move r bytes k id n start z same e w is = record {
   within = (passed r bytes id n start e, w);
   endpoint = refl;
+  next = record { place = refl; interims = refl };
   gives = gives_too_large r bytes (drop start bytes) id n z e (rw same at is);
 }
 
 pub refused_move : (r : Reader) (bytes : List ℕ) (k : FrameType) (id n start : ℕ) (f : Fault) → AtHead r → k ≡ type_of id → head_at bytes ≡ Some (id, n, drop start bytes) → action_at r k n ≡ Refuse f → MoveIs (move.Failed f) r bytes (failed r f)
 refused_move r bytes k id n start f z same e is = record {
-  within = (some_bytes bytes (drop start bytes) id n e, refl);
+  within = some_bytes bytes (drop start bytes) id n e;
   endpoint = refl;
+  next = record { place = refl; interims = refl };
   gives = gives_refused r bytes (drop start bytes) id n f z e (rw same at is);
 }

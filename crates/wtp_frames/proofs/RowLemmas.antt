@@ -20,7 +20,7 @@ use Rattle.wtp_frames.specs.Grammar.{Frame, written, IsFrame, IsUnknown, Message
 use Rattle.wtp_frames.specs.Item.{Item, Whole, Broken}
 use Rattle.wtp_frames.specs.Rules.{promised, without_content, webtransport, number_frame, push_limit, before_settings, after_settings, action_of, one_number, alone, not_above, goes_away, not_below, with_number}
 use Rattle.wtp_frames.specs.Run.{Run, is_failed, run}
-use Rattle.wtp_frames.specs.Start.{message_reader, control_reader, between, place_of}
+use Rattle.wtp_frames.specs.Start.{awaiting, control_reader, between, place_of}
 use Rattle.wtp_frames.specs.Codes.{Reports, IsSettled, AfterIds, InMessage, OnControl, TooLong, NoNumber, Fails}
 use Rattle.wtp_frames.specs.Reading.{by_missing, incomplete, by_end}
 use Rattle.wtp_frames.proofs.WrittenLemmas.{refused_written, unaccepted_written, unknown_action}
@@ -33,21 +33,21 @@ stage_intact NoHeaders = refl
 stage_intact InContent = refl
 stage_intact HasTrailers = refl
 
-pub message_reports : (e : Endpoint) (m : Message) (id n : ℕ) (t u more : List ℕ) (f : Fault) → ValidMessage e.webtransport 0 m → Encodes id t → Encodes n u → action_of e (place_of (stage m)) (count 0 m) (type_of id) n ≡ Refuse f → Reports (run (message_reader e) (message_bytes m ++ (t ++ (u ++ more)))) (message_items e.max_section m) (code_of f) (scope_of f)
-message_reports e m id n t u more f v a b is =
-    let x : Reaches (message_reader e) (message_bytes m) (message_items e.max_section m) e (place_of (stage m)) (count 0 m) (t ++ (u ++ more)) = message_run e m false 0 (t ++ (u ++ more)) v in
+pub message_reports : (e : Endpoint) (j : ℕ) (m : Message) (id n : ℕ) (t u more : List ℕ) (f : Fault) → ValidMessage e.webtransport 0 m → Encodes id t → Encodes n u → action_of e (place_of (stage m)) (count 0 m) (type_of id) n ≡ Refuse f → Reports (run (awaiting e j) (message_bytes m ++ (t ++ (u ++ more)))) (message_items e.max_section m) (code_of f) (scope_of f)
+message_reports e j m id n t u more f v a b is =
+    let x : Reaches (awaiting e j) (message_bytes m) (message_items e.max_section m) e j (place_of (stage m)) (count 0 m) (t ++ (u ++ more)) = message_run e j m false 0 (t ++ (u ++ more)) v in
     record {
       fault = f;
       given =
           ap (λ (y : Run). y.items) x.is
-          ∙ ap (λ (y : Run). message_items e.max_section m ++ y.items) (refused_written (between e (place_of (stage m)) x.streamed (count 0 m)) id n t u more f (record { intact = stage_intact (stage m); none = refl }) a b is);
+          ∙ ap (λ (y : Run). message_items e.max_section m ++ y.items) (refused_written (between e j (place_of (stage m)) x.streamed (count 0 m)) id n t u more f (record { intact = stage_intact (stage m); none = refl }) a b is);
       coded = refl;
       scoped = refl;
     }
 
 -- a row of the table at one stage
 pub row_at : (e : Endpoint) (s : Stage) (id : ℕ) (f : Fault) → ((idle n : ℕ) → action_of e (place_of s) idle (type_of id) n ≡ Refuse f) → InMessage e s id (code_of f) (scope_of f)
-row_at e s id f h m t u more n v at a b = message_reports e m id n t u more f v a b (ap (λ (x : Stage). action_of e (place_of x) (count 0 m) (type_of id) n) at ∙ h (count 0 m) n)
+row_at e s id f h j m t u more n v at a b = message_reports e j m id n t u more f v a b (ap (λ (x : Stage). action_of e (place_of x) (count 0 m) (type_of id) n) at ∙ h (count 0 m) n)
 
 -- a row of all stages
 pub any_stage : (e : Endpoint) (id : ℕ) (f : Fault) → ((idle n : ℕ) → action_of e BeforeHeaders idle (type_of id) n ≡ Refuse f) → ((idle n : ℕ) → action_of e Body idle (type_of id) n ≡ Refuse f) → ((idle n : ℕ) → action_of e AfterTrailers idle (type_of id) n ≡ Refuse f) → (s : Stage) → InMessage e s id (code_of f) (scope_of f)
@@ -77,7 +77,7 @@ first_reports e id n t u more f a b is = record {
 }
 
 -- the frames that may come after SETTINGS: what is reported after them
-after_ids : (e : Endpoint) (settings : Frame) (ids : Ids) (bytes : List ℕ) (f : Fault) → IsSettled e settings ids → ((streamed : Bool) (idle : ℕ) (more : List ℕ) → (run (between e (AfterSettings (last_goaway None ids) (last_push None ids)) streamed idle) (bytes ++ more)).items ≡ Broken f ∷ []) → AfterIds e settings ids bytes (code_of f) (scope_of f)
+after_ids : (e : Endpoint) (settings : Frame) (ids : Ids) (bytes : List ℕ) (f : Fault) → IsSettled e settings ids → ((streamed : Bool) (idle : ℕ) (more : List ℕ) → (run (between e 0 (AfterSettings (last_goaway None ids) (last_push None ids)) streamed idle) (bytes ++ more)).items ≡ Broken f ∷ []) → AfterIds e settings ids bytes (code_of f) (scope_of f)
 after_ids e settings ids bytes f s h more =
     let x : Settles (control_reader e) (written settings ++ ids_bytes ids) (Whole kind.Settings settings.payload ∷ ids_items ids) e (last_goaway None ids) (last_push None ids) (bytes ++ more) = settings_run e settings ids (bytes ++ more) s.frame s.size s.rest in
     record {
@@ -92,12 +92,12 @@ after_ids e settings ids bytes f s h more =
 
 pub head_after : (e : Endpoint) (settings : Frame) (ids : Ids) (id n : ℕ) (t u : List ℕ) (f : Fault) → IsSettled e settings ids → Encodes id t → Encodes n u → after_settings e (type_of id) n ≡ Refuse f → AfterIds e settings ids (t ++ u) (code_of f) (scope_of f)
 head_after e settings ids id n t u f s a b is = after_ids e settings ids (t ++ u) f s (λ streamed idle more.
-    ap (λ (l : List ℕ). (run (between e (AfterSettings (last_goaway None ids) (last_push None ids)) streamed idle) l).items) (append_assoc t u more)
-    ∙ ap (λ (y : Run). y.items) (refused_written (between e (AfterSettings (last_goaway None ids) (last_push None ids)) streamed idle) id n t u more f (record { intact = refl; none = refl }) a b is))
+    ap (λ (l : List ℕ). (run (between e 0 (AfterSettings (last_goaway None ids) (last_push None ids)) streamed idle) l).items) (append_assoc t u more)
+    ∙ ap (λ (y : Run). y.items) (refused_written (between e 0 (AfterSettings (last_goaway None ids) (last_push None ids)) streamed idle) id n t u more f (record { intact = refl; none = refl }) a b is))
 
 pub frame_after : (e : Endpoint) (settings g : Frame) (ids : Ids) (id : ℕ) (f : Fault) → IsSettled e settings ids → IsFrame id g → after_settings e (type_of id) (length g.payload) ≡ Give → with_number e.side (last_goaway None ids) (last_push None ids) (type_of id) (one_number g.payload) ≡ Err f → AfterIds e settings ids (written g) (code_of f) (scope_of f)
 frame_after e settings g ids id f s is t a = after_ids e settings ids (written g) f s (λ streamed idle more.
-    ap (λ (y : Run). y.items) (unaccepted_written (between e (AfterSettings (last_goaway None ids) (last_push None ids)) streamed idle) id g more f (record { intact = refl; none = refl }) is t a))
+    ap (λ (y : Run). y.items) (unaccepted_written (between e 0 (AfterSettings (last_goaway None ids) (last_push None ids)) streamed idle) id g more f (record { intact = refl; none = refl }) is t a))
 
 -- a row of the table after SETTINGS
 pub control_row : (e : Endpoint) (id : ℕ) (f : Fault) → ((n : ℕ) → after_settings e (type_of id) n ≡ Refuse f) → OnControl e id (code_of f) (scope_of f)

@@ -1,5 +1,5 @@
 -- Some moves are a step.
-use Rattle.std.proofs.Common.{◌≡◌, ℕ, ◌+◌, ◌-◌, ◌≤◌, List, [], ◌∷◌, map, length, take, drop, refl, ◌∙◌, arith, length-drop}
+use Rattle.std.proofs.Common.{◌≡◌, ℕ, ◌+◌, ◌-◌, ◌≤◌, List, [], ◌∷◌, map, length, take, drop, refl, ap, ◌∙◌, arith, length-drop}
 use Rattle.std.proofs.lemmas.List.{drop-drop}
 use Rattle.wtp_frames.specs.declared.frame_type.FrameType.{FrameType}
 use Rattle.wtp_frames.specs.declared.fault.Fault.{Fault}
@@ -7,17 +7,19 @@ use Rattle.wtp_frames.specs.declared.reader.Reader.{Reader}
 use Rattle.wtp_frames.specs.declared.reader.Move.TheVariants as move
 use Rattle.wtp_frames.specs.declared.reader.Step.TheVariants as step
 use Rattle.wtp_frames.specs.Item.{Item, Whole, Byte, TooLarge, Broken}
-use Rattle.wtp_frames.specs.Reading.{Gives, slice, MoveIs, StepIs}
+use Rattle.wtp_frames.specs.Rules.{after_section}
+use Rattle.wtp_frames.specs.Reading.{Gives, slice, IsAt, MoveIs, StepIs}
 use Rattle.wtp_frames.proofs.MoveLemmas.{gives_nothing}
 
 -- the bytes up to this offset are consumed, and gave nothing
 pub record HasMoved (old : Reader) (bytes : List ℕ) (new : Reader) (at : ℕ) : Type 0 where
   pub within : at ≤ length bytes
   pub endpoint : new.endpoint ≡ old.endpoint
+  pub still : IsAt old.place old new
   pub gives : Gives old bytes [] new (drop at bytes)
 
 pub moved_none : (r : Reader) (bytes : List ℕ) → HasMoved r bytes r 0
-moved_none r bytes = record { within = omega arith; endpoint = refl; gives = gives_nothing r bytes }
+moved_none r bytes = record { within = omega arith; endpoint = refl; still = record { place = refl; interims = refl }; gives = gives_nothing r bytes }
 
 then_gives : (old mid new : Reader) (bytes rest left : List ℕ) (items : List Item) → Gives old bytes [] mid rest → Gives mid rest items new left → Gives old bytes items new left
 then_gives old mid new bytes rest left items g h more = g more ∙ h more
@@ -32,6 +34,7 @@ pub moved_on : (old mid new : Reader) (bytes : List ℕ) (at n : ℕ) → HasMov
 moved_on old mid new bytes at n h m = record {
   within = omega (arith, h.within, m.within.1, length-drop at bytes);
   endpoint = m.endpoint ∙ h.endpoint;
+  still = record { place = m.next.place ∙ h.still.place; interims = m.next.interims ∙ h.still.interims };
   gives = left_at n at old new bytes [] (then_gives old mid new bytes (drop at bytes) (drop n (drop at bytes)) [] h.gives m.gives);
 }
 
@@ -39,6 +42,10 @@ pub step_frame : (old mid new : Reader) (bytes : List ℕ) (at : ℕ) (k : Frame
 step_frame old mid new bytes at k a b h m = record {
   within = (omega (arith, m.within.0), omega (arith, m.within.1), omega (arith, h.within, m.within.2, length-drop at bytes));
   endpoint = m.endpoint ∙ h.endpoint;
+  next = record {
+    place = rw (← h.endpoint, ← h.still.place, ← slice_at a b at bytes) m.next.place;
+    reader = rw (← h.endpoint, ← h.still.interims) m.next.reader;
+  };
   gives = rw (← slice_at a b at bytes) (left_at b at old new bytes (Whole k (slice a b (drop at bytes)) ∷ []) (then_gives old mid new bytes (drop at bytes) (drop b (drop at bytes)) (Whole k (slice a b (drop at bytes)) ∷ []) h.gives m.gives));
 }
 
@@ -49,6 +56,7 @@ pub step_data : (old mid new : Reader) (bytes : List ℕ) (at n : ℕ) → HasMo
 step_data old mid new bytes at n h m = record {
   within = (omega (arith, m.within.0), omega (arith, h.within, m.within.1, length-drop at bytes));
   endpoint = m.endpoint ∙ h.endpoint;
+  next = record { place = m.next.place ∙ h.still.place; interims = m.next.interims ∙ h.still.interims };
   gives = rw (piece_at n at bytes) (left_at n at old new bytes (map Byte (take n (drop at bytes))) (then_gives old mid new bytes (drop at bytes) (drop n (drop at bytes)) (map Byte (take n (drop at bytes))) h.gives m.gives));
 }
 
@@ -56,6 +64,7 @@ pub step_too_large : (old mid new : Reader) (bytes : List ℕ) (at size n : ℕ)
 step_too_large old mid new bytes at size n h m = record {
   within = (omega (arith, m.within.0), omega (arith, h.within, m.within.1, length-drop at bytes));
   endpoint = m.endpoint ∙ h.endpoint;
+  next = record { place = m.next.place ∙ ap after_section h.still.place; interims = m.next.interims ∙ h.still.interims };
   gives = left_at n at old new bytes (TooLarge size ∷ []) (then_gives old mid new bytes (drop at bytes) (drop n (drop at bytes)) (TooLarge size ∷ []) h.gives m.gives);
 }
 
@@ -63,12 +72,14 @@ pub step_more : (old mid new : Reader) (bytes : List ℕ) (at : ℕ) → HasMove
 step_more old mid new bytes at h m = record {
   within = (h.within, m.within);
   endpoint = m.endpoint ∙ h.endpoint;
+  next = record { place = m.next.place ∙ h.still.place; interims = m.next.interims ∙ h.still.interims };
   gives = then_gives old mid new bytes (drop at bytes) (drop at bytes) [] h.gives m.gives;
 }
 
 pub step_fault : (old mid new : Reader) (bytes : List ℕ) (at : ℕ) (f : Fault) → HasMoved old bytes mid at → MoveIs (move.Failed f) mid (drop at bytes) new → StepIs (step.Fault f) old bytes new
 step_fault old mid new bytes at f h m = record {
-  within = (omega (arith, m.within.0, length-drop at bytes), m.within.1);
+  within = omega (arith, m.within, length-drop at bytes);
   endpoint = m.endpoint ∙ h.endpoint;
+  next = record { place = m.next.place; interims = m.next.interims ∙ h.still.interims };
   gives = then_gives old mid new bytes (drop at bytes) [] (Broken f ∷ []) h.gives m.gives;
 }

@@ -9,7 +9,7 @@ use Rattle.wtp_frames.specs.declared.frame_type.FrameType.TheVariants as kind
 use Rattle.wtp_frames.specs.Fault.{code_of, scope_of}
 use Rattle.wtp_frames.specs.Item.{Item, Whole, Broken}
 use Rattle.wtp_frames.specs.Run.{Run, run}
-use Rattle.wtp_frames.specs.Start.{message_reader, control_reader}
+use Rattle.wtp_frames.specs.Start.{awaiting, control_reader}
 use Rattle.wtp_frames.specs.Grammar.{Frame, written, IsFrame, Message, message_bytes, message_items, ValidMessage, Stage, stage, Ids, ids_bytes, ids_items, ValidIds}
 
 -- the items, and then an error with this code, which ends this
@@ -19,14 +19,14 @@ pub record Reports (r : Run) (items : List Item) (code : ℕ) (scope : ErrorScop
   pub coded : code_of fault ≡ code
   pub scoped : scope_of fault ≡ scope
 
--- After any valid frames of a message that end at this stage, the head of a frame of this type,
--- with any length, is this error, whatever follows.
+-- After any interim responses and any valid frames of a message that end at this stage, the head of a
+-- frame of this type, with any length, is this error, whatever follows.
 abbrev pub InMessage : Endpoint → Stage → ℕ → ℕ → ErrorScope → Type 0
 InMessage e s id code scope =
-    (m : Message) (t u more : List ℕ) (n : ℕ) → ValidMessage e.webtransport 0 m → stage m ≡ s
+    (k : ℕ) (m : Message) (t u more : List ℕ) (n : ℕ) → ValidMessage e.webtransport 0 m → stage m ≡ s
     → Encodes id t → Encodes n u
     → Reports
-    (run (message_reader e) (message_bytes m ++ (t ++ (u ++ more))))
+    (run (awaiting e k) (message_bytes m ++ (t ++ (u ++ more))))
     (message_items e.max_section m) code scope
 
 -- SETTINGS, and the IDs after them

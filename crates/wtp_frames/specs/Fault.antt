@@ -10,6 +10,7 @@ code_of fault.ClosedCriticalStream = 0x0104
 code_of fault.FrameUnexpected = 0x0105
 code_of fault.Frame = 0x0106
 code_of fault.ExcessiveLoad = 0x0107
+code_of fault.TooManyInterim = 0x0107
 code_of fault.Id = 0x0108
 code_of fault.MissingSettings = 0x010a
 code_of fault.RequestIncomplete = 0x010d
@@ -22,6 +23,7 @@ code_of fault.SessionGone = 0x170d7b68
 abbrev pub scope_of : Fault → ErrorScope
 scope_of fault.RequestIncomplete = Stream
 scope_of fault.Message = Stream
+scope_of fault.TooManyInterim = Stream
 scope_of fault.BufferedStreamRejected = Stream
 scope_of fault.SessionGone = Stream
 scope_of other = Connection

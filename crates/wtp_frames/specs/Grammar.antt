@@ -122,6 +122,32 @@ ValidMessage enabled n (MessageHeaders f c) = IsFrame 0x01 f × ValidContent ena
 ValidMessage enabled n (MessageUnknown id f m) =
     IsUnknown enabled id × IsFrame id f × (n < 1024) × ValidMessage enabled (n + 1) m
 
+-- ---- the interim responses before a response (RFC 9114, section 4.1)
+
+-- one of them: unknown frames, and HEADERS
+pub data Interim : Type 0 where
+  InterimHeaders : Frame → Interim
+  InterimUnknown : ℕ → Frame → Interim → Interim
+
+abbrev pub interim_bytes : Interim → List ℕ
+interim_bytes (InterimHeaders f) = written f
+interim_bytes (InterimUnknown id f i) = written f ++ interim_bytes i
+
+abbrev pub interim_section : Interim → List ℕ
+interim_section (InterimHeaders f) = f.payload
+interim_section (InterimUnknown id f i) = interim_section i
+
+-- the section is not larger than the receiver's limit
+abbrev pub ValidInterim : Bool → ℕ → ℕ → Interim → Type 0
+ValidInterim enabled limit n (InterimHeaders f) = IsFrame 0x01 f × (length f.payload ≤ limit)
+ValidInterim enabled limit n (InterimUnknown id f i) =
+    IsUnknown enabled id × IsFrame id f × (n < 1024) × ValidInterim enabled limit (n + 1) i
+
+abbrev pub ValidInterims : Bool → ℕ → List Interim → Type 0
+ValidInterims enabled limit [] = Unit {0}
+ValidInterims enabled limit (i ∷ is) =
+    ValidInterim enabled limit 0 i × ValidInterims enabled limit is
+
 -- ---- where they end
 
 -- before the HEADERS, after them, or after the trailers

@@ -3,6 +3,7 @@ pub mod Fault
 pub mod Rules
 pub mod Item
 pub mod Run
+pub mod Interim
 pub mod Reading
 pub mod Grammar
 pub mod Start

@@ -12,8 +12,11 @@ use Rattle.wtp_frames.specs.declared.reader.Move.{Move}
 use Rattle.wtp_frames.specs.declared.reader.Move.TheVariants as move
 use Rattle.wtp_frames.specs.declared.reader.Step.{Step}
 use Rattle.wtp_frames.specs.declared.reader.Step.TheVariants as step
+use Rattle.wtp_frames.specs.declared.frame_type.FrameType.{FrameType}
+use Rattle.wtp_frames.specs.Rules.{accepted, after_section}
 use Rattle.wtp_frames.specs.Item.{Item, Whole, Byte, TooLarge, Broken}
 use Rattle.wtp_frames.specs.Run.{Run, stays, preceded, run}
+use Rattle.wtp_frames.specs.Start.{between}
 
 -- Whatever follows these bytes, the run of all is these items, and then the run of the rest.
 abbrev pub Gives : Reader → List ℕ → List Item → Reader → List ℕ → Type 0
@@ -63,11 +66,30 @@ IsWithin (step.Frame kind start end) bytes new =
 IsWithin (step.Data start end) bytes new = (start < end) × (end ≤ length bytes)
 IsWithin (step.TooLarge size n) bytes new = (0 < n) × (n ≤ length bytes)
 IsWithin (step.More n) bytes new = (n ≤ length bytes) × Waits new (drop n bytes)
-IsWithin (step.Fault f) bytes new = (0 < length bytes) × (new.place ≡ Failed f)
+IsWithin (step.Fault f) bytes new = 0 < length bytes
+
+-- how far the stream went, and so many interim responses: only a frame that is given whole, a
+-- section and a fault lead to another place
+pub record IsAt (p : Place) (old new : Reader) : Type 0 where
+  pub place : new.place ≡ p
+  pub interims : new.interims ≡ old.interims
+
+-- a frame with this payload was given whole: the reader is before the next one, and counts from 0
+pub record IsPast (kind : FrameType) (payload : List ℕ) (old new : Reader) : Type 0 where
+  pub place : accepted old.endpoint.side old.place kind payload ≡ Ok new.place
+  pub reader : new ≡ between old.endpoint old.interims new.place false 0
+
+abbrev pub IsNext : Step → List ℕ → Reader → Reader → Type 0
+IsNext (step.Frame kind start end) bytes old new = IsPast kind (slice start end bytes) old new
+IsNext (step.Data start end) bytes old new = IsAt old.place old new
+IsNext (step.TooLarge size n) bytes old new = IsAt (after_section old.place) old new
+IsNext (step.More n) bytes old new = IsAt old.place old new
+IsNext (step.Fault f) bytes old new = IsAt (Failed f) old new
 
 pub record StepIs (s : Step) (old : Reader) (bytes : List ℕ) (new : Reader) : Type 0 where
   pub within : IsWithin s bytes new
   pub endpoint : new.endpoint ≡ old.endpoint
+  pub next : IsNext s bytes old new
   pub gives : Gives old bytes (items_of s bytes) new (left_after s bytes)
 
 -- ---- one move, of which a call makes some
@@ -95,7 +117,7 @@ IsMove (move.Whole kind start end) bytes new =
 IsMove (move.Streamed n) bytes new = (0 < n) × (n ≤ length bytes)
 IsMove (move.TooLarge size n) bytes new = (0 < n) × (n ≤ length bytes)
 IsMove move.Stuck bytes new = Waits new bytes
-IsMove (move.Failed f) bytes new = (0 < length bytes) × (new.place ≡ Failed f)
+IsMove (move.Failed f) bytes new = 0 < length bytes
 
 -- payload bytes are given or skipped
 abbrev pub payload_move : Bool → ℕ → Move
@@ -106,9 +128,16 @@ payload_move false n = move.Passed n
 abbrev pub all_passed : ℕ → Move
 all_passed n = if n == 0 then move.Stuck else move.Passed n
 
+abbrev pub IsAfter : Move → List ℕ → Reader → Reader → Type 0
+IsAfter (move.Whole kind start end) bytes old new = IsPast kind (slice start end bytes) old new
+IsAfter (move.TooLarge size n) bytes old new = IsAt (after_section old.place) old new
+IsAfter (move.Failed f) bytes old new = IsAt (Failed f) old new
+IsAfter other bytes old new = IsAt old.place old new
+
 pub record MoveIs (m : Move) (old : Reader) (bytes : List ℕ) (new : Reader) : Type 0 where
   pub within : IsMove m bytes new
   pub endpoint : new.endpoint ≡ old.endpoint
+  pub next : IsAfter m bytes old new
   pub gives : Gives old bytes (moved_items m bytes) new (moved_left m bytes)
 
 -- ---- the end of the stream

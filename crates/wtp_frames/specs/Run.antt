@@ -57,7 +57,7 @@ skips_section r n =
     record r { place = after_section r.place; remaining = n; streamed = false; idle = 0 }
 
 abbrev pub moved : Reader → Place → Reader
-moved r place = record r { place = place; idle = 0 }
+moved r place = record r { place = place; streamed = false; idle = 0 }
 
 -- the fault is given, and what follows means nothing
 abbrev pub breaks : Reader → Fault → Run

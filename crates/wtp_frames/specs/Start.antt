@@ -6,15 +6,20 @@ use Rattle.wtp_frames.specs.declared.reader.Place.{Place}
 use Rattle.wtp_frames.specs.declared.reader.Place.TheVariants.{BeforeHeaders, Body, AfterTrailers, BeforeSettings}
 use Rattle.wtp_frames.specs.Grammar.{Stage, NoHeaders, InContent, HasTrailers}
 
--- before the first byte of a stream
-abbrev pub message_reader : Endpoint → Reader
-message_reader e = record {
+-- before the HEADERS of a message, after so many interim responses
+abbrev pub awaiting : Endpoint → ℕ → Reader
+awaiting e k = record {
   endpoint = e;
   place = BeforeHeaders;
   remaining = 0;
   streamed = false;
   idle = 0;
+  interims = k;
 }
+
+-- before the first byte of a stream
+abbrev pub message_reader : Endpoint → Reader
+message_reader e = awaiting e 0
 
 abbrev pub control_reader : Endpoint → Reader
 control_reader e = record {
@@ -23,16 +28,19 @@ control_reader e = record {
   remaining = 0;
   streamed = false;
   idle = 0;
+  interims = 0;
 }
 
--- after a frame at this place, of whatever kind it was, and so many frames without content
-abbrev pub between : Endpoint → Place → Bool → ℕ → Reader
-between e place streamed idle = record {
+-- after so many interim responses, and a frame at this place, of whatever kind it was, and so many
+-- frames without content
+abbrev pub between : Endpoint → ℕ → Place → Bool → ℕ → Reader
+between e k place streamed idle = record {
   endpoint = e;
   place = place;
   remaining = 0;
   streamed = streamed;
   idle = idle;
+  interims = k;
 }
 
 -- the place after the frames of a message

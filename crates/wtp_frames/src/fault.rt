@@ -16,6 +16,8 @@ pub enum Fault {
     /// SETTINGS are too long, or too many frames without content follow one another (RFC 9114,
     /// section 10.5).
     ExcessiveLoad,
+    /// More than 64 interim responses came before the final one (RFC 9114, sections 4.1 and 10.5).
+    TooManyInterim,
     /// An ID is invalid here (RFC 9114, sections 5.2, 7.2.3, 7.2.5 and 7.2.7).
     Id,
     /// The first frame of the control stream is not SETTINGS (RFC 9114, section 6.2.1).
@@ -42,7 +44,7 @@ impl Fault {
             Fault::ClosedCriticalStream => Code::H3_CLOSED_CRITICAL_STREAM,
             Fault::FrameUnexpected => Code::H3_FRAME_UNEXPECTED,
             Fault::Frame => Code::H3_FRAME_ERROR,
-            Fault::ExcessiveLoad => Code::H3_EXCESSIVE_LOAD,
+            Fault::ExcessiveLoad | Fault::TooManyInterim => Code::H3_EXCESSIVE_LOAD,
             Fault::Id => Code::H3_ID_ERROR,
             Fault::MissingSettings => Code::H3_MISSING_SETTINGS,
             Fault::RequestIncomplete => Code::H3_REQUEST_INCOMPLETE,
@@ -60,6 +62,7 @@ impl Fault {
         match self {
             Fault::RequestIncomplete
             | Fault::Message
+            | Fault::TooManyInterim
             | Fault::BufferedStreamRejected
             | Fault::SessionGone => ErrorScope::Stream,
             _ => ErrorScope::Connection,

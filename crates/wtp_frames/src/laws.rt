@@ -10,13 +10,18 @@ ghost use Rattle.wtp_frames.specs.declared.endpoint.Side.TheVariants.{Client, Se
 ghost use Rattle.wtp_frames.specs.declared.frame_type.FrameType.TheVariants as kind;
 ghost use Rattle.wtp_frames.specs.declared.reader.Place.TheVariants.{BeforeHeaders, Body, AfterTrailers, BeforeSettings, AfterSettings};
 ghost use Rattle.wtp_frames.specs.Item.{Whole};
-ghost use Rattle.wtp_frames.specs.Grammar.{Frame, written, IsFrame, IsUnknown, Message, message_bytes, message_items, ValidMessage, Stage, NoHeaders, InContent, HasTrailers, stage, count, Ids, ids_bytes, ids_items, last_goaway, last_push};
+ghost use Rattle.wtp_frames.specs.Grammar.{Frame, written, IsFrame, IsUnknown, Message, message_bytes, message_items, ValidMessage, Stage, NoHeaders, InContent, HasTrailers, stage, count, Ids, ids_bytes, ids_items, last_goaway, last_push, Interim, ValidInterim, ValidInterims};
 ghost use Rattle.wtp_frames.specs.Codes.{Reports, InMessage, IsSettled, AfterIds, OnControl, TooLong, NoNumber, Fails};
-ghost use Rattle.wtp_frames.specs.Run.{run, preceded, next_run};
-ghost use Rattle.wtp_frames.specs.Reading.{Waits, by_end, ending_of};
+ghost use Rattle.wtp_frames.specs.Run.{run, preceded, next_run, failed, stays};
+ghost use Rattle.wtp_frames.specs.Interim.{after_interim, GivesSection, ReadsInterims, IsAwaiting, IsNoInterim};
+ghost use Rattle.wtp_frames.specs.Fault.{code_of, scope_of};
+ghost use Rattle.wtp_frames.specs.declared.fault.Fault.TheVariants as fault;
+ghost use Rattle.wtp_frames.specs.Reading.{StepIs, Waits, by_end, ending_of};
+ghost use Rattle.wtp_frames.specs.declared.frame_type.FrameType.{FrameType};
+ghost use Rattle.wtp_frames.specs.declared.reader.Step.TheVariants as step;
 ghost use Rattle.wtp_frames.specs.Pieces.{Event, Leads, bytes_in, given_in, Table, IsStill, Arrivals, taken, items_due, items_on, bytes_of};
 ghost use Rattle.wtp_frames.specs.Order.{IsMessage, IsControl};
-ghost use Rattle.wtp_frames.specs.Start.{message_reader, control_reader, between, place_of};
+ghost use Rattle.wtp_frames.specs.Start.{message_reader, awaiting, control_reader, between, place_of};
 
 /// A run goes by the head of the first frame, or by the payload that is still to come.
 pub fn run_goes_by_head()
@@ -61,26 +66,68 @@ pub fn streams_are_independent()
 /// SETTINGS once and then IDs, of which those of GOAWAY never rise. A fault comes once, and nothing
 /// after it.
 pub fn items_are_in_order()
-    ensures message { (e : Endpoint) (bytes : List ℕ)
-        → IsMessage (run (message_reader e) bytes).items }
+    ensures message { (e : Endpoint) (k : ℕ) (bytes : List ℕ)
+        → IsMessage (run (awaiting e k) bytes).items }
     ensures control { (e : Endpoint) (bytes : List ℕ)
         → IsControl e.side (run (control_reader e) bytes).items }
 {}
 
 /// Every message that the grammar has is read, whatever encodings its numbers have, with unknown
-/// frames between: it gives exactly its sections and its bytes of DATA, and no fault, and then what
-/// follows is read from there on.
+/// frames between, and after any interim responses: it gives exactly its sections and its bytes of
+/// DATA, and no fault, and then what follows is read from there on.
 pub fn valid_messages_are_read()
-    ensures start { (e : Endpoint) (m : Message) (more : List ℕ) → ValidMessage e.webtransport 0 m
-        → (streamed : Bool) × (run (message_reader e) (message_bytes m ++ more)
+    ensures start { (e : Endpoint) (k : ℕ) (m : Message) (more : List ℕ) → ValidMessage e.webtransport 0 m
+        → (streamed : Bool) × (run (awaiting e k) (message_bytes m ++ more)
         ≡ preceded (message_items e.max_section m)
-        (run (between e (place_of (stage m)) streamed (count 0 m)) more)) }
-    ensures whole { (e : Endpoint) (m : Message) → ValidMessage e.webtransport 0 m
-        → (streamed : Bool) × (run (message_reader e) (message_bytes m) ≡ record {
+        (run (between e k (place_of (stage m)) streamed (count 0 m)) more)) }
+    ensures whole { (e : Endpoint) (k : ℕ) (m : Message) → ValidMessage e.webtransport 0 m
+        → (streamed : Bool) × (run (awaiting e k) (message_bytes m) ≡ record {
           items = message_items e.max_section m;
-          reader = between e (place_of (stage m)) streamed (count 0 m);
+          reader = between e k (place_of (stage m)) streamed (count 0 m);
           left = [];
         }) }
+{}
+
+/// Up to 64 interim responses that the grammar has are read before a response, if the caller says of
+/// each what it is. One more is an error, and nothing is read after it.
+pub fn interim_responses_are_read()
+    ensures read { (e : Endpoint) (is : List Interim) → e.side ≡ Client
+        → ValidInterims e.webtransport e.max_section is → length is ≤ 64
+        → ReadsInterims (message_reader e) is (awaiting e (length is)) }
+    ensures bound { (e : Endpoint) (i : Interim) → e.side ≡ Client
+        → ValidInterim e.webtransport e.max_section 0 i
+        → (mid : Reader) × GivesSection (awaiting e 64) i mid
+        × (after_interim mid ≡ (failed mid fault.TooManyInterim, Some fault.TooManyInterim)) }
+    ensures code { code_of fault.TooManyInterim ≡ 0x0107 }
+    ensures scope { scope_of fault.TooManyInterim ≡ Stream }
+    ensures last { (r : Reader) (bytes : List ℕ) → run (failed r fault.TooManyInterim) bytes
+        ≡ stays (failed r fault.TooManyInterim) [] }
+{}
+
+/// Interim responses may be cut anywhere: a call that needs more bytes changes nothing about them,
+/// and the call that returns HEADERS leads to where the caller may say what they are.
+pub fn interim_responses_may_be_cut()
+    ensures start { (e : Endpoint) (k : ℕ) → IsAwaiting e k (awaiting e k) }
+    ensures more { (e : Endpoint) (k n : ℕ) (bytes : List ℕ) (old new : Reader)
+        → IsAwaiting e k old → StepIs (step.More n) old bytes new → IsAwaiting e k new }
+    ensures headers { (e : Endpoint) (k a b : ℕ) (bytes : List ℕ) (t : FrameType)
+        (old new : Reader) → IsAwaiting e k old → StepIs (step.Frame t a b) old bytes new
+        → e.side ≡ Client → k < 64 → after_interim new ≡ (awaiting e (k + 1), None) }
+{}
+
+/// No other frame than the HEADERS that were given last is an interim response, and a request is
+/// none.
+pub fn other_frames_are_no_interim_responses()
+    ensures none { (e : Endpoint) (k : ℕ) (s : Bool) (n : ℕ)
+        → IsNoInterim (between e k BeforeHeaders s n) }
+    ensures content { (e : Endpoint) (k n : ℕ) → IsNoInterim (between e k Body true n) }
+    ensures unknown { (e : Endpoint) (k : ℕ) (s : Bool) (n : ℕ)
+        → IsNoInterim (between e k Body s (n + 1)) }
+    ensures trailers { (e : Endpoint) (k : ℕ) (s : Bool) (n : ℕ)
+        → IsNoInterim (between e k AfterTrailers s n) }
+    ensures control { (e : Endpoint) (k : ℕ) (goaway push : Option ℕ) (s : Bool) (n : ℕ)
+        → IsNoInterim (between e k (AfterSettings goaway push) s n) }
+    ensures request { (r : Reader) → r.endpoint.side ≡ Server → IsNoInterim r }
 {}
 
 /// Every control stream that the grammar has is read, in the same way.
@@ -89,7 +136,7 @@ pub fn valid_control_streams_are_read()
         → (streamed : Bool) × (idle : ℕ)
         × (run (control_reader e) (written f ++ (ids_bytes ids ++ more))
         ≡ preceded (Whole kind.Settings f.payload ∷ ids_items ids)
-        (run (between e (AfterSettings (last_goaway None ids) (last_push None ids)) streamed idle) more)) }
+        (run (between e 0 (AfterSettings (last_goaway None ids) (last_push None ids)) streamed idle) more)) }
 {}
 
 /// The first frame of a message's stream that the grammar does not have is reported with its code,
@@ -113,15 +160,15 @@ pub fn invalid_messages_are_reported()
         → InMessage e s 0x05 0x0108 Connection }
     ensures webtransport { (e : Endpoint) (s : Stage) → e.webtransport ≡ true
         → InMessage e s 0x41 0x0106 Connection }
-    ensures too_many_unknown { (e : Endpoint) (m : Message) (id n : ℕ) (t u more : List ℕ)
+    ensures too_many_unknown { (e : Endpoint) (k : ℕ) (m : Message) (id n : ℕ) (t u more : List ℕ)
         → ValidMessage e.webtransport 0 m → 1024 ≤ count 0 m → IsUnknown e.webtransport id
         → Encodes id t → Encodes n u
-        → Reports (run (message_reader e) (message_bytes m ++ (t ++ (u ++ more))))
+        → Reports (run (awaiting e k) (message_bytes m ++ (t ++ (u ++ more))))
         (message_items e.max_section m) 0x0107 Connection }
-    ensures too_many_empty { (e : Endpoint) (m : Message) (t u more : List ℕ)
+    ensures too_many_empty { (e : Endpoint) (k : ℕ) (m : Message) (t u more : List ℕ)
         → ValidMessage e.webtransport 0 m → stage m ≡ InContent → 1024 ≤ count 0 m
         → Encodes 0x00 t → Encodes 0 u
-        → Reports (run (message_reader e) (message_bytes m ++ (t ++ (u ++ more))))
+        → Reports (run (awaiting e k) (message_bytes m ++ (t ++ (u ++ more))))
         (message_items e.max_section m) 0x0107 Connection }
 {}
 

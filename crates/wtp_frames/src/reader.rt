@@ -1,15 +1,19 @@
 //! The frames of one stream, read from bytes that the caller holds.
-ghost use Rattle.std.specs.Prelude.{◌≡◌, ◌+◌, ◌<◌, ◌≤◌, length, drop, false, Some, None, MatchOption, IfSome};
+ghost use Rattle.std.specs.Prelude.{◌≡◌, ◌+◌, ◌<◌, ◌≤◌, length, drop, false, Some, None, MatchOption, MatchResult, IfSome};
 ghost use Rattle.wtp_frames.specs.FrameType.{type_of};
 ghost use Rattle.wtp_frames.specs.Run.{head_at, action_at, is_failed, counted as counted_is, after_data as after_data_is};
 ghost use Rattle.wtp_frames.specs.Reading.{MoveIs, StepIs, payload_move as payload_move_is, all_passed, by_end};
 ghost use Rattle.wtp_frames.specs.Start.{message_reader, control_reader};
+ghost use Rattle.wtp_frames.specs.Interim.{ends_in_section as ends_in_section_is, after_interim};
 
 use crate::endpoint::{Endpoint, Side};
 use crate::fault::Fault;
 use crate::frame_type::FrameType;
 use crate::rules::{Action, MAX_IDLE, accept, action_for, after_section};
 use wtp_core::varint::first_varint;
+
+/// The largest number of interim responses that may come before the final one.
+const MAX_INTERIM: u32 = 64;
 
 /// How far a stream went.
 #[derive(Clone, Copy)]
@@ -41,6 +45,8 @@ pub struct Reader {
     streamed: bool,
     /// How many frames without content came, one after the other.
     idle: u32,
+    /// How many interim responses came.
+    interims: u32,
 }
 
 /// What is next on a stream of frames.
@@ -89,6 +95,7 @@ impl Reader {
             remaining: 0,
             streamed: false,
             idle: 0,
+            interims: 0,
         }
     }
 
@@ -102,6 +109,7 @@ impl Reader {
             remaining: 0,
             streamed: false,
             idle: 0,
+            interims: 0,
         }
     }
 
@@ -124,6 +132,43 @@ impl Reader {
                 Move::TooLarge(size, n) => return Step::TooLarge(size, at + n),
                 Move::Stuck => return Step::More(at),
                 Move::Failed(fault) => return Step::Fault(fault),
+            }
+        }
+    }
+
+    /// Says that the HEADERS that [`next`](Self::next) returned last are those of an interim
+    /// response: the HEADERS of the final one are still to come (RFC 9114, section 4.1). Call it
+    /// before the next call of `next`; which HEADERS these are is in their fields (RFC 9110, section
+    /// 15.2). Nothing changes if HEADERS are not the last frame, and at a server.
+    ///
+    /// # Errors
+    ///
+    /// `TooManyInterim` after 64 interim responses. The reader then consumes all bytes and returns
+    /// `More`.
+    pub fn interim(&mut self) -> Result<(), Fault>
+        ensures { MatchResult result (λ _. after_interim self.old ≡ (self.new, None))
+            (λ f. after_interim self.old ≡ (self.new, Some f)) }
+    {
+        if !self.ends_in_section() {
+            return Ok(());
+        }
+        if self.interims < MAX_INTERIM {
+            self.interims += 1;
+            self.place = Place::BeforeHeaders;
+            return Ok(());
+        }
+        self.place = Place::Failed(Fault::TooManyInterim);
+        Err(Fault::TooManyInterim)
+    }
+
+    // Returns whether HEADERS are the last frame of a response.
+    fn ends_in_section(&self) -> bool
+        ensures { result ≡ ends_in_section_is self.now }
+    {
+        match self.endpoint.side {
+            Side::Server => false,
+            Side::Client => {
+                matches!(self.place, Place::Body) && !self.streamed && self.idle == 0
             }
         }
     }
@@ -225,6 +270,7 @@ impl Reader {
         match accept(self.endpoint.side, self.place, kind, &bytes[start..end]) {
             Ok(place) => {
                 self.place = place;
+                self.streamed = false;
                 self.idle = 0;
                 Move::Whole(kind, start, end)
             }

@@ -1,6 +1,6 @@
 //! Streams of sessions, and streams that end before their last byte.
 ghost use Rattle.std.specs.Prelude.{◌≡◌};
-ghost use Rattle.wtp_connection.specs.Streams.{joins, waits, settles, refuses, freed, without, reset_answer, resets, abandons};
+ghost use Rattle.wtp_connection.specs.Streams.{joins, tells_interim, waits, settles, refuses, freed, without, reset_answer, resets, abandons};
 
 use crate::connection::{Connection, Known};
 use crate::fault::Fault;
@@ -91,6 +91,31 @@ impl Connection {
         self.close(Fault::Stream(fault));
         *stream = Stream::Over;
         Some(Fault::Stream(fault))
+    }
+
+    /// Says that the HEADERS that [`receive`](Self::receive) returned last on this stream are those of
+    /// an interim response: the HEADERS of the final one are still to come (RFC 9114, section 4.1).
+    /// Call it before the next call of `receive` for the stream; which HEADERS these are is in their
+    /// fields (RFC 9110, section 15.2). Nothing changes if HEADERS are not the last frame, and at a
+    /// server.
+    ///
+    /// # Errors
+    ///
+    /// `TooManyInterim` after 64 interim responses, which ends that stream alone. After an error of
+    /// the connection there is none, and nothing changes.
+    pub fn interim(&mut self, stream: &mut Stream) -> Option<Fault>
+        ensures { (self.new, stream.new, result) ≡ tells_interim self.old stream.old }
+    {
+        if self.over {
+            return None;
+        }
+        match stream {
+            Stream::Frames(reader, _) => match reader.interim() {
+                Ok(()) => None,
+                Err(fault) => self.refuse(stream, fault),
+            },
+            _ => None,
+        }
     }
 
     /// Says that the peer reset a stream. Its bytes that were not returned are lost, and the stream

@@ -47,7 +47,7 @@ pub returns-clause-webtransport : goal.returns-clause-webtransport
 returns-clause-webtransport c = λ e s h. stream_type e h s
 
 pub returns-clause-too_many_unknown : goal.returns-clause-too_many_unknown
-returns-clause-too_many_unknown c = λ e m id n t u more v l k a b. message_reports e m id n t u more fault.ExcessiveLoad v a b (unknown_crowded e (stage m) (count 0 m) id n k l)
+returns-clause-too_many_unknown c = λ e j m id n t u more v l k a b. message_reports e j m id n t u more fault.ExcessiveLoad v a b (unknown_crowded e (stage m) (count 0 m) id n k l)
 
 pub returns-clause-too_many_empty : goal.returns-clause-too_many_empty
-returns-clause-too_many_empty c = λ e m t u more v at l a b. message_reports e m 0x00 0 t u more fault.ExcessiveLoad v a b (empty_crowded e (stage m) (count 0 m) at l)
+returns-clause-too_many_empty c = λ e j m t u more v at l a b. message_reports e j m 0x00 0 t u more fault.ExcessiveLoad v a b (empty_crowded e (stage m) (count 0 m) at l)
