@@ -157,6 +157,26 @@ ROWS = [
         before="known 0 refused",
     ),
     Row("one that waited", OTHER, b"\x40\x54\0abc", REJECTED, after="known 0 refused"),
+    Row(
+        "a stream of a session whose request is over and forgotten",
+        OTHER,
+        b"\x40\x54\0abc",
+        SESSION_GONE,
+        before=f"end 0 {HEADERS.hex()}\nforget 0",
+    ),
+    Row(
+        "a stream that overtakes the request of its session",
+        OTHER,
+        b"\x40\x54\0abc",
+        before=f"bytes 8 {HEADERS.hex()}\nforget 0",
+    ),
+    Row(
+        "a stream of a session whose request is 1000 places behind",
+        OTHER,
+        b"\x40\x54\0abc",
+        REJECTED,
+        before=f"bytes 4000 {HEADERS.hex()}\nforget 0",
+    ),
     Row("a stream that waits, of 4112 bytes", 4, b"\x40\x41\x41\x90" + bytes(4112)),
     Row("a stream of no session at all", OTHER, b"\x40\x54\0abc", ID, before="known 0 impossible"),
     Row(

@@ -24,6 +24,8 @@ pub enum Command {
     Reset(u64),
     /// The stream with this ID is read no longer.
     Abandon(u64),
+    /// The stream with this ID is over, and forgotten.
+    Forget(u64),
 }
 
 impl Command {
@@ -54,6 +56,7 @@ impl Command {
             }
             "reset" => Ok(Command::Reset(number(rest)?)),
             "abandon" => Ok(Command::Abandon(number(rest)?)),
+            "forget" => Ok(Command::Forget(number(rest)?)),
             _ => bail!("no command"),
         }
     }

@@ -13,6 +13,8 @@
 //! - `known SESSION STATE`: from here on a session is `coming`, `open`, `over`, `refused` or
 //!   `impossible`. At first each is `coming`.
 //! - `reset ID`, `abandon ID`: the peer reset a stream, or it is read no longer.
+//! - `forget ID`: a stream that is over is forgotten. From here on its session is what the connection
+//!   knows without it.
 //!
 //! In the output a line `connection` begins a connection. Every other line has the ID of a stream,
 //! an offset in it, and what was found there; offsets within an event count from that one:

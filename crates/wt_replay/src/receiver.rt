@@ -146,6 +146,17 @@ impl Receiver {
         }
     }
 
+    /// Creates the state of a stream that the peer opened.
+    pub fn accept(&mut self, id: u64) -> Stream {
+        self.connection.accept(id)
+    }
+
+    /// Sets what is known of the session of a stream that is forgotten.
+    pub fn forget(&mut self, id: u64) -> Result<(), AllocError> {
+        let known = self.connection.known_without_stream(id);
+        self.know(id, known)
+    }
+
     /// Returns what is known of a session.
     fn known(&self, session: u64) -> Known {
         self.sessions

@@ -63,6 +63,7 @@ impl Replay {
             Command::Known(session, known) => self.know(alloc, session, known)?,
             Command::Reset(id) => self.reset(alloc, id)?,
             Command::Abandon(id) => self.abandon(alloc, id)?,
+            Command::Forget(id) => self.forget(id)?,
         }
         Ok(())
     }
@@ -92,7 +93,7 @@ impl Replay {
     /// Takes the next bytes of a stream.
     fn receive(&mut self, alloc: Global, id: u64, bytes: &[u8], fin: bool) -> Result<()> {
         if self.streams.get(&id).is_none() {
-            let stream = Stream::of_peer(id);
+            let stream = self.receiver.accept(id);
             self.streams.insert(id, Entry::new(alloc, stream))?;
         }
         if let Some(entry) = self.streams.get_mut(&id) {
@@ -100,6 +101,12 @@ impl Replay {
             self.receiver.read(alloc, id, entry)?;
         }
         Ok(())
+    }
+
+    /// Forgets a stream that is over.
+    fn forget(&mut self, id: u64) -> Result<(), AllocError> {
+        self.streams.remove(&id);
+        self.receiver.forget(id)
     }
 
     /// Tells the streams of a session what is known of it.

@@ -7,3 +7,5 @@ pub mod SettingLawLemmas
 pub mod SettingLemmas
 pub mod StreamLemmas
 pub mod InterimLemmas
+pub mod RequestLemmas
+pub mod KnownLemmas

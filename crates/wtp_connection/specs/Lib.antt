@@ -4,3 +4,4 @@ pub mod Instructions
 pub mod Opening
 pub mod Streams
 pub mod Receiving
+pub mod Requests

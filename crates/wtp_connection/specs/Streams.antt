@@ -1,6 +1,6 @@
 -- The run of a stream's bytes under the state of the connection, and its end (RFC 9114, sections 6,
 -- 7.1 and 8).
-use Rattle.std.specs.Prelude.{◌≡◌, ℕ, ◌+◌, ◌-◌, nat_lt, ◌&&◌, ◌||◌, not, if◌then◌else◌, Bool, true, false, List, [], ◌∷◌, ◌++◌, map, length, Option, Some, None, Result, Ok, Err}
+use Rattle.std.specs.Prelude.{◌≡◌, ℕ, ◌+◌, ◌-◌, ◌/◌, ◌%◌, ◌==◌, nat_lt, ◌&&◌, ◌||◌, not, if◌then◌else◌, Bool, true, false, List, [], ◌∷◌, ◌++◌, map, length, Option, Some, None, Result, Ok, Err}
 use Rattle.std.specs.List.{list_all}
 use Rattle.wtp_core.specs.declared.error.scope.ErrorScope.{ErrorScope}
 use Rattle.wtp_core.specs.declared.error.scope.ErrorScope.TheVariants as scope
@@ -32,7 +32,11 @@ use Rattle.wtp_connection.specs.declared.connection.Known.TheVariants as known
 use Rattle.wtp_connection.specs.Fault.{scope_of}
 use Rattle.wtp_connection.specs.Settings.{values_of, with_defaults, settings_in}
 use Rattle.wtp_connection.specs.Instructions.{sets_zero, after_bytes}
-use Rattle.wtp_connection.specs.Opening.{uni_at, bi_at, is_critical, has_no_headers}
+use Rattle.wtp_connection.specs.Opening.{stream_of, uni_at, bi_at, is_critical, has_no_headers}
+use Rattle.wtp_connection.specs.declared.requests.Begun.{Begun}
+use Rattle.wtp_connection.specs.declared.requests.Beginning.{Beginning}
+use Rattle.wtp_connection.specs.declared.requests.Beginning.TheVariants as beginning
+use Rattle.wtp_connection.specs.Requests.{beginning_at, none_begun, with_request}
 
 -- a connection before its first byte: each setting of the peer has its default (RFC 9114, section
 -- 7.2.4.2)
@@ -44,6 +48,7 @@ connection_of e = record {
   decoder = false;
   waiting = 0;
   peer = with_defaults (values_of []);
+  begun = none_begun;
   over = false;
 }
 
@@ -54,6 +59,23 @@ with_control e = record (connection_of e) { control = true }
 -- SETTINGS came on it
 abbrev pub with_settings : Endpoint → PeerSettings → Connection
 with_settings e v = record (connection_of e) { control = true; peer = v }
+
+-- ---- the streams that the peer opens
+
+-- a server remembers which requests have begun
+abbrev pub with_stream : Side → Connection → ℕ → Connection
+with_stream Client c id = c
+with_stream Server c id =
+    if id % 4 == 0 then record c { begun = with_request c.begun (id / 4) } else c
+
+abbrev pub accepts : Connection → ℕ → Connection × Stream
+accepts c id = (with_stream c.endpoint.side c id, stream_of id)
+
+-- a server after these streams of the client were opened, of which the last one is the first of the
+-- list
+abbrev pub accepted_all : Endpoint → List ℕ → Connection
+accepted_all e [] = connection_of e
+accepted_all e (id ∷ ids) = (accepts (accepted_all e ids) id).0
 
 -- ---- what the connection makes of a stream
 
@@ -240,6 +262,25 @@ ended x =
 -- at most this many streams wait for sessions that are to come
 abbrev pub most_waiting : ℕ
 most_waiting = 16
+
+-- a session without a stream is over or to come, by whether its request began
+abbrev pub over_if : Bool → Known
+over_if true = known.Over
+over_if false = known.Coming
+
+-- what is known of it
+abbrev pub known_by : Beginning → Known
+known_by beginning.Begun = known.Over
+known_by beginning.NotBegun = known.Coming
+known_by beginning.Lost = known.Refused
+
+abbrev pub known_at : Side → Begun → ℕ → Known
+known_at Client b s = known.Impossible
+known_at Server b s =
+    if s % 4 == 0 then known_by (beginning_at b (s / 4)) else known.Impossible
+
+abbrev pub known_alone : Connection → ℕ → Known
+known_alone c s = known_at c.endpoint.side c.begun s
 
 -- what the connection and a stream are then, and the error
 abbrev pub Joined : Type 0

@@ -1,6 +1,6 @@
 //! What the streams of a connection have in common. It holds no bytes and no table of streams.
 ghost use Rattle.std.specs.Prelude.{◌≡◌, ◌≤◌, ◌||◌, length, drop, true, false, None, Some, MatchOption, IfSome, IfErr};
-ghost use Rattle.wtp_connection.specs.Streams.{connection_of, opens, opening_result, closed_by, no_number as no_number_is};
+ghost use Rattle.wtp_connection.specs.Streams.{connection_of, opens, opening_result, closed_by, accepts, no_number as no_number_is};
 ghost use Rattle.wtp_connection.specs.Receiving.{FoundIs, StepIsFound, IsFirst, IsInside, opening_of, has_frame, step_found, encoder_found, decoder_found, fails, more_in, finish_of};
 
 mod sessions;
@@ -8,6 +8,7 @@ mod sessions;
 use crate::fault::Fault;
 use crate::fields::Fields;
 use crate::instructions::{DecoderPlace, sets_nothing};
+use crate::requests::Begun;
 use crate::settings::PeerSettings;
 use crate::stream::{Purpose, Stream, bi_opening, uni_opening};
 use wtp_core::error::ErrorScope;
@@ -31,6 +32,8 @@ pub struct Connection {
     waiting: u32,
     /// The settings of the peer.
     peer: PeerSettings,
+    /// At a server, which requests of the client have begun.
+    begun: Begun,
     /// Whether an error ended the connection.
     over: bool,
 }
@@ -87,8 +90,25 @@ impl Connection {
             decoder: false,
             waiting: 0,
             peer: PeerSettings::new(),
+            begun: Begun::new(),
             over: false,
         }
+    }
+
+    /// Creates the state of a stream that the peer opened, by its ID (RFC 9000, section 2.1). A server
+    /// remembers which requests have begun.
+    pub fn accept(&mut self, id: u64) -> Stream
+        ensures { (self.new, result) ≡ accepts self.old id }
+    {
+        match self.endpoint.side {
+            Side::Client => {}
+            Side::Server => {
+                if id % 4 == 0 {
+                    self.begun.insert(id / 4);
+                }
+            }
+        }
+        Stream::of_peer(id)
     }
 
     /// Returns what is next in the bytes of a stream that follow those consumed before. `fin`: the

@@ -1,15 +1,16 @@
 //! Laws of the definitions that the contracts cite. Each function does nothing: its contract is the
 //! law.
-ghost use Rattle.std.specs.Prelude.{◌≡◌, ℕ, ◌+◌, ◌/◌, ◌<◌, ◌≤◌, Bool, true, false, List, [], ◌∷◌, ◌++◌, length, Some, None, Ok, Err};
+ghost use Rattle.std.specs.Prelude.{◌≡◌, ℕ, ◌+◌, ◌/◌, ◌%◌, ◌<◌, ◌≤◌, Bool, true, false, List, [], ◌∷◌, ◌++◌, length, Some, None, Ok, Err};
 ghost use Rattle.wtp_core.specs.Varint.{Encodes};
 ghost use Rattle.wtp_frames.specs.declared.endpoint.Endpoint.{Endpoint};
 ghost use Rattle.wtp_frames.specs.declared.fault.Fault.TheVariants as stream;
 ghost use Rattle.wtp_frames.specs.declared.reader.Place.TheVariants.{AfterSettings};
-ghost use Rattle.wtp_frames.specs.declared.endpoint.Side.TheVariants.{Client};
+ghost use Rattle.wtp_frames.specs.declared.endpoint.Side.TheVariants.{Client, Server};
 ghost use Rattle.wtp_frames.specs.Grammar.{Frame, written, IsFrame, Interim, ValidInterim};
 ghost use Rattle.wtp_frames.specs.Start.{between, awaiting};
 ghost use Rattle.wtp_core.specs.declared.error.scope.ErrorScope.TheVariants as scope;
 ghost use Rattle.wtp_connection.specs.declared.connection.Connection.{Connection};
+ghost use Rattle.wtp_connection.specs.declared.connection.Known.TheVariants as known;
 ghost use Rattle.wtp_connection.specs.Fault.{code_of, scope_of};
 ghost use Rattle.wtp_wire.specs.Front.{EncodesPair};
 ghost use Rattle.wtp_wire.specs.SettingId.{IsReserved};
@@ -19,9 +20,11 @@ ghost use Rattle.wtp_connection.specs.declared.fault.Fault.TheVariants as fault;
 ghost use Rattle.wtp_connection.specs.declared.settings.PeerSettings.{PeerSettings};
 ghost use Rattle.wtp_connection.specs.declared.stream.Purpose.TheVariants as «for»;
 ghost use Rattle.wtp_connection.specs.declared.stream.Stream.TheVariants.{Uni, Frames, Over};
-ghost use Rattle.wtp_connection.specs.Streams.{connection_of, with_control, with_settings, closed_by, Opened, Configured, Broke, followed, all_given, run_stream, FindsInterim};
+ghost use Rattle.wtp_connection.specs.Streams.{connection_of, with_control, with_settings, closed_by, Opened, Configured, Broke, followed, all_given, run_stream, FindsInterim, accepted_all, known_alone, over_if};
 ghost use Rattle.wtp_connection.specs.declared.instructions.DecoderPlace.TheVariants.{Between};
 ghost use Rattle.wtp_connection.specs.Instructions.{AreCancellations, after_bytes};
+ghost use Rattle.wtp_connection.specs.Requests.{has_begun, IsNotFarBehind, beginning_of, beginning_at, begun_by};
+ghost use Rattle.wtp_connection.specs.declared.requests.Beginning.TheVariants as beginning;
 ghost use Rattle.wtp_connection.specs.Settings.{AreValid, values_of, is_refused, with_defaults, settings_in};
 
 /// Valid settings are read, in whatever order they are and whatever encodings they have: each field
@@ -74,6 +77,26 @@ pub fn interim_responses_are_found()
         (c, Over, Some (fault.Stream stream.TooManyInterim)) }
     ensures code { code_of (fault.Stream stream.TooManyInterim) ≡ 0x0107 }
     ensures scope { scope_of (fault.Stream stream.TooManyInterim) ≡ scope.Stream }
+{}
+
+/// It is known of each request whether it has begun, unless one that has is 512 places or more ahead of
+/// it. No request that has not begun is ever taken for one that has.
+pub fn begun_requests_are_known()
+    ensures known { (ns : List ℕ) (n : ℕ) → (begun_by ns).lost ≤ n
+        → beginning_at (begun_by ns) n ≡ beginning_of (has_begun ns n) }
+    ensures kept { (ns : List ℕ) (n : ℕ) → IsNotFarBehind ns n → (begun_by ns).lost ≤ n }
+    ensures never { (ns : List ℕ) (n : ℕ) → has_begun ns n ≡ false
+        → beginning_at (begun_by ns) n ≡ beginning.Begun → ⊥ }
+{}
+
+/// A server takes no session for over whose request did not come; and while no request is 512 places
+/// ahead of that of a session, it knows whether the session is over or to come.
+pub fn sessions_without_a_stream_are_known()
+    ensures over { (e : Endpoint) (ids : List ℕ) (s : ℕ)
+        → known_alone (accepted_all e ids) s ≡ known.Over → has_begun ids s ≡ true }
+    ensures known { (e : Endpoint) (ids : List ℕ) (s : ℕ) → e.side ≡ Server → s % 4 ≡ 0
+        → ((id : ℕ) → has_begun ids id ≡ true → id < s + 2048)
+        → known_alone (accepted_all e ids) s ≡ over_if (has_begun ids s) }
 {}
 
 /// Cancellations of streams are read on a decoder stream of QPACK, whatever encodings the IDs have.

@@ -7,5 +7,6 @@ pub mod fault;
 pub mod fields;
 pub mod instructions;
 pub mod laws;
+pub mod requests;
 pub mod settings;
 pub mod stream;

@@ -62,7 +62,9 @@ pub enum Stream {
 }
 
 impl Stream {
-    /// Creates the state of a stream that the peer opened, by its ID (RFC 9000, section 2.1).
+    /// Creates the state of a stream that the peer opened, by its ID (RFC 9000, section 2.1). With
+    /// [`accept`](crate::connection::Connection::accept) a server also remembers which requests have
+    /// begun.
     pub fn of_peer(id: u64) -> Self
         ensures { result ≡ stream_of id }
     {

@@ -1,9 +1,10 @@
 //! Streams of sessions, and streams that end before their last byte.
 ghost use Rattle.std.specs.Prelude.{◌≡◌};
-ghost use Rattle.wtp_connection.specs.Streams.{joins, tells_interim, waits, settles, refuses, freed, without, reset_answer, resets, abandons};
+ghost use Rattle.wtp_connection.specs.Streams.{joins, tells_interim, known_alone, waits, settles, refuses, freed, without, reset_answer, resets, abandons};
 
 use crate::connection::{Connection, Known};
 use crate::fault::Fault;
+use crate::requests::Beginning;
 use crate::stream::Stream;
 use wtp_frames::endpoint::Side;
 use wtp_frames::fault::Fault as StreamFault;
@@ -49,6 +50,29 @@ impl Connection {
                 _ => None,
             },
             _ => None,
+        }
+    }
+
+    /// Returns what is known of a session if the caller has no stream with its ID: at a server, that
+    /// its request is to come, or that it came and is over. It is `Refused` if the request did not
+    /// come before others that are 512 places ahead of it, and `Impossible` if no client opens a
+    /// bidirectional stream with this ID (RFC 9000, section 2.1). A client that has no stream with
+    /// the ID did not ask for the session.
+    pub fn known_without_stream(&self, session: u64) -> Known
+        ensures { result ≡ known_alone self.now session }
+    {
+        match self.endpoint.side {
+            Side::Client => Known::Impossible,
+            Side::Server => {
+                if session % 4 != 0 {
+                    return Known::Impossible;
+                }
+                match self.begun.beginning(session / 4) {
+                    Beginning::Begun => Known::Over,
+                    Beginning::NotBegun => Known::Coming,
+                    Beginning::Lost => Known::Refused,
+                }
+            }
         }
     }
 
