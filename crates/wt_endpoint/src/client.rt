@@ -2,17 +2,17 @@
 ghost use Rattle.std.specs.Prelude.{◌≡◌, ◌/◌, IfOk};
 ghost use Rattle.wtransport_proto.specs.Datagram.{datagram_wire};
 
-use crate::server::{TURNS, send_headers};
-use anyhow::{Result, bail};
+use crate::server::send_headers;
+use crate::turns::until_ready;
+use anyhow::Result;
 use std::alloc::Global;
 use std::borrow::CowSlice;
-use wtransport_proto::bytes::{AsyncRead, AsyncWrite, BytesWriter, Polled};
+use wtransport_proto::bytes::{AsyncRead, AsyncWrite, BytesWriter};
 use wtransport_proto::capsule::capsules::CloseWebTransportSession;
 use wtransport_proto::datagram::Datagram;
-use wtransport_proto::frame::{Frame, FrameOwned, FrameReading};
+use wtransport_proto::frame::{Frame, FrameReading};
 use wtransport_proto::ids::{QStreamId, SessionId};
 use wtransport_proto::session::{SessionRequest, SessionResponse, response_of_frame};
-use wtransport_proto::stream::IoReadError;
 use wtransport_proto::stream::bilocal::StreamBiLocalQuic;
 use wtransport_proto::stream::session::StreamSession;
 
@@ -38,19 +38,8 @@ pub fn read_response<S: AsyncRead>(
     source: &mut S,
 ) -> Result<SessionResponse> {
     let mut reading = FrameReading::new(alloc);
-    for _turn in 0..TURNS {
-        match session.read_frame_async(&mut reading, source) {
-            Polled::Ready(frame) => return response_in(alloc, frame),
-            Polled::Pending | Polled::Again => {}
-            Polled::NoMemory => bail!("out of memory"),
-        }
-    }
-    bail!("the stream is not ready")
-}
-
-/// Returns the response in a frame, or the error that was read instead.
-fn response_in(alloc: Global, frame: Result<FrameOwned, IoReadError>) -> Result<SessionResponse> {
-    Ok(response_of_frame(alloc, &frame?)?)
+    let frame = until_ready(|| session.read_frame_async(&mut reading, source))??;
+    Ok(response_of_frame(alloc, &frame)?)
 }
 
 /// Closes a session with an application error code and a reason, as a capsule in DATA frames.

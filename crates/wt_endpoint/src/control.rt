@@ -4,10 +4,10 @@ ghost use Rattle.std.specs.Prelude.{◌≡◌, ◌≢◌, IfNone, IfSome};
 ghost use Rattle.wtransport_proto.specs.Header.{header_kind};
 ghost use Rattle.wtransport_proto.specs.Streams.{CanRead, header_of};
 
-use crate::server::TURNS;
+use crate::turns::{TURNS, until_done};
 use anyhow::{Result, bail};
 use std::alloc::Global;
-use wtransport_proto::bytes::{AsyncRead, Polled, Stepped};
+use wtransport_proto::bytes::{AsyncRead, Polled};
 use wtransport_proto::error::ErrorCode;
 use wtransport_proto::frame::{FrameKind, FrameOwned, FrameReading};
 use wtransport_proto::settings::Settings;
@@ -17,15 +17,8 @@ use wtransport_proto::stream_header::StreamKind;
 
 /// Accepts a unidirectional stream by reading its header.
 pub fn accept_unidirectional<S: AsyncRead>(source: &mut S) -> Result<StreamUniRemoteH3> {
-    let mut accepting = StreamUniRemoteQuic::accept_uni().upgrade_async();
-    for _turn in 0..TURNS {
-        accepting = match accepting.poll(source) {
-            Stepped::Done(stream) => return Ok(stream),
-            Stepped::Pending(state) | Stepped::NoMemory(state) => state,
-            Stepped::Failed(_, fault) => return Err(fault.into()),
-        };
-    }
-    bail!("the stream is not ready")
+    let accepting = StreamUniRemoteQuic::accept_uni().upgrade_async();
+    until_done(accepting, |state| state.poll(source))
 }
 
 /// The peer's control stream. The ghost field preserves the precondition of `read_frame_async`
@@ -56,6 +49,7 @@ impl Control {
         source: &mut S,
     ) -> Result<Settings> {
         let mut reading = FrameReading::new(alloc);
+        // A closure for `until_ready` would not preserve the ghost field.
         for _turn in 0..TURNS {
             match self.stream.read_frame_async(&mut reading, source) {
                 Polled::Ready(frame) => return settings_of(alloc, frame),

@@ -11,6 +11,7 @@ mod quic;
 mod server;
 mod session;
 mod streams;
+mod turns;
 
 use crate::control::Control;
 use crate::pipes::{Incoming, Outgoing};

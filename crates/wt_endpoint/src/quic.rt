@@ -1,5 +1,6 @@
 //! Streams of a QUIC library, and adapters to the traits of `bytes`. The library has no contract,
 //! so the adapters have no model and check the values that it returns.
+ghost use Rattle.std.specs.Prelude.{◌≡◌, []};
 
 use std::alloc::Global;
 use wtransport_proto::bytes::{AsyncRead, AsyncWrite, ReadStep, WriteStep};
@@ -77,7 +78,9 @@ pub struct MemoryReceiver<'a> {
 
 impl<'a> MemoryReceiver<'a> {
     /// Creates a stream with these bytes.
-    pub fn new(bytes: &'a [u8]) -> Self {
+    pub fn new(bytes: &'a [u8]) -> Self
+        ensures { result.bytes.now ≡ bytes.now }
+    {
         MemoryReceiver {
             bytes,
             is_woken: false,
@@ -108,7 +111,9 @@ pub struct MemorySender {
 
 impl MemorySender {
     /// Creates an empty stream.
-    pub fn new(alloc: Global) -> Self {
+    pub fn new(alloc: Global) -> Self
+        ensures { result.bytes.items ≡ [] }
+    {
         MemorySender {
             bytes: Vec::new(alloc),
             is_woken: false,
@@ -116,7 +121,9 @@ impl MemorySender {
     }
 
     /// Returns the bytes that were sent.
-    pub fn bytes(&self) -> &[u8] {
+    pub fn bytes(&self) -> &[u8]
+        ensures { result.now ≡ self.now.bytes.items }
+    {
         self.bytes.as_slice()
     }
 }

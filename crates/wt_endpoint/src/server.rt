@@ -3,6 +3,7 @@ ghost use Rattle.std.specs.Prelude.{◌≡◌, ◌≢◌, IfOk, OnErr, codes};
 ghost use Rattle.wt_endpoint.specs.Datagrams.{Receives};
 ghost use Rattle.wt_endpoint.specs.Responses.{response_with};
 
+use crate::turns::TURNS;
 use anyhow::{Result, bail};
 use std::alloc::Global;
 use wtransport_proto::bytes::{AsyncRead, AsyncWrite};
@@ -18,9 +19,6 @@ use wtransport_proto::stream::biremote::{StreamBiRemoteH3, StreamBiRemoteQuic, S
 use wtransport_proto::stream::session::StreamSession;
 use wtransport_proto::stream::unilocal::StreamUniLocalQuic;
 use wtransport_proto::stream_header::StreamHeader;
-
-/// The maximum number of polls of a stream. A live endpoint polls again when the stream is ready.
-pub const TURNS: u32 = 10_000;
 
 /// Writes the control stream: its stream type and the settings.
 pub fn write_control(alloc: Global, out: &mut Vec<u8>) -> Result<()> {

@@ -4,7 +4,7 @@ ghost use Rattle.wtransport_proto.specs.CapsuleFront.{End};
 ghost use Rattle.wtransport_proto.specs.CapsuleStream.{next_held};
 ghost use Rattle.wt_endpoint.specs.Ends.{CanContinue, HasEnded};
 
-use crate::server::TURNS;
+use crate::turns::TURNS;
 use anyhow::{Result, bail};
 use std::alloc::Global;
 use wtransport_proto::bytes::{AsyncRead, IoReadError, Polled};

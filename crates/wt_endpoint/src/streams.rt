@@ -1,9 +1,10 @@
 //! Streams of a session: the first bytes identify the session, and the rest is application data.
 
-use crate::server::{self, PeerStream, TURNS};
+use crate::server::{self, PeerStream};
+use crate::turns::{TURNS, until_done, until_ready};
 use anyhow::{Result, bail};
 use std::alloc::Global;
-use wtransport_proto::bytes::{AsyncRead, AsyncWrite, BytesWriterAsync, Polled, ReadStep, Stepped};
+use wtransport_proto::bytes::{AsyncRead, AsyncWrite, BytesWriterAsync, ReadStep};
 use wtransport_proto::error::ErrorCode;
 use wtransport_proto::ids::SessionId;
 use wtransport_proto::stream::bilocal::{StreamBiLocalQuic, StreamBiLocalWT};
@@ -16,18 +17,10 @@ pub fn open_bidirectional<W: AsyncWrite>(
     session: SessionId,
     sink: &mut W,
 ) -> Result<StreamBiLocalWT> {
-    let mut upgrading = StreamBiLocalQuic::open_bi()
+    let upgrading = StreamBiLocalQuic::open_bi()
         .upgrade()
         .upgrade_async(session);
-    for _turn in 0..TURNS {
-        upgrading = match upgrading.poll(sink) {
-            Stepped::Done(stream) => return Ok(stream),
-            Stepped::Pending(state) => state,
-            Stepped::NoMemory(_) => bail!("out of memory"),
-            Stepped::Failed(_, fault) => return Err(fault.into()),
-        };
-    }
-    bail!("the stream is not ready")
+    until_done(upgrading, |state| state.poll(sink))
 }
 
 /// Opens a unidirectional stream of a session.
@@ -36,16 +29,8 @@ pub fn open_unidirectional<W: AsyncWrite>(
     sink: &mut W,
 ) -> Result<StreamUniLocalH3> {
     let header = StreamHeader::new_webtransport(session);
-    let mut upgrading = StreamUniLocalQuic::open_uni().upgrade_async(header);
-    for _turn in 0..TURNS {
-        upgrading = match upgrading.poll(sink) {
-            Stepped::Done(stream) => return Ok(stream),
-            Stepped::Pending(state) => state,
-            Stepped::NoMemory(_) => bail!("out of memory"),
-            Stepped::Failed(_, fault) => return Err(fault.into()),
-        };
-    }
-    bail!("the stream is not ready")
+    let upgrading = StreamUniLocalQuic::open_uni().upgrade_async(header);
+    until_done(upgrading, |state| state.poll(sink))
 }
 
 /// Accepts a bidirectional stream of a session. A client must not accept any other (RFC 9114,
@@ -63,14 +48,8 @@ pub fn accept_bidirectional<S: AsyncRead>(
 /// Sends application data.
 pub fn send<W: AsyncWrite>(data: &[u8], sink: &mut W) -> Result<()> {
     let mut writing = sink.put_buffer(data);
-    for _turn in 0..TURNS {
-        match writing.poll(sink) {
-            Polled::Ready(result) => return Ok(result?),
-            Polled::Pending | Polled::Again => {}
-            Polled::NoMemory => bail!("out of memory"),
-        }
-    }
-    bail!("the stream is not ready")
+    until_ready(|| writing.poll(sink))??;
+    Ok(())
 }
 
 /// Receives application data up to the end of the stream.
