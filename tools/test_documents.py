@@ -79,6 +79,15 @@ class Paths(unittest.TestCase):
     def test_what_is_made_or_stands_for_a_name_is_left_out(self):
         self.assertEqual(self.named("`c/out/a.h`, `crates/NAME/src/a.rt`"), [])
 
+    def test_names_of_which_a_path_is_given(self):
+        place = "wtp_core/src/varint.rt"
+        self.assertEqual(
+            self.named(f"`VarInt::into_inner`, `first_*` (`{place}`)"),
+            [(place, True), ("VarInt::into_inner", True), ("first_*", True)],
+        )
+        self.assertEqual(self.named(f"`none` (`{place}`)"), [(place, True), ("none", False)])
+        self.assertEqual(self.named(f"`none` of these (`{place}`)"), [(place, True)])
+
     def test_commands_and_links(self):
         self.assertEqual(self.named("```sh\ntools/test   # all\n```\n"), [("tools/test", True)])
         self.assertEqual(
