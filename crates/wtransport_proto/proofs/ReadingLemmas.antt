@@ -10,6 +10,7 @@ use Rattle.wtp_wire.specs.Front.{Front, Framed, Unknown, BadId, TooBig, Short, f
 use Rattle.wtp_wire.specs.FrameReading.{Answers}
 use Rattle.wtp_core.specs.Reader.{IsRest}
 use Rattle.wtp_core.proofs.RestLemmas.{rest-same, rest-rest}
+use Rattle.wtp_wire.specs.PastNumber.{past_two}
 use Rattle.wtp_wire.specs.Run.{skip_unknown, run, Run, next_run, follows, ends, run_stop, Tail, MayGoOn, Ended, WasReset, Lost, Open, H3}
 use Rattle.wtp_wire.specs.Rule.{Role, rule}
 use Rattle.wtransport_proto.specs.Reading.{AnswersKnown, AnswersFrame, AnswersRun, FirstAfter, MovesPast, ReaderIsAfter, permitted, verdict}
@@ -29,6 +30,11 @@ passes-one old cur new h e k = record { known = h.known ∙ skip_unknown-unknown
 pub known-ok : (old cur new : List ℕ) (o : Option Content) → skip_unknown old ≡ skip_unknown cur → Answers (front cur) (Ok o) new → AnswersKnown (front (skip_unknown old)) (Ok o) new
 known-ok old cur new None p h = rw (p, skip_unknown-short cur h) h
 known-ok old cur new (Some f) p h = rw (p, skip_unknown-framed cur new f h) h
+
+-- there is no frame: the numbers that are complete after the unknown frames were read
+pub known-none : (old cur new : List ℕ) (o : Option Content) → skip_unknown old ≡ skip_unknown cur → Answers (front cur) (Ok o) new → (o ≡ None → new ≡ past_two cur) → o ≡ None → new ≡ past_two (skip_unknown old)
+known-none old cur new None p h past e = rw (p, skip_unknown-short cur h) (past refl)
+known-none old cur new (Some f) p h past e = absurd cc
 
 known-bad : (old cur new : List ℕ) → skip_unknown old ≡ skip_unknown cur → Answers (front cur) (Err InvalidSessionId) new → AnswersKnown (front (skip_unknown old)) (Err Id) new
 known-bad old cur new p h = inl (refl, rw (p, skip_unknown-bad cur new h) h)

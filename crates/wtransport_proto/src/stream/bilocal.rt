@@ -12,6 +12,7 @@ ghost use Rattle.wtp_wire.specs.Front.{front};
 ghost use Rattle.wtp_wire.specs.Held.{IsUnfinished};
 ghost use Rattle.wtp_wire.specs.Wire.{parts_of, wire};
 ghost use Rattle.wtp_wire.specs.Rule.{LocalBi};
+ghost use Rattle.wtp_wire.specs.PastNumber.{past_two};
 ghost use Rattle.wtp_wire.specs.Run.{skip_unknown};
 ghost use Rattle.wtransport_proto.specs.Reading.{AnswersFrame, AnswersRun, ReaderIsAfter};
 ghost use Rattle.wtransport_proto.specs.StreamPolling.{StreamPolled, StreamGiven};
@@ -68,8 +69,8 @@ impl StreamBiLocalQuic {
 impl StreamBiLocalH3 {
     /// Reads the next frame. It does not allocate. Unknown frames are skipped whole.
     ///
-    /// Returns `None` if there are too few bytes; complete frames and numbers may have been read
-    /// then. Errors:
+    /// Returns `None` if there are too few bytes. The reader has then moved past the unknown frames,
+    /// and past those of the next two numbers that are complete. Errors:
     ///
     /// - `FrameUnexpected`: a frame was read that is not permitted here.
     /// - `Id`: a WebTransport frame with an invalid session ID was read.
@@ -81,6 +82,8 @@ impl StreamBiLocalH3 {
     ) -> Result<Option<Frame<'a>>, ErrorCode>
         ensures answer { AnswersFrame LocalBi false (front (skip_unknown (R.left reader.old)))
             result false (R.left reader.new) }
+        ensures none { result ≡ Ok None
+            → R.left reader.new ≡ past_two (skip_unknown (R.left reader.old)) }
         ensures rest { IsRest (R.left reader.new) (R.left reader.old) }
         ensures kept { R.kept reader.new ≡ R.kept reader.old }
     {

@@ -1,8 +1,10 @@
 //! Driving a stream: reading its frames poll by poll, as far as its source goes.
-ghost use Rattle.std.specs.Prelude.{◌≡◌, ◌≤◌, Bool, IsTrue, ◌↔◌, ◌++◌, length, drop, false};
+ghost use Rattle.std.specs.Prelude.{◌≡◌, ◌≤◌, ◌⊎◌, Bool, IsTrue, ◌↔◌, ◌++◌, length, drop, false};
 ghost use Rattle.wtp_core.specs.Cursor.{left_of, whole_of};
 ghost use Rattle.wtp_core.specs.Source.{HasModel};
 ghost use Rattle.wtp_core.specs.Polled.{PollsAtMost, WaitsAs};
+ghost use Rattle.std.specs.Vec.{vec_len, vec_capacity};
+ghost use Rattle.wtp_wire.specs.FramePolling.{HoldsHead};
 ghost use Rattle.wtp_wire.specs.Held.{IsUnfinished};
 ghost use Rattle.wtp_wire.specs.Rule.{Role, RemoteBi, LocalBi, RemoteUni, InSession};
 ghost use Rattle.wtransport_proto.specs.Streams.{first_of, CanRead};
@@ -206,7 +208,8 @@ pub enum Driven {
 /// - `Waiting`: the source was not ready.
 /// - `Spent`: all polls were made, and each took a frame, or skipped an unknown one or 4096 bytes
 ///   of its payload.
-/// - `NoMemory`: allocation failed, for a payload or for a place in `out`.
+/// - `NoMemory`: allocation failed, for a payload of which no byte is held, or for a place in `out`,
+///   which is full.
 ///
 /// It polls until the first result other than these two, and not once more.
 ///
@@ -235,6 +238,9 @@ pub fn drive<K: ReadsFrames, S: AsyncRead>(
     ensures did { HasModel (S.model source.old) (S.model source.new)
         (DriveDid K.role result (K.first stream.old) (K.first stream.new)
         reading.old reading.new (drop (length out.old.items) out.new.items) polls) }
+    // The list has no place left, or the head of a payload is held, and no byte of it.
+    ensures memory { result ≡ Driven.NoMemory
+        → (vec_capacity out.new ≤ vec_len out.new) ⊎ HoldsHead reading.new.taken }
     ensures none { polls ≡ 0
         → (result ≡ Driven.Spent) × (stream.new ≡ stream.old) × (reading.new ≡ reading.old)
         × (source.new ≡ source.old) × (out.new ≡ out.old) }

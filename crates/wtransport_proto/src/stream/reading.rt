@@ -5,6 +5,7 @@ ghost use Rattle.wtp_core.specs.Reader.{IsRest};
 ghost use Rattle.wtp_wire.specs.Content.{kind_in};
 ghost use Rattle.wtp_wire.specs.Front.{front};
 ghost use Rattle.wtp_wire.specs.Rule.{Role, rule};
+ghost use Rattle.wtp_wire.specs.PastNumber.{past_two};
 ghost use Rattle.wtp_wire.specs.Run.{skip_unknown};
 ghost use Rattle.wtransport_proto.specs.Reading.{AnswersFrame, AnswersKnown, AnswersRun, MovesPast, ReaderIsAfter, permitted};
 
@@ -28,6 +29,8 @@ pub(crate) trait Rule {
 fn read_known<'a, R: BytesReader<'a>>(reader: &mut R) -> Result<Option<Frame<'a>>, ErrorCode>
     ensures answer { AnswersKnown (front (skip_unknown (R.left reader.old))) result
         (R.left reader.new) }
+    ensures none { result ≡ Ok None
+        → R.left reader.new ≡ past_two (skip_unknown (R.left reader.old)) }
     ensures rest { IsRest (R.left reader.new) (R.left reader.old) }
     ensures kept { R.kept reader.new ≡ R.kept reader.old }
 {
@@ -62,6 +65,8 @@ pub(crate) fn read_frame<'a, K: Rule, R: BytesReader<'a>>(
     ensures answer { AnswersFrame K.role (not first_frame_done.old)
         (front (skip_unknown (R.left reader.old))) result (not first_frame_done.new)
         (R.left reader.new) }
+    ensures none { result ≡ Ok None
+        → R.left reader.new ≡ past_two (skip_unknown (R.left reader.old)) }
     ensures stays { first_frame_done.old ≡ true → first_frame_done.new ≡ true }
     ensures rest { IsRest (R.left reader.new) (R.left reader.old) }
     ensures kept { R.kept reader.new ≡ R.kept reader.old }
@@ -80,6 +85,8 @@ pub(crate) fn read_later_frame<'a, K: Rule, R: BytesReader<'a>>(
 ) -> Result<Option<Frame<'a>>, ErrorCode>
     ensures answer { AnswersFrame K.role false (front (skip_unknown (R.left reader.old))) result
         false (R.left reader.new) }
+    ensures none { result ≡ Ok None
+        → R.left reader.new ≡ past_two (skip_unknown (R.left reader.old)) }
     ensures rest { IsRest (R.left reader.new) (R.left reader.old) }
     ensures kept { R.kept reader.new ≡ R.kept reader.old }
 {

@@ -11,6 +11,7 @@ ghost use Rattle.wtp_wire.specs.Front.{front};
 ghost use Rattle.wtp_wire.specs.Held.{IsUnfinished};
 ghost use Rattle.wtp_wire.specs.Wire.{parts_of, wire};
 ghost use Rattle.wtp_wire.specs.Rule.{InSession};
+ghost use Rattle.wtp_wire.specs.PastNumber.{past_two};
 ghost use Rattle.wtp_wire.specs.Run.{skip_unknown};
 ghost use Rattle.wtransport_proto.specs.Reading.{AnswersFrame, AnswersRun, ReaderIsAfter};
 ghost use Rattle.wtransport_proto.specs.StreamPolling.{StreamPolled, StreamGiven};
@@ -34,8 +35,8 @@ pub type StreamSession = Stream<Bi, Session>;
 impl StreamSession {
     /// Reads the next frame. It does not allocate. Unknown frames are skipped whole.
     ///
-    /// Returns `None` if there are too few bytes; complete frames and numbers may have been read
-    /// then. Errors:
+    /// Returns `None` if there are too few bytes. The reader has then moved past the unknown frames,
+    /// and past those of the next two numbers that are complete. Errors:
     ///
     /// - `FrameUnexpected`: a frame was read that is not permitted here.
     /// - `Id`: a WebTransport frame with an invalid session ID was read.
@@ -47,6 +48,8 @@ impl StreamSession {
     ) -> Result<Option<Frame<'a>>, ErrorCode>
         ensures answer { AnswersFrame InSession false (front (skip_unknown (R.left reader.old)))
             result false (R.left reader.new) }
+        ensures none { result ≡ Ok None
+            → R.left reader.new ≡ past_two (skip_unknown (R.left reader.old)) }
         ensures rest { IsRest (R.left reader.new) (R.left reader.old) }
         ensures kept { R.kept reader.new ≡ R.kept reader.old }
     {

@@ -8,6 +8,7 @@ ghost use Rattle.wtp_wire.specs.Front.{front};
 ghost use Rattle.wtp_wire.specs.Held.{IsUnfinished};
 ghost use Rattle.wtp_wire.specs.HeaderFront.{header_front};
 ghost use Rattle.wtp_wire.specs.Rule.{RemoteUni};
+ghost use Rattle.wtp_wire.specs.PastNumber.{past_number, past_two};
 ghost use Rattle.wtp_wire.specs.Run.{skip_unknown};
 ghost use Rattle.wtransport_proto.specs.Reading.{AnswersFrame, AnswersRun, ReaderIsAfter};
 ghost use Rattle.wtransport_proto.specs.StreamPolling.{StreamPolled, StreamGiven};
@@ -52,8 +53,8 @@ impl StreamUniRemoteQuic {
 
     /// Reads the stream's header as `StreamHeader::read` does.
     ///
-    /// Returns `Quic` if there are too few bytes; the type may have been read then. On an error the
-    /// stream is dropped:
+    /// Returns `Quic` if there are too few bytes. The reader has then moved past the type if that is
+    /// complete. On an error the stream is dropped:
     ///
     /// - `StreamCreation`: an unknown type was read. It must not be treated as a connection error
     ///   (RFC 9114, section 6.2).
@@ -64,6 +65,8 @@ impl StreamUniRemoteQuic {
     ) -> Result<MaybeUpgradeH3, ErrorCode>
         ensures answer { AnswersUpgrade (header_front (R.left reader.old)) self result
             (R.left reader.new) }
+        ensures none { result ≡ Ok (MaybeUpgradeH3.Quic self)
+            → R.left reader.new ≡ past_number (R.left reader.old) }
         ensures rest { IsRest (R.left reader.new) (R.left reader.old) }
         ensures kept { R.kept reader.new ≡ R.kept reader.old }
     {
@@ -103,8 +106,8 @@ impl StreamUniRemoteH3 {
     /// frames may be read, as `can_read` reports; the stream does not change, so that the next call
     /// may follow.
     ///
-    /// Returns `None` if there are too few bytes; complete frames and numbers may have been read
-    /// then. Errors:
+    /// Returns `None` if there are too few bytes. The reader has then moved past the unknown frames,
+    /// and past those of the next two numbers that are complete. Errors:
     ///
     /// - `FrameUnexpected`: a frame was read that is not permitted here.
     /// - `Id`: a WebTransport frame with an invalid session ID was read.
@@ -117,6 +120,8 @@ impl StreamUniRemoteH3 {
         requires { CanRead self.old }
         ensures answer { AnswersFrame RemoteUni false (front (skip_unknown (R.left reader.old)))
             result false (R.left reader.new) }
+        ensures none { result ≡ Ok None
+            → R.left reader.new ≡ past_two (skip_unknown (R.left reader.old)) }
         ensures rest { IsRest (R.left reader.new) (R.left reader.old) }
         ensures kept { R.kept reader.new ≡ R.kept reader.old }
         ensures same { self.new ≡ self.old }

@@ -1,4 +1,4 @@
-use Rattle.std.proofs.Common.{◌≡◌, [], ◌∷◌, ◌++◌, length, drop, refl, sym, ap, ◌∙◌, arith, append-nil}
+use Rattle.std.proofs.Common.{◌≡◌, [], ◌∷◌, ◌++◌, length, drop, refl, sym, ap, ◌∙◌, arith, append-nil, inl, inr}
 use Rattle.wtransport_proto.proofs.DriveLemmas.{first_same, first_on, none_yet, pushed, pushed_appends, pushed_most, told_start, told_full, told_spent, told_still, told_waiting, told_ended, told_frame, told_unknown}
 use Rattle.wtransport_proto.proofs.stream.driving.drive.Goals as goal
 use Rattle.wtransport_proto.proofs.stream.driving.drive.Goals.{in-Ready-Ok, in-Again}
@@ -54,6 +54,7 @@ returns-in-Err g c = record {
   most = rw c.reserve.ensures.items (omega arith);
   did = rw c.reserve.ensures.items (told_full (g.S.AsyncRead.model c.args.source.now) (g.S.AsyncRead.model c.loop-turn.source) g.K.ReadsFrames.role (g.K.ReadsFrames.first c.args.stream.now) (g.K.ReadsFrames.first c.loop-turn.stream)
       c.args.reading.now c.loop-turn.reading (drop (length c.args.out.now.items) c.loop-turn.out.items) c.loop-turn._turn c.args.polls (omega arith) c.loop-turn.invariant.model);
+  memory = λ _. inl (let h = c.in-Err.ensures {u = tt} in omega arith);
   none = λ z. absurd (omega arith);
 }
 
@@ -73,6 +74,7 @@ returns-in-Pending g c =
       appends = rw c.reserve.ensures.items c.loop-turn.invariant.appends;
       most = rw c.reserve.ensures.items (omega arith);
       did = rw c.reserve.ensures.items (told_waiting s t u g.K.ReadsFrames.role f0 f1 f2 c.args.reading.now c.loop-turn.reading c.read_frame_async.new.reading xs c.loop-turn._turn c.args.polls c.loop-turn-test.true c.read_frame_async.ensures.was_unfinished c.loop-turn.invariant.model c.in-Pending.ensures.polled c.read_frame_async.ensures.asks);
+      memory = λ e. absurd (cc);
       none = λ z. absurd (omega arith);
     }
 
@@ -92,6 +94,7 @@ returns-in-NoMemory g c =
       appends = rw c.reserve.ensures.items c.loop-turn.invariant.appends;
       most = rw c.reserve.ensures.items (omega arith);
       did = rw c.reserve.ensures.items (told_still s t u g.K.ReadsFrames.role f0 f1 f2 c.args.reading.now c.loop-turn.reading c.read_frame_async.new.reading xs c.loop-turn._turn c.args.polls c.loop-turn-test.true c.read_frame_async.ensures.was_unfinished c.loop-turn.invariant.model c.in-NoMemory.ensures.polled c.read_frame_async.ensures.asks);
+      memory = λ _. inr c.in-NoMemory.ensures.given.2;
       none = λ z. absurd (omega arith);
     }
 
@@ -111,6 +114,7 @@ returns-in-Ready-Err g c =
       appends = rw c.reserve.ensures.items c.loop-turn.invariant.appends;
       most = rw c.reserve.ensures.items (omega arith);
       did = rw c.reserve.ensures.items (told_ended s t u g.K.ReadsFrames.role f0 f1 f2 c.args.reading.now c.loop-turn.reading c.read_frame_async.new.reading xs c.in-Ready-Err.fault c.loop-turn._turn c.args.polls c.loop-turn-test.true c.read_frame_async.ensures.was_unfinished c.loop-turn.invariant.model (rw c.in-Ready-Err.field-0-is at c.in-Ready-Err.ensures.polled) c.read_frame_async.ensures.asks);
+      memory = λ e. absurd (cc);
       none = λ z. absurd (omega arith);
     }
 
@@ -125,5 +129,6 @@ returns g c =
       most = omega arith;
       did = told_spent (g.S.AsyncRead.model c.args.source.now) (g.S.AsyncRead.model c.loop-turn.source) g.K.ReadsFrames.role (g.K.ReadsFrames.first c.args.stream.now) (g.K.ReadsFrames.first c.loop-turn.stream)
           c.args.reading.now c.loop-turn.reading (drop (length c.args.out.now.items) c.loop-turn.out.items) c.args.polls (rw all at c.loop-turn.invariant.model);
+      memory = λ e. absurd (cc);
       none = λ z. let kept = c.loop-turn.invariant.none (omega arith) in (refl, kept.0, kept.1, kept.2, kept.3);
     }
