@@ -108,7 +108,8 @@ static CODES: [CodeRow; 15] = [
     },
 ];
 
-/// Returns the constant of an error code.
+/// Returns the constant of an error code. A `static` cannot hold a `VarInt`, so it is no column of
+/// the table.
 fn constant_of(code: ErrorCode) -> VarInt {
     match code {
         ErrorCode::Datagram => h3_error_codes::H3_DATAGRAM_ERROR,

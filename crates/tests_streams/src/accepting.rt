@@ -210,42 +210,29 @@ fn check_found<R: Abort, S: AsyncRead, N: Display + Drop>(
     drop(found);
 }
 
+/// Asserts the outcome of a row with its bytes in this source.
+fn check_row<R: Abort + AllocGlobal, S: AsyncRead>(rt: &R, source: &mut S, row: &Row) {
+    check_found(rt, accepting(rt.alloc()), source, row.outcome, row.case);
+}
+
 /// Asserts the outcome of a row whose bytes are in a slice.
 fn check_slice<R: Abort + AllocGlobal>(rt: &R, row: &Row) {
     let mut source = row.bytes;
-    check_found(
-        rt,
-        accepting(rt.alloc()),
-        &mut source,
-        row.outcome,
-        row.case,
-    );
+    check_row(rt, &mut source, row);
     assert_same(rt, source, row.left, row.case);
 }
 
 /// Asserts the outcome of a row whose bytes arrive one by one, with a wait before each.
 fn check_trickle<R: Abort + AllocGlobal>(rt: &R, row: &Row) {
     let mut source = OneByteSource::new(row.bytes, End::Fin);
-    check_found(
-        rt,
-        accepting(rt.alloc()),
-        &mut source,
-        row.outcome,
-        row.case,
-    );
+    check_row(rt, &mut source, row);
     assert_same(rt, source.rest(), row.left, row.case);
 }
 
 /// Asserts the outcome of a row whose bytes arrive in these steps.
 fn check_steps<R: Abort + AllocGlobal>(rt: &R, steps: &[ReadStep], row: &Row) {
     let mut source = ScriptedSource::new(row.bytes, steps);
-    check_found(
-        rt,
-        accepting(rt.alloc()),
-        &mut source,
-        row.outcome,
-        row.case,
-    );
+    check_row(rt, &mut source, row);
     assert_same(rt, source.rest(), row.left, row.case);
 }
 
