@@ -7,6 +7,7 @@ use wtp_fields::fields::FieldList;
 use wtp_messages::check_trailers;
 use wtp_messages::content::Content;
 use wtp_messages::malformed::Malformed;
+use wtp_messages::message::{Message, Role, Section};
 use wtp_messages::request::Request;
 use wtp_messages::response::{Asked, Response};
 
@@ -212,4 +213,103 @@ fn content_is_the_sum_of_its_frames(rt: HostRuntime) {
     let mut content = Content::new(None);
     assert_same(&rt, content.add(1 << 40), Ok(()), "any length");
     assert_same(&rt, content.finish(), Ok(()), "any length");
+}
+
+/// Returns the status of a response's section, or 0 for trailers.
+fn status_of(section: Result<Section<'_>, Malformed>) -> Result<u32, Malformed> {
+    match section? {
+        Section::Interim(response) | Section::Response(response) => Ok(response.status),
+        Section::Request(_) | Section::Trailers => Ok(0),
+    }
+}
+
+#[test]
+fn a_response_has_interim_ones_before_it_and_trailers_after_it(rt: HostRuntime) {
+    let (_, interim) = list_of(&rt, rt.alloc(), b"to other|:status=103");
+    let (_, last) = list_of(&rt, rt.alloc(), b"to other|:status=200|content-length=5");
+    let (_, trailers) = list_of(&rt, rt.alloc(), b"empty|digest=x");
+    let (_, faulty) = list_of(&rt, rt.alloc(), b"empty|te=trailers");
+    let mut message = Message::new(Role::Response(Asked::Other));
+    assert_same(&rt, message.data(0), Ok(()), "no content yet");
+    assert_same(
+        &rt,
+        message.data(1),
+        Err(Malformed::ContentTooLong),
+        "content before",
+    );
+    assert_same(
+        &rt,
+        status_of(message.section(&interim)),
+        Ok(103),
+        "interim",
+    );
+    assert_same(
+        &rt,
+        status_of(message.section(&interim)),
+        Ok(103),
+        "interim, again",
+    );
+    assert_same(
+        &rt,
+        message.finish(),
+        Err(Malformed::MissingHead),
+        "no final response",
+    );
+    assert_same(&rt, status_of(message.section(&last)), Ok(200), "final");
+    assert_same(&rt, message.left(), Some(5), "five bytes");
+    assert_same(&rt, message.data(4), Ok(()), "four bytes");
+    assert_same(
+        &rt,
+        message.finish(),
+        Err(Malformed::ContentTooShort),
+        "one is missing",
+    );
+    assert_same(
+        &rt,
+        message.data(2),
+        Err(Malformed::ContentTooLong),
+        "one too many",
+    );
+    assert_same(&rt, message.data(1), Ok(()), "the last byte");
+    let came = status_of(message.section(&faulty));
+    assert_same(&rt, came, Err(Malformed::InvalidTe), "faulty trailers");
+    assert_same(
+        &rt,
+        status_of(message.section(&trailers)),
+        Ok(0),
+        "trailers",
+    );
+    assert_same(&rt, message.finish(), Ok(()), "the end");
+}
+
+#[test]
+fn a_request_has_its_content(rt: HostRuntime) {
+    let (_, head) = list_of(&rt, rt.alloc(), b"get|content-length=3");
+    let (_, session) = list_of(&rt, rt.alloc(), b"session");
+    let mut message = Message::new(Role::Request(false));
+    let refused = status_of(message.section(&session));
+    assert_same(
+        &rt,
+        refused,
+        Err(Malformed::UnexpectedProtocol),
+        "no extended CONNECT",
+    );
+    assert_same(
+        &rt,
+        message.finish(),
+        Err(Malformed::MissingHead),
+        "no head",
+    );
+    let came = message.section(&head);
+    assert!(&rt; matches!(came, Ok(Section::Request(_))), "a request");
+    assert_same(&rt, message.data(3), Ok(()), "three bytes");
+    assert_same(&rt, message.finish(), Ok(()), "the end");
+    let mut message = Message::new(Role::Request(true));
+    let came = message.section(&session);
+    assert!(&rt;
+        matches!(came, Ok(Section::Request(_))),
+        "a session's request"
+    );
+    assert_same(&rt, message.data(1 << 32), Ok(()), "capsules of any length");
+    assert_same(&rt, message.finish(), Ok(()), "the end");
 }

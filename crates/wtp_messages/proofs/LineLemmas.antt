@@ -6,7 +6,7 @@ use Rattle.std.specs.Result.{IsErrAnd}
 use Rattle.wtp_qpack.specs.Field.{Field}
 use Rattle.wtp_messages.specs.declared.section.SectionKind.{SectionKind}
 use Rattle.wtp_messages.specs.declared.malformed.Malformed.{Malformed}
-use Rattle.wtp_messages.specs.declared.malformed.Malformed.TheVariants.{InvalidName, InvalidValue, ConnectionField, InvalidTe, UnknownPseudoHeader, LatePseudoHeader, RepeatedPseudoHeader, InvalidContentLength, MissingMethod, InvalidMethod, MissingScheme, InvalidScheme, MissingPath, InvalidPath, MissingAuthority, InvalidAuthority, ConnectWithTarget, UnexpectedProtocol, InvalidProtocol, ContentField, MissingStatus, InvalidStatus, UnexpectedStatus, ContentTooLong, ContentTooShort}
+use Rattle.wtp_messages.specs.declared.malformed.Malformed.TheVariants.{InvalidName, InvalidValue, ConnectionField, InvalidTe, UnknownPseudoHeader, LatePseudoHeader, RepeatedPseudoHeader, InvalidContentLength, MissingMethod, InvalidMethod, MissingScheme, InvalidScheme, MissingPath, InvalidPath, MissingAuthority, InvalidAuthority, ConnectWithTarget, UnexpectedProtocol, InvalidProtocol, ContentField, MissingStatus, InvalidStatus, UnexpectedStatus, ContentTooLong, ContentTooShort, MissingHead}
 use Rattle.wtp_messages.specs.Length.{lengths_of, all_agree, content_length}
 use Rattle.wtp_messages.specs.Section.{line_breaks, whole_breaks, are_pseudo_first, is_repeated, pseudo_names, section_breaks, IsSection}
 
@@ -50,6 +50,7 @@ whole_by_rows kind fields first once length ContentField = refl
 whole_by_rows kind fields first once length MissingStatus = refl
 whole_by_rows kind fields first once length InvalidStatus = refl
 whole_by_rows kind fields first once length UnexpectedStatus = refl
+whole_by_rows kind fields first once length MissingHead = refl
 whole_by_rows kind fields first once length ContentTooLong = refl
 whole_by_rows kind fields first once length ContentTooShort = refl
 

@@ -5,7 +5,7 @@ use Rattle.wtp_qpack.specs.Field.{Field}
 use Rattle.wtp_messages.specs.declared.section.SectionKind.TheVariants as section
 use Rattle.wtp_messages.specs.declared.request.Request.{Request}
 use Rattle.wtp_messages.specs.declared.malformed.Malformed.{Malformed}
-use Rattle.wtp_messages.specs.declared.malformed.Malformed.TheVariants.{InvalidName, InvalidValue, ConnectionField, InvalidTe, UnknownPseudoHeader, LatePseudoHeader, RepeatedPseudoHeader, InvalidContentLength, MissingMethod, InvalidMethod, MissingScheme, InvalidScheme, MissingPath, InvalidPath, MissingAuthority, InvalidAuthority, ConnectWithTarget, UnexpectedProtocol, InvalidProtocol, ContentField, MissingStatus, InvalidStatus, UnexpectedStatus, ContentTooLong, ContentTooShort}
+use Rattle.wtp_messages.specs.declared.malformed.Malformed.TheVariants.{InvalidName, InvalidValue, ConnectionField, InvalidTe, UnknownPseudoHeader, LatePseudoHeader, RepeatedPseudoHeader, InvalidContentLength, MissingMethod, InvalidMethod, MissingScheme, InvalidScheme, MissingPath, InvalidPath, MissingAuthority, InvalidAuthority, ConnectWithTarget, UnexpectedProtocol, InvalidProtocol, ContentField, MissingStatus, InvalidStatus, UnexpectedStatus, ContentTooLong, ContentTooShort, MissingHead}
 use Rattle.wtp_messages.specs.Section.{section_breaks, IsSection}
 use Rattle.wtp_messages.specs.Request.{head_breaks, request_breaks, HasMethod, HasTarget, HasAuthority, HasNoContentField, IsWellFormed, IsRequest}
 
@@ -35,6 +35,7 @@ head_by_rows extended fields method target authority session ContentField = sess
 head_by_rows extended fields method target authority session MissingStatus = refl
 head_by_rows extended fields method target authority session InvalidStatus = refl
 head_by_rows extended fields method target authority session UnexpectedStatus = refl
+head_by_rows extended fields method target authority session MissingHead = refl
 head_by_rows extended fields method target authority session ContentTooLong = refl
 head_by_rows extended fields method target authority session ContentTooShort = refl
 

@@ -6,7 +6,7 @@ use Rattle.wtp_messages.specs.declared.section.SectionKind.TheVariants as sectio
 use Rattle.wtp_messages.specs.declared.response.Asked.{Asked}
 use Rattle.wtp_messages.specs.declared.response.Response.{Response}
 use Rattle.wtp_messages.specs.declared.malformed.Malformed.{Malformed}
-use Rattle.wtp_messages.specs.declared.malformed.Malformed.TheVariants.{InvalidName, InvalidValue, ConnectionField, InvalidTe, UnknownPseudoHeader, LatePseudoHeader, RepeatedPseudoHeader, InvalidContentLength, MissingMethod, InvalidMethod, MissingScheme, InvalidScheme, MissingPath, InvalidPath, MissingAuthority, InvalidAuthority, ConnectWithTarget, UnexpectedProtocol, InvalidProtocol, ContentField, MissingStatus, InvalidStatus, UnexpectedStatus, ContentTooLong, ContentTooShort}
+use Rattle.wtp_messages.specs.declared.malformed.Malformed.TheVariants.{InvalidName, InvalidValue, ConnectionField, InvalidTe, UnknownPseudoHeader, LatePseudoHeader, RepeatedPseudoHeader, InvalidContentLength, MissingMethod, InvalidMethod, MissingScheme, InvalidScheme, MissingPath, InvalidPath, MissingAuthority, InvalidAuthority, ConnectWithTarget, UnexpectedProtocol, InvalidProtocol, ContentField, MissingStatus, InvalidStatus, UnexpectedStatus, ContentTooLong, ContentTooShort, MissingHead}
 use Rattle.wtp_messages.specs.Names.{is_and_not}
 use Rattle.wtp_messages.specs.Section.{section_breaks, IsSection}
 use Rattle.wtp_messages.specs.Response.{status_text, is_status_text, status_breaks, response_breaks, HasNoContent, IsResponse}
@@ -37,6 +37,7 @@ status_by_rows kind fields some valid session ContentField = session.none
 status_by_rows kind fields some valid session MissingStatus = rw some refl
 status_by_rows kind fields some valid session InvalidStatus = valid
 status_by_rows kind fields some valid session UnexpectedStatus = session.status
+status_by_rows kind fields some valid session MissingHead = refl
 status_by_rows kind fields some valid session ContentTooLong = refl
 status_by_rows kind fields some valid session ContentTooShort = refl
 

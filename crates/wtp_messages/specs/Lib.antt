@@ -4,3 +4,4 @@ pub mod Length
 pub mod Request
 pub mod Response
 pub mod Content
+pub mod Message

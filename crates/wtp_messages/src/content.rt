@@ -1,6 +1,6 @@
 //! How much content a message has (RFC 9110, section 8.6; RFC 9114, section 4.1.2).
 ghost use Rattle.std.specs.Prelude.{◌≡◌, true, false, MatchResult, OnOk, OnErr};
-ghost use Rattle.wtp_messages.specs.Content.{content_of, fits, left_after, is_complete};
+ghost use Rattle.wtp_messages.specs.Content.{content_of, fits, left_after, complete};
 
 use crate::malformed::Malformed;
 
@@ -48,8 +48,7 @@ impl Content {
     ///
     /// Returns [`Malformed::ContentTooShort`] if more bytes were announced.
     pub fn finish(&self) -> Result<(), Malformed>
-        ensures { MatchResult result (λ _. is_complete self.now.left ≡ true)
-            (λ e. (is_complete self.now.left ≡ false) × (e ≡ Malformed.ContentTooShort)) }
+        ensures { result ≡ complete self.now.left }
     {
         match self.left {
             None | Some(0) => Ok(()),

@@ -5,6 +5,7 @@
 pub mod content;
 mod length;
 pub mod malformed;
+pub mod message;
 mod names;
 pub mod request;
 pub mod response;

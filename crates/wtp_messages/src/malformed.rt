@@ -90,6 +90,10 @@ pub enum Malformed {
     /// A response that accepts a session has status 204, 205 or 206 (RFC 9297, section 3.2).
     #[error("the :status does not go with a session")]
     UnexpectedStatus,
+    /// The message ended before the header section of the request or the final response (RFC 9114,
+    /// section 4.1).
+    #[error("there is no header section")]
+    MissingHead,
     /// There is more content than announced (RFC 9114, section 4.1.2).
     #[error("the content is longer than announced")]
     ContentTooLong,
