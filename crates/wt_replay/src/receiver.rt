@@ -1,4 +1,5 @@
 //! The streams of a connection, each read until more bytes are needed.
+ghost use Rattle.std.specs.Prelude.{◌≡◌, ◌++◌, [], false, IfOk};
 
 use crate::lines::{add_fault, add_found, add_left};
 use std::alloc::{AllocError, Global};
@@ -26,7 +27,10 @@ pub struct Entry {
 
 impl Entry {
     /// Creates a stream without bytes.
-    pub fn new(alloc: Global, stream: Stream) -> Self {
+    pub fn new(alloc: Global, stream: Stream) -> Self
+        ensures stream { result.stream ≡ stream }
+        ensures empty { (result.at ≡ 0) × (result.bytes.items ≡ []) × (result.fin ≡ false) }
+    {
         Entry {
             stream,
             at: 0,
@@ -37,7 +41,11 @@ impl Entry {
     }
 
     /// Adds the next bytes of the stream.
-    pub fn add(&mut self, bytes: &[u8], fin: bool) -> Result<(), AllocError> {
+    pub fn add(&mut self, bytes: &[u8], fin: bool) -> Result<(), AllocError>
+        ensures bytes { IfOk result (λ _. self.new.bytes.items
+            ≡ self.old.bytes.items ++ bytes.now) }
+        ensures kept { (self.new.stream ≡ self.old.stream) × (self.new.at ≡ self.old.at) }
+    {
         self.bytes.extend_from_slice(bytes)?;
         self.fin |= fin;
         Ok(())
