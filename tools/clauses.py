@@ -230,6 +230,7 @@ def redefined(olds, news, names):
         same = [new for name in named for new in by_name[name]]
         if not any(names.is_same(old.text, new.text) for new in same):
             file = old.path.rsplit("/", 1)[-1]
-            near = [new for new in same if new.path.rsplit("/", 1)[-1] == file] or same
+            near = [new for new in same if new.path == old.path]
+            near = near or [new for new in same if new.path.rsplit("/", 1)[-1] == file] or same
             differing.append((old, near[0] if near else None))
     return differing

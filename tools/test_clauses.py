@@ -150,3 +150,7 @@ class Definitions(unittest.TestCase):
         self.assertEqual([(one.name, other.name) for one, other in pairs], [("IsEven", "Even")])
         self.assertEqual([after for _, after in redefined(old[:1], [], Names())], [None])
         self.assertEqual(redefined(old, old, Names()), [])
+        changed = self.TEXT.replace("% 2", "% 4")
+        beside = definitions_of("crates/e/specs/B.antt", changed.replace("% 4", "% 8"))
+        pairs = redefined(old, beside + definitions_of(old[0].path, changed), Names())
+        self.assertEqual([other.path for _, other in pairs], [old[0].path])
