@@ -94,8 +94,9 @@ class Side:
 
 
 class Model:
-    """The events of one stream: its bytes, whether it ends after them, what becomes of each session,
-    of those for which it is known, and how many of its sections are those of interim responses."""
+    """The events of one stream: its bytes, whether it ends after them, what becomes of each
+    session, of those for which it is known, and how many of its sections are those of interim
+    responses."""
 
     def __init__(self, side, content, fin, states, interims=0):
         self.side, self.content, self.fin, self.states = side, content, fin, states

@@ -317,11 +317,17 @@ ROWS = [
         "a response without bytes (4.1)", 0, b"", MESSAGE, client=True, end=True, before="request 0"
     ),
     # Interim responses (4.1).
-    response("an interim response, and the final one", frame(0x21) + HEADERS, frame(0, b"x"), told=1),
-    response("two interim responses, and trailers", HEADERS, request(frame(0, b"x"), HEADERS), told=2),
+    response(
+        "an interim response, and the final one", frame(0x21) + HEADERS, frame(0, b"x"), told=1
+    ),
+    response(
+        "two interim responses, and trailers", HEADERS, request(frame(0, b"x"), HEADERS), told=2
+    ),
     response("DATA after an interim response", frame(0, b"x"), code=UNEXPECTED, told=1),
     response("an empty DATA frame after one", frame(0), code=UNEXPECTED, told=1),
-    response("two sections after the final one", request(HEADERS, HEADERS), code=UNEXPECTED, told=1),
+    response(
+        "two sections after the final one", request(HEADERS, HEADERS), code=UNEXPECTED, told=1
+    ),
     response("DATA after trailers", HEADERS, HEADERS, frame(0, b"x"), code=UNEXPECTED, told=1),
     response("SETTINGS after one", frame(4), code=UNEXPECTED, told=1),
     response("an interim response alone", code=MESSAGE, told=1),

@@ -163,8 +163,8 @@ def is_critical(stream, content):
 @dataclass
 class Stream:
     """A stream of a script: its ID, its bytes, whether it ends after them, who opened it, what it
-    has to give, what it is for, whether it is reset or abandoned at last, and how many of its sections
-    are said to be those of interim responses."""
+    has to give, what it is for, whether it is reset or abandoned at last, and how many of its
+    sections are said to be those of interim responses."""
 
     stream: int
     content: bytes
@@ -227,7 +227,9 @@ class Script:
         counts[first] = counts.get(first, 0) + 1
         fin = rng.random() < 0.6 and (maker.has_errors or not is_critical(stream, content))
         events, purpose = events_of(side, stream, content, fin, self.states, opened, interims)
-        self.streams.append(Stream(stream, content, fin, opened, events, purpose, interims=interims))
+        self.streams.append(
+            Stream(stream, content, fin, opened, events, purpose, interims=interims)
+        )
         if not fin and rng.random() < 0.2:
             self.leave(self.streams[-1])
 

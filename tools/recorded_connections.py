@@ -28,8 +28,8 @@ def number_at(content, at):
 @dataclass
 class Recorded:
     """A stream of a connection, as the peer of its sender receives it: its ID, its bytes, how it
-    ended, who opened it (None: the sender), its session if it has one, how many interim responses it
-    has, and its events."""
+    ended, who opened it (None: the sender), its session if it has one, how many interim responses
+    it has, and its events."""
 
     stream: int
     content: bytes
