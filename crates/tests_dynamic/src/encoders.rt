@@ -7,54 +7,56 @@ use wtp_dynamic::error::DecoderStreamError;
 use wtp_dynamic::stream::EncoderStream;
 use wtp_dynamic_encoder::encoder::QpackEncoder;
 use wtp_dynamic_encoder::lookup::find_static;
-use wtp_dynamic_encoder::section::Proposal;
+use wtp_dynamic_encoder::proposal::{Indexing, Policy, Proposal};
 
-const AB: Field = (b"a", b"b");
+pub(crate) const AB: Field = (b"a", b"b");
 
-const CD: Field = (b"c", b"d");
+pub(crate) const CD: Field = (b"c", b"d");
 
-const ROOT: Field = (b":path", b"/");
+pub(crate) const ROOT: Field = (b":path", b"/");
 
 // Proposals to insert a field, or not to.
 
 const NEW_AB: Proposal<'static> = Proposal {
     name: b"a",
     value: b"b",
-    insert: true,
+    indexing: Indexing::Insert,
 };
 
 const NEW_CD: Proposal<'static> = Proposal {
     name: b"c",
     value: b"d",
-    insert: true,
+    indexing: Indexing::Insert,
 };
 
-const OLD_AB: Proposal<'static> = Proposal {
+pub(crate) const OLD_AB: Proposal<'static> = Proposal {
     name: b"a",
     value: b"b",
-    insert: false,
+    indexing: Indexing::Without,
 };
 
-const OLD_CD: Proposal<'static> = Proposal {
+pub(crate) const OLD_CD: Proposal<'static> = Proposal {
     name: b"c",
     value: b"d",
-    insert: false,
+    indexing: Indexing::Without,
 };
 
 const OLD_CE: Proposal<'static> = Proposal {
     name: b"c",
     value: b"e",
-    insert: false,
+    indexing: Indexing::Without,
 };
 
-const OLD_ROOT: Proposal<'static> = Proposal {
+pub(crate) const OLD_ROOT: Proposal<'static> = Proposal {
     name: b":path",
     value: b"/",
-    insert: false,
+    indexing: Indexing::Without,
 };
 
 /// A call and what it does.
-enum Step {
+pub(crate) enum Step {
+    /// The largest entry that is inserted by the policy, and the bytes to keep available.
+    Follows(u64, u64),
     /// A capacity, and whether it is set.
     Resizes(u64, bool),
     /// A field, and whether it is inserted.
@@ -64,12 +66,14 @@ enum Step {
     /// Bytes of the decoder stream, the name of their fault, if they have one, and the Known
     /// Received Count after them.
     Hears(&'static [u8], &'static str, u64),
+    /// The last bytes of the encoder stream.
+    Writes(&'static [u8]),
     /// The entries that are left.
     Has(&'static [Field]),
 }
 
 /// What steps show, how many streams may be blocked, and the steps.
-type Row = (&'static str, u64, &'static [Step]);
+pub(crate) type Row = (&'static str, u64, &'static [Step]);
 
 static ROWS: [Row; 4] = [
     (
@@ -114,6 +118,7 @@ static ROWS: [Row; 4] = [
         "an entry stays until it is known to be received, and no section refers to it",
         1,
         &[
+            Step::Follows(1024, 0),
             Step::Resizes(4097, false),
             Step::Inserts(AB, false),
             Step::Resizes(34, true),
@@ -275,6 +280,13 @@ fn assert_step(
     shows: &str,
 ) {
     match step {
+        Step::Follows(largest, reserved) => encoder.set_policy(Policy {
+            largest: *largest,
+            reserved: *reserved,
+        }),
+        Step::Writes(bytes) => {
+            assert!(rt; stream.ends_with(bytes), "{shows}: the encoder stream");
+        }
         Step::Resizes(capacity, wanted) => {
             let is_set = matches!(encoder.set_capacity(*capacity, stream), Ok(true));
             assert!(rt; is_set == *wanted, "{shows}: the capacity {capacity}");
@@ -318,11 +330,16 @@ fn assert_steps(
     encoder
 }
 
+/// Asserts what the steps of rows do.
+pub(crate) fn assert_rows(rt: &impl Abort, alloc: Global, rows: &[Row]) {
+    for (shows, most, steps) in rows {
+        let _encoder = assert_steps(rt, alloc, *most, steps, shows);
+    }
+}
+
 #[test]
 fn encoder_calls(rt: HostRuntime) {
-    for (shows, most, steps) in &ROWS {
-        let _encoder = assert_steps(&rt, rt.alloc(), *most, steps, shows);
-    }
+    assert_rows(&rt, rt.alloc(), &ROWS);
 }
 
 /// Asserts what a decoder stream does, cut at one place.

@@ -11,6 +11,8 @@ mod encoder_streams;
 #[cfg(test)]
 mod encoders;
 #[cfg(test)]
+mod policies;
+#[cfg(test)]
 mod sections;
 #[cfg(test)]
 mod streams;

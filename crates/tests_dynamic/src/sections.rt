@@ -4,6 +4,7 @@ use crate::streams::{Field, assert_fields, read_cut, section_fault};
 use std::alloc::Global;
 use std::process::Abort;
 use wtp_dynamic::answer::{Answer, decode};
+use wtp_dynamic::section::is_never_indexed;
 use wtp_dynamic::table::DynamicTable;
 
 /// The case, a section, and what is answered.
@@ -271,4 +272,27 @@ fn answers_for_sections(rt: HostRuntime) {
     let wrapped = b"\x3f\x25\x41a\x01b\x41c\x01d\x01";
     assert_rows(&rt, rt.alloc(), 68, wrapped, &WRAPPED);
     assert_rows(&rt, rt.alloc(), 0, b"\x20", &EMPTY);
+}
+
+/// What a line shows, the line, and whether it is never indexed.
+static NEVER: [(&str, &[u8], bool); 12] = [
+    ("no byte", b"", false),
+    ("a static entry with all bits", b"\xff\x00", false),
+    ("a dynamic entry with all bits", b"\xbf\x00", false),
+    ("an entry past the Base with all bits", b"\x1f\x00", false),
+    ("a static name", b"\x51\x01c", false),
+    ("a static name, never indexed", b"\x71\x01c", true),
+    ("a dynamic name", b"\x4f\x00\x01c", false),
+    ("a dynamic name, never indexed", b"\x60\x01c", true),
+    ("a name past the Base", b"\x07\x00\x01c", false),
+    ("a name past the Base, never indexed", b"\x08\x01c", true),
+    ("a name in the Huffman code", b"\x2f\x00", false),
+    ("a name, never indexed", b"\x31a\x01b", true),
+];
+
+#[test]
+fn lines_never_indexed(rt: HostRuntime) {
+    for (shows, line, wanted) in &NEVER {
+        assert!(rt; is_never_indexed(line) == *wanted, "{shows}");
+    }
 }

@@ -135,9 +135,9 @@ from_kept : (t : Table) (lowest : ℕ) (plans : List Plan) → t.dropped ≤ low
 from_kept t lowest [] low from = tt
 from_kept t lowest (StaticField index ∷ plans) low (one, from) = (tt, from_kept t lowest plans low from)
 from_kept t lowest (TableField place ∷ plans) low (one, from) = (omega arith, from_kept t lowest plans low from)
-from_kept t lowest (StaticName index value ∷ plans) low (one, from) = (tt, from_kept t lowest plans low from)
-from_kept t lowest (TableName place value ∷ plans) low (one, from) = (omega arith, from_kept t lowest plans low from)
-from_kept t lowest (NewName name value ∷ plans) low (one, from) = (tt, from_kept t lowest plans low from)
+from_kept t lowest (StaticName never index value ∷ plans) low (one, from) = (tt, from_kept t lowest plans low from)
+from_kept t lowest (TableName never place value ∷ plans) low (one, from) = (omega arith, from_kept t lowest plans low from)
+from_kept t lowest (NewName never name value ∷ plans) low (one, from) = (tt, from_kept t lowest plans low from)
 
 pub owed_reads : (encoder : Encoder) (written decoder : Table) (sent : Sent) (base : ℕ) (plans : List Plan) (fields : List Field) → Owes encoder → IsOpen sent encoder.sections → AreFrom sent.lowest plans
     → Later written encoder.table → Later decoder encoder.table → table_size encoder.table.live ≤ encoder.table.limit → encoder.known ≤ insert_count decoder → sent.required ≤ insert_count written → ArePlans written sent.required plans fields

@@ -25,9 +25,9 @@ plan_same : (written now decoder : Table) (required : ℕ) (plan : Plan) → Lat
     → planned_field decoder required plan ≡ planned_field written required plan
 plan_same written now decoder required (StaticField index) later behind counted free kept = refl
 plan_same written now decoder required (TableField place) later behind counted free kept = place_same written now decoder required place later behind counted free kept
-plan_same written now decoder required (StaticName index value) later behind counted free kept = refl
-plan_same written now decoder required (TableName place value) later behind counted free kept = ap (with_value value) (place_same written now decoder required place later behind counted free kept)
-plan_same written now decoder required (NewName name value) later behind counted free kept = refl
+plan_same written now decoder required (StaticName never index value) later behind counted free kept = refl
+plan_same written now decoder required (TableName never place value) later behind counted free kept = ap (with_value value) (place_same written now decoder required place later behind counted free kept)
+plan_same written now decoder required (NewName never name value) later behind counted free kept = refl
 
 plans_same : (written now decoder : Table) (required : ℕ) (plans : List Plan) (fields : List Field) → Later written now → Later decoder now → required ≤ insert_count written → required ≤ insert_count decoder → AreKept now plans
     → ArePlans written required plans fields → ArePlans decoder required plans fields

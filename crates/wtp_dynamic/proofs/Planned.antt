@@ -19,8 +19,8 @@ use Rattle.wtp_dynamic.specs.declared.section.Reference.TheVariants.{Static, Bac
 use Rattle.wtp_dynamic.specs.Chain.{or_fault}
 use Rattle.wtp_dynamic.specs.Table.{Table, insert_count, entry_of}
 use Rattle.wtp_dynamic.specs.InsertCount.{most_entries, IsMeant, encoded_count, count_of}
-use Rattle.wtp_dynamic.specs.Section.{Prefix, base_of, prefix_at, place_back, reached, entry_at, entry_line_at, name_line_at, literal_line_at, line_by, table_line_at, AreTableLines}
-use Rattle.wtp_dynamic.specs.Plans.{Plan, StaticField, TableField, StaticName, TableName, NewName, with_value, planned_field, planned_line, planned_prefix, CanPlan, ArePlans}
+use Rattle.wtp_dynamic.specs.Section.{Prefix, base_of, prefix_at, place_back, reached, entry_at, entry_line_at, name_line_at, literal_line_at, line_by, table_line_at, AreTableLines, never_by, is_never}
+use Rattle.wtp_dynamic.specs.Plans.{Plan, StaticField, TableField, StaticName, TableName, NewName, with_value, planned_field, planned_line, planned_prefix, never_bit, is_never_plan, CanPlan, ArePlans}
 use Rattle.wtp_dynamic.proofs.InsertCounts.{judged, decoded_by}
 use Rattle.wtp_dynamic.proofs.Written.{int_again}
 
@@ -59,7 +59,20 @@ line_as : (table : Table) (prefix : Prefix) (text rest : List ℕ) (b : ℕ) (w 
 unfolding table_line_at
 line_as table prefix text rest b w x y z e bits = ap (table_line_at table prefix) e ∙ rw (bits.first, bits.second, bits.third, bits.fourth) refl ∙ ap (line_by w x y z table prefix) (sym e)
 
--- 11, 10, 0001, 0101, 0100, 0000, 001
+never_as : (text rest : List ℕ) (b : ℕ) (w x y z : Bool) → text ≡ b ∷ rest → Bits b w x y z → is_never text ≡ never_by w x y z (bit 3 b)
+unfolding is_never
+never_as text rest b w x y z e bits = ap is_never e ∙ rw (bits.first, bits.second, bits.third, bits.fourth) refl
+
+-- the bit N
+bit_small : (never : Bool) → never_bit never < 2
+bit_small true = omega arith
+bit_small false = omega arith
+
+bit_is : (never : Bool) (n v : ℕ) → n ≡ never_bit never → v ≡ n → (v == 1) ≡ never
+bit_is true n v is e = eq-eqb v 1 (e ∙ is)
+bit_is false n v is e = ne_eqb v 1 (omega (arith, e, is))
+
+-- 11, 10, 0001, 01N1, 01N0, 0000N, 001N
 static_form : (low b : ℕ) → low < 2 ^ 6 → b ≡ 3 * 2 ^ 6 + low → Bits b true true (bit 5 b) (bit 4 b)
 static_form low b small e = record { first = eq-eqb (b / 2 ^ 7 % 2) 1 (omega arith); second = eq-eqb (b / 2 ^ 6 % 2) 1 (omega arith); third = refl; fourth = refl }
 
@@ -69,17 +82,17 @@ back_form low b small e = record { first = eq-eqb (b / 2 ^ 7 % 2) 1 (omega arith
 on_form : (low b : ℕ) → low < 2 ^ 4 → b ≡ 1 * 2 ^ 4 + low → Bits b false false false true
 on_form low b small e = record { first = ne_eqb (b / 2 ^ 7 % 2) 1 (omega arith); second = ne_eqb (b / 2 ^ 6 % 2) 1 (omega arith); third = ne_eqb (b / 2 ^ 5 % 2) 1 (omega arith); fourth = eq-eqb (b / 2 ^ 4 % 2) 1 (omega arith) }
 
-static_name_form : (low b : ℕ) → low < 2 ^ 4 → b ≡ 5 * 2 ^ 4 + low → Bits b false true (bit 5 b) true
-static_name_form low b small e = record { first = ne_eqb (b / 2 ^ 7 % 2) 1 (omega arith); second = eq-eqb (b / 2 ^ 6 % 2) 1 (omega arith); third = refl; fourth = eq-eqb (b / 2 ^ 4 % 2) 1 (omega arith) }
+static_name_form : (never : Bool) (n low b : ℕ) → n ≡ never_bit never → n < 2 → low < 2 ^ 4 → b ≡ (5 + 2 * n) * 2 ^ 4 + low → Bits b false true never true
+static_name_form never n low b is bit small e = record { first = ne_eqb (b / 2 ^ 7 % 2) 1 (omega arith); second = eq-eqb (b / 2 ^ 6 % 2) 1 (omega arith); third = bit_is never n (b / 2 ^ 5 % 2) is (omega arith); fourth = eq-eqb (b / 2 ^ 4 % 2) 1 (omega arith) }
 
-back_name_form : (low b : ℕ) → low < 2 ^ 4 → b ≡ 4 * 2 ^ 4 + low → Bits b false true (bit 5 b) false
-back_name_form low b small e = record { first = ne_eqb (b / 2 ^ 7 % 2) 1 (omega arith); second = eq-eqb (b / 2 ^ 6 % 2) 1 (omega arith); third = refl; fourth = ne_eqb (b / 2 ^ 4 % 2) 1 (omega arith) }
+back_name_form : (never : Bool) (n low b : ℕ) → n ≡ never_bit never → n < 2 → low < 2 ^ 4 → b ≡ (4 + 2 * n) * 2 ^ 4 + low → Bits b false true never false
+back_name_form never n low b is bit small e = record { first = ne_eqb (b / 2 ^ 7 % 2) 1 (omega arith); second = eq-eqb (b / 2 ^ 6 % 2) 1 (omega arith); third = bit_is never n (b / 2 ^ 5 % 2) is (omega arith); fourth = ne_eqb (b / 2 ^ 4 % 2) 1 (omega arith) }
 
-on_name_form : (low b : ℕ) → low < 2 ^ 3 → b ≡ 0 * 2 ^ 3 + low → Bits b false false false false
-on_name_form low b small e = record { first = ne_eqb (b / 2 ^ 7 % 2) 1 (omega arith); second = ne_eqb (b / 2 ^ 6 % 2) 1 (omega arith); third = ne_eqb (b / 2 ^ 5 % 2) 1 (omega arith); fourth = ne_eqb (b / 2 ^ 4 % 2) 1 (omega arith) }
+on_name_form : (n low b : ℕ) → n < 2 → low < 2 ^ 3 → b ≡ n * 2 ^ 3 + low → Bits b false false false false
+on_name_form n low b bit small e = record { first = ne_eqb (b / 2 ^ 7 % 2) 1 (omega arith); second = ne_eqb (b / 2 ^ 6 % 2) 1 (omega arith); third = ne_eqb (b / 2 ^ 5 % 2) 1 (omega arith); fourth = ne_eqb (b / 2 ^ 4 % 2) 1 (omega arith) }
 
-new_form : (h low b : ℕ) → h < 2 → low < 2 ^ 3 → b ≡ (2 * 2 + h) * 2 ^ 3 + low → Bits b false false true (bit 4 b)
-new_form h low b flag small e = record { first = ne_eqb (b / 2 ^ 7 % 2) 1 (omega arith); second = ne_eqb (b / 2 ^ 6 % 2) 1 (omega arith); third = eq-eqb (b / 2 ^ 5 % 2) 1 (omega arith); fourth = refl }
+new_form : (never : Bool) (n h low b : ℕ) → n ≡ never_bit never → n < 2 → h < 2 → low < 2 ^ 3 → b ≡ ((2 + n) * 2 + h) * 2 ^ 3 + low → Bits b false false true never
+new_form never n h low b is bit flag small e = record { first = ne_eqb (b / 2 ^ 7 % 2) 1 (omega arith); second = ne_eqb (b / 2 ^ 6 % 2) 1 (omega arith); third = eq-eqb (b / 2 ^ 5 % 2) 1 (omega arith); fourth = bit_is never n (b / 2 ^ 4 % 2) is (omega arith) }
 
 -- ---- entries
 
@@ -136,43 +149,50 @@ field_reads table prefix place e rest few small is = elim (cases_lt place prefix
       ∙ entry_again On 4 1 table prefix index e rest (omega arith) (found_on table prefix place e above is))
 ]
 
-static_name_reads : (table : Table) (prefix : Prefix) (index : ℕ) (e : Field) (value rest : List ℕ) → index < 2 ^ 64 → IsOctets value → static.entry_at index ≡ Some e → Reads table prefix (StaticName index value) (e.0, value) rest
-static_name_reads table prefix index e value rest small good is =
+static_name_reads : (table : Table) (prefix : Prefix) (never : Bool) (index : ℕ) (e : Field) (value rest : List ℕ) → index < 2 ^ 64 → IsOctets value → static.entry_at index ≡ Some e → Reads table prefix (StaticName never index value) (e.0, value) rest
+static_name_reads table prefix never index e value rest small good is =
+    let n : ℕ = never_bit never in
+    let flags : ℕ = 5 + 2 * n in
     let behind : List ℕ = encoded_string 7 0 value ++ rest in
-    let head = short_head 4 5 index behind in
-    ap (table_line_at table prefix) (append_assoc (shortest_int 4 5 index) (encoded_string 7 0 value) rest)
-    ∙ line_as table prefix (shortest_int 4 5 index ++ behind) head.2 (5 * 2 ^ 4 + head.0) false true (bit 5 (5 * 2 ^ 4 + head.0)) true head.3 (static_name_form head.0 (5 * 2 ^ 4 + head.0) head.1 refl)
-    ∙ name_again Static 4 5 table prefix index e value rest small (found_static table prefix index e is) good
+    let head = short_head 4 flags index behind in
+    ap (table_line_at table prefix) (append_assoc (shortest_int 4 flags index) (encoded_string 7 0 value) rest)
+    ∙ line_as table prefix (shortest_int 4 flags index ++ behind) head.2 (flags * 2 ^ 4 + head.0) false true never true head.3 (static_name_form never n head.0 (flags * 2 ^ 4 + head.0) refl (bit_small never) head.1 refl)
+    ∙ name_again Static 4 flags table prefix index e value rest small (found_static table prefix index e is) good
 
-name_reads : (table : Table) (prefix : Prefix) (place : ℕ) (e : Field) (value rest : List ℕ) → prefix.base < 2 ^ 64 → place < 2 ^ 64 → IsOctets value → reached table prefix.required (Some place) ≡ Some e
-    → Reads table prefix (TableName place value) (e.0, value) rest
-name_reads table prefix place e value rest few small good is = elim (cases_lt place prefix.base) [
+name_reads : (table : Table) (prefix : Prefix) (never : Bool) (place : ℕ) (e : Field) (value rest : List ℕ) → prefix.base < 2 ^ 64 → place < 2 ^ 64 → IsOctets value → reached table prefix.required (Some place) ≡ Some e
+    → Reads table prefix (TableName never place value) (e.0, value) rest
+name_reads table prefix never place e value rest few small good is = elim (cases_lt place prefix.base) [
   | inl below ↦
       let index : ℕ = prefix.base - 1 - place in
       let behind : List ℕ = encoded_string 7 0 value ++ rest in
-      let head = short_head 4 4 index behind in
+      let n : ℕ = never_bit never in
+      let flags : ℕ = 4 + 2 * n in
+      let head = short_head 4 flags index behind in
       rw (lt-ltb place prefix.base below)
-      (ap (table_line_at table prefix) (append_assoc (shortest_int 4 4 index) (encoded_string 7 0 value) rest)
-      ∙ line_as table prefix (shortest_int 4 4 index ++ behind) head.2 (4 * 2 ^ 4 + head.0) false true (bit 5 (4 * 2 ^ 4 + head.0)) false head.3 (back_name_form head.0 (4 * 2 ^ 4 + head.0) head.1 refl)
-      ∙ name_again Back 4 4 table prefix index e value rest (omega arith) (found_back table prefix place e below is) good)
+      (ap (table_line_at table prefix) (append_assoc (shortest_int 4 flags index) (encoded_string 7 0 value) rest)
+      ∙ line_as table prefix (shortest_int 4 flags index ++ behind) head.2 (flags * 2 ^ 4 + head.0) false true never false head.3 (back_name_form never n head.0 (flags * 2 ^ 4 + head.0) refl (bit_small never) head.1 refl)
+      ∙ name_again Back 4 flags table prefix index e value rest (omega arith) (found_back table prefix place e below is) good)
   | inr above ↦
       let index : ℕ = place - prefix.base in
       let behind : List ℕ = encoded_string 7 0 value ++ rest in
-      let head = short_head 3 0 index behind in
+      let n : ℕ = never_bit never in
+      let head = short_head 3 n index behind in
       rw (le-ltb place prefix.base above)
-      (ap (table_line_at table prefix) (append_assoc (shortest_int 3 0 index) (encoded_string 7 0 value) rest)
-      ∙ line_as table prefix (shortest_int 3 0 index ++ behind) head.2 (0 * 2 ^ 3 + head.0) false false false false head.3 (on_name_form head.0 (0 * 2 ^ 3 + head.0) head.1 refl)
-      ∙ name_again On 3 0 table prefix index e value rest (omega arith) (found_on table prefix place e above is) good)
+      (ap (table_line_at table prefix) (append_assoc (shortest_int 3 n index) (encoded_string 7 0 value) rest)
+      ∙ line_as table prefix (shortest_int 3 n index ++ behind) head.2 (n * 2 ^ 3 + head.0) false false false false head.3 (on_name_form n head.0 (n * 2 ^ 3 + head.0) (bit_small never) head.1 refl)
+      ∙ name_again On 3 n table prefix index e value rest (omega arith) (found_on table prefix place e above is) good)
 ]
 
-new_reads : (table : Table) (prefix : Prefix) (name value rest : List ℕ) → IsOctets name → IsOctets value → Reads table prefix (NewName name value) (name, value) rest
+new_reads : (table : Table) (prefix : Prefix) (never : Bool) (name value rest : List ℕ) → IsOctets name → IsOctets value → Reads table prefix (NewName never name value) (name, value) rest
 unfolding literal_line_at
-new_reads table prefix name value rest good_name good_value =
+new_reads table prefix never name value rest good_name good_value =
+    let n : ℕ = never_bit never in
+    let flags : ℕ = 2 + n in
     let behind : List ℕ = encoded_string 7 0 value ++ rest in
-    let head = text_head 3 2 name behind in
-    ap (table_line_at table prefix) (append_assoc (encoded_string 3 2 name) (encoded_string 7 0 value) rest)
-    ∙ line_as table prefix (encoded_string 3 2 name ++ behind) head.4 ((2 * 2 + head.0) * 2 ^ 3 + head.2) false false true (bit 4 ((2 * 2 + head.0) * 2 ^ 3 + head.2)) head.5 (new_form head.0 head.2 ((2 * 2 + head.0) * 2 ^ 3 + head.2) head.1 head.3 refl)
-    ∙ rw (octets_again 3 2 name behind good_name, octets_again 7 0 value rest good_value) refl
+    let head = text_head 3 flags name behind in
+    ap (table_line_at table prefix) (append_assoc (encoded_string 3 flags name) (encoded_string 7 0 value) rest)
+    ∙ line_as table prefix (encoded_string 3 flags name ++ behind) head.4 ((flags * 2 + head.0) * 2 ^ 3 + head.2) false false true never head.5 (new_form never n head.0 head.2 ((flags * 2 + head.0) * 2 ^ 3 + head.2) refl (bit_small never) head.1 head.3 refl)
+    ∙ rw (octets_again 3 flags name behind good_name, octets_again 7 0 value rest good_value) refl
 
 valued : (value : List ℕ) (o : Option Field) (f : Field) → with_value value o ≡ Some f → (e : Field) × (o ≡ Some e) × ((e.0, value) ≡ f)
 valued value None f e = cc e
@@ -181,15 +201,15 @@ valued value (Some x) f e = (x, refl, cc e)
 pub plan_reads : (table : Table) (prefix : Prefix) (plan : Plan) (field : Field) (rest : List ℕ) → prefix.base < 2 ^ 64 → CanPlan plan → planned_field table prefix.required plan ≡ Some field → Reads table prefix plan field rest
 plan_reads table prefix (StaticField index) field rest few small is = static_reads table prefix index field rest small is
 plan_reads table prefix (TableField place) field rest few small is = field_reads table prefix place field rest few small is
-plan_reads table prefix (StaticName index value) field rest few (small, good) is =
+plan_reads table prefix (StaticName never index value) field rest few (small, good) is =
     let e = valued value (static.entry_at index) field is in
-    static_name_reads table prefix index e.0 value rest small good e.1 ∙ ap (λ (f : Field). Ok (f, rest)) e.2
-plan_reads table prefix (TableName place value) field rest few (small, good) is =
+    static_name_reads table prefix never index e.0 value rest small good e.1 ∙ ap (λ (f : Field). Ok (f, rest)) e.2
+plan_reads table prefix (TableName never place value) field rest few (small, good) is =
     let e = valued value (reached table prefix.required (Some place)) field is in
-    name_reads table prefix place e.0 value rest few small good e.1 ∙ ap (λ (f : Field). Ok (f, rest)) e.2
-plan_reads table prefix (NewName name value) field rest few (first, second) is =
+    name_reads table prefix never place e.0 value rest few small good e.1 ∙ ap (λ (f : Field). Ok (f, rest)) e.2
+plan_reads table prefix (NewName never name value) field rest few (first, second) is =
     let same : (name, value) ≡ field = cc is in
-    new_reads table prefix name value rest first second ∙ ap (λ (f : Field). Ok (f, rest)) same
+    new_reads table prefix never name value rest first second ∙ ap (λ (f : Field). Ok (f, rest)) same
 
 pub plans_read : (table : Table) (prefix : Prefix) (plans : List Plan) (fields : List Field) → prefix.base < 2 ^ 64 → ArePlans table prefix.required plans fields
     → AreTableLines table prefix (flat_map (planned_line prefix.base) plans) fields []
@@ -198,6 +218,73 @@ plans_read table prefix [] (field ∷ fields) few same = cc same
 plans_read table prefix (plan ∷ plans) [] few bad = absurd bad
 plans_read table prefix (plan ∷ plans) (field ∷ fields) few (can, is, others) =
     (flat_map (planned_line prefix.base) plans, plan_reads table prefix plan field (flat_map (planned_line prefix.base) plans) few can is, plans_read table prefix plans fields few others)
+
+-- ---- the bit N
+
+-- a line of a plan has its bit N
+abbrev HasNever : ℕ → Plan → List ℕ → Type 0
+HasNever base plan rest = is_never (planned_line base plan ++ rest) ≡ is_never_plan plan
+
+field_never : (base place : ℕ) (rest : List ℕ) → HasNever base (TableField place) rest
+field_never base place rest = elim (cases_lt place base) [
+  | inl below ↦
+      let index : ℕ = base - 1 - place in
+      let head = short_head 6 2 index rest in
+      rw (lt-ltb place base below)
+      (never_as (shortest_int 6 2 index ++ rest) head.2 (2 * 2 ^ 6 + head.0) true false (bit 5 (2 * 2 ^ 6 + head.0)) (bit 4 (2 * 2 ^ 6 + head.0)) head.3 (back_form head.0 (2 * 2 ^ 6 + head.0) head.1 refl))
+  | inr above ↦
+      let index : ℕ = place - base in
+      let head = short_head 4 1 index rest in
+      rw (le-ltb place base above)
+      (never_as (shortest_int 4 1 index ++ rest) head.2 (1 * 2 ^ 4 + head.0) false false false true head.3 (on_form head.0 (1 * 2 ^ 4 + head.0) head.1 refl))
+]
+
+name_never : (base : ℕ) (never : Bool) (place : ℕ) (value rest : List ℕ) → HasNever base (TableName never place value) rest
+name_never base never place value rest = elim (cases_lt place base) [
+  | inl below ↦
+      let index : ℕ = base - 1 - place in
+      let behind : List ℕ = encoded_string 7 0 value ++ rest in
+      let n : ℕ = never_bit never in
+      let flags : ℕ = 4 + 2 * n in
+      let head = short_head 4 flags index behind in
+      rw (lt-ltb place base below)
+      (ap is_never (append_assoc (shortest_int 4 flags index) (encoded_string 7 0 value) rest)
+      ∙ never_as (shortest_int 4 flags index ++ behind) head.2 (flags * 2 ^ 4 + head.0) false true never false head.3 (back_name_form never n head.0 (flags * 2 ^ 4 + head.0) refl (bit_small never) head.1 refl))
+  | inr above ↦
+      let index : ℕ = place - base in
+      let behind : List ℕ = encoded_string 7 0 value ++ rest in
+      let n : ℕ = never_bit never in
+      let head = short_head 3 n index behind in
+      let b : ℕ = n * 2 ^ 3 + head.0 in
+      rw (le-ltb place base above)
+      (ap is_never (append_assoc (shortest_int 3 n index) (encoded_string 7 0 value) rest)
+      ∙ never_as (shortest_int 3 n index ++ behind) head.2 b false false false false head.3 (on_name_form n head.0 b (bit_small never) head.1 refl)
+      ∙ bit_is never n (b / 2 ^ 3 % 2) refl (fifth n head.0 b (bit_small never) head.1 refl))
+]
+  where
+    fifth : (n low b : ℕ) → n < 2 → low < 2 ^ 3 → b ≡ n * 2 ^ 3 + low → b / 2 ^ 3 % 2 ≡ n
+    fifth n low b few small e = omega arith
+
+pub plan_never : (base : ℕ) (plan : Plan) (rest : List ℕ) → HasNever base plan rest
+plan_never base (StaticField index) rest =
+    let head = short_head 6 3 index rest in
+    never_as (shortest_int 6 3 index ++ rest) head.2 (3 * 2 ^ 6 + head.0) true true (bit 5 (3 * 2 ^ 6 + head.0)) (bit 4 (3 * 2 ^ 6 + head.0)) head.3 (static_form head.0 (3 * 2 ^ 6 + head.0) head.1 refl)
+plan_never base (TableField place) rest = field_never base place rest
+plan_never base (StaticName never index value) rest =
+    let n : ℕ = never_bit never in
+    let flags : ℕ = 5 + 2 * n in
+    let behind : List ℕ = encoded_string 7 0 value ++ rest in
+    let head = short_head 4 flags index behind in
+    ap is_never (append_assoc (shortest_int 4 flags index) (encoded_string 7 0 value) rest)
+    ∙ never_as (shortest_int 4 flags index ++ behind) head.2 (flags * 2 ^ 4 + head.0) false true never true head.3 (static_name_form never n head.0 (flags * 2 ^ 4 + head.0) refl (bit_small never) head.1 refl)
+plan_never base (TableName never place value) rest = name_never base never place value rest
+plan_never base (NewName never name value) rest =
+    let n : ℕ = never_bit never in
+    let flags : ℕ = 2 + n in
+    let behind : List ℕ = encoded_string 7 0 value ++ rest in
+    let head = text_head 3 flags name behind in
+    ap is_never (append_assoc (encoded_string 3 flags name) (encoded_string 7 0 value) rest)
+    ∙ never_as (encoded_string 3 flags name ++ behind) head.4 ((flags * 2 + head.0) * 2 ^ 3 + head.2) false false true never head.5 (new_form never n head.0 head.2 ((flags * 2 + head.0) * 2 ^ 3 + head.2) refl (bit_small never) head.1 head.3 refl)
 
 -- ---- the prefix
 

@@ -139,9 +139,9 @@ IsOpen sent (first ∷ others) = (sent ≡ first) ⊎ IsOpen sent others
 abbrev pub IsFrom : ℕ → Plan → Type 0
 IsFrom lowest (StaticField index) = Unit {0}
 IsFrom lowest (TableField place) = lowest ≤ place
-IsFrom lowest (StaticName index value) = Unit {0}
-IsFrom lowest (TableName place value) = lowest ≤ place
-IsFrom lowest (NewName name value) = Unit {0}
+IsFrom lowest (StaticName never index value) = Unit {0}
+IsFrom lowest (TableName never place value) = lowest ≤ place
+IsFrom lowest (NewName never name value) = Unit {0}
 
 abbrev pub AreFrom : ℕ → List Plan → Type 0
 AreFrom lowest [] = Unit {0}

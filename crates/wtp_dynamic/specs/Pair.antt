@@ -9,9 +9,9 @@ use Rattle.wtp_dynamic.specs.Plans.{Plan, StaticField, TableField, StaticName, T
 abbrev pub IsKept : Table → Plan → Type 0
 IsKept table (StaticField index) = Unit {0}
 IsKept table (TableField place) = table.dropped ≤ place
-IsKept table (StaticName index value) = Unit {0}
-IsKept table (TableName place value) = table.dropped ≤ place
-IsKept table (NewName name value) = Unit {0}
+IsKept table (StaticName never index value) = Unit {0}
+IsKept table (TableName never place value) = table.dropped ≤ place
+IsKept table (NewName never name value) = Unit {0}
 
 abbrev pub AreKept : Table → List Plan → Type 0
 AreKept table [] = Unit {0}

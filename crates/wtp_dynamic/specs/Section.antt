@@ -127,6 +127,22 @@ AreTableLines table prefix bytes (line ∷ lines) rest =
     (behind : List ℕ) × (table_line_at table prefix bytes ≡ Ok (line, behind))
     × AreTableLines table prefix behind lines rest
 
+-- ---- the bit N (section 7.1.3)
+
+-- by the first five bits of a line, the highest first; lines of an index have none
+abbrev pub never_by : (a b c d e : Bool) → Bool
+never_by true _ _ _ _ = false
+never_by false true n _ _ = n
+never_by false false true n _ = n
+never_by false false false true _ = false
+never_by false false false false n = n
+
+-- the line at the start is never indexed
+unfoldable pub is_never : List ℕ → Bool
+is_never [] = false
+is_never (first ∷ bytes) =
+    never_by (bit 7 first) (bit 6 first) (bit 5 first) (bit 4 first) (bit 3 first)
+
 -- ---- lines that are decoded
 
 -- the value begins after what was read of the line, and is Huffman text

@@ -6,8 +6,8 @@ ghost use Rattle.wtp_qpack.specs.Field.{Field};
 ghost use Rattle.std.specs.List.{flat_map};
 ghost use Rattle.wtp_dynamic.specs.Instruction.{Instruction, IsInstruction, instruction_at};
 ghost use Rattle.wtp_dynamic.specs.InsertCount.{most_entries, IsMeant, encoded_count};
-ghost use Rattle.wtp_dynamic.specs.Section.{Prefix, prefix_at, AreTableLines};
-ghost use Rattle.wtp_dynamic.specs.Plans.{Plan, planned_line, planned_prefix, ArePlans};
+ghost use Rattle.wtp_dynamic.specs.Section.{Prefix, prefix_at, AreTableLines, is_never};
+ghost use Rattle.wtp_dynamic.specs.Plans.{Plan, planned_line, planned_prefix, is_never_plan, ArePlans};
 ghost use Rattle.wtp_dynamic.specs.Answer.{HasFields};
 ghost use Rattle.wtp_dynamic.specs.Pair.{section_of, Paired};
 ghost use Rattle.wtp_dynamic.specs.declared.ledger.Sent.{Sent};
@@ -68,7 +68,8 @@ pub fn orders_are_read()
 {}
 
 /// What an encoder writes of a section is read back: a count that is at most `most` away from the
-/// insertions, any Base, and lines whose fields the table has.
+/// insertions, any Base, and lines whose fields the table has, each of which is never indexed if it
+/// was written so.
 pub fn sections_are_read()
     ensures prefix { (table : Table) (required base : ℕ) (lines : List ℕ)
         → encoded_count (most_entries table.limit) required < 2 ^ 64 → base < 2 ^ 64 → required < 2 ^ 64
@@ -79,6 +80,8 @@ pub fn sections_are_read()
     ensures lines { (table : Table) (prefix : Prefix) (plans : List Plan) (fields : List Field)
         → prefix.base < 2 ^ 64 → ArePlans table prefix.required plans fields
         → AreTableLines table prefix (flat_map (planned_line prefix.base) plans) fields [] }
+    ensures never { (base : ℕ) (plan : Plan) (rest : List ℕ)
+        → is_never (planned_line base plan ++ rest) ≡ is_never_plan plan }
 {}
 
 /// The pair: a section that an encoder writes, with the table that it had then, a decoder of the

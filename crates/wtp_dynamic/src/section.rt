@@ -9,7 +9,7 @@ ghost use Rattle.wtp_dynamic.specs.Faults.{Reads};
 ghost use Rattle.wtp_qpack.specs.StringLiteral.{is_coded, Grows};
 ghost use Rattle.wtp_dynamic.specs.Rooms.{ReadsParts};
 ghost use Rattle.wtp_dynamic.specs.Table.{insert_count};
-ghost use Rattle.wtp_dynamic.specs.Section.{base_of, required_by, prefix_at, is_blocked, entry_at, entry_line_at, name_line_at, literal_line_at, reference_of, line_by, table_line_at, value_is_coded, coded_by, is_coded_line};
+ghost use Rattle.wtp_dynamic.specs.Section.{base_of, required_by, prefix_at, is_blocked, entry_at, entry_line_at, name_line_at, literal_line_at, reference_of, line_by, table_line_at, value_is_coded, coded_by, is_coded_line, is_never};
 ghost use Rattle.wtp_dynamic.specs.SectionView.{prefix_of};
 
 use crate::bits::has_bit;
@@ -242,6 +242,29 @@ fn read_literal<'a>(room: &mut Vec<u8>, bytes: &'a [u8]) -> Result<Parts<'a>, Se
         middle,
         rest,
     })
+}
+
+/// Returns whether the line at the start is never indexed: whoever passes the field on must not
+/// refer to a table for its value (section 7.1.3).
+#[tactic(auto, unfolding(crate::specs::Section::is_never))]
+pub fn is_never_indexed(bytes: &[u8]) -> bool
+    ensures { result ≡ is_never bytes.now }
+{
+    let [first, ..] = bytes else {
+        return false;
+    };
+    match (
+        has_bit(*first, 7),
+        has_bit(*first, 6),
+        has_bit(*first, 5),
+        has_bit(*first, 4),
+    ) {
+        (true, _, _, _) => false,
+        (false, true, never, _) => never,
+        (false, false, true, never) => never,
+        (false, false, false, true) => false,
+        (false, false, false, false) => has_bit(*first, 3),
+    }
 }
 
 /// Returns the table that the bit T refers to.

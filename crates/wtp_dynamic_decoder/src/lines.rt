@@ -4,7 +4,7 @@ ghost use Rattle.std.specs.Prelude.{◌≡◌, ◌*◌, ◌<◌, IsTrue, IfSome,
 ghost use Rattle.std.specs.Vec.{vec_capacity};
 ghost use Rattle.wtp_dynamic.specs.declared.error.SectionError.TheVariants.{Memory};
 ghost use Rattle.wtp_qpack.specs.StringLiteral.{Grows};
-ghost use Rattle.wtp_dynamic.specs.Section.{is_coded_line};
+ghost use Rattle.wtp_dynamic.specs.Section.{is_coded_line, is_never};
 ghost use Rattle.wtp_dynamic.specs.SectionView.{prefix_of};
 ghost use Rattle.wtp_dynamic_decoder.specs.Lines.{room_bytes, TakesLine};
 
@@ -67,6 +67,14 @@ impl<'a> SectionLines<'a> {
         ensures { result ≡ self.now.0.required }
     {
         self.prefix.required
+    }
+
+    /// Returns whether the next line is never indexed (the bit N): whoever passes its field on must
+    /// not refer to a table for the value (section 7.1.3). After the last line it is `false`.
+    pub fn is_never_indexed(&self) -> bool
+        ensures { result ≡ is_never self.now.1 }
+    {
+        section::is_never_indexed(self.rest)
     }
 
     /// Takes the next line. Returns `None` after the last. Huffman texts are decoded in `room`, and

@@ -1,5 +1,5 @@
 -- What an encoder sends is read.
-use Rattle.std.proofs.Common.{◌≡◌, ◌⊎◌, ℕ, zero, suc, ◌^◌, ◌<◌, ◌≤◌, inl, inr, max, List, [], ◌∷◌, ◌++◌, refl, sym, ◌∙◌, ap, subst, arith, ne_eqb}
+use Rattle.std.proofs.Common.{◌≡◌, ◌⊎◌, ℕ, zero, suc, ◌^◌, ◌<◌, ◌≤◌, inl, inr, max, map, List, [], ◌∷◌, ◌++◌, refl, sym, ◌∙◌, ap, subst, arith, ne_eqb}
 use Rattle.std.specs.List.{flat_map}
 use Rattle.wtp_qpack.specs.Field.{Field}
 use Rattle.wtp_dynamic.specs.Table.{Table, Later, insert_count, table_size}
@@ -13,7 +13,10 @@ use Rattle.wtp_dynamic.specs.EncoderState.{Encoder, Owes, IsOpen}
 use Rattle.wtp_dynamic.proofs.Written.{orders_again}
 use Rattle.wtp_dynamic.proofs.Paired.{pair_reads}
 use Rattle.wtp_dynamic.proofs.Owed.{owed_reads}
+use Rattle.wtp_dynamic_encoder.specs.declared.proposal.Policy.{Policy}
+use Rattle.wtp_dynamic_encoder.specs.declared.proposal.Proposal.{Proposal}
 use Rattle.wtp_dynamic_encoder.specs.Acknowledging.{Ledger}
+use Rattle.wtp_dynamic_encoder.specs.Choosing.{field_of}
 use Rattle.wtp_dynamic_encoder.specs.Encoding.{Ordered, IsSent, needs, needed, base_for, sent_of}
 
 pub orders_read : (old new : Table) (before after rest : List ℕ) → Ordered old new before after
@@ -26,9 +29,9 @@ orders_read old new before after rest ordered =
 one_kept : (t : Table) (plan : Plan) → needs plan ≡ 0 → IsKept t plan
 one_kept t (StaticField index) none = tt
 one_kept t (TableField place) none = absurd (omega (arith, none))
-one_kept t (StaticName index value) none = tt
-one_kept t (TableName place value) none = absurd (omega (arith, none))
-one_kept t (NewName name value) none = tt
+one_kept t (StaticName never index value) none = tt
+one_kept t (TableName never place value) none = absurd (omega (arith, none))
+one_kept t (NewName never name value) none = tt
 
 none_kept : (t : Table) (plans : List Plan) → needed plans ≡ 0 → AreKept t plans
 none_kept t [] none = tt
@@ -38,14 +41,17 @@ base_few : (required count : ℕ) → count < 2 ^ 62 → base_for required count
 base_few zero count few = omega arith
 base_few (suc n) count few = rw (ne_eqb (suc n) 0 (omega arith)) (omega arith)
 
-pub sent_reads : (stream most : ℕ) (fields : List Field) (written : Table) (before after : Ledger) (section : List ℕ) (sent : IsSent stream most fields written before after [] section) (now : Encoder) (decoder : Table)
+pub sent_reads : (stream most : ℕ) (policy : Policy) (proposals : List Proposal) (written : Table) (before after : Ledger) (section : List ℕ) (sent : IsSent stream most policy proposals written before after [] section) (now : Encoder) (decoder : Table)
     → Owes now → (needed sent.plans ≡ 0) ⊎ IsOpen (sent_of stream sent.plans sent.lowest) now.sections → Later written now.table → Later decoder now.table → table_size now.table.live ≤ now.table.limit
-    → now.known ≤ insert_count decoder → needed sent.plans ≤ insert_count decoder → insert_count written < 2 ^ 62 → decoder.limit < 2 ^ 62 → HasFields decoder section fields
-sent_reads stream most fields written before after section sent now decoder owes state later behind fits known free small limited =
+    → now.known ≤ insert_count decoder → needed sent.plans ≤ insert_count decoder → insert_count written < 2 ^ 62 → decoder.limit < 2 ^ 62 → HasFields decoder section (map field_of proposals)
+sent_reads stream most policy proposals written before after section sent now decoder owes state later behind fits known free small limited =
     let limits : written.limit ≡ decoder.limit = sym later.limit ∙ behind.limit in
     let bytes : section_of decoder.limit (needed sent.plans) base sent.plans ≡ section = ap (λ (n : ℕ). section_of n (needed sent.plans) base sent.plans) (sym limits) ∙ sym sent.bytes in
     subst (λ (z : List ℕ). HasFields decoder z fields) bytes (by_state state)
   where
+    fields : List Field
+    fields = map field_of proposals
+
     base : ℕ
     base = base_for (needed sent.plans) (insert_count written)
 

@@ -1,20 +1,20 @@
 -- What an encoder does to its table (RFC 9204, sections 2.1 and 4.3).
-use Rattle.std.specs.Prelude.{◌≡◌, ◌≢◌, ◌⊎◌, ℕ, ◌+◌, ◌<◌, ◌≤◌, ◌^◌, nat_lt, nat_le, ◌==◌, if◌then◌else◌, max, Bool, true, false, ◌&&◌, List, [], ◌∷◌, ◌++◌, length, map, Option, Some, None, Result, Ok, Err, MatchResult}
+use Rattle.std.specs.Prelude.{◌≡◌, ◌≢◌, ◌⊎◌, ℕ, ◌+◌, ◌<◌, ◌≤◌, ◌^◌, nat_lt, ◌==◌, if◌then◌else◌, max, min, Bool, true, false, ◌&&◌, List, [], ◌∷◌, ◌++◌, map, take, Option, Some, None, Result, Ok, Err, MatchResult}
 use Rattle.std.specs.List.{flat_map}
 use Rattle.wtp_qpack.specs.Field.{Field}
-use Rattle.wtp_qpack.specs.StaticTable.{first_entry}
 use Rattle.wtp_dynamic.specs.declared.error.DecoderStreamError.{DecoderStreamError}
 use Rattle.wtp_dynamic.specs.declared.error.DecoderStreamError.TheVariants as stream
 use Rattle.wtp_dynamic.specs.declared.ledger.Sent.{Sent}
 use Rattle.wtp_dynamic.specs.Table.{Table, insert_count, inserted, resized}
-use Rattle.wtp_dynamic.specs.Front.{most_bytes}
-use Rattle.wtp_dynamic.specs.Writing.{Order, Sets, InsertsNamed, InsertsLiteral, written, Carries}
+use Rattle.wtp_dynamic.specs.Writing.{Order, Sets, written, Carries}
 use Rattle.wtp_dynamic.specs.Plans.{Plan, StaticField, TableField, StaticName, TableName, NewName, planned_line, planned_prefix, ArePlans}
 use Rattle.wtp_dynamic.specs.InsertCount.{most_entries}
 use Rattle.wtp_dynamic.specs.Pair.{section_of}
 use Rattle.wtp_dynamic.specs.EncoderState.{Encoder, may_insert, may_resize, may_block, AreFrom}
 use Rattle.wtp_dynamic_encoder.specs.Acknowledging.{Ledger, Stands, Reaches, Breaks}
-use Rattle.wtp_dynamic_encoder.specs.declared.section.Proposal.{Proposal}
+use Rattle.wtp_dynamic_encoder.specs.declared.proposal.Policy.{Policy}
+use Rattle.wtp_dynamic_encoder.specs.declared.proposal.Proposal.{Proposal}
+use Rattle.wtp_dynamic_encoder.specs.Choosing.{field_of, draining_index, IsOrderFor, IsWanted, AreChosen}
 
 -- ---- the state
 
@@ -28,12 +28,13 @@ progress_of None held = Runs held
 progress_of (Some e) held = Failed e
 
 -- The table, the Known Received Count and the sections that are not acknowledged, the decoder
--- stream, and how many streams may be blocked.
+-- stream, how many streams may be blocked, and the policy.
 pub record State : Type 0 where
   pub table : Table
   pub ledger : Ledger
   pub progress : Progress
   pub most : ℕ
+  pub policy : Policy
 
 -- an encoder by its parts
 abbrev pub encoder_of : Table → Ledger → Encoder
@@ -41,19 +42,10 @@ encoder_of table ledger = record { table = table; known = ledger.0; sections = l
 
 -- ---- the table
 
--- the order that inserts an entry: with the name of its first static entry, or with its own
-abbrev pub order_by : Option ℕ → Field → Order
-order_by (Some index) entry = InsertsNamed true index entry.1
-order_by None entry = InsertsLiteral entry.0 entry.1
-
-abbrev pub order_for : Field → Order
-order_for entry = order_by (first_entry entry.0) entry
-
--- an entry may be inserted, and its instruction is not too long
+-- an entry may be inserted, and there are not too many
 abbrev pub can_insert : Field → Encoder → Bool
 can_insert entry encoder =
     may_insert entry encoder && nat_lt (insert_count encoder.table) (2 ^ 62)
-    && nat_le (length (written (order_for entry))) (most_bytes encoder.table.limit)
 
 -- A table was changed if a test holds, and the order that does so appended to bytes. Otherwise, and
 -- if allocation failed, nothing changed.
@@ -65,12 +57,36 @@ ChangesIf test order made old new before after (Ok false) =
     (test ≡ false) × (new ≡ old) × (after ≡ before)
 ChangesIf test order made old new before after (Err e) = (new ≡ old) × (after ≡ before)
 
--- an entry was inserted if it can be
+-- an entry was inserted if it can be, and the order that does so appended to bytes
+abbrev pub Inserted : Field → Ledger → (old new : Table) → (before after : List ℕ) → Bool → Type 0
+Inserted entry ledger old new before after true =
+    (can_insert entry (encoder_of old ledger) ≡ true) × (new ≡ inserted entry old)
+    × (order : Order) × IsOrderFor entry old order × (after ≡ before ++ written order)
+Inserted entry ledger old new before after false =
+    (can_insert entry (encoder_of old ledger) ≡ false) × (new ≡ old) × (after ≡ before)
+
+-- the same, unless allocation failed
 abbrev pub InsertsIf : {E : Type 0} → Field → Ledger → (old new : Table) → (before after : List ℕ)
     → Result Bool E → Type 0
 InsertsIf entry ledger old new before after result =
-    ChangesIf (can_insert entry (encoder_of old ledger)) (order_for entry) (inserted entry old)
-    old new before after result
+    MatchResult result (λ did. Inserted entry ledger old new before after did)
+    (λ _. (new ≡ old) × (after ≡ before))
+
+-- a proposal was inserted if it is wanted and can be
+abbrev pub Offered : Policy → Proposal → Ledger → (old new : Table) → (before after : List ℕ)
+    → Type 0
+Offered policy proposal ledger old new before after =
+    (IsWanted policy proposal old
+    × (did : Bool) × Inserted (field_of proposal) ledger old new before after did)
+    ⊎ (¬ IsWanted policy proposal old × (new ≡ old) × (after ≡ before))
+
+-- each, in their order
+abbrev pub AreOffered : Policy → List Proposal → Ledger → (old new : Table)
+    → (before after : List ℕ) → Type 0
+AreOffered policy [] ledger old new before after = (new ≡ old) × (after ≡ before)
+AreOffered policy (first ∷ others) ledger old new before after =
+    (table : Table) × (bytes : List ℕ) × Offered policy first ledger old table before bytes
+    × AreOffered policy others ledger table new bytes after
 
 -- the capacity was set if it may be
 abbrev pub ResizesIf : {E : Type 0} → ℕ → Ledger → (old new : Table) → (before after : List ℕ)
@@ -87,17 +103,13 @@ pub record Ordered (old new : Table) (before after : List ℕ) : Type 0 where
 
 -- ---- a section
 
--- the fields of proposals
-abbrev pub field_of : Proposal → Field
-field_of proposal = (proposal.name.now, proposal.value.now)
-
 -- the absolute index of the entry of the dynamic table to which a line refers, if it does
 abbrev pub place_of : Plan → Option ℕ
 place_of (StaticField index) = None
 place_of (TableField place) = Some place
-place_of (StaticName index value) = None
-place_of (TableName place value) = Some place
-place_of (NewName name value) = None
+place_of (StaticName never index value) = None
+place_of (TableName never place value) = Some place
+place_of (NewName never name value) = None
 
 -- one more than the largest absolute index to which lines refer, or 0 (section 2.1.2)
 abbrev pub needs_by : Option ℕ → ℕ
@@ -111,12 +123,23 @@ abbrev pub needed : List Plan → ℕ
 needed [] = 0
 needed (plan ∷ plans) = max (needs plan) (needed plans)
 
--- Lines of fields were written, with the insertions so far as Base: they need so many insertions,
--- no more than a bound, and refer to live entries from a place on.
-pub record AreLines (table : Table) (bound : ℕ) (fields : List Field) (bytes : List ℕ)
+-- what a line adds to the insertions that lines need, and to the lowest place
+abbrev pub raised : Option ℕ → ℕ → ℕ
+raised None required = required
+raised (Some place) required = max required (place + 1)
+
+abbrev pub lowered : Option ℕ → ℕ → ℕ
+lowered None lowest = lowest
+lowered (Some place) lowest = min lowest place
+
+-- Lines of proposals were written, with the insertions so far as Base, by entries from an absolute
+-- index on and below a bound: they need so many insertions, and refer to live entries from a place
+-- on.
+pub record AreLines (table : Table) (low bound : ℕ) (proposals : List Proposal) (bytes : List ℕ)
     (required lowest : ℕ) : Type 0 where
   pub plans : List Plan
-  pub are : ArePlans table bound plans fields
+  pub chosen : AreChosen table low bound proposals plans
+  pub are : ArePlans table bound plans (map field_of proposals)
   pub bytes_are : bytes ≡ flat_map (planned_line (insert_count table)) plans
   pub exact : required ≡ needed plans
   pub from : AreFrom lowest plans
@@ -151,30 +174,42 @@ abbrev pub section_with : Table → List Plan → List ℕ
 section_with table plans =
     section_of table.limit (needed plans) (base_for (needed plans) (insert_count table)) plans
 
--- A section of a stream was appended to bytes. Its lines are the fields, by entries that its
--- Required Insert Count covers; and it needs more insertions than are known to be received only if
--- its stream may be blocked (section 2.1.2).
-pub record IsSent (stream most : ℕ) (fields : List Field) (table : Table) (old new : Ledger)
-    (before after : List ℕ) : Type 0 where
+-- below which absolute index a section may refer to entries: any if its stream may be blocked, and
+-- otherwise to those that are known to be received (section 2.1.2)
+abbrev pub bound_for : (stream most : ℕ) → Ledger → Table → ℕ
+bound_for stream most ledger table =
+    if may_block most stream ledger then insert_count table else ledger.0
+
+-- A section of a stream was appended to bytes. Its lines are those that are chosen, and are the
+-- fields, by entries that its Required Insert Count covers; and it needs more insertions than are
+-- known to be received only if its stream may be blocked (section 2.1.2).
+pub record IsSent (stream most : ℕ) (policy : Policy) (proposals : List Proposal) (table : Table)
+    (old new : Ledger) (before after : List ℕ) : Type 0 where
   pub plans : List Plan
   pub lowest : ℕ
-  pub are : ArePlans table (needed plans) plans fields
+  pub chosen : AreChosen table (draining_index policy table) (bound_for stream most old table)
+      proposals plans
+  pub are : ArePlans table (needed plans) plans (map field_of proposals)
   pub few : needed plans ≤ insert_count table
   pub from : AreFrom lowest plans
   pub bytes : after ≡ before ++ section_with table plans
   pub ledger : new ≡ opened (sent_of stream plans lowest) old
   pub allowed : (needed plans ≤ old.0) ⊎ (may_block most stream old ≡ true)
 
--- Fields were encoded: orders were appended to the encoder stream, and then a section of a stream
--- to other bytes. If allocation failed, no section was, and nothing else has changed.
-abbrev pub Encodes : {E : Type 0} → (stream : ℕ) → List Field → (old new : State)
+-- Proposals were encoded: those that are wanted were inserted, with orders on the encoder stream,
+-- and then a section of a stream was appended to other bytes. If allocation failed, no section was,
+-- and only the first so many were inserted.
+abbrev pub Encodes : {E : Type 0} → (stream : ℕ) → List Proposal → (old new : State)
     → (orders_before orders_after before after : List ℕ) → Result (Unit {0}) E → Type 0
-Encodes stream fields old new orders_before orders_after before after result =
+Encodes stream proposals old new orders_before orders_after before after result =
     Ordered old.table new.table orders_before orders_after
-    × (new.progress ≡ old.progress) × (new.most ≡ old.most)
+    × (new.progress ≡ old.progress) × (new.most ≡ old.most) × (new.policy ≡ old.policy)
     × MatchResult result
-    (λ _. IsSent stream old.most fields new.table old.ledger new.ledger before after)
-    (λ _. (new.ledger ≡ old.ledger) × (after ≡ before))
+    (λ _. AreOffered old.policy proposals old.ledger old.table new.table orders_before orders_after
+    × IsSent stream old.most old.policy proposals new.table old.ledger new.ledger before after)
+    (λ _. (new.ledger ≡ old.ledger) × (after ≡ before)
+    × (count : ℕ) × AreOffered old.policy (take count proposals) old.ledger old.table new.table
+    orders_before orders_after)
 
 -- ---- the decoder stream
 

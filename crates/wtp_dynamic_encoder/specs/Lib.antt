@@ -2,4 +2,5 @@ pub mod PlanView
 pub mod Acknowledging
 pub mod FirstView
 pub mod Lookup
+pub mod Choosing
 pub mod Encoding

@@ -9,9 +9,9 @@ use Rattle.wtp_dynamic.specs.Writing.{Order, Sets, InsertsNamed, InsertsLiteral,
 abbrev pub plan_of : code.Plan → Plan
 plan_of (plans.StaticField index) = StaticField index
 plan_of (plans.TableField place) = TableField place
-plan_of (plans.StaticName index value) = StaticName index value.now
-plan_of (plans.TableName place value) = TableName place value.now
-plan_of (plans.NewName name value) = NewName name.now value.now
+plan_of (plans.StaticName never index value) = StaticName never index value.now
+plan_of (plans.TableName never place value) = TableName never place value.now
+plan_of (plans.NewName never name value) = NewName never name.now value.now
 
 abbrev pub order_of : order.Order → Order
 order_of (orders.Sets capacity) = Sets capacity

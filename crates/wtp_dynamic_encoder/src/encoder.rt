@@ -1,15 +1,18 @@
 //! The encoder: its table, the sections that it sent, and what the decoder told it.
 
-ghost use Rattle.std.specs.Prelude.{◌≡◌, ◌⊎◌, ◌^◌, ◌<◌, ◌≤◌, ◌++◌, [], map, true, MatchResult};
+ghost use Rattle.std.specs.Prelude.{◌≡◌, ◌^◌, ◌<◌, ◌≤◌, ◌++◌, [], MatchResult};
 ghost use Rattle.wtp_dynamic.specs.Table.{empty_table, insert_count};
 ghost use Rattle.wtp_dynamic.specs.InsertCount.{most_entries};
-ghost use Rattle.wtp_dynamic.specs.EncoderState.{Owes, FewWait, may_block};
+ghost use Rattle.wtp_dynamic.specs.EncoderState.{Owes, FewWait};
 ghost use Rattle.wtp_dynamic_encoder.specs.Acknowledging.{most_bytes};
-ghost use Rattle.wtp_dynamic_encoder.specs.Encoding.{Runs, State, encoder_of, field_of, InsertsIf, ResizesIf, Ordered, prefix_for, sent_at, opened, Encodes, PieceRead};
+ghost use Rattle.wtp_dynamic_encoder.specs.Choosing.{default_policy};
+ghost use Rattle.wtp_dynamic_encoder.specs.Encoding.{Runs, State, encoder_of, InsertsIf, ResizesIf, Ordered, prefix_for, sent_at, opened, bound_for, Encodes, PieceRead};
 
+use crate::choice::draining_index;
 use crate::decoder_stream::DecoderStream;
 use crate::insertion;
-use crate::section::{Lines, Proposal, are_octets, write_lines};
+use crate::proposal::{Policy, Proposal};
+use crate::section::{Lines, write_lines};
 use std::alloc::{AllocError, Global};
 use std::marker::Model;
 use wtp_dynamic::error::DecoderStreamError;
@@ -21,7 +24,7 @@ use wtp_dynamic::table::DynamicTable;
 fn bound_of(table: &DynamicTable, ledger: &Ledger, stream: u64, most: u64) -> u64
     requires { ledger.now.0 ≤ insert_count table.now }
     ensures within { result ≤ insert_count table.now }
-    ensures allowed { (result ≤ ledger.now.0) ⊎ (may_block most stream ledger.now ≡ true) }
+    ensures value { result ≡ bound_for stream most ledger.now table.now }
 {
     if ledger.may_block(stream, most) {
         table.insert_count()
@@ -81,10 +84,11 @@ pub struct QpackEncoder {
     decoder: DecoderStream,
     fault: Option<DecoderStreamError>,
     most: u64,
+    policy: Policy,
 }
 
-// Contracts treat the encoder as its table, its ledger, the decoder stream, and how many streams
-// may be blocked.
+// Contracts treat the encoder as its table, its ledger, the decoder stream, how many streams may be
+// blocked, and its policy.
 impl Model for QpackEncoder {
     ghost use Rattle.wtp_dynamic.specs.EncoderState.{Owes, FewWait};
     ghost use Rattle.wtp_dynamic_encoder.specs.Encoding.{State, progress_of, encoder_of};
@@ -96,6 +100,7 @@ impl Model for QpackEncoder {
       ledger = e.ledger;
       progress = progress_of e.fault e.decoder;
       most = e.most;
+      policy = e.policy;
     } };
 
     ghost invariant = { λ e. Owes (encoder_of e.table e.ledger)
@@ -114,6 +119,7 @@ impl QpackEncoder {
           ledger = (0, []);
           progress = Runs [];
           most = most;
+          policy = default_policy;
         } }
     {
         QpackEncoder {
@@ -123,7 +129,22 @@ impl QpackEncoder {
             decoder: DecoderStream::new(alloc),
             fault: None,
             most,
+            policy: Policy::new(),
         }
+    }
+
+    /// Returns the policy.
+    pub fn policy(&self) -> Policy
+        ensures { result ≡ self.now.policy }
+    {
+        self.policy
+    }
+
+    /// Sets the policy, for all sections from here on.
+    pub fn set_policy(&mut self, policy: Policy)
+        ensures { self.new ≡ record self.old { policy = policy } }
+    {
+        self.policy = policy;
     }
 
     /// Returns the dynamic table.
@@ -177,9 +198,13 @@ impl QpackEncoder {
         )
     }
 
-    /// Inserts an entry into the table, and appends the instruction to the encoder stream (sections
-    /// 4.3.2 and 4.3.3). Returns whether it was inserted: it is not larger than the table, and no
-    /// entry has to go that may not.
+    /// Inserts an entry into the table, and appends the instruction to the encoder stream. Returns
+    /// whether it was inserted: it is not larger than the table, and no entry has to go that may
+    /// not.
+    ///
+    /// The instruction is a Duplicate if the table has the entry (section 4.3.4). Otherwise it has
+    /// the name of an entry of the static table, or else of the dynamic table (4.3.2), or else its
+    /// own (4.3.3).
     ///
     /// Returns [`AllocError`] if allocation failed; nothing has changed then.
     #[tactic(auto, using(crate::proofs::Orders::one_step))]
@@ -195,8 +220,6 @@ impl QpackEncoder {
             encoder_stream.new.items }
         ensures same { self.new ≡ record self.old { table = self.new.table } }
     {
-        are_octets(name);
-        are_octets(value);
         insertion::insert_entry(
             self.alloc,
             &mut self.table,
@@ -210,35 +233,42 @@ impl QpackEncoder {
     /// Encodes the fields of a section of a stream, in their order: appends instructions to the
     /// encoder stream, and the section to the bytes of its stream.
     ///
-    /// First each field that is proposed is inserted, if neither table has it and it may be
-    /// inserted. Then each line refers to the entry of the static table that has its name and
-    /// value, or else to the latest such entry of the dynamic table; or else to the name of an
-    /// entry; or else it has the texts. Lines refer to entries that the decoder may not have
-    /// received only if the stream may be blocked. The Base is the count of insertions, or 0 if
-    /// no line refers to the dynamic table.
+    /// First each field that is proposed is inserted as [`QpackEncoder::insert`] does, unless one
+    /// of the tables has it as an entry that is not draining (section 2.1.1.1), or it may not be.
+    /// Then each line refers to the entry of the static table that has its name and value, or else
+    /// to the latest such entry of the dynamic table; or else to the name of an entry; or else it
+    /// has the texts. A field that is never indexed is a literal with the bit N (section 7.1.3).
+    ///
+    /// No line refers to an entry that is draining, or that the decoder may not have received while
+    /// the stream may not be blocked. The Base is the count of insertions, or 0 if no line refers
+    /// to the dynamic table.
     ///
     /// Returns [`AllocError`] if allocation failed. No section is appended then; entries may have
     /// been inserted, and their instructions are in the encoder stream.
     pub fn encode(
         &mut self,
         stream: u64,
-        fields: &[Proposal<'_>],
+        proposals: &[Proposal<'_>],
         encoder_stream: &mut Vec<u8>,
         section: &mut Vec<u8>,
     ) -> Result<(), AllocError>
-        ensures { Encodes stream (map field_of fields.now) self.old self.new
-            encoder_stream.old.items encoder_stream.new.items section.old.items section.new.items
-            result }
+        ensures { Encodes stream proposals.now self.old self.new encoder_stream.old.items
+            encoder_stream.new.items section.old.items section.new.items result }
     {
         insertion::insert_all(
             self.alloc,
+            self.policy,
             &mut self.table,
             &self.ledger,
-            fields,
+            proposals,
             encoder_stream,
         )?;
+        let low = draining_index(self.policy, &self.table);
         let bound = bound_of(&self.table, &self.ledger, stream, self.most);
-        let lines = write_lines(self.alloc, &self.table, bound, fields)?;
+        let lines = match write_lines(self.alloc, &self.table, low, bound, proposals) {
+            Ok(lines) => lines,
+            Err(fault) => return Err(fault),
+        };
         send(
             self.alloc,
             stream,

@@ -1,7 +1,9 @@
 //! Laws of the definitions: the contract of each function is the law.
 
-ghost use Rattle.std.specs.Prelude.{◌≡◌, ◌⊎◌, ℕ, ◌^◌, ◌<◌, ◌≤◌, List, [], ◌++◌};
-ghost use Rattle.wtp_qpack.specs.Field.{Field};
+ghost use Rattle.std.specs.Prelude.{◌≡◌, ◌⊎◌, ℕ, ◌^◌, ◌<◌, ◌≤◌, List, [], ◌++◌, map};
+ghost use Rattle.wtp_dynamic_encoder.specs.declared.proposal.Policy.{Policy};
+ghost use Rattle.wtp_dynamic_encoder.specs.declared.proposal.Proposal.{Proposal};
+ghost use Rattle.wtp_dynamic_encoder.specs.Choosing.{field_of};
 ghost use Rattle.wtp_dynamic.specs.declared.error.DecoderStreamError.{DecoderStreamError};
 ghost use Rattle.wtp_dynamic.specs.Table.{Table, Later, insert_count, table_size};
 ghost use Rattle.wtp_dynamic.specs.Instruction.{Instruction};
@@ -48,13 +50,13 @@ pub fn orders_of_encoders()
 /// received what the encoder knows of, and what the section needs, as long as it is not
 /// acknowledged, however the encoder went on.
 pub fn sections_of_encoders()
-    ensures { (stream most : ℕ) (fields : List Field) (written : Table) (before after : Ledger)
-        (section : List ℕ) (sent : IsSent stream most fields written before after [] section)
+    ensures { (stream most : ℕ) (policy : Policy) (proposals : List Proposal) (written : Table) (before after : Ledger)
+        (section : List ℕ) (sent : IsSent stream most policy proposals written before after [] section)
         (now : Encoder) (decoder : Table) → Owes now
         → (needed sent.plans ≡ 0) ⊎ IsOpen (sent_of stream sent.plans sent.lowest) now.sections
         → Later written now.table → Later decoder now.table
         → table_size now.table.live ≤ now.table.limit → now.known ≤ insert_count decoder
         → needed sent.plans ≤ insert_count decoder
         → insert_count written < 2 ^ 62 → decoder.limit < 2 ^ 62
-        → HasFields decoder section fields }
+        → HasFields decoder section (map field_of proposals) }
 {}

@@ -2,10 +2,12 @@
 //! stream, and reads the decoder stream.
 #![tactic(auto)]
 
+mod choice;
 pub mod decoder_stream;
 pub mod encoder;
 mod insertion;
 pub mod laws;
 pub mod lookup;
 pub mod plan;
+pub mod proposal;
 pub mod section;

@@ -1,10 +1,10 @@
 //! What an encoder decided, and its bytes: instructions of the encoder stream (RFC 9204, section
 //! 4.3), and the prefix and lines of a section (section 4.5).
 
-ghost use Rattle.std.specs.Prelude.{◌≡◌, ◌++◌, ◌-◌, ◌^◌, ◌<◌, nat_lt, if◌then◌else◌, OnOk};
+ghost use Rattle.std.specs.Prelude.{◌≡◌, ◌++◌, ◌+◌, ◌*◌, ◌-◌, ◌^◌, ◌<◌, nat_lt, if◌then◌else◌, OnOk};
 ghost use Rattle.wtp_qpack.specs.Integer.{shortest_int};
 ghost use Rattle.wtp_dynamic.specs.Writing.{written};
-ghost use Rattle.wtp_dynamic.specs.Plans.{planned_line, planned_prefix};
+ghost use Rattle.wtp_dynamic.specs.Plans.{planned_line, planned_prefix, never_bit};
 ghost use Rattle.wtp_dynamic_encoder.specs.PlanView.{plan_of, order_of};
 
 use std::alloc::AllocError;
@@ -12,7 +12,8 @@ use wtp_dynamic::insert_count;
 use wtp_qpack::parts::{write_integer, write_string};
 
 /// How a line gives its field: by entries of the tables, and by texts. A place is the absolute
-/// index of an entry of the dynamic table.
+/// index of an entry of the dynamic table. A literal is never indexed or not (the bit N, section
+/// 7.1.3).
 #[derive(Clone, Copy)]
 pub enum Plan<'a> {
     /// An entry of the static table.
@@ -20,11 +21,11 @@ pub enum Plan<'a> {
     /// An entry of the dynamic table.
     TableField(u64),
     /// The name of an entry of the static table, and a value.
-    StaticName(u64, &'a [u8]),
+    StaticName(bool, u64, &'a [u8]),
     /// The name of an entry of the dynamic table, and a value.
-    TableName(u64, &'a [u8]),
+    TableName(bool, u64, &'a [u8]),
     /// A name and a value.
-    NewName(&'a [u8], &'a [u8]),
+    NewName(bool, &'a [u8], &'a [u8]),
 }
 
 /// What the encoder does to the table.
@@ -52,15 +53,25 @@ fn write_inserted_name(out: &mut Vec<u8>, is_static: bool, index: u64) -> Result
     }
 }
 
-/// Appends the start of a line with the name of an entry of the dynamic table.
-fn write_name(out: &mut Vec<u8>, base: u64, place: u64) -> Result<(), AllocError>
-    ensures { OnOk result (out.new.items ≡ out.old.items ++ (if nat_lt place base
-        then shortest_int 4 4 (base - 1 - place) else shortest_int 3 0 (place - base))) }
+/// Returns the bit N.
+fn never_bit(never: bool) -> u8
+    ensures value { result ≡ never_bit never }
+    ensures bit { result < 2 }
 {
+    if never { 1 } else { 0 }
+}
+
+/// Appends the start of a line with the name of an entry of the dynamic table.
+fn write_name(out: &mut Vec<u8>, never: bool, base: u64, place: u64) -> Result<(), AllocError>
+    ensures { OnOk result (out.new.items ≡ out.old.items ++ (if nat_lt place base
+        then shortest_int 4 (4 + 2 * never_bit never) (base - 1 - place)
+        else shortest_int 3 (never_bit never) (place - base))) }
+{
+    let bit = never_bit(never);
     if place < base {
-        write_integer::<4>(out, 4, base - 1 - place)
+        write_integer::<4>(out, 4 + 2 * bit, base - 1 - place)
     } else {
-        write_integer::<3>(out, 0, place - base)
+        write_integer::<3>(out, bit, place - base)
     }
 }
 
@@ -114,16 +125,16 @@ pub fn write_line(out: &mut Vec<u8>, base: u64, plan: Plan<'_>) -> Result<(), Al
                 write_integer::<4>(out, 1, place - base)
             }
         }
-        Plan::StaticName(index, value) => {
-            write_integer::<4>(out, 5, index)?;
+        Plan::StaticName(never, index, value) => {
+            write_integer::<4>(out, 5 + 2 * never_bit(never), index)?;
             write_string::<7>(out, 0, value)
         }
-        Plan::TableName(place, value) => {
-            write_name(out, base, place)?;
+        Plan::TableName(never, place, value) => {
+            write_name(out, never, base, place)?;
             write_string::<7>(out, 0, value)
         }
-        Plan::NewName(name, value) => {
-            write_string::<3>(out, 2, name)?;
+        Plan::NewName(never, name, value) => {
+            write_string::<3>(out, 2 + never_bit(never), name)?;
             write_string::<7>(out, 0, value)
         }
     }

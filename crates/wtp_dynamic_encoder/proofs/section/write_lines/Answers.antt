@@ -1,16 +1,16 @@
 use Rattle.std.proofs.Common.{arith, sym, subst, List}
-use Rattle.std.proofs.lemmas.List.{map_more}
-use Rattle.wtp_qpack.specs.Field.{Field}
-use Rattle.wtp_dynamic_encoder.specs.Encoding.{field_of, AreLines}
+use Rattle.std.proofs.lemmas.List.{take_more}
+use Rattle.wtp_dynamic_encoder.specs.declared.proposal.Proposal.{Proposal}
+use Rattle.wtp_dynamic_encoder.specs.Encoding.{AreLines}
 use Rattle.wtp_dynamic_encoder.proofs.Sections.{lines_fit}
 use Rattle.wtp_dynamic_encoder.proofs.section.write_lines.Goals as goal
 
 pub loop-proposal-preserved : goal.loop-proposal-preserved
 loop-proposal-preserved c =
-    subst (λ (z : List Field). AreLines c.args.table.now c.args.bound z c.add_line.new.lines.bytes.items c.add_line.new.lines.required c.add_line.new.lines.lowest)
-    (sym (map_more field_of c.args.fields.now c.loop-proposal.proposal-index _ c.loop-proposal-test.true))
+    subst (λ (z : List Proposal). AreLines c.args.table.now c.args.low c.args.bound z c.add_line.new.lines.bytes.items c.add_line.new.lines.required c.add_line.new.lines.lowest)
+    (sym (take_more c.args.proposals.now c.loop-proposal.proposal-index _ c.loop-proposal-test.true))
     (c.in_ok-add_line.ensures _ c.loop-proposal.invariant)
 
 pub returns-clause-room : goal.returns-clause-room
 returns-clause-room c = λ some.
-    lines_fit c.args.table.now c.args.bound _ _ _ _ c.args.table.now.capacity c.loop-proposal.invariant c.requires (omega (arith, c.size.ensures.value, c.size.ensures.fits)) (omega (arith, c.capacity.ensures.value, c.capacity.ensures.within)) some
+    lines_fit c.args.table.now c.args.low c.args.bound _ _ _ _ c.args.table.now.capacity c.loop-proposal.invariant c.requires (omega (arith, c.size.ensures.value, c.size.ensures.fits)) (omega (arith, c.capacity.ensures.value, c.capacity.ensures.within)) some

@@ -1,12 +1,12 @@
-use Rattle.std.proofs.Common.{refl, subst, map}
-use Rattle.wtp_dynamic_encoder.specs.Encoding.{State, progress_of, field_of, Encodes}
-use Rattle.wtp_dynamic_encoder.proofs.Encoded.{sent_keeps, sent_is}
+use Rattle.std.proofs.Common.{refl, subst, Err}
+use Rattle.wtp_dynamic_encoder.specs.Encoding.{State, progress_of, Encodes}
+use Rattle.wtp_dynamic_encoder.proofs.Encoded.{sent_keeps, sent_is, unsent}
 use Rattle.wtp_dynamic_encoder.proofs.encoder.QpackEncoder.encode.Goals as goal
 
 pub invariant_of-self-2 : goal.invariant_of-self-2
 invariant_of-self-2 c =
-    sent_keeps c.send.result c.args.stream c.self.inside.most c.bound_of-bound.result c.insert_all.new.table _ _ _ _ c.self.inside.ledger c.send.new.ledger _ _
-    c.send.ensures c.in_ok-lines.ensures.lines c.bound_of-bound.ensures.within c.bound_of-bound.ensures.allowed (c.insert_all.ensures.owes c.self.invariant.0, c.self.invariant.1)
+    sent_keeps c.send.result c.args.stream c.self.inside.most c.draining_index-low.result c.bound_of-bound.result c.insert_all.new.table _ _ _ _ c.self.inside.ledger c.send.new.ledger _ _
+    c.send.ensures c.in-Ok.ensures.lines c.bound_of-bound.ensures.within c.bound_of-bound.ensures.value (c.insert_all.ensures.owes c.self.invariant.0, c.self.invariant.1)
 
 pub returns : goal.returns
 returns c =
@@ -15,13 +15,34 @@ returns c =
       ledger = c.send.new.ledger;
       progress = progress_of c.self.inside.fault c.self.inside.decoder;
       most = c.self.inside.most;
+      policy = c.self.inside.policy;
     } in
     subst
-    (λ (s : State). Encodes c.args.stream (map field_of c.args.fields.now) s after c.args.encoder_stream.now.items c.insert_all.new.out.items c.args.section.now.items c.send.new.out.items c.send.result)
+    (λ (s : State). Encodes c.args.stream c.args.proposals.now s after c.args.encoder_stream.now.items c.insert_all.new.out.items c.args.section.now.items c.send.new.out.items c.send.result)
     c.self.view_is (
       c.insert_all.ensures.orders,
       refl,
       refl,
-      sent_is c.send.result c.args.stream c.self.inside.most c.bound_of-bound.result c.insert_all.new.table _ _ _ _ c.self.inside.ledger c.send.new.ledger _ _
-          c.send.ensures c.in_ok-lines.ensures.lines c.bound_of-bound.ensures.within c.bound_of-bound.ensures.allowed,
+      refl,
+      sent_is c.send.result c.args.stream c.self.inside.most c.self.inside.policy c.draining_index-low.result c.bound_of-bound.result c.self.inside.table c.insert_all.new.table _ _ _ _ c.self.inside.ledger c.send.new.ledger _ _ _ _
+          c.send.ensures c.in-Ok.ensures.lines c.draining_index-low.ensures c.bound_of-bound.ensures.within c.bound_of-bound.ensures.value c.in_ok-insert_all.ensures.offered,
+    )
+
+pub returns-in-Err : goal.returns-in-Err
+returns-in-Err c =
+    let after : State = record {
+      table = c.insert_all.new.table;
+      ledger = c.self.inside.ledger;
+      progress = progress_of c.self.inside.fault c.self.inside.decoder;
+      most = c.self.inside.most;
+      policy = c.self.inside.policy;
+    } in
+    subst
+    (λ (s : State). Encodes c.args.stream c.args.proposals.now s after c.args.encoder_stream.now.items c.insert_all.new.out.items c.args.section.now.items c.args.section.now.items (Err c.in-Err.fault))
+    c.self.view_is (
+      c.insert_all.ensures.orders,
+      refl,
+      refl,
+      refl,
+      unsent c.self.inside.policy _ c.self.inside.ledger c.self.inside.table c.insert_all.new.table _ _ _ c.in_ok-insert_all.ensures.offered,
     )

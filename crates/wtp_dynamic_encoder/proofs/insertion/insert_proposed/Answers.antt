@@ -1,8 +1,0 @@
-use Rattle.wtp_dynamic_encoder.proofs.Orders.{ordered_by, owes_by}
-use Rattle.wtp_dynamic_encoder.proofs.insertion.insert_proposed.Goals as goal
-
-pub returns-clause-orders : goal.returns-clause-orders
-returns-clause-orders c = ordered_by _ _ _ _ _ _ c.insert_entry.result c.are_octets.ensures c.are_octets-2.ensures c.insert_entry.ensures
-
-pub returns-clause-owes : goal.returns-clause-owes
-returns-clause-owes c = owes_by _ _ _ _ _ _ c.insert_entry.result c.insert_entry.ensures
