@@ -14,6 +14,7 @@ from replay import by_streams, ends_connection
 WHOLE = {"HEADERS", "GOAWAY", "MAX_PUSH_ID"}
 # What is no frame.
 OTHERS = {"capsules", "left", "stream", "WEBTRANSPORT", "application bytes"}
+UNDECODABLE = "message undecodable"
 ID_ERROR, ENCODER_STREAM_ERROR, DECODER_STREAM_ERROR = 0x108, 0x201, 0x202
 SESSION, REQUEST = "session", "request"
 
@@ -38,6 +39,7 @@ class Recorded:
     session: int = None
     interims: int = 0
     events: list = field(default_factory=list)
+    said: list = field(default_factory=list)
 
     def first_lines(self):
         """Returns the lines that come before its bytes."""
@@ -64,6 +66,25 @@ class Recorded:
 
     def reset_line(self):
         return f"reset {self.stream}\n"
+
+    def messages(self):
+        """Returns what each of its field sections is, by the fields that the stacks name, up to one
+        that refers to a dynamic table: its Required Insert Count is not 0 (RFC 9204, 4.5.1)."""
+        sections = [thing["HEADERS"] for thing in self.said if "HEADERS" in thing]
+        starts = [event[2] for event in self.events if event[:2] == ("frame", "HEADERS")]
+        found = []
+        for lines, start in zip(sections, starts):
+            if self.content[start]:
+                return [*found, UNDECODABLE]
+            fields = dict(lines)
+            if any("\n" in value for value in fields.values()):
+                # (RFC 9110, section 5.5)
+                return [*found, "malformed a field has an invalid value"]
+            if status := fields.get(":status"):
+                found.append(f"message {'interim' if status < '2' else 'response'} {status}")
+            else:
+                found.append(f"message {'request' if ':method' in fields else 'trailers'}")
+        return found
 
     def is_reset_last(self):
         """Returns whether it is reset after all else: what waits for its session would be lost."""
@@ -202,6 +223,35 @@ class Connection:
         other.streams = kept
         return other
 
+    def message_script(self):
+        """Returns the script of its streams, one after the other, of which messages are read."""
+        sizes = iter(lambda: 1200, None)
+        side = "server" if self.is_to_server else "client"
+        lines = ["messages\n", f"{side} webtransport\n"]
+        lines += [f"known {session} open\n" for session in self.sessions()]
+        for stream in self.streams:
+            if stream.opened == REQUEST:
+                lines.append(f"request {stream.stream}\n")
+            elif stream.opened == SESSION:
+                lines.append(stream.first_lines())
+            lines += stream.lines(sizes)
+        return "".join(lines)
+
+    def message_fault(self, lines):
+        """Returns how what was found of its messages differs from what the stacks sent, or None."""
+        found = {}
+        for line in lines:
+            stream, _, event = line.split(" ", 2)
+            if event.startswith(("message ", "malformed ")):
+                found.setdefault(int(stream), []).append(event)
+        for stream in self.streams:
+            shown, wanted = found.get(stream.stream, []), stream.messages()
+            if UNDECODABLE in wanted:
+                shown = shown[: len(wanted)]
+            if shown != wanted:
+                return f"stream {stream.stream}: {shown}, and not {wanted}"
+        return None
+
     def script(self, rng, size):
         """Returns the script of a random order, in pieces of this size; of random sizes if it is
         0."""
@@ -233,6 +283,7 @@ def connections_in(folder):
         recorded = Recorded(stream, content, ended, events=wanted.all())
         recorded.session = wanted.session
         recorded.interims = interims_in(said[file])
+        recorded.said = said[file]
         if kind == "WebTransport stream, opened by the other end":
             recorded.opened, recorded.session = SESSION, session_of(file, found)
         elif kind == "response, opened by the other end":

@@ -26,6 +26,8 @@ pub enum Command {
     Abandon(u64),
     /// The stream with this ID is over, and forgotten.
     Forget(u64),
+    /// The messages of streams are read from here on.
+    Messages,
 }
 
 impl Command {
@@ -57,6 +59,7 @@ impl Command {
             "reset" => Ok(Command::Reset(number(rest)?)),
             "abandon" => Ok(Command::Abandon(number(rest)?)),
             "forget" => Ok(Command::Forget(number(rest)?)),
+            "messages" => Ok(Command::Messages),
             _ => bail!("no command"),
         }
     }

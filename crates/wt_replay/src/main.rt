@@ -13,6 +13,7 @@
 //! - `known SESSION STATE`: from here on a session is `coming`, `open`, `over`, `refused` or
 //!   `impossible`. At first each is `coming`.
 //! - `reset ID`, `abandon ID`: the peer reset a stream, or it is read no longer.
+//! - `messages`: from here on the messages of streams are read, and their interim responses found.
 //! - `forget ID`: a stream that is over is forgotten. From here on its session is what the connection
 //!   knows without it.
 //!
@@ -25,12 +26,16 @@
 //! - `data START END`: a piece of DATA, or bytes of an application.
 //! - `skipped N SIZE`: a field section of this size that is not given, after N bytes.
 //! - `fault CODE SCOPE`: an error, and what it ends.
+//! - `message request`, `message interim STATUS`, `message response STATUS`, `message trailers`: what
+//!   a field section is, `message undecodable` if it cannot be decoded.
+//! - `malformed RULE`: the rule that a message breaks.
 //! - `end`: the end of the stream.
 //! - `left N`: at the end of the script, so many bytes were not consumed.
 #![tactic(auto)]
 
 mod command;
 mod lines;
+mod messages;
 mod receiver;
 mod replay;
 

@@ -2,13 +2,16 @@
 ghost use Rattle.std.specs.Prelude.{◌≡◌, ◌++◌, [], false, IfOk};
 
 use crate::lines::{add_fault, add_found, add_left};
+use crate::messages::{add_content, add_end, add_section};
 use std::alloc::{AllocError, Global};
 use std::collections::BTreeMap;
 use wtp_connection::connection::{Connection, Found, Known};
 use wtp_connection::fields::Fields;
 use wtp_connection::stream::{Purpose, Stream};
-use wtp_frames::endpoint::Endpoint;
+use wtp_frames::endpoint::{Endpoint, Side};
 use wtp_frames::frame_type::FrameType;
+use wtp_messages::message::{Message, Role};
+use wtp_messages::response::Asked;
 
 /// A stream.
 #[derive(Drop)]
@@ -23,6 +26,8 @@ pub struct Entry {
     fin: bool,
     /// How many of the next HEADERS are those of interim responses.
     interims: u64,
+    /// Its message, if it has one and messages are read.
+    message: Option<Message>,
 }
 
 impl Entry {
@@ -37,6 +42,7 @@ impl Entry {
             bytes: Vec::new(alloc),
             fin: false,
             interims: 0,
+            message: None,
         }
     }
 
@@ -80,6 +86,10 @@ pub struct Receiver {
     fields: Fields,
     sessions: BTreeMap<u64, Known>,
     text: String,
+    /// The side of the connection.
+    side: Side,
+    /// Whether messages are read.
+    reads_messages: bool,
 }
 
 impl Receiver {
@@ -90,6 +100,8 @@ impl Receiver {
             fields: Fields::new(),
             sessions: BTreeMap::new(alloc),
             text: String::new(alloc),
+            side: endpoint.side,
+            reads_messages: false,
         }
     }
 
@@ -103,9 +115,15 @@ impl Receiver {
         self.text.clear();
     }
 
+    /// Reads the messages of streams from here on.
+    pub fn read_messages(&mut self) {
+        self.reads_messages = true;
+    }
+
     /// Begins another connection.
     pub fn begin(&mut self, alloc: Global, endpoint: Endpoint) -> Result<(), AllocError> {
         self.connection = Connection::new(endpoint);
+        self.side = endpoint.side;
         self.fields = Fields::new();
         self.sessions = BTreeMap::new(alloc);
         writeln!(self.text, "connection")
@@ -134,12 +152,56 @@ impl Receiver {
                     let known = self.known(session);
                     self.join(id, entry, known)?;
                 }
-                Found::Frame(FrameType::Headers, _, _) => self.tell(id, entry)?,
+                Found::Frame(FrameType::Headers, from, to) => {
+                    if self.reads_messages {
+                        let section = rest.get(from..to).unwrap_or(&[]);
+                        let message = &mut entry.message;
+                        if self.take_section(alloc, id, at, message, section)? {
+                            entry.interims = 1;
+                        }
+                    }
+                    self.tell(id, entry)?;
+                }
+                Found::Data(from, to) => {
+                    if let Some(message) = entry.message.as_mut() {
+                        add_content(&mut self.text, id, at, message, to.saturating_sub(from))?;
+                    }
+                }
+                Found::End => {
+                    if let Some(message) = entry.message.as_ref() {
+                        add_end(&mut self.text, id, at, message)?;
+                    }
+                }
                 Found::More(_) => break,
                 _ => {}
             }
         }
         entry.consume(alloc, start)
+    }
+
+    /// Takes the next field section of a stream's message. Returns whether it is that of an interim
+    /// response.
+    fn take_section(
+        &mut self,
+        alloc: Global,
+        id: u64,
+        at: u64,
+        message: &mut Option<Message>,
+        section: &[u8],
+    ) -> Result<bool, AllocError> {
+        let mut next = message.unwrap_or(Message::new(self.role(id)));
+        let is_interim = add_section(&mut self.text, alloc, id, at, &mut next, section)?;
+        *message = Some(next);
+        Ok(is_interim)
+    }
+
+    /// Returns what the message of a stream is.
+    fn role(&self, id: u64) -> Role {
+        match self.side {
+            Side::Server => Role::Request(true),
+            Side::Client if self.sessions.contains_key(&id) => Role::Response(Asked::Session),
+            Side::Client => Role::Response(Asked::Other),
+        }
     }
 
     /// Says that the HEADERS that came last are those of an interim response, if they are.

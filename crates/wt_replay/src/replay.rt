@@ -64,6 +64,7 @@ impl Replay {
             Command::Reset(id) => self.reset(alloc, id)?,
             Command::Abandon(id) => self.abandon(alloc, id)?,
             Command::Forget(id) => self.forget(id)?,
+            Command::Messages => self.receiver.read_messages(),
         }
         Ok(())
     }
