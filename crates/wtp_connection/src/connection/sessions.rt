@@ -130,10 +130,8 @@ impl Connection {
     pub fn interim(&mut self, stream: &mut Stream) -> Option<Fault>
         ensures { (self.new, stream.new, result) ≡ tells_interim self.old stream.old }
     {
-        if self.over {
-            return None;
-        }
         match stream {
+            _ if self.over => None,
             Stream::Frames(reader, _) => match reader.interim() {
                 Ok(()) => None,
                 Err(fault) => self.refuse(stream, fault),
