@@ -12,6 +12,7 @@ ghost use Rattle.wt_inspection_views.specs.TextLines.{bytes_at};
 pub mod escaped;
 pub mod html;
 pub mod json_lines;
+mod latch;
 pub mod laws;
 pub mod plain;
 pub mod text;

@@ -3,6 +3,7 @@ ghost use Rattle.std.specs.Prelude.{◌≡◌, ℕ, List, [], ◌∷◌, ◌++�
 ghost use Rattle.wt_inspection_views.specs.Html.{BeginsPage, IsPage, html_byte, html_text};
 ghost use Rattle.wt_inspection_views.specs.Html.{markup_bytes};
 
+use crate::latch::Latch;
 use std::alloc::{AllocError, Global};
 use std::marker::Model;
 
@@ -88,7 +89,7 @@ pub(super) struct Page {
     /// The allocator of the page.
     pub(super) alloc: Global,
     out: Vec<u8>,
-    is_whole: bool,
+    is_whole: Latch,
 }
 
 // The bytes of the page.
@@ -108,21 +109,14 @@ impl Page {
         Page {
             alloc,
             out,
-            is_whole: added.is_ok(),
-        }
-    }
-
-    /// Remembers whether an addition failed.
-    fn note(&mut self, added: Result<(), AllocError>) {
-        if added.is_err() {
-            self.is_whole = false;
+            is_whole: Latch::after(added),
         }
     }
 
     /// Adds markup as it is.
     pub(super) fn markup(&mut self, markup: Markup) {
         let added = self.try_markup(markup);
-        self.note(added);
+        self.is_whole.note(added);
     }
 
     /// Adds markup as it is.
@@ -141,7 +135,7 @@ impl Page {
             Ok(text) => self.try_text(text.as_str()),
             Err(error) => Err(error),
         };
-        self.note(added);
+        self.is_whole.note(added);
     }
 
     /// Adds a text, escaped.
@@ -166,13 +160,9 @@ impl Page {
     pub(super) fn into_bytes(self) -> Result<Vec<u8>, AllocError>
         ensures { IfOk result (λ page. IsPage page.items) }
     {
-        let mut out = self.out;
+        let mut out = self.is_whole.finish(self.out)?;
         out.extend_from_slice(Markup::Tail.as_str().as_bytes())?;
-        if self.is_whole {
-            Ok(out)
-        } else {
-            Err(AllocError)
-        }
+        Ok(out)
     }
 }
 

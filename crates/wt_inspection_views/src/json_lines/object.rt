@@ -8,6 +8,7 @@ ghost use Rattle.wt_inspection_views.specs.Escaped.{hex_byte};
 ghost use Rattle.wt_inspection_views.specs.JsonLines.{is_late_control};
 
 use crate::escaped::add_hex_byte;
+use crate::latch::Latch;
 use json::Writer;
 use std::alloc::{AllocError, Global};
 
@@ -21,7 +22,7 @@ pub(super) struct Lines {
     /// The allocator of the lines.
     pub(super) alloc: Global,
     text: Vec<u8>,
-    is_whole: bool,
+    is_whole: Latch,
 }
 
 impl Lines {
@@ -36,7 +37,7 @@ impl Lines {
         Lines {
             alloc,
             text: Vec::new(alloc),
-            is_whole: true,
+            is_whole: Latch::new(),
         }
     }
 
@@ -46,9 +47,8 @@ impl Lines {
         requires { IsAt (in_object []) object }
         ensures { AddsLines 1 self.old self.new }
     {
-        if self.try_add(object).is_err() {
-            self.is_whole = false;
-        }
+        let added = self.try_add(object);
+        self.is_whole.note(added);
     }
 
     /// Ends an object and appends it as a line.
@@ -69,11 +69,7 @@ impl Lines {
     pub(super) fn into_bytes(self) -> Result<Vec<u8>, AllocError>
         ensures { (n : ℕ) → HasLines n self → IfOk result (λ text. AreJsonLines n text.items) }
     {
-        if self.is_whole {
-            Ok(self.text)
-        } else {
-            Err(AllocError)
-        }
+        self.is_whole.finish(self.text)
     }
 }
 
@@ -86,7 +82,7 @@ pub(super) struct Object {
     /// The allocator of the object.
     pub(super) alloc: Global,
     out: Writer<Global>,
-    is_whole: bool,
+    is_whole: Latch,
     ghost alone: { out.before ≡ [] },
 }
 
@@ -108,7 +104,7 @@ impl Object {
         Object {
             alloc,
             out,
-            is_whole: reserved.and(begun).is_ok(),
+            is_whole: Latch::after(reserved.and(begun)),
         }
     }
 
@@ -117,7 +113,7 @@ impl Object {
     fn mark_failed(&mut self)
         ensures { (place : Place) → IsAt place self.new }
     {
-        self.is_whole = false;
+        self.is_whole.mark_failed();
     }
 
     /// Records whether `added` is an error.
@@ -126,9 +122,7 @@ impl Object {
         ensures whole { IsTrue self.new.is_whole → IsTrue self.old.is_whole }
         ensures noted { OnErr added (self.new.is_whole ≡ false) }
     {
-        if added.is_err() {
-            self.is_whole = false;
-        }
+        self.is_whole.note(added);
     }
 
     /// Appends a member with a number as its value.
@@ -274,11 +268,7 @@ impl Object {
         out.end_object()?;
         let mut line = out.into_inner();
         line.push(b'\n')?;
-        if self.is_whole {
-            Ok(line)
-        } else {
-            Err(AllocError)
-        }
+        self.is_whole.finish(line)
     }
 }
 

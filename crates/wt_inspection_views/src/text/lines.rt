@@ -4,6 +4,7 @@ ghost use Rattle.wt_inspection_views.specs.Escaped.{IsClean, line_count};
 ghost use Rattle.wt_inspection_views.specs.Lines.{Gains};
 
 use super::parts::count_bytes;
+use crate::latch::Latch;
 use crate::plain::PlainText;
 use std::alloc::{AllocError, Global};
 
@@ -14,7 +15,7 @@ pub(super) struct Lines {
     /// The allocator of the lines.
     pub(super) alloc: Global,
     text: PlainText,
-    is_whole: bool,
+    is_whole: Latch,
 }
 
 impl Lines {
@@ -26,7 +27,7 @@ impl Lines {
         Lines {
             alloc,
             text: PlainText::new(alloc),
-            is_whole: true,
+            is_whole: Latch::new(),
         }
     }
 
@@ -34,16 +35,15 @@ impl Lines {
     pub(super) fn mark_failed(&mut self)
         ensures { self.new.is_whole ≡ false }
     {
-        self.is_whole = false;
+        self.is_whole.mark_failed();
     }
 
     /// Appends a line with these words.
     pub(super) fn add(&mut self, words: &str)
         ensures { Gains 1 self.old self.new }
     {
-        if self.text.add_line(words).is_err() {
-            self.mark_failed();
-        }
+        let added = self.text.add_line(words);
+        self.is_whole.note(added);
     }
 
     /// Appends a line with allocated words. Records a failed allocation of the words.
@@ -79,10 +79,6 @@ impl Lines {
         ensures lines { IfOk result (λ t. IsTrue self.is_whole
             × (line_count (string_bytes t) ≡ line_count self.text)) }
     {
-        if self.is_whole {
-            Ok(self.text.into_text())
-        } else {
-            Err(AllocError)
-        }
+        self.is_whole.finish(self.text.into_text())
     }
 }
