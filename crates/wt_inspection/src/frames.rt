@@ -138,26 +138,19 @@ fn cut_frame(
     ensures stage { IfOk result (λ s. Leads reading.old.phase reading.new.phase
         (Moves (Ok (Next.Frames role first)) at rest.now s.content s.after) s.after) }
 {
-    let FirstPair {
-        first: number,
-        second,
-        size,
-    } = pair;
-    let present = rest.split_at(size).1;
-    let announced = second.into_inner();
-    let end = cut(at, "frame", announced - present.len() as u64);
-    let Found { parts, after } = cut_parts(reading, role, at + size, number, present, end)?;
-    let frame = FrameItem {
-        number: number.into_inner(),
-        name: FrameName::of(number),
-        head: size,
-        announced,
-        present: present.len(),
-        parts,
-    };
+    let present = rest.split_at(pair.size).1;
+    let end = cut(at, "frame", pair.second.into_inner() - present.len() as u64);
+    let Found { parts, after } = cut_parts(
+        reading,
+        role,
+        at + pair.size,
+        pair.first,
+        present,
+        end,
+    )?;
     Ok(Step {
         length: rest.len(),
-        content: Content::Frame(frame),
+        content: Content::Frame(frame_of(pair, present.len(), parts)),
         after,
     })
 }
@@ -183,29 +176,40 @@ fn whole_frame(
     ensures stage { IfOk result (λ s. Leads reading.old.phase reading.new.phase
         (Moves (Ok (Next.Frames role first)) at rest.now s.content s.after) s.after) }
 {
-    let FirstPair {
-        first: number,
-        second,
-        size,
-    } = pair;
-    let present = second.into_inner() as usize;
-    let (_, body) = rest.split_at(size);
+    let present = pair.second.into_inner() as usize;
+    let (_, body) = rest.split_at(pair.size);
     let (payload, _) = body.split_at(present);
-    let place = Place { at, head: size };
-    let Found { parts, after } = judged_parts(reading, role, first, place, number, payload)?;
-    let frame = FrameItem {
-        number: number.into_inner(),
-        name: FrameName::of(number),
-        head: size,
-        announced: second.into_inner(),
-        present,
-        parts,
+    let place = Place {
+        at,
+        head: pair.size,
     };
+    let Found { parts, after } = judged_parts(reading, role, first, place, pair.first, payload)?;
     Ok(Step {
-        length: size + present,
-        content: Content::Frame(frame),
+        length: pair.size + present,
+        content: Content::Frame(frame_of(pair, present, parts)),
         after,
     })
+}
+
+/// Returns the item of a frame that begins with these two numbers.
+fn frame_of(pair: FirstPair, present: usize, parts: Parts) -> FrameItem
+    ensures { result ≡ record {
+      number = pair.first;
+      name = frame_name_of pair.first;
+      head = pair.size;
+      announced = pair.second;
+      present = present;
+      parts = parts;
+    } }
+{
+    FrameItem {
+        number: pair.first.into_inner(),
+        name: FrameName::of(pair.first),
+        head: pair.size,
+        announced: pair.second.into_inner(),
+        present,
+        parts,
+    }
 }
 
 /// Returns what the present payload of a cut frame contains, which begins at this place. The
