@@ -88,7 +88,7 @@ impl Decoder {
     ///
     /// Returns [`DecodingError::Memory`] only if allocation failed, at a line after valid ones that
     /// is valid too, or that has a Huffman text with no fault before it. So a section without a
-    /// line never returns it, nor does one whose first faulty line is plain.
+    /// line never returns it, nor does one whose first line is plain and has a fault.
     pub fn decode(alloc: Global, section: &[u8]) -> Result<BTreeMap<String, String>, DecodingError>
         ensures read { GivesUnlessMemory (λ m. fields_of m) result (map_at section.now) }
         // Allocation fails only at a line that needs memory, after the prefix and valid lines.

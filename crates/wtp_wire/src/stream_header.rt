@@ -286,3 +286,6 @@ impl<'a> Item<'a> for StreamHeader {
         StreamHeader::write_size(self)
     }
 }
+
+// The limit: a type and a session ID of at most 8 bytes each (RFC 9000, section 16).
+const _: () = prove!(StreamHeader::MAX_SIZE == 16);

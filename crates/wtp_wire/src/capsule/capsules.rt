@@ -143,3 +143,6 @@ impl CloseWebTransportSession {
         VarInt::from_u32(4 + self.reason.len() as u32)
     }
 }
+
+// The limit (draft-ietf-webtrans-http3-02, section 5).
+const _: () = prove!(CloseWebTransportSession::MAX_REASON_LEN == 1024);
