@@ -1,10 +1,13 @@
 //! Laws of header maps and their payloads.
-ghost use Rattle.std.specs.Prelude.{◌≡◌, ◌↔◌, ℕ, List, Some, Ok, if◌then◌else◌};
+ghost use Rattle.std.specs.Prelude.{◌≡◌, ◌↔◌, ℕ, List, Some, Ok, map, if◌then◌else◌};
 ghost use Rattle.std.specs.Str.{bytes_eq};
 ghost use Rattle.wtp_wire.specs.Content.{payload_in, HeadersOf};
 ghost use Rattle.wtp_qpack.specs.Field.{Field, IsMap, AreTexts, put, field_value};
 ghost use Rattle.wtp_qpack.specs.FieldSection.{map_at};
 ghost use Rattle.wtp_fields.specs.Headers.{payload, headers_at};
+ghost use Rattle.wtp_fields.specs.SessionRequest.{reserved_names};
+
+use crate::session::SessionRequest;
 
 /// Putting a field into a map sets the value of its name, and leaves the values of all other names
 /// unchanged.
@@ -24,3 +27,11 @@ pub fn header_payloads()
     ensures frame { (m : List Field) → IsMap m → AreTexts m
         → headers_at (payload_in (HeadersOf (payload m))) ≡ Ok m }
 {}
+
+/// The names that a request reserves are those that
+/// [`SessionRequest::insert`](crate::session::SessionRequest::insert) rejects.
+pub fn reserved_headers() -> &'static [&'static str]
+    ensures { map (λ name. name.now) result.now ≡ reserved_names }
+{
+    SessionRequest::RESERVED_HEADERS
+}
