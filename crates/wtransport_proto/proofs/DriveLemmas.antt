@@ -17,7 +17,7 @@ use Rattle.wtransport_proto.specs.StreamPolling.{EndsSo, Faults, StreamTakesFram
 use Rattle.wtransport_proto.specs.Place.{place_of}
 use Rattle.wtransport_proto.specs.Polls.{TakesSome}
 use Rattle.wtransport_proto.proofs.PollsLemmas.{series_start, series_end, series_on}
-use Rattle.wtransport_proto.specs.Driving.{ChangesFirst, after, RunsOn, KeepsPlace, DriveKeeps, DriveDid, Drove}
+use Rattle.wtransport_proto.specs.Driving.{ChangesFirst, after, RunsOn, KeepsPlace, DriveKeeps, DriveDid, DriveWaits, Drove}
 use Rattle.wtransport_proto.proofs.PlaceLemmas.{same_refl, same_then, leaves_place, unknown_place, frame_place, fault_place}
 use Rattle.wtransport_proto.proofs.HeldRunLemmas.{leaves_run, leaves_size, unknown_run, unknown_size, frame_run, framed_size}
 
@@ -124,6 +124,14 @@ ended role f0 f1 f2 old mid new fs x n a b c g t = record {
   fault = rw (ap (λ (r : Run). r.ending) g.run) t.ends.fault;
 }
 
+-- ---- waits
+
+pub still_start : (s : Option Source) → HasModel s s (DriveWaits driven.Spent)
+still_start s = telling_same s (DriveWaits driven.Spent) (λ a. omega arith)
+
+pub still_then : (s t u : Option Source) (n : ℕ) → HasModel s t (DriveWaits driven.Spent) → HasModel t u (λ b c. c.waits ≡ b.waits + n) → HasModel s u (λ a c. c.waits ≡ a.waits + n)
+still_then s t u n p q = telling_then s t u (DriveWaits driven.Spent) (λ b c. c.waits ≡ b.waits + n) (λ a c. c.waits ≡ a.waits + n) (λ a b c g h. omega (arith, g, h)) p q
+
 -- ---- each result of one more poll
 
 pub told_full : (s t : Option Source) (role : Role) (f0 f1 : Bool) (r0 r1 : Held) (fs : List Content) (n polls : ℕ) → n < polls
@@ -131,7 +139,7 @@ pub told_full : (s t : Option Source) (role : Role) (f0 f1 : Bool) (r0 r1 : Held
     → HasModel s t (DriveDid role driven.NoMemory f0 f1 r0 r1 fs polls)
 told_full s t role f0 f1 r0 r1 fs n polls l p =
     telling_map s t (Drove role f0 f1 r0 r1 fs n) (DriveDid role driven.NoMemory f0 f1 r0 r1 fs polls)
-    (λ a b g. (g.run, record { size = let one = g.shorter in omega arith; asks = asks_within n polls a b (omega arith) g.asks }, g.place, (n, l, inl g.series))) p
+    (λ a b g. (g.run, record { size = let one = g.shorter in omega arith; asks = asks_within n polls a b (omega arith) g.asks }, g.place, (n, l, inl (g.asks, g.series)))) p
 
 pub told_spent : (s t : Option Source) (role : Role) (f0 f1 : Bool) (r0 r1 : Held) (fs : List Content) (polls : ℕ)
     → HasModel s t (Drove role f0 f1 r0 r1 fs polls)
@@ -150,7 +158,7 @@ told_still s t u role f0 f1 f2 r0 r1 r2 fs n polls lt unfinished p q k =
       runs_after role f0 f1 f2 r0 r1 r2 fs n a b c g h.0.leaves h.0.flag h.1,
       keeps_after role f0 f1 r0 r1 r2 fs n polls a b c lt g (leaves_size r1 r2 b c h.0.leaves) h.1,
       place_after role f0 f1 f2 r0 r1 r2 fs n a b c unfinished g h.0.leaves h.0.flag,
-      (n, lt, inr (series_end TakesSome role fs n NoMemory f0 f1 f2 r0 r1 r2 a b c g.series h.0)),
+      (n, lt, inr (asks_more n a b c g.asks h.1, series_end TakesSome role fs n NoMemory f0 f1 f2 r0 r1 r2 a b c g.series h.0)),
     ))
     p (telling_both t u (StreamPolled role NoMemory f1 f2 r1 r2) (PollsAtMost 4112) q k)
 
@@ -165,7 +173,7 @@ told_waiting s t u role f0 f1 f2 r0 r1 r2 fs n polls lt unfinished p q k =
       let one = g.asks.waits in let two = h.0.2 in omega arith,
       keeps_after role f0 f1 r0 r1 r2 fs n polls a b c lt g (leaves_size r1 r2 b c h.0.0) h.1,
       place_after role f0 f1 f2 r0 r1 r2 fs n a b c unfinished g h.0.0 h.0.1,
-      (n, lt, series_end TakesSome role fs n Pending f0 f1 f2 r0 r1 r2 a b c g.series h.0),
+      (n, lt, asks_more n a b c g.asks h.1, series_end TakesSome role fs n Pending f0 f1 f2 r0 r1 r2 a b c g.series h.0),
     ))
     p (telling_both t u (StreamPolled role Pending f1 f2 r1 r2) (PollsAtMost 4112) q k)
 
@@ -180,7 +188,7 @@ told_ended s t u role f0 f1 f2 r0 r1 r2 fs x n polls lt unfinished p q k =
       h.0.dry,
       keeps_after role f0 f1 r0 r1 r2 fs n polls a b c lt g h.0.size h.1,
       fault_place role f1 f2 (place_of role f0 r0 a) r1 r2 x b c unfinished g.place h.0,
-      (n, lt, series_end TakesSome role fs n (Ready (Err x)) f0 f1 f2 r0 r1 r2 a b c g.series h.0),
+      (n, lt, asks_more n a b c g.asks h.1, series_end TakesSome role fs n (Ready (Err x)) f0 f1 f2 r0 r1 r2 a b c g.series h.0),
     ))
     p (telling_both t u (Faults role f1 f2 r1 r2 x) (PollsAtMost 4112) q k)
 

@@ -42,7 +42,8 @@ KeepsPlace role first next old new a b =
 --
 -- `Spent`: all polls were made, and each of them took a frame, or skipped an unknown frame or 4096
 -- bytes of it. Every other result: fewer such polls were made, followed by one with that result. If
--- allocation failed for the list of frames, there was no such last poll.
+-- allocation failed for the list of frames, there was no such last poll. Each poll that was made
+-- made at most 4112 calls.
 abbrev pub DriveDid :
     Role → Driven → Bool → Bool → Held → Held → List Content → ℕ → Source → Source → Type 0
 DriveDid role (driven.Ended x) first next old new fs polls a b =
@@ -50,14 +51,15 @@ DriveDid role (driven.Ended x) first next old new fs polls a b =
     × Exhausted x b
     × DriveKeeps old new polls a b
     × AtFault role (place_of role first old a) next new b.ahead
-    × ((n : ℕ) × (n < polls)
+    × ((n : ℕ) × (n < polls) × PollsAtMost (4112 * (n + 1)) a b
     × Series TakesSome role fs n (Ready (Err x) ∷ []) first next old new a b)
 DriveDid role driven.Waiting first next old new fs polls a b =
     RunsOn role first next old new fs a b
     × (a.waits < b.waits)
     × DriveKeeps old new polls a b
     × KeepsPlace role first next old new a b
-    × ((n : ℕ) × (n < polls) × Series TakesSome role fs n (Pending ∷ []) first next old new a b)
+    × ((n : ℕ) × (n < polls) × PollsAtMost (4112 * (n + 1)) a b
+    × Series TakesSome role fs n (Pending ∷ []) first next old new a b)
 DriveDid role driven.Spent first next old new fs polls a b =
     RunsOn role first next old new fs a b
     × (size_of new b + polls ≤ size_of old a)
@@ -69,8 +71,18 @@ DriveDid role driven.NoMemory first next old new fs polls a b =
     × DriveKeeps old new polls a b
     × KeepsPlace role first next old new a b
     × ((n : ℕ) × (n < polls)
-    × (Series TakesSome role fs n [] first next old new a b
-    ⊎ Series TakesSome role fs n (NoMemory ∷ []) first next old new a b))
+    × ((PollsAtMost (4112 * n) a b × Series TakesSome role fs n [] first next old new a b)
+    ⊎ (PollsAtMost (4112 * (n + 1)) a b
+    × Series TakesSome role fs n (NoMemory ∷ []) first next old new a b)))
+
+-- how often the source was not ready: once if the result is Waiting, and otherwise never
+abbrev pub drive_waits : Driven → ℕ
+drive_waits driven.Waiting = 1
+drive_waits other = 0
+
+-- the count of waits rose by one if the result is Waiting, and otherwise not
+abbrev pub DriveWaits : Driven → Source → Source → Type 0
+DriveWaits result a b = b.waits ≡ a.waits + drive_waits result
 
 -- the effect of a drive so far, in this many polls that each took or skipped something
 pub record Drove (role : Role) (first next : Bool) (old new : Held) (fs : List Content) (polls : ℕ)

@@ -1,5 +1,5 @@
 //! Driving a stream: reading its frames poll by poll, as far as its source goes.
-ghost use Rattle.std.specs.Prelude.{◌≡◌, ◌≤◌, ◌⊎◌, Bool, IsTrue, ◌↔◌, ◌++◌, length, drop, false};
+ghost use Rattle.std.specs.Prelude.{◌≡◌, ◌≢◌, ◌<◌, ◌≤◌, ◌⊎◌, Bool, IsTrue, ◌↔◌, ◌++◌, length, drop, false};
 ghost use Rattle.wtp_core.specs.Cursor.{left_of, whole_of};
 ghost use Rattle.wtp_core.specs.Source.{HasModel};
 ghost use Rattle.wtp_core.specs.Polled.{PollsAtMost, WaitsAs};
@@ -10,7 +10,7 @@ ghost use Rattle.wtp_wire.specs.Rule.{Role, RemoteBi, LocalBi, RemoteUni, InSess
 ghost use Rattle.wtransport_proto.specs.Streams.{first_of, CanRead};
 ghost use Rattle.wtransport_proto.specs.Reading.{AnswersRun, ReaderIsAfter};
 ghost use Rattle.wtransport_proto.specs.StreamPolling.{StreamPolled, StreamGiven};
-ghost use Rattle.wtransport_proto.specs.Driving.{ChangesFirst, DriveDid};
+ghost use Rattle.wtransport_proto.specs.Driving.{ChangesFirst, DriveDid, DriveWaits};
 
 use crate::stream::IoReadError;
 use crate::stream::bilocal::StreamBiLocalH3;
@@ -210,6 +210,7 @@ pub enum Driven {
 ///   of its payload.
 /// - `NoMemory`: allocation failed, for a payload of which no byte is held, or for a place in `out`,
 ///   which is full.
+///   `out` never loses room, so with places for `polls` more frames it is a payload.
 ///
 /// It polls until the first result other than these two, and not once more.
 ///
@@ -238,6 +239,10 @@ pub fn drive<K: ReadsFrames, S: AsyncRead>(
     ensures did { HasModel (S.model source.old) (S.model source.new)
         (DriveDid K.role result (K.first stream.old) (K.first stream.new)
         reading.old reading.new (drop (length out.old.items) out.new.items) polls) }
+    ensures waits { HasModel (S.model source.old) (S.model source.new) (DriveWaits result) }
+    ensures fewer { result ≢ Driven.Spent
+        → length (drop (length out.old.items) out.new.items) < polls }
+    ensures capacity { vec_capacity out.old ≤ vec_capacity out.new }
     // The list has no place left, or the head of a payload is held, and no byte of it.
     ensures memory { result ≡ Driven.NoMemory
         → (vec_capacity out.new ≤ vec_len out.new) ⊎ HoldsHead reading.new.taken }

@@ -1,5 +1,5 @@
 use Rattle.std.proofs.Common.{◌≡◌, [], ◌∷◌, ◌++◌, length, drop, refl, sym, ap, ◌∙◌, arith, append-nil, inl, inr}
-use Rattle.wtransport_proto.proofs.DriveLemmas.{first_same, first_on, none_yet, pushed, pushed_appends, pushed_most, told_start, told_full, told_spent, told_still, told_waiting, told_ended, told_frame, told_unknown}
+use Rattle.wtransport_proto.proofs.DriveLemmas.{first_same, first_on, none_yet, pushed, pushed_appends, pushed_most, told_start, still_start, still_then, told_full, told_spent, told_still, told_waiting, told_ended, told_frame, told_unknown}
 use Rattle.wtransport_proto.proofs.stream.driving.drive.Goals as goal
 use Rattle.wtransport_proto.proofs.stream.driving.drive.Goals.{in-Ready-Ok, in-Again}
 
@@ -11,6 +11,8 @@ loop-turn-init g c = record {
   appends = sym (ap (λ l. c.args.out.now.items ++ l) (none_yet c.args.out.now.items) ∙ append-nil c.args.out.now.items);
   most = omega (arith, ap length (none_yet c.args.out.now.items));
   model = told_start (g.S.AsyncRead.model c.args.source.now) g.K.ReadsFrames.role (g.K.ReadsFrames.first c.args.stream.now) c.args.reading.now _ (none_yet c.args.out.now.items);
+  waits = still_start (g.S.AsyncRead.model c.args.source.now);
+  capacity = omega arith;
   none = λ _. (refl, refl, refl, refl);
 }
 
@@ -29,6 +31,8 @@ loop-turn-preserved g c =
                 g.K.ReadsFrames.role (g.K.ReadsFrames.first c.args.stream.now) (g.K.ReadsFrames.first c.loop-turn.stream) (g.K.ReadsFrames.first c.read_frame_async.new.self)
                 c.args.reading.now c.loop-turn.reading c.read_frame_async.new.reading (drop (length c.args.out.now.items) c.loop-turn.out.items)
                 _ w.in-Ready-Ok.frame c.loop-turn._turn (pushed _ c.loop-turn.out.items _ w.in-Ready-Ok.frame c.loop-turn.invariant.appends p) c.loop-turn.invariant.model (rw w.in-Ready-Ok.field-0-is at w.in-Ready-Ok.ensures.polled) c.read_frame_async.ensures.asks;
+            waits = still_then (g.S.AsyncRead.model c.args.source.now) (g.S.AsyncRead.model c.loop-turn.source) (g.S.AsyncRead.model c.read_frame_async.new.source) 0 c.loop-turn.invariant.waits w.in-Ready-Ok.ensures.waits;
+            capacity = rw w.out-is (let pushed = w.push_reserved.ensures.capacity in let room = c.reserve.ensures.capacity in let kept = c.loop-turn.invariant.capacity in omega arith);
             none = λ z. absurd (omega arith);
           }
       | in-Again w ↦ record {
@@ -41,6 +45,8 @@ loop-turn-preserved g c =
             g.K.ReadsFrames.role (g.K.ReadsFrames.first c.args.stream.now) (g.K.ReadsFrames.first c.loop-turn.stream) (g.K.ReadsFrames.first c.read_frame_async.new.self)
             c.args.reading.now c.loop-turn.reading c.read_frame_async.new.reading (drop (length c.args.out.now.items) c.loop-turn.out.items)
             c.loop-turn._turn c.read_frame_async.ensures.was_unfinished c.loop-turn.invariant.model w.in-Again.ensures.polled c.read_frame_async.ensures.asks);
+        waits = still_then (g.S.AsyncRead.model c.args.source.now) (g.S.AsyncRead.model c.loop-turn.source) (g.S.AsyncRead.model c.read_frame_async.new.source) 0 c.loop-turn.invariant.waits w.in-Again.ensures.waits;
+        capacity = rw w.out-is (let room = c.reserve.ensures.capacity in let kept = c.loop-turn.invariant.capacity in omega arith);
         none = λ z. absurd (omega arith);
       }
     ]
@@ -54,6 +60,9 @@ returns-in-Err g c = record {
   most = rw c.reserve.ensures.items (omega arith);
   did = rw c.reserve.ensures.items (told_full (g.S.AsyncRead.model c.args.source.now) (g.S.AsyncRead.model c.loop-turn.source) g.K.ReadsFrames.role (g.K.ReadsFrames.first c.args.stream.now) (g.K.ReadsFrames.first c.loop-turn.stream)
       c.args.reading.now c.loop-turn.reading (drop (length c.args.out.now.items) c.loop-turn.out.items) c.loop-turn._turn c.args.polls (omega arith) c.loop-turn.invariant.model);
+  waits = c.loop-turn.invariant.waits;
+  fewer = λ _. rw c.reserve.ensures.items (let most = c.loop-turn.invariant.most in omega arith);
+  capacity = let room = c.reserve.ensures.capacity in let kept = c.loop-turn.invariant.capacity in omega arith;
   memory = λ _. inl (let h = c.in-Err.ensures {u = tt} in omega arith);
   none = λ z. absurd (omega arith);
 }
@@ -74,6 +83,9 @@ returns-in-Pending g c =
       appends = rw c.reserve.ensures.items c.loop-turn.invariant.appends;
       most = rw c.reserve.ensures.items (omega arith);
       did = rw c.reserve.ensures.items (told_waiting s t u g.K.ReadsFrames.role f0 f1 f2 c.args.reading.now c.loop-turn.reading c.read_frame_async.new.reading xs c.loop-turn._turn c.args.polls c.loop-turn-test.true c.read_frame_async.ensures.was_unfinished c.loop-turn.invariant.model c.in-Pending.ensures.polled c.read_frame_async.ensures.asks);
+      waits = still_then s t u 1 c.loop-turn.invariant.waits c.in-Pending.ensures.waits;
+      fewer = λ _. rw c.reserve.ensures.items (let most = c.loop-turn.invariant.most in omega arith);
+      capacity = let room = c.reserve.ensures.capacity in let kept = c.loop-turn.invariant.capacity in omega arith;
       memory = λ e. absurd (cc);
       none = λ z. absurd (omega arith);
     }
@@ -94,6 +106,9 @@ returns-in-NoMemory g c =
       appends = rw c.reserve.ensures.items c.loop-turn.invariant.appends;
       most = rw c.reserve.ensures.items (omega arith);
       did = rw c.reserve.ensures.items (told_still s t u g.K.ReadsFrames.role f0 f1 f2 c.args.reading.now c.loop-turn.reading c.read_frame_async.new.reading xs c.loop-turn._turn c.args.polls c.loop-turn-test.true c.read_frame_async.ensures.was_unfinished c.loop-turn.invariant.model c.in-NoMemory.ensures.polled c.read_frame_async.ensures.asks);
+      waits = still_then s t u 0 c.loop-turn.invariant.waits c.in-NoMemory.ensures.waits;
+      fewer = λ _. rw c.reserve.ensures.items (let most = c.loop-turn.invariant.most in omega arith);
+      capacity = let room = c.reserve.ensures.capacity in let kept = c.loop-turn.invariant.capacity in omega arith;
       memory = λ _. inr c.in-NoMemory.ensures.given.2;
       none = λ z. absurd (omega arith);
     }
@@ -114,6 +129,9 @@ returns-in-Ready-Err g c =
       appends = rw c.reserve.ensures.items c.loop-turn.invariant.appends;
       most = rw c.reserve.ensures.items (omega arith);
       did = rw c.reserve.ensures.items (told_ended s t u g.K.ReadsFrames.role f0 f1 f2 c.args.reading.now c.loop-turn.reading c.read_frame_async.new.reading xs c.in-Ready-Err.fault c.loop-turn._turn c.args.polls c.loop-turn-test.true c.read_frame_async.ensures.was_unfinished c.loop-turn.invariant.model (rw c.in-Ready-Err.field-0-is at c.in-Ready-Err.ensures.polled) c.read_frame_async.ensures.asks);
+      waits = still_then s t u 0 c.loop-turn.invariant.waits c.in-Ready-Err.ensures.waits;
+      fewer = λ _. rw c.reserve.ensures.items (let most = c.loop-turn.invariant.most in omega arith);
+      capacity = let room = c.reserve.ensures.capacity in let kept = c.loop-turn.invariant.capacity in omega arith;
       memory = λ e. absurd (cc);
       none = λ z. absurd (omega arith);
     }
@@ -129,6 +147,9 @@ returns g c =
       most = omega arith;
       did = told_spent (g.S.AsyncRead.model c.args.source.now) (g.S.AsyncRead.model c.loop-turn.source) g.K.ReadsFrames.role (g.K.ReadsFrames.first c.args.stream.now) (g.K.ReadsFrames.first c.loop-turn.stream)
           c.args.reading.now c.loop-turn.reading (drop (length c.args.out.now.items) c.loop-turn.out.items) c.args.polls (rw all at c.loop-turn.invariant.model);
+      waits = c.loop-turn.invariant.waits;
+      fewer = λ e. absurd (e refl);
+      capacity = c.loop-turn.invariant.capacity;
       memory = λ e. absurd (cc);
       none = λ z. let kept = c.loop-turn.invariant.none (omega arith) in (refl, kept.0, kept.1, kept.2, kept.3);
     }
