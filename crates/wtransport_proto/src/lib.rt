@@ -38,3 +38,8 @@ pub mod stream;
 
 /// The ALPN protocol ID that a QUIC connection for WebTransport negotiates (RFC 9114, section 3.1).
 pub const WEBTRANSPORT_ALPN: &[u8; 2] = b"h3";
+
+// The protocol ID is the text "h3".
+const _: () = prove!(WEBTRANSPORT_ALPN[0] == 0x68);
+
+const _: () = prove!(WEBTRANSPORT_ALPN[1] == 0x33);
