@@ -1,6 +1,6 @@
 -- HTML pages.
-use Rattle.std.specs.Prelude.{◌≡◌, ℕ, List, [], ◌∷◌, ◌++◌, if◌then◌else◌, nat_eq, codes}
-use Rattle.std.specs.List.{flat_map}
+use Rattle.std.specs.Prelude.{◌≡◌, ℕ, Bool, true, ◌&&◌, ◌||◌, List, [], ◌∷◌, ◌++◌, if◌then◌else◌, nat_eq, nat_le, codes}
+use Rattle.std.specs.List.{flat_map, list_all}
 use Rattle.wt_inspection_views.specs.declared.html.page.Markup.{Markup}
 use Rattle.wt_inspection_views.specs.declared.html.page.Markup.TheVariants as markup-is
 use Rattle.wt_inspection_views.specs.declared.html.page.TheConstants.{HEAD, TAIL}
@@ -53,3 +53,27 @@ abbrev pub IsPage : List ℕ → Type 0
 IsPage bytes =
     (pieces : List Piece)
     × (bytes ≡ flat_map piece_bytes (markup markup-is.Head ∷ pieces ++ markup markup-is.Tail ∷ []))
+
+-- ---- the policy
+
+-- the start of a page up to the hash of its script: it loads nothing from elsewhere (Content
+-- Security Policy Level 3)
+abbrev pub policy_start : List ℕ
+policy_start =
+    codes "<!doctype html><html lang=\"en\"><head><meta charset=\"utf-8\">"
+    ++ codes "<meta http-equiv=\"Content-Security-Policy\" content=\"default-src 'none'; "
+    ++ codes "style-src 'unsafe-inline'; script-src 'sha256-"
+
+-- the byte is a character of base64 (RFC 4648, section 4)
+abbrev pub is_base64 : ℕ → Bool
+is_base64 b =
+    (nat_le 48 b && nat_le b 57)
+    || ((nat_le 65 b && nat_le b 90)
+    || ((nat_le 97 b && nat_le b 122) || (nat_eq b 43 || (nat_eq b 47 || nat_eq b 61))))
+
+-- the page begins with a policy that allows its own styles, and no script but one with this hash
+abbrev pub HasPolicy : List ℕ → Type 0
+HasPolicy page =
+    (hash : List ℕ) × (rest : List ℕ)
+    × (list_all is_base64 hash ≡ true)
+    × (page ≡ policy_start ++ hash ++ codes "'\">" ++ rest)

@@ -1,5 +1,5 @@
 //! Settings.
-ghost use Rattle.std.specs.Prelude.{◌≡◌, ◌<◌, ◌^◌};
+ghost use Rattle.std.specs.Prelude.{◌≡◌, ◌<◌, ◌≤◌, ◌^◌, None};
 ghost use Rattle.wtp_wire.specs.SettingId.{setting_id_of};
 
 use wtp_core::varint::VarInt;
@@ -20,7 +20,8 @@ impl SettingLine {
     /// Returns the setting with this identifier, or `None` if it is unknown. Its `Display` is its
     /// name.
     pub fn setting(&self) -> Option<SettingId>
-        ensures { self.now.id < 2 ^ 62 → result ≡ setting_id_of self.now.id }
+        ensures known { self.now.id < 2 ^ 62 → result ≡ setting_id_of self.now.id }
+        ensures none { 2 ^ 62 ≤ self.now.id → result ≡ None }
     {
         match VarInt::try_from_u64(self.id) {
             Ok(id) => SettingId::parse(id),
