@@ -1,5 +1,5 @@
-//! The frames of `wtp_frames` are those of `wtp_wire` where no payload is longer than 4096 bytes
-//! and no rule is new. There is no product code here.
+//! `wtp_frames` reads the HEADERS, DATA and SETTINGS frames that `wtp_wire` reads as the same frames,
+//! where its rules allow them. There is no product code here.
 #![tactic(auto)]
 
 ghost use Rattle.std.specs.Prelude.{◌≡◌, ℕ, ◌<◌, ◌≤◌, Bool, false, true, List, [], ◌∷◌, map, None};

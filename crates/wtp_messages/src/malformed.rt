@@ -58,12 +58,12 @@ pub enum Malformed {
     /// The `:path` of a URI with the scheme `http` or `https` is invalid (RFC 9114, section 4.3.1).
     #[error("the :path is invalid")]
     InvalidPath,
-    /// A request that needs an authority has none, or an empty one (RFC 9114, sections 4.3.1 and
-    /// 4.4).
+    /// A CONNECT request, or one with the scheme `http` or `https`, has no authority, or an empty
+    /// one (RFC 9114, sections 4.3.1 and 4.4).
     #[error("there is no authority")]
     MissingAuthority,
-    /// `:authority` and `host` differ, there are two `host` fields, or there is user information
-    /// (RFC 9114, section 4.3.1; RFC 9110, section 7.2).
+    /// In such a request `:authority` and `host` differ, there are two `host` fields, or there is
+    /// user information (RFC 9114, section 4.3.1; RFC 9110, section 7.2).
     #[error("the authority is invalid")]
     InvalidAuthority,
     /// A CONNECT request without `:protocol` has a `:scheme` or a `:path` (RFC 9114, section 4.4).
