@@ -141,6 +141,7 @@ pub extern "C" fn wt_read_frame(
         × (reader.new ≡ reader.old) × (consumed.new ≡ 0) }
     ensures invalid { result ≡ INVALID → (¬ (IsReader reader.old))
         × (reader.new ≡ reader.old) × (consumed.new ≡ consumed.old) }
+    ensures valid { result ≢ INVALID → IsReader reader.old }
     ensures within { result ≢ INVALID → consumed.new ≤ length bytes.now }
     ensures reader { IsReader reader.old → IsReader reader.new }
     ensures none { result ≢ OK → frame.new ≡ frame.old }

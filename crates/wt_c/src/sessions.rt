@@ -141,6 +141,7 @@ pub extern "C" fn wt_request_write(
     ensures invalid { result ≡ INVALID
         → (IsNoUrl url.now ⊎ ¬ (AreMessageFields texts.now fields.now))
         × (out.new ≡ out.old) × (used.new ≡ used.old) }
+    ensures valid { result ≢ INVALID → IsUtf8 url.now }
     ensures memory { result ≡ MEMORY → IsUtf8 url.now × AreMessageFields texts.now fields.now
         × (out.new ≡ out.old) × (used.new ≡ used.old) }
 {

@@ -114,6 +114,7 @@ pub extern "C" fn wt_settings_read(
         × (settings.new ≡ settings.old) × (count.new ≡ count.old) }
     ensures invalid { result ≡ INVALID → (2 ^ 62 ≤ length payload.now)
         × (settings.new ≡ settings.old) × (count.new ≡ count.old) }
+    ensures valid { result ≢ INVALID → length payload.now < 2 ^ 62 }
     ensures code { result ≢ ERROR → code.new ≡ code.old }
 {
     if payload.len() as u64 > VarInt::MAX.into_inner() {
@@ -274,6 +275,7 @@ pub extern "C" fn wt_setting_name(alloc: Global, id: u64, out: &mut [u8], used: 
         × TooShort (setting_name_of setting) out.old out.new used.new }
     ensures invalid { result ≡ INVALID → ((setting_id_of id ≡ None) ⊎ (2 ^ 62 ≤ id))
         × (out.new ≡ out.old) × (used.new ≡ used.old) }
+    ensures valid { result ≢ INVALID → id < 2 ^ 62 }
     ensures memory { result ≡ MEMORY → (setting : SettingId) × (setting_id_of id ≡ Some setting)
         × (out.new ≡ out.old) × (used.new ≡ used.old) }
 {
