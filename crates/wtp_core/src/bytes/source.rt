@@ -1,5 +1,5 @@
 //! The `AsyncRead` trait of polled sources, and its implementation for slices.
-ghost use Rattle.std.specs.Prelude.{◌≡◌, Option, Some, None, ◌≤◌, ◌↔◌, length, min, false, IsTrue};
+ghost use Rattle.std.specs.Prelude.{◌≡◌, Option, Some, None, ◌≤◌, ◌↔◌, length, drop, min, false, IsTrue};
 ghost use Rattle.wtp_core.specs.Source.{Source, StepKeepsLengths, StepModel, HasModel, Shows, TakesBuffered, all_ahead};
 
 /// The result of one call of a source.
@@ -59,13 +59,15 @@ pub trait AsyncRead {
 impl AsyncRead for &[u8] {
     ghost model = { λ s. Some (all_ahead s.now) };
 
-    /// Gives as many bytes as fit into the buffer, and `Bytes(0)` at the end. It is always ready.
+    /// Gives as many bytes as fit into the buffer, and `Bytes(0)` at the end. The buffer's other
+    /// bytes do not change. It is always ready.
     #[inline(always)]
     fn poll_read(&mut self, buf: &mut [u8]) -> ReadStep
         ensures lengths { StepKeepsLengths result (length buf.new) }
         ensures model { StepModel result buf.new (Some (all_ahead self.old.now))
             (Some (all_ahead self.new.now)) }
         ensures fits { result ≡ ReadStep.Bytes (min (length self.old.now) (length buf.old)) }
+        ensures others { drop (length self.old.now) buf.new ≡ drop (length self.old.now) buf.old }
     {
         let n = self.len().min(buf.len());
         let (front, rest) = self.split_at(n);
