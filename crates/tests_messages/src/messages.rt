@@ -39,18 +39,13 @@ fn base_of(name: &[u8]) -> &'static [Field] {
 }
 /// Appends a number below 128 with a prefix of which `most` is the largest value (RFC 9204, section
 /// 4.1.1), behind these bits.
-fn push_integer(
-    section: &mut Vec<u8>,
-    bits: u8,
-    most: u8,
-    number: usize,
-) -> Result<(), AllocError> {
+fn push_integer(section: &mut Vec<u8>, bits: u8, max: u8, number: usize) -> Result<(), AllocError> {
     let number = u8::try_from(number).unwrap_or(127);
-    if number < most {
+    if number < max {
         section.push(bits | number)?;
     } else {
-        section.push(bits | most)?;
-        section.push(number - most)?;
+        section.push(bits | max)?;
+        section.push(number - max)?;
     }
     Ok(())
 }

@@ -148,9 +148,9 @@ fn line_of(
     index: usize,
     value: &[u8],
 ) -> Vec<u8> {
-    let most = usize::from(ones);
-    let rest = index.wrapping_sub(most) % 128;
-    if index < most {
+    let max = usize::from(ones);
+    let rest = index.wrapping_sub(max) % 128;
+    if index < max {
         join(rt, alloc, [b"\x00\x00", &[first | index as u8], value])
     } else {
         join(rt, alloc, [b"\x00\x00", &[first | ones, rest as u8], value])

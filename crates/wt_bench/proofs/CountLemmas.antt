@@ -6,14 +6,14 @@ use Rattle.wtp_core.specs.Source.{all_ahead}
 use Rattle.wtp_wire.specs.Content.{Content, kind_in}
 use Rattle.wtp_wire.specs.Front.{Front, Framed, Unknown, BadId, TooBig, Short, front}
 use Rattle.wtp_wire.specs.Held.{new_held}
-use Rattle.wtransport_proto.specs.declared.stream.polled.IoReadError.{IoReadError}
-use Rattle.wtransport_proto.specs.declared.stream.polled.IoReadError.TheVariants.{IO}
-use Rattle.wtp_core.specs.declared.bytes.polled.IoReadError.TheVariants as io
+use Rattle.wtransport_proto.specs.declared.stream.error.IoReadError.{IoReadError}
+use Rattle.wtransport_proto.specs.declared.stream.error.IoReadError.TheVariants.{IO}
+use Rattle.wtp_core.specs.declared.bytes.error.IoReadError.TheVariants as io
 use Rattle.wtransport_proto.specs.Driving.{after}
 use Rattle.wtransport_proto.specs.HeldRun.{run_of}
 use Rattle.wtransport_proto.specs.Rule.{Role, RemoteBi, rule}
 use Rattle.wtransport_proto.specs.Run.{Run, Tail, Ended, Ending, ends, follows, judged, next_run, run_within, run, skip_unknown}
-use Rattle.wtransport_proto.specs.StreamPolling.{EndsSo}
+use Rattle.wtransport_proto.specs.StreamPolling.{EndsWithFault}
 use Rattle.wtransport_proto.proofs.HeldRunLemmas.{run_new}
 use Rattle.wt_bench.specs.Frames.{count_at, count_of}
 
@@ -77,13 +77,13 @@ pub run_ahead : (role : Role) (first : Bool) (bytes : List ℕ) → run_of role 
 run_ahead role first bytes = run_new role first new_held (all_ahead bytes) refl
 
 -- the last frames, which a drive outputs before the end
-pub counted_end : (n k : ℕ) (fs : List Content) (left whole : Run) (x : IoReadError) → EndsSo left fs x → x ≡ IO io.ImmediateFin → length fs ≡ k → IsCounted n left whole → pos (n + k) ≡ count_of whole
+pub counted_end : (n k : ℕ) (fs : List Content) (left whole : Run) (x : IoReadError) → EndsWithFault left fs x → x ≡ IO io.ImmediateFin → length fs ≡ k → IsCounted n left whole → pos (n + k) ≡ count_of whole
 counted_end n k fs left whole x e fin is c =
     let ended = rw fin at e in
     let all : length whole.frames ≡ n + k = let one = c.frames in omega (arith, ap length ended.frames, is) in
     rw (all, sym c.ending ∙ ended.fault) refl
 
-pub ended_few : (n k : ℕ) (fs : List Content) (left : Run) (x : IoReadError) (role : Role) (first : Bool) (bytes : List ℕ) (tail : Tail) → EndsSo left fs x → length fs ≡ k → IsCounted n left (run role first bytes tail) → n + k ≤ length bytes
+pub ended_few : (n k : ℕ) (fs : List Content) (left : Run) (x : IoReadError) (role : Role) (first : Bool) (bytes : List ℕ) (tail : Tail) → EndsWithFault left fs x → length fs ≡ k → IsCounted n left (run role first bytes tail) → n + k ≤ length bytes
 ended_few n k fs left x role first bytes tail e is c = let one = c.frames in omega (arith, ap length e.frames, is, few_frames role first bytes tail)
 
 -- all frames that a drive output to an empty list

@@ -4,7 +4,7 @@ ghost use Rattle.wtp_wire.specs.declared.capsule.cursor.CapsuleSpan.{CapsuleSpan
 ghost use Rattle.wtp_wire.specs.declared.capsule.cursor.CapsuleStep.{CapsuleStep};
 ghost use Rattle.wt_c.specs.CapsuleReader.{Stepped, c_capsule, cursor_of, IsEnd};
 
-use crate::answers::{ERROR, MORE, OK};
+use crate::status::{ERROR, MORE, OK};
 use wtp_core::error::ErrorCode;
 use wtp_wire::capsule::{CapsuleCursor, CapsuleSpan, CapsuleStep};
 

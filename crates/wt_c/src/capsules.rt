@@ -4,7 +4,7 @@ ghost use Rattle.std.specs.Prelude.{◌≢◌, [], IsUtf8};
 ghost use Rattle.wtp_wire.specs.CloseSession.{close_in, close_wire};
 ghost use Rattle.wt_c.specs.Output.{WritesPrefix, TooShort};
 
-use crate::answers::{BUFFER_TOO_SMALL, ERROR, INVALID, MEMORY, OK};
+use crate::status::{BUFFER_TOO_SMALL, ERROR, INVALID, MEMORY, OK};
 use std::alloc::Global;
 use wtp_core::bytes::{BufferWriter, BytesWriter};
 use wtp_core::error::ErrorCode;

@@ -5,8 +5,8 @@ ghost use Rattle.wtp_core.specs.Codes.{code_name, code_scope};
 ghost use Rattle.wt_c.specs.Codes.{IsNoCode, scope_number};
 ghost use Rattle.wt_c.specs.Output.{WritesPrefix, TooShort};
 
-use crate::answers::{BUFFER_TOO_SMALL, INVALID, OK};
 use crate::output::write_bytes;
+use crate::status::{BUFFER_TOO_SMALL, INVALID, OK};
 use wtp_core::error::{Code, ErrorScope, application_codes};
 use wtp_core::varint::VarInt;
 

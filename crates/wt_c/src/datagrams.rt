@@ -6,9 +6,9 @@ ghost use Rattle.wt_c.specs.Numbers.{IsSessionNumber};
 ghost use Rattle.wt_c.specs.Datagrams.{datagram_head};
 ghost use Rattle.wt_c.specs.Output.{WritesPrefix, TooShort};
 
-use crate::answers::{BUFFER_TOO_SMALL, ERROR, INVALID, OK};
 use crate::numbers::session_of;
 use crate::output::{size_before, write_number};
+use crate::status::{BUFFER_TOO_SMALL, ERROR, INVALID, OK};
 use wtp_core::ids::QStreamId;
 use wtp_wire::datagram::Datagram;
 

@@ -7,7 +7,7 @@ ghost use Rattle.wtp_fields.specs.FieldLines.{octet_line_at, AreOctetLines, is_c
 ghost use Rattle.wt_c.specs.Fields.{AreLinesOf, HasSectionFault, HasCodedLine, HoldLines, LackRoom};
 ghost use Rattle.wt_c.specs.Fields.{LinePut, capped, texts_size};
 
-use crate::answers::{BUFFER_TOO_SMALL, ERROR, MEMORY, OK};
+use crate::status::{BUFFER_TOO_SMALL, ERROR, MEMORY, OK};
 use std::alloc::Global;
 use wtp_core::error::ErrorCode;
 use wtp_fields::qpack::{DecodingError, FieldBuffer, FieldLines};

@@ -9,9 +9,9 @@ ghost use Rattle.wtp_wire.specs.Wire.{wire};
 ghost use Rattle.wt_c.specs.Frames.{IsPayloadKind, frame_head};
 ghost use Rattle.wt_c.specs.Output.{WritesPrefix, TooShort};
 
-use crate::answers::{BUFFER_TOO_SMALL, INVALID, OK};
 use crate::numbers::session_of;
 use crate::output::write_pair;
+use crate::status::{BUFFER_TOO_SMALL, INVALID, OK};
 use std::borrow::CowSlice;
 use wtp_core::bytes::BufferWriter;
 use wtp_core::varint::VarInt;

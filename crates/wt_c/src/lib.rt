@@ -1,11 +1,10 @@
 //! The protocol core for C, without a network: the functions of `c/include/wtransport.h`.
 //!
 //! The caller owns all state, and all output is written to the caller's memory. Functions return
-//! one of the status codes in [`answers`], unless their documentation says otherwise. Their
+//! one of the status codes in [`status`], unless their documentation says otherwise. Their
 //! contracts state when each status is returned, and what is then written.
 #![tactic(auto)]
 
-pub mod answers;
 pub mod capsule_reader;
 pub mod capsules;
 pub mod codes;
@@ -20,6 +19,7 @@ pub mod request_faults;
 pub mod sections;
 pub mod sessions;
 pub mod settings;
+pub mod status;
 pub mod stream_headers;
 mod texts;
 pub mod version;

@@ -2,7 +2,7 @@
 ghost use Rattle.std.specs.Prelude.{◌≡◌, ◌≢◌, ◌⊎◌, MatchResult};
 ghost use Rattle.wt_c.specs.Fields.{AreLinesOf, HasSectionFault, HasStoredLine};
 
-use crate::answers::{ERROR, MEMORY};
+use crate::status::{ERROR, MEMORY};
 use std::alloc::Global;
 use wtp_core::error::ErrorCode;
 use wtp_fields::fields::{FieldList, FieldSectionError};

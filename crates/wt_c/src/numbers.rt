@@ -4,8 +4,8 @@ ghost use Rattle.wtp_core.specs.Varint.{number_at, shortest};
 ghost use Rattle.wt_c.specs.Numbers.{IsSessionNumber};
 ghost use Rattle.wt_c.specs.Output.{WritesPrefix, TooShort};
 
-use crate::answers::{BUFFER_TOO_SMALL, INVALID, MORE, OK};
 use crate::output::write_number;
+use crate::status::{BUFFER_TOO_SMALL, INVALID, MORE, OK};
 use wtp_core::ids::SessionId;
 use wtp_core::varint::{VarInt, first_varint};
 

@@ -5,7 +5,7 @@ ghost use Rattle.wtp_core.specs.Reader.{IsRest};
 ghost use Rattle.wtp_core.specs.Varint.{shortest};
 ghost use Rattle.wt_c.specs.Output.{WritesPrefix, TooShort};
 
-use crate::answers::{BUFFER_TOO_SMALL, OK};
+use crate::status::{BUFFER_TOO_SMALL, OK};
 use wtp_core::bytes::{BufferWriter, BytesWriter};
 use wtp_core::varint::VarInt;
 

@@ -9,7 +9,7 @@ ghost use Rattle.wtransport_proto.specs.declared.stream.cursor.FrameSpan.{FrameS
 ghost use Rattle.wtransport_proto.specs.declared.stream.cursor.CursorStep.{CursorStep};
 ghost use Rattle.wt_c.specs.Reader.{IsReader, Stepped, c_frame, cursor_of, stream_role};
 
-use crate::answers::{ERROR, INVALID, MORE, OK};
+use crate::status::{ERROR, INVALID, MORE, OK};
 use wtp_core::varint::VarInt;
 use wtransport_proto::error::ErrorCode;
 use wtransport_proto::stream::{CursorStep, FrameCursor, FrameSpan, StreamRole};

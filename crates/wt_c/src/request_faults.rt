@@ -9,9 +9,9 @@ ghost use Rattle.wt_c.specs.Output.{WritesPrefix, TooShort};
 ghost use Rattle.wt_c.specs.RequestFaults.{IsFaultNumber, IsRequestFault, first_number};
 ghost use Rattle.wt_c.specs.RequestFaults.{fault_number, fault_name};
 
-use crate::answers::{BUFFER_TOO_SMALL, ERROR, INVALID, MEMORY, OK};
 use crate::lists::read_fields;
 use crate::output::write_bytes;
+use crate::status::{BUFFER_TOO_SMALL, ERROR, INVALID, MEMORY, OK};
 use std::alloc::Global;
 use wtp_fields::fields::FieldList;
 use wtp_fields::session::HeadersParseError;

@@ -4,9 +4,9 @@ ghost use Rattle.wtp_fields.specs.FieldSection.{section_of};
 ghost use Rattle.wt_c.specs.Output.{WritesPrefix, TooShort};
 ghost use Rattle.wt_c.specs.Texts.{AreTextFields, lines_in};
 
-use crate::answers::{BUFFER_TOO_SMALL, INVALID, MEMORY, OK};
 use crate::fields::WtField;
 use crate::output::write_bytes;
+use crate::status::{BUFFER_TOO_SMALL, INVALID, MEMORY, OK};
 use crate::texts::{TextPairs, are_texts};
 use std::alloc::{AllocError, Global};
 use wtp_fields::qpack::Encoder;

@@ -13,11 +13,11 @@ ghost use Rattle.wt_c.specs.Sessions.{IsNoUrl, IsMessageField, AreMessageFields,
 ghost use Rattle.wt_c.specs.Sessions.{IsRequestOf, HasRequestFault, HasResponseFault};
 ghost use Rattle.wt_c.specs.Texts.{lines_in};
 
-use crate::answers::{BUFFER_TOO_SMALL, ERROR, INVALID, MEMORY, OK};
 use crate::fields::WtField;
 use crate::frames::write_frame;
 use crate::lists::read_fields;
 use crate::output::write_parts;
+use crate::status::{BUFFER_TOO_SMALL, ERROR, INVALID, MEMORY, OK};
 use crate::texts::{Rejection, parts_of};
 use std::alloc::{AllocError, Global};
 use wtp_core::error::ErrorCode;

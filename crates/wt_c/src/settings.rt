@@ -15,8 +15,8 @@ ghost use Rattle.wt_c.specs.declared.settings.WtSetting.{WtSetting};
 ghost use Rattle.wt_c.specs.Settings.{HoldSettings, LackSettings, ArePairsOf, AreNumbers, pairs_of};
 ghost use Rattle.wt_c.specs.Settings.{IsFaultlessBefore, AreWritable};
 
-use crate::answers::{BUFFER_TOO_SMALL, ERROR, INVALID, MEMORY, OK};
 use crate::output::write_bytes;
+use crate::status::{BUFFER_TOO_SMALL, ERROR, INVALID, MEMORY, OK};
 use std::alloc::{AllocError, Global};
 use std::borrow::CowSlice;
 use wtp_core::bytes::BytesWriter;

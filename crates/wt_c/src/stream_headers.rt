@@ -6,9 +6,9 @@ ghost use Rattle.wtp_wire.specs.HeaderWire.{header_wire};
 ghost use Rattle.wt_c.specs.Output.{WritesPrefix, TooShort};
 ghost use Rattle.wt_c.specs.StreamHeaders.{StartsWithHeader, HasHeaderFault, IsHeaderIn};
 
-use crate::answers::{BUFFER_TOO_SMALL, ERROR, INVALID, MORE, OK};
 use crate::numbers::session_of;
 use crate::output::{size_before, write_number, write_pair};
+use crate::status::{BUFFER_TOO_SMALL, ERROR, INVALID, MORE, OK};
 use wtp_core::error::ErrorCode;
 use wtp_core::varint::VarInt;
 use wtp_wire::stream_header::{StreamHeader, StreamKind, stream_type_ids};

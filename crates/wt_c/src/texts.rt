@@ -5,8 +5,8 @@ ghost use Rattle.std.specs.Str.{IsAscii};
 ghost use Rattle.wt_c.specs.Fields.{field_in, IsWithin, AreWithin};
 ghost use Rattle.wt_c.specs.Texts.{IsTextField, AreTextFields};
 
-use crate::answers::{INVALID, MEMORY};
 use crate::fields::WtField;
+use crate::status::{INVALID, MEMORY};
 
 /// The bytes of an array of texts are tested for ASCII at once if they are at most this many for
 /// each field.
@@ -131,11 +131,12 @@ fn known_texts<'a>(field: &WtField, texts: &'a [u8]) -> (&'a str, &'a str)
     }
 }
 
-/// Returns whether bytes are ASCII. If they are more than `most`, it returns `false` in any case.
-fn is_short_ascii(bytes: &[u8], most: usize) -> bool
+/// Returns whether bytes are ASCII. If they are more than `max_len`, it returns `false` in any
+/// case.
+fn is_short_ascii(bytes: &[u8], max_len: usize) -> bool
     ensures { IsTrue result → IsAscii bytes.now }
 {
-    bytes.len() <= most && bytes.is_ascii()
+    bytes.len() <= max_len && bytes.is_ascii()
 }
 
 /// Returns whether all names and values are within this many bytes.

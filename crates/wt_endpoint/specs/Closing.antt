@@ -4,8 +4,8 @@ use Rattle.wtransport_proto.specs.declared.error.ErrorCode.{ErrorCode}
 use Rattle.wtransport_proto.specs.declared.error.ErrorCode.TheVariants.{Datagram}
 use Rattle.wtransport_proto.specs.declared.error.ErrorScope.{ErrorScope}
 use Rattle.wtransport_proto.specs.declared.error.ErrorScope.TheVariants as scope
-use Rattle.wtransport_proto.specs.declared.stream.polled.IoReadError.{IoReadError}
-use Rattle.wtransport_proto.specs.declared.stream.polled.IoReadError.TheVariants.{H3, IO}
+use Rattle.wtransport_proto.specs.declared.stream.error.IoReadError.{IoReadError}
+use Rattle.wtransport_proto.specs.declared.stream.error.IoReadError.TheVariants.{H3, IO}
 use Rattle.wtransport_proto.specs.ErrorCodes.{code_number}
 use Rattle.wtransport_proto.specs.ErrorScope.{scope_of}
 use Rattle.wt_endpoint.specs.declared.closing.Closing.{Closing}

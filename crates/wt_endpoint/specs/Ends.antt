@@ -1,9 +1,9 @@
 -- How a drive of a session's stream ends (WebTransport over HTTP/3, "Session Termination").
 use Rattle.std.specs.Prelude.{◌≡◌, ◌⊎◌}
-use Rattle.wtransport_proto.specs.declared.bytes.polled.IoReadError.TheVariants.{ImmediateFin}
+use Rattle.wtransport_proto.specs.declared.bytes.error.IoReadError.TheVariants.{ImmediateFin}
 use Rattle.wtransport_proto.specs.declared.stream.driving.Driven.{Driven}
 use Rattle.wtransport_proto.specs.declared.stream.driving.Driven.TheVariants.{Ended, Waiting, Spent}
-use Rattle.wtransport_proto.specs.declared.stream.polled.IoReadError.TheVariants.{IO}
+use Rattle.wtransport_proto.specs.declared.stream.error.IoReadError.TheVariants.{IO}
 
 -- the stream ended where a frame may start
 abbrev pub HasEnded : Driven → Type 0

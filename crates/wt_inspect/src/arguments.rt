@@ -146,7 +146,7 @@ pub fn read_arguments<'a>(matches: &ArgMatches<'a>) -> Arguments<'a>
     }
 }
 
-/// Returns the kind of recording with this name.
+/// Returns the kind of recording with this name. The parser accepts only the names in `KINDS`.
 fn recorded_of(name: Option<&str>) -> Recorded
     ensures { Names (option_map (λ text. text.now) name.entry) result }
 {

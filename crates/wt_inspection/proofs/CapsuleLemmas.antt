@@ -5,8 +5,8 @@ use Rattle.wtp_wire.specs.CloseSession.{close_in}
 use Rattle.wtp_core.specs.declared.error.ErrorCode.{ErrorCode}
 use Rattle.wtp_wire.specs.declared.capsule.CapsuleKind.{CapsuleKind}
 use Rattle.wtp_wire.specs.declared.capsule.CapsuleKind.TheVariants.{CloseWebTransportSession}
-use Rattle.wt_inspection.specs.declared.capsules.Closing.{Closing}
-use Rattle.wt_inspection.specs.declared.capsules.Closing.TheVariants as closing-is
+use Rattle.wt_inspection.specs.declared.capsules.CloseOutcome.{CloseOutcome}
+use Rattle.wt_inspection.specs.declared.capsules.CloseOutcome.TheVariants as closing-is
 use Rattle.wt_inspection_model.specs.declared.item.capsule.CloseReason.{CloseReason}
 use Rattle.wt_inspection.specs.declared.reading.Next.TheVariants as next-is
 use Rattle.wt_inspection.specs.Recording.{Then, Closes, StopsWith}
@@ -18,7 +18,7 @@ use Rattle.wt_inspection.specs.Walks.{JudgesBy, JudgesClose, Judges}
 pub judges_none : (bytes : List ℕ) → capsule_in bytes ≡ None → Judges (capsule_in bytes) closing-is.Other
 judges_none bytes e = rw e refl
 
-pub judges_some : (bytes : List ℕ) (capsule : CapsuleKind × List ℕ) (closing : Closing) → capsule_in bytes ≡ Some capsule → JudgesBy capsule.0 capsule.1 closing → Judges (capsule_in bytes) closing
+pub judges_some : (bytes : List ℕ) (capsule : CapsuleKind × List ℕ) (closing : CloseOutcome) → capsule_in bytes ≡ Some capsule → JudgesBy capsule.0 capsule.1 closing → Judges (capsule_in bytes) closing
 judges_some bytes capsule closing e is = rw e is
 
 -- ---- what follows it

@@ -1,4 +1,4 @@
--- Capsules of data that is cut anywhere, turn by turn.
+-- Capsules of data that is cut anywhere, step by step.
 use Rattle.std.proofs.Common.{◌≡◌, ◌≢◌, ℕ, ◌+◌, ◌-◌, ◌<◌, ◌≤◌, ◌^◌, List, [], ◌∷◌, ◌++◌, length, take, drop, Option, Some, None, Result, Ok, Err, refl, sym, ap, subst, ◌∙◌, append_assoc, append-nil, arith, inl, length-append}
 use Rattle.std.specs.Prelude.{IsSome, IfOk, codes}
 use Rattle.std.proofs.lemmas.Bool.{le-ltb, lt-ltb}
@@ -33,9 +33,9 @@ use Rattle.wt_inspection_model.specs.declared.item.ending.Cut.{Cut}
 use Rattle.wt_inspection_model.specs.declared.item.ending.End.TheVariants as end-is
 use Rattle.wt_inspection.specs.declared.reading.Phase.{Phase}
 use Rattle.wt_inspection.specs.declared.reading.Phase.TheVariants as phase-is
-use Rattle.wt_inspection.specs.declared.capsules.Taken.{Taken}
-use Rattle.wt_inspection.specs.declared.capsules.Closing.{Closing}
-use Rattle.wt_inspection.specs.declared.capsules.Closing.TheVariants as closing-is
+use Rattle.wt_inspection.specs.declared.capsules.CapsuleBatch.{CapsuleBatch}
+use Rattle.wt_inspection.specs.declared.capsules.CloseOutcome.{CloseOutcome}
+use Rattle.wt_inspection.specs.declared.capsules.CloseOutcome.TheVariants as closing-is
 use Rattle.wt_inspection.specs.declared.capsules.CapsuleWalk.{CapsuleWalk}
 use Rattle.wt_inspection.specs.DataCapsules.{Stage, Opening, Plain, Session, IsFaulty, SaysBy, StartsCapsule, StartsCapsules, EndsWith, place_of}
 use Rattle.wt_inspection.specs.Recording.{Then, EndsStage, TakesData}
@@ -82,7 +82,7 @@ known_in kind value held k = capsule_in-begins held kind value (record {
   parts = k.parts ∙ ap (λ (x : List ℕ). k.head ++ x) (sym (append-nil value));
 })
 
-known_judged : (kind : CapsuleKind) (value held : List ℕ) (closing : Closing) → IsCapsule kind value held → (length held < 2 ^ 62 → Judges (capsule_in held) closing) → JudgesBy kind value closing
+known_judged : (kind : CapsuleKind) (value held : List ℕ) (closing : CloseOutcome) → IsCapsule kind value held → (length held < 2 ^ 62 → Judges (capsule_in held) closing) → JudgesBy kind value closing
 known_judged kind value held closing k judges =
     let few : length held < 2 ^ 62 = omega (arith, capsule_few kind value held k) in
     rw (known_in kind value held k) at judges few
@@ -181,7 +181,7 @@ lacks_none u skip_remaining held came item zero none number name announced close
     let none_due : skip_remaining ≡ 0 = omega (arith, zero) in
     (lacks_whole u skip_remaining came item none_due number name announced close lacks, holds_none None skip_remaining held refl none_due none)
 
--- ---- a turn
+-- ---- a step
 
 -- bytes of a value are skipped
 pub skips : (old : CapsuleWalk) (u : UnknownCapsule) (cursor : CapsuleCursor) (found : AnyCapsule) (came front : List ℕ) → old.unknown ≡ Some u → Fits old (length front) → AnyIs found old.cursor front cursor → Holds old came → (old.held.items ≡ []) × LacksOf u cursor.skip_remaining (came ++ front)
@@ -264,7 +264,7 @@ starts_more (first ∷ items) all bytes behind item place (next, is, where_is, a
 -- ---- the message
 
 -- a session goes on, if no capsule of the payload has a fault
-pub good_ends : (at : ℕ) (walk new : CapsuleWalk) (phase : Phase) (payload : List ℕ) (taken : Taken) (on : Then) (stage : Stage) → ((came : List ℕ) (start : ℕ) → HoldsAt walk came start → TakesPiece (place_of start at (length payload)) new (came ++ payload) taken) → taken.fault ≡ None → phase ≡ phase-is.Session new → IsStage (phase-is.Session walk) stage → (next : Stage) × TakesData stage at payload taken.items.items on on next × IsStageAt on phase next
+pub good_ends : (at : ℕ) (walk new : CapsuleWalk) (phase : Phase) (payload : List ℕ) (taken : CapsuleBatch) (on : Then) (stage : Stage) → ((came : List ℕ) (start : ℕ) → HoldsAt walk came start → TakesPiece (place_of start at (length payload)) new (came ++ payload) taken) → taken.fault ≡ None → phase ≡ phase-is.Session new → IsStage (phase-is.Session walk) stage → (next : Stage) × TakesData stage at payload taken.items.items on on next × IsStageAt on phase next
 good_ends at walk new phase payload taken on (Session held start) adds none is h =
     let place = place_of start at (length payload) in
     let (rest, starts, rests) = adds held start h in
@@ -277,7 +277,7 @@ good_ends at walk new phase payload taken on (Session held start) adds none is h
 good_ends at walk new phase payload taken on Opening adds none is h = absurd h
 good_ends at walk new phase payload taken on Plain adds none is h = absurd h
 
-pub bad_ends : (at : ℕ) (walk new : CapsuleWalk) (phase : Phase) (payload : List ℕ) (taken : Taken) (fault : Fault) (on : Then) (stage : Stage) → ((came : List ℕ) (start : ℕ) → HoldsAt walk came start → TakesPiece (place_of start at (length payload)) new (came ++ payload) taken) → taken.fault ≡ Some fault → IsStage (phase-is.Session walk) stage → (next : Stage) × TakesData stage at payload taken.items.items on (Err (end-is.Fault fault)) next × IsStageAt (Err (end-is.Fault fault)) phase next
+pub bad_ends : (at : ℕ) (walk new : CapsuleWalk) (phase : Phase) (payload : List ℕ) (taken : CapsuleBatch) (fault : Fault) (on : Then) (stage : Stage) → ((came : List ℕ) (start : ℕ) → HoldsAt walk came start → TakesPiece (place_of start at (length payload)) new (came ++ payload) taken) → taken.fault ≡ Some fault → IsStage (phase-is.Session walk) stage → (next : Stage) × TakesData stage at payload taken.items.items on (Err (end-is.Fault fault)) next × IsStageAt (Err (end-is.Fault fault)) phase next
 bad_ends at walk new phase payload taken fault on (Session held start) adds some h =
     let place = place_of start at (length payload) in
     let (rest, starts, rests) = adds held start h in
@@ -313,7 +313,7 @@ ends_cut walk (Session (b ∷ held) start) cut (h, begins) some place item missi
 ends_cut walk Opening cut h some place item missing = absurd h
 ends_cut walk Plain cut h some place item missing = absurd h
 
--- ---- all turns
+-- ---- all steps
 
 -- where a capsule began that is held before the bytes that are left
 begins_is : (came left : List ℕ) (start at size walk_at place : ℕ) → length left ≤ size → place ≡ at + (size - length left) → (came ≢ [] → walk_at ≡ place_of start at size (length (came ++ left))) → begins_at came walk_at place ≡ place_of start at size (length (came ++ left))
@@ -335,17 +335,17 @@ so_far_none walk at piece = λ held start h. (held, h.0, refl, λ some. before h
     before (b ∷ held) start some is = rw (lt-ltb (length piece) (length (b ∷ held ++ piece)) (omega (arith, length-append held piece))) is
 
 pub so_far_more : (old : CapsuleWalk) (at place : ℕ) (walk new : CapsuleWalk) (piece left front behind : List ℕ) (items : List CapsuleItem) → SoFar old at walk piece items left → length left ≤ length piece → place ≡ at + (length piece - length left) → left ≡ front ++ behind → ((came : List ℕ) → Holds walk came → Holds new (came ++ front) × (new.at ≡ begins_at came walk.at place)) → SoFar old at new piece items behind
-so_far_more old at place walk new piece left front behind items so fits is parts turns = λ held start h.
+so_far_more old at place walk new piece left front behind items so fits is parts steps = λ held start h.
     let (came, holds, starts, begun) = so held start h in
-    let (still, begins) = turns came holds in
+    let (still, begins) = steps came holds in
     let all : came ++ left ≡ (came ++ front) ++ behind = ap (λ (x : List ℕ). came ++ x) parts ∙ sym (append_assoc came front behind) in
     let at_is = begins ∙ begins_is came left start at (length piece) walk.at place fits is begun in
     (came ++ front, still, subst (λ (x : List ℕ). StartsCapsules (place_of start at (length piece)) (held ++ piece) items x) all starts, λ some. at_is ∙ ap (λ (x : List ℕ). place_of start at (length piece) (length x)) all)
 
 pub so_far_done : (old : CapsuleWalk) (at place : ℕ) (walk new : CapsuleWalk) (piece left front behind : List ℕ) (items more : List CapsuleItem) (item : CapsuleItem) → SoFar old at walk piece items left → length left ≤ length piece → place ≡ at + (length piece - length left) → left ≡ front ++ behind → ((came : List ℕ) → Holds walk came → IsWhole (came ++ front) item × Holds new [] × (item.at ≡ begins_at came walk.at place)) → more ≡ items ++ item ∷ [] → SoFar old at new piece more behind
-so_far_done old at place walk new piece left front behind items more item so fits is parts turns same = λ held start h.
+so_far_done old at place walk new piece left front behind items more item so fits is parts steps same = λ held start h.
     let (came, holds, starts, begun) = so held start h in
-    let (whole, none, begins) = turns came holds in
+    let (whole, none, begins) = steps came holds in
     let P = place_of start at (length piece) in
     let all : came ++ left ≡ (came ++ front) ++ behind = ap (λ (x : List ℕ). came ++ x) parts ∙ sym (append_assoc came front behind) in
     let at_is : item.at ≡ P (length (came ++ left)) = begins ∙ begins_is came left start at (length piece) walk.at place fits is begun in
@@ -356,17 +356,17 @@ empty : (s : List ℕ) → length s ≡ 0 → s ≡ []
 empty [] e = refl
 empty (b ∷ s) e = absurd (omega (arith, e))
 
-pub so_far_end : (old : CapsuleWalk) (at : ℕ) (walk : CapsuleWalk) (piece left : List ℕ) (taken : Taken) → SoFar old at walk piece taken.items.items left → length left ≡ 0 → taken.fault ≡ None → (held : List ℕ) (start : ℕ) → HoldsAt old held start → TakesPiece (place_of start at (length piece)) walk (held ++ piece) taken
+pub so_far_end : (old : CapsuleWalk) (at : ℕ) (walk : CapsuleWalk) (piece left : List ℕ) (taken : CapsuleBatch) → SoFar old at walk piece taken.items.items left → length left ≡ 0 → taken.fault ≡ None → (held : List ℕ) (start : ℕ) → HoldsAt old held start → TakesPiece (place_of start at (length piece)) walk (held ++ piece) taken
 so_far_end old at walk piece left taken so none good held start h =
     let (came, holds, starts, begun) = so held start h in
     let all : came ++ left ≡ came = ap (λ (x : List ℕ). came ++ x) (empty left none) ∙ append-nil came in
     let P = place_of start at (length piece) in
     (came, subst (λ (x : List ℕ). StartsCapsules P (held ++ piece) taken.items.items x) all starts, rw good (holds, λ some. begun some ∙ ap (λ (x : List ℕ). P (length x)) all))
 
-pub so_far_bad : (old : CapsuleWalk) (at place : ℕ) (walk new : CapsuleWalk) (piece left front behind : List ℕ) (taken : Taken) (fault : Fault) → SoFar old at walk piece taken.items.items left → length left ≤ length piece → place ≡ at + (length piece - length left) → left ≡ front ++ behind → ((came : List ℕ) → Holds walk came → IsBad (came ++ front) fault × IsFaultOf (begins_at came walk.at place) fault) → taken.fault ≡ Some fault → (held : List ℕ) (start : ℕ) → HoldsAt old held start → TakesPiece (place_of start at (length piece)) new (held ++ piece) taken
-so_far_bad old at place walk new piece left front behind taken fault so fits is parts turns some held start h =
+pub so_far_bad : (old : CapsuleWalk) (at place : ℕ) (walk new : CapsuleWalk) (piece left front behind : List ℕ) (taken : CapsuleBatch) (fault : Fault) → SoFar old at walk piece taken.items.items left → length left ≤ length piece → place ≡ at + (length piece - length left) → left ≡ front ++ behind → ((came : List ℕ) → Holds walk came → IsBad (came ++ front) fault × IsFaultOf (begins_at came walk.at place) fault) → taken.fault ≡ Some fault → (held : List ℕ) (start : ℕ) → HoldsAt old held start → TakesPiece (place_of start at (length piece)) new (held ++ piece) taken
+so_far_bad old at place walk new piece left front behind taken fault so fits is parts steps some held start h =
     let (came, holds, starts, begun) = so held start h in
-    let (bad, of) = turns came holds in
+    let (bad, of) = steps came holds in
     let all : came ++ left ≡ (came ++ front) ++ behind = ap (λ (x : List ℕ). came ++ x) parts ∙ sym (append_assoc came front behind) in
     let ends : EndsWith (capsule_front (came ++ left)) (Some fault.code) = subst (λ (x : List ℕ). EndsWith (capsule_front x) (Some fault.code)) (sym all) (bad behind) in
     (came ++ left, starts, rw some (ends, (of.0 ∙ begins_is came left start at (length piece) walk.at place fits is begun, of.1)))

@@ -436,22 +436,22 @@ may_not_be_cut other more = false
 
 -- how bytes end whose reading stops so: where it stops, or, if they are cut and may not be, with
 -- the fault of a frame that is cut at this place
-abbrev pub StopsSo : Bool → End → End → Type 0
-StopsSo false stop end = end ≡ stop
-StopsSo true (end-is.Cut cut) (end-is.Fault fault) =
+abbrev pub EndsStopped : Bool → End → End → Type 0
+EndsStopped false stop end = end ≡ stop
+EndsStopped true (end-is.Cut cut) (end-is.Fault fault) =
     (fault.code ≡ code-is.Frame) × (fault.at ≡ cut.at) × (fault.missing ≡ cut.missing)
-StopsSo true (end-is.Cut cut) other = ⊥
-StopsSo true stop end = end ≡ stop
+EndsStopped true (end-is.Cut cut) other = ⊥
+EndsStopped true stop end = end ≡ stop
 
 -- the end of an inspection, if more bytes may follow or not: where the reading stopped, if it did;
 -- otherwise no fault, unless there are no bytes
-abbrev pub EndsSo : Recorded → Bool → Bool → Then → Stage → End → Type 0
-EndsSo kind more empty (Err stop) stage end = StopsSo (may_not_be_cut kind more) stop end
-EndsSo kind more true (Ok next) stage end = EndsEmpty (code_of_nothing kind) end
-EndsSo kind more false (Ok next) stage end = EndsStage stage end
+abbrev pub EndsInspection : Recorded → Bool → Bool → Then → Stage → End → Type 0
+EndsInspection kind more empty (Err stop) stage end = EndsStopped (may_not_be_cut kind more) stop end
+EndsInspection kind more true (Ok next) stage end = EndsEmpty (code_of_nothing kind) end
+EndsInspection kind more false (Ok next) stage end = EndsStage stage end
 
 -- the items of a recording, after which more bytes may follow or not
 abbrev pub IsRecording : Recorded → Bool → List ℕ → List Item → End → Type 0
 IsRecording kind more bytes items end =
     (last : Then) × (final : Stage) × Reads (Ok (start_of kind)) Opening bytes items last final []
-    × EndsSo kind more (length bytes == 0) last final end
+    × EndsInspection kind more (length bytes == 0) last final end

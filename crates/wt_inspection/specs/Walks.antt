@@ -15,11 +15,11 @@ use Rattle.wt_inspection.specs.DataCapsules.{StartsCapsules, EndsWith}
 use Rattle.wtp_wire.specs.Settings.{pair_at}
 use Rattle.wt_inspection.specs.Recording.{Then}
 use Rattle.wt_inspection.specs.declared.capsules.CapsuleWalk.{CapsuleWalk}
-use Rattle.wt_inspection.specs.declared.capsules.Closing.{Closing}
-use Rattle.wt_inspection.specs.declared.capsules.Closing.TheVariants as closing-is
-use Rattle.wt_inspection.specs.declared.capsules.Taken.{Taken}
-use Rattle.wt_inspection.specs.declared.capsules.Turn.{Turn}
-use Rattle.wt_inspection.specs.declared.capsules.Turn.TheVariants as turn-is
+use Rattle.wt_inspection.specs.declared.capsules.CloseOutcome.{CloseOutcome}
+use Rattle.wt_inspection.specs.declared.capsules.CloseOutcome.TheVariants as closing-is
+use Rattle.wt_inspection.specs.declared.capsules.CapsuleBatch.{CapsuleBatch}
+use Rattle.wt_inspection.specs.declared.capsules.WalkStep.{WalkStep}
+use Rattle.wt_inspection.specs.declared.capsules.WalkStep.TheVariants as step-is
 use Rattle.wt_inspection_model.specs.declared.item.capsule.CapsuleItem.{CapsuleItem}
 use Rattle.wt_inspection_model.specs.declared.item.ending.Fault.{Fault}
 use Rattle.wt_inspection.specs.declared.reading.Phase.{Phase}
@@ -49,9 +49,9 @@ Holds walk came =
 abbrev pub HoldsAt : CapsuleWalk → List ℕ → ℕ → Type 0
 HoldsAt walk came start = Holds walk came × (came ≢ [] → walk.at ≡ start)
 
--- ---- one turn
+-- ---- one step
 
--- a turn takes no more bytes than are missing
+-- a step takes no more bytes than are missing
 abbrev pub Fits : CapsuleWalk → ℕ → Type 0
 Fits walk n =
     0 < missing_from walk.cursor walk.held.items → n ≤ missing_from walk.cursor walk.held.items
@@ -74,24 +74,24 @@ abbrev pub IsFaultOf : ℕ → Fault → Type 0
 IsFaultOf start fault = (fault.at ≡ start) × (fault.missing ≡ 0)
 
 -- what these bytes of a capsule that begins there lead to
-abbrev pub Turned : ℕ → Turn → CapsuleWalk → List ℕ → Type 0
-Turned start turn-is.More walk bytes = Holds walk bytes × (walk.at ≡ start)
-Turned start (turn-is.Done item) walk bytes =
+abbrev pub Stepped : ℕ → WalkStep → CapsuleWalk → List ℕ → Type 0
+Stepped start step-is.More walk bytes = Holds walk bytes × (walk.at ≡ start)
+Stepped start (step-is.Done item) walk bytes =
     IsWhole bytes item × Holds walk [] × (item.at ≡ start)
-Turned start (turn-is.Fault fault) walk bytes = IsBad bytes fault × IsFaultOf start fault
+Stepped start (step-is.Fault fault) walk bytes = IsBad bytes fault × IsFaultOf start fault
 
 -- what a complete capsule that closes its session is
-abbrev pub JudgesClose : Option (ℕ × List ℕ) → Closing → Type 0
+abbrev pub JudgesClose : Option (ℕ × List ℕ) → CloseOutcome → Type 0
 JudgesClose found closing-is.Other = ⊥
 JudgesClose found (closing-is.Close reason) = HasText found (Some reason)
 JudgesClose found (closing-is.Bad code) = (found ≡ None) × (code ≡ Datagram)
 
 -- what a complete capsule of this kind with this value is
-abbrev pub JudgesBy : CapsuleKind → List ℕ → Closing → Type 0
+abbrev pub JudgesBy : CapsuleKind → List ℕ → CloseOutcome → Type 0
 JudgesBy CloseWebTransportSession value closing = JudgesClose (close_in value) closing
 
 -- the same of a capsule that may be of another type
-abbrev pub Judges : Option (CapsuleKind × List ℕ) → Closing → Type 0
+abbrev pub Judges : Option (CapsuleKind × List ℕ) → CloseOutcome → Type 0
 Judges (Some capsule) closing = JudgesBy capsule.0 capsule.1 closing
 Judges None closing = closing ≡ closing-is.Other
 
@@ -104,7 +104,7 @@ Rests start (Some fault) walk rest =
     EndsWith (capsule_front rest) (Some fault.code) × IsFaultOf start fault
 
 -- the capsules of all bytes that came, and what is held of the rest
-abbrev pub TakesPiece : (ℕ → ℕ) → CapsuleWalk → List ℕ → Taken → Type 0
+abbrev pub TakesPiece : (ℕ → ℕ) → CapsuleWalk → List ℕ → CapsuleBatch → Type 0
 TakesPiece place walk all taken =
     (rest : List ℕ)
     × StartsCapsules place all taken.items.items rest

@@ -10,12 +10,12 @@ ghost use Rattle.wt_inspection.specs.Recording.{Closes, IsNext};
 ghost use Rattle.wt_inspection.specs.CapsuleNames.{capsule_name};
 ghost use Rattle.wt_inspection.specs.DataCapsules.{place_of};
 ghost use Rattle.wt_inspection.specs.Walks.{Fits, Holds, HoldsAt, IsFaultOf, JudgesBy, JudgesClose};
-ghost use Rattle.wt_inspection.specs.Walks.{Judges, LacksOf, TakesPiece, Turned, begins_at};
+ghost use Rattle.wt_inspection.specs.Walks.{Judges, LacksOf, TakesPiece, Stepped, begins_at};
 
-use crate::reading::{Next, Reading, Step, cut, fault, fault_at};
+use crate::reading::{Next, Reading, Step, Then, cut, fault, fault_at};
 use std::alloc::{AllocError, Global};
 use std::borrow::CowSlice;
-use wt_inspection_model::item::{CapsuleItem, CloseReason, Content, Cut, End, Fault};
+use wt_inspection_model::item::{CapsuleItem, CloseReason, Content, Cut, Fault};
 use wtp_core::error::{ErrorCode, Refused};
 use wtp_core::varint::VarInt;
 use wtp_wire::capsule::capsules::CloseWebTransportSession;
@@ -40,14 +40,14 @@ pub(crate) struct CapsuleWalk {
 
 /// The capsules that end in a piece of data, and the first fault.
 #[derive(Drop)]
-pub(crate) struct Taken {
+pub(crate) struct CapsuleBatch {
     pub(crate) items: Vec<CapsuleItem>,
     pub(crate) fault: Option<Fault>,
 }
 
 /// What some bytes of a capsule lead to.
 #[derive(Drop)]
-enum Turn {
+enum WalkStep {
     /// Nothing yet.
     More,
     /// The capsule is complete.
@@ -58,7 +58,7 @@ enum Turn {
 
 /// What a complete capsule says of its session.
 #[derive(Drop)]
-enum Closing {
+enum CloseOutcome {
     /// Nothing: it is of another type.
     Other,
     /// The session is closed.
@@ -83,7 +83,7 @@ impl CapsuleWalk {
 
     /// Takes a piece, which begins at this place. Returns the capsules that end in it, up to the
     /// first fault.
-    pub(crate) fn add(&mut self, at: usize, piece: &[u8]) -> Result<Taken, AllocError>
+    pub(crate) fn add(&mut self, at: usize, piece: &[u8]) -> Result<CapsuleBatch, AllocError>
         requires { at + length piece.now < 2 ^ 64 }
         ensures { IfOk result (λ taken. (came : List ℕ) (start : ℕ) → HoldsAt self.old came start
             → TakesPiece (place_of start at (length piece.now)) self.new (came ++ piece.now)
@@ -91,17 +91,17 @@ impl CapsuleWalk {
     {
         let mut items = Vec::new(self.alloc);
         let mut rest = piece;
-        'turns: loop {
+        'steps: loop {
             if rest.is_empty() {
-                return Ok(Taken { items, fault: None });
+                return Ok(CapsuleBatch { items, fault: None });
             }
             let place = at + (piece.len() - rest.len());
             let (front, behind) = rest.split_at(self.next_len(rest.len()));
-            match self.turn(place, front)? {
-                Turn::More => {}
-                Turn::Done(item) => items.push(item)?,
-                Turn::Fault(fault) => {
-                    return Ok(Taken {
+            match self.step(place, front)? {
+                WalkStep::More => {}
+                WalkStep::Done(item) => items.push(item)?,
+                WalkStep::Fault(fault) => {
+                    return Ok(CapsuleBatch {
                         items,
                         fault: Some(fault),
                     });
@@ -123,10 +123,10 @@ impl CapsuleWalk {
     }
 
     /// Takes these bytes, which are no more than are missing. The first is at this place.
-    fn turn(&mut self, place: usize, front: &[u8]) -> Result<Turn, AllocError>
+    fn step(&mut self, place: usize, front: &[u8]) -> Result<WalkStep, AllocError>
         requires { Fits self.old (length front.now) }
-        ensures { IfOk result (λ turn. (came : List ℕ) → Holds self.old came
-            → Turned (begins_at came self.old.at place) turn self.new (came ++ front.now)) }
+        ensures { IfOk result (λ step. (came : List ℕ) → Holds self.old came
+            → Stepped (begins_at came self.old.at place) step self.new (came ++ front.now)) }
     {
         match self.unknown {
             Some(unknown) => Ok(self.skip(unknown, front)),
@@ -135,28 +135,28 @@ impl CapsuleWalk {
     }
 
     /// Takes bytes of an unknown capsule's value, which the cursor skips.
-    fn skip(&mut self, unknown: UnknownCapsule, front: &[u8]) -> Turn
+    fn skip(&mut self, unknown: UnknownCapsule, front: &[u8]) -> WalkStep
         requires unknown { self.old.unknown ≡ Some unknown }
         requires fits { Fits self.old (length front.now) }
         ensures { (place : ℕ) (came : List ℕ) → Holds self.old came
-            → Turned (begins_at came self.old.at place) result self.new (came ++ front.now) }
+            → Stepped (begins_at came self.old.at place) result self.new (came ++ front.now) }
     {
         self.cursor.next_any(front);
         self.go_on(unknown)
     }
 
     /// Takes bytes of a capsule that are held until it is complete.
-    fn hold(&mut self, place: usize, front: &[u8]) -> Result<Turn, AllocError>
+    fn hold(&mut self, place: usize, front: &[u8]) -> Result<WalkStep, AllocError>
         requires none { self.old.unknown ≡ None }
         requires fits { Fits self.old (length front.now) }
-        ensures { IfOk result (λ turn. (came : List ℕ) → Holds self.old came
-            → Turned (begins_at came self.old.at place) turn self.new (came ++ front.now)) }
+        ensures { IfOk result (λ step. (came : List ℕ) → Holds self.old came
+            → Stepped (begins_at came self.old.at place) step self.new (came ++ front.now)) }
     {
         self.at = self.start_at(place);
         self.held.extend_from_slice(front)?;
         match self.cursor.next_any(self.held.as_slice()) {
-            AnyCapsule::More(_) => Ok(Turn::More),
-            AnyCapsule::TooLong => Ok(Turn::Fault(too_long(self.at))),
+            AnyCapsule::More(_) => Ok(WalkStep::More),
+            AnyCapsule::TooLong => Ok(WalkStep::Fault(too_long(self.at))),
             AnyCapsule::Unknown(unknown) => {
                 self.held.clear();
                 Ok(self.go_on(unknown))
@@ -173,17 +173,17 @@ impl CapsuleWalk {
     }
 
     /// Returns the unknown capsule, if none of its value is missing.
-    fn go_on(&mut self, unknown: UnknownCapsule) -> Turn
+    fn go_on(&mut self, unknown: UnknownCapsule) -> WalkStep
         ensures { (came : List ℕ) → self.old.held.items ≡ []
             → LacksOf unknown self.old.cursor.skip_remaining came
-            → Turned self.old.at result self.new came }
+            → Stepped self.old.at result self.new came }
     {
         if self.cursor.skip_remaining > 0 {
             self.unknown = Some(unknown);
-            return Turn::More;
+            return WalkStep::More;
         }
         self.unknown = None;
-        Turn::Done(capsule_of(
+        WalkStep::Done(capsule_of(
             self.at,
             unknown.number,
             unknown.announced.into_inner(),
@@ -192,23 +192,23 @@ impl CapsuleWalk {
     }
 
     /// Returns the capsule of a known kind that is held.
-    fn complete(&mut self, found: CapsuleSpan) -> Result<Turn, AllocError>
+    fn complete(&mut self, found: CapsuleSpan) -> Result<WalkStep, AllocError>
         requires { found.end ≤ length self.old.held.items }
-        ensures { IfOk result (λ turn. self.old.unknown ≡ None → self.old.cursor.skip_remaining ≡ 0
+        ensures { IfOk result (λ step. self.old.unknown ≡ None → self.old.cursor.skip_remaining ≡ 0
             → IsCapsule found.kind (capsule_value found self.old.held.items) self.old.held.items
-            → Turned self.old.at turn self.new self.old.held.items) }
+            → Stepped self.old.at step self.new self.old.held.items) }
     {
         let closing = closing_of(self.alloc, self.held.as_slice())?;
         self.held.clear();
         let number = found.kind.id();
         let announced = (found.end - found.start) as u64;
         match closing {
-            Closing::Other => Ok(Turn::Done(capsule_of(self.at, number, announced, None))),
-            Closing::Close(close) => {
+            CloseOutcome::Other => Ok(WalkStep::Done(capsule_of(self.at, number, announced, None))),
+            CloseOutcome::Close(close) => {
                 let item = capsule_of(self.at, number, announced, Some(close));
-                Ok(Turn::Done(item))
+                Ok(WalkStep::Done(item))
             }
-            Closing::Bad(code) => Ok(Turn::Fault(fault_at(self.at, code, BAD_CLOSE))),
+            CloseOutcome::Bad(code) => Ok(WalkStep::Fault(fault_at(self.at, code, BAD_CLOSE))),
         }
     }
 
@@ -330,35 +330,35 @@ fn read_close(
     alloc: Global,
     at: usize,
     bytes: &[u8],
-) -> Result<(Option<CloseReason>, Result<Next, End>), AllocError>
+) -> Result<(Option<CloseReason>, Then), AllocError>
     ensures { IfOk result (λ found. length bytes.now < 2 ^ 62
         → Closes at (capsule_in bytes.now) found.0 found.1) }
 {
     match closing_of(alloc, bytes)? {
-        Closing::Other => Ok((None, Ok(Next::Capsules))),
-        Closing::Close(found) => Ok((Some(found), Ok(Next::Capsules))),
-        Closing::Bad(code) => Ok((None, Err(fault(at, code, BAD_CLOSE)))),
+        CloseOutcome::Other => Ok((None, Ok(Next::Capsules))),
+        CloseOutcome::Close(found) => Ok((Some(found), Ok(Next::Capsules))),
+        CloseOutcome::Bad(code) => Ok((None, Err(fault(at, code, BAD_CLOSE)))),
     }
 }
 
 /// Returns what the capsule that these bytes are says of its session.
 #[tactic(auto, using(crate::proofs::CapsuleLemmas::judges_none, crate::proofs::CapsuleLemmas::judges_some))]
-fn closing_of(alloc: Global, bytes: &[u8]) -> Result<Closing, AllocError>
+fn closing_of(alloc: Global, bytes: &[u8]) -> Result<CloseOutcome, AllocError>
     ensures { IfOk result (λ closing. length bytes.now < 2 ^ 62
         → Judges (capsule_in bytes.now) closing) }
 {
     if bytes.len() as u64 > VarInt::MAX.into_inner() {
-        return Ok(Closing::Other);
+        return Ok(CloseOutcome::Other);
     }
     let frame = Frame::new_data(CowSlice::Borrowed(bytes));
     let Some(capsule) = Capsule::with_frame(&frame) else {
-        return Ok(Closing::Other);
+        return Ok(CloseOutcome::Other);
     };
     closing_by(alloc, &capsule)
 }
 
 /// Returns what a capsule says of its session, by its kind.
-fn closing_by(alloc: Global, capsule: &Capsule<'_>) -> Result<Closing, AllocError>
+fn closing_by(alloc: Global, capsule: &Capsule<'_>) -> Result<CloseOutcome, AllocError>
     ensures { IfOk result (λ closing. JudgesBy capsule.now.0 capsule.now.1 closing) }
 {
     match capsule.kind() {
@@ -367,13 +367,13 @@ fn closing_by(alloc: Global, capsule: &Capsule<'_>) -> Result<Closing, AllocErro
 }
 
 /// Returns what a close capsule says of its session.
-fn closing_in(alloc: Global, capsule: &Capsule<'_>) -> Result<Closing, AllocError>
+fn closing_in(alloc: Global, capsule: &Capsule<'_>) -> Result<CloseOutcome, AllocError>
     requires { capsule.now.0 ≡ CapsuleKind.CloseWebTransportSession }
     ensures { IfOk result (λ closing. JudgesClose (close_in capsule.now.1) closing) }
 {
     match CloseWebTransportSession::with_capsule(alloc, capsule) {
-        Ok(close) => Ok(Closing::Close(reason_of(alloc, &close)?)),
+        Ok(close) => Ok(CloseOutcome::Close(reason_of(alloc, &close)?)),
         Err(Refused::Memory) => Err(AllocError),
-        Err(Refused::Code(code)) => Ok(Closing::Bad(code)),
+        Err(Refused::Code(code)) => Ok(CloseOutcome::Bad(code)),
     }
 }

@@ -6,9 +6,9 @@ ghost use Rattle.wt_inspection.specs.Recording.{AfterSection};
 ghost use Rattle.wt_inspection.specs.Sections.{HasLines, IsSection, fault_of, field_of};
 ghost use Rattle.wt_inspection.specs.Sections.{insert_count_of};
 
-use crate::reading::{Next, fault};
+use crate::reading::{Next, Then, fault};
 use std::alloc::{AllocError, Global};
-use wt_inspection_model::item::{End, FieldSection, Line, SectionFault};
+use wt_inspection_model::item::{FieldSection, Line, SectionFault};
 use wtp_core::error::ErrorCode;
 use wtp_qpack::parts::read_integer;
 use wtp_qpack::qpack::{DecodingError, FieldBuffer, FieldLine, FieldLines};
@@ -87,12 +87,12 @@ fn section_fault(fault: DecodingError) -> Result<SectionFault, AllocError>
 }
 
 /// Returns what follows a section: these bytes, or the end of the reading if it is malformed.
-pub(crate) fn section_then(at: usize, section: &FieldSection, next: Next) -> Result<Next, End>
+pub(crate) fn section_then(at: usize, section: &FieldSection, next: Next) -> Then
     ensures { AfterSection at section.now.fault (Ok next) result }
 {
     match section.fault {
         Some(SectionFault::Malformed(cause)) => {
-            Err(fault(at, ErrorCode::Decompression, sentence(cause)))
+            Err(fault(at, ErrorCode::Decompression, describe(cause)))
         }
         Some(SectionFault::NeedsDynamicTable) => Ok(next),
         None => Ok(next),
@@ -100,7 +100,7 @@ pub(crate) fn section_then(at: usize, section: &FieldSection, next: Next) -> Res
 }
 
 /// Returns why a section is malformed.
-fn sentence(cause: DecodingError) -> &'static str {
+fn describe(cause: DecodingError) -> &'static str {
     match cause {
         DecodingError::UnexpectedFin => {
             "the field section ends within a field line (RFC 9204, section 4.5)"

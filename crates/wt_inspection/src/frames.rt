@@ -11,11 +11,11 @@ ghost use Rattle.wt_inspection.specs.Recording.{is_data, is_session, name_fault,
 
 mod warnings;
 
-use crate::capsules::Taken;
+use crate::capsules::CapsuleBatch;
 use crate::fields::{read_section, section_then};
 use crate::frames::warnings::warn_of_frame;
 use crate::message::take_section;
-use crate::reading::{Next, Phase, Reading, Step, cut, fault};
+use crate::reading::{Next, Phase, Reading, Step, Then, cut, fault};
 use crate::settings::{read_settings, settings_then};
 use std::alloc::AllocError;
 use wt_inspection_model::item::{Content, End, FrameItem, FrameName, Parts};
@@ -30,7 +30,7 @@ use wtp_wire::rules::{StreamRole, fault_of};
 #[derive(Drop)]
 struct Found {
     parts: Parts,
-    after: Result<Next, End>,
+    after: Then,
 }
 
 /// Where a frame is, and how many bytes its type and its length have.
@@ -279,7 +279,7 @@ fn judged_parts(
 {
     let at = place.at;
     if let Some(code) = name_fault(role, first, number) {
-        let end = fault(at, code, sentence(number));
+        let end = fault(at, code, describe(number));
         return Ok(Found {
             parts: Parts::Opaque,
             after: Err(end),
@@ -307,7 +307,7 @@ fn name_fault(role: StreamRole, first: bool, number: VarInt) -> Option<ErrorCode
 }
 
 /// Returns why a frame of this type may not be here.
-fn sentence(number: VarInt) -> &'static str {
+fn describe(number: VarInt) -> &'static str {
     match FrameName::of(number) {
         FrameName::Http2 => "the frame type is one of HTTP/2 (RFC 9114, section 7.2.8)",
         _ => "the frame is not allowed on this stream (RFC 9114, section 7, table 1)",
@@ -439,7 +439,7 @@ fn data_parts(
     reading: &mut Reading,
     at: usize,
     payload: &[u8],
-    on: Result<Next, End>,
+    on: Then,
 ) -> Result<Found, AllocError>
     requires { at + length payload.now < 2 ^ 64 }
     ensures parts { IfOk result (λ f. (frame : ℕ) → HasParts (FrameName.Read FrameKind.Data) frame
@@ -453,7 +453,7 @@ fn data_parts(
             after: on,
         });
     };
-    let Taken { items, fault } = walk.add(at, payload)?;
+    let CapsuleBatch { items, fault } = walk.add(at, payload)?;
     let after = match fault {
         Some(fault) => Err(End::Fault(fault)),
         None => on,

@@ -9,14 +9,14 @@
 mod capsules;
 mod fields;
 mod frames;
-mod kinds;
 pub mod laws;
 mod message;
 mod reading;
+mod recording;
 mod settings;
 mod tiling;
 
-pub use kinds::inspect;
 pub use reading::Recorded;
+pub use recording::inspect;
 pub use wt_inspection_model::item;
 pub use wt_inspection_model::item::{Content, End, Inspection, Item};

@@ -2,7 +2,7 @@
 ghost use Rattle.std.specs.Prelude.{◌≡◌, ◌++◌, ◌∷◌, [], None, Ok, Err, IfOk};
 ghost use Rattle.wt_inspection.specs.DataCapsules.{Stage};
 ghost use Rattle.wt_inspection.specs.Walks.{IsStage};
-ghost use Rattle.wt_inspection.specs.Recording.{EndsEmpty, EndsStage, IsCutAt, IsFaultAt, StopsSo};
+ghost use Rattle.wt_inspection.specs.Recording.{EndsEmpty, EndsStage, IsCutAt, IsFaultAt, EndsStopped};
 ghost use Rattle.wt_inspection.specs.Recording.{code_of_nothing, may_not_be_cut, start_of};
 
 use crate::capsules::CapsuleWalk;
@@ -82,17 +82,20 @@ pub(crate) enum Phase {
 pub(crate) struct Reading {
     pub(crate) alloc: Global,
     /// Whether a frame of a control stream was read.
-    pub(crate) begun: bool,
+    pub(crate) saw_control_frame: bool,
     pub(crate) phase: Phase,
     pub(crate) warnings: Vec<Warning>,
 }
 
-/// An item, and what follows it: the next bytes, or the end of the reading.
+/// What follows an item: the next bytes, or the end of the reading.
+pub(crate) type Then = Result<Next, End>;
+
+/// An item, and what follows it.
 #[derive(Drop)]
 pub(crate) struct Step {
     pub(crate) length: usize,
     pub(crate) content: Content,
-    pub(crate) after: Result<Next, End>,
+    pub(crate) after: Then,
 }
 
 impl Reading {
@@ -102,7 +105,7 @@ impl Reading {
     {
         Reading {
             alloc,
-            begun: false,
+            saw_control_frame: false,
             phase: Phase::Opening,
             warnings: Vec::new(alloc),
         }
@@ -198,7 +201,7 @@ pub(crate) fn cut(at: usize, item: &'static str, missing: u64) -> End
 /// Returns how bytes end whose reading stops at this end. If they are cut though the stream ends
 /// after them, that is a fault of the frame.
 pub(crate) fn end_at(kind: Recorded, open: bool, stop: End) -> End
-    ensures { StopsSo (may_not_be_cut kind «open») stop result }
+    ensures { EndsStopped (may_not_be_cut kind «open») stop result }
 {
     if !may_not_be_cut(kind, open) {
         return stop;

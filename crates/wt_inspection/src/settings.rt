@@ -5,11 +5,11 @@ ghost use Rattle.wtp_wire.specs.Settings.{AnswersSettings, settings_in};
 ghost use Rattle.wt_inspection.specs.Recording.{AfterSettings, HasFault};
 ghost use Rattle.wt_inspection.specs.SettingLines.{AreSettings, flag_of};
 
-use crate::reading::{Next, fault};
+use crate::reading::{Next, Then, fault};
 use std::alloc::{AllocError, Global};
 use std::borrow::CowSlice;
 use std::collections::BTreeSet;
-use wt_inspection_model::item::{End, SettingIssue, SettingLine};
+use wt_inspection_model::item::{SettingIssue, SettingLine};
 use wtp_core::error::{ErrorCode, Refused};
 use wtp_core::varint::VarInt;
 use wtp_wire::frame::Frame;
@@ -61,18 +61,18 @@ pub(crate) fn settings_then(
     alloc: Global,
     bytes: &[u8],
     next: Next,
-) -> Result<Result<Next, End>, AllocError>
+) -> Result<Then, AllocError>
     ensures { IfOk result (λ after. length bytes.now < 2 ^ 62
         → AfterSettings at (settings_in bytes.now) (Ok next) after) }
 {
     match refusal(alloc, bytes)? {
         None => Ok(Ok(next)),
-        Some(code) => Ok(Err(fault(at, code, sentence(code)))),
+        Some(code) => Ok(Err(fault(at, code, describe(code)))),
     }
 }
 
 /// Returns why settings are refused with this code.
-fn sentence(code: ErrorCode) -> &'static str {
+fn describe(code: ErrorCode) -> &'static str {
     match code {
         ErrorCode::Frame => "the payload ends within a setting (RFC 9114, section 7.1)",
         _ => "a setting must not be sent, or is repeated (RFC 9114, section 7.2.4)",

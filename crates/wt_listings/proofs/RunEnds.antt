@@ -1,9 +1,9 @@
 -- The endings of runs of streams that have ended.
 use Rattle.std.proofs.Common.{◌≡◌, ℕ, zero, suc, Bool, List, [], ◌∷◌, length, Option, Some, None, subst}
 use Rattle.wtransport_proto.specs.declared.error.ErrorCode.{ErrorCode}
-use Rattle.wtransport_proto.specs.declared.bytes.polled.IoReadError.TheVariants as io
-use Rattle.wtransport_proto.specs.declared.stream.polled.IoReadError.{IoReadError}
-use Rattle.wtransport_proto.specs.declared.stream.polled.IoReadError.TheVariants as stream
+use Rattle.wtransport_proto.specs.declared.bytes.error.IoReadError.TheVariants as io
+use Rattle.wtransport_proto.specs.declared.stream.error.IoReadError.{IoReadError}
+use Rattle.wtransport_proto.specs.declared.stream.error.IoReadError.TheVariants as stream
 use Rattle.wtransport_proto.specs.Content.{Content, kind_in}
 use Rattle.wtransport_proto.specs.Front.{Front, Framed, Unknown, BadId, TooBig, Short, front}
 use Rattle.wtransport_proto.specs.Rule.{Role, rule}

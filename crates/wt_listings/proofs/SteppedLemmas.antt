@@ -4,10 +4,10 @@ use Rattle.std.specs.Prelude.{codes, Result, Ok, Err, IfOk}
 use Rattle.std.proofs.Common.{◌≡◌, ◌⊎◌, ℕ, ◌+◌, ◌^◌, ◌<◌, ◌≤◌, Bool, true, List, [], ◌++◌, length, drop, inl, inr, refl, sym, ap, ◌∙◌, arith, append_assoc}
 use Rattle.std.proofs.lemmas.Fmt.{decimal_digit}
 use Rattle.std.proofs.lemmas.Grind.{flat_map-append}
-use Rattle.wtransport_proto.specs.declared.bytes.polled.IoReadError as bytes
-use Rattle.wtransport_proto.specs.declared.bytes.polled.IoReadError.TheVariants as io
-use Rattle.wtransport_proto.specs.declared.stream.polled.IoReadError.{IoReadError}
-use Rattle.wtransport_proto.specs.declared.stream.polled.IoReadError.TheVariants as stream
+use Rattle.wtransport_proto.specs.declared.bytes.error.IoReadError as bytes
+use Rattle.wtransport_proto.specs.declared.bytes.error.IoReadError.TheVariants as io
+use Rattle.wtransport_proto.specs.declared.stream.error.IoReadError.{IoReadError}
+use Rattle.wtransport_proto.specs.declared.stream.error.IoReadError.TheVariants as stream
 use Rattle.wtransport_proto.specs.declared.stream.driving.Driven.{Driven}
 use Rattle.wtransport_proto.specs.declared.stream.driving.Driven.TheVariants as driven
 use Rattle.wtransport_proto.specs.Content.{Content}
@@ -16,7 +16,7 @@ use Rattle.wtransport_proto.specs.Held.{Held, new_held}
 use Rattle.wtransport_proto.specs.HeldRun.{run_of, size_of}
 use Rattle.wtransport_proto.specs.Rule.{Role, RemoteBi}
 use Rattle.wtransport_proto.specs.Run.{Run, Ending, Open, ImmediateFin, Ended, run}
-use Rattle.wtransport_proto.specs.StreamPolling.{IsStreamFault, EndsSo}
+use Rattle.wtransport_proto.specs.StreamPolling.{IsStreamFault, EndsWithFault}
 use Rattle.wtransport_proto.proofs.HeldRunLemmas.{run_new}
 use Rattle.wt_listings.specs.declared.listing.Listing.{Listing}
 use Rattle.wt_listings.specs.CutSource.{source_of}
@@ -67,7 +67,7 @@ begun_whole items first h bytes left input none is_first fresh same =
     rw (none, is) (record { lines = refl; ending = refl })
 
 -- after the last drive, only the last line is left
-says_whole : (l : Listing) (text items : List ℕ) (fs : List Content) (x : IoReadError) (left whole : Run) → IsBegun text left whole → EndsSo left fs x → items ≡ text ++ flat_map line fs
+says_whole : (l : Listing) (text items : List ℕ) (fs : List Content) (x : IoReadError) (left whole : Run) → IsBegun text left whole → EndsWithFault left fs x → items ≡ text ++ flat_map line fs
     → HasText l (with_ending items left.ending) → HasText l (run_listing whole)
 says_whole l text items fs x left whole begun ends grown says = record {
   text = says.text ∙ ap (λ (y : List ℕ). y ++ last_line left.ending) grown
@@ -77,7 +77,7 @@ says_whole l text items fs x left whole begun ends grown says = record {
   status = says.status ∙ ap ending_status begun.ending;
 }
 
-pub says_listed : (E : Type 0) (r : Result Listing E) (text items : List ℕ) (fs : List Content) (x : IoReadError) (left whole : Run) → IsBegun text left whole → EndsSo left fs x → items ≡ text ++ flat_map line fs
+pub says_listed : (E : Type 0) (r : Result Listing E) (text items : List ℕ) (fs : List Content) (x : IoReadError) (left whole : Run) → IsBegun text left whole → EndsWithFault left fs x → items ≡ text ++ flat_map line fs
     → IfOk r (λ l. HasText l (with_ending items left.ending)) → IfOk r (λ l. HasText l (run_listing whole))
 says_listed E (Ok l) text items fs x left whole begun ends grown says = says_whole l text items fs x left whole begun ends grown says
 says_listed E (Err e) text items fs x left whole begun ends grown says = tt

@@ -16,8 +16,8 @@ source_of bytes waits_left =
 -- not ready, or returns its end and stays ready. A source that is not ready returns `NotReady`
 -- and is then ready
 abbrev pub Cuts : ReadStep → ℕ → ℕ → Bool → Bool → Type 0
-Cuts (Bytes n) room most ready next =
-    (n ≤ most) × (0 < room → ready ≡ true) × (0 < n → next ≡ false) × (n ≡ 0 → next ≡ ready)
-Cuts NotReady room most ready next = (ready ≡ false) × (next ≡ true)
-Cuts Reset room most ready next = ⊥
-Cuts NotConnected room most ready next = ⊥
+Cuts (Bytes n) room max_len ready next =
+    (n ≤ max_len) × (0 < room → ready ≡ true) × (0 < n → next ≡ false) × (n ≡ 0 → next ≡ ready)
+Cuts NotReady room max_len ready next = (ready ≡ false) × (next ≡ true)
+Cuts Reset room max_len ready next = ⊥
+Cuts NotConnected room max_len ready next = ⊥

@@ -1,8 +1,8 @@
 -- The run of a stream that is read poll by poll, and its possible errors.
 use Rattle.std.specs.Prelude.{true, List, ℕ}
-use Rattle.wtransport_proto.specs.declared.bytes.polled.IoReadError.TheVariants as io
-use Rattle.wtransport_proto.specs.declared.stream.polled.IoReadError.{IoReadError}
-use Rattle.wtransport_proto.specs.declared.stream.polled.IoReadError.TheVariants as stream
+use Rattle.wtransport_proto.specs.declared.bytes.error.IoReadError.TheVariants as io
+use Rattle.wtransport_proto.specs.declared.stream.error.IoReadError.{IoReadError}
+use Rattle.wtransport_proto.specs.declared.stream.error.IoReadError.TheVariants as stream
 use Rattle.wtransport_proto.specs.Rule.{RemoteBi}
 use Rattle.wtransport_proto.specs.Run.{Run, run, Ended}
 

@@ -153,12 +153,9 @@ impl Receiver {
                     self.join(id, entry, known)?;
                 }
                 Found::Frame(FrameType::Headers, from, to) => {
-                    if self.reads_messages {
-                        let section = rest.get(from..to).unwrap_or(&[]);
-                        let message = &mut entry.message;
-                        if self.take_section(alloc, id, at, message, section)? {
-                            entry.interims = 1;
-                        }
+                    let section = rest.get(from..to).unwrap_or(&[]);
+                    if self.take_section(alloc, id, at, &mut entry.message, section)? {
+                        entry.interims = 1;
                     }
                     self.tell(id, entry)?;
                 }
@@ -179,8 +176,8 @@ impl Receiver {
         entry.consume(alloc, start)
     }
 
-    /// Takes the next field section of a stream's message. Returns whether it is that of an interim
-    /// response.
+    /// Takes the next field section of a stream's message, if messages are read. Returns whether it
+    /// is that of an interim response.
     fn take_section(
         &mut self,
         alloc: Global,
@@ -189,6 +186,9 @@ impl Receiver {
         message: &mut Option<Message>,
         section: &[u8],
     ) -> Result<bool, AllocError> {
+        if !self.reads_messages {
+            return Ok(false);
+        }
         let mut next = message.unwrap_or(Message::new(self.role(id)));
         let is_interim = add_section(&mut self.text, alloc, id, at, &mut next, section)?;
         *message = Some(next);

@@ -1,10 +1,10 @@
 -- The steps of a write add up.
 use Rattle.std.proofs.Common.{◌≡◌, ℕ, ◌+◌, ◌≤◌, List, [], ◌++◌, length, take, drop, Result, Ok, Err, ap, ◌∙◌, arith, append_assoc, append-nil, take-add, length-take}
 use Rattle.std.proofs.lemmas.List.{drop-append-le}
-use Rattle.wtp_core.specs.declared.bytes.polled.Polled.{Polled}
-use Rattle.wtp_core.specs.declared.bytes.polled.Polled.TheVariants.{Ready, Pending, Again, NoMemory}
-use Rattle.wtp_core.specs.declared.bytes.polled.IoWriteError.{IoWriteError}
-use Rattle.wtp_core.specs.declared.bytes.polled.IoWriteError.TheVariants as fault
+use Rattle.wtp_core.specs.declared.bytes.poll.Polled.{Polled}
+use Rattle.wtp_core.specs.declared.bytes.poll.Polled.TheVariants.{Ready, Pending, Again, NoMemory}
+use Rattle.wtp_core.specs.declared.bytes.error.IoWriteError.{IoWriteError}
+use Rattle.wtp_core.specs.declared.bytes.error.IoWriteError.TheVariants as fault
 use Rattle.wtp_core.specs.Sink.{Sink, Took}
 use Rattle.wtp_core.specs.Put.{SinkTook}
 

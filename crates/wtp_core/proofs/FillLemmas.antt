@@ -2,12 +2,12 @@
 use Rattle.std.proofs.Common.{◌≡◌, ℕ, ◌+◌, ◌<◌, ◌≤◌, List, ◌++◌, length, take, drop, sym, ap, ◌∙◌, arith, append_assoc, length-append, take-add, length-take, Option, Some, None, Result, Err}
 use Rattle.std.proofs.lemmas.List.{take-take, take-append-le, take-append-drop, take_at, drop_at}
 use Rattle.wtp_core.specs.Source.{Source, AsksOnce}
-use Rattle.wtp_core.specs.Fill.{Gains, HaltIsTrue, HaltsAs, halted_poll}
-use Rattle.wtp_core.specs.declared.bytes.polled.Polled.{Polled}
-use Rattle.wtp_core.specs.declared.bytes.polled.Polled.TheVariants.{Ready}
-use Rattle.wtp_core.specs.declared.bytes.polled.IoReadError.{IoReadError}
+use Rattle.wtp_core.specs.Fill.{Gains, InterruptIsTrue, InterruptsAs, interrupted_poll}
+use Rattle.wtp_core.specs.declared.bytes.poll.Polled.{Polled}
+use Rattle.wtp_core.specs.declared.bytes.poll.Polled.TheVariants.{Ready}
+use Rattle.wtp_core.specs.declared.bytes.error.IoReadError.{IoReadError}
 use Rattle.wtp_core.specs.declared.polling.fill.Interrupted.{Interrupted}
-use Rattle.wtp_core.specs.declared.polling.fill.Interrupted.TheVariants as halt
+use Rattle.wtp_core.specs.declared.polling.fill.Interrupted.TheVariants as interrupt
 
 pub front_kept : (m n : ℕ) (xs ys zs : List ℕ) → m ≤ n → take n xs ≡ take n ys → take m ys ≡ take m zs → take m xs ≡ take m zs
 front_kept m n xs ys zs le e f = sym (take-take m n xs le) ∙ ap (λ l. take m l) e ∙ take-take m n ys le ∙ f
@@ -81,12 +81,12 @@ grown len at len_needed buf part le in_part in_buf size front =
       front = front_kept len at (part ++ drop len_needed buf) part buf le shows (front ∙ kept);
     }
 
-pub halt_then : (h : Interrupted) (a b c : Source) → b.ending ≡ a.ending → a.waits ≤ b.waits → HaltIsTrue h b c → HaltIsTrue h a c
-halt_then halt.NotReady a b c e w p = omega arith
-halt_then halt.Fin a b c e w p = (p.0, sym e ∙ p.1)
-halt_then halt.Reset a b c e w p = (p.0, sym e ∙ p.1)
-halt_then halt.NotConnected a b c e w p = (p.0, sym e ∙ p.1)
+pub interrupt_then : (h : Interrupted) (a b c : Source) → b.ending ≡ a.ending → a.waits ≤ b.waits → InterruptIsTrue h b c → InterruptIsTrue h a c
+interrupt_then interrupt.NotReady a b c e w p = omega arith
+interrupt_then interrupt.Fin a b c e w p = (p.0, sym e ∙ p.1)
+interrupt_then interrupt.Reset a b c e w p = (p.0, sym e ∙ p.1)
+interrupt_then interrupt.NotConnected a b c e w p = (p.0, sym e ∙ p.1)
 
-pub halted_as : {T E : Type 0} (wrap : IoReadError → E) (fault : Option IoReadError) (r : Polled (Result T E)) → HaltsAs (λ f e. e ≡ wrap f) fault r → r ≡ halted_poll wrap fault
-halted_as wrap None r h = h
-halted_as {E = E} wrap (Some fault) r (e, is, gave) = gave ∙ ap (λ (x : E). Ready (Err x)) is
+pub interrupted_as : {T E : Type 0} (wrap : IoReadError → E) (fault : Option IoReadError) (r : Polled (Result T E)) → InterruptsAs (λ f e. e ≡ wrap f) fault r → r ≡ interrupted_poll wrap fault
+interrupted_as wrap None r h = h
+interrupted_as {E = E} wrap (Some fault) r (e, is, gave) = gave ∙ ap (λ (x : E). Ready (Err x)) is

@@ -1,45 +1,45 @@
 -- The result of one poll for a number or into a buffer.
 use Rattle.std.proofs.Common.{◌≡◌, ℕ, ◌<◌, List, [], ◌++◌, length, take, drop, Option, Some, Result, Ok, refl, sym, ap, ◌∙◌, append-nil}
-use Rattle.wtp_core.specs.declared.bytes.polled.Polled.TheVariants.{Ready}
+use Rattle.wtp_core.specs.declared.bytes.poll.Polled.TheVariants.{Ready}
 use Rattle.wtp_core.specs.declared.polling.fill.Interrupted.{Interrupted}
-use Rattle.wtp_core.specs.declared.polling.fill.Interrupted.TheVariants as halt
+use Rattle.wtp_core.specs.declared.polling.fill.Interrupted.TheVariants as interrupt
 use Rattle.wtp_core.specs.Varint.{number_at}
 use Rattle.wtp_core.specs.VarintLenNeeded.{varint_len_needed, IsCutNumber}
 use Rattle.wtp_core.specs.Source.{Source, HasModel}
-use Rattle.wtp_core.specs.declared.bytes.polled.Polled.{Polled}
-use Rattle.wtp_core.specs.declared.bytes.polled.IoReadError.{IoReadError}
-use Rattle.wtp_core.specs.Fill.{Gains, HaltIsTrue, halt_fault, HaltsAs, halted_poll}
+use Rattle.wtp_core.specs.declared.bytes.poll.Polled.{Polled}
+use Rattle.wtp_core.specs.declared.bytes.error.IoReadError.{IoReadError}
+use Rattle.wtp_core.specs.Fill.{Gains, InterruptIsTrue, interrupt_fault, InterruptsAs, interrupted_poll}
 use Rattle.wtp_core.specs.Get.{VarintPolled, VarintGiven, BufferGiven}
 use Rattle.wtp_core.proofs.TellingLemmas.{telling_map}
-use Rattle.wtp_core.proofs.FillLemmas.{begins, halted_as}
+use Rattle.wtp_core.proofs.FillLemmas.{begins, interrupted_as}
 use Rattle.wtp_core.proofs.EncodingLemmas.{number_at-more}
 use Rattle.wtp_core.proofs.NeedLemmas.{number_at-cut, number_at-whole}
 
 -- the result of a poll that stopped after n bytes
-abbrev pub halted_at : {T : Type 0} → Interrupted → ℕ → Polled (Result T IoReadError)
-halted_at x n = halted_poll (λ f. f) (halt_fault x n)
+abbrev pub interrupted_at : {T : Type 0} → Interrupted → ℕ → Polled (Result T IoReadError)
+interrupted_at x n = interrupted_poll (λ f. f) (interrupt_fault x n)
 
-pub halted_plain : {T : Type 0} (x : Interrupted) (n : ℕ) (r : Polled (Result T IoReadError)) → HaltsAs (λ f e. e ≡ f) (halt_fault x n) r → r ≡ halted_at x n
-halted_plain x n r h = halted_as (λ f. f) (halt_fault x n) r h
+pub interrupted_plain : {T : Type 0} (x : Interrupted) (n : ℕ) (r : Polled (Result T IoReadError)) → InterruptsAs (λ f e. e ≡ f) (interrupt_fault x n) r → r ≡ interrupted_at x n
+interrupted_plain x n r h = interrupted_as (λ f. f) (interrupt_fault x n) r h
 
 -- no byte is ahead any more
 pub dry : (old new : List ℕ) (a b : Source) (e : ℕ) → Gains old new a b e → b.ahead ≡ [] → new ≡ old ++ a.ahead
 dry old new a b e g none = sym (g.kept ∙ ap (λ l. new ++ l) none ∙ append-nil new)
 
-halted_varint : (x : Interrupted) (old new : List ℕ) (a b : Source) → IsCutNumber new → Gains old new a b 1 → HaltIsTrue x a b → VarintPolled (halted_at x (length new)) old new a b
-halted_varint halt.NotReady old new a b cut g t = record { waited = t; kept = sym g.kept }
-halted_varint halt.Fin old new a b cut g t = let e = dry old new a b 1 g t.0 in (rw (← e) (number_at-cut new cut), record { none_ahead = t.0; held = e; why = rw t.1 refl })
-halted_varint halt.Reset old new a b cut g t = let e = dry old new a b 1 g t.0 in (rw (← e) (number_at-cut new cut), record { none_ahead = t.0; held = e; why = rw t.1 refl })
-halted_varint halt.NotConnected old new a b cut g t = let e = dry old new a b 1 g t.0 in (rw (← e) (number_at-cut new cut), record { none_ahead = t.0; held = e; why = rw t.1 refl })
+interrupted_varint : (x : Interrupted) (old new : List ℕ) (a b : Source) → IsCutNumber new → Gains old new a b 1 → InterruptIsTrue x a b → VarintPolled (interrupted_at x (length new)) old new a b
+interrupted_varint interrupt.NotReady old new a b cut g t = record { waited = t; kept = sym g.kept }
+interrupted_varint interrupt.Fin old new a b cut g t = let e = dry old new a b 1 g t.0 in (rw (← e) (number_at-cut new cut), record { none_ahead = t.0; held = e; why = rw t.1 refl })
+interrupted_varint interrupt.Reset old new a b cut g t = let e = dry old new a b 1 g t.0 in (rw (← e) (number_at-cut new cut), record { none_ahead = t.0; held = e; why = rw t.1 refl })
+interrupted_varint interrupt.NotConnected old new a b cut g t = let e = dry old new a b 1 g t.0 in (rw (← e) (number_at-cut new cut), record { none_ahead = t.0; held = e; why = rw t.1 refl })
 
-pub halted_varint_told : (s t : Option Source) (x : Interrupted) (n : ℕ) (old new : List ℕ) → n ≡ length new → IsCutNumber new → HasModel s t (λ a b. Gains old new a b 1 × HaltIsTrue x a b) → HasModel s t (VarintPolled (halted_at x n) old new)
-halted_varint_told s t x n old new is cut p = telling_map s t _ (VarintPolled (halted_at x n) old new) (λ a b q. rw is (halted_varint x old new a b cut q.0 q.1)) p
+pub interrupted_varint_told : (s t : Option Source) (x : Interrupted) (n : ℕ) (old new : List ℕ) → n ≡ length new → IsCutNumber new → HasModel s t (λ a b. Gains old new a b 1 × InterruptIsTrue x a b) → HasModel s t (VarintPolled (interrupted_at x n) old new)
+interrupted_varint_told s t x n old new is cut p = telling_map s t _ (VarintPolled (interrupted_at x n) old new) (λ a b q. rw is (interrupted_varint x old new a b cut q.0 q.1)) p
 
-pub halted_varint_given : (x : Interrupted) (n m : ℕ) (old new : List ℕ) → take m new ≡ old → VarintGiven (halted_at x n) old new
-halted_varint_given halt.NotReady n m old new e = begins m old new e
-halted_varint_given halt.Fin n m old new e = begins m old new e
-halted_varint_given halt.Reset n m old new e = begins m old new e
-halted_varint_given halt.NotConnected n m old new e = begins m old new e
+pub interrupted_varint_given : (x : Interrupted) (n m : ℕ) (old new : List ℕ) → take m new ≡ old → VarintGiven (interrupted_at x n) old new
+interrupted_varint_given interrupt.NotReady n m old new e = begins m old new e
+interrupted_varint_given interrupt.Fin n m old new e = begins m old new e
+interrupted_varint_given interrupt.Reset n m old new e = begins m old new e
+interrupted_varint_given interrupt.NotConnected n m old new e = begins m old new e
 
 -- a complete encoding is read, and no byte is left
 read_whole : (v k : ℕ) (h : List ℕ) → varint_len_needed h ≡ length h → number_at h ≡ Some (v, drop k h) → number_at h ≡ Some (v, [])
@@ -54,8 +54,8 @@ whole_varint_told s t v k old h w e p = telling_map s t _ (VarintPolled (Ready (
 pub whole_varint_given : (v k m : ℕ) (old h : List ℕ) → take m h ≡ old → varint_len_needed h ≡ length h → number_at h ≡ Some (v, drop k h) → VarintGiven (Ready (Ok v)) old []
 whole_varint_given v k m old h front w e = let (more, is) = begins m old h front in (refl, (more, ap number_at (sym is) ∙ read_whole v k h w e))
 
-pub halted_buffer_given : (U : Type 0) (x : Interrupted) (n m room : ℕ) (old new : List ℕ) → length new < room → take m new ≡ old → BufferGiven {U = U} (halted_at x n) room old new
-halted_buffer_given U halt.NotReady n m room old new l e = (l, begins m old new e)
-halted_buffer_given U halt.Fin n m room old new l e = (l, begins m old new e)
-halted_buffer_given U halt.Reset n m room old new l e = (l, begins m old new e)
-halted_buffer_given U halt.NotConnected n m room old new l e = (l, begins m old new e)
+pub interrupted_buffer_given : (U : Type 0) (x : Interrupted) (n m room : ℕ) (old new : List ℕ) → length new < room → take m new ≡ old → BufferGiven {U = U} (interrupted_at x n) room old new
+interrupted_buffer_given U interrupt.NotReady n m room old new l e = (l, begins m old new e)
+interrupted_buffer_given U interrupt.Fin n m room old new l e = (l, begins m old new e)
+interrupted_buffer_given U interrupt.Reset n m room old new l e = (l, begins m old new e)
+interrupted_buffer_given U interrupt.NotConnected n m room old new l e = (l, begins m old new e)

@@ -6,7 +6,7 @@ pub mod WriterLemmas
 pub mod TellingLemmas
 pub mod WaitLemmas
 pub mod FillLemmas
-pub mod PassLemmas
+pub mod SkipLemmas
 pub mod NeedLemmas
 pub mod GetLemmas
 pub mod DrainLemmas

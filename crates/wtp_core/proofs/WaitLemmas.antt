@@ -2,12 +2,12 @@
 use Rattle.std.proofs.Common.{◌≡◌, ℕ, ◌+◌, List, Option, Result, Err, arith}
 use Rattle.wtp_core.specs.declared.bytes.source.ReadStep.{ReadStep}
 use Rattle.wtp_core.specs.declared.bytes.source.ReadStep.TheVariants.{Bytes, NotReady, Reset, NotConnected}
-use Rattle.wtp_core.specs.declared.bytes.polled.IoReadError.{IoReadError}
+use Rattle.wtp_core.specs.declared.bytes.error.IoReadError.{IoReadError}
 use Rattle.wtp_core.specs.declared.polling.fill.Interrupted.{Interrupted}
-use Rattle.wtp_core.specs.declared.polling.fill.Interrupted.TheVariants as halt
+use Rattle.wtp_core.specs.declared.polling.fill.Interrupted.TheVariants as interrupt
 use Rattle.wtp_core.specs.Source.{Source, HasModel, StepMoves, StepWaits}
 use Rattle.wtp_core.specs.Polled.{WaitsAs}
-use Rattle.wtp_core.specs.Fill.{HaltWaits, halt_fault, halted_poll}
+use Rattle.wtp_core.specs.Fill.{InterruptWaits, interrupt_fault, interrupted_poll}
 use Rattle.wtp_core.proofs.TellingLemmas.{telling_map, telling_then}
 
 -- one call's count of waits
@@ -27,8 +27,8 @@ pub waits_none : (x y : Option Source) → HasModel x y (λ a b. b.waits ≡ a.w
 waits_none x y p = telling_map x y _ (λ a b. b.waits ≡ a.waits + 0) (λ a b e. omega arith) p
 
 -- a poll that stopped with a fill has the fill's waits
-pub halted_waits : (T E U : Type 0) (wrap : IoReadError → E) (h : Interrupted) (n : ℕ) (s t : Option Source) → HasModel s t (HaltWaits {U = U} (Err h)) → HasModel s t (WaitsAs {T = Result T E} (halted_poll wrap (halt_fault h n)))
-halted_waits T E U wrap halt.NotReady n s t e = e
-halted_waits T E U wrap halt.Fin n s t e = e
-halted_waits T E U wrap halt.Reset n s t e = e
-halted_waits T E U wrap halt.NotConnected n s t e = e
+pub interrupted_waits : (T E U : Type 0) (wrap : IoReadError → E) (h : Interrupted) (n : ℕ) (s t : Option Source) → HasModel s t (InterruptWaits {U = U} (Err h)) → HasModel s t (WaitsAs {T = Result T E} (interrupted_poll wrap (interrupt_fault h n)))
+interrupted_waits T E U wrap interrupt.NotReady n s t e = e
+interrupted_waits T E U wrap interrupt.Fin n s t e = e
+interrupted_waits T E U wrap interrupt.Reset n s t e = e
+interrupted_waits T E U wrap interrupt.NotConnected n s t e = e

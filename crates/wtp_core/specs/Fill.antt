@@ -1,10 +1,10 @@
 -- The effect of filling a buffer on its source.
 use Rattle.std.specs.Prelude.{◌≡◌, ℕ, ◌+◌, ◌<◌, ◌≤◌, List, [], ◌++◌, length, Option, Some, None, Result, Ok, Err}
 use Rattle.wtp_core.specs.declared.polling.fill.Interrupted.{Interrupted}
-use Rattle.wtp_core.specs.declared.polling.fill.Interrupted.TheVariants as halt
-use Rattle.wtp_core.specs.declared.bytes.polled.Polled.{Polled}
-use Rattle.wtp_core.specs.declared.bytes.polled.Polled.TheVariants.{Ready, Pending}
-use Rattle.wtp_core.specs.declared.bytes.polled.IoReadError.{IoReadError}
+use Rattle.wtp_core.specs.declared.polling.fill.Interrupted.TheVariants as interrupt
+use Rattle.wtp_core.specs.declared.bytes.poll.Polled.{Polled}
+use Rattle.wtp_core.specs.declared.bytes.poll.Polled.TheVariants.{Ready, Pending}
+use Rattle.wtp_core.specs.declared.bytes.error.IoReadError.{IoReadError}
 use Rattle.wtp_core.specs.Source.{Source, AtEnd, AtReset, AtDisconnection, HasModel}
 use Rattle.wtp_core.specs.Polled.{stop}
 
@@ -23,16 +23,16 @@ pub record Gains (held new : List ℕ) (a b : Source) (extra : ℕ) : Type 0 whe
   pub waits : a.waits ≤ b.waits
 
 -- the source is in the state that the reason states
-abbrev pub HaltIsTrue : Interrupted → Source → Source → Type 0
-HaltIsTrue halt.NotReady a b = a.waits < b.waits
-HaltIsTrue halt.Fin a b = (b.ahead ≡ []) × (a.ending ≡ AtEnd)
-HaltIsTrue halt.Reset a b = (b.ahead ≡ []) × (a.ending ≡ AtReset)
-HaltIsTrue halt.NotConnected a b = (b.ahead ≡ []) × (a.ending ≡ AtDisconnection)
+abbrev pub InterruptIsTrue : Interrupted → Source → Source → Type 0
+InterruptIsTrue interrupt.NotReady a b = a.waits < b.waits
+InterruptIsTrue interrupt.Fin a b = (b.ahead ≡ []) × (a.ending ≡ AtEnd)
+InterruptIsTrue interrupt.Reset a b = (b.ahead ≡ []) × (a.ending ≡ AtReset)
+InterruptIsTrue interrupt.NotConnected a b = (b.ahead ≡ []) × (a.ending ≡ AtDisconnection)
 
 -- the effect of a fill with this result on the bytes held and on the model of the source
 abbrev pub FillMoves : {U : Type 0} → Result U Interrupted → List ℕ → List ℕ → Source → Source → Type 0
 FillMoves (Ok _) held new a b = Gains held new a b 0
-FillMoves (Err h) held new a b = Gains held new a b 1 × HaltIsTrue h a b
+FillMoves (Err h) held new a b = Gains held new a b 1 × InterruptIsTrue h a b
 
 -- the same for a source that may have no model
 abbrev pub FillModel :
@@ -41,35 +41,35 @@ FillModel r held new old now = HasModel old now (λ a b. FillMoves r held new a 
 
 -- how often the source was not ready: once if this is the reason why no more bytes came, and
 -- otherwise never
-abbrev pub halt_waits : {U : Type 0} → Result U Interrupted → ℕ
-halt_waits (Ok _) = 0
-halt_waits (Err halt.NotReady) = 1
-halt_waits (Err halt.Fin) = 0
-halt_waits (Err halt.Reset) = 0
-halt_waits (Err halt.NotConnected) = 0
+abbrev pub interrupt_waits : {U : Type 0} → Result U Interrupted → ℕ
+interrupt_waits (Ok _) = 0
+interrupt_waits (Err interrupt.NotReady) = 1
+interrupt_waits (Err interrupt.Fin) = 0
+interrupt_waits (Err interrupt.Reset) = 0
+interrupt_waits (Err interrupt.NotConnected) = 0
 
 -- the count of waits rose by exactly this number
-abbrev pub HaltWaits : {U : Type 0} → Result U Interrupted → Source → Source → Type 0
-HaltWaits r a b = b.waits ≡ a.waits + halt_waits r
+abbrev pub InterruptWaits : {U : Type 0} → Result U Interrupted → Source → Source → Type 0
+InterruptWaits r a b = b.waits ≡ a.waits + interrupt_waits r
 
 -- the read error of a stopped fill after this many bytes of the item, or None if the source was not
 -- ready
-abbrev pub halt_fault : Interrupted → ℕ → Option IoReadError
-halt_fault halt.NotReady taken = None
-halt_fault halt.Fin taken = Some (stop taken AtEnd)
-halt_fault halt.Reset taken = Some (stop taken AtReset)
-halt_fault halt.NotConnected taken = Some (stop taken AtDisconnection)
+abbrev pub interrupt_fault : Interrupted → ℕ → Option IoReadError
+interrupt_fault interrupt.NotReady taken = None
+interrupt_fault interrupt.Fin taken = Some (stop taken AtEnd)
+interrupt_fault interrupt.Reset taken = Some (stop taken AtReset)
+interrupt_fault interrupt.NotConnected taken = Some (stop taken AtDisconnection)
 
 -- the result of a poll that stopped with this error, or Pending if there is none; `gives` relates
 -- read errors to the errors of the poll
-abbrev pub HaltsAs :
+abbrev pub InterruptsAs :
     {T E : Type 0} → (IoReadError → E → Type 0) → Option IoReadError → Polled (Result T E) → Type 0
-HaltsAs gives None result = result ≡ Pending
-HaltsAs {E = E} gives (Some fault) result = (e : E) × gives fault e × (result ≡ Ready (Err e))
+InterruptsAs gives None result = result ≡ Pending
+InterruptsAs {E = E} gives (Some fault) result = (e : E) × gives fault e × (result ≡ Ready (Err e))
 
 -- the result of a poll that stopped with this error, converted by `wrap`, or Pending if there is
 -- none
-abbrev pub halted_poll :
+abbrev pub interrupted_poll :
     {T E : Type 0} → (IoReadError → E) → Option IoReadError → Polled (Result T E)
-halted_poll wrap None = Pending
-halted_poll wrap (Some fault) = Ready (Err (wrap fault))
+interrupted_poll wrap None = Pending
+interrupted_poll wrap (Some fault) = Ready (Err (wrap fault))

@@ -1,8 +1,8 @@
 -- Polled reading of a variable-length integer, or into a buffer.
 use Rattle.std.specs.Prelude.{◌≡◌, ℕ, ◌<◌, List, [], ◌++◌, length, Some, None, Result, Ok, Err}
-use Rattle.wtp_core.specs.declared.bytes.polled.Polled.{Polled}
-use Rattle.wtp_core.specs.declared.bytes.polled.Polled.TheVariants.{Ready, Pending, Again, NoMemory}
-use Rattle.wtp_core.specs.declared.bytes.polled.IoReadError.{IoReadError}
+use Rattle.wtp_core.specs.declared.bytes.poll.Polled.{Polled}
+use Rattle.wtp_core.specs.declared.bytes.poll.Polled.TheVariants.{Ready, Pending, Again, NoMemory}
+use Rattle.wtp_core.specs.declared.bytes.error.IoReadError.{IoReadError}
 use Rattle.wtp_core.specs.Varint.{number_at}
 use Rattle.wtp_core.specs.Source.{Source}
 use Rattle.wtp_core.specs.Polled.{stop}

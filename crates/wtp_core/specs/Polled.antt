@@ -2,12 +2,12 @@
 use Rattle.std.specs.Prelude.{◌≡◌, ℕ, ◌+◌, ◌≤◌, ◌==◌, if◌then◌else◌}
 use Rattle.std.specs.declared.io.ErrorKind.{ErrorKind}
 use Rattle.std.specs.declared.io.ErrorKind.TheVariants.{ConnectionReset}
-use Rattle.wtp_core.specs.declared.bytes.polled.Polled.{Polled}
-use Rattle.wtp_core.specs.declared.bytes.polled.Polled.TheVariants.{Ready, Pending, Again, NoMemory}
-use Rattle.wtp_core.specs.declared.bytes.polled.IoReadError.{IoReadError}
-use Rattle.wtp_core.specs.declared.bytes.polled.IoReadError.TheVariants as read
-use Rattle.wtp_core.specs.declared.bytes.polled.IoWriteError.{IoWriteError}
-use Rattle.wtp_core.specs.declared.bytes.polled.IoWriteError.TheVariants as write
+use Rattle.wtp_core.specs.declared.bytes.poll.Polled.{Polled}
+use Rattle.wtp_core.specs.declared.bytes.poll.Polled.TheVariants.{Ready, Pending, Again, NoMemory}
+use Rattle.wtp_core.specs.declared.bytes.error.IoReadError.{IoReadError}
+use Rattle.wtp_core.specs.declared.bytes.error.IoReadError.TheVariants as read
+use Rattle.wtp_core.specs.declared.bytes.error.IoWriteError.{IoWriteError}
+use Rattle.wtp_core.specs.declared.bytes.error.IoWriteError.TheVariants as write
 use Rattle.wtp_core.specs.Source.{Source, SourceEnding, AtEnd, AtReset, AtDisconnection}
 
 -- the read error at this ending of the source, after this many bytes of the item

@@ -1,9 +1,9 @@
 -- Polled writing of bytes.
 use Rattle.std.specs.Prelude.{◌≡◌, ℕ, ◌<◌, ◌≤◌, List, length, take, drop, Result, Ok, Err}
-use Rattle.wtp_core.specs.declared.bytes.polled.Polled.{Polled}
-use Rattle.wtp_core.specs.declared.bytes.polled.Polled.TheVariants.{Ready, Pending, Again, NoMemory}
-use Rattle.wtp_core.specs.declared.bytes.polled.IoWriteError.{IoWriteError}
-use Rattle.wtp_core.specs.declared.bytes.polled.IoWriteError.TheVariants as fault
+use Rattle.wtp_core.specs.declared.bytes.poll.Polled.{Polled}
+use Rattle.wtp_core.specs.declared.bytes.poll.Polled.TheVariants.{Ready, Pending, Again, NoMemory}
+use Rattle.wtp_core.specs.declared.bytes.error.IoWriteError.{IoWriteError}
+use Rattle.wtp_core.specs.declared.bytes.error.IoWriteError.TheVariants as fault
 use Rattle.wtp_core.specs.Sink.{Sink, Took}
 
 -- all the bytes to be written, and the number of bytes sent

@@ -4,14 +4,14 @@ use Rattle.wtp_core.specs.declared.polling.fill.Interrupted.{Interrupted}
 use Rattle.wtp_core.specs.declared.bytes.source.ReadStep.{ReadStep}
 use Rattle.wtp_core.specs.declared.bytes.source.ReadStep.TheVariants.{Bytes, NotReady, Reset, NotConnected}
 use Rattle.wtp_core.specs.Source.{Source, AtEnd, AtReset, AtDisconnection, AsksOnce, HasModel}
-use Rattle.wtp_core.specs.Fill.{HaltIsTrue}
+use Rattle.wtp_core.specs.Fill.{InterruptIsTrue}
 
 -- the maximum number of bytes that one poll skips
-abbrev pub max_passed : ℕ
-max_passed = 4096
+abbrev pub max_skipped : ℕ
+max_skipped = 4096
 
 -- this many bytes were skipped, in at most that many calls plus `extra`
-pub record Passed (gone : ℕ) (a b : Source) (extra : ℕ) : Type 0 where
+pub record Skipped (gone : ℕ) (a b : Source) (extra : ℕ) : Type 0 where
   pub there : gone ≤ length a.ahead
   pub rest : b.ahead ≡ drop gone a.ahead
   pub ending : b.ending ≡ a.ending
@@ -20,13 +20,13 @@ pub record Passed (gone : ℕ) (a b : Source) (extra : ℕ) : Type 0 where
   pub waits : a.waits ≤ b.waits
 
 -- the effect of skipping with this result on the model of the source
-abbrev pub PassMoves : {U : Type 0} → Result U Interrupted → ℕ → Source → Source → Type 0
-PassMoves (Ok _) gone a b = Passed gone a b 0
-PassMoves (Err h) gone a b = Passed gone a b 1 × HaltIsTrue h a b
+abbrev pub SkipMoves : {U : Type 0} → Result U Interrupted → ℕ → Source → Source → Type 0
+SkipMoves (Ok _) gone a b = Skipped gone a b 0
+SkipMoves (Err h) gone a b = Skipped gone a b 1 × InterruptIsTrue h a b
 
 -- the same for a source that may have no model
-abbrev pub PassModel : {U : Type 0} → Result U Interrupted → ℕ → Option Source → Option Source → Type 0
-PassModel r gone old now = HasModel old now (λ a b. PassMoves r gone a b)
+abbrev pub SkipModel : {U : Type 0} → Result U Interrupted → ℕ → Option Source → Option Source → Type 0
+SkipModel r gone old now = HasModel old now (λ a b. SkipMoves r gone a b)
 
 -- ---- one call
 
@@ -38,12 +38,12 @@ CountFits Reset room = Unit {0}
 CountFits NotConnected room = Unit {0}
 
 -- the effect of one call that skips bytes on a source that may have no model
-abbrev pub StepPasses : ReadStep → Option Source → Option Source → Type 0
-StepPasses (Bytes n) old now =
+abbrev pub StepSkips : ReadStep → Option Source → Option Source → Type 0
+StepSkips (Bytes n) old now =
     HasModel old now
-    (λ a b. Passed n a b 1 × AsksOnce a b × (n ≡ 0 → (b.ahead ≡ []) × (a.ending ≡ AtEnd)))
-StepPasses NotReady old now = HasModel old now (λ a b. Passed 0 a b 1 × (a.waits < b.waits))
-StepPasses Reset old now =
-    HasModel old now (λ a b. Passed 0 a b 1 × (b.ahead ≡ []) × (a.ending ≡ AtReset))
-StepPasses NotConnected old now =
-    HasModel old now (λ a b. Passed 0 a b 1 × (b.ahead ≡ []) × (a.ending ≡ AtDisconnection))
+    (λ a b. Skipped n a b 1 × AsksOnce a b × (n ≡ 0 → (b.ahead ≡ []) × (a.ending ≡ AtEnd)))
+StepSkips NotReady old now = HasModel old now (λ a b. Skipped 0 a b 1 × (a.waits < b.waits))
+StepSkips Reset old now =
+    HasModel old now (λ a b. Skipped 0 a b 1 × (b.ahead ≡ []) × (a.ending ≡ AtReset))
+StepSkips NotConnected old now =
+    HasModel old now (λ a b. Skipped 0 a b 1 × (b.ahead ≡ []) × (a.ending ≡ AtDisconnection))

@@ -288,7 +288,7 @@ impl StatusCode {
     pub fn try_from_u32(value: u32) -> Result<Self, InvalidStatusCode>
         ensures { OkIff result (IsStatus value) value }
     {
-        if 100 <= value && value <= 599 {
+        if (100..=599).contains(&value) {
             Ok(StatusCode { code: value as u16 })
         } else {
             Err(InvalidStatusCode)
@@ -347,10 +347,9 @@ impl TryFrom<u64> for StatusCode {
     ghost try_from_gives = { λ n r. OkIff r (IsStatus n) n };
 
     fn try_from(value: u64) -> Result<Self, InvalidStatusCode> {
-        if value <= 599 {
-            StatusCode::try_from_u32(value as u32)
-        } else {
-            Err(InvalidStatusCode)
+        match u32::try_from(value) {
+            Ok(value) => StatusCode::try_from_u32(value),
+            Err(_) => Err(InvalidStatusCode),
         }
     }
 }

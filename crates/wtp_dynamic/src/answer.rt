@@ -39,12 +39,8 @@ fn copy_line<'a>(
         (table_line_at table.now (prefix_of prefix.now) bytes.now) }
 {
     let parts = section::read_line(room, table, prefix, bytes)?;
-    let (name, value) = room.as_slice().split_at(parts.middle);
-    let field = Entry::new(
-        alloc,
-        parts.name.unwrap_or(name),
-        parts.value.unwrap_or(value),
-    )?;
+    let (name, value) = parts.texts(room.as_slice());
+    let field = Entry::new(alloc, name, value)?;
     Ok((field, parts.rest))
 }
 

@@ -16,7 +16,7 @@ use crate::bits::has_bit;
 use crate::error::SectionError;
 use crate::insert_count;
 use crate::table::DynamicTable;
-use wtp_qpack::parts::{Texts, has_flag, read_integer, read_string, static_entry};
+use wtp_qpack::parts::{Parts, Texts, has_flag, read_integer, read_string, static_entry};
 
 /// The prefix of a section, and the bytes of its lines.
 #[derive(Clone, Copy)]
@@ -38,20 +38,6 @@ pub enum Reference {
     Back,
     /// An entry of the dynamic table, counted on from the one at the Base.
     On,
-}
-
-/// A line that was read: its texts that are where they are, and the bytes after the line. A text
-/// that is `None` is in the room.
-#[derive(Clone, Copy)]
-pub struct Parts<'a> {
-    /// The name, if it is not in the room.
-    pub name: Option<&'a [u8]>,
-    /// The value, if it is not in the room.
-    pub value: Option<&'a [u8]>,
-    /// Where in the room the value begins, after the name.
-    pub middle: usize,
-    /// The bytes after the line.
-    pub rest: &'a [u8],
 }
 
 /// Returns the Base by the sign and the Delta Base.

@@ -94,8 +94,8 @@ same_lines bytes (field ∷ fields) (other ∷ others) (after, line, more) (behi
     ok_pair : (x y : Field) (s t : List ℕ) → ◌≡◌ {A = Result (Field × List ℕ) DecodingError} (Ok (x, s)) (Ok (y, t)) → (x ≡ y) × (s ≡ t)
     ok_pair x y s t e = let pair : ◌≡◌ {A = Field × List ℕ} (x, s) (y, t) = cc e in (ap (λ (p : Field × List ℕ). p.0) pair, ap (λ (p : Field × List ℕ). p.1) pair)
 
-pub one_list : (limit most : ℕ) (section : List ℕ) (fields others : List Field) → Reaches limit section fields [] → Reaches most section others [] → fields ≡ others
-one_list limit most section fields others a b =
+pub one_list : (limit bound : ℕ) (section : List ℕ) (fields others : List Field) → Reaches limit section fields [] → Reaches bound section others [] → fields ≡ others
+one_list limit bound section fields others a b =
     let same : a.start ≡ b.start = ok_same a.start b.start (sym a.prefix ∙ b.prefix) in
     same_lines b.start fields others (subst (λ z. AreOctetLines z fields []) same a.are) b.are
   where

@@ -132,9 +132,9 @@ together : (more behind : List Bool) (out : List ℕ) (count waiting : ℕ)
 together more behind out count waiting =
     ap (λ z. bits_of out ++ z) (sym (append_assoc (low_bits count waiting) more behind)) ∙ sym (append_assoc (bits_of out) (low_bits count waiting ++ more) behind)
 
-pub goes_on : (most : ℕ) (all more behind rest : List Bool) (out new : List ℕ) (count waiting left number : ℕ) → all ≡ bits_of out ++ (low_bits count waiting ++ rest) → rest ≡ more ++ behind
-    → Adds most more out count waiting new left number → all ≡ bits_of new ++ (low_bits left number ++ behind)
-goes_on most all more behind rest out new count waiting left number e cut added =
+pub goes_on : (limit : ℕ) (all more behind rest : List Bool) (out new : List ℕ) (count waiting left number : ℕ) → all ≡ bits_of out ++ (low_bits count waiting ++ rest) → rest ≡ more ++ behind
+    → Adds limit more out count waiting new left number → all ≡ bits_of new ++ (low_bits left number ++ behind)
+goes_on limit all more behind rest out new count waiting left number e cut added =
     e ∙ ap (λ z. bits_of out ++ (low_bits count waiting ++ z)) cut ∙ together more behind out count waiting ∙ ap (λ z. z ++ behind) (sym added.same)
     ∙ append_assoc (bits_of new) (low_bits left number) behind
 
@@ -208,9 +208,9 @@ begins_cut old bytes n h =
 
 -- ---- the number of bytes
 
-pub adds_length : (most : ℕ) (more : List Bool) (old : List ℕ) (count waiting : ℕ) (new : List ℕ) (left rest : ℕ) → Adds most more old count waiting new left rest
+pub adds_length : (limit : ℕ) (more : List Bool) (old : List ℕ) (count waiting : ℕ) (new : List ℕ) (left rest : ℕ) → Adds limit more old count waiting new left rest
     → 8 * length new + left ≡ 8 * length old + count + length more
-adds_length most more old count waiting new left rest added =
+adds_length limit more old count waiting new left rest added =
     omega (arith, ap length added.same, length-append (bits_of new) (low_bits left rest), length_bits new, low_bits_length left rest, length-append (bits_of old) (low_bits count waiting ++ more), length_bits old, length-append (low_bits count waiting) more, low_bits_length count waiting)
 
 pub whole_length : (all behind : List Bool) (old out : List ℕ) (count waiting : ℕ) → bits_of old ++ all ≡ bits_of out ++ (low_bits count waiting ++ behind)

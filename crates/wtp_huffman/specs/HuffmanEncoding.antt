@@ -15,10 +15,10 @@ pub record GivesOut (old : List ℕ) (count waiting : ℕ)
 
 -- the bits `more` were added: bytes and waiting bits together grew by them, and fewer than `most`
 -- bits still wait
-pub record Adds (most : ℕ) (more : List Bool) (old : List ℕ) (count waiting : ℕ)
+pub record Adds (limit : ℕ) (more : List Bool) (old : List ℕ) (count waiting : ℕ)
     (new : List ℕ) (left rest : ℕ) : Type 0 where
   pub same : bits_of new ++ low_bits left rest ≡ bits_of old ++ (low_bits count waiting ++ more)
-  pub few : left < most
+  pub few : left < limit
 
 -- new is old, followed by the Huffman encoding of the text
 pub record AppendsHuffman (text old new : List ℕ) : Type 0 where

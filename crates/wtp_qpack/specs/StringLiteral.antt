@@ -125,11 +125,11 @@ abbrev pub is_coded : ℕ → List ℕ → Bool
 is_coded n bytes = flag_above n bytes && is_whole (integer_at n bytes)
 
 -- How the memory of a room changes, in bytes: not at all; or, if a text is decoded and the room has
--- less than `most` bytes, to at least these.
+-- less than `capacity` bytes, to at least these.
 abbrev pub Grows : Bool → ℕ → ℕ → ℕ → Type 0
-Grows is_coded most before after =
+Grows is_coded capacity before after =
     (before ≤ after)
-    × (before < after → IsTrue is_coded × (before < most) × (most ≤ after))
+    × (before < after → IsTrue is_coded × (before < capacity) × (capacity ≤ after))
 
 -- a text that is where it is, or else the text in the room
 abbrev pub text_in : List ℕ → Option (Bor (List ℕ)) → List ℕ

@@ -1,6 +1,7 @@
-//! The integers, strings and static entries of QPACK, for the crates that read and write field
-//! sections and instructions with the dynamic table.
+//! The integers, strings, static entries and lines of QPACK, for the crates that read and write
+//! field sections and instructions with the dynamic table.
 
+pub use crate::qpack::field_line::Parts;
 pub use crate::qpack::integer::{read as read_integer, write as write_integer};
 pub use crate::qpack::static_table::{entry as static_entry, first_entry_of as first_static_entry};
 pub use crate::qpack::string_literal::{

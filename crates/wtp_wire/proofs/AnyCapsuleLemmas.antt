@@ -13,7 +13,7 @@ use Rattle.wtp_wire.specs.declared.capsule.cursor.CapsuleCursor.{CapsuleCursor}
 use Rattle.wtp_wire.specs.declared.capsule.cursor.CapsuleSpan.{CapsuleSpan}
 use Rattle.wtp_wire.specs.declared.capsule.cursor.CapsuleStep.TheVariants as step-is
 use Rattle.wtp_wire.specs.declared.capsule.cursor.UnknownCapsule.{UnknownCapsule}
-use Rattle.wtp_wire.specs.AnyCapsule.{AnyIs, CapsulesOfAny, FindsKnown, FindsLongHead, FindsUnknown, IsLongStart, IsUnknownStart, IsUnknownHead, IsValueStart, LeavesPart, between, missing_from, missing_of}
+use Rattle.wtp_wire.specs.AnyCapsule.{AnyIs, CapsulesOfAny, FindsKnown, FindsLongHead, FindsUnknown, IsLongStart, IsUnknownStart, IsUnknownHead, IsKnownStart, LeavesPart, between, missing_from, missing_of}
 use Rattle.wtp_wire.specs.Capsule.{capsule_number_of, capsule_kind_of}
 use Rattle.wtp_wire.specs.CapsuleCursor.{FindsLong, IsCapsulePart, IsLeftOver, TakesPlace, WantsMore, capsule_value, held_by}
 use Rattle.wtp_wire.specs.CapsuleFront.{CapsuleFront, Found, IsCapsule, TooLong, Unknown, max_value_len, value_front, capsule_front}
@@ -22,7 +22,7 @@ use Rattle.wtp_wire.specs.FrameNeed.{frame_need, frame_need_grows, frame_need_is
 use Rattle.wtp_wire.specs.Front.{EncodesPair}
 use Rattle.wtp_wire.specs.Held.{Held, new_held}
 use Rattle.wtp_wire.specs.Settings.{pair_at}
-use Rattle.wtp_wire.proofs.CapsuleCursorLemmas.{HasPassed, capsules_by, goes_on, held_value, joins_at, over, part_few}
+use Rattle.wtp_wire.proofs.CapsuleCursorLemmas.{HasSkipped, capsules_by, goes_on, held_value, joins_at, over, part_few}
 use Rattle.wtp_wire.proofs.CapsuleFrontLemmas.{front_encoded, none_number, same_number, starts-front}
 use Rattle.wtp_wire.proofs.CapsuleLemmas.{no_kind_none}
 use Rattle.wtp_wire.proofs.CapsuleReadingLemmas.{hold, held_none, joins_due, joins_then}
@@ -78,8 +78,8 @@ start_part bytes size n v kind e l known short less = inr (record {
   parts = sym (take-append-drop size bytes);
 })
 
-pub start_value : (bytes : List ℕ) (size n v : ℕ) (kind : CapsuleKind) → pair_at bytes ≡ Some ((n, v), drop size bytes) → size ≤ length bytes → capsule_kind_of n ≡ Some kind → nat_lt (max_value_len kind) v ≡ false → v ≤ length bytes - size → IsValueStart kind size (size + v) bytes
-start_value bytes size n v kind e l known short full =
+pub start_known : (bytes : List ℕ) (size n v : ℕ) (kind : CapsuleKind) → pair_at bytes ≡ Some ((n, v), drop size bytes) → size ≤ length bytes → capsule_kind_of n ≡ Some kind → nat_lt (max_value_len kind) v ≡ false → v ≤ length bytes - size → IsKnownStart kind size (size + v) bytes
+start_known bytes size n v kind e l known short full =
     let value : between size (size + v) bytes ≡ take v (drop size bytes) = ap (λ (k : ℕ). take k (drop size bytes)) (omega arith) in
     let len : length (between size (size + v) bytes) ≡ v = ap length value ∙ omega (arith, length-take v (drop size bytes), length-drop size bytes, full) in
     record {
@@ -101,7 +101,7 @@ after_is skip_remaining a b end bytes e = rw (e, drop-drop a skip_remaining byte
 from_start : (skip_remaining b end : ℕ) (bytes : List ℕ) → end ≡ skip_remaining + b → between skip_remaining end bytes ≡ take b (drop skip_remaining bytes)
 from_start skip_remaining b end bytes e = ap (λ (k : ℕ). take k (drop skip_remaining bytes)) (omega (arith, e))
 
-pub finds_known : (p : CapsuleSpan) (old new : CapsuleCursor) (bytes : List ℕ) (kind : CapsuleKind) (a b : ℕ) → old.skip_remaining ≤ length bytes → IsValueStart kind a b (drop old.skip_remaining bytes) → p.kind ≡ kind → p.start ≡ old.skip_remaining + a → p.end ≡ old.skip_remaining + b → new.skip_remaining ≡ 0 → FindsKnown p old bytes new
+pub finds_known : (p : CapsuleSpan) (old new : CapsuleCursor) (bytes : List ℕ) (kind : CapsuleKind) (a b : ℕ) → old.skip_remaining ≤ length bytes → IsKnownStart kind a b (drop old.skip_remaining bytes) → p.kind ≡ kind → p.start ≡ old.skip_remaining + a → p.end ≡ old.skip_remaining + b → new.skip_remaining ≡ 0 → FindsKnown p old bytes new
 finds_known p old new bytes kind a b l s k e f none =
     let value : capsule_value p bytes ≡ between a b (drop old.skip_remaining bytes) = rw e (after_is old.skip_remaining a b p.end bytes f) in
     record {
@@ -151,8 +151,8 @@ leaves_none old new bytes less skip_remaining =
 -- ---- the next capsule of a known kind
 
 -- all bytes that were to be skipped came
-passed : (old : CapsuleCursor) (bytes : List ℕ) → old.skip_remaining ≤ length bytes → Joins (held_by old) bytes new_held (drop old.skip_remaining bytes)
-passed old bytes l = joins_at (held_by old) (hold [] (old.skip_remaining - length bytes)) new_held bytes (drop old.skip_remaining bytes) (drop old.skip_remaining bytes) (joins_due [] old.skip_remaining bytes (λ some. refl)) (ap (λ (n : ℕ). hold [] n) (omega (arith, l))) refl
+skipped : (old : CapsuleCursor) (bytes : List ℕ) → old.skip_remaining ≤ length bytes → Joins (held_by old) bytes new_held (drop old.skip_remaining bytes)
+skipped old bytes l = joins_at (held_by old) (hold [] (old.skip_remaining - length bytes)) new_held bytes (drop old.skip_remaining bytes) (drop old.skip_remaining bytes) (joins_due [] old.skip_remaining bytes (λ some. refl)) (ap (λ (n : ℕ). hold [] n) (omega (arith, l))) refl
 
 -- the bytes after them, up to an offset and from there on
 parts_at : (skip_remaining end : ℕ) (bytes more : List ℕ) → skip_remaining ≤ end → drop skip_remaining bytes ++ more ≡ between skip_remaining end bytes ++ (drop end bytes ++ more)
@@ -173,7 +173,7 @@ known_taken p old new bytes f =
       small = omega (arith, f.capsule.small, length-take (p.end - p.start) (drop p.start bytes), length-drop p.start bytes, f.within);
       taken = record {
         found = λ more.
-            passed old bytes (omega (arith, f.after, order, f.within)) more
+            skipped old bytes (omega (arith, f.after, order, f.within)) more
             ∙ next_front (drop old.skip_remaining bytes ++ more) (Found p.kind value (drop p.end bytes ++ more)) (starts-front (drop old.skip_remaining bytes ++ more) (Found p.kind value (drop p.end bytes ++ more)) (between old.skip_remaining p.end bytes, f.capsule, parts_at old.skip_remaining p.end bytes more (omega (arith, f.after, order))));
         empty = ap (λ (n : ℕ). hold [] n) f.skip_remaining;
       };
@@ -185,7 +185,7 @@ unknown_joins u old new bytes f more =
     let front : capsule_front (drop old.skip_remaining bytes ++ more) ≡ value_front None u.announced rest =
     front_encoded u.number u.announced (between old.skip_remaining u.start bytes) rest (drop old.skip_remaining bytes ++ more) f.head.encoded (parts_at old.skip_remaining u.start bytes more f.after)
     ∙ ap (λ (o : Option CapsuleKind). value_front o u.announced rest) (no_kind_none u.number f.head.no_kind) in
-    passed old bytes (omega (arith, f.after, f.within)) more
+    skipped old bytes (omega (arith, f.after, f.within)) more
     ∙ next_front (drop old.skip_remaining bytes ++ more) (value_front None u.announced rest) front
     ∙ over (bytes_at u.announced rest)
     ∙ sym (held_value u.announced rest)
@@ -213,7 +213,7 @@ pub long_found : (old new : CapsuleCursor) (bytes : List ℕ) → FindsLongHead 
 long_found old new bytes f = record {
   rest = drop f.end bytes;
   found = λ more.
-      passed old bytes (omega (arith, f.after, f.within)) more
+      skipped old bytes (omega (arith, f.after, f.within)) more
       ∙ next_front (drop old.skip_remaining bytes ++ more) (TooLong (drop f.end bytes ++ more)) (starts-front (drop old.skip_remaining bytes ++ more) (TooLong (drop f.end bytes ++ more)) (between old.skip_remaining f.end bytes, f.head, parts_at old.skip_remaining f.end bytes more f.after));
   same = f.same;
 }
@@ -230,13 +230,13 @@ any_goes_on any-is.TooLong old new bytes f more = goes_on step-is.TooLong old by
 
 -- ---- from an offset on
 
-pub passed_unknown : (old : Held) (self new : CapsuleCursor) (bytes : List ℕ) (at : ℕ) (u : UnknownCapsule) → HasPassed old bytes self.skip_remaining at → FindsUnknown u self (drop at bytes) new → HasPassed old bytes new.skip_remaining (at + u.start)
-passed_unknown old self new bytes at u p f = record {
+pub skipped_unknown : (old : Held) (self new : CapsuleCursor) (bytes : List ℕ) (at : ℕ) (u : UnknownCapsule) → HasSkipped old bytes self.skip_remaining at → FindsUnknown u self (drop at bytes) new → HasSkipped old bytes new.skip_remaining (at + u.start)
+skipped_unknown old self new bytes at u p f = record {
   within = omega (arith, p.within, f.within, length-drop at bytes);
   joins = joins_at old (held_by new) (held_by new) bytes (drop u.start (drop at bytes)) (drop (at + u.start) bytes) (joins_then old (held_by self) (held_by new) bytes (drop at bytes) (drop u.start (drop at bytes)) p.joins (unknown_joins u self new (drop at bytes) f)) refl (drop-drop u.start at bytes);
 }
 
-pub place_taken : (place p : CapsuleSpan) (old self new : CapsuleCursor) (bytes : List ℕ) (at : ℕ) → HasPassed (held_by old) bytes self.skip_remaining at → FindsKnown p self (drop at bytes) new → place.kind ≡ p.kind → place.start ≡ at + p.start → place.end ≡ at + p.end → TakesPlace place old bytes new
+pub place_taken : (place p : CapsuleSpan) (old self new : CapsuleCursor) (bytes : List ℕ) (at : ℕ) → HasSkipped (held_by old) bytes self.skip_remaining at → FindsKnown p self (drop at bytes) new → place.kind ≡ p.kind → place.start ≡ at + p.start → place.end ≡ at + p.end → TakesPlace place old bytes new
 place_taken place p old self new bytes at h f k e g =
     let t = known_taken p self new (drop at bytes) f in
     let size : place.end - place.start ≡ p.end - p.start = omega (arith, p.ordered) in
@@ -251,7 +251,7 @@ place_taken place p old self new bytes at h f k e g =
       };
     }
 
-pub more_wanted : (n : ℕ) (old self new : CapsuleCursor) (bytes : List ℕ) (at : ℕ) → HasPassed (held_by old) bytes self.skip_remaining at → LeavesPart n self (drop at bytes) new → WantsMore (at + n) old bytes new
+pub more_wanted : (n : ℕ) (old self new : CapsuleCursor) (bytes : List ℕ) (at : ℕ) → HasSkipped (held_by old) bytes self.skip_remaining at → LeavesPart n self (drop at bytes) new → WantsMore (at + n) old bytes new
 more_wanted n old self new bytes at h f =
     let w = part_wanted n self new (drop at bytes) f in
     let rest : drop n (drop at bytes) ≡ drop (at + n) bytes = drop-drop n at bytes in
@@ -262,7 +262,7 @@ more_wanted n old self new bytes at h f =
       joins = joins_at (held_by old) (held_by new) (held_by new) bytes (drop n (drop at bytes)) (drop (at + n) bytes) (joins_then (held_by old) (held_by self) (held_by new) bytes (drop at bytes) (drop n (drop at bytes)) h.joins w.joins) refl rest;
     }
 
-pub long_at : (old self new : CapsuleCursor) (bytes : List ℕ) (at : ℕ) → HasPassed (held_by old) bytes self.skip_remaining at → FindsLongHead self (drop at bytes) new → FindsLong old bytes old
+pub long_at : (old self new : CapsuleCursor) (bytes : List ℕ) (at : ℕ) → HasSkipped (held_by old) bytes self.skip_remaining at → FindsLongHead self (drop at bytes) new → FindsLong old bytes old
 long_at old self new bytes at h f =
     let l = long_found self new (drop at bytes) f in
     record { rest = l.rest; found = λ more. h.joins more ∙ l.found more; same = refl }

@@ -66,13 +66,13 @@ joins_at old i j bytes b c h e f = subst (λ (x : List ℕ). Joins old bytes j x
 
 -- ---- how far a call goes
 
--- the bytes were passed up to this offset, and so many after it are to be skipped
-pub record HasPassed (old : Held) (bytes : List ℕ) (skip_remaining at : ℕ) : Type 0 where
+-- the bytes were skipped up to this offset, and so many after it are to be skipped
+pub record HasSkipped (old : Held) (bytes : List ℕ) (skip_remaining at : ℕ) : Type 0 where
   pub within : at ≤ length bytes
   pub joins : Joins old bytes (hold [] skip_remaining) (drop at bytes)
 
-pub passed_none : (old : CapsuleCursor) (bytes : List ℕ) → HasPassed (held_by old) bytes old.skip_remaining 0
-passed_none old bytes = record { within = omega arith; joins = λ more. refl }
+pub skipped_none : (old : CapsuleCursor) (bytes : List ℕ) → HasSkipped (held_by old) bytes old.skip_remaining 0
+skipped_none old bytes = record { within = omega arith; joins = λ more. refl }
 
 -- ---- all capsules
 

@@ -1,19 +1,19 @@
 -- The result of a poll for a frame, once the frame is complete or the source gives no more.
 use Rattle.std.proofs.Common.{◌≡◌, ℕ, ◌+◌, ◌<◌, ◌≤◌, List, [], ◌∷◌, ◌++◌, length, refl, sym, ap, subst, ◌∙◌, arith, append_assoc, append-nil, length-append, inl, inr, Option, Some, None, Result, Err}
 use Rattle.std.proofs.lemmas.Bool.{cases_lt, lt-ltb, ne_eqb}
-use Rattle.wtp_core.specs.declared.bytes.polled.Polled.{Polled}
-use Rattle.wtp_core.specs.declared.bytes.polled.Polled.TheVariants.{Ready, NoMemory}
-use Rattle.wtp_core.specs.declared.bytes.polled.IoReadError as bytes-is
+use Rattle.wtp_core.specs.declared.bytes.poll.Polled.{Polled}
+use Rattle.wtp_core.specs.declared.bytes.poll.Polled.TheVariants.{Ready, NoMemory}
+use Rattle.wtp_core.specs.declared.bytes.error.IoReadError as bytes-is
 use Rattle.wtp_core.specs.declared.polling.fill.Interrupted.{Interrupted}
-use Rattle.wtp_core.specs.declared.polling.fill.Interrupted.TheVariants as halt
+use Rattle.wtp_core.specs.declared.polling.fill.Interrupted.TheVariants as interrupt
 use Rattle.wtp_core.specs.Source.{Source, AtEnd, AtReset, AtDisconnection, HasModel}
 use Rattle.wtp_core.specs.Polled.{stop, PollsAtMost, WaitsAs}
-use Rattle.wtp_core.specs.Fill.{Gains, HaltIsTrue, HaltsAs, halt_fault, halted_poll, halt_waits}
+use Rattle.wtp_core.specs.Fill.{Gains, InterruptIsTrue, InterruptsAs, interrupt_fault, interrupted_poll, interrupt_waits}
 use Rattle.wtp_core.specs.Varint.{bytes_at}
 use Rattle.wtp_core.proofs.EncodingLemmas.{bytes_at-append}
 use Rattle.wtp_core.proofs.TellingLemmas.{telling_map}
-use Rattle.wtp_core.proofs.FillLemmas.{halted_as}
-use Rattle.wtp_core.proofs.WaitLemmas.{halted_waits}
+use Rattle.wtp_core.proofs.FillLemmas.{interrupted_as}
+use Rattle.wtp_core.proofs.WaitLemmas.{interrupted_waits}
 use Rattle.wtp_core.proofs.GetLemmas.{dry}
 use Rattle.wtp_wire.specs.declared.frame.kind.FrameKind.{FrameKind}
 use Rattle.wtp_wire.specs.declared.frame.head.Announcement.{Announcement}
@@ -222,14 +222,14 @@ asks_left p old e a c small r g =
     record { asked = let one = g.asked in omega arith; no_less = g.no_less; ending = g.ending; waits = g.waits }
 
 -- the result of a poll whose reading stopped after n bytes
-abbrev pub halted_at : Interrupted → ℕ → Polled (Result Content IoReadError)
-halted_at x n = halted_poll (λ (f : bytes-is.IoReadError). IO f) (halt_fault x n)
+abbrev pub interrupted_at : Interrupted → ℕ → Polled (Result Content IoReadError)
+interrupted_at x n = interrupted_poll (λ (f : bytes-is.IoReadError). IO f) (interrupt_fault x n)
 
-halted_given : (x : Interrupted) (n : ℕ) (old new : List ℕ) (d : ℕ) → d ≡ 0 → Grew old new → FrameGiven (halted_at x n) (hold old d) (hold new d)
-halted_given halt.NotReady n old new d z g = keeps_all old new d z g
-halted_given halt.Fin n old new d z g = keeps_all old new d z g
-halted_given halt.Reset n old new d z g = keeps_all old new d z g
-halted_given halt.NotConnected n old new d z g = keeps_all old new d z g
+interrupted_given : (x : Interrupted) (n : ℕ) (old new : List ℕ) (d : ℕ) → d ≡ 0 → Grew old new → FrameGiven (interrupted_at x n) (hold old d) (hold new d)
+interrupted_given interrupt.NotReady n old new d z g = keeps_all old new d z g
+interrupted_given interrupt.Fin n old new d z g = keeps_all old new d z g
+interrupted_given interrupt.Reset n old new d z g = keeps_all old new d z g
+interrupted_given interrupt.NotConnected n old new d z g = keeps_all old new d z g
 
 -- no byte is ahead any more, and the bytes held are too few
 stopped_short : (old new : List ℕ) (d : ℕ) (a c : Source) (f : bytes-is.IoReadError) → d ≡ 0 → front new ≡ Short → Gains old new a c 1 → c.ahead ≡ [] → f ≡ stop (length new) a.ending → Stopped (hold old d) (hold new d) a c (IO f)
@@ -243,22 +243,22 @@ stopped_short old new d a c f z short g none is =
       why = ap (λ (x : bytes-is.IoReadError). IO x) (is ∙ ap (λ (k : ℕ). stop k a.ending) n);
     }
 
-halted_polled : (x : Interrupted) (old new : List ℕ) (d : ℕ) (a c : Source) → d ≡ 0 → front new ≡ Short → Gains old new a c 1 → HaltIsTrue x a c → FramePolled (halted_at x (length new)) (hold old d) (hold new d) a c
-halted_polled halt.NotReady old new d a c z short g t = (left_all old new d a c 1 z g, t)
-halted_polled halt.Fin old new d a c z short g t = stopped_short old new d a c (stop (length new) AtEnd) z short g t.0 (rw t.1 refl)
-halted_polled halt.Reset old new d a c z short g t = stopped_short old new d a c (stop (length new) AtReset) z short g t.0 (rw t.1 refl)
-halted_polled halt.NotConnected old new d a c z short g t = stopped_short old new d a c (stop (length new) AtDisconnection) z short g t.0 (rw t.1 refl)
+interrupted_polled : (x : Interrupted) (old new : List ℕ) (d : ℕ) (a c : Source) → d ≡ 0 → front new ≡ Short → Gains old new a c 1 → InterruptIsTrue x a c → FramePolled (interrupted_at x (length new)) (hold old d) (hold new d) a c
+interrupted_polled interrupt.NotReady old new d a c z short g t = (left_all old new d a c 1 z g, t)
+interrupted_polled interrupt.Fin old new d a c z short g t = stopped_short old new d a c (stop (length new) AtEnd) z short g t.0 (rw t.1 refl)
+interrupted_polled interrupt.Reset old new d a c z short g t = stopped_short old new d a c (stop (length new) AtReset) z short g t.0 (rw t.1 refl)
+interrupted_polled interrupt.NotConnected old new d a c z short g t = stopped_short old new d a c (stop (length new) AtDisconnection) z short g t.0 (rw t.1 refl)
 
-pub halted_polls : (s t : Option Source) (x : Interrupted) (n : ℕ) (r : Polled (Result Content IoReadError)) (old new : Part) (d : ℕ) → d ≡ 0 → n ≡ length (bytes_in new) → HaltsAs (λ f e. e ≡ IO f) (halt_fault x n) r → IsReading old → IsReading new → Grew (bytes_in old) (bytes_in new)
-    → HasModel s t (λ a c. Gains (bytes_in old) (bytes_in new) a c 1 × HaltIsTrue x a c)
+pub interrupted_polls : (s t : Option Source) (x : Interrupted) (n : ℕ) (r : Polled (Result Content IoReadError)) (old new : Part) (d : ℕ) → d ≡ 0 → n ≡ length (bytes_in new) → InterruptsAs (λ f e. e ≡ IO f) (interrupt_fault x n) r → IsReading old → IsReading new → Grew (bytes_in old) (bytes_in new)
+    → HasModel s t (λ a c. Gains (bytes_in old) (bytes_in new) a c 1 × InterruptIsTrue x a c)
     → Polls r (hold (bytes_in old) d) (hold (bytes_in new) d) s t
-halted_polls s t x n r old new d z is h was now grew p =
-    let same : r ≡ halted_at x (length (bytes_in new)) = halted_as (λ (f : bytes-is.IoReadError). IO f) (halt_fault x n) r h ∙ ap (λ (k : ℕ). halted_at x k) is in
+interrupted_polls s t x n r old new d z is h was now grew p =
+    let same : r ≡ interrupted_at x (length (bytes_in new)) = interrupted_as (λ (f : bytes-is.IoReadError). IO f) (interrupt_fault x n) r h ∙ ap (λ (k : ℕ). interrupted_at x k) is in
     record {
       was_unfinished = reading_unfinished old d z was;
       unfinished = reading_unfinished new d z now;
-      given = rw same (halted_given x (length (bytes_in new)) (bytes_in old) (bytes_in new) d z grew);
-      polled = rw same (telling_map s t _ (FramePolled (halted_at x (length (bytes_in new))) (hold (bytes_in old) d) (hold (bytes_in new) d)) (λ a c q. halted_polled x (bytes_in old) (bytes_in new) d a c z (reading_short new now) q.0 q.1) p);
+      given = rw same (interrupted_given x (length (bytes_in new)) (bytes_in old) (bytes_in new) d z grew);
+      polled = rw same (telling_map s t _ (FramePolled (interrupted_at x (length (bytes_in new))) (hold (bytes_in old) d) (hold (bytes_in new) d)) (λ a c q. interrupted_polled x (bytes_in old) (bytes_in new) d a c z (reading_short new now) q.0 q.1) p);
       asks = telling_map s t _ (PollsAtMost max_calls) (λ a c q. asks_left new (bytes_in old) 1 a c (omega arith) now q.0) p;
     }
 
@@ -305,6 +305,6 @@ no_memory_polls s t old new d z was now w grew p = record {
 }
 
 -- the waits of a poll that stopped with its source
-pub frame_halted_waits : (x : Interrupted) (n : ℕ) (s t : Option Source) (r : Polled (Result Content IoReadError)) → HaltsAs (λ f e. e ≡ IO f) (halt_fault x n) r → HasModel s t (λ a b. b.waits ≡ a.waits + halt_waits {U = Unit {0}} (Err x)) → HasModel s t (WaitsAs r)
-frame_halted_waits x n s t r h p =
-    rw (halted_as (λ (f : bytes-is.IoReadError). IO f) (halt_fault x n) r h) (halted_waits Content IoReadError (Unit {0}) (λ f. IO f) x n s t p)
+pub frame_interrupted_waits : (x : Interrupted) (n : ℕ) (s t : Option Source) (r : Polled (Result Content IoReadError)) → InterruptsAs (λ f e. e ≡ IO f) (interrupt_fault x n) r → HasModel s t (λ a b. b.waits ≡ a.waits + interrupt_waits {U = Unit {0}} (Err x)) → HasModel s t (WaitsAs r)
+frame_interrupted_waits x n s t r h p =
+    rw (interrupted_as (λ (f : bytes-is.IoReadError). IO f) (interrupt_fault x n) r h) (interrupted_waits Content IoReadError (Unit {0}) (λ f. IO f) x n s t p)

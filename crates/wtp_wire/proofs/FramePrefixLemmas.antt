@@ -146,8 +146,8 @@ announcement_skip h m w e =
     }
 
 -- the skipped bytes, followed by any bytes in the number left to skip
-pub passed_unknown : (old new : Held) (a b : Source) (s : Skips old new a b) (z : List ℕ) → length z ≡ new.skip_remaining → (old.skip_remaining ≡ 0 → IsUnknown ((s.head ++ s.payload) ++ z)) × (0 < old.skip_remaining → length ((s.head ++ s.payload) ++ z) ≡ old.skip_remaining)
-passed_unknown old new a b s z e = (
+pub skipped_unknown : (old new : Held) (a b : Source) (s : Skips old new a b) (z : List ℕ) → length z ≡ new.skip_remaining → (old.skip_remaining ≡ 0 → IsUnknown ((s.head ++ s.payload) ++ z)) × (0 < old.skip_remaining → length ((s.head ++ s.payload) ++ z) ≡ old.skip_remaining)
+skipped_unknown old new a b s z e = (
   λ d. let h = s.begun d in let size : length s.payload + new.skip_remaining ≡ length (s.payload ++ z) = omega (arith, length-append s.payload z) in
       (h.id, s.head, s.payload ++ z, h.no_kind, subst (λ (n : ℕ). EncodesPair h.id n s.head) size h.encoded, append_assoc s.head s.payload z),
   λ l. let w = s.going l in let whole = w.1 in omega (arith, length-append (s.head ++ s.payload) z, length-append s.head s.payload, ap length w.0),

@@ -16,7 +16,7 @@ use Rattle.wtp_wire.specs.declared.frame.head.Announcement.{Announcement}
 use Rattle.wtp_wire.specs.declared.frame.head.Announcement.TheVariants as announces
 use Rattle.wtp_wire.specs.declared.frame.reading.part.ReadInterrupted.{ReadInterrupted}
 use Rattle.wtp_wire.specs.declared.frame.reading.part.ReadInterrupted.TheVariants as stopped
-use Rattle.wtp_core.proofs.FillLemmas.{gains_then, halt_then, begins}
+use Rattle.wtp_core.proofs.FillLemmas.{gains_then, interrupt_then, begins}
 
 pub gains_front : (h p p' : List ℕ) (a b : Source) (e : ℕ) → Gains p p' a b e → Gains (h ++ p) (h ++ p') a b e
 gains_front h p p' a b e g = record {
@@ -59,9 +59,9 @@ which p h r stays = elim (cases_lt (length p.head) (frame_need p.head)) [
 pub read_on : (hd hd' p p' : List ℕ) (a b c : Source) (e : ℕ) → ((p ≡ []) ⊎ (hd' ≡ hd)) → Gains hd hd' a b 0 → Gains p p' b c e → Gains (hd ++ p) (hd' ++ p') a c e
 read_on hd hd' p p' a b c e w g q = gains_then (hd ++ p) (hd' ++ p) (hd' ++ p) (hd' ++ p') (hd' ++ p') a b c e (gains_after hd hd' p a b 0 w g) (gains_front hd' p p' b c e q) refl refl
 
-pub halted_on : (U V : Type 0) (x : ReadInterrupted) (hd hd' p p' : List ℕ) (a b c : Source) → ((p ≡ []) ⊎ (hd' ≡ hd)) → Gains hd hd' a b 0 → StopMoves {U = U} (Err x) p p' b c → StopMoves {U = V} (Err x) (hd ++ p) (hd' ++ p') a c
-halted_on U V (stopped.Source h) hd hd' p p' a b c w g q = (read_on hd hd' p p' a b c 1 w g q.0, halt_then h a b c g.ending g.waits q.1)
-halted_on U V stopped.NoMemory hd hd' p p' a b c w g q = read_on hd hd' p p' a b c 0 w g q
+pub interrupted_on : (U V : Type 0) (x : ReadInterrupted) (hd hd' p p' : List ℕ) (a b c : Source) → ((p ≡ []) ⊎ (hd' ≡ hd)) → Gains hd hd' a b 0 → StopMoves {U = U} (Err x) p p' b c → StopMoves {U = V} (Err x) (hd ++ p) (hd' ++ p') a c
+interrupted_on U V (stopped.Source h) hd hd' p p' a b c w g q = (read_on hd hd' p p' a b c 1 w g q.0, interrupt_then h a b c g.ending g.waits q.1)
+interrupted_on U V stopped.NoMemory hd hd' p p' a b c w g q = read_on hd hd' p p' a b c 0 w g q
 
 -- the bytes held start with those held before
 pub grew_on : (hd hd' p p' : List ℕ) → ((p ≡ []) ⊎ (hd' ≡ hd)) → Grew hd hd' → Grew p p' → Grew (hd ++ p) (hd' ++ p')
@@ -108,11 +108,11 @@ pub part_moves : (s t u : Option Source) (old new : Part) (h hd p : List ℕ) �
 part_moves s t u old new h hd p r g e e' i m q = telling_then s t u _ _ (λ a b. Gains (bytes_in old) (bytes_in new) a b 0)
     (λ x y z k j. rw i (read_on old.head h old.payload new.payload x y z 0 (which old h r g.stays) (subst (λ (l : List ℕ). Gains l h x y 0) e k) (subst (λ (l : List ℕ). Gains l new.payload y z 0) e' j))) m q
 
-pub part_halts : (U V : Type 0) (x : ReadInterrupted) (s t u : Option Source) (old new : Part) (h hd p : List ℕ) → IsReading old → HeadGoesOn old h → hd ≡ old.head → p ≡ old.payload → new.head ≡ h
+pub part_interrupts : (U V : Type 0) (x : ReadInterrupted) (s t u : Option Source) (old new : Part) (h hd p : List ℕ) → IsReading old → HeadGoesOn old h → hd ≡ old.head → p ≡ old.payload → new.head ≡ h
     → HasModel s t (λ a b. Gains hd h a b 0) → HasModel t u (λ a b. StopMoves {U = U} (Err x) p new.payload a b)
     → HasModel s u (λ a b. StopMoves {U = V} (Err x) (bytes_in old) (bytes_in new) a b)
-part_halts U V x s t u old new h hd p r g e e' i m q = telling_then s t u _ _ (λ a b. StopMoves {U = V} (Err x) (bytes_in old) (bytes_in new) a b)
-    (λ a b c k j. rw i (halted_on U V x old.head h old.payload new.payload a b c (which old h r g.stays) (subst (λ (l : List ℕ). Gains l h a b 0) e k) (subst (λ (l : List ℕ). StopMoves {U = U} (Err x) l new.payload b c) e' j))) m q
+part_interrupts U V x s t u old new h hd p r g e e' i m q = telling_then s t u _ _ (λ a b. StopMoves {U = V} (Err x) (bytes_in old) (bytes_in new) a b)
+    (λ a b c k j. rw i (interrupted_on U V x old.head h old.payload new.payload a b c (which old h r g.stays) (subst (λ (l : List ℕ). Gains l h a b 0) e k) (subst (λ (l : List ℕ). StopMoves {U = U} (Err x) l new.payload b c) e' j))) m q
 
 -- Nothing is allocated before the head is complete. A complete head is unchanged, and its payload
 -- has the allocated size.

@@ -1,25 +1,25 @@
 -- The result of a poll for a stream header.
 use Rattle.std.proofs.Common.{◌≡◌, ◌≢◌, ℕ, ◌+◌, ◌%◌, ◌==◌, ◌<◌, List, [], ◌∷◌, length, take, drop, Option, Some, None, Result, Ok, Err, refl, sym, ap, ◌∙◌, arith, inl, inr, length-drop}
 use Rattle.std.proofs.lemmas.Bool.{cases_lt, cases_Bool}
-use Rattle.wtp_core.specs.declared.bytes.polled.Polled.TheVariants.{Ready}
+use Rattle.wtp_core.specs.declared.bytes.poll.Polled.TheVariants.{Ready}
 use Rattle.wtp_core.specs.declared.polling.fill.Interrupted.{Interrupted}
-use Rattle.wtp_core.specs.declared.polling.fill.Interrupted.TheVariants as halt
+use Rattle.wtp_core.specs.declared.polling.fill.Interrupted.TheVariants as interrupt
 use Rattle.wtp_core.specs.Varint.{number_at}
 use Rattle.wtp_core.specs.VarintLenNeeded.{varint_len_needed}
 use Rattle.wtp_core.specs.Source.{Source, HasModel}
 use Rattle.wtp_core.specs.Polled.{PollsAtMost}
-use Rattle.wtp_core.specs.Fill.{Gains, HaltIsTrue, HaltsAs, halt_fault, halted_poll}
-use Rattle.wtp_core.specs.declared.bytes.polled.Polled.{Polled}
-use Rattle.wtp_core.specs.declared.bytes.polled.IoReadError as bytes-is
+use Rattle.wtp_core.specs.Fill.{Gains, InterruptIsTrue, InterruptsAs, interrupt_fault, interrupted_poll}
+use Rattle.wtp_core.specs.declared.bytes.poll.Polled.{Polled}
+use Rattle.wtp_core.specs.declared.bytes.error.IoReadError as bytes-is
 use Rattle.wtp_core.proofs.TellingLemmas.{telling_map}
-use Rattle.wtp_core.proofs.FillLemmas.{begins, halted_as}
+use Rattle.wtp_core.proofs.FillLemmas.{begins, interrupted_as}
 use Rattle.wtp_core.proofs.GetLemmas.{dry}
 use Rattle.wtp_core.proofs.NeedLemmas.{number_at-cut, number_at-full, number_at-whole}
 use Rattle.wtp_wire.specs.declared.stream_header.StreamKind.{StreamKind}
 use Rattle.wtp_wire.specs.declared.stream_header.ParseError.{ParseError}
 use Rattle.wtp_wire.specs.declared.stream_header.ParseError.TheVariants as parse
-use Rattle.wtp_wire.specs.declared.stream_header.polled.IoReadError.{IoReadError}
-use Rattle.wtp_wire.specs.declared.stream_header.polled.IoReadError.TheVariants.{Parse, IO}
+use Rattle.wtp_wire.specs.declared.stream_header.reading.IoReadError.{IoReadError}
+use Rattle.wtp_wire.specs.declared.stream_header.reading.IoReadError.TheVariants.{Parse, IO}
 use Rattle.wtp_wire.specs.StreamKind.{has_session, stream_kind_of}
 use Rattle.wtp_wire.specs.Header.{Header}
 use Rattle.wtp_wire.specs.HeaderFront.{HeaderFront, Headed, Unknown, BadId, Short, header_front, session_header_front, typed_header_front, header_extended}
@@ -141,26 +141,26 @@ whole_given (Err (Parse parse.InvalidSessionId)) m old h front w = answered m ol
 whole_given (Err (IO e)) m old h front w = absurd w
 
 -- the result of a poll that stopped after n bytes
-abbrev pub halted_at : {T : Type 0} → Interrupted → ℕ → Polled (Result T IoReadError)
-halted_at x n = halted_poll (λ (f : bytes-is.IoReadError). IO f) (halt_fault x n)
+abbrev pub interrupted_at : {T : Type 0} → Interrupted → ℕ → Polled (Result T IoReadError)
+interrupted_at x n = interrupted_poll (λ (f : bytes-is.IoReadError). IO f) (interrupt_fault x n)
 
-pub halted_header : {T : Type 0} (x : Interrupted) (n : ℕ) (r : Polled (Result T IoReadError)) → HaltsAs (λ f e. e ≡ IO f) (halt_fault x n) r → r ≡ halted_at x n
-halted_header x n r h = halted_as (λ (f : bytes-is.IoReadError). IO f) (halt_fault x n) r h
+pub interrupted_header : {T : Type 0} (x : Interrupted) (n : ℕ) (r : Polled (Result T IoReadError)) → InterruptsAs (λ f e. e ≡ IO f) (interrupt_fault x n) r → r ≡ interrupted_at x n
+interrupted_header x n r h = interrupted_as (λ (f : bytes-is.IoReadError). IO f) (interrupt_fault x n) r h
 
-halted_polled : (x : Interrupted) (old new : List ℕ) (a b : Source) → length new < header_need new → Gains old new a b 1 → HaltIsTrue x a b → HeaderPolled (halted_at x (length new)) old new a b
-halted_polled halt.NotReady old new a b cut g t = record { waited = t; kept = sym g.kept }
-halted_polled halt.Fin old new a b cut g t = let e = dry old new a b 1 g t.0 in (rw (← e) (header_cut new cut), record { none_ahead = t.0; held = e; why = rw t.1 refl })
-halted_polled halt.Reset old new a b cut g t = let e = dry old new a b 1 g t.0 in (rw (← e) (header_cut new cut), record { none_ahead = t.0; held = e; why = rw t.1 refl })
-halted_polled halt.NotConnected old new a b cut g t = let e = dry old new a b 1 g t.0 in (rw (← e) (header_cut new cut), record { none_ahead = t.0; held = e; why = rw t.1 refl })
+interrupted_polled : (x : Interrupted) (old new : List ℕ) (a b : Source) → length new < header_need new → Gains old new a b 1 → InterruptIsTrue x a b → HeaderPolled (interrupted_at x (length new)) old new a b
+interrupted_polled interrupt.NotReady old new a b cut g t = record { waited = t; kept = sym g.kept }
+interrupted_polled interrupt.Fin old new a b cut g t = let e = dry old new a b 1 g t.0 in (rw (← e) (header_cut new cut), record { none_ahead = t.0; held = e; why = rw t.1 refl })
+interrupted_polled interrupt.Reset old new a b cut g t = let e = dry old new a b 1 g t.0 in (rw (← e) (header_cut new cut), record { none_ahead = t.0; held = e; why = rw t.1 refl })
+interrupted_polled interrupt.NotConnected old new a b cut g t = let e = dry old new a b 1 g t.0 in (rw (← e) (header_cut new cut), record { none_ahead = t.0; held = e; why = rw t.1 refl })
 
-pub halted_told : (s t : Option Source) (x : Interrupted) (n : ℕ) (old new : List ℕ) → n ≡ length new → length new < header_need new → HasModel s t (λ a b. Gains old new a b 1 × HaltIsTrue x a b) → HasModel s t (HeaderPolled (halted_at x n) old new)
-halted_told s t x n old new is cut p = telling_map s t _ (HeaderPolled (halted_at x n) old new) (λ a b q. rw is (halted_polled x old new a b cut q.0 q.1)) p
+pub interrupted_told : (s t : Option Source) (x : Interrupted) (n : ℕ) (old new : List ℕ) → n ≡ length new → length new < header_need new → HasModel s t (λ a b. Gains old new a b 1 × InterruptIsTrue x a b) → HasModel s t (HeaderPolled (interrupted_at x n) old new)
+interrupted_told s t x n old new is cut p = telling_map s t _ (HeaderPolled (interrupted_at x n) old new) (λ a b q. rw is (interrupted_polled x old new a b cut q.0 q.1)) p
 
-pub halted_given : (x : Interrupted) (n m : ℕ) (old new : List ℕ) → take m new ≡ old → HeaderGiven (halted_at x n) old new
-halted_given halt.NotReady n m old new e = begins m old new e
-halted_given halt.Fin n m old new e = begins m old new e
-halted_given halt.Reset n m old new e = begins m old new e
-halted_given halt.NotConnected n m old new e = begins m old new e
+pub interrupted_given : (x : Interrupted) (n m : ℕ) (old new : List ℕ) → take m new ≡ old → HeaderGiven (interrupted_at x n) old new
+interrupted_given interrupt.NotReady n m old new e = begins m old new e
+interrupted_given interrupt.Fin n m old new e = begins m old new e
+interrupted_given interrupt.Reset n m old new e = begins m old new e
+interrupted_given interrupt.NotConnected n m old new e = begins m old new e
 
-pub asks_halted : (s t : Option Source) (x : Interrupted) (old new : List ℕ) → length new < header_need new → HasModel s t (λ a b. Gains old new a b 1 × HaltIsTrue x a b) → HasModel s t (PollsAtMost 16)
-asks_halted s t x old new cut p = telling_map s t _ (PollsAtMost 16) (λ a b q. let g = q.0 in record { asked = let one = g.asked in omega (arith, header_need_most new); no_less = g.no_less; ending = g.ending; waits = g.waits }) p
+pub asks_interrupted : (s t : Option Source) (x : Interrupted) (old new : List ℕ) → length new < header_need new → HasModel s t (λ a b. Gains old new a b 1 × InterruptIsTrue x a b) → HasModel s t (PollsAtMost 16)
+asks_interrupted s t x old new cut p = telling_map s t _ (PollsAtMost 16) (λ a b q. let g = q.0 in record { asked = let one = g.asked in omega (arith, header_need_most new); no_less = g.no_less; ending = g.ending; waits = g.waits }) p

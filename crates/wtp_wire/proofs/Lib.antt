@@ -8,7 +8,7 @@ pub mod FramePrefixLemmas
 pub mod FrameReadingLemmas
 pub mod WholeLemmas
 pub mod FramePollLemmas
-pub mod FramePassLemmas
+pub mod FrameSkipLemmas
 pub mod HeaderLemmas
 pub mod StreamKindLemmas
 pub mod HeaderFrontLemmas

@@ -4,63 +4,63 @@ use Rattle.wtp_wire.specs.Content.{Content, kind_in}
 use Rattle.wtp_wire.specs.Front.{Front, Framed, Unknown, BadId, TooBig, Short, front}
 use Rattle.wtp_wire.proofs.FrontLemmas.{framed-shorter, unknown-shorter, front-empty}
 use Rattle.wtp_wire.specs.Rule.{Role, rule}
-use Rattle.wtp_wire.specs.Run.{Run, Tail, passed, past_within, skip_unknown, ends, judged, next_run, run_within, run, run_stop}
+use Rattle.wtp_wire.specs.Run.{Run, Tail, skip_case, skip_within, skip_unknown, ends, judged, next_run, run_within, run, run_stop}
 
-passed_same : (c : Front) (f g : List ℕ → List ℕ) (bytes : List ℕ) → ((rest : List ℕ) → c ≡ Unknown rest → f rest ≡ g rest) → passed f bytes c ≡ passed g bytes c
-passed_same (Framed x rest) f g bytes h = refl
-passed_same (Unknown rest) f g bytes h = h rest refl
-passed_same (BadId rest) f g bytes h = refl
-passed_same (TooBig rest) f g bytes h = refl
-passed_same Short f g bytes h = refl
+skip_case_same : (c : Front) (f g : List ℕ → List ℕ) (bytes : List ℕ) → ((rest : List ℕ) → c ≡ Unknown rest → f rest ≡ g rest) → skip_case f bytes c ≡ skip_case g bytes c
+skip_case_same (Framed x rest) f g bytes h = refl
+skip_case_same (Unknown rest) f g bytes h = h rest refl
+skip_case_same (BadId rest) f g bytes h = refl
+skip_case_same (TooBig rest) f g bytes h = refl
+skip_case_same Short f g bytes h = refl
 
-past_empty : (m : ℕ) → past_within m [] ≡ []
-past_empty zero = refl
-past_empty (suc m) = ap (λ (c : Front). passed (λ rest. past_within m rest) [] c) front-empty
+skip_within_empty : (m : ℕ) → skip_within m [] ≡ []
+skip_within_empty zero = refl
+skip_within_empty (suc m) = ap (λ (c : Front). skip_case (λ rest. skip_within m rest) [] c) front-empty
 
-past_enough : (n m : ℕ) (bytes : List ℕ) → length bytes ≤ n → length bytes ≤ m → past_within n bytes ≡ past_within m bytes
-past_enough zero m [] hn hm = sym (past_empty m)
-past_enough zero m (b ∷ bytes) hn hm = absurd (omega arith)
-past_enough (suc n) zero [] hn hm = past_empty (suc n)
-past_enough (suc n) zero (b ∷ bytes) hn hm = absurd (omega arith)
-past_enough (suc n) (suc m) bytes hn hm = passed_same (front bytes) (λ rest. past_within n rest) (λ rest. past_within m rest) bytes (λ rest e. let less : length rest < length bytes = unknown-shorter bytes rest e in past_enough n m rest (omega arith) (omega arith))
+skip_within_enough : (n m : ℕ) (bytes : List ℕ) → length bytes ≤ n → length bytes ≤ m → skip_within n bytes ≡ skip_within m bytes
+skip_within_enough zero m [] hn hm = sym (skip_within_empty m)
+skip_within_enough zero m (b ∷ bytes) hn hm = absurd (omega arith)
+skip_within_enough (suc n) zero [] hn hm = skip_within_empty (suc n)
+skip_within_enough (suc n) zero (b ∷ bytes) hn hm = absurd (omega arith)
+skip_within_enough (suc n) (suc m) bytes hn hm = skip_case_same (front bytes) (λ rest. skip_within n rest) (λ rest. skip_within m rest) bytes (λ rest e. let less : length rest < length bytes = unknown-shorter bytes rest e in skip_within_enough n m rest (omega arith) (omega arith))
 
-past-step : (bytes : List ℕ) → skip_unknown bytes ≡ passed (λ rest. past_within (length bytes) rest) bytes (front bytes)
+skip_unknown-step : (bytes : List ℕ) → skip_unknown bytes ≡ skip_case (λ rest. skip_within (length bytes) rest) bytes (front bytes)
 unfolding skip_unknown
-past-step bytes = past_enough (length bytes) (suc (length bytes)) bytes (omega arith) (omega arith)
+skip_unknown-step bytes = skip_within_enough (length bytes) (suc (length bytes)) bytes (omega arith) (omega arith)
 
 pub skip_unknown-unknown : (bytes rest : List ℕ) → front bytes ≡ Unknown rest → skip_unknown bytes ≡ skip_unknown rest
 unfolding skip_unknown
 skip_unknown-unknown bytes rest e =
     let less : length rest < length bytes = unknown-shorter bytes rest e in
-    past-step bytes ∙ ap (λ (c : Front). passed (λ r. past_within (length bytes) r) bytes c) e ∙ past_enough (length bytes) (length rest) rest (omega arith) (omega arith)
+    skip_unknown-step bytes ∙ ap (λ (c : Front). skip_case (λ r. skip_within (length bytes) r) bytes c) e ∙ skip_within_enough (length bytes) (length rest) rest (omega arith) (omega arith)
 
 pub skip_unknown-framed : (bytes rest : List ℕ) (f : Content) → front bytes ≡ Framed f rest → skip_unknown bytes ≡ bytes
-skip_unknown-framed bytes rest f e = past-step bytes ∙ ap (λ (c : Front). passed (λ r. past_within (length bytes) r) bytes c) e
+skip_unknown-framed bytes rest f e = skip_unknown-step bytes ∙ ap (λ (c : Front). skip_case (λ r. skip_within (length bytes) r) bytes c) e
 
 pub skip_unknown-bad : (bytes rest : List ℕ) → front bytes ≡ BadId rest → skip_unknown bytes ≡ bytes
-skip_unknown-bad bytes rest e = past-step bytes ∙ ap (λ (c : Front). passed (λ r. past_within (length bytes) r) bytes c) e
+skip_unknown-bad bytes rest e = skip_unknown-step bytes ∙ ap (λ (c : Front). skip_case (λ r. skip_within (length bytes) r) bytes c) e
 
 pub skip_unknown-big : (bytes rest : List ℕ) → front bytes ≡ TooBig rest → skip_unknown bytes ≡ bytes
-skip_unknown-big bytes rest e = past-step bytes ∙ ap (λ (c : Front). passed (λ r. past_within (length bytes) r) bytes c) e
+skip_unknown-big bytes rest e = skip_unknown-step bytes ∙ ap (λ (c : Front). skip_case (λ r. skip_within (length bytes) r) bytes c) e
 
 pub skip_unknown-short : (bytes : List ℕ) → front bytes ≡ Short → skip_unknown bytes ≡ bytes
-skip_unknown-short bytes e = past-step bytes ∙ ap (λ (c : Front). passed (λ r. past_within (length bytes) r) bytes c) e
+skip_unknown-short bytes e = skip_unknown-step bytes ∙ ap (λ (c : Front). skip_case (λ r. skip_within (length bytes) r) bytes c) e
 
 -- skipping does not add bytes
-passed-shorter : (more : List ℕ → List ℕ) (bytes : List ℕ) (c : Front) → front bytes ≡ c → ((rest : List ℕ) → length (more rest) ≤ length rest) → length (passed more bytes c) ≤ length bytes
-passed-shorter more bytes (Framed x rest) e h = omega arith
-passed-shorter more bytes (Unknown rest) e h = omega (arith, h rest, unknown-shorter bytes rest e)
-passed-shorter more bytes (BadId rest) e h = omega arith
-passed-shorter more bytes (TooBig rest) e h = omega arith
-passed-shorter more bytes Short e h = omega arith
+skip_case-shorter : (more : List ℕ → List ℕ) (bytes : List ℕ) (c : Front) → front bytes ≡ c → ((rest : List ℕ) → length (more rest) ≤ length rest) → length (skip_case more bytes c) ≤ length bytes
+skip_case-shorter more bytes (Framed x rest) e h = omega arith
+skip_case-shorter more bytes (Unknown rest) e h = omega (arith, h rest, unknown-shorter bytes rest e)
+skip_case-shorter more bytes (BadId rest) e h = omega arith
+skip_case-shorter more bytes (TooBig rest) e h = omega arith
+skip_case-shorter more bytes Short e h = omega arith
 
-past_within-shorter : (n : ℕ) (bytes : List ℕ) → length (past_within n bytes) ≤ length bytes
-past_within-shorter zero bytes = omega arith
-past_within-shorter (suc n) bytes = passed-shorter (λ rest. past_within n rest) bytes (front bytes) refl (λ rest. past_within-shorter n rest)
+skip_within-shorter : (n : ℕ) (bytes : List ℕ) → length (skip_within n bytes) ≤ length bytes
+skip_within-shorter zero bytes = omega arith
+skip_within-shorter (suc n) bytes = skip_case-shorter (λ rest. skip_within n rest) bytes (front bytes) refl (λ rest. skip_within-shorter n rest)
 
 pub skip_unknown-shorter : (bytes : List ℕ) → length (skip_unknown bytes) ≤ length bytes
 unfolding skip_unknown
-skip_unknown-shorter bytes = past_within-shorter (length bytes) bytes
+skip_unknown-shorter bytes = skip_within-shorter (length bytes) bytes
 
 pub skip_unknown-empty : skip_unknown [] ≡ []
 skip_unknown-empty = skip_unknown-short [] front-empty

@@ -2,7 +2,7 @@
 use Rattle.std.proofs.Common.{◌≡◌, ℕ, ◌+◌, ◌-◌, ◌<◌, ◌≤◌, List, [], ◌++◌, length, take, drop, refl, sym, ap, subst, ◌∙◌, arith, append-nil, length-append, length-drop, inl, inr, Option, Some, None}
 use Rattle.std.proofs.lemmas.Bool.{cases_lt, lt-ltb, le-ltb}
 use Rattle.std.proofs.lemmas.List.{append_cancel_left, drop-append-le, take-append-drop, drop_at, length-take-le}
-use Rattle.wtp_core.specs.declared.bytes.polled.Polled.TheVariants.{Ready}
+use Rattle.wtp_core.specs.declared.bytes.poll.Polled.TheVariants.{Ready}
 use Rattle.std.proofs.Common.{Ok}
 use Rattle.wtp_core.specs.Varint.{bytes_at}
 use Rattle.wtp_core.specs.Source.{Source, HasModel, Shows, TakesBuffered}

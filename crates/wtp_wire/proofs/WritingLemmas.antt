@@ -3,8 +3,8 @@ use Rattle.std.proofs.Common.{◌≡◌, ℕ, ◌+◌, ◌<◌, ◌≤◌, List,
 use Rattle.std.proofs.lemmas.Bool.{cases_lt}
 use Rattle.std.proofs.lemmas.List.{drop-append-le}
 use Rattle.std.proofs.Math.Seq.{drop-append-add, take-append-add, take-length, drop-append_seam}
-use Rattle.wtp_core.specs.declared.bytes.polled.Polled.{Polled}
-use Rattle.wtp_core.specs.declared.bytes.polled.IoWriteError.{IoWriteError}
+use Rattle.wtp_core.specs.declared.bytes.poll.Polled.{Polled}
+use Rattle.wtp_core.specs.declared.bytes.error.IoWriteError.{IoWriteError}
 use Rattle.wtp_core.specs.Source.{HasModel}
 use Rattle.wtp_core.specs.Sink.{Sink, Took}
 use Rattle.wtp_core.specs.Put.{SinkTook}

@@ -117,7 +117,7 @@ pub record IsUnknownStart (number len h : ℕ) (bytes : List ℕ) : Type 0 where
   pub head : IsUnknownHead number len (take h bytes)
 
 -- a capsule, whose value is from offset a to b
-pub record IsValueStart (kind : CapsuleKind) (a b : ℕ) (bytes : List ℕ) : Type 0 where
+pub record IsKnownStart (kind : CapsuleKind) (a b : ℕ) (bytes : List ℕ) : Type 0 where
   pub ordered : a ≤ b
   pub within : b ≤ length bytes
   pub capsule : IsCapsule kind (between a b bytes) (take b bytes)
@@ -128,7 +128,7 @@ pub record IsLongStart (bytes : List ℕ) : Type 0 where
   pub head : IsLongHead (take end bytes)
 
 abbrev pub StartIs : Start → List ℕ → Type 0
-StartIs (start-is.Unknown number len h) bytes = IsUnknownStart number len h bytes
-StartIs (start-is.Value kind a b) bytes = IsValueStart kind a b bytes
+StartIs (start-is.Unknown u) bytes = IsUnknownStart u.number u.announced u.start bytes
+StartIs (start-is.Known p) bytes = IsKnownStart p.kind p.start p.end bytes
 StartIs start-is.TooLong bytes = IsLongStart bytes
 StartIs start-is.Cut bytes = IsCapsulePart bytes

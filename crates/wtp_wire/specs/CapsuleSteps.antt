@@ -87,7 +87,7 @@ Advanced (reached-is.Complete kind) old a h v skip_remaining b = HasValue kind o
 
 -- ---- up to the value of an unknown capsule, or a result
 
-pub record Passes (old : Held) (a : List ℕ) (new : Held) (b : List ℕ) : Type 0 where
+pub record Progresses (old : Held) (a : List ℕ) (new : Held) (b : List ℕ) : Type 0 where
   pub joins : Joins old a new b
   pub shorter : length b < length a
 
@@ -95,4 +95,4 @@ abbrev pub Stepped :
     Option (Result (Option (CapsuleKind × List ℕ)) CapsuleError) → Held → List ℕ → Held → List ℕ
     → Type 0
 Stepped (Some r) old a new b = NextGiven r old a new b
-Stepped None old a new b = Passes old a new b
+Stepped None old a new b = Progresses old a new b

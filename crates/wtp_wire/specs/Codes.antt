@@ -2,13 +2,13 @@
 use Rattle.std.specs.Prelude.{Option, Some, None}
 use Rattle.wtp_core.specs.declared.error.ErrorCode.{ErrorCode}
 use Rattle.wtp_core.specs.declared.error.ErrorCode.TheVariants.{Id, ExcessiveLoad, StreamCreation, Frame, Datagram}
-use Rattle.wtp_core.specs.declared.bytes.polled.IoReadError.TheVariants.{UnexpectedFin}
+use Rattle.wtp_core.specs.declared.bytes.error.IoReadError.TheVariants.{UnexpectedFin}
 use Rattle.wtp_wire.specs.declared.capsule.CapsuleError.{CapsuleError}
 use Rattle.wtp_wire.specs.declared.capsule.CapsuleError.TheVariants.{TooLong, Memory}
 use Rattle.wtp_wire.specs.declared.frame.reading.IoReadError.TheVariants as frame_reads
 use Rattle.wtp_wire.specs.declared.frame.reading.IoReadError.{IoReadError as FrameReadFault}
-use Rattle.wtp_wire.specs.declared.stream_header.polled.IoReadError.TheVariants as header_reads
-use Rattle.wtp_wire.specs.declared.stream_header.polled.IoReadError.{IoReadError as HeaderReadFault}
+use Rattle.wtp_wire.specs.declared.stream_header.reading.IoReadError.TheVariants as header_reads
+use Rattle.wtp_wire.specs.declared.stream_header.reading.IoReadError.{IoReadError as HeaderReadFault}
 use Rattle.wtp_wire.specs.declared.frame.ParseError.TheVariants as frames
 use Rattle.wtp_wire.specs.declared.stream_header.ParseError.TheVariants as headers
 use Rattle.wtp_wire.specs.declared.frame.ParseError.{ParseError as FrameFault}

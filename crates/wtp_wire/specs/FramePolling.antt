@@ -1,10 +1,10 @@
 -- Polled reading of a frame.
 use Rattle.std.specs.Prelude.{◌≡◌, ℕ, ◌+◌, ◌<◌, ◌≤◌, List, [], ◌++◌, length, Result, Ok, Err}
-use Rattle.wtp_core.specs.declared.bytes.polled.Polled.{Polled}
-use Rattle.wtp_core.specs.declared.bytes.polled.Polled.TheVariants.{Ready, Pending, Again, NoMemory}
+use Rattle.wtp_core.specs.declared.bytes.poll.Polled.{Polled}
+use Rattle.wtp_core.specs.declared.bytes.poll.Polled.TheVariants.{Ready, Pending, Again, NoMemory}
 use Rattle.wtp_core.specs.Source.{Source}
 use Rattle.wtp_core.specs.Polled.{stop}
-use Rattle.wtp_core.specs.SkipAhead.{max_passed}
+use Rattle.wtp_core.specs.SkipAhead.{max_skipped}
 use Rattle.wtp_wire.specs.declared.frame.kind.FrameKind.{FrameKind}
 use Rattle.wtp_wire.specs.declared.frame.ParseError.TheVariants.{UnknownFrame, InvalidSessionId, PayloadTooBig}
 use Rattle.wtp_wire.specs.declared.frame.reading.IoReadError.{IoReadError}
@@ -29,11 +29,11 @@ pub record Stopped (old new : Held) (a b : Source) (fault : IoReadError) : Type 
   pub why : fault ≡ IO (stop (old.skip_remaining + length (old.taken ++ a.ahead)) a.ending)
 
 -- the maximum number of bytes of an unknown frame was skipped, and more are left to skip
-pub record PassesMost (old new : Held) (a b : Source) : Type 0 where
+pub record SkipsMost (old new : Held) (a b : Source) : Type 0 where
   pub same : front_held new b.ahead ≡ front_held old a.ahead
   pub skip_remaining : 0 < new.skip_remaining
   pub skips : Skips old new a b
-  pub most : length skips.payload ≡ max_passed
+  pub most : length skips.payload ≡ max_skipped
 
 -- the bytes start with the head of a nonempty payload that may be read; no byte of the payload was
 -- held
@@ -57,7 +57,7 @@ FramePolled (Ready (Err (Parse InvalidSessionId))) old new a b = Decided old new
 FramePolled (Ready (Err (Parse PayloadTooBig))) old new a b = Decided old new a b TooBig
 FramePolled (Ready (Err (IO e))) old new a b = Stopped old new a b (IO e)
 FramePolled Pending old new a b = Leaves old new a b × (a.waits < b.waits)
-FramePolled Again old new a b = PassesMost old new a b
+FramePolled Again old new a b = SkipsMost old new a b
 FramePolled NoMemory old new a b =
     Leaves old new a b
     × (old.skip_remaining ≡ 0)
@@ -72,7 +72,7 @@ pub record KeepsHeld (old new : Held) : Type 0 where
   pub kept : new.skip_remaining ≡ 0 → (old.skip_remaining ≡ 0) × ((given : List ℕ) × (new.taken ≡ old.taken ++ given))
   pub begun :
       old.skip_remaining ≡ 0 → 0 < new.skip_remaining
-      → (given : List ℕ) × (passed : ℕ) × IsUnknownHead (passed + new.skip_remaining) (old.taken ++ given)
+      → (given : List ℕ) × (skipped : ℕ) × IsUnknownHead (skipped + new.skip_remaining) (old.taken ++ given)
   pub going : 0 < old.skip_remaining → (0 < new.skip_remaining) × (new.skip_remaining ≤ old.skip_remaining)
 
 -- the bytes held followed by those given are this case exactly, and nothing is held afterwards

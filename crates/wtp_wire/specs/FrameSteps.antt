@@ -1,11 +1,11 @@
 -- The steps of one poll for a frame, for the private functions that it consists of.
 use Rattle.std.specs.Prelude.{◌≡◌, ◌≢◌, ℕ, ◌+◌, ◌-◌, ◌<◌, ◌≤◌, List, [], ◌++◌, length, drop, None, Result, Ok, Err}
-use Rattle.wtp_core.specs.declared.bytes.polled.Polled.{Polled}
-use Rattle.wtp_core.specs.declared.bytes.polled.Polled.TheVariants.{Ready, Pending, Again, NoMemory}
+use Rattle.wtp_core.specs.declared.bytes.poll.Polled.{Polled}
+use Rattle.wtp_core.specs.declared.bytes.poll.Polled.TheVariants.{Ready, Pending, Again, NoMemory}
 use Rattle.wtp_core.specs.Source.{Source}
 use Rattle.wtp_core.specs.Polled.{stop, PollsAtMost}
-use Rattle.wtp_core.specs.Fill.{Gains, FillMoves, halt_waits}
-use Rattle.wtp_core.specs.SkipAhead.{max_passed}
+use Rattle.wtp_core.specs.Fill.{Gains, FillMoves, interrupt_waits}
+use Rattle.wtp_core.specs.SkipAhead.{max_skipped}
 use Rattle.wtp_wire.specs.declared.frame.kind.FrameKind.{FrameKind}
 use Rattle.wtp_wire.specs.declared.frame.kind.FrameKind.TheVariants.{WebTransport}
 use Rattle.wtp_wire.specs.declared.frame.ParseError.TheVariants as parse
@@ -52,7 +52,7 @@ StopMoves (Err stopped.NoMemory) held new a b = Gains held new a b 0
 -- how often the source was not ready: once or never
 abbrev pub stop_waits : {U : Type 0} → Result U ReadInterrupted → ℕ
 stop_waits (Ok u) = 0
-stop_waits {U} (Err (stopped.Source h)) = halt_waits {U = U} (Err h)
+stop_waits {U} (Err (stopped.Source h)) = interrupt_waits {U = U} (Err h)
 stop_waits (Err stopped.NoMemory) = 0
 
 -- the count of waits rose by this number
@@ -127,50 +127,50 @@ CanAnswer announces.TooLong size = Unit {0}
 
 -- ---- skipping the bytes of an unknown frame that are left to skip
 
--- due - due' bytes were skipped, at most the maximum for one poll
+-- skip_remaining - skip_remaining' bytes were skipped, at most the maximum for one poll
 pub record Skipped (skip_remaining skip_remaining' : ℕ) (a b : Source) : Type 0 where
   pub fewer : skip_remaining' ≤ skip_remaining
-  pub most : skip_remaining ≤ skip_remaining' + max_passed
+  pub most : skip_remaining ≤ skip_remaining' + max_skipped
   pub there : skip_remaining - skip_remaining' ≤ length a.ahead
   pub rest : b.ahead ≡ drop (skip_remaining - skip_remaining') a.ahead
-  pub asks : PollsAtMost max_passed a b
+  pub asks : PollsAtMost max_skipped a b
 
 -- the effect of skipping, by its result, on the number of bytes left to skip and on the model of
 -- the source
-abbrev pub PassedOn : Polled (Result Content IoReadError) → ℕ → ℕ → Source → Source → Type 0
-PassedOn (Ready (Ok f)) skip_remaining skip_remaining' a b = ⊥
-PassedOn (Ready (Err (Parse parse.UnknownFrame))) skip_remaining skip_remaining' a b =
+abbrev pub SkipPolled : Polled (Result Content IoReadError) → ℕ → ℕ → Source → Source → Type 0
+SkipPolled (Ready (Ok f)) skip_remaining skip_remaining' a b = ⊥
+SkipPolled (Ready (Err (Parse parse.UnknownFrame))) skip_remaining skip_remaining' a b =
     Skipped skip_remaining skip_remaining' a b × (skip_remaining' ≡ 0)
-PassedOn (Ready (Err (Parse parse.InvalidSessionId))) skip_remaining skip_remaining' a b = ⊥
-PassedOn (Ready (Err (Parse parse.PayloadTooBig))) skip_remaining skip_remaining' a b = ⊥
-PassedOn (Ready (Err (IO e))) skip_remaining skip_remaining' a b =
+SkipPolled (Ready (Err (Parse parse.InvalidSessionId))) skip_remaining skip_remaining' a b = ⊥
+SkipPolled (Ready (Err (Parse parse.PayloadTooBig))) skip_remaining skip_remaining' a b = ⊥
+SkipPolled (Ready (Err (IO e))) skip_remaining skip_remaining' a b =
     Skipped skip_remaining skip_remaining' a b
     × (0 < skip_remaining')
-    × (skip_remaining < skip_remaining' + max_passed)
+    × (skip_remaining < skip_remaining' + max_skipped)
     × (b.ahead ≡ [])
     × (e ≡ stop 1 a.ending)
-PassedOn Pending skip_remaining skip_remaining' a b =
+SkipPolled Pending skip_remaining skip_remaining' a b =
     Skipped skip_remaining skip_remaining' a b
     × (0 < skip_remaining')
-    × (skip_remaining < skip_remaining' + max_passed)
+    × (skip_remaining < skip_remaining' + max_skipped)
     × (a.waits < b.waits)
-PassedOn Again skip_remaining skip_remaining' a b =
+SkipPolled Again skip_remaining skip_remaining' a b =
     Skipped skip_remaining skip_remaining' a b
     × (0 < skip_remaining')
-    × (skip_remaining ≡ skip_remaining' + max_passed)
-PassedOn NoMemory skip_remaining skip_remaining' a b = ⊥
+    × (skip_remaining ≡ skip_remaining' + max_skipped)
+SkipPolled NoMemory skip_remaining skip_remaining' a b = ⊥
 
 -- the same for every source, even without a model
-abbrev pub PassedPlain : Polled (Result Content IoReadError) → ℕ → ℕ → Type 0
-PassedPlain (Ready (Ok f)) skip_remaining skip_remaining' = ⊥
-PassedPlain (Ready (Err (Parse parse.UnknownFrame))) skip_remaining skip_remaining' = skip_remaining' ≡ 0
-PassedPlain (Ready (Err (Parse parse.InvalidSessionId))) skip_remaining skip_remaining' = ⊥
-PassedPlain (Ready (Err (Parse parse.PayloadTooBig))) skip_remaining skip_remaining' = ⊥
-PassedPlain (Ready (Err (IO e))) skip_remaining skip_remaining' =
+abbrev pub SkipGiven : Polled (Result Content IoReadError) → ℕ → ℕ → Type 0
+SkipGiven (Ready (Ok f)) skip_remaining skip_remaining' = ⊥
+SkipGiven (Ready (Err (Parse parse.UnknownFrame))) skip_remaining skip_remaining' = skip_remaining' ≡ 0
+SkipGiven (Ready (Err (Parse parse.InvalidSessionId))) skip_remaining skip_remaining' = ⊥
+SkipGiven (Ready (Err (Parse parse.PayloadTooBig))) skip_remaining skip_remaining' = ⊥
+SkipGiven (Ready (Err (IO e))) skip_remaining skip_remaining' =
     (0 < skip_remaining') × (skip_remaining' ≤ skip_remaining)
-PassedPlain Pending skip_remaining skip_remaining' = (0 < skip_remaining') × (skip_remaining' ≤ skip_remaining)
-PassedPlain Again skip_remaining skip_remaining' = (0 < skip_remaining') × (skip_remaining' ≤ skip_remaining)
-PassedPlain NoMemory skip_remaining skip_remaining' = ⊥
+SkipGiven Pending skip_remaining skip_remaining' = (0 < skip_remaining') × (skip_remaining' ≤ skip_remaining)
+SkipGiven Again skip_remaining skip_remaining' = (0 < skip_remaining') × (skip_remaining' ≤ skip_remaining)
+SkipGiven NoMemory skip_remaining skip_remaining' = ⊥
 
 -- ---- a poll up to the bytes left to skip
 

@@ -1,12 +1,12 @@
 -- Polled reading of a stream header.
 use Rattle.std.specs.Prelude.{◌≡◌, ℕ, List, [], ◌++◌, Result, Ok, Err}
-use Rattle.wtp_core.specs.declared.bytes.polled.Polled.{Polled}
-use Rattle.wtp_core.specs.declared.bytes.polled.Polled.TheVariants.{Ready, Pending, Again, NoMemory}
+use Rattle.wtp_core.specs.declared.bytes.poll.Polled.{Polled}
+use Rattle.wtp_core.specs.declared.bytes.poll.Polled.TheVariants.{Ready, Pending, Again, NoMemory}
 use Rattle.wtp_core.specs.Source.{Source}
 use Rattle.wtp_core.specs.Get.{Stops, Waits}
 use Rattle.wtp_wire.specs.declared.stream_header.ParseError.TheVariants.{UnknownStream, InvalidSessionId}
-use Rattle.wtp_wire.specs.declared.stream_header.polled.IoReadError.{IoReadError}
-use Rattle.wtp_wire.specs.declared.stream_header.polled.IoReadError.TheVariants.{Parse, IO}
+use Rattle.wtp_wire.specs.declared.stream_header.reading.IoReadError.{IoReadError}
+use Rattle.wtp_wire.specs.declared.stream_header.reading.IoReadError.TheVariants.{Parse, IO}
 use Rattle.wtp_wire.specs.Header.{Header}
 use Rattle.wtp_wire.specs.HeaderFront.{HeaderFront, Headed, Unknown, BadId, Short, header_front}
 

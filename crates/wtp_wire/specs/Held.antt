@@ -1,7 +1,7 @@
 -- The state of reading a frame between polls.
 use Rattle.std.specs.Prelude.{◌≡◌, ◌≢◌, ℕ, ◌+◌, ◌<◌, ◌≤◌, ◌==◌, List, [], ◌++◌, length, if◌then◌else◌}
 use Rattle.wtp_core.specs.Source.{Source}
-use Rattle.wtp_core.specs.SkipAhead.{max_passed}
+use Rattle.wtp_core.specs.SkipAhead.{max_skipped}
 use Rattle.wtp_wire.specs.declared.frame.kind.FrameKind.{FrameKind}
 use Rattle.wtp_wire.specs.declared.frame.kind.FrameKind.TheVariants.{WebTransport}
 use Rattle.wtp_wire.specs.Kind.{IsKind}
@@ -50,15 +50,16 @@ pub record IsPayloadHead (kind : FrameKind) (n : ℕ) (s : List ℕ) : Type 0 wh
 
 -- ---- the effect of one poll; old and new are the state before and after
 
--- The bytes `payload` of an unknown frame's payload were skipped, and new.due more are left to
--- skip. `head` are the bytes held and read before them: none, if bytes were left to skip before.
+-- The bytes `payload` of an unknown frame's payload were skipped, and `new.skip_remaining` more are
+-- left to skip. `head` are the bytes held and read before them: none, if bytes were left to skip
+-- before.
 pub record Skips (old new : Held) (a b : Source) : Type 0 where
   pub head : List ℕ
   pub payload : List ℕ
   pub parts : old.taken ++ a.ahead ≡ (head ++ payload) ++ b.ahead
   pub begun : old.skip_remaining ≡ 0 → IsUnknownHead (length payload + new.skip_remaining) head
   pub going : 0 < old.skip_remaining → (head ≡ []) × (old.skip_remaining ≡ length payload + new.skip_remaining)
-  pub most : length payload ≤ max_passed
+  pub most : length payload ≤ max_skipped
   pub empty : new.taken ≡ []
 
 -- No byte was lost: the bytes held and ahead are the same, except for skipped bytes of an unknown
@@ -66,4 +67,4 @@ pub record Skips (old new : Held) (a b : Source) : Type 0 where
 pub record Leaves (old new : Held) (a b : Source) : Type 0 where
   pub same : front_held new b.ahead ≡ front_held old a.ahead
   pub kept : new.skip_remaining ≡ 0 → (old.skip_remaining ≡ 0) × (new.taken ++ b.ahead ≡ old.taken ++ a.ahead)
-  pub skips : 0 < new.skip_remaining → (s : Skips old new a b) × (length s.payload < max_passed)
+  pub skips : 0 < new.skip_remaining → (s : Skips old new a b) × (length s.payload < max_skipped)

@@ -46,21 +46,21 @@ follows f r = record { frames = f ∷ r.frames; ending = r.ending }
 
 -- the bytes after an unknown frame, continued by more, or all bytes if their first frame is not
 -- unknown
-abbrev pub passed : (List ℕ → List ℕ) → List ℕ → Front → List ℕ
-passed more bytes (Framed f rest) = bytes
-passed more bytes (Unknown rest) = more rest
-passed more bytes (BadId rest) = bytes
-passed more bytes (TooBig rest) = bytes
-passed more bytes Short = bytes
+abbrev pub skip_case : (List ℕ → List ℕ) → List ℕ → Front → List ℕ
+skip_case more bytes (Framed f rest) = bytes
+skip_case more bytes (Unknown rest) = more rest
+skip_case more bytes (BadId rest) = bytes
+skip_case more bytes (TooBig rest) = bytes
+skip_case more bytes Short = bytes
 
 -- the bytes after the unknown frames at the start, of which at most n are skipped
-abbrev pub past_within : ℕ → List ℕ → List ℕ
-past_within zero bytes = bytes
-past_within (suc n) bytes = passed (λ rest. past_within n rest) bytes (front bytes)
+abbrev pub skip_within : ℕ → List ℕ → List ℕ
+skip_within zero bytes = bytes
+skip_within (suc n) bytes = skip_case (λ rest. skip_within n rest) bytes (front bytes)
 
 -- the bytes after all unknown frames at the start
 unfoldable pub skip_unknown : List ℕ → List ℕ
-skip_unknown bytes = past_within (length bytes) bytes
+skip_unknown bytes = skip_within (length bytes) bytes
 
 -- ---- the run
 

@@ -5,6 +5,7 @@ pub mod capsules;
 mod cursor;
 mod reading;
 
+use crate::capsule::capsules::CloseWebTransportSession;
 pub use crate::capsule::cursor::{
     AnyCapsule, CapsuleCursor, CapsuleSpan, CapsuleStep, UnknownCapsule,
 };
@@ -44,7 +45,7 @@ impl CapsuleKind {
         ensures { result ≡ max_value_len self }
     {
         match self {
-            CapsuleKind::CloseWebTransportSession => 1028,
+            CapsuleKind::CloseWebTransportSession => 4 + CloseWebTransportSession::MAX_REASON_LEN,
         }
     }
 

@@ -6,11 +6,13 @@ ghost use Rattle.wtp_core.specs.Reader.{IsRest};
 ghost use Rattle.wtp_core.specs.Cursor.{left_of, whole_of};
 ghost use Rattle.wtp_core.specs.BufferWriter.{room_in, loan_of, IsUnwritten, Wrote};
 
-pub mod polled;
+pub mod reading;
+pub mod writing;
 
 use crate::item::{self, Item, Tail};
-pub use polled::{HeaderReading, HeaderWriting, IoReadError};
+pub use reading::{HeaderReading, IoReadError};
 use std::marker::Model;
+pub use writing::HeaderWriting;
 pub use wtp_core::bytes::IoWriteError;
 use wtp_core::bytes::{
     BufferReader, BufferWriter, BytesReader, BytesWriter, EndOfBuffer, PutError,

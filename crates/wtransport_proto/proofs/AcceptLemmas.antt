@@ -3,7 +3,7 @@ use Rattle.std.proofs.Common.{◌≡◌, ◌≢◌, ℕ, Bool, true, false, List
 use Rattle.std.proofs.lemmas.Bool.{cases_lt}
 use Rattle.wtp_core.specs.declared.error.ErrorCode.{ErrorCode}
 use Rattle.wtp_core.specs.declared.error.ErrorCode.TheVariants.{Id, ExcessiveLoad, FrameUnexpected}
-use Rattle.wtp_core.specs.declared.bytes.polled.Polled.TheVariants.{Pending}
+use Rattle.wtp_core.specs.declared.bytes.poll.Polled.TheVariants.{Pending}
 use Rattle.wtp_core.specs.Source.{Source, HasModel}
 use Rattle.wtp_core.specs.Polled.{PollsAtMost}
 use Rattle.wtp_core.proofs.TellingLemmas.{telling_map, telling_both}
@@ -17,12 +17,12 @@ use Rattle.wtp_wire.proofs.FramePollLemmas.{front_none}
 use Rattle.wtransport_proto.specs.declared.stream.accepting.BiAccepted.{BiAccepted}
 use Rattle.wtransport_proto.specs.declared.stream.accepting.BiAccepted.TheVariants as accepted
 use Rattle.wtransport_proto.specs.declared.stream.accepting.BiAccepting.{BiAccepting}
-use Rattle.wtransport_proto.specs.declared.stream.polled.IoReadError.{IoReadError}
-use Rattle.wtransport_proto.specs.declared.stream.polled.IoReadError.TheVariants as stream
+use Rattle.wtransport_proto.specs.declared.stream.error.IoReadError.{IoReadError}
+use Rattle.wtransport_proto.specs.declared.stream.error.IoReadError.TheVariants as stream
 use Rattle.wtp_wire.specs.Rule.{RemoteBi, rule}
 use Rattle.wtp_wire.specs.Run.{Run, Tail, MayGoOn, H3, follows, skip_unknown, run}
 use Rattle.wtransport_proto.specs.HeldRun.{tail_of, stop_of, count_held, run_held, run_of}
-use Rattle.wtransport_proto.specs.StreamPolling.{StreamTakesFrame, Faults, PassesUnknown, LacksMemory, StreamPolled}
+use Rattle.wtransport_proto.specs.StreamPolling.{StreamTakesFrame, Faults, SkipsUnknown, LacksMemory, StreamPolled}
 use Rattle.wtransport_proto.specs.Streams.{first_of, session_of}
 use Rattle.wtransport_proto.specs.Accepting.{Opening, Session, Request, Nothing, request_in, opening_by, known_by, opening, opening_of, TakesSession, TakesRequest, SameOpening, SkipsFrame, FailsToOpen, BiAcceptPolled, BiAcceptGiven, held_in, Judges}
 use Rattle.wtp_wire.proofs.RunLemmas.{skip_unknown-unknown, skip_unknown-framed, skip_unknown-bad, skip_unknown-big, skip_unknown-short}
@@ -139,13 +139,13 @@ pub leaves_opening : (first next : Bool) (old new : Held) (a b : Source) → nex
 leaves_opening first next old new a b n v ending =
     same_opening first next old new a b n (ap known_by v.same) (leaves_run RemoteBi first old new a b v ending ∙ ap (λ (x : Bool). run_of RemoteBi x new b) (sym n))
 
-unknown_known : (first next : Bool) (old new : Held) (a b : Source) → PassesUnknown first next old new a b → known_by (front_held new b.ahead) ≡ known_by (front_held old a.ahead)
+unknown_known : (first next : Bool) (old new : Held) (a b : Source) → SkipsUnknown first next old new a b → known_by (front_held new b.ahead) ≡ known_by (front_held old a.ahead)
 unknown_known first next old new a b p = elim (cases_lt 0 new.skip_remaining) [
   | inl l ↦ let w = p.part l in ap known_by w.0
   | inr l ↦ let d = p.whole (omega arith) in ap (λ (h : Held). known_by (front_held h b.ahead)) d.empty ∙ sym (known_new b.ahead) ∙ ap known_by (sym d.front)
 ]
 
-pub unknown_opening : (first next : Bool) (old new : Held) (a b : Source) → PassesUnknown first next old new a b → b.ending ≡ a.ending → SameOpening first next old new a b
+pub unknown_opening : (first next : Bool) (old new : Held) (a b : Source) → SkipsUnknown first next old new a b → b.ending ≡ a.ending → SameOpening first next old new a b
 unknown_opening first next old new a b p ending =
     same_opening first next old new a b p.flag (unknown_known first next old new a b p) (unknown_run RemoteBi first next old new a b p ending)
 
@@ -227,7 +227,7 @@ skips_reserved first next old new number payload a b t ending = record {
   skipped = inr (number, payload, t);
 }
 
-skips_unknown : (first next : Bool) (old new : Held) (a b : Source) → PassesUnknown first next old new a b → b.ending ≡ a.ending → SkipsFrame first next old new a b
+skips_unknown : (first next : Bool) (old new : Held) (a b : Source) → SkipsUnknown first next old new a b → b.ending ≡ a.ending → SkipsFrame first next old new a b
 skips_unknown first next old new a b p ending = record {
   opening = unknown_opening first next old new a b p ending;
   size = unknown_size first next old new a b p;
@@ -256,9 +256,9 @@ frame_told s t (accepted.Failed u x) f first old p (same, is, (payload, e)) q k 
     (λ a b d. data_fails first (first_of p.stream) old p.reading payload a b (rw e at d)) q)
 
 pub again_told : (s t : Option Source) (first next : Bool) (old new : Held)
-    → HasModel s t (PassesUnknown first next old new) → HasModel s t (PollsAtMost 4112) → HasModel s t (SkipsFrame first next old new)
-again_told s t first next old new q k = telling_map s t (λ a b. PassesUnknown first next old new a b × PollsAtMost 4112 a b) (SkipsFrame first next old new)
-    (λ a b d. skips_unknown first next old new a b d.0 d.1.ending) (telling_both s t (PassesUnknown first next old new) (PollsAtMost 4112) q k)
+    → HasModel s t (SkipsUnknown first next old new) → HasModel s t (PollsAtMost 4112) → HasModel s t (SkipsFrame first next old new)
+again_told s t first next old new q k = telling_map s t (λ a b. SkipsUnknown first next old new a b × PollsAtMost 4112 a b) (SkipsFrame first next old new)
+    (λ a b d. skips_unknown first next old new a b d.0 d.1.ending) (telling_both s t (SkipsUnknown first next old new) (PollsAtMost 4112) q k)
 
 pub pending_told : (s t : Option Source) (first : Bool) (old : Held) (p : BiAccepting)
     → HasModel s t (StreamPolled RemoteBi Pending first (first_of p.stream) old p.reading) → HasModel s t (PollsAtMost 4112) → HasModel s t (BiAcceptPolled (accepted.Pending p) first old)

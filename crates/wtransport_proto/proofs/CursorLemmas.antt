@@ -18,7 +18,7 @@ use Rattle.wtransport_proto.specs.FrameCursor.{run_from, known_from, payload_at,
 use Rattle.wtransport_proto.specs.HeldRun.{stop_of, count_held, run_held}
 use Rattle.wtp_wire.specs.Role.{role_of}
 use Rattle.wtp_wire.specs.Rule.{Role, rule}
-use Rattle.wtp_wire.specs.Run.{Run, Tail, MayGoOn, Ended, WasReset, Lost, H3, ends, follows, passed, past_within, skip_unknown, run}
+use Rattle.wtp_wire.specs.Run.{Run, Tail, MayGoOn, Ended, WasReset, Lost, H3, ends, follows, skip_case, skip_within, skip_unknown, run}
 use Rattle.wtransport_proto.specs.declared.stream.cursor.FrameCursor.{FrameCursor}
 use Rattle.wtransport_proto.specs.declared.stream.cursor.FrameSpan.{FrameSpan}
 use Rattle.wtransport_proto.proofs.CutFrameLemmas.{HasNumbers, TooShort, lacks_due, unknown_front}
@@ -35,16 +35,16 @@ more_is : (bytes more : List ℕ) (c : Front) → front bytes ≡ c → c ≢ Sh
 more_is bytes more c e n = front-more bytes more (λ s. n (sym e ∙ s)) ∙ ap (λ (x : Front). extended x more) e
 
 -- unknown frames are skipped
-past_case : (role : Role) (first : Bool) (bytes more : List ℕ) (tail : Tail) (c : Front) (past : List ℕ → List ℕ) → tail ≢ MayGoOn → front bytes ≡ c → ((rest : List ℕ) → run role first (past rest ++ more) tail ≡ run role first (rest ++ more) tail) → run role first (passed past bytes c ++ more) tail ≡ run role first (bytes ++ more) tail
+past_case : (role : Role) (first : Bool) (bytes more : List ℕ) (tail : Tail) (c : Front) (past : List ℕ → List ℕ) → tail ≢ MayGoOn → front bytes ≡ c → ((rest : List ℕ) → run role first (past rest ++ more) tail ≡ run role first (rest ++ more) tail) → run role first (skip_case past bytes c ++ more) tail ≡ run role first (bytes ++ more) tail
 past_case role first bytes more tail (Framed f rest) past t e h = refl
 past_case role first bytes more tail (Unknown rest) past t e h = h rest ∙ sym (run-unknown role first (bytes ++ more) (rest ++ more) tail t (more_is bytes more (Unknown rest) e (λ z. cc)))
 past_case role first bytes more tail (BadId rest) past t e h = refl
 past_case role first bytes more tail (TooBig rest) past t e h = refl
 past_case role first bytes more tail Short past t e h = refl
 
-past_run : (n : ℕ) (role : Role) (first : Bool) (bytes more : List ℕ) (tail : Tail) → tail ≢ MayGoOn → run role first (past_within n bytes ++ more) tail ≡ run role first (bytes ++ more) tail
+past_run : (n : ℕ) (role : Role) (first : Bool) (bytes more : List ℕ) (tail : Tail) → tail ≢ MayGoOn → run role first (skip_within n bytes ++ more) tail ≡ run role first (bytes ++ more) tail
 past_run zero role first bytes more tail t = refl
-past_run (suc n) role first bytes more tail t = past_case role first bytes more tail (front bytes) (λ rest. past_within n rest) t refl (λ rest. past_run n role first rest more tail t)
+past_run (suc n) role first bytes more tail t = past_case role first bytes more tail (front bytes) (λ rest. skip_within n rest) t refl (λ rest. past_run n role first rest more tail t)
 
 known_run : (role : Role) (first : Bool) (bytes more : List ℕ) (tail : Tail) → tail ≢ MayGoOn → run role first (skip_unknown bytes ++ more) tail ≡ run role first (bytes ++ more) tail
 unfolding skip_unknown
@@ -160,23 +160,23 @@ unknown_rest bytes rest e = elim (front_holds bytes) [
   | inr h ↦ let (s, is, parts) = subst (λ (x : Front). Begins bytes x) e h in record { taken = s; parts = parts }
 ]
 
-passed_rest : (bytes : List ℕ) (c : Front) (past : List ℕ → List ℕ) → front bytes ≡ c → ((rest : List ℕ) → IsRest (past rest) rest) → IsRest (passed past bytes c) bytes
-passed_rest bytes (Framed f rest) past e h = rest-same bytes bytes refl
-passed_rest bytes (Unknown rest) past e h = rest-rest (past rest) rest bytes (h rest) (unknown_rest bytes rest e)
-passed_rest bytes (BadId rest) past e h = rest-same bytes bytes refl
-passed_rest bytes (TooBig rest) past e h = rest-same bytes bytes refl
-passed_rest bytes Short past e h = rest-same bytes bytes refl
+skip_case_rest : (bytes : List ℕ) (c : Front) (past : List ℕ → List ℕ) → front bytes ≡ c → ((rest : List ℕ) → IsRest (past rest) rest) → IsRest (skip_case past bytes c) bytes
+skip_case_rest bytes (Framed f rest) past e h = rest-same bytes bytes refl
+skip_case_rest bytes (Unknown rest) past e h = rest-rest (past rest) rest bytes (h rest) (unknown_rest bytes rest e)
+skip_case_rest bytes (BadId rest) past e h = rest-same bytes bytes refl
+skip_case_rest bytes (TooBig rest) past e h = rest-same bytes bytes refl
+skip_case_rest bytes Short past e h = rest-same bytes bytes refl
 
-past_within-rest : (n : ℕ) (bytes : List ℕ) → IsRest (past_within n bytes) bytes
-past_within-rest zero bytes = rest-same bytes bytes refl
-past_within-rest (suc n) bytes = passed_rest bytes (front bytes) (λ rest. past_within n rest) refl (λ rest. past_within-rest n rest)
+skip_within-rest : (n : ℕ) (bytes : List ℕ) → IsRest (skip_within n bytes) bytes
+skip_within-rest zero bytes = rest-same bytes bytes refl
+skip_within-rest (suc n) bytes = skip_case_rest bytes (front bytes) (λ rest. skip_within n rest) refl (λ rest. skip_within-rest n rest)
 
 rest-drop : (n : ℕ) (bytes : List ℕ) → IsRest (drop n bytes) bytes
 rest-drop n bytes = record { taken = take n bytes; parts = sym (take-append-drop n bytes) }
 
 pub known_rest : (c : FrameCursor) (bytes : List ℕ) → IsRest (known_from c bytes) bytes
 unfolding skip_unknown
-known_rest c bytes = rest-rest (known_from c bytes) (drop c.skip_remaining bytes) bytes (past_within-rest (length (drop c.skip_remaining bytes)) (drop c.skip_remaining bytes)) (rest-drop c.skip_remaining bytes)
+known_rest c bytes = rest-rest (known_from c bytes) (drop c.skip_remaining bytes) bytes (skip_within-rest (length (drop c.skip_remaining bytes)) (drop c.skip_remaining bytes)) (rest-drop c.skip_remaining bytes)
 
 -- the payload of the frame is right in front of the rest
 record Precedes (f : Content) (rest bytes : List ℕ) : Type 0 where

@@ -2,18 +2,18 @@
 use Rattle.std.proofs.Common.{◌≡◌, ℕ, ◌+◌, ◌*◌, ◌<◌, ◌≤◌, inl, inr, Bool, true, false, List, [], ◌∷◌, ◌++◌, length, drop, refl, sym, ap, ◌∙◌, arith, append_assoc, append-nil, length-append, Option, Ok, Err}
 use Rattle.std.proofs.Math.Seq.{drop-append_seam}
 use Rattle.std.proofs.lemmas.List.{drop-append-le}
-use Rattle.wtp_core.specs.declared.bytes.polled.Polled.TheVariants.{Ready, Pending, Again, NoMemory}
+use Rattle.wtp_core.specs.declared.bytes.poll.Polled.TheVariants.{Ready, Pending, Again, NoMemory}
 use Rattle.wtp_core.specs.Source.{Source, HasModel}
 use Rattle.wtp_core.specs.Polled.{PollsAtMost}
 use Rattle.wtp_core.proofs.TellingLemmas.{telling_map, telling_same, telling_then, telling_both}
 use Rattle.wtp_wire.specs.Content.{Content}
 use Rattle.wtp_wire.specs.Held.{Held, IsUnfinished, Leaves}
-use Rattle.wtransport_proto.specs.declared.stream.polled.IoReadError.{IoReadError}
+use Rattle.wtransport_proto.specs.declared.stream.error.IoReadError.{IoReadError}
 use Rattle.wtransport_proto.specs.declared.stream.driving.Driven.TheVariants as driven
 use Rattle.wtp_wire.specs.Rule.{Role}
 use Rattle.wtp_wire.specs.Run.{Run}
 use Rattle.wtransport_proto.specs.HeldRun.{run_of, size_of}
-use Rattle.wtransport_proto.specs.StreamPolling.{EndsSo, Faults, StreamTakesFrame, PassesUnknown, StreamPolled}
+use Rattle.wtransport_proto.specs.StreamPolling.{EndsWithFault, Faults, StreamTakesFrame, SkipsUnknown, StreamPolled}
 use Rattle.wtransport_proto.specs.Place.{place_of}
 use Rattle.wtransport_proto.specs.Polls.{TakesSome}
 use Rattle.wtransport_proto.proofs.PollsLemmas.{series_start, series_end, series_on}
@@ -97,7 +97,7 @@ drove_frame role f0 f1 f2 old mid new fs fs' f n a b c is g t k = record {
   series = series_on TakesSome role fs fs' n (Ready (Ok f)) f0 f1 f2 old mid new a b c is tt g.series t;
 }
 
-drove_unknown : (role : Role) (f0 f1 f2 : Bool) (old mid new : Held) (fs : List Content) (n : ℕ) (a b c : Source) → IsUnfinished mid → Drove role f0 f1 old mid fs n a b → PassesUnknown f1 f2 mid new b c → PollsAtMost 4112 b c → Drove role f0 f2 old new fs (n + 1) a c
+drove_unknown : (role : Role) (f0 f1 f2 : Bool) (old mid new : Held) (fs : List Content) (n : ℕ) (a b c : Source) → IsUnfinished mid → Drove role f0 f1 old mid fs n a b → SkipsUnknown f1 f2 mid new b c → PollsAtMost 4112 b c → Drove role f0 f2 old new fs (n + 1) a c
 drove_unknown role f0 f1 f2 old mid new fs n a b c u g t k = record {
   run = g.run ∙ ap (after fs) (unknown_run role f1 f2 mid new b c t k.ending);
   place = same_then (place_of role f0 old a) (place_of role f1 mid b) (place_of role f2 new c) g.place (unknown_place role f1 f2 mid new b c u t);
@@ -118,7 +118,7 @@ keeps_after role f0 f1 old mid new fs n polls a b c lt g s k = record {
   asks = asks_last n polls a b c lt g.asks k;
 }
 
-ended : (role : Role) (f0 f1 f2 : Bool) (old mid new : Held) (fs : List Content) (x : IoReadError) (n : ℕ) (a b c : Source) → Drove role f0 f1 old mid fs n a b → Faults role f1 f2 mid new x b c → EndsSo (run_of role f0 old a) fs x
+ended : (role : Role) (f0 f1 f2 : Bool) (old mid new : Held) (fs : List Content) (x : IoReadError) (n : ℕ) (a b c : Source) → Drove role f0 f1 old mid fs n a b → Faults role f1 f2 mid new x b c → EndsWithFault (run_of role f0 old a) fs x
 ended role f0 f1 f2 old mid new fs x n a b c g t = record {
   frames = ap (λ (r : Run). r.frames) g.run ∙ ap (λ (l : List Content). fs ++ l) t.ends.frames ∙ append-nil fs;
   fault = rw (ap (λ (r : Run). r.ending) g.run) t.ends.fault;
@@ -206,9 +206,9 @@ pub told_unknown : (s t u : Option Source) (role : Role) (f0 f1 f2 : Bool) (r0 r
     → HasModel t u (StreamPolled role Again f1 f2 r1 r2) → HasModel t u (PollsAtMost 4112)
     → HasModel s u (Drove role f0 f2 r0 r2 fs (n + 1))
 told_unknown s t u role f0 f1 f2 r0 r1 r2 fs n unfinished p q k =
-    telling_then s t u (Drove role f0 f1 r0 r1 fs n) (λ b c. PassesUnknown f1 f2 r1 r2 b c × PollsAtMost 4112 b c) (Drove role f0 f2 r0 r2 fs (n + 1))
+    telling_then s t u (Drove role f0 f1 r0 r1 fs n) (λ b c. SkipsUnknown f1 f2 r1 r2 b c × PollsAtMost 4112 b c) (Drove role f0 f2 r0 r2 fs (n + 1))
     (λ a b c g h. drove_unknown role f0 f1 f2 r0 r1 r2 fs n a b c unfinished g h.0 h.1)
-    p (telling_both t u (PassesUnknown f1 f2 r1 r2) (PollsAtMost 4112) q k)
+    p (telling_both t u (SkipsUnknown f1 f2 r1 r2) (PollsAtMost 4112) q k)
 
 pub told_start : (s : Option Source) (role : Role) (first : Bool) (h : Held) (fs : List Content) → fs ≡ [] → HasModel s s (Drove role first first h h fs 0)
 told_start s role first h fs none = telling_same s (Drove role first first h h fs 0) (λ a. drove_start role first h fs a none)

@@ -2,7 +2,7 @@
 -- map comes back.
 use Rattle.std.proofs.Common.{◌≡◌, ◌≢◌, ℕ, ◌+◌, ◌*◌, ◌<◌, ◌≤◌, Bool, false, List, [], ◌∷◌, ◌++◌, length, refl, sym, ap, ◌∙◌, arith, inl, inr, Option, None, Result, Ok, Err}
 use Rattle.std.proofs.lemmas.Bool.{cases_lt}
-use Rattle.wtp_core.specs.declared.bytes.polled.Polled.TheVariants.{Ready, Pending, Again, NoMemory}
+use Rattle.wtp_core.specs.declared.bytes.poll.Polled.TheVariants.{Ready, Pending, Again, NoMemory}
 use Rattle.wtp_core.specs.Source.{Source, HasModel}
 use Rattle.wtp_core.specs.Polled.{PollsAtMost}
 use Rattle.wtp_core.proofs.TellingLemmas.{telling_map, telling_same, telling_then, telling_both}
@@ -20,14 +20,14 @@ use Rattle.wtp_fields.specs.Headers.{payload, headers_at, or_decompression, Payl
 use Rattle.wtp_wire.proofs.FramePollLemmas.{front_none, front_due}
 use Rattle.wtp_wire.proofs.WireLemmas.{front-wire}
 use Rattle.wtp_fields.proofs.Payloads.{payload_again}
-use Rattle.wtransport_proto.specs.declared.stream.polled.IoReadError.{IoReadError}
+use Rattle.wtransport_proto.specs.declared.stream.error.IoReadError.{IoReadError}
 use Rattle.wtransport_proto.specs.declared.exchange.ReceiveError.{ReceiveError}
 use Rattle.wtransport_proto.specs.declared.exchange.ReceiveError.TheVariants as receive
 use Rattle.wtp_wire.specs.Rule.{Role, RemoteBi, LocalBi, RemoteUni, InSession, rule}
 use Rattle.wtp_wire.specs.Run.{Run, Tail, skip_unknown, run, follows}
 use Rattle.wtransport_proto.specs.HeldRun.{tail_of, run_of}
 use Rattle.wtransport_proto.specs.Reading.{FirstAfter}
-use Rattle.wtransport_proto.specs.StreamPolling.{SourceIsAfter, StreamTakesFrame, Faults, PassesUnknown, LacksMemory, StreamPolled}
+use Rattle.wtransport_proto.specs.StreamPolling.{SourceIsAfter, StreamTakesFrame, Faults, SkipsUnknown, LacksMemory, StreamPolled}
 use Rattle.wtransport_proto.specs.Exchange.{past_front, KeptPlace, Turned, Lacked, Takes, LeftIsAfter, Breaks, FrameDid, MapDid, CameBack, ReadsBack}
 use Rattle.wtp_wire.proofs.RunLemmas.{skip_unknown-unknown, skip_unknown-framed, skip_unknown-bad, skip_unknown-big, skip_unknown-short}
 use Rattle.wtp_wire.proofs.RunLaws.{run-allowed}
@@ -71,7 +71,7 @@ kept_still role f0 f1 f2 mid new a b c g v e ending = record {
   flag = e ∙ g.flag;
 }
 
-kept_unknown : (role : Role) (f0 f1 f2 : Bool) (mid new : Held) (a b c : Source) → KeptPlace role f0 f1 mid a b → PassesUnknown f1 f2 mid new b c → c.ending ≡ b.ending → KeptPlace role f0 f2 new a c
+kept_unknown : (role : Role) (f0 f1 f2 : Bool) (mid new : Held) (a b c : Source) → KeptPlace role f0 f1 mid a b → SkipsUnknown f1 f2 mid new b c → c.ending ≡ b.ending → KeptPlace role f0 f2 new a c
 kept_unknown role f0 f1 f2 mid new a b c g p ending = record {
   run = g.run ∙ unknown_run role f1 f2 mid new b c p ending;
   known = elim (cases_lt 0 new.skip_remaining) [
@@ -97,13 +97,13 @@ turned_waiting role f0 f1 f2 n mid new a b c g v e w k = record {
   waited = λ f rest is. let one = g.waited f rest is in let more = one.1 in (v.same ∙ one.0, omega arith);
 }
 
-no_unknown : (f1 f2 : Bool) (mid new : Held) (b c : Source) (f : Content) (rest : List ℕ) → PassesUnknown f1 f2 mid new b c → front_held mid b.ahead ≡ Framed f rest → ⊥
+no_unknown : (f1 f2 : Bool) (mid new : Held) (b c : Source) (f : Content) (rest : List ℕ) → SkipsUnknown f1 f2 mid new b c → front_held mid b.ahead ≡ Framed f rest → ⊥
 no_unknown f1 f2 mid new b c f rest p is = elim (cases_lt 0 new.skip_remaining) [
   | inl l ↦ let w = p.part l in skip_not_read new.skip_remaining c.ahead (Framed f rest) (sym (front_due new.taken new.skip_remaining c.ahead l) ∙ w.0 ∙ is) tt
   | inr l ↦ let d = p.whole (omega arith) in let e = d.front in absurd (cc)
 ]
 
-turned_unknown : (role : Role) (f0 f1 f2 : Bool) (n : ℕ) (mid new : Held) (a b c : Source) → Turned role f0 f1 n mid a b → PassesUnknown f1 f2 mid new b c → PollsAtMost 4112 b c → Turned role f0 f2 (n + 1) new a c
+turned_unknown : (role : Role) (f0 f1 f2 : Bool) (n : ℕ) (mid new : Held) (a b c : Source) → Turned role f0 f1 n mid a b → SkipsUnknown f1 f2 mid new b c → PollsAtMost 4112 b c → Turned role f0 f2 (n + 1) new a c
 turned_unknown role f0 f1 f2 n mid new a b c g p k = record {
   kept = kept_unknown role f0 f1 f2 mid new a b c g.kept p k.ending;
   series = series_on GivesNone role [] [] n Again f0 f1 f2 new_held mid new a b c refl tt g.series p;
@@ -126,9 +126,9 @@ told_waiting s t u role f0 f1 f2 n mid new p q k =
 pub told_unknown : (s t u : Option Source) (role : Role) (f0 f1 f2 : Bool) (n : ℕ) (mid new : Held)
     → HasModel s t (Turned role f0 f1 n mid) → HasModel t u (StreamPolled role Again f1 f2 mid new) → HasModel t u (PollsAtMost 4112) → HasModel s u (Turned role f0 f2 (n + 1) new)
 told_unknown s t u role f0 f1 f2 n mid new p q k =
-    telling_then s t u (Turned role f0 f1 n mid) (λ b c. PassesUnknown f1 f2 mid new b c × PollsAtMost 4112 b c) (Turned role f0 f2 (n + 1) new)
+    telling_then s t u (Turned role f0 f1 n mid) (λ b c. SkipsUnknown f1 f2 mid new b c × PollsAtMost 4112 b c) (Turned role f0 f2 (n + 1) new)
     (λ a b c g h. turned_unknown role f0 f1 f2 n mid new a b c g h.0 h.1)
-    p (telling_both t u (PassesUnknown f1 f2 mid new) (PollsAtMost 4112) q k)
+    p (telling_both t u (SkipsUnknown f1 f2 mid new) (PollsAtMost 4112) q k)
 
 lacked : (role : Role) (f0 f1 f2 : Bool) (n turns : ℕ) (mid new : Held) (a b c : Source) → n < turns → Turned role f0 f1 n mid a b → LacksMemory f1 f2 mid new b c → c.ending ≡ b.ending → Lacked role f0 f2 turns new a c
 lacked role f0 f1 f2 n turns mid new a b c fewer g h ending = record {

@@ -15,7 +15,7 @@ use Rattle.wtp_wire.specs.Rule.{Role, rule}
 use Rattle.wtp_wire.specs.Run.{Run, Tail, MayGoOn, Ended, WasReset, Lost, Ending, H3, ends, follows, run}
 use Rattle.wtp_wire.specs.Run as stopping
 use Rattle.wtransport_proto.specs.HeldRun.{tail_of, stop_of, run_by, count_held, run_held, run_of, size_of}
-use Rattle.wtransport_proto.specs.StreamPolling.{StreamTakesFrame, PassesUnknown}
+use Rattle.wtransport_proto.specs.StreamPolling.{StreamTakesFrame, SkipsUnknown}
 use Rattle.wtp_wire.proofs.RunLemmas.{run-step, skip_unknown-framed, skip_unknown-bad, skip_unknown-big, skip_unknown-short}
 use Rattle.wtransport_proto.proofs.ReadingLemmas.{run-unknown}
 
@@ -92,7 +92,7 @@ leaves_size old new a b v = elim (cases_lt 0 new.skip_remaining) [
   | inr l ↦ let k = v.kept (omega arith) in omega (arith, ap length k.1)
 ]
 
-pub unknown_size : (first next : Bool) (old new : Held) (a b : Source) → PassesUnknown first next old new a b → size_of new b < size_of old a
+pub unknown_size : (first next : Bool) (old new : Held) (a b : Source) → SkipsUnknown first next old new a b → size_of new b < size_of old a
 unknown_size first next old new a b p = elim (cases_lt 0 old.skip_remaining) [
   | inl l ↦ elim (cases_lt 0 new.skip_remaining) [
     | inl m ↦ let w = p.part m in let size = w.1 in omega (arith, skips_size old new a b p.skips)
@@ -181,7 +181,7 @@ leaves_run role first old new a b v ending = elim (cases_lt 0 new.skip_remaining
   | inr l ↦ let z : new.skip_remaining ≡ 0 = omega arith in let k = v.kept z in run_same role first old new a b v.same ending (ap (λ (n : ℕ). stop_of n (tail_of a.ending)) (let d = k.0 in omega (arith, ap length k.1)))
 ]
 
-pub unknown_run : (role : Role) (first next : Bool) (old new : Held) (a b : Source) → PassesUnknown first next old new a b → b.ending ≡ a.ending → run_of role first old a ≡ run_of role next new b
+pub unknown_run : (role : Role) (first next : Bool) (old new : Held) (a b : Source) → SkipsUnknown first next old new a b → b.ending ≡ a.ending → run_of role first old a ≡ run_of role next new b
 unknown_run role first next old new a b p ending = rw p.flag (elim (cases_lt 0 new.skip_remaining) [
   | inl l ↦ let w = p.part l in run_same role first old new a b w.0 ending (stop_some a.ending (count_held old a.ahead) (count_held new b.ahead) (skips_some old new a b p.skips) (omega arith))
   | inr l ↦ let d = p.whole (omega arith) in

@@ -7,11 +7,11 @@ use Rattle.wtp_wire.specs.Content.{Content, kind_in}
 use Rattle.wtp_wire.specs.Front.{Front, Framed, Unknown, BadId, TooBig, Short, front}
 use Rattle.wtp_wire.specs.Held.{Held, new_held, front_held, IsUnfinished, Skips, Leaves}
 use Rattle.wtp_wire.proofs.FramePollLemmas.{front_none}
-use Rattle.wtransport_proto.specs.declared.stream.polled.IoReadError.{IoReadError}
+use Rattle.wtransport_proto.specs.declared.stream.error.IoReadError.{IoReadError}
 use Rattle.wtp_wire.specs.Rule.{Role, rule}
 use Rattle.wtp_wire.specs.Run.{Run, skip_unknown, follows}
 use Rattle.wtransport_proto.specs.HeldRun.{tail_of, run_of}
-use Rattle.wtransport_proto.specs.StreamPolling.{Faults, StreamTakesFrame, PassesUnknown, SourceIsAfter}
+use Rattle.wtransport_proto.specs.StreamPolling.{Faults, StreamTakesFrame, SkipsUnknown, SourceIsAfter}
 use Rattle.wtransport_proto.specs.Place.{Place, if_allowed, remainder, place_after, place_by, place_held, place_of, BeginsUnknown, SkipAdvances, NothingLost, SamePlace, LeftByFault, AtFault}
 use Rattle.wtp_wire.proofs.RunLemmas.{skip_unknown-framed, skip_unknown-bad, skip_unknown-big, skip_unknown-short}
 use Rattle.wtransport_proto.proofs.RemainderLemmas.{after-unknown, after-known}
@@ -132,7 +132,7 @@ leaves_remains old new a b u v = record {
   ];
 }
 
-part_remains : (first next : Bool) (old new : Held) (a b : Source) → IsUnfinished old → PassesUnknown first next old new a b → 0 < new.skip_remaining → NothingLost old new a.ahead b.ahead
+part_remains : (first next : Bool) (old new : Held) (a b : Source) → IsUnfinished old → SkipsUnknown first next old new a b → 0 < new.skip_remaining → NothingLost old new a.ahead b.ahead
 part_remains first next old new a b u p l = let w = p.part l in record {
   same = w.0;
   kept = λ z. absurd (omega arith);
@@ -168,7 +168,7 @@ remains_place role first old new xs ys r =
 pub leaves_place : (role : Role) (first next : Bool) (old new : Held) (a b : Source) → IsUnfinished old → Leaves old new a b → next ≡ first → SamePlace (place_of role first old a) (place_of role next new b)
 leaves_place role first next old new a b u v e = rw e (remains_place role first old new a.ahead b.ahead (leaves_remains old new a b u v))
 
-pub unknown_place : (role : Role) (first next : Bool) (old new : Held) (a b : Source) → IsUnfinished old → PassesUnknown first next old new a b → SamePlace (place_of role first old a) (place_of role next new b)
+pub unknown_place : (role : Role) (first next : Bool) (old new : Held) (a b : Source) → IsUnfinished old → SkipsUnknown first next old new a b → SamePlace (place_of role first old a) (place_of role next new b)
 unknown_place role first next old new a b u p = rw p.flag (elim (cases_lt 0 new.skip_remaining) [
   | inl l ↦ remains_place role first old new a.ahead b.ahead (part_remains first next old new a b u p l)
   | inr l ↦ let d = p.whole (omega arith) in same_of (place_of role first old a) (place_of role first new b) (place-unknown role first old a.ahead b.ahead d.front ∙ ap (λ (h : Held). place_held role first h b.ahead) (sym d.empty))

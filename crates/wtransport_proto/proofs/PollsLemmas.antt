@@ -1,13 +1,13 @@
 -- One more poll after a series of them.
 use Rattle.std.proofs.Common.{◌≡◌, ℕ, ◌+◌, Bool, List, [], ◌∷◌, ◌++◌, refl, sym, ap, ◌∙◌, subst, append-nil, length-append, Result, Ok, Err}
 use Rattle.std.proofs.lemmas.List.Elements.{All-append, All-nil, All-cons}
-use Rattle.wtp_core.specs.declared.bytes.polled.Polled.{Polled}
-use Rattle.wtp_core.specs.declared.bytes.polled.Polled.TheVariants.{Ready, Pending, Again, NoMemory}
+use Rattle.wtp_core.specs.declared.bytes.poll.Polled.{Polled}
+use Rattle.wtp_core.specs.declared.bytes.poll.Polled.TheVariants.{Ready, Pending, Again, NoMemory}
 use Rattle.wtp_core.specs.Source.{Source}
 use Rattle.wtp_wire.specs.Content.{Content}
 use Rattle.wtp_wire.specs.Held.{Held}
 use Rattle.wtp_wire.specs.Rule.{Role}
-use Rattle.wtransport_proto.specs.declared.stream.polled.IoReadError.{IoReadError}
+use Rattle.wtransport_proto.specs.declared.stream.error.IoReadError.{IoReadError}
 use Rattle.wtransport_proto.specs.StreamPolling.{StreamPolled}
 use Rattle.wtransport_proto.specs.Polls.{Polls, frames_in, Series}
 

@@ -17,15 +17,15 @@ use Rattle.wtransport_proto.specs.Reading.{AnswersKnown, AnswersFrame, AnswersRu
 use Rattle.wtp_wire.proofs.RunLemmas.{skip_unknown-unknown, skip_unknown-framed, skip_unknown-bad, skip_unknown-big, skip_unknown-short, run-step}
 
 -- only unknown frames were skipped between old and cur
-pub record Passes (old cur : List ℕ) : Type 0 where
+pub record SkipsFrames (old cur : List ℕ) : Type 0 where
   pub known : skip_unknown old ≡ skip_unknown cur
   pub rest : IsRest cur old
 
-pub passes-none : (bytes : List ℕ) → Passes bytes bytes
-passes-none bytes = record { known = refl; rest = rest-same bytes bytes refl }
+pub skips-none : (bytes : List ℕ) → SkipsFrames bytes bytes
+skips-none bytes = record { known = refl; rest = rest-same bytes bytes refl }
 
-pub passes-one : (old cur new : List ℕ) (h : Passes old cur) → front cur ≡ Unknown new → IsRest new cur → Passes old new
-passes-one old cur new h e k = record { known = h.known ∙ skip_unknown-unknown cur new e; rest = rest-rest new cur old k h.rest }
+pub skips-one : (old cur new : List ℕ) (h : SkipsFrames old cur) → front cur ≡ Unknown new → IsRest new cur → SkipsFrames old new
+skips-one old cur new h e k = record { known = h.known ∙ skip_unknown-unknown cur new e; rest = rest-rest new cur old k h.rest }
 
 pub known-ok : (old cur new : List ℕ) (o : Option Content) → skip_unknown old ≡ skip_unknown cur → Answers (front cur) (Ok o) new → AnswersKnown (front (skip_unknown old)) (Ok o) new
 known-ok old cur new None p h = rw (p, skip_unknown-short cur h) h

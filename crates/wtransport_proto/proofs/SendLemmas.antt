@@ -2,9 +2,9 @@
 use Rattle.std.proofs.Common.{◌≡◌, ℕ, ◌+◌, ◌^◌, ◌<◌, ◌≤◌, List, [], ◌∷◌, ◌++◌, length, take, drop, sym, ap, ◌∙◌, arith, length-append, append_assoc, append-nil, inl, inr, Option, Err}
 use Rattle.std.proofs.lemmas.Bool.{cases_lt}
 use Rattle.std.proofs.lemmas.List.{take-append-drop, take-take}
-use Rattle.wtp_core.specs.declared.bytes.polled.Polled.TheVariants.{Ready, Pending, NoMemory}
-use Rattle.wtp_core.specs.declared.bytes.polled.IoWriteError.{IoWriteError}
-use Rattle.wtp_core.specs.declared.bytes.polled.IoWriteError.TheVariants as fault
+use Rattle.wtp_core.specs.declared.bytes.poll.Polled.TheVariants.{Ready, Pending, NoMemory}
+use Rattle.wtp_core.specs.declared.bytes.error.IoWriteError.{IoWriteError}
+use Rattle.wtp_core.specs.declared.bytes.error.IoWriteError.TheVariants as fault
 use Rattle.wtp_core.specs.Varint.{shortest}
 use Rattle.wtp_core.specs.Source.{HasModel}
 use Rattle.wtp_core.specs.Sink.{Sink, Took}
@@ -71,21 +71,21 @@ told_more s t u whole turns old new same forward p q =
 last : (whole : List ℕ) (n x l : ℕ) (old new : Writing) (a b c : Sink) → old.bytes ≡ whole → old.sent ≤ new.sent → Waited whole old.sent n a b → Took b c (between old new) 0 x l → Took a c (take new.sent whole) n x l
 last whole n x l old new a b c same forward g t = let none : n + 0 ≡ n = omega arith in rw none at (on whole n 0 x l old new a b c same forward g t)
 
-told_halted : (s t u : Option Sink) (whole : List ℕ) (n turns x l : ℕ) (e : SendError) (old new : Writing) → old.bytes ≡ whole → old.sent ≤ new.sent → new.sent < length whole
+told_interrupted : (s t u : Option Sink) (whole : List ℕ) (n turns x l : ℕ) (e : SendError) (old new : Writing) → old.bytes ≡ whole → old.sent ≤ new.sent → new.sent < length whole
     → ((a c : Sink) → TookPart whole n x l a c → Abandoned e whole turns a c)
     → HasModel s t (Waited whole old.sent n) → HasModel t u (λ b c. Took b c (between old new) 0 x l) → HasModel s u (SendDid {U = Unit {0}} whole turns (Err e))
-told_halted s t u whole n turns x l e old new same forward part h p q =
+told_interrupted s t u whole n turns x l e old new same forward part h p q =
     telling_then s t u (Waited whole old.sent n) (λ b c. Took b c (between old new) 0 x l) (SendDid {U = Unit {0}} whole turns (Err e))
     (λ a b c g k. h a c (record { sent = new.sent; part = part; took = last whole n x l old new a b c same forward g k })) p q
 
 pub told_fault : (s t u : Option Sink) (whole : List ℕ) (n turns : ℕ) (x : IoWriteError) (old new : Writing) → n < turns → old.bytes ≡ whole → old.sent ≤ new.sent → new.sent < length whole
     → HasModel s t (Waited whole old.sent n) → HasModel t u (WritePolled {U = Unit {0}} (Ready (Err x)) old new) → HasModel s u (SendDid {U = Unit {0}} whole turns (Err (send.IO x)))
 told_fault s t u whole n turns fault.Stopped old new fewer same forward part p q =
-    told_halted s t u whole n turns 1 0 (send.IO fault.Stopped) old new same forward part (λ a c k. (n, fewer, k)) p q
+    told_interrupted s t u whole n turns 1 0 (send.IO fault.Stopped) old new same forward part (λ a c k. (n, fewer, k)) p q
 told_fault s t u whole n turns fault.NotConnected old new fewer same forward part p q =
-    told_halted s t u whole n turns 0 1 (send.IO fault.NotConnected) old new same forward part (λ a c k. (n, fewer, k)) p q
+    told_interrupted s t u whole n turns 0 1 (send.IO fault.NotConnected) old new same forward part (λ a c k. (n, fewer, k)) p q
 
 pub told_memory : (s t u : Option Sink) (whole : List ℕ) (n turns : ℕ) (old new : Writing) → n < turns → old.bytes ≡ whole → old.sent ≤ new.sent → new.sent < length whole
     → HasModel s t (Waited whole old.sent n) → HasModel t u (WritePolled {U = Unit {0}} NoMemory old new) → HasModel s u (SendDid {U = Unit {0}} whole turns (Err send.Memory))
 told_memory s t u whole n turns old new fewer same forward part p q =
-    told_halted s t u whole n turns 0 0 send.Memory old new same forward part (λ a c k. (n, fewer, k)) p q
+    told_interrupted s t u whole n turns 0 0 send.Memory old new same forward part (λ a c k. (n, fewer, k)) p q

@@ -3,10 +3,10 @@ use Rattle.std.proofs.Common.{◌≡◌, ℕ, Bool, false, [], ◌++◌, refl, a
 use Rattle.std.proofs.lemmas.Bool.{cases_lt, ne_eqb}
 use Rattle.wtp_core.specs.declared.error.ErrorCode.{ErrorCode}
 use Rattle.wtp_core.specs.declared.error.ErrorCode.TheVariants.{Id, ExcessiveLoad}
-use Rattle.wtp_core.specs.declared.bytes.polled.Polled.{Polled}
-use Rattle.wtp_core.specs.declared.bytes.polled.Polled.TheVariants.{Ready, Again}
-use Rattle.wtp_core.specs.declared.bytes.polled.IoReadError as bytes
-use Rattle.wtp_core.specs.declared.bytes.polled.IoReadError.TheVariants as io
+use Rattle.wtp_core.specs.declared.bytes.poll.Polled.{Polled}
+use Rattle.wtp_core.specs.declared.bytes.poll.Polled.TheVariants.{Ready, Again}
+use Rattle.wtp_core.specs.declared.bytes.error.IoReadError as bytes
+use Rattle.wtp_core.specs.declared.bytes.error.IoReadError.TheVariants as io
 use Rattle.wtp_core.specs.Source.{Source, AtEnd, AtReset, AtDisconnection, HasModel}
 use Rattle.wtp_core.specs.Source as source
 use Rattle.wtp_core.specs.Polled.{stop, polled_waits}
@@ -20,18 +20,18 @@ use Rattle.wtp_wire.specs.Content.{Content, kind_in}
 use Rattle.wtp_wire.specs.Front.{Framed, Unknown, BadId, TooBig, Short}
 use Rattle.wtp_wire.specs.Held.{Held, Skips}
 use Rattle.wtp_wire.specs.FramePolling.{Decided, Stopped, FramePolled}
-use Rattle.wtransport_proto.specs.declared.stream.polled.IoReadError as fault
-use Rattle.wtransport_proto.specs.declared.stream.polled.IoReadError.TheVariants as stream
+use Rattle.wtransport_proto.specs.declared.stream.error.IoReadError as fault
+use Rattle.wtransport_proto.specs.declared.stream.error.IoReadError.TheVariants as stream
 use Rattle.wtp_wire.specs.Rule.{Role, rule}
 use Rattle.wtp_wire.specs.Run.{Run, H3, ends}
 use Rattle.wtransport_proto.specs.HeldRun.{tail_of, stop_of, count_held, run_of}
-use Rattle.wtransport_proto.specs.StreamPolling.{IsStreamFault, Exhausted, stream_fault, EndsSo, Faults, PassesUnknown, StreamTakesFrame, StreamPolled, JudgesPolled, first_after, without_frame}
+use Rattle.wtransport_proto.specs.StreamPolling.{IsStreamFault, Exhausted, stream_fault, EndsWithFault, Faults, SkipsUnknown, StreamTakesFrame, StreamPolled, JudgesPolled, first_after, without_frame}
 use Rattle.wtransport_proto.specs.Reading.{permitted}
 use Rattle.wtransport_proto.proofs.HeldRunLemmas.{read_front, framed_size, bad_size, big_size, size_new, leaves_size, run_refused, run_case}
 
 -- ---- faults
 
-ends_h3 : (r : Run) (c : ErrorCode) → r ≡ ends (H3 c) → EndsSo r [] (stream.H3 c)
+ends_h3 : (r : Run) (c : ErrorCode) → r ≡ ends (H3 c) → EndsWithFault r [] (stream.H3 c)
 ends_h3 r c e = record { frames = ap (λ (x : Run). x.frames) e; fault = ap (λ (x : Run). x.ending) e }
 
 pub refused_ends : (role : Role) (first next : Bool) (old new : Held) (f : Content) (c : ErrorCode) (a b : Source) → rule role first (kind_in f) ≡ Some c → next ≡ false → Decided old new a b (Framed f) → Faults role first next old new (stream.H3 c) a b
@@ -121,11 +121,11 @@ io_judges role r x first e = rw e (λ s t old new p. telling_map s t (FramePolle
     (λ a b d. io_ends role first old new x a b d) p)
 
 pub again_judges : (role : Role) (r : Polled (Result Content IoReadError)) (first : Bool) → r ≡ Again → JudgesPolled role r Again first (first_after first r)
-again_judges role r first e = rw e (λ s t old new p. telling_map s t (FramePolled Again old new) (PassesUnknown first first old new)
+again_judges role r first e = rw e (λ s t old new p. telling_map s t (FramePolled Again old new) (SkipsUnknown first first old new)
     (λ a b d. record { skips = d.skips; whole = λ z. let some = d.skip_remaining in absurd (omega arith); part = λ _. (d.same, d.most); flag = refl }) p)
 
 unknown_judges : (role : Role) (r : Polled (Result Content IoReadError)) (first : Bool) → r ≡ Ready (Err (reading.Parse parse.UnknownFrame)) → JudgesPolled role r Again first first
-unknown_judges role r first e = λ s t old new p. telling_map s t (λ a b. Decided old new a b Unknown × Skips old new a b) (PassesUnknown first first old new)
+unknown_judges role r first e = λ s t old new p. telling_map s t (λ a b. Decided old new a b Unknown × Skips old new a b) (SkipsUnknown first first old new)
     (λ a b d. record { skips = d.1; whole = λ z. d.0; part = λ some. let none : new.skip_remaining ≡ 0 = ap (λ (h : Held). h.skip_remaining) d.0.empty in absurd (omega arith); flag = refl }) (rw e at p)
 
 -- by the code of bytes that are no frame

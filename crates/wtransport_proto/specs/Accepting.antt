@@ -6,7 +6,7 @@
 -- types before it are skipped (section 7.2.8), and a DATA frame before it is an error. Frames of
 -- unknown types are always skipped (section 9). The law `opening_by_front` states exactly this.
 use Rattle.std.specs.Prelude.{◌≡◌, ◌≢◌, ◌⊎◌, ℕ, ◌+◌, ◌<◌, ◌≤◌, Bool, true, false, List, [], ◌∷◌}
-use Rattle.wtp_core.specs.declared.bytes.polled.IoReadError.TheVariants as io
+use Rattle.wtp_core.specs.declared.bytes.error.IoReadError.TheVariants as io
 use Rattle.wtp_core.specs.declared.error.ErrorCode.{ErrorCode}
 use Rattle.wtp_core.specs.declared.error.ErrorCode.TheVariants.{Frame, FrameUnexpected}
 use Rattle.wtp_core.specs.Source.{Source}
@@ -18,13 +18,13 @@ use Rattle.wtp_wire.specs.FramePolling.{KeepsHeld, Answered, HoldsHead}
 use Rattle.wtransport_proto.specs.declared.stream.accepting.BiAccepted.{BiAccepted}
 use Rattle.wtransport_proto.specs.declared.stream.accepting.BiAccepted.TheVariants as accepted
 use Rattle.wtransport_proto.specs.declared.stream.accepting.BiAccepting.{BiAccepting}
-use Rattle.wtransport_proto.specs.declared.stream.polled.IoReadError.{IoReadError}
-use Rattle.wtransport_proto.specs.declared.stream.polled.IoReadError.TheVariants as stream
+use Rattle.wtransport_proto.specs.declared.stream.error.IoReadError.{IoReadError}
+use Rattle.wtransport_proto.specs.declared.stream.error.IoReadError.TheVariants as stream
 use Rattle.wtp_wire.specs.Rule.{RemoteBi}
 use Rattle.wtp_wire.specs.Run.{Run, Tail, Ending, H3, skip_unknown}
 use Rattle.wtransport_proto.specs.HeldRun.{tail_of, run_held, run_of, size_of}
 use Rattle.wtransport_proto.specs.Reading.{FirstAfter}
-use Rattle.wtransport_proto.specs.StreamPolling.{IsStreamFault, Exhausted, StreamTakesFrame, SourceIsAfter, Faults, PassesUnknown, LacksMemory, CodeGiven, PassGiven}
+use Rattle.wtransport_proto.specs.StreamPolling.{IsStreamFault, Exhausted, StreamTakesFrame, SourceIsAfter, Faults, SkipsUnknown, LacksMemory, CodeGiven, UnknownGiven}
 use Rattle.wtransport_proto.specs.Streams.{first_of, session_of}
 
 -- ---- what opens a stream
@@ -107,10 +107,10 @@ SkipsReserved first next old new a b =
 pub record SkipsFrame (first next : Bool) (old new : Held) (a b : Source) : Type 0 where
   pub opening : SameOpening first next old new a b
   pub size : size_of new b < size_of old a
-  pub skipped : PassesUnknown first next old new a b ⊎ SkipsReserved first next old new a b
+  pub skipped : SkipsUnknown first next old new a b ⊎ SkipsReserved first next old new a b
 
 -- the stream ends with this error before a frame opens it
-pub record FailsSo (o : Opening) (x : IoReadError) : Type 0 where
+pub record IsOpeningFault (o : Opening) (x : IoReadError) : Type 0 where
   pub ending : Ending
   pub opening : o ≡ Nothing ending
   pub fault : IsStreamFault x ending
@@ -125,7 +125,7 @@ TakesData first next old new x a b =
 -- and no byte after it; if the bytes are too few, all bytes received are held.
 pub record FailsToOpen (first next : Bool) (old new : Held) (x : IoReadError) (a b : Source) : Type
     0 where
-  pub fails : FailsSo (opening_of first old a) x
+  pub fails : IsOpeningFault (opening_of first old a) x
   pub why : Faults RemoteBi first next old new x a b ⊎ TakesData first next old new x a b
   pub size : size_of new b ≤ size_of old a
   pub flag : FirstAfter RemoteBi first (front_held old a.ahead) next
@@ -184,7 +184,7 @@ BiAcceptGiven (accepted.WebTransport s) first old =
 BiAcceptGiven (accepted.Request s reading f) first old =
     Answered old reading (Framed f) × (f ≡ HeadersOf (payload_in f)) × (first_of s ≡ false)
 BiAcceptGiven (accepted.Again p) first old =
-    (PassGiven old p.reading × (first_of p.stream ≡ first))
+    (UnknownGiven old p.reading × (first_of p.stream ≡ first))
     ⊎ ReservedGiven (first_of p.stream) old p.reading
 BiAcceptGiven (accepted.Pending p) first old = KeepsHeld old p.reading × (first_of p.stream ≡ first)
 BiAcceptGiven (accepted.NoMemory p) first old =

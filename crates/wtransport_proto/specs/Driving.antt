@@ -1,6 +1,6 @@
 -- Driving a stream: polling it until a poll waits or fails, or until a number of polls is reached.
 use Rattle.std.specs.Prelude.{◌≡◌, ℕ, ◌+◌, ◌*◌, ◌<◌, ◌≤◌, ◌⊎◌, Bool, false, List, [], ◌∷◌, ◌++◌, Err}
-use Rattle.wtp_core.specs.declared.bytes.polled.Polled.TheVariants.{Ready, Pending, NoMemory}
+use Rattle.wtp_core.specs.declared.bytes.poll.Polled.TheVariants.{Ready, Pending, NoMemory}
 use Rattle.wtp_core.specs.Source.{Source}
 use Rattle.wtp_core.specs.Polled.{PollsAtMost}
 use Rattle.wtp_wire.specs.Content.{Content}
@@ -11,7 +11,7 @@ use Rattle.wtp_wire.specs.Rule.{Role}
 use Rattle.wtp_wire.specs.Run.{Run}
 use Rattle.wtransport_proto.specs.HeldRun.{run_of, size_of}
 use Rattle.wtransport_proto.specs.Place.{place_of, SamePlace, AtFault}
-use Rattle.wtransport_proto.specs.StreamPolling.{EndsSo, Exhausted}
+use Rattle.wtransport_proto.specs.StreamPolling.{EndsWithFault, Exhausted}
 use Rattle.wtransport_proto.specs.Polls.{TakesSome, Series}
 
 -- A stream changed only in whether its next frame is the first one, and only from true to false.
@@ -47,7 +47,7 @@ KeepsPlace role first next old new a b =
 abbrev pub DriveDid :
     Role → Driven → Bool → Bool → Held → Held → List Content → ℕ → Source → Source → Type 0
 DriveDid role (driven.Ended x) first next old new fs polls a b =
-    EndsSo (run_of role first old a) fs x
+    EndsWithFault (run_of role first old a) fs x
     × Exhausted x b
     × DriveKeeps old new polls a b
     × AtFault role (place_of role first old a) next new b.ahead

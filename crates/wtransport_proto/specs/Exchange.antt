@@ -1,7 +1,7 @@
 -- What repeated polls that send a frame, or receive a header map, do together.
 use Rattle.std.specs.Prelude.{◌≡◌, ◌≢◌, ℕ, ◌+◌, ◌<◌, ◌≤◌, Bool, false, List, [], ◌∷◌, ◌++◌, length, take, None, Result, Ok, Err}
-use Rattle.wtp_core.specs.declared.bytes.polled.IoWriteError.TheVariants as fault
-use Rattle.wtp_core.specs.declared.bytes.polled.Polled.TheVariants.{NoMemory}
+use Rattle.wtp_core.specs.declared.bytes.error.IoWriteError.TheVariants as fault
+use Rattle.wtp_core.specs.declared.bytes.poll.Polled.TheVariants.{NoMemory}
 use Rattle.wtp_core.specs.declared.error.Refused.TheVariants as refused
 use Rattle.wtp_core.specs.Source.{Source}
 use Rattle.wtp_core.specs.Sink.{Sink, Took}
@@ -12,7 +12,7 @@ use Rattle.wtp_wire.specs.Held.{Held, new_held, front_held, IsUnfinished}
 use Rattle.wtp_wire.specs.Wire.{wire}
 use Rattle.wtp_fields.specs.Field.{Field}
 use Rattle.wtp_fields.specs.Headers.{payload, headers_at, PayloadNeedsMemory}
-use Rattle.wtransport_proto.specs.declared.stream.polled.IoReadError.{IoReadError}
+use Rattle.wtransport_proto.specs.declared.stream.error.IoReadError.{IoReadError}
 use Rattle.wtransport_proto.specs.declared.exchange.SendError.{SendError}
 use Rattle.wtransport_proto.specs.declared.exchange.SendError.TheVariants as send
 use Rattle.wtransport_proto.specs.declared.exchange.ReceiveError.{ReceiveError}
@@ -23,7 +23,7 @@ use Rattle.wtp_wire.specs.Rule.{Role, RemoteUni, rule}
 use Rattle.wtp_wire.specs.Run.{skip_unknown, run}
 use Rattle.wtransport_proto.specs.HeldRun.{tail_of, run_of, size_of}
 use Rattle.wtransport_proto.specs.Polls.{GivesNone, Series}
-use Rattle.wtransport_proto.specs.StreamPolling.{EndsSo, Exhausted}
+use Rattle.wtransport_proto.specs.StreamPolling.{EndsWithFault, Exhausted}
 use Rattle.wtransport_proto.specs.Reading.{FirstAfter}
 
 -- In all of these, a and b are the models of the sink or the source before and after the call.
@@ -73,7 +73,7 @@ pub record KeptPlace (role : Role) (first next : Bool) (held : Held) (a b : Sour
   pub known : past_front (front_held held b.ahead) ≡ front (skip_unknown a.ahead)
   pub flag : next ≡ first
 
--- Each of this many turns waited or passed an unknown frame or 4096 bytes of it; if the input
+-- Each of this many turns waited or skipped an unknown frame or 4096 bytes of it; if the input
 -- starts with a frame, it still does, and each waited.
 pub record Turned (role : Role) (first next : Bool) (turns : ℕ) (held : Held) (a b : Source) : Type
     0 where
@@ -84,7 +84,7 @@ pub record Turned (role : Role) (first next : Bool) (turns : ℕ) (held : Held) 
       (f : Content) (rest : List ℕ) → front a.ahead ≡ Framed f rest
       → (front_held held b.ahead ≡ Framed f rest) × (a.waits + turns ≤ b.waits)
 
--- Fewer than this many turns waited or passed some of an unknown frame, and then allocation failed
+-- Fewer than this many turns waited or skipped some of an unknown frame, and then allocation failed
 -- for the payload of a frame.
 pub record Lacked (role : Role) (first next : Bool) (turns : ℕ) (held : Held) (a b : Source) : Type
     0 where
@@ -111,7 +111,7 @@ LeftIsAfter Short left = left ≡ []
 
 -- the stream gives no more frames, and ends with this fault
 pub record Breaks (role : Role) (first next : Bool) (x : IoReadError) (a b : Source) : Type 0 where
-  pub ends : EndsSo (run role first a.ahead (tail_of a.ending)) [] x
+  pub ends : EndsWithFault (run role first a.ahead (tail_of a.ending)) [] x
   pub flag : FirstAfter role first (front (skip_unknown a.ahead)) next
   pub place : LeftIsAfter (front (skip_unknown a.ahead)) b.ahead
   pub dry : Exhausted x b

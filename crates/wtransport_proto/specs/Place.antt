@@ -87,15 +87,15 @@ place_of role first h s = place_held role first h s.ahead
 
 -- ---- nothing is lost
 
--- the bytes are the head and a first part of the payload of an unknown frame, followed by left; due
--- more payload bytes are left to skip
+-- the bytes are the head and a first part of the payload of an unknown frame, followed by left;
+-- skip_remaining more payload bytes are left to skip
 pub record BeginsUnknown (whole : List ℕ) (skip_remaining : ℕ) (left : List ℕ) : Type 0 where
   pub head : List ℕ
   pub payload : List ℕ
   pub parts : whole ≡ (head ++ payload) ++ left
   pub is_head : IsUnknownHead (length payload + skip_remaining) head
 
--- of due bytes left to skip, some were received, and now is the number left after that
+-- of skip_remaining bytes left to skip, some were received, and now is the number left after that
 pub record SkipAdvances (skip_remaining : ℕ) (ahead : List ℕ) (now : ℕ) (left : List ℕ) : Type 0 where
   pub payload : List ℕ
   pub parts : ahead ≡ payload ++ left

@@ -8,8 +8,8 @@ use Rattle.wtransport_proto.specs.declared.exchange.ExchangeError.{ExchangeError
 use Rattle.wtransport_proto.specs.declared.exchange.ExchangeError.TheVariants.{Receive}
 use Rattle.wtransport_proto.specs.declared.exchange.ReceiveError.{ReceiveError}
 use Rattle.wtransport_proto.specs.declared.exchange.ReceiveError.TheVariants.{Stream, OtherKind, Section}
-use Rattle.wtransport_proto.specs.declared.stream.polled.IoReadError.{IoReadError}
-use Rattle.wtransport_proto.specs.declared.stream.polled.IoReadError.TheVariants.{H3, IO}
+use Rattle.wtransport_proto.specs.declared.stream.error.IoReadError.{IoReadError}
+use Rattle.wtransport_proto.specs.declared.stream.error.IoReadError.TheVariants.{H3, IO}
 
 -- the error code of a stream error, or None if the source gave no more bytes
 abbrev pub stream_code : IoReadError → Option ErrorCode

@@ -2,18 +2,18 @@
 use Rattle.std.specs.Prelude.{◌≡◌, ◌≢◌, ◌⊎◌, ◌<◌, ◌≤◌, Bool, false, List, [], ◌++◌, length, Option, Some, None, Result, Ok, Err}
 use Rattle.wtp_core.specs.declared.error.ErrorCode.{ErrorCode}
 use Rattle.wtp_core.specs.declared.error.ErrorCode.TheVariants.{Id, ExcessiveLoad, Frame}
-use Rattle.wtp_core.specs.declared.bytes.polled.Polled.{Polled}
-use Rattle.wtp_core.specs.declared.bytes.polled.Polled.TheVariants.{Ready, Pending, Again, NoMemory}
-use Rattle.wtp_core.specs.declared.bytes.polled.IoReadError as bytes
-use Rattle.wtp_core.specs.declared.bytes.polled.IoReadError.TheVariants as io
+use Rattle.wtp_core.specs.declared.bytes.poll.Polled.{Polled}
+use Rattle.wtp_core.specs.declared.bytes.poll.Polled.TheVariants.{Ready, Pending, Again, NoMemory}
+use Rattle.wtp_core.specs.declared.bytes.error.IoReadError as bytes
+use Rattle.wtp_core.specs.declared.bytes.error.IoReadError.TheVariants as io
 use Rattle.wtp_core.specs.Source.{Source, HasModel}
 use Rattle.wtp_wire.specs.declared.frame.reading.IoReadError as wire
 use Rattle.wtp_wire.specs.Content.{Content, kind_in}
 use Rattle.wtp_wire.specs.Front.{Front, Framed, Unknown, BadId, TooBig, Short}
 use Rattle.wtp_wire.specs.Held.{Held, new_held, front_held, Skips, Leaves}
 use Rattle.wtp_wire.specs.FramePolling.{Decided, WantsPayload, KeepsHeld, Answered, HoldsHead, FramePolled, FrameGiven}
-use Rattle.wtransport_proto.specs.declared.stream.polled.IoReadError.{IoReadError}
-use Rattle.wtransport_proto.specs.declared.stream.polled.IoReadError.TheVariants as stream
+use Rattle.wtransport_proto.specs.declared.stream.error.IoReadError.{IoReadError}
+use Rattle.wtransport_proto.specs.declared.stream.error.IoReadError.TheVariants as stream
 use Rattle.wtp_wire.specs.Rule.{Role, rule}
 use Rattle.wtransport_proto.specs.Reading.{FirstAfter}
 use Rattle.wtp_wire.specs.Run.{Run, Ending, H3, ImmediateFin, Reset, NotConnected}
@@ -38,7 +38,7 @@ stream_fault io.Reset = stream.IO io.Reset
 stream_fault io.NotConnected = stream.IO io.NotConnected
 
 -- the run is these frames and this fault
-pub record EndsSo (r : Run) (fs : List Content) (x : IoReadError) : Type 0 where
+pub record EndsWithFault (r : Run) (fs : List Content) (x : IoReadError) : Type 0 where
   pub frames : r.frames ≡ fs
   pub fault : IsStreamFault x r.ending
 
@@ -68,14 +68,14 @@ SourceIsAfter Short old new a b = Leaves old new a b × (b.ahead ≡ [])
 -- the run has no more frames, and ends with this fault
 pub record Faults (role : Role) (first next : Bool) (old new : Held) (x : IoReadError)
     (a b : Source) : Type 0 where
-  pub ends : EndsSo (run_of role first old a) [] x
+  pub ends : EndsWithFault (run_of role first old a) [] x
   pub size : size_of new b ≤ size_of old a
   pub flag : FirstAfter role first (front_held old a.ahead) next
   pub place : SourceIsAfter (front_held old a.ahead) old new a b
   pub dry : Exhausted x b
 
 -- an unknown frame was skipped; or 4096 bytes of its payload, and some are still to be skipped
-pub record PassesUnknown (first next : Bool) (old new : Held) (a b : Source) : Type 0 where
+pub record SkipsUnknown (first next : Bool) (old new : Held) (a b : Source) : Type 0 where
   pub skips : Skips old new a b
   pub whole : new.skip_remaining ≡ 0 → Decided old new a b Unknown
   pub part :
@@ -99,7 +99,7 @@ StreamPolled role (Ready (Ok f)) first next old new a b =
 StreamPolled role (Ready (Err x)) first next old new a b = Faults role first next old new x a b
 StreamPolled role Pending first next old new a b =
     Leaves old new a b × (next ≡ first) × (a.waits < b.waits)
-StreamPolled role Again first next old new a b = PassesUnknown first next old new a b
+StreamPolled role Again first next old new a b = SkipsUnknown first next old new a b
 StreamPolled role NoMemory first next old new a b = LacksMemory first next old new a b
 
 -- ---- of every source, also of one without a model
@@ -115,8 +115,8 @@ CodeGiven role first next old new c =
     ⊎ ((c ≡ Frame) × KeepsHeld old new × (next ≡ first))
 
 -- an unknown frame was given completely, or a part of its payload
-abbrev pub PassGiven : Held → Held → Type 0
-PassGiven old new = Answered old new Unknown ⊎ (KeepsHeld old new × (0 < new.skip_remaining))
+abbrev pub UnknownGiven : Held → Held → Type 0
+UnknownGiven old new = Answered old new Unknown ⊎ (KeepsHeld old new × (0 < new.skip_remaining))
 
 abbrev pub StreamGiven :
     Role → Polled (Result Content IoReadError) → Bool → Bool → Held → Held → Type 0
@@ -127,7 +127,7 @@ StreamGiven role (Ready (Err (stream.H3 c))) first next old new =
 StreamGiven role (Ready (Err (stream.IO e))) first next old new =
     KeepsHeld old new × (next ≡ first) × (e ≢ io.UnexpectedFin)
 StreamGiven role Pending first next old new = KeepsHeld old new × (next ≡ first)
-StreamGiven role Again first next old new = PassGiven old new × (next ≡ first)
+StreamGiven role Again first next old new = UnknownGiven old new × (next ≡ first)
 StreamGiven role NoMemory first next old new =
     KeepsHeld old new × (new.skip_remaining ≡ 0) × HoldsHead new.taken × (next ≡ first)
 

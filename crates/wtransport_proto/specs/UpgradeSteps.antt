@@ -1,10 +1,10 @@
 -- Polled upgrades of streams.
 use Rattle.std.specs.Prelude.{◌≡◌, ◌≢◌, ◌⊎◌, ℕ, ◌+◌, ◌<◌, List, [], ◌++◌, length, drop}
-use Rattle.wtp_core.specs.declared.bytes.polled.Stepped.{Stepped}
-use Rattle.wtp_core.specs.declared.bytes.polled.Stepped.TheVariants.{Done, Pending, NoMemory, Failed}
-use Rattle.wtp_core.specs.declared.bytes.polled.IoReadError.TheVariants as read
-use Rattle.wtp_core.specs.declared.bytes.polled.IoWriteError.{IoWriteError}
-use Rattle.wtp_core.specs.declared.bytes.polled.IoWriteError.TheVariants as write
+use Rattle.wtp_core.specs.declared.bytes.poll.Stepped.{Stepped}
+use Rattle.wtp_core.specs.declared.bytes.poll.Stepped.TheVariants.{Done, Pending, NoMemory, Failed}
+use Rattle.wtp_core.specs.declared.bytes.error.IoReadError.TheVariants as read
+use Rattle.wtp_core.specs.declared.bytes.error.IoWriteError.{IoWriteError}
+use Rattle.wtp_core.specs.declared.bytes.error.IoWriteError.TheVariants as write
 use Rattle.wtp_core.specs.declared.error.ErrorCode.{ErrorCode}
 use Rattle.wtp_core.specs.declared.error.ErrorCode.TheVariants.{StreamCreation, Id, Frame}
 use Rattle.wtp_core.specs.Source.{Source}
@@ -20,8 +20,8 @@ use Rattle.wtransport_proto.specs.declared.stream.types.UniLocal.{UniLocal}
 use Rattle.wtransport_proto.specs.declared.stream.types.UniRemote.{UniRemote}
 use Rattle.wtransport_proto.specs.declared.stream.types.H3.{H3}
 use Rattle.wtransport_proto.specs.declared.stream.types.WT.{WT}
-use Rattle.wtransport_proto.specs.declared.stream.polled.IoReadError.{IoReadError}
-use Rattle.wtransport_proto.specs.declared.stream.polled.IoReadError.TheVariants as stream
+use Rattle.wtransport_proto.specs.declared.stream.error.IoReadError.{IoReadError}
+use Rattle.wtransport_proto.specs.declared.stream.error.IoReadError.TheVariants as stream
 use Rattle.wtransport_proto.specs.declared.stream.upgrading.BiUpgrading.{BiUpgrading}
 use Rattle.wtransport_proto.specs.declared.stream.upgrading.UniUpgrading.{UniUpgrading}
 use Rattle.wtransport_proto.specs.declared.stream.accepting.UniAccepting.{UniAccepting}

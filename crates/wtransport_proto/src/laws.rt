@@ -53,7 +53,7 @@ pub fn run_passes_unknown()
 {}
 
 /// The bytes after the unknown frames at the start, given by the first frame.
-pub fn past_unknown_by_front()
+pub fn skip_unknown_by_front()
     ensures unknown { (bytes rest : List ℕ) → front bytes ≡ Unknown rest
         → skip_unknown bytes ≡ skip_unknown rest }
     ensures known { (bytes : List ℕ) → ((rest : List ℕ) → front bytes ≢ Unknown rest)

@@ -32,9 +32,9 @@ pub(crate) fn warn_of_frame(
 fn control_warning(reading: &mut Reading, name: FrameName) -> Option<&'static str>
     ensures { reading.new.phase ≡ reading.old.phase }
 {
-    let begun = reading.begun;
-    reading.begun = true;
-    match (name, begun) {
+    let saw_control_frame = reading.saw_control_frame;
+    reading.saw_control_frame = true;
+    match (name, saw_control_frame) {
         (FrameName::Read(FrameKind::Settings), false) => None,
         (FrameName::Read(FrameKind::Settings), true) => {
             Some("SETTINGS is sent once: H3_FRAME_UNEXPECTED (RFC 9114, section 7.2.4)")

@@ -6,9 +6,10 @@ ghost use Rattle.wtp_core.specs.Varint.{number_at};
 ghost use Rattle.wtp_core.specs.VarintLenNeeded.{varint_len_needed, IsCutNumber, varint_need_most, varint_need_grows};
 ghost use Rattle.wtp_core.specs.Get.{VarintPolled, VarintGiven, BufferPolled, BufferGiven};
 
-use crate::bytes::polled::{IoReadError, Polled};
+use crate::bytes::error::IoReadError;
+use crate::bytes::poll::Polled;
 use crate::bytes::source::AsyncRead;
-use crate::polling::fill::{fill, halt_result};
+use crate::polling::fill::{fill, interrupt_result};
 use crate::polling::head::{Prefix, fill_prefix};
 use crate::varint::{VarInt, first_varint};
 use std::marker::Model;
@@ -31,7 +32,7 @@ struct VarintPrefix;
 impl Prefix for VarintPrefix {
     ghost len_needed = { varint_len_needed };
 
-    ghost most = { 8 };
+    ghost max_len = { 8 };
 
     fn len_needed(held: &[u8]) -> usize {
         varint_len_needed(held)
@@ -87,7 +88,7 @@ impl GetVarint {
     {
         match fill_prefix::<VarintPrefix, S>(source, &mut self.bytes, &mut self.len) {
             Ok(()) => {}
-            Err(halt) => return halt_result(halt, self.len),
+            Err(interrupt) => return interrupt_result(interrupt, self.len),
         }
         let Some((value, _)) = first_varint(&self.bytes[..self.len]) else {
             unreachable!()
@@ -144,7 +145,7 @@ impl<'a> GetBuffer<'a> {
         }
         match fill(source, self.buffer, &mut self.filled) {
             Ok(()) => Polled::Ready(Ok(())),
-            Err(halt) => halt_result(halt, self.filled),
+            Err(interrupt) => interrupt_result(interrupt, self.filled),
         }
     }
 }

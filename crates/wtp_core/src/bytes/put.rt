@@ -4,7 +4,8 @@ ghost use Rattle.wtp_core.specs.Source.{HasModel};
 ghost use Rattle.wtp_core.specs.Varint.{shortest};
 ghost use Rattle.wtp_core.specs.Put.{Writing, unsent, GoesOn, IsSent, WritePolled};
 
-use crate::bytes::polled::{IoWriteError, Polled};
+use crate::bytes::error::IoWriteError;
+use crate::bytes::poll::Polled;
 use crate::bytes::sink::AsyncWrite;
 use crate::polling::drain::drain;
 use crate::polling::encoded::VarintWriting;

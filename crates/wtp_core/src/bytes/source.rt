@@ -44,8 +44,7 @@ pub trait AsyncRead {
     }
 
     /// Takes `count` of the bytes ahead and returns `true`, or changes nothing and returns `false`.
-    /// A source may return `false` for any `count`, even if `buffered` returns that many bytes. Not
-    /// in the Rust crate.
+    /// A source may return `false` for any `count`, even if `buffered` returns that many bytes.
     fn take_buffered(&mut self, count: usize) -> bool
         ensures taken { IsTrue result
             → HasModel (model self.old) (model self.new) (TakesBuffered count) }

@@ -3,8 +3,7 @@ ghost use Rattle.std.specs.Prelude.{◌≡◌, ◌≤◌, length, Ok};
 ghost use Rattle.wtp_core.specs.Source.{HasModel};
 ghost use Rattle.wtp_core.specs.Put.{writing, GoesOn, IsSent, WritePolled};
 
-use crate::bytes::polled::{IoWriteError, Polled};
-use crate::bytes::sink::{AsyncWrite, WriteStep};
+use crate::bytes::{AsyncWrite, IoWriteError, Polled, WriteStep};
 
 /// Writes `bytes` from index `sent` on until the sink has taken all of them, and moves `sent` past
 /// the bytes taken.

@@ -4,10 +4,7 @@ ghost use Rattle.wtp_core.specs.Source.{HasModel};
 ghost use Rattle.wtp_core.specs.Varint.{shortest};
 ghost use Rattle.wtp_core.specs.Put.{Writing, unsent, GoesOn, IsSent, WritePolled};
 
-use crate::bytes::buffer_writer::BufferWriter;
-use crate::bytes::polled::{IoWriteError, Polled};
-use crate::bytes::sink::AsyncWrite;
-use crate::bytes::writer::BytesWriter;
+use crate::bytes::{AsyncWrite, BufferWriter, BytesWriter, IoWriteError, Polled};
 use crate::polling::drain::drain;
 use crate::varint::VarInt;
 use std::marker::Model;

@@ -1,10 +1,9 @@
 //! Reading from a source into a buffer until it is full or the source gives no more.
 ghost use Rattle.std.specs.Prelude.{◌≡◌, ◌≤◌, length, take};
 ghost use Rattle.wtp_core.specs.Source.{HasModel};
-ghost use Rattle.wtp_core.specs.Fill.{FillKeepsLengths, FillModel, HaltWaits, halt_fault, HaltsAs};
+ghost use Rattle.wtp_core.specs.Fill.{FillKeepsLengths, FillModel, InterruptWaits, interrupt_fault, InterruptsAs};
 
-use crate::bytes::polled::{IoReadError, Polled};
-use crate::bytes::source::{AsyncRead, ReadStep};
+use crate::bytes::{AsyncRead, IoReadError, Polled, ReadStep};
 
 /// The reason why a buffer was not filled.
 #[derive(Clone, Copy, Debug)]
@@ -35,7 +34,7 @@ pub fn fill<S: AsyncRead>(source: &mut S, buf: &mut [u8], at: &mut usize) -> Res
     ensures lengths { FillKeepsLengths result at.new (length buf.new) }
     ensures model { FillModel result (take at.old buf.old) (take at.new buf.new)
         (S.model source.old) (S.model source.new) }
-    ensures waits { HasModel (S.model source.old) (S.model source.new) (HaltWaits result) }
+    ensures waits { HasModel (S.model source.old) (S.model source.new) (InterruptWaits result) }
 {
     while *at < buf.len() {
         match source.poll_read(&mut buf[*at..]) {
@@ -54,7 +53,7 @@ impl Interrupted {
     /// is the number of bytes received of the item: `Fin` becomes `ImmediateFin` if it is 0, and
     /// `UnexpectedFin` otherwise. The others become the errors of the same names.
     pub fn fault(self, taken: usize) -> Option<IoReadError>
-        ensures { result ≡ halt_fault self taken }
+        ensures { result ≡ interrupt_fault self taken }
     {
         match self {
             Interrupted::NotReady => None,
@@ -68,10 +67,13 @@ impl Interrupted {
 
 /// Returns the result of a poll that stopped after `taken` bytes: `Pending` if the source was not
 /// ready, and otherwise the error that `Interrupted::fault` returns.
-pub fn halt_result<T, E: From<IoReadError>>(halt: Interrupted, taken: usize) -> Polled<Result<T, E>>
-    ensures { HaltsAs E.from_gives (halt_fault halt taken) result }
+pub fn interrupt_result<T, E: From<IoReadError>>(
+    interrupt: Interrupted,
+    taken: usize,
+) -> Polled<Result<T, E>>
+    ensures { InterruptsAs E.from_gives (interrupt_fault interrupt taken) result }
 {
-    match halt.fault(taken) {
+    match interrupt.fault(taken) {
         None => Polled::Pending,
         Some(fault) => Polled::Ready(Err(E::from(fault))),
     }

@@ -2,9 +2,9 @@
 //! determine its length.
 ghost use Rattle.std.specs.Prelude.{◌≡◌, ℕ, ◌<◌, ◌≤◌, List, ◌++◌, length, take, OnOk, OnErr};
 ghost use Rattle.wtp_core.specs.Source.{HasModel};
-ghost use Rattle.wtp_core.specs.Fill.{FillModel, HaltWaits};
+ghost use Rattle.wtp_core.specs.Fill.{FillModel, InterruptWaits};
 
-use crate::bytes::source::AsyncRead;
+use crate::bytes::AsyncRead;
 use crate::polling::fill::{Interrupted, fill};
 
 /// A kind of head, given by the length that the bytes received so far determine.
@@ -13,14 +13,14 @@ pub trait Prefix {
     ghost len_needed: { List ℕ → ℕ };
 
     // An upper bound of `len_needed`.
-    ghost most: { ℕ };
+    ghost max_len: { ℕ };
 
     /// Returns the minimum length of a head that starts with the bytes `held`.
     fn len_needed(held: &[u8]) -> usize
         requires { length held.now ≤ len_needed held.now }
         ensures { result ≡ len_needed held.now };
 
-    ghost need_most: { (h : List ℕ) → len_needed h ≤ most };
+    ghost need_most: { (h : List ℕ) → len_needed h ≤ max_len };
 
     // It does not decrease when more bytes are received.
     ghost need_grows: { (h t : List ℕ) → len_needed h ≤ len_needed (h ++ t) };
@@ -39,7 +39,7 @@ pub fn fill_prefix<H: Prefix, S: AsyncRead>(
     len: &mut usize,
 ) -> Result<(), Interrupted>
     requires within { len.old ≤ H.len_needed (take len.old buf.old) }
-    requires room { H.most ≤ length buf.old }
+    requires room { H.max_len ≤ length buf.old }
     ensures whole { OnOk result (H.len_needed (take len.new buf.new) ≡ len.new) }
     ensures cut { OnErr result (len.new < H.len_needed (take len.new buf.new)) }
     ensures forward { len.old ≤ len.new }
@@ -50,7 +50,7 @@ pub fn fill_prefix<H: Prefix, S: AsyncRead>(
         → (len.new ≡ len.old) × (buf.new ≡ buf.old) }
     ensures model { FillModel result (take len.old buf.old) (take len.new buf.new)
         (S.model source.old) (S.model source.new) }
-    ensures waits { HasModel (S.model source.old) (S.model source.new) (HaltWaits result) }
+    ensures waits { HasModel (S.model source.old) (S.model source.new) (InterruptWaits result) }
 {
     loop {
         let len_needed = H::len_needed(&buf[..*len]);
@@ -59,7 +59,7 @@ pub fn fill_prefix<H: Prefix, S: AsyncRead>(
         }
         match fill(source, &mut buf[..len_needed], len) {
             Ok(()) => {}
-            Err(halt) => return Err(halt),
+            Err(interrupt) => return Err(interrupt),
         }
     }
 }

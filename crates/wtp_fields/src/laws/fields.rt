@@ -32,8 +32,8 @@ pub fn maps_of_lists()
 pub fn sent_lists()
     ensures again { (limit : ℕ) (fields : List Field) → AreOctets fields
         → list_size fields ≤ limit → Reaches limit (section_of fields) fields [] }
-    ensures only { (limit most : ℕ) (section : List ℕ) (fields others : List Field)
-        → Reaches limit section fields [] → Reaches most section others [] → fields ≡ others }
+    ensures only { (limit bound : ℕ) (section : List ℕ) (fields others : List Field)
+        → Reaches limit section fields [] → Reaches bound section others [] → fields ≡ others }
     ensures request { (authority path : List ℕ)
         → request_fault (request_fields authority path) ≡ None }
     ensures map { (authority path : List ℕ)

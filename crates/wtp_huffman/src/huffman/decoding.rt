@@ -122,9 +122,9 @@ pub fn append_decoded(out: &mut Vec<u8>, text: &[u8]) -> Result<bool, HuffmanErr
     ensures empty { length text.now ≡ 0 → IsOk result }
 {
     let start = out.len();
-    let most = text.len() * 2;
-    if out.capacity() - start < most {
-        out.reserve(most)?;
+    let capacity = text.len() * 2;
+    if out.capacity() - start < capacity {
+        out.reserve(capacity)?;
     }
     let none = Vec::new(*out.allocator());
     let mut decoded = replace(out, none);

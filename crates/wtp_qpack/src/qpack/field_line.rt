@@ -193,10 +193,10 @@ fn read_literal_name<'a>(
         → IsTrue (has_coded texts Representation.LiteralName bytes.now)
         × (vec_capacity room.old < length bytes.now * 2) }
 {
-    let most = bytes.len() * 2;
-    let (name, rest) = string_literal::read::<3>(room, most, texts, bytes)?;
+    let capacity = bytes.len() * 2;
+    let (name, rest) = string_literal::read::<3>(room, capacity, texts, bytes)?;
     let middle = room.len();
-    let (value, rest) = string_literal::read::<7>(room, most, texts, rest)?;
+    let (value, rest) = string_literal::read::<7>(room, capacity, texts, rest)?;
     Ok(Parts {
         name,
         value,

@@ -55,33 +55,38 @@ fn check(texts: Texts, bytes: &[u8]) -> Result<(), DecodingError>
     }
 }
 
-/// Allocates `most` bytes for a room that has fewer.
-fn reserve(room: &mut Vec<u8>, most: usize) -> Result<(), AllocError>
-    requires few { vec_len room.old ≤ most }
+/// Allocates `capacity` bytes for a room that has fewer.
+fn reserve(room: &mut Vec<u8>, capacity: usize) -> Result<(), AllocError>
+    requires few { vec_len room.old ≤ capacity }
     ensures items { room.new.items ≡ room.old.items }
     ensures len { vec_len room.new ≡ vec_len room.old }
-    ensures once { Grows true most (vec_capacity room.old) (vec_capacity room.new) }
-    ensures ok { OnOk result (most ≤ vec_capacity room.new) }
-    ensures full { OnErr result (vec_capacity room.old < most) }
+    ensures once { Grows true capacity (vec_capacity room.old) (vec_capacity room.new) }
+    ensures ok { OnOk result (capacity ≤ vec_capacity room.new) }
+    ensures full { OnErr result (vec_capacity room.old < capacity) }
 {
-    if most <= room.capacity() {
+    if capacity <= room.capacity() {
         return Ok(());
     }
-    room.reserve(most - room.len())
+    room.reserve(capacity - room.len())
 }
 
-/// Appends the decoded text to a room, which has `most` bytes afterwards.
-fn decode(room: &mut Vec<u8>, most: usize, texts: Texts, body: &[u8]) -> Result<(), DecodingError>
-    requires fits { vec_len room.old + 2 * length body.now ≤ most }
+/// Appends the decoded text to a room, which has `capacity` bytes afterwards.
+fn decode(
+    room: &mut Vec<u8>,
+    capacity: usize,
+    texts: Texts,
+    body: &[u8],
+) -> Result<(), DecodingError>
+    requires fits { vec_len room.old + 2 * length body.now ≤ capacity }
     ensures read { GivesUnlessMemory (λ _. drop (length room.old.items) room.new.items) result
         (text_of texts true body.now) }
     ensures front { OnOk result (take (length room.old.items) room.new.items ≡ room.old.items) }
     ensures size { OnOk result (vec_len room.new ≤ vec_len room.old + 2 * length body.now) }
-    ensures once { Grows true most (vec_capacity room.old) (vec_capacity room.new) }
-    ensures memory { result ≡ Err Memory → vec_capacity room.old < most }
+    ensures once { Grows true capacity (vec_capacity room.old) (vec_capacity room.new) }
+    ensures memory { result ≡ Err Memory → vec_capacity room.old < capacity }
 {
     let start = room.len();
-    reserve(room, most)?;
+    reserve(room, capacity)?;
     match huffman::append_decoded(room, body) {
         Ok(true) => Ok(()),
         Ok(false) => check(texts, &room[start..]),
@@ -102,27 +107,27 @@ pub fn has_flag<const N: u32>(bytes: &[u8]) -> bool
 
 /// Reads the string at the start, with its length in the low `N` bits of the first byte. Returns
 /// its text, or `None` if it was appended to `room`, and the bytes after it. The room allocates
-/// `most` bytes at once.
+/// `capacity` bytes at once.
 #[inline(always)]
 #[tactic(auto, unfolding(crate::specs::StringLiteral::string_in))]
 pub fn read<'a, const N: u32>(
     room: &mut Vec<u8>,
-    most: usize,
+    capacity: usize,
     texts: Texts,
     bytes: &'a [u8],
 ) -> Result<(Option<&'a [u8]>, &'a [u8]), DecodingError>
     requires some { 1 ≤ N }
     requires few { N ≤ 7 }
-    requires fits { vec_len room.old + 2 * length bytes.now ≤ most }
+    requires fits { vec_len room.old + 2 * length bytes.now ≤ capacity }
     ensures read { GivesUnlessMemory (seen_string (drop (length room.old.items) room.new.items))
         result (string_in texts N bytes.now) }
     ensures front { OnOk result (take (length room.old.items) room.new.items ≡ room.old.items) }
     ensures size { IfOk result (λ x. vec_len room.new + 2 * length x.1.now
         ≤ vec_len room.old + 2 * length bytes.now) }
-    ensures once { Grows (is_coded N bytes.now) most
+    ensures once { Grows (is_coded N bytes.now) capacity
         (vec_capacity room.old) (vec_capacity room.new) }
     ensures memory { result ≡ Err Memory
-        → IsTrue (is_coded N bytes.now) × (vec_capacity room.old < most) }
+        → IsTrue (is_coded N bytes.now) × (vec_capacity room.old < capacity) }
 {
     let (size, rest) = integer::read::<N>(bytes)?;
     if size > rest.len() as u64 {
@@ -133,7 +138,7 @@ pub fn read<'a, const N: u32>(
         check(texts, body)?;
         return Ok((Some(body), behind));
     }
-    decode(room, most, texts, body)?;
+    decode(room, capacity, texts, body)?;
     Ok((None, behind))
 }
 

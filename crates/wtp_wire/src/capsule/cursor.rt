@@ -172,20 +172,20 @@ impl CapsuleCursor {
         }
         let at = skip_remaining as usize;
         match Start::read(bytes.split_at(at).1) {
-            Start::Unknown(number, announced, start) => {
-                self.skip_remaining = announced.into_inner();
+            Start::Unknown(head) => {
+                self.skip_remaining = head.announced.into_inner();
                 AnyCapsule::Unknown(UnknownCapsule {
-                    number,
-                    announced,
-                    start: at + start,
+                    number: head.number,
+                    announced: head.announced,
+                    start: at + head.start,
                 })
             }
-            Start::Value(kind, start, end) => {
+            Start::Known(place) => {
                 self.skip_remaining = 0;
                 AnyCapsule::Known(CapsuleSpan {
-                    kind,
-                    start: at + start,
-                    end: at + end,
+                    kind: place.kind,
+                    start: at + place.start,
+                    end: at + place.end,
                 })
             }
             Start::TooLong => AnyCapsule::TooLong,
@@ -222,10 +222,7 @@ impl CapsuleCursor {
         ensures ending { IsLeftOver self.now rest.now
             → capsules_from self.now rest.now ≡ ends (ending_of result) }
     {
-        if self.skip_remaining > 0 {
-            return Err(TruncatedCapsule);
-        }
-        if rest.len() > 0 {
+        if self.skip_remaining > 0 || !rest.is_empty() {
             return Err(TruncatedCapsule);
         }
         Ok(())
@@ -235,10 +232,10 @@ impl CapsuleCursor {
 /// What bytes start with.
 #[derive(Clone, Copy)]
 enum Start {
-    /// An unknown type, the length of its value, and the size of both.
-    Unknown(VarInt, VarInt, usize),
-    /// A capsule of this kind; the offset of its value, and that of the byte after it.
-    Value(CapsuleKind, usize, usize),
+    /// An unknown type and the length of its value.
+    Unknown(UnknownCapsule),
+    /// A complete capsule of a known kind.
+    Known(CapsuleSpan),
     /// The type and the length of a value that is too long.
     TooLong,
     /// Fewer bytes than a type, a length, and a value of a known kind.
@@ -256,14 +253,23 @@ impl Start {
             return Start::Cut;
         };
         let Some(kind) = CapsuleKind::parse(head.first) else {
-            return Start::Unknown(head.first, head.second, head.size);
+            return Start::Unknown(UnknownCapsule {
+                number: head.first,
+                announced: head.second,
+                start: head.size,
+            });
         };
         let Some(len) = value_len(kind, head.second) else {
             return Start::TooLong;
         };
-        if len > bytes.len() - head.size {
+        let start = head.size;
+        if len > bytes.len() - start {
             return Start::Cut;
         }
-        Start::Value(kind, head.size, head.size + len)
+        Start::Known(CapsuleSpan {
+            kind,
+            start,
+            end: start + len,
+        })
     }
 }

@@ -39,7 +39,7 @@ pub(crate) struct FramePrefix;
 impl Prefix for FramePrefix {
     ghost len_needed = { frame_need };
 
-    ghost most = { 16 };
+    ghost max_len = { 16 };
 
     #[inline(always)]
     fn len_needed(held: &[u8]) -> usize {

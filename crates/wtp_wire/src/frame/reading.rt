@@ -4,7 +4,7 @@ ghost use Rattle.wtp_core.specs.Source.{HasModel};
 ghost use Rattle.wtp_core.specs.Polled.{PollsAtMost, WaitsAs};
 ghost use Rattle.wtp_wire.specs.Held.{new_held, IsUnfinished};
 ghost use Rattle.wtp_wire.specs.FramePolling.{FramePolled, FrameGiven};
-ghost use Rattle.wtp_wire.specs.FrameSteps.{CanAnswer, IsAnswer, IsFramed, TakesFrame, PassedOn, PassedPlain};
+ghost use Rattle.wtp_wire.specs.FrameSteps.{CanAnswer, IsAnswer, IsFramed, TakesFrame, SkipPolled, SkipGiven};
 
 mod part;
 
@@ -19,7 +19,7 @@ use std::fmt;
 use std::marker::Model;
 use wtp_core::bytes;
 use wtp_core::bytes::{AsyncRead, Polled};
-use wtp_core::polling::fill::halt_result;
+use wtp_core::polling::fill::interrupt_result;
 use wtp_core::polling::skip_ahead::skip_bytes;
 
 /// The reason why no frame was read from a source.
@@ -154,7 +154,7 @@ impl FrameReading {
         }
         let announcement = match self.part.advance(source) {
             Ok(announcement) => announcement,
-            Err(ReadInterrupted::Source(halt)) => return halt_result(halt, self.part.len()),
+            Err(ReadInterrupted::Source(why)) => return interrupt_result(why, self.part.len()),
             Err(ReadInterrupted::NoMemory) => return Polled::NoMemory,
         };
         let payload = self.part.take_payload(self.alloc);
@@ -208,9 +208,9 @@ fn skip_payload<S: AsyncRead>(
     source: &mut S,
     skip_remaining: &mut u64,
 ) -> Polled<Result<FrameOwned, IoReadError>>
-    ensures plain { PassedPlain result skip_remaining.old skip_remaining.new }
-    ensures passed { HasModel (S.model source.old) (S.model source.new)
-        (PassedOn result skip_remaining.old skip_remaining.new) }
+    ensures plain { SkipGiven result skip_remaining.old skip_remaining.new }
+    ensures skipped { HasModel (S.model source.old) (S.model source.new)
+        (SkipPolled result skip_remaining.old skip_remaining.new) }
     ensures waits { HasModel (S.model source.old) (S.model source.new) (WaitsAs result) }
 {
     match skip_bytes(source, skip_remaining) {
@@ -221,6 +221,6 @@ fn skip_payload<S: AsyncRead>(
                 Polled::Again
             }
         }
-        Err(halt) => halt_result(halt, 1),
+        Err(interrupt) => interrupt_result(interrupt, 1),
     }
 }

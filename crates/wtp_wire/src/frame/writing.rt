@@ -36,8 +36,7 @@ impl FrameWriting<'static> {
     ghost use Rattle.wtp_wire.specs.Content.{WebTransportOf};
     ghost use Rattle.wtp_wire.specs.Wire.{wire};
 
-    /// Returns a state that writes the WebTransport frame of this session. Nothing is sent yet. Not
-    /// in the Rust crate.
+    /// Returns a state that writes the WebTransport frame of this session. Nothing is sent yet.
     pub fn of_session(session_id: SessionId) -> Self
         ensures { result ≡ unsent (wire (WebTransportOf session_id)) }
     {

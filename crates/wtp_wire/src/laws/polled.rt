@@ -13,7 +13,7 @@ pub fn held_is_in_front()
 
 /// The bytes that a poll skipped, followed by any bytes in the number left to skip, are an unknown
 /// frame; or, if bytes were left to skip before, exactly that many bytes.
-pub fn passed_is_unknown()
+pub fn skipped_is_unknown()
     ensures begun { (old new : Held) (a b : Source) (s : Skips old new a b) (z : List ℕ)
         → length z ≡ new.skip_remaining → old.skip_remaining ≡ 0
         → IsUnknown ((s.head ++ s.payload) ++ z) }

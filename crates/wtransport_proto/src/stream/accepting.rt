@@ -1,7 +1,7 @@
 //! Polled reading of the start of a stream that the peer opened: the header of a unidirectional
 //! stream, or the first frame of a bidirectional one.
 use crate::stream::biremote::{StreamBiRemoteH3, StreamBiRemoteWT};
-use crate::stream::polled::stream_fault;
+use crate::stream::error::stream_fault;
 use crate::stream::types::H3;
 use crate::stream::uniremote::{StreamUniRemoteH3, StreamUniRemoteQuic};
 use crate::stream::{IoReadError, Stream};

@@ -23,7 +23,7 @@ ghost use Rattle.wtransport_proto.specs.Upgrading.{write_answer};
 use crate::stream::reading::{self, Rule};
 use crate::stream::session::StreamSession;
 use crate::stream::types::{Bi, BiLocal, H3, Quic, Session, WT};
-use crate::stream::{BiUpgrading, IoReadError, IoWriteError, Stream, polled};
+use crate::stream::{BiUpgrading, IoReadError, IoWriteError, Stream, poll};
 use wtp_core::bytes::{
     AsyncRead, AsyncWrite, BufferReader, BufferWriter, BytesReader, BytesWriter, EndOfBuffer,
     Polled, PutError,
@@ -130,7 +130,7 @@ impl StreamBiLocalH3 {
         ensures waits { HasModel (S.model source.old) (S.model source.new) (WaitsAs result) }
         ensures asks { HasModel (S.model source.old) (S.model source.new) (PollsAtMost 4112) }
     {
-        polled::apply_rule::<Self>(false, reading.poll(source))
+        poll::apply_rule::<Self>(false, reading.poll(source))
     }
 
     /// Writes a frame as `Frame::write` does, and consumes it. Requires that its kind is not

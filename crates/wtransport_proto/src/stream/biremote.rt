@@ -21,7 +21,7 @@ ghost use Rattle.wtransport_proto.specs.Streams.{first_of, request_of, session_o
 use crate::stream::reading::{self, Rule};
 use crate::stream::session::StreamSession;
 use crate::stream::types::{Bi, BiRemote, H3, Quic, Session, WT};
-use crate::stream::{BiAccepting, IoReadError, IoWriteError, Stream, polled};
+use crate::stream::{BiAccepting, IoReadError, IoWriteError, Stream, poll};
 use wtp_core::bytes::{
     AsyncRead, AsyncWrite, BufferReader, BufferWriter, BytesReader, BytesWriter, EndOfBuffer,
     Polled, PutError,
@@ -147,7 +147,7 @@ impl StreamBiRemoteH3 {
         if let Polled::Ready(Ok(_)) = answer {
             self.stage.first_frame_done = true;
         }
-        polled::apply_rule::<Self>(first, answer)
+        poll::apply_rule::<Self>(first, answer)
     }
 
     /// Returns a state that reads the first frame, poll by poll, by the rules of `read_frame`: of a

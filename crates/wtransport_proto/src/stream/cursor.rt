@@ -155,7 +155,7 @@ impl FrameCursor {
         if self.skip_remaining > 0 {
             return Err(ErrorCode::Frame);
         }
-        if rest.len() > 0 {
+        if !rest.is_empty() {
             return Err(ErrorCode::Frame);
         }
         Ok(())

@@ -19,7 +19,7 @@ ghost use Rattle.wtransport_proto.specs.Streams.{request_of};
 
 use crate::stream::reading::{self, Rule};
 use crate::stream::types::{Bi, Session};
-use crate::stream::{IoReadError, IoWriteError, Stream, polled};
+use crate::stream::{IoReadError, IoWriteError, Stream, poll};
 use wtp_core::bytes::{
     AsyncRead, AsyncWrite, BufferReader, BufferWriter, BytesReader, BytesWriter, EndOfBuffer,
     Polled, PutError,
@@ -96,7 +96,7 @@ impl StreamSession {
         ensures waits { HasModel (S.model source.old) (S.model source.new) (WaitsAs result) }
         ensures asks { HasModel (S.model source.old) (S.model source.new) (PollsAtMost 4112) }
     {
-        polled::apply_rule::<Self>(false, reading.poll(source))
+        poll::apply_rule::<Self>(false, reading.poll(source))
     }
 
     /// Writes a frame as `Frame::write` does, and consumes it.

@@ -17,7 +17,7 @@ ghost use Rattle.wtransport_proto.specs.Upgrading.{AnswersUpgrade};
 
 use crate::stream::reading::{self, Rule};
 use crate::stream::types::{H3, Quic, UniRemote, WT};
-use crate::stream::{IoReadError, Stream, UniAccepting, polled};
+use crate::stream::{IoReadError, Stream, UniAccepting, poll};
 use wtp_core::bytes::{AsyncRead, BufferReader, BytesReader, Polled};
 use wtp_core::error::ErrorCode;
 use wtp_wire::frame::{Frame, FrameKind, FrameOwned, FrameReading};
@@ -176,7 +176,7 @@ impl StreamUniRemoteH3 {
         ensures same { self.new ≡ self.old }
         ensures readable { CanRead self.new }
     {
-        polled::apply_rule::<Self>(false, reading.poll(source))
+        poll::apply_rule::<Self>(false, reading.poll(source))
     }
 }
 

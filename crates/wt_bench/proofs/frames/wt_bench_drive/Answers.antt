@@ -1,6 +1,6 @@
 use Rattle.std.proofs.Common.{◌≡◌, ◌<◌, ◌^◌, true, length, rules, arith, ◌∙◌, to_z, of_z, w64}
-use Rattle.wtp_core.specs.declared.bytes.polled.IoReadError.TheVariants as io
-use Rattle.wtransport_proto.specs.declared.stream.polled.IoReadError.TheVariants.{IO}
+use Rattle.wtp_core.specs.declared.bytes.error.IoReadError.TheVariants as io
+use Rattle.wtransport_proto.specs.declared.stream.error.IoReadError.TheVariants.{IO}
 use Rattle.wtransport_proto.specs.Rule.{RemoteBi}
 use Rattle.wtransport_proto.specs.Run.{Ended}
 use Rattle.wt_bench.proofs.CountLemmas.{counted_none, counted_more, counted_few, counted_end, ended_few, all_driven, run_ahead}

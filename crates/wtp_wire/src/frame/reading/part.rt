@@ -107,7 +107,7 @@ impl PartialFrame {
     {
         match fill_prefix::<FramePrefix, S>(source, &mut self.head, &mut self.len) {
             Ok(()) => {}
-            Err(halt) => return Err(ReadInterrupted::Source(halt)),
+            Err(interrupt) => return Err(ReadInterrupted::Source(interrupt)),
         }
         let announcement = read_head(&self.head[..self.len]);
         match announcement {
@@ -139,7 +139,7 @@ impl PartialFrame {
         }
         match fill(source, self.payload.as_mut_slice(), &mut self.filled) {
             Ok(()) => Ok(()),
-            Err(halt) => Err(ReadInterrupted::Source(halt)),
+            Err(interrupt) => Err(ReadInterrupted::Source(interrupt)),
         }
     }
 

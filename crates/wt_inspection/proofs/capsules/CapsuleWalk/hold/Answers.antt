@@ -1,5 +1,5 @@
 use Rattle.std.proofs.Common.{◌≡◌, ◌++◌, ◌∙◌, subst, List, ℕ}
-use Rattle.wt_inspection.specs.Walks.{Turned, begins_at}
+use Rattle.wt_inspection.specs.Walks.{Stepped, begins_at}
 use Rattle.wt_inspection.proofs.WalkLemmas.{begins_held, holds_known, holds_long, holds_more, holds_unknown, ok_map}
 use Rattle.wt_inspection.proofs.capsules.CapsuleWalk.hold.Goals as goal
 
@@ -17,16 +17,16 @@ pub returns-in-Unknown : goal.returns-in-Unknown
 returns-in-Unknown c = λ came h.
     let all : c.as_slice.result.now ≡ c.args.self.now.held.items ++ c.args.front.now = c.as_slice.ensures.value ∙ c.in_ok-extend_from_slice.ensures.items in
     let begins : c.start_at-self.result ≡ begins_at came c.args.self.now.at c.args.place = c.start_at-self.ensures ∙ begins_held c.args.self.now came c.args.place c.requires.none h in
-    subst (λ (n : ℕ). Turned n c.go_on.result c.go_on.new.self (came ++ c.args.front.now)) begins (c.go_on.ensures (came ++ c.args.front.now) c.clear.ensures.items (holds_unknown c.args.self.now _ came c.args.front.now c.in-Unknown.unknown c.requires.none c.requires.fits (rw all at c.in-Unknown.ensures.first) h))
+    subst (λ (n : ℕ). Stepped n c.go_on.result c.go_on.new.self (came ++ c.args.front.now)) begins (c.go_on.ensures (came ++ c.args.front.now) c.clear.ensures.items (holds_unknown c.args.self.now _ came c.args.front.now c.in-Unknown.unknown c.requires.none c.requires.fits (rw all at c.in-Unknown.ensures.first) h))
 
 pub returns-in-Known : goal.returns-in-Known
 returns-in-Known c =
     let all : c.as_slice.result.now ≡ c.args.self.now.held.items ++ c.args.front.now = c.as_slice.ensures.value ∙ c.in_ok-extend_from_slice.ensures.items in
     ok_map _ _ c.complete.result
-    (λ turn turns. λ came h.
+    (λ step steps. λ came h.
     let f = rw all at c.in-Known.ensures.first in
     let (same, skip_remaining, k) = holds_known c.args.self.now _ came c.args.front.now c.in-Known.found c.requires.none c.requires.fits f h in
     let begins : c.start_at-self.result ≡ begins_at came c.args.self.now.at c.args.place = c.start_at-self.ensures ∙ begins_held c.args.self.now came c.args.place c.requires.none h in
-    subst (λ (n : ℕ). Turned n turn c.complete.new.self (came ++ c.args.front.now)) begins
-    (subst (λ (x : List ℕ). Turned c.start_at-self.result turn c.complete.new.self x) (c.in_ok-extend_from_slice.ensures.items ∙ same) (turns c.requires.none skip_remaining (rw c.in_ok-extend_from_slice.ensures.items k))))
+    subst (λ (n : ℕ). Stepped n step c.complete.new.self (came ++ c.args.front.now)) begins
+    (subst (λ (x : List ℕ). Stepped c.start_at-self.result step c.complete.new.self x) (c.in_ok-extend_from_slice.ensures.items ∙ same) (steps c.requires.none skip_remaining (rw c.in_ok-extend_from_slice.ensures.items k))))
     c.complete.ensures

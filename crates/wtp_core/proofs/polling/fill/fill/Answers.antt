@@ -1,6 +1,6 @@
 use Rattle.std.proofs.Common.{◌-◌, ◌++◌, length, take, sym, ◌∙◌, arith, length-append, length-take}
-use Rattle.wtp_core.specs.declared.polling.fill.Interrupted.TheVariants as halt
-use Rattle.wtp_core.specs.Fill.{Gains, HaltIsTrue}
+use Rattle.wtp_core.specs.declared.polling.fill.Interrupted.TheVariants as interrupt
+use Rattle.wtp_core.specs.Fill.{Gains, InterruptIsTrue}
 use borrow.Rule.Slice.PartMut.{post_of}
 use Rattle.wtp_core.specs.declared.bytes.source.ReadStep.TheVariants.{Bytes}
 use Rattle.wtp_core.proofs.TellingLemmas.{telling_then, telling_map}
@@ -31,7 +31,7 @@ returns-in-NotReady-clause-model g c =
     let buf = c.loop-at.buf in
     let part = c.poll_read.new.buf in
     let rest = post_of at (length buf - at) buf in
-    telling_then _ _ _ _ _ (λ x z. Gains held (take at (take at buf ++ (part ++ rest))) x z 1 × HaltIsTrue halt.NotReady x z) (λ x y z p q. (gains_none held buf part rest at x y z p inv.within q.0 q.1.0 (omega (arith, q.1.1)), omega (arith, p.waits, q.1.1))) inv.model c.in-NotReady.ensures.model
+    telling_then _ _ _ _ _ (λ x z. Gains held (take at (take at buf ++ (part ++ rest))) x z 1 × InterruptIsTrue interrupt.NotReady x z) (λ x y z p q. (gains_none held buf part rest at x y z p inv.within q.0 q.1.0 (omega (arith, q.1.1)), omega (arith, p.waits, q.1.1))) inv.model c.in-NotReady.ensures.model
 
 pub returns-in-Reset-clause-model : goal.returns-in-Reset-clause-model
 returns-in-Reset-clause-model g c =
@@ -41,7 +41,7 @@ returns-in-Reset-clause-model g c =
     let buf = c.loop-at.buf in
     let part = c.poll_read.new.buf in
     let rest = post_of at (length buf - at) buf in
-    telling_then _ _ _ _ _ (λ x z. Gains held (take at (take at buf ++ (part ++ rest))) x z 1 × HaltIsTrue halt.Reset x z) (λ x y z p q. (gains_none held buf part rest at x y z p inv.within q.0 (q.1.after ∙ sym q.1.before) (omega (arith, q.1.waits)), (q.1.after, sym p.ending ∙ q.1.how))) inv.model c.in-Reset.ensures.model
+    telling_then _ _ _ _ _ (λ x z. Gains held (take at (take at buf ++ (part ++ rest))) x z 1 × InterruptIsTrue interrupt.Reset x z) (λ x y z p q. (gains_none held buf part rest at x y z p inv.within q.0 (q.1.after ∙ sym q.1.before) (omega (arith, q.1.waits)), (q.1.after, sym p.ending ∙ q.1.how))) inv.model c.in-Reset.ensures.model
 
 pub returns-in-NotConnected-clause-model : goal.returns-in-NotConnected-clause-model
 returns-in-NotConnected-clause-model g c =
@@ -51,4 +51,4 @@ returns-in-NotConnected-clause-model g c =
     let buf = c.loop-at.buf in
     let part = c.poll_read.new.buf in
     let rest = post_of at (length buf - at) buf in
-    telling_then _ _ _ _ _ (λ x z. Gains held (take at (take at buf ++ (part ++ rest))) x z 1 × HaltIsTrue halt.NotConnected x z) (λ x y z p q. (gains_none held buf part rest at x y z p inv.within q.0 (q.1.after ∙ sym q.1.before) (omega (arith, q.1.waits)), (q.1.after, sym p.ending ∙ q.1.how))) inv.model c.in-NotConnected.ensures.model
+    telling_then _ _ _ _ _ (λ x z. Gains held (take at (take at buf ++ (part ++ rest))) x z 1 × InterruptIsTrue interrupt.NotConnected x z) (λ x y z p q. (gains_none held buf part rest at x y z p inv.within q.0 (q.1.after ∙ sym q.1.before) (omega (arith, q.1.waits)), (q.1.after, sym p.ending ∙ q.1.how))) inv.model c.in-NotConnected.ensures.model

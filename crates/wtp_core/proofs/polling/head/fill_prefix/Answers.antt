@@ -1,9 +1,9 @@
 use Rattle.std.proofs.Common.{◌≡◌, ◌<◌, ◌≤◌, length, take, drop, ◌++◌, Err, refl, ap, arith, length-take}
-use Rattle.wtp_core.specs.Fill.{Gains, HaltIsTrue}
+use Rattle.wtp_core.specs.Fill.{Gains, InterruptIsTrue}
 use Rattle.wtp_core.proofs.TellingLemmas.{telling_then}
-use Rattle.wtp_core.specs.Fill.{halt_waits}
+use Rattle.wtp_core.specs.Fill.{interrupt_waits}
 use Rattle.wtp_core.proofs.WaitLemmas.{waits_then, none_waits, waits_none}
-use Rattle.wtp_core.proofs.FillLemmas.{Grown, grown, front_kept, gains_then, halt_then}
+use Rattle.wtp_core.proofs.FillLemmas.{Grown, grown, front_kept, gains_then, interrupt_then}
 use Rattle.wtp_core.proofs.polling.head.fill_prefix.Goals as goal
 
 pub loop-len-preserved : goal.loop-len-preserved
@@ -30,7 +30,7 @@ loop-len-preserved g c =
     }
 
 pub returns-in-Err-clause-waits : goal.returns-in-Err-clause-waits
-returns-in-Err-clause-waits g c = waits_then (halt_waits {U = Unit {0}} (Err c.in-Err.halt)) _ _ _ c.loop-len.invariant.waits c.in-Err.ensures.waits
+returns-in-Err-clause-waits g c = waits_then (interrupt_waits {U = Unit {0}} (Err c.in-Err.interrupt)) _ _ _ c.loop-len.invariant.waits c.in-Err.ensures.waits
 
 pub returns-then-len-len_needed-clause-waits : goal.returns-then-len-len_needed-clause-waits
 returns-then-len-len_needed-clause-waits g c = waits_none _ _ c.loop-len.invariant.waits
@@ -60,7 +60,7 @@ returns-in-Err-clause-model g c =
     let size : length c.fill.new.buf ≡ length (take len_needed c.loop-len.buf) = c.fill.auto.buf in
     let below : c.fill.new.at < len_needed = omega (arith, length-take len_needed c.loop-len.buf) in
     let w : Grown c.loop-len.len c.fill.new.at len_needed c.loop-len.buf c.fill.new.buf = grown _ _ _ _ _ c.fill.ensures.forward (omega arith) room size c.fill.ensures.front in
-    telling_then _ _ _ _ _ (λ x z. Gains (take c.args.len.now c.args.buf.now) (take c.fill.new.at (c.fill.new.buf ++ drop len_needed c.loop-len.buf)) x z 1 × HaltIsTrue c.in-Err.halt x z) (λ x y z p q. (gains_then _ _ _ _ _ x y z 1 p q.0 w.held w.shown, halt_then c.in-Err.halt x y z p.ending p.waits q.1)) c.loop-len.invariant.model c.in-Err.ensures.model
+    telling_then _ _ _ _ _ (λ x z. Gains (take c.args.len.now c.args.buf.now) (take c.fill.new.at (c.fill.new.buf ++ drop len_needed c.loop-len.buf)) x z 1 × InterruptIsTrue c.in-Err.interrupt x z) (λ x y z p q. (gains_then _ _ _ _ _ x y z 1 p q.0 w.held w.shown, interrupt_then c.in-Err.interrupt x y z p.ending p.waits q.1)) c.loop-len.invariant.model c.in-Err.ensures.model
 
 pub returns-in-Err-clause-front : goal.returns-in-Err-clause-front
 returns-in-Err-clause-front g c =

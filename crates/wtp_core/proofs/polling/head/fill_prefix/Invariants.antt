@@ -14,4 +14,4 @@ invariant-loop-len g l = record {
 }
 
 abbrev pub decreases-loop-len : goal.decreases-loop-len
-decreases-loop-len g l = g.H.Prefix.most - l.len
+decreases-loop-len g l = g.H.Prefix.max_len - l.len

@@ -1,8 +1,8 @@
 use Rattle.std.proofs.Common.{◌-◌, ◌<◌, ◌≤◌, arith}
-use Rattle.wtp_core.specs.SkipAhead.{Passed}
+use Rattle.wtp_core.specs.SkipAhead.{Skipped}
 use Rattle.wtp_core.proofs.TellingLemmas.{telling_then}
 use Rattle.wtp_core.proofs.WaitLemmas.{waits_then, none_waits}
-use Rattle.wtp_core.proofs.PassLemmas.{passed_then, passed_some}
+use Rattle.wtp_core.proofs.SkipLemmas.{skipped_then, skipped_some}
 use Rattle.wtp_core.proofs.polling.skip_ahead.skip_bytes.Goals as goal
 
 pub loop-skip_remaining-preserved : goal.loop-skip_remaining-preserved
@@ -19,6 +19,6 @@ loop-skip_remaining-preserved g c =
       room = omega arith;
       most = omega arith;
       waits = none_waits _ _ (waits_then 0 _ _ _ inv.waits c.in-Bytes.ensures.waits);
-      model = telling_then _ _ _ _ _ (λ x z. Passed (c.args.skip_remaining.now - (c.loop-skip_remaining.skip_remaining - n)) x z 0)
-          (λ x y z p q. passed_then (c.args.skip_remaining.now - c.loop-skip_remaining.skip_remaining) n _ 0 x y z (omega arith) p (passed_some n y z some q.0 q.1)) inv.model c.in-Bytes.ensures.model;
+      model = telling_then _ _ _ _ _ (λ x z. Skipped (c.args.skip_remaining.now - (c.loop-skip_remaining.skip_remaining - n)) x z 0)
+          (λ x y z p q. skipped_then (c.args.skip_remaining.now - c.loop-skip_remaining.skip_remaining) n _ 0 x y z (omega arith) p (skipped_some n y z some q.0 q.1)) inv.model c.in-Bytes.ensures.model;
     }

@@ -1,7 +1,7 @@
 use Rattle.std.proofs.Common.{Some, None, sym, ◌∙◌}
 use Rattle.wtp_core.proofs.RestLemmas.{rest-rest}
 use Rattle.wtp_wire.proofs.FrontLemmas.{unknown-shorter}
-use Rattle.wtransport_proto.proofs.ReadingLemmas.{passes-none, passes-one, known-ok, known-code, unknown-code}
+use Rattle.wtransport_proto.proofs.ReadingLemmas.{skips-none, skips-one, known-ok, known-code, unknown-code}
 use Rattle.wtp_wire.proofs.RunLemmas.{skip_unknown-short}
 use Rattle.wtransport_proto.proofs.stream.cursor.take_known.Goals as goal
 
@@ -20,13 +20,13 @@ returns-in-Ok-None c = record {
 }
 
 pub frames-init : goal.frames-init
-frames-init c = passes-none _
+frames-init c = skips-none _
 
 pub frames-smaller : goal.frames-smaller
 frames-smaller c = unknown-shorter _ _ (unknown-code c.in-Err.fault _ _ (sym c.code.ensures ∙ c.in-None.is) c.in-Err.ensures.answer)
 
 pub frames-preserved : goal.frames-preserved
-frames-preserved c = passes-one _ _ _ c.frames.invariant (unknown-code c.in-Err.fault _ _ (sym c.code.ensures ∙ c.in-None.is) c.in-Err.ensures.answer) c.in-Err.ensures.rest
+frames-preserved c = skips-one _ _ _ c.frames.invariant (unknown-code c.in-Err.fault _ _ (sym c.code.ensures ∙ c.in-None.is) c.in-Err.ensures.answer) c.in-Err.ensures.rest
 
 pub returns-in-Some : goal.returns-in-Some
 returns-in-Some c = record {

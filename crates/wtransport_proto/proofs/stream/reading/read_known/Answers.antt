@@ -1,7 +1,7 @@
 use Rattle.std.proofs.Common.{◌≡◌, None, Ok, refl, sym, ap, ◌∙◌}
 use Rattle.wtp_core.proofs.RestLemmas.{rest-rest}
 use Rattle.wtp_wire.proofs.FrontLemmas.{unknown-shorter}
-use Rattle.wtransport_proto.proofs.ReadingLemmas.{passes-none, passes-one, known-none, known-ok, known-code, unknown-code}
+use Rattle.wtransport_proto.proofs.ReadingLemmas.{skips-none, skips-one, known-none, known-ok, known-code, unknown-code}
 use Rattle.wtransport_proto.proofs.stream.reading.read_known.Goals as goal
 
 pub returns-in-Ok : goal.returns-in-Ok
@@ -13,13 +13,13 @@ returns-in-Ok g c = record {
 }
 
 pub frames-init : goal.frames-init
-frames-init g c = (passes-none _, refl)
+frames-init g c = (skips-none _, refl)
 
 pub frames-smaller : goal.frames-smaller
 frames-smaller g c = unknown-shorter _ _ (unknown-code c.in-Err.fault _ _ (sym c.code.ensures ∙ c.in-None.is) c.in-Err.ensures.answer)
 
 pub frames-preserved : goal.frames-preserved
-frames-preserved g c = (passes-one _ _ _ c.frames.invariant.0 (unknown-code c.in-Err.fault _ _ (sym c.code.ensures ∙ c.in-None.is) c.in-Err.ensures.answer) c.in-Err.ensures.rest, c.in-Err.ensures.kept ∙ c.frames.invariant.1)
+frames-preserved g c = (skips-one _ _ _ c.frames.invariant.0 (unknown-code c.in-Err.fault _ _ (sym c.code.ensures ∙ c.in-None.is) c.in-Err.ensures.answer) c.in-Err.ensures.rest, c.in-Err.ensures.kept ∙ c.frames.invariant.1)
 
 pub returns-in-Some : goal.returns-in-Some
 returns-in-Some g c = record {

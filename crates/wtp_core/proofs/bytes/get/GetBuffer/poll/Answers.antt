@@ -1,9 +1,9 @@
 use Rattle.std.proofs.Common.{take, arith, length-take, ◌∙◌}
 use Rattle.std.proofs.lemmas.List.{take-take}
 use Rattle.wtp_core.proofs.FillLemmas.{begins}
-use Rattle.wtp_core.specs.declared.bytes.polled.IoReadError.{IoReadError}
-use Rattle.wtp_core.proofs.WaitLemmas.{halted_waits}
-use Rattle.wtp_core.proofs.GetLemmas.{halted_plain, halted_buffer_given}
+use Rattle.wtp_core.specs.declared.bytes.error.IoReadError.{IoReadError}
+use Rattle.wtp_core.proofs.WaitLemmas.{interrupted_waits}
+use Rattle.wtp_core.proofs.GetLemmas.{interrupted_plain, interrupted_buffer_given}
 use Rattle.wtp_core.proofs.bytes.get.GetBuffer.poll.Goals as goal
 
 pub returns-in-Ok-clause-given : goal.returns-in-Ok-clause-given
@@ -13,9 +13,9 @@ returns-in-Ok-clause-given g c = (
 )
 
 pub returns-in-Err-clause-waits : goal.returns-in-Err-clause-waits
-returns-in-Err-clause-waits g c = rw (halted_plain _ _ _ c.halt_result.ensures) (halted_waits (Unit {0}) IoReadError (Unit {0}) (λ f. f) c.in-Err.halt c.fill.new.at _ _ c.in-Err.ensures.waits)
+returns-in-Err-clause-waits g c = rw (interrupted_plain _ _ _ c.interrupt_result.ensures) (interrupted_waits (Unit {0}) IoReadError (Unit {0}) (λ f. f) c.in-Err.interrupt c.fill.new.at _ _ c.in-Err.ensures.waits)
 
 pub returns-in-Err-clause-given : goal.returns-in-Err-clause-given
-returns-in-Err-clause-given g c = rw (halted_plain _ _ _ c.halt_result.ensures) (halted_buffer_given (Unit {0}) c.in-Err.halt c.fill.new.at c.args.self.now.filled _ _ (take c.fill.new.at c.fill.new.buf)
+returns-in-Err-clause-given g c = rw (interrupted_plain _ _ _ c.interrupt_result.ensures) (interrupted_buffer_given (Unit {0}) c.in-Err.interrupt c.fill.new.at c.args.self.now.filled _ _ (take c.fill.new.at c.fill.new.buf)
     (omega (arith, c.in-Err.ensures.lengths, c.fill.auto.buf, length-take c.fill.new.at c.fill.new.buf))
     (take-take c.args.self.now.filled c.fill.new.at c.fill.new.buf c.fill.ensures.forward ∙ c.fill.ensures.front))

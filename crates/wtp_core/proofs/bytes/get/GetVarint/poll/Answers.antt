@@ -1,9 +1,9 @@
 use Rattle.std.proofs.Common.{◌≡◌, ℕ, ◌≤◌, List, [], take, ◌∙◌, arith, length-take}
 use Rattle.std.proofs.lemmas.List.{take-take}
 use Rattle.wtp_core.proofs.NeedLemmas.{number_at-cut, number_at-whole}
-use Rattle.wtp_core.specs.declared.bytes.polled.IoReadError.{IoReadError}
-use Rattle.wtp_core.proofs.WaitLemmas.{halted_waits}
-use Rattle.wtp_core.proofs.GetLemmas.{halted_plain, halted_varint_told, halted_varint_given, whole_varint_told, whole_varint_given}
+use Rattle.wtp_core.specs.declared.bytes.error.IoReadError.{IoReadError}
+use Rattle.wtp_core.proofs.WaitLemmas.{interrupted_waits}
+use Rattle.wtp_core.proofs.GetLemmas.{interrupted_plain, interrupted_varint_told, interrupted_varint_given, whole_varint_told, whole_varint_given}
 use Rattle.wtp_core.proofs.bytes.get.GetVarint.poll.Goals as goal
 
 -- the bytes held after the poll start with those held before
@@ -17,14 +17,14 @@ pub returns-in-Err-clause-cut : goal.returns-in-Err-clause-cut
 returns-in-Err-clause-cut g c = number_at-cut (take c.fill_prefix.new.len c.fill_prefix.new.buf) (omega (arith, c.in-Err.ensures.cut, length-take c.fill_prefix.new.len c.fill_prefix.new.buf))
 
 pub returns-in-Err-clause-waits : goal.returns-in-Err-clause-waits
-returns-in-Err-clause-waits g c = rw (halted_plain _ _ _ c.halt_result.ensures) (halted_waits ℕ IoReadError (Unit {0}) (λ f. f) c.in-Err.halt c.fill_prefix.new.len _ _ c.in-Err.ensures.waits)
+returns-in-Err-clause-waits g c = rw (interrupted_plain _ _ _ c.interrupt_result.ensures) (interrupted_waits ℕ IoReadError (Unit {0}) (λ f. f) c.in-Err.interrupt c.fill_prefix.new.len _ _ c.in-Err.ensures.waits)
 
 pub returns-in-Err-clause-given : goal.returns-in-Err-clause-given
-returns-in-Err-clause-given g c = rw (halted_plain _ _ _ c.halt_result.ensures, ← c.self.view_is) (halted_varint_given c.in-Err.halt c.fill_prefix.new.len c.self.inside.len _ (take c.fill_prefix.new.len c.fill_prefix.new.buf)
+returns-in-Err-clause-given g c = rw (interrupted_plain _ _ _ c.interrupt_result.ensures, ← c.self.view_is) (interrupted_varint_given c.in-Err.interrupt c.fill_prefix.new.len c.self.inside.len _ (take c.fill_prefix.new.len c.fill_prefix.new.buf)
     (held_front c.self.inside.len c.fill_prefix.new.len c.self.inside.bytes c.fill_prefix.new.buf c.fill_prefix.ensures.forward c.fill_prefix.ensures.front))
 
 pub returns-in-Err-clause-polled : goal.returns-in-Err-clause-polled
-returns-in-Err-clause-polled g c = rw (halted_plain _ _ _ c.halt_result.ensures, ← c.self.view_is) (halted_varint_told (g.S.AsyncRead.model c.args.source.now) (g.S.AsyncRead.model c.fill_prefix.new.source) c.in-Err.halt c.fill_prefix.new.len
+returns-in-Err-clause-polled g c = rw (interrupted_plain _ _ _ c.interrupt_result.ensures, ← c.self.view_is) (interrupted_varint_told (g.S.AsyncRead.model c.args.source.now) (g.S.AsyncRead.model c.fill_prefix.new.source) c.in-Err.interrupt c.fill_prefix.new.len
     (take c.self.inside.len c.self.inside.bytes) (take c.fill_prefix.new.len c.fill_prefix.new.buf)
     (omega (arith, c.fill_prefix.ensures.room, length-take c.fill_prefix.new.len c.fill_prefix.new.buf)) (omega (arith, c.in-Err.ensures.cut, length-take c.fill_prefix.new.len c.fill_prefix.new.buf)) c.in-Err.ensures.model)
 

@@ -1,14 +1,14 @@
 use Rattle.std.proofs.Common.{refl, arith, length-drop}
-use Rattle.wtp_wire.proofs.AnyCapsuleLemmas.{long_at, more_wanted, passed_unknown, place_taken, unknown_some}
-use Rattle.wtp_wire.proofs.CapsuleCursorLemmas.{passed_none}
+use Rattle.wtp_wire.proofs.AnyCapsuleLemmas.{long_at, more_wanted, skipped_unknown, place_taken, unknown_some}
+use Rattle.wtp_wire.proofs.CapsuleCursorLemmas.{skipped_none}
 use Rattle.wtp_wire.proofs.capsule.cursor.CapsuleCursor.find.Goals as goal
 
 pub capsules-init : goal.capsules-init
-capsules-init c = passed_none c.args.self.now c.args.bytes.now
+capsules-init c = skipped_none c.args.self.now c.args.bytes.now
 
 pub capsules-preserved : goal.capsules-preserved
 capsules-preserved c =
-    passed_unknown _ c.capsules.self c.first.new.self c.args.bytes.now c.capsules.at c.in-Unknown.unknown
+    skipped_unknown _ c.capsules.self c.first.new.self c.args.bytes.now c.capsules.at c.in-Unknown.unknown
     c.capsules.invariant (rw c.split_at.ensures.back at c.in-Unknown.ensures)
 
 pub capsules-smaller : goal.capsules-smaller

@@ -7,13 +7,13 @@ returns-then-skip_remaining-left c = leaves_none c.args.self.now _ c.args.bytes.
 
 pub returns-in-Unknown : goal.returns-in-Unknown
 returns-in-Unknown c =
-    finds_unknown _ c.args.self.now _ c.args.bytes.now c.in-Unknown.number c.in-Unknown.announced c.in-Unknown.start
+    finds_unknown _ c.args.self.now _ c.args.bytes.now c.in-Unknown.head.number c.in-Unknown.head.announced c.in-Unknown.head.start
     (omega (arith, c.if-skip_remaining-left.false)) (rw c.split_at.ensures.back at c.in-Unknown.ensures) refl refl refl c.into_inner-self.ensures.value
 
-pub returns-in-Value : goal.returns-in-Value
-returns-in-Value c =
-    finds_known _ c.args.self.now _ c.args.bytes.now c.in-Value.kind c.in-Value.start c.in-Value.end
-    (omega (arith, c.if-skip_remaining-left.false)) (rw c.split_at.ensures.back at c.in-Value.ensures) refl refl refl refl
+pub returns-in-Known : goal.returns-in-Known
+returns-in-Known c =
+    finds_known _ c.args.self.now _ c.args.bytes.now c.in-Known.place.kind c.in-Known.place.start c.in-Known.place.end
+    (omega (arith, c.if-skip_remaining-left.false)) (rw c.split_at.ensures.back at c.in-Known.ensures) refl refl refl refl
 
 pub returns-in-TooLong : goal.returns-in-TooLong
 returns-in-TooLong c =

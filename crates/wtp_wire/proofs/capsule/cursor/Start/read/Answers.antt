@@ -1,5 +1,5 @@
 use Rattle.std.proofs.Common.{sym, ◌∙◌, arith}
-use Rattle.wtp_wire.proofs.AnyCapsuleLemmas.{start_few, start_long, start_part, start_unknown, start_value}
+use Rattle.wtp_wire.proofs.AnyCapsuleLemmas.{start_few, start_long, start_part, start_unknown, start_known}
 use Rattle.wtp_wire.proofs.capsule.cursor.Start.read.Goals as goal
 
 pub returns-in_default : goal.returns-in_default
@@ -22,5 +22,5 @@ returns-then-len-bytes c =
 
 pub returns : goal.returns
 returns c =
-    rw c.in-Some-value_len.ensures.0 (start_value c.args.bytes.now _ _ _ c.in-Some-parse.kind c.in-Some.ensures.found c.in-Some.ensures.within
+    rw c.in-Some-value_len.ensures.0 (start_known c.args.bytes.now _ _ _ c.in-Some-parse.kind c.in-Some.ensures.found c.in-Some.ensures.within
     (sym c.parse.ensures ∙ c.in-Some-parse.is) c.in-Some-value_len.ensures.1 (omega (arith, c.in-Some-value_len.ensures.0, c.if-len-bytes.false)))

@@ -2,7 +2,7 @@ use Rattle.std.proofs.Common.{◌≡◌, arith, Ok}
 use Rattle.wtp_core.proofs.TellingLemmas.{telling_map}
 use Rattle.wtp_core.proofs.WaitLemmas.{waits_none}
 use Rattle.wtp_wire.specs.FrameSteps.{TakesFrame}
-use Rattle.wtp_core.specs.declared.bytes.polled.Polled.TheVariants.{Ready}
+use Rattle.wtp_core.specs.declared.bytes.poll.Polled.TheVariants.{Ready}
 use Rattle.wtp_wire.specs.PartialFrame.{bytes_in}
 use Rattle.wtp_wire.proofs.FrameReadingLemmas.{no_items}
 use Rattle.wtp_wire.proofs.FramePollLemmas.{hold, polls_as}

@@ -1,15 +1,15 @@
 use Rattle.std.proofs.Common.{[], refl, sym, ap, arith, Ok, Err}
-use Rattle.wtp_core.specs.declared.bytes.polled.Polled.TheVariants.{Ready, NoMemory}
+use Rattle.wtp_core.specs.declared.bytes.poll.Polled.TheVariants.{Ready, NoMemory}
 use Rattle.wtp_core.specs.Source.{HasModel}
 use Rattle.wtp_wire.specs.declared.frame.head.Announcement.{Announcement}
 use Rattle.wtp_wire.specs.declared.frame.reading.part.ReadInterrupted.TheVariants as stopped
 use Rattle.wtp_wire.specs.PartialFrame.{Part, bytes_in}
 use Rattle.wtp_wire.specs.FrameSteps.{StopMoves}
-use Rattle.wtp_wire.proofs.FramePollLemmas.{hold, reading_new, can_answer, answer_polls, halted_polls, no_memory_polls, polls_as}
+use Rattle.wtp_wire.proofs.FramePollLemmas.{hold, reading_new, can_answer, answer_polls, interrupted_polls, no_memory_polls, polls_as}
 use Rattle.wtp_core.specs.Polled.{polled_waits}
 use Rattle.wtp_core.proofs.WaitLemmas.{none_waits, waits_then}
-use Rattle.wtp_wire.proofs.FramePassLemmas.{due_polls, skip_polls}
-use Rattle.wtp_wire.proofs.FramePollLemmas.{frame_halted_waits}
+use Rattle.wtp_wire.proofs.FrameSkipLemmas.{due_polls, skip_polls}
+use Rattle.wtp_wire.proofs.FramePollLemmas.{frame_interrupted_waits}
 use Rattle.wtp_wire.proofs.frame.reading.FrameReading.read_on.Goals as goal
 
 pub returns-then-self-gt0 : goal.returns-then-self-gt0
@@ -19,7 +19,7 @@ returns-then-self-gt0 g c =
     let s = g.S.AsyncRead.model c.args.source.now in
     let t = g.S.AsyncRead.model c.skip_payload.new.source in
     let q = polls_as s t c.skip_payload.result (hold (bytes_in old) d) c.args.self.now (hold (bytes_in old) c.skip_payload.new.skip_remaining) (hold (bytes_in old) c.skip_payload.new.skip_remaining) c.self.view_is refl
-    (due_polls s t c.skip_payload.result old d c.skip_payload.new.skip_remaining c.if-self-gt0.true c.self.invariant.0 (c.self.invariant.1 c.if-self-gt0.true) c.skip_payload.ensures.plain c.skip_payload.ensures.passed) in
+    (due_polls s t c.skip_payload.result old d c.skip_payload.new.skip_remaining c.if-self-gt0.true c.self.invariant.0 (c.self.invariant.1 c.if-self-gt0.true) c.skip_payload.ensures.plain c.skip_payload.ensures.skipped) in
     record { was_unfinished = q.was_unfinished; unfinished = q.unfinished; given = q.given; polled = q.polled; waits = c.skip_payload.ensures.waits; asks = q.asks }
 
 pub returns-in-Err-Source : goal.returns-in-Err-Source
@@ -29,12 +29,12 @@ returns-in-Err-Source g c =
     let new = c.advance.new.self in
     let s = g.S.AsyncRead.model c.args.source.now in
     let t = g.S.AsyncRead.model c.advance.new.source in
-    let halt = c.in-Err-Source.halt in
-    let moves : HasModel s t (λ a b. StopMoves {U = Announcement} (Err (stopped.Source halt)) (bytes_in old) (bytes_in new) a b) =
+    let interrupt = c.in-Err-Source.why in
+    let moves : HasModel s t (λ a b. StopMoves {U = Announcement} (Err (stopped.Source interrupt)) (bytes_in old) (bytes_in new) a b) =
     (rw c.in-Err-Source.field-0-is at c.in-Err-Source.ensures.moves) in
-    let q = polls_as s t c.halt_result.result (hold (bytes_in old) d) c.args.self.now (hold (bytes_in new) d) (hold (bytes_in new) d) c.self.view_is refl
-    (halted_polls s t halt c.len.result c.halt_result.result old new d (omega arith) c.len.ensures c.halt_result.ensures c.self.invariant.0 (rw c.in-Err-Source.field-0-is at c.in-Err-Source.ensures.keeps) c.advance.ensures.grew moves) in
-    record { was_unfinished = q.was_unfinished; unfinished = q.unfinished; given = q.given; polled = q.polled; waits = frame_halted_waits halt c.len.result s t c.halt_result.result c.halt_result.ensures (rw c.in-Err-Source.field-0-is at c.in-Err-Source.ensures.waits); asks = q.asks }
+    let q = polls_as s t c.interrupt_result.result (hold (bytes_in old) d) c.args.self.now (hold (bytes_in new) d) (hold (bytes_in new) d) c.self.view_is refl
+    (interrupted_polls s t interrupt c.len.result c.interrupt_result.result old new d (omega arith) c.len.ensures c.interrupt_result.ensures c.self.invariant.0 (rw c.in-Err-Source.field-0-is at c.in-Err-Source.ensures.keeps) c.advance.ensures.grew moves) in
+    record { was_unfinished = q.was_unfinished; unfinished = q.unfinished; given = q.given; polled = q.polled; waits = frame_interrupted_waits interrupt c.len.result s t c.interrupt_result.result c.interrupt_result.ensures (rw c.in-Err-Source.field-0-is at c.in-Err-Source.ensures.waits); asks = q.asks }
 
 pub returns-in-Err-NoMemory : goal.returns-in-Err-NoMemory
 returns-in-Err-NoMemory g c =
@@ -73,7 +73,7 @@ returns-in-Skip g c =
     c.in-Ok.ensures.moves in
     let q = polls_as s u c.skip_payload-in-Skip.result (hold (bytes_in old) d) c.args.self.now (hold [] d') (hold (bytes_in c.take_payload-payload.new.self) d') c.self.view_is
     (ap (λ (x : Part). hold (bytes_in x) d') (sym c.take_payload-payload.ensures.empty))
-    (skip_polls s t u c.skip_payload-in-Skip.result old new m d d' (omega arith) c.self.invariant.0 (rw c.in-Skip.is at c.in-Ok.ensures.keeps) c.advance.ensures.grew moves c.skip_payload-in-Skip.ensures.plain c.skip_payload-in-Skip.ensures.passed) in
+    (skip_polls s t u c.skip_payload-in-Skip.result old new m d d' (omega arith) c.self.invariant.0 (rw c.in-Skip.is at c.in-Ok.ensures.keeps) c.advance.ensures.grew moves c.skip_payload-in-Skip.ensures.plain c.skip_payload-in-Skip.ensures.skipped) in
     record { was_unfinished = q.was_unfinished; unfinished = q.unfinished; given = q.given; polled = q.polled; waits = waits_then (polled_waits c.skip_payload-in-Skip.result) s t u (none_waits s t c.in-Ok.ensures.waits) c.skip_payload-in-Skip.ensures.waits; asks = q.asks }
 
 pub returns-in_default : goal.returns-in_default

@@ -4,7 +4,7 @@ use Rattle.wtp_core.proofs.TellingLemmas.{telling_same}
 use Rattle.wtp_wire.specs.declared.frame.head.Announcement.{Announcement}
 use Rattle.wtp_wire.specs.FrameNeed.{frame_need}
 use Rattle.wtp_wire.specs.PartialFrame.{Part}
-use Rattle.wtp_wire.proofs.FrameReadingLemmas.{HeadGoesOn, head_goes_on, part_grew, part_moves, part_halts, stopped_keeps, announcement_bare, grew_none, same_gains}
+use Rattle.wtp_wire.proofs.FrameReadingLemmas.{HeadGoesOn, head_goes_on, part_grew, part_moves, part_interrupts, stopped_keeps, announcement_bare, grew_none, same_gains}
 use Rattle.wtp_wire.proofs.frame.reading.part.PartialFrame.advance.Goals as goal
 
 pub returns-in-Err-clause-grew : goal.returns-in-Err-clause-grew
@@ -73,7 +73,7 @@ returns-in-Err-fill_payload-clause-moves g c =
     let eh : hd ≡ old.head = ap (λ (x : Part). x.head) c.self.view_is in
     let ep : p ≡ old.payload = ap (λ (x : Part). x.payload) c.self.view_is in
     let g' : HeadGoesOn old h = head_goes_on old c.self.inside.len c.fill_prefix.new.len c.self.inside.head c.fill_prefix.new.buf eh (omega (arith, c.self.invariant.0, c.self.invariant.1)) c.fill_prefix.ensures.forward c.fill_prefix.ensures.front c.fill_prefix.ensures.stays in
-    part_halts (Unit {0}) Announcement c.in-Err-fill_payload.stop _ _ _ old c.fill_payload.new.self h hd p c.requires g' eh ep c.fill_payload.ensures.head c.in-Ok.ensures.model c.in-Err-fill_payload.ensures.moves
+    part_interrupts (Unit {0}) Announcement c.in-Err-fill_payload.stop _ _ _ old c.fill_payload.new.self h hd p c.requires g' eh ep c.fill_payload.ensures.head c.in-Ok.ensures.model c.in-Err-fill_payload.ensures.moves
 
 pub returns-in_default : goal.returns-in_default
 returns-in_default g c =

@@ -2,8 +2,8 @@
 use Rattle.std.proofs.Common.{◌≡◌, ℕ, ◌+◌, ◌-◌, ◌<◌, ◌≤◌, List, [], ◌++◌, length, take, drop, refl, sym, ap, subst, ◌∙◌, arith, append_assoc, append-nil, length-append, length-take, length-drop, inl, inr, Option, Result, Ok, Err}
 use Rattle.std.proofs.lemmas.Bool.{cases_lt, lt-ltb, le-ltb, ne_eqb}
 use Rattle.std.proofs.lemmas.List.{drop-drop, take-append-drop}
-use Rattle.wtp_core.specs.declared.bytes.polled.Polled.{Polled}
-use Rattle.wtp_core.specs.declared.bytes.polled.Polled.TheVariants.{Ready, Pending, Again, NoMemory}
+use Rattle.wtp_core.specs.declared.bytes.poll.Polled.{Polled}
+use Rattle.wtp_core.specs.declared.bytes.poll.Polled.TheVariants.{Ready, Pending, Again, NoMemory}
 use Rattle.wtp_core.specs.Source.{Source, SourceEnding, AtEnd, AtReset, AtDisconnection, HasModel}
 use Rattle.wtp_core.specs.Polled.{stop, PollsAtMost}
 use Rattle.wtp_core.specs.Fill.{Gains}
@@ -17,14 +17,14 @@ use Rattle.wtp_wire.specs.declared.frame.head.Announcement.TheVariants as announ
 use Rattle.wtp_wire.specs.Content.{Content}
 use Rattle.wtp_wire.specs.Front.{Unknown, front}
 use Rattle.wtp_wire.specs.FrameNeed.{frame_need_most, frame_need_some}
-use Rattle.wtp_core.specs.SkipAhead.{max_passed}
+use Rattle.wtp_core.specs.SkipAhead.{max_skipped}
 use Rattle.wtp_wire.specs.Limits.{max_head, max_calls}
 use Rattle.wtp_wire.specs.Held.{Held, skip_front, front_held, IsUnknownHead, Skips, Leaves}
 use Rattle.wtp_wire.specs.FramePolling.{FramePolled, FrameGiven, KeepsHeld, Answered}
 use Rattle.wtp_wire.specs.PartialFrame.{Part, bytes_in, IsReading}
-use Rattle.wtp_wire.specs.FrameSteps.{IsComplete, Skipped, PassedOn, PassedPlain, BeginsFrame, BeginsPlain, Grew}
+use Rattle.wtp_wire.specs.FrameSteps.{IsComplete, Skipped, SkipPolled, SkipGiven, BeginsFrame, BeginsPlain, Grew}
 use Rattle.wtp_wire.proofs.FramePrefixLemmas.{front_announcement, announcement_skip}
-use Rattle.wtp_core.specs.declared.bytes.polled.IoReadError as bytes-is
+use Rattle.wtp_core.specs.declared.bytes.error.IoReadError as bytes-is
 use Rattle.std.specs.Prelude.{replicate}
 use Rattle.std.proofs.lemmas.List.{length-replicate}
 use Rattle.wtp_wire.proofs.FrameReadingLemmas.{no_items}
@@ -102,10 +102,10 @@ skips old mid t d a b c e g p =
       size,
     )
 
-asks_on : (a b c : Source) → PollsAtMost max_head a b → PollsAtMost max_passed b c → PollsAtMost max_calls a c
+asks_on : (a b c : Source) → PollsAtMost max_head a b → PollsAtMost max_skipped b c → PollsAtMost max_calls a c
 asks_on a b c p q = record { asked = let one = p.asked in let two = q.asked in omega arith; no_less = let one = p.no_less in let two = q.no_less in omega arith; ending = q.ending ∙ p.ending; waits = let one = p.waits in let two = q.waits in omega arith }
 
-left_due : (old mid : Held) (t : List ℕ) (d : ℕ) (a b c : Source) → t ≡ [] → 0 < d → mid.skip_remaining < d + max_passed → BeginsFrame old mid a b → Skipped mid.skip_remaining d b c → Leaves old (hold t d) a c
+left_due : (old mid : Held) (t : List ℕ) (d : ℕ) (a b c : Source) → t ≡ [] → 0 < d → mid.skip_remaining < d + max_skipped → BeginsFrame old mid a b → Skipped mid.skip_remaining d b c → Leaves old (hold t d) a c
 left_due old mid t d a b c e l f g p = record {
   same = front_due t d c.ahead l ∙ sym (skip_on old mid d a b c g p);
   kept = λ z. absurd (omega arith);
@@ -123,15 +123,15 @@ some_held old mid a b g = elim (cases_lt 0 old.skip_remaining) [
   | inr l ↦ let w = g.begun (omega arith) in let whole = w.1 in omega (arith, ap length g.parts, length-append g.head b.ahead, frame_need_some g.head)
 ]
 
-passed_polled : (r : Polled (Result Content IoReadError)) (old mid : Held) (t : List ℕ) (d : ℕ) (a b c : Source) → t ≡ [] → BeginsFrame old mid a b → PassedOn r mid.skip_remaining d b c → FramePolled r old (hold t d) a c × PollsAtMost max_calls a c
-passed_polled (Ready (Ok f)) old mid t d a b c e g p = absurd p
-passed_polled (Ready (Err (Parse parse.UnknownFrame))) old mid t d a b c e g p = (
+skipped_polled : (r : Polled (Result Content IoReadError)) (old mid : Held) (t : List ℕ) (d : ℕ) (a b c : Source) → t ≡ [] → BeginsFrame old mid a b → SkipPolled r mid.skip_remaining d b c → FramePolled r old (hold t d) a c × PollsAtMost max_calls a c
+skipped_polled (Ready (Ok f)) old mid t d a b c e g p = absurd p
+skipped_polled (Ready (Err (Parse parse.UnknownFrame))) old mid t d a b c e g p = (
   (record { front = skip_on old mid d a b c g p.0 ∙ skip_none d c.ahead p.1; empty = rw (e, p.1) refl }, (skips old mid t d a b c e g p.0).0),
   asks_on a b c g.asks p.0.asks,
 )
-passed_polled (Ready (Err (Parse parse.InvalidSessionId))) old mid t d a b c e g p = absurd p
-passed_polled (Ready (Err (Parse parse.PayloadTooBig))) old mid t d a b c e g p = absurd p
-passed_polled (Ready (Err (IO x))) old mid t d a b c e g p = (
+skipped_polled (Ready (Err (Parse parse.InvalidSessionId))) old mid t d a b c e g p = absurd p
+skipped_polled (Ready (Err (Parse parse.PayloadTooBig))) old mid t d a b c e g p = absurd p
+skipped_polled (Ready (Err (IO x))) old mid t d a b c e g p = (
   record {
     leaves = left_due old mid t d a b c e p.1 p.2 g p.0;
     short = skip_on old mid d a b c g p.0 ∙ ap (λ (l : List ℕ). skip_front d l) p.3 ∙ skip_empty d p.1;
@@ -140,8 +140,8 @@ passed_polled (Ready (Err (IO x))) old mid t d a b c e g p = (
   },
   asks_on a b c g.asks p.0.asks,
 )
-passed_polled Pending old mid t d a b c e g p = ((left_due old mid t d a b c e p.1 p.2 g p.0, let one = g.asks.waits in let two = p.3 in omega arith), asks_on a b c g.asks p.0.asks)
-passed_polled Again old mid t d a b c e g p = (
+skipped_polled Pending old mid t d a b c e g p = ((left_due old mid t d a b c e p.1 p.2 g p.0, let one = g.asks.waits in let two = p.3 in omega arith), asks_on a b c g.asks p.0.asks)
+skipped_polled Again old mid t d a b c e g p = (
   record {
     same = front_due t d c.ahead p.1 ∙ sym (skip_on old mid d a b c g p.0);
     skip_remaining = p.1;
@@ -150,15 +150,15 @@ passed_polled Again old mid t d a b c e g p = (
   },
   asks_on a b c g.asks p.0.asks,
 )
-passed_polled NoMemory old mid t d a b c e g p = absurd p
+skipped_polled NoMemory old mid t d a b c e g p = absurd p
 
-passed_told : (s t u : Option Source) (r : Polled (Result Content IoReadError)) (old mid : Held) (l : List ℕ) (d : ℕ) → l ≡ []
-    → HasModel s t (BeginsFrame old mid) → HasModel t u (PassedOn r mid.skip_remaining d) → HasModel s u (FramePolled r old (hold l d))
-passed_told s t u r old mid l d e p q = telling_then s t u (BeginsFrame old mid) (PassedOn r mid.skip_remaining d) (FramePolled r old (hold l d)) (λ a b c g k. (passed_polled r old mid l d a b c e g k).0) p q
+skipped_told : (s t u : Option Source) (r : Polled (Result Content IoReadError)) (old mid : Held) (l : List ℕ) (d : ℕ) → l ≡ []
+    → HasModel s t (BeginsFrame old mid) → HasModel t u (SkipPolled r mid.skip_remaining d) → HasModel s u (FramePolled r old (hold l d))
+skipped_told s t u r old mid l d e p q = telling_then s t u (BeginsFrame old mid) (SkipPolled r mid.skip_remaining d) (FramePolled r old (hold l d)) (λ a b c g k. (skipped_polled r old mid l d a b c e g k).0) p q
 
-passed_asks : (s t u : Option Source) (r : Polled (Result Content IoReadError)) (old mid : Held) (d : ℕ)
-    → HasModel s t (BeginsFrame old mid) → HasModel t u (PassedOn r mid.skip_remaining d) → HasModel s u (PollsAtMost max_calls)
-passed_asks s t u r old mid d p q = telling_then s t u (BeginsFrame old mid) (PassedOn r mid.skip_remaining d) (PollsAtMost max_calls) (λ a b c g k. (passed_polled r old mid [] d a b c refl g k).1) p q
+skipped_asks : (s t u : Option Source) (r : Polled (Result Content IoReadError)) (old mid : Held) (d : ℕ)
+    → HasModel s t (BeginsFrame old mid) → HasModel t u (SkipPolled r mid.skip_remaining d) → HasModel s u (PollsAtMost max_calls)
+skipped_asks s t u r old mid d p q = telling_then s t u (BeginsFrame old mid) (SkipPolled r mid.skip_remaining d) (PollsAtMost max_calls) (λ a b c g k. (skipped_polled r old mid [] d a b c refl g k).1) p q
 
 -- ---- every source, even without a model
 
@@ -202,15 +202,15 @@ keeps_due old mid t d some few g = record {
   going = λ l. let same = g.going l in (some, omega arith);
 }
 
-passed_given : (r : Polled (Result Content IoReadError)) (old mid : Held) (t : List ℕ) (d : ℕ) → t ≡ [] → BeginsPlain old mid → PassedPlain r mid.skip_remaining d → FrameGiven r old (hold t d)
-passed_given (Ready (Ok f)) old mid t d e g p = absurd p
-passed_given (Ready (Err (Parse parse.UnknownFrame))) old mid t d e g p = answered_unknown old mid t d e p g
-passed_given (Ready (Err (Parse parse.InvalidSessionId))) old mid t d e g p = absurd p
-passed_given (Ready (Err (Parse parse.PayloadTooBig))) old mid t d e g p = absurd p
-passed_given (Ready (Err (IO x))) old mid t d e g p = keeps_due old mid t d p.0 p.1 g
-passed_given Pending old mid t d e g p = keeps_due old mid t d p.0 p.1 g
-passed_given Again old mid t d e g p = (keeps_due old mid t d p.0 p.1 g, p.0)
-passed_given NoMemory old mid t d e g p = absurd p
+skipped_given : (r : Polled (Result Content IoReadError)) (old mid : Held) (t : List ℕ) (d : ℕ) → t ≡ [] → BeginsPlain old mid → SkipGiven r mid.skip_remaining d → FrameGiven r old (hold t d)
+skipped_given (Ready (Ok f)) old mid t d e g p = absurd p
+skipped_given (Ready (Err (Parse parse.UnknownFrame))) old mid t d e g p = answered_unknown old mid t d e p g
+skipped_given (Ready (Err (Parse parse.InvalidSessionId))) old mid t d e g p = absurd p
+skipped_given (Ready (Err (Parse parse.PayloadTooBig))) old mid t d e g p = absurd p
+skipped_given (Ready (Err (IO x))) old mid t d e g p = keeps_due old mid t d p.0 p.1 g
+skipped_given Pending old mid t d e g p = keeps_due old mid t d p.0 p.1 g
+skipped_given Again old mid t d e g p = (keeps_due old mid t d p.0 p.1 g, p.0)
+skipped_given NoMemory old mid t d e g p = absurd p
 
 -- bytes were left to skip before
 due_plain : (t : List ℕ) (d : ℕ) → 0 < d → t ≡ [] → BeginsPlain (hold t d) (hold t d)
@@ -227,7 +227,7 @@ skip_plain m p old d z w (given, is) = record {
 -- ---- all clauses of a poll
 
 -- a poll before which bytes were left to skip
-pub due_polls : (s t : Option Source) (r : Polled (Result Content IoReadError)) (p : Part) (d d' : ℕ) → 0 < d → IsReading p → p.head ≡ [] → PassedPlain r d d' → HasModel s t (PassedOn r d d')
+pub due_polls : (s t : Option Source) (r : Polled (Result Content IoReadError)) (p : Part) (d d' : ℕ) → 0 < d → IsReading p → p.head ≡ [] → SkipGiven r d d' → HasModel s t (SkipPolled r d d')
     → Polls r (hold (bytes_in p) d) (hold (bytes_in p) d') s t
 due_polls s t r p d d' l i none plain q =
     let e = none_taken p i none in
@@ -235,21 +235,21 @@ due_polls s t r p d d' l i none plain q =
     record {
       was_unfinished = due_unfinished (bytes_in p) d e;
       unfinished = due_unfinished (bytes_in p) d' e;
-      given = passed_given r (hold (bytes_in p) d) (hold (bytes_in p) d) (bytes_in p) d' e (due_plain (bytes_in p) d l e) plain;
-      polled = passed_told s s t r (hold (bytes_in p) d) (hold (bytes_in p) d) (bytes_in p) d' e begins q;
-      asks = passed_asks s s t r (hold (bytes_in p) d) (hold (bytes_in p) d) d' begins q;
+      given = skipped_given r (hold (bytes_in p) d) (hold (bytes_in p) d) (bytes_in p) d' e (due_plain (bytes_in p) d l e) plain;
+      polled = skipped_told s s t r (hold (bytes_in p) d) (hold (bytes_in p) d) (bytes_in p) d' e begins q;
+      asks = skipped_asks s s t r (hold (bytes_in p) d) (hold (bytes_in p) d) d' begins q;
     }
 
 -- a poll that read the head of an unknown frame
 pub skip_polls : (s t u : Option Source) (r : Polled (Result Content IoReadError)) (old new : Part) (m d d' : ℕ) → d ≡ 0 → IsReading old → IsComplete (announces.Skip m) new → Grew (bytes_in old) (bytes_in new)
-    → HasModel s t (λ a c. Gains (bytes_in old) (bytes_in new) a c 0) → PassedPlain r m d' → HasModel t u (PassedOn r m d')
+    → HasModel s t (λ a c. Gains (bytes_in old) (bytes_in new) a c 0) → SkipGiven r m d' → HasModel t u (SkipPolled r m d')
     → Polls r (hold (bytes_in old) d) (hold [] d') s u
 skip_polls s t u r old new m d d' z was w grew g plain q =
     let begins = skip_begins s t m new (bytes_in old) d z w g in
     record {
       was_unfinished = reading_unfinished old d z was;
       unfinished = due_unfinished [] d' refl;
-      given = passed_given r (hold (bytes_in old) d) (hold [] m) [] d' refl (skip_plain m new (bytes_in old) d z w grew) plain;
-      polled = passed_told s t u r (hold (bytes_in old) d) (hold [] m) [] d' refl begins q;
-      asks = passed_asks s t u r (hold (bytes_in old) d) (hold [] m) d' begins q;
+      given = skipped_given r (hold (bytes_in old) d) (hold [] m) [] d' refl (skip_plain m new (bytes_in old) d z w grew) plain;
+      polled = skipped_told s t u r (hold (bytes_in old) d) (hold [] m) [] d' refl begins q;
+      asks = skipped_asks s t u r (hold (bytes_in old) d) (hold [] m) d' begins q;
     }

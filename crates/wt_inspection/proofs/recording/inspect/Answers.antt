@@ -4,7 +4,7 @@ use Rattle.std.proofs.lemmas.List.{drop_all}
 use Rattle.wt_inspection.specs.DataCapsules.{Opening}
 use Rattle.wt_inspection.proofs.MessageLemmas.{stage_start}
 use Rattle.wt_inspection.proofs.RecordingLemmas.{reads_none, reads_more}
-use Rattle.wt_inspection.proofs.kinds.inspect.Goals as goal
+use Rattle.wt_inspection.proofs.recording.inspect.Goals as goal
 
 pub items-init : goal.items-init
 items-init c =

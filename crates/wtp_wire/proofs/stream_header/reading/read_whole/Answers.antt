@@ -1,5 +1,5 @@
 use Rattle.wtp_wire.proofs.HeaderPollLemmas.{whole_headed, whole_short, whole_fault}
-use Rattle.wtp_wire.proofs.stream_header.polled.read_whole.Goals as goal
+use Rattle.wtp_wire.proofs.stream_header.reading.read_whole.Goals as goal
 
 pub unreachable-requires : goal.unreachable-requires
 unreachable-requires c = whole_short _ c.requires (rw c.in-Ok-None.field-0-is at c.in-Ok-None.ensures.answer)

@@ -1,5 +1,5 @@
 use Rattle.wtransport_proto.proofs.StreamPollLemmas.{ruled_judges, code_judges, io_judges, again_judges}
-use Rattle.wtransport_proto.proofs.stream.polled.apply_rule.Goals as goal
+use Rattle.wtransport_proto.proofs.stream.poll.apply_rule.Goals as goal
 
 pub returns-in-Ready-Ok-clause-polled : goal.returns-in-Ready-Ok-clause-polled
 returns-in-Ready-Ok-clause-polled g c = ruled_judges g.K.Rule.role c.args.answer c.in-Ready-Ok.frame c.args.first c.permit.result c.map_err.result (cc) c.permit.ensures c.map_err.ensures.cases

@@ -3,7 +3,7 @@ use Rattle.wt_inspection.specs.declared.reading.Next.{Next}
 use Rattle.wt_inspection.specs.declared.reading.Next.TheVariants as next-is
 use Rattle.wt_inspection.proofs.WalkLemmas.{ok_map}
 use Rattle.wt_inspection.proofs.MessageLemmas.{other_leads}
-use Rattle.wt_inspection.proofs.kinds.next_item.Goals as goal
+use Rattle.wt_inspection.proofs.recording.next_item.Goals as goal
 
 pub returns-in-Head-clause-stage : goal.returns-in-Head-clause-stage
 returns-in-Head-clause-stage c =

@@ -1,8 +1,7 @@
-//! Polled reading and writing of stream headers.
+//! Polled reading of stream headers.
 ghost use Rattle.std.specs.Prelude.{◌≡◌, ℕ, ◌+◌, ◌<◌, ◌≤◌, List, [], length, take, Ok};
 ghost use Rattle.wtp_core.specs.Source.{HasModel};
 ghost use Rattle.wtp_core.specs.Polled.{PollsAtMost, WaitsAs};
-ghost use Rattle.wtp_core.specs.Put.{Writing, unsent, GoesOn, IsSent, WritePolled};
 ghost use Rattle.wtp_wire.specs.HeaderFront.{Short, header_front};
 ghost use Rattle.wtp_wire.specs.HeaderNeed.{header_need, header_need_most, header_need_grows};
 ghost use Rattle.wtp_wire.specs.HeaderPolling.{HeaderPolled, HeaderGiven, IsWhole};
@@ -12,9 +11,8 @@ use std::fmt;
 use std::marker::Model;
 use wtp_core::bytes;
 use wtp_core::bytes::get::varint_len_needed;
-use wtp_core::bytes::{AsyncRead, AsyncWrite, IoWriteError, Polled};
-use wtp_core::polling::encoded::VarintWriting;
-use wtp_core::polling::fill::halt_result;
+use wtp_core::bytes::{AsyncRead, Polled};
+use wtp_core::polling::fill::interrupt_result;
 use wtp_core::polling::head::{Prefix, fill_prefix};
 use wtp_core::varint::first_varint;
 
@@ -34,7 +32,7 @@ pub enum IoReadError {
 
 impl From<bytes::IoReadError> for IoReadError {
     ghost use Rattle.std.specs.Prelude.{◌≡◌};
-    ghost use Rattle.wtp_wire.specs.declared.stream_header.polled.IoReadError.TheVariants.{IO};
+    ghost use Rattle.wtp_wire.specs.declared.stream_header.reading.IoReadError.TheVariants.{IO};
 
     ghost from_gives = { λ fault error. error ≡ IO fault };
 
@@ -44,25 +42,11 @@ impl From<bytes::IoReadError> for IoReadError {
 }
 
 impl StreamHeader {
-    ghost use Rattle.wtp_wire.specs.HeaderWire.{header_wire};
-
     /// Returns a state that reads a header from a source, poll by poll.
     pub fn read_async() -> HeaderReading
         ensures { result ≡ [] }
     {
         HeaderReading::new()
-    }
-
-    /// Returns a state that writes the header to a sink, poll by poll, with each number in its
-    /// shortest encoding.
-    pub fn write_async(&self) -> HeaderWriting
-        ensures { result ≡ unsent (header_wire self.now) }
-    {
-        let encoded = match self.session_id {
-            Some(session_id) => VarintWriting::two(self.kind.id(), session_id.into_varint()),
-            None => VarintWriting::one(self.kind.id()),
-        };
-        HeaderWriting { encoded }
     }
 }
 
@@ -72,7 +56,7 @@ struct HeaderPrefix;
 impl Prefix for HeaderPrefix {
     ghost len_needed = { header_need };
 
-    ghost most = { 16 };
+    ghost max_len = { 16 };
 
     #[tactic(auto, unfolding(crate::specs::HeaderNeed::header_need))]
     fn len_needed(held: &[u8]) -> usize {
@@ -155,7 +139,7 @@ impl HeaderReading {
     {
         match fill_prefix::<HeaderPrefix, S>(source, &mut self.bytes, &mut self.len) {
             Ok(()) => {}
-            Err(halt) => return halt_result(halt, self.len),
+            Err(interrupt) => return interrupt_result(interrupt, self.len),
         }
         let answer = read_whole(&self.bytes[..self.len]);
         self.len = 0;
@@ -173,43 +157,5 @@ fn read_whole(bytes: &[u8]) -> Result<StreamHeader, IoReadError>
         Ok(Some(header)) => Ok(header),
         Ok(None) => unreachable!(),
         Err(fault) => Err(IoReadError::Parse(fault)),
-    }
-}
-
-/// Writes one stream header to a sink, poll by poll.
-///
-/// It counts the bytes sent, and sends no byte twice. It does not allocate, but the sink may.
-#[derive(Drop)]
-pub struct HeaderWriting {
-    encoded: VarintWriting,
-}
-
-// Prints the number of bytes sent.
-impl fmt::Debug for HeaderWriting {
-    fn fmt<W: fmt::Write>(&self, f: &mut fmt::Formatter<W>) -> fmt::Result {
-        f.debug_struct("HeaderWriting")
-            .field("sent", &self.encoded.sent_len())
-            .finish_non_exhaustive()
-    }
-}
-
-impl Model for HeaderWriting {
-    ghost Value = { Writing };
-
-    ghost view = { λ s. s.encoded };
-}
-
-impl HeaderWriting {
-    /// Writes until all bytes are sent or the sink accepts no more. The results are those of
-    /// `FrameWriting::poll`.
-    pub fn poll<W: AsyncWrite>(&mut self, sink: &mut W) -> Polled<Result<(), IoWriteError>>
-        ensures on { GoesOn self.old self.new }
-        ensures whole { IsSent result self.new }
-        ensures polled { HasModel (W.model sink.old) (W.model sink.new)
-            (WritePolled result self.old self.new) }
-        ensures finished { self.old.sent ≡ length self.old.bytes
-            → (sink.new ≡ sink.old) × (result ≡ Polled.Ready (Ok tt)) }
-    {
-        self.encoded.poll(sink)
     }
 }

@@ -1,7 +1,7 @@
 use Rattle.std.proofs.Common.{sym, ◌∙◌}
 use Rattle.wt_inspection.proofs.PairLemmas.{number_some}
 use Rattle.wt_inspection.proofs.RecordingLemmas.{head_session}
-use Rattle.wt_inspection.proofs.kinds.head_step.Goals as goal
+use Rattle.wt_inspection.proofs.recording.head_step.Goals as goal
 
 pub returns-then-has_session-clause-read : goal.returns-then-has_session-clause-read
 returns-then-has_session-clause-read c =

@@ -1,6 +1,6 @@
-//! From bytes to items.
+//! The items of a recording.
 ghost use Rattle.std.specs.Prelude.{◌≡◌, ◌+◌, ◌^◌, ◌≤◌, ◌<◌, ◌==◌, IfOk, Ok, codes, length};
-ghost use Rattle.wt_inspection.specs.Recording.{EndsSo, IsCutAt, IsNext, IsRecording};
+ghost use Rattle.wt_inspection.specs.Recording.{EndsInspection, IsCutAt, IsNext, IsRecording};
 ghost use Rattle.wt_inspection.specs.Recording.{IsSessionHead};
 ghost use Rattle.wt_inspection.specs.Recording.{IsStep, Moves, after_head, has_session};
 ghost use Rattle.wt_inspection.specs.DataCapsules.{Stage};
@@ -12,7 +12,9 @@ use crate::capsules::next_capsule;
 use crate::fields::{read_section, section_then};
 use crate::frames::next_frame;
 use crate::message::warn_of_section;
-use crate::reading::{Next, Reading, Recorded, Step, cut, end_at, end_of_nothing, fault, start_of};
+use crate::reading::{
+    Next, Reading, Recorded, Step, Then, cut, end_at, end_of_nothing, fault, start_of,
+};
 use crate::settings::{read_settings, settings_then};
 use crate::tiling::Tiling;
 use std::alloc::{AllocError, Global};
@@ -78,15 +80,9 @@ pub fn inspect(
 }
 
 /// Returns how these bytes end, if this follows their last item.
-fn end_of(
-    reading: &Reading,
-    kind: Recorded,
-    open: bool,
-    state: Result<Next, End>,
-    bytes: &[u8],
-) -> End
+fn end_of(reading: &Reading, kind: Recorded, open: bool, state: Then, bytes: &[u8]) -> End
     ensures { (stage : Stage) → IsStageAt state reading.now.phase stage
-        → EndsSo kind «open» (length bytes.now == 0) state stage result }
+        → EndsInspection kind «open» (length bytes.now == 0) state stage result }
 {
     match state {
         Err(stop) => end_at(kind, open, stop),
@@ -101,12 +97,7 @@ fn end_of(
 }
 
 /// Returns the next item. After the end of the reading it is all bytes that are left.
-fn next_step(
-    reading: &mut Reading,
-    state: Result<Next, End>,
-    at: usize,
-    rest: &[u8],
-) -> Result<Step, AllocError>
+fn next_step(reading: &mut Reading, state: Then, at: usize, rest: &[u8]) -> Result<Step, AllocError>
     requires some { 0 < length rest.now }
     requires place { at + length rest.now < 2 ^ 64 }
     ensures within { IfOk result (λ s. s.length ≤ length rest.now) }

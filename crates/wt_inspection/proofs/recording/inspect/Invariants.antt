@@ -3,7 +3,7 @@ use Rattle.wt_inspection.specs.DataCapsules.{Stage, Opening}
 use Rattle.wt_inspection.specs.Tiles.{IsTiling}
 use Rattle.wt_inspection.specs.Recording.{Reads, start_of}
 use Rattle.wt_inspection.specs.Walks.{IsStageAt}
-use Rattle.wt_inspection.proofs.kinds.inspect.Given as goal
+use Rattle.wt_inspection.proofs.recording.inspect.Given as goal
 
 abbrev pub invariant-items : goal.invariant-items
 invariant-items l =

@@ -2,10 +2,10 @@
 use Rattle.std.proofs.Common.{◌≡◌, ℕ, ◌+◌, ◌<◌, length, drop, sym, ap, ◌∙◌, arith, length-drop}
 use Rattle.std.proofs.lemmas.List.{drop-drop}
 use Rattle.wtp_core.specs.Source.{Source, AsksOnce}
-use Rattle.wtp_core.specs.SkipAhead.{Passed}
+use Rattle.wtp_core.specs.SkipAhead.{Skipped}
 
-pub passed_then : (m n k e : ℕ) (a b c : Source) → k ≡ m + n → Passed m a b 0 → Passed n b c e → Passed k a c e
-passed_then m n k e a b c is p q = record {
+pub skipped_then : (m n k e : ℕ) (a b c : Source) → k ≡ m + n → Skipped m a b 0 → Skipped n b c e → Skipped k a c e
+skipped_then m n k e a b c is p q = record {
   there = let one = p.there in let two = q.there in omega (arith, ap length p.rest, length-drop m a.ahead);
   rest = q.rest ∙ ap (λ l. drop n l) p.rest ∙ drop-drop n m a.ahead ∙ ap (λ i. drop i a.ahead) (sym is);
   ending = q.ending ∙ p.ending;
@@ -14,8 +14,8 @@ passed_then m n k e a b c is p q = record {
   waits = let one = p.waits in let two = q.waits in omega arith;
 }
 
-pub passed_some : (n : ℕ) (a b : Source) → 0 < n → Passed n a b 1 → AsksOnce a b → Passed n a b 0
-passed_some n a b some p k = record {
+pub skipped_some : (n : ℕ) (a b : Source) → 0 < n → Skipped n a b 1 → AsksOnce a b → Skipped n a b 0
+skipped_some n a b some p k = record {
   there = p.there;
   rest = p.rest;
   ending = p.ending;
