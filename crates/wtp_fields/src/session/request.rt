@@ -1,7 +1,7 @@
 //! Requests for sessions.
 ghost use Rattle.std.specs.Prelude.{◌≡◌, ◌≢◌, ◌⊎◌, ◌↔◌, MatchResult, None, Some, Ok, Err, OnOk};
 ghost use Rattle.std.specs.Prelude.{OnErr, IfOk, IfErr, IsTrue, IsErrOf, codes, string_bytes};
-ghost use Rattle.std.specs.Prelude.{length, ◌≤◌};
+ghost use Rattle.std.specs.Prelude.{length, ◌≤◌, ◌^◌};
 ghost use Rattle.std.specs.Option.{option_copied};
 ghost use Rattle.url.specs.Parser.{parse_url};
 ghost use Rattle.wtp_qpack.specs.Field.{put, field_value};
@@ -170,7 +170,7 @@ impl SessionRequest {
             (λ request. request_at (parse_url None url.now) ≡ Ok request)
             (λ e. (request_at (parse_url None url.now) ≡ Err e)
             ⊎ ((e ≡ answered.Memory) ⊎ (e ≡ answered.Overflow))) }
-        ensures overflow { result ≡ Err answered.Overflow → MIN_OVERFLOW_LEN ≤ length url.now }
+        ensures overflow { result ≡ Err answered.Overflow → 2 ^ 24 ≤ length url.now }
     {
         let parsed = match Url::parse(alloc, url) {
             Ok(parsed) => parsed,
