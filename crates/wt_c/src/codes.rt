@@ -107,3 +107,10 @@ pub extern "C" fn wt_application_code_from_http3(number: u64, code: &mut u32) ->
         Err(_) => INVALID,
     }
 }
+
+// The numbers in c/include/wtransport.h.
+const _: () = prove!(STREAM == 0);
+
+const _: () = prove!(CONNECTION == 1);
+
+const _: () = prove!(EITHER == 2);

@@ -213,3 +213,12 @@ pub extern "C" fn wt_read_end(reader: &WtReader, rest: &[u8], code: &mut u64) ->
         }
     }
 }
+
+// The numbers in c/include/wtransport.h.
+const _: () = prove!(BI_REMOTE == 0);
+
+const _: () = prove!(BI_LOCAL == 1);
+
+const _: () = prove!(CONTROL == 2);
+
+const _: () = prove!(SESSION == 3);

@@ -163,3 +163,22 @@ pub extern "C" fn wt_request_fault_name(fault: i32, out: &mut [u8], used: &mut u
         None => INVALID,
     }
 }
+
+// The numbers in c/include/wtransport.h.
+const _: () = prove!(REQUEST_OK == 0);
+
+const _: () = prove!(MISSING_METHOD == 1);
+
+const _: () = prove!(METHOD_NOT_CONNECT == 2);
+
+const _: () = prove!(MISSING_SCHEME == 3);
+
+const _: () = prove!(SCHEME_NOT_HTTPS == 4);
+
+const _: () = prove!(MISSING_PROTOCOL == 5);
+
+const _: () = prove!(PROTOCOL_NOT_WEBTRANSPORT == 6);
+
+const _: () = prove!(MISSING_AUTHORITY == 7);
+
+const _: () = prove!(MISSING_PATH == 8);

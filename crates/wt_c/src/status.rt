@@ -17,3 +17,16 @@ pub const INVALID: i32 = -3;
 
 /// Allocation failed.
 pub const MEMORY: i32 = -4;
+
+// The numbers in c/include/wtransport.h.
+const _: () = prove!(OK == 0);
+
+const _: () = prove!(MORE == 1);
+
+const _: () = prove!(ERROR == -1);
+
+const _: () = prove!(BUFFER_TOO_SMALL == -2);
+
+const _: () = prove!(INVALID == -3);
+
+const _: () = prove!(MEMORY == -4);
