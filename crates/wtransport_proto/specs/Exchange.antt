@@ -67,7 +67,8 @@ past_front (BadId rest) = BadId rest
 past_front (TooBig rest) = TooBig rest
 past_front Short = Short
 
--- No frame was read, and this is held of one. Nothing was lost but unknown frames.
+-- No frame was read. Only unknown frames were taken, and these bytes of the next one, which are
+-- lost.
 pub record KeptPlace (role : Role) (first next : Bool) (held : Held) (a b : Source) : Type 0 where
   pub run : run role first a.ahead (tail_of a.ending) ≡ run_of role next held b
   pub known : past_front (front_held held b.ahead) ≡ front (skip_unknown a.ahead)

@@ -115,8 +115,9 @@ fn next_frame<K: ReadsFrames, S: AsyncRead>(
 
 /// Reads the header map of the next frame, in at most `turns` polls. Unknown frames are skipped.
 ///
-/// The source is then positioned right after the frame. After `Waiting` or `Memory`, only the bytes
-/// of an incomplete frame may have been taken, and are lost; a complete frame is still ahead.
+/// The source is then positioned right after the frame. After `Waiting` or `Memory` it may be
+/// positioned inside a frame: what was taken of that is lost, so that no more frames can be read.
+/// To be able to go on, poll the stream's `read_frame_async` with a [`FrameReading`] that you keep.
 /// Requires that frames may be read, as `can_read` reports.
 ///
 /// If the input starts with the frame of a map, with a payload of at most 4096 bytes, and the
