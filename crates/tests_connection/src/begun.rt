@@ -1,6 +1,6 @@
 //! Sessions without a stream, by the requests that began (RFC 9000, section 2.1; WebTransport over
 //! HTTP/3, "Buffering Incoming Streams and Datagrams").
-use crate::reading::connection_of;
+use crate::reading::{connection_of, read};
 use crate::same::assert_same;
 use std::process::Abort;
 use wtp_connection::connection::Known;
@@ -134,6 +134,7 @@ fn name_of(known: Known) -> &'static str {
         Known::Open => "open",
         Known::Over => "over",
         Known::Refused => "refused",
+        Known::Other => "other",
         Known::Impossible => "impossible",
     }
 }
@@ -148,6 +149,98 @@ fn sessions_without_a_stream_are_known(rt: HostRuntime) {
         connection.accept(row.last);
         let came = name_of(connection.known_without_stream(row.session));
         assert_same(&rt, came, row.known, row.case);
+    }
+}
+
+/// A stream with the ID of a session, after these bytes of it, and whether they are its last ones.
+struct StreamRow {
+    case: &'static str,
+    id: u64,
+    bytes: &'static [u8],
+    fin: bool,
+    /// What is known of the session.
+    known: &'static str,
+}
+
+/// The rows: streams of a client, at a server.
+static STREAMS: [StreamRow; 9] = [
+    StreamRow {
+        case: "a request before its first byte",
+        id: 0,
+        bytes: &[],
+        fin: false,
+        known: "coming",
+    },
+    StreamRow {
+        case: "a request before its HEADERS",
+        id: 4,
+        bytes: &[0x21, 0x00],
+        fin: false,
+        known: "coming",
+    },
+    StreamRow {
+        case: "a request without an answer",
+        id: 4,
+        bytes: &[0x01, 0x01, 0xd1],
+        fin: false,
+        known: "coming",
+    },
+    StreamRow {
+        case: "a request that ended",
+        id: 4,
+        bytes: &[0x01, 0x01, 0xd1],
+        fin: true,
+        known: "over",
+    },
+    StreamRow {
+        case: "a stream of a session",
+        id: 8,
+        bytes: &[0x40, 0x41, 0x00],
+        fin: false,
+        known: "impossible",
+    },
+    StreamRow {
+        case: "a stream that names itself",
+        id: 8,
+        bytes: &[0x40, 0x41, 0x08],
+        fin: false,
+        known: "impossible",
+    },
+    StreamRow {
+        case: "a control stream, whose ID is no session's",
+        id: 2,
+        bytes: &[0x00, 0x04, 0x00],
+        fin: false,
+        known: "impossible",
+    },
+    StreamRow {
+        case: "an encoder stream",
+        id: 6,
+        bytes: &[0x02],
+        fin: false,
+        known: "impossible",
+    },
+    StreamRow {
+        case: "a unidirectional stream that is over",
+        id: 6,
+        bytes: &[0x21],
+        fin: true,
+        known: "impossible",
+    },
+];
+
+#[test]
+fn sessions_with_a_stream_are_known(rt: HostRuntime) {
+    for row in &STREAMS {
+        let mut connection = connection_of(true, true);
+        let mut stream = connection.accept(row.id);
+        read(&mut connection, &mut stream, row.bytes, 64, row.fin);
+        let came = name_of(connection.known(row.id, Some(&stream)));
+        assert_same(&rt, came, row.known, row.case);
+        let other = name_of(connection.known(row.id + 5, Some(&stream)));
+        assert_same(&rt, other, "impossible", row.case);
+        let alone = name_of(connection.known(16, None));
+        assert_same(&rt, alone, "coming", row.case);
     }
 }
 

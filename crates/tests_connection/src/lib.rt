@@ -5,6 +5,8 @@
 #[cfg(test)]
 mod begun;
 #[cfg(test)]
+mod datagrams;
+#[cfg(test)]
 mod interims;
 #[cfg(test)]
 mod qpack;
@@ -20,5 +22,7 @@ mod same;
 mod sessions;
 #[cfg(test)]
 mod settings;
+#[cfg(test)]
+mod stops;
 #[cfg(test)]
 mod streams;

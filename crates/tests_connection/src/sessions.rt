@@ -69,7 +69,55 @@ fn streams_without_a_session_are_refused(rt: HostRuntime) {
     check_known(&rt, Known::Over, 0x170d7b68, true);
     check_known(&rt, Known::Refused, 0x3994bd84, false);
     check_known(&rt, Known::Refused, 0x3994bd84, true);
+    check_known(&rt, Known::Other, 0x3994bd84, false);
+    check_known(&rt, Known::Other, 0x3994bd84, true);
     check_known(&rt, Known::Impossible, 0x108, false);
+}
+
+#[test]
+fn a_client_knows_that_its_request_asked_for_no_session(rt: HostRuntime) {
+    let mut connection = connection_of(false, true);
+    let mut stream = Stream::of_peer(3);
+    read(&mut connection, &mut stream, &[0x40, 0x54, 0x00], 64, false);
+    let came = code_of(connection.join(&mut stream, Known::Other));
+    assert_same(&rt, came, 0x108, "the ID is no session's");
+}
+
+/// A stream of which more bytes are left over than the caller holds: what of it came, and the code of
+/// the error.
+static OVERFLOWS: [(&str, u64, &[u8], u64, u64); 5] = [
+    ("before join", 6, &[0x40, 0x54, 0x00, 1], 0x3994bd84, 0),
+    ("while it waits", 6, &[0x40, 0x54, 0x00, 1], 0x3994bd84, 1),
+    ("within HEADERS (10.5)", 4, &[0x01, 0x05, 0x00], 0x107, 0),
+    (
+        "within SETTINGS (10.5)",
+        2,
+        &[0x00, 0x04, 0x05, 0x00],
+        0x107,
+        0,
+    ),
+    ("within its type (10.5)", 2, &[0x40], 0x107, 0),
+];
+
+#[test]
+fn streams_that_overflow_are_ended(rt: HostRuntime) {
+    for (case, id, bytes, code, waits) in &OVERFLOWS {
+        let mut connection = connection_of(true, true);
+        let mut stream = Stream::of_peer(*id);
+        read(&mut connection, &mut stream, bytes, 64, false);
+        if *waits == 1 {
+            connection.join(&mut stream, Known::Coming);
+        }
+        let came = code_of(connection.overflow(&mut stream));
+        assert_same(&rt, (came, connection.waiting()), (*code, 0), *case);
+        let again = code_of(connection.overflow(&mut stream));
+        let later = read(&mut connection, &mut stream, bytes, 64, true);
+        assert_same(&rt, (again, later.data, later.left), (0, 0, 0), *case);
+        let mut request = Stream::of_peer(8);
+        let bytes = [0x01, 0x01, 0xd1, 0x00, 0x01, 0x61];
+        let data = read(&mut connection, &mut request, &bytes, 64, true).data;
+        assert_same(&rt, data, if *code == 0x107 { 0 } else { 1 }, *case);
+    }
 }
 
 #[test]

@@ -16,7 +16,7 @@ body_size (other ∷ items) = body_size items
 
 -- the body of a request to a server
 abbrev pub server : Endpoint
-server = record { side = Server; webtransport = false; max_section = 65536 }
+server = record { side = Server; webtransport = false; datagrams = false; max_section = 65536 }
 
 abbrev pub request_size : List ℕ → ℕ
 request_size bytes = body_size (run (message_reader server) bytes).items

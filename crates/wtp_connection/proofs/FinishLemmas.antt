@@ -16,7 +16,7 @@ use Rattle.wtp_connection.proofs.StreamLemmas.{over_given}
 followed_twice : (xs ys : List Seen) (y : StreamRun) → followed (xs ++ ys) y ≡ followed xs (followed ys y)
 followed_twice xs ys y = ap (λ (l : List Seen). record { seen = l; connection = y.connection; stream = y.stream; left = y.left }) (append_assoc xs ys y.seen)
 
-ended_followed : (xs : List Seen) (y : StreamRun) → ended (followed xs y) ≡ followed xs (ended y)
+pub ended_followed : (xs : List Seen) (y : StreamRun) → ended (followed xs y) ≡ followed xs (ended y)
 ended_followed xs y = elim y.connection.over as (λ b. cond b (followed xs y) (followed (xs ++ y.seen) (ending y.connection y.stream y.left)) ≡ followed xs (cond b y (followed y.seen (ending y.connection y.stream y.left)))) [
   | true ↦ refl
   | false ↦ followed_twice xs y.seen (ending y.connection y.stream y.left)

@@ -5,3 +5,4 @@ pub mod Opening
 pub mod Streams
 pub mod Receiving
 pub mod Requests
+pub mod Datagrams

@@ -37,6 +37,13 @@ is_critical Encoder = true
 is_critical (Decoder place) = true
 is_critical other = false
 
+-- what such a stream is for
+abbrev pub is_for_critical : Purpose → Bool
+is_for_critical «for».Control = true
+is_for_critical «for».Encoder = true
+is_for_critical «for».Decoder = true
+is_for_critical other = false
+
 -- a bidirectional stream of which no HEADERS came
 abbrev pub has_no_headers : Stream → Bool
 has_no_headers Bi = true

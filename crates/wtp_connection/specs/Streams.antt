@@ -32,7 +32,7 @@ use Rattle.wtp_connection.specs.declared.connection.Known.TheVariants as known
 use Rattle.wtp_connection.specs.Fault.{scope_of}
 use Rattle.wtp_connection.specs.Settings.{values_of, with_defaults, settings_in}
 use Rattle.wtp_connection.specs.Instructions.{sets_zero, after_bytes}
-use Rattle.wtp_connection.specs.Opening.{stream_of, uni_at, bi_at, is_critical, has_no_headers}
+use Rattle.wtp_connection.specs.Opening.{stream_of, uni_at, bi_at, is_control, is_critical, is_for_critical, has_no_headers}
 use Rattle.wtp_connection.specs.declared.requests.Begun.{Begun}
 use Rattle.wtp_connection.specs.declared.requests.Beginning.{Beginning}
 use Rattle.wtp_connection.specs.declared.requests.Beginning.TheVariants as beginning
@@ -282,6 +282,18 @@ known_at Server b s =
 abbrev pub known_alone : Connection → ℕ → Known
 known_alone c s = known_at c.endpoint.side c.begun s
 
+-- what a stream with the ID of a session says of it: a request that goes on may be that of the
+-- session; a stream of a session can never be one
+abbrev pub known_by_stream : Stream → Known
+known_by_stream Bi = known.Coming
+known_by_stream (Frames r given) = if is_control r.place then known.Impossible else known.Coming
+known_by_stream Over = known.Over
+known_by_stream other = known.Impossible
+
+abbrev pub known_of : Connection → ℕ → Option Stream → Known
+known_of c s None = known_alone c s
+known_of c s (Some its) = if s % 4 == 0 then known_by_stream its else known.Impossible
+
 -- what the connection and a stream are then, and the error
 abbrev pub Joined : Type 0
 Joined = Connection × Stream × Option Fault
@@ -289,12 +301,19 @@ Joined = Connection × Stream × Option Fault
 abbrev pub refuses : Connection → StreamFault → Joined
 refuses c f = (closed_by c (fault.Stream f), Over, Some (fault.Stream f))
 
+-- the request with the session's ID asked for none: a client made it itself, so the ID is no
+-- session's
+abbrev pub other_fault : Side → StreamFault
+other_fault Client = stream.Id
+other_fault Server = stream.BufferedStreamRejected
+
 -- a stream whose session is not to come
 abbrev pub settles : Connection → ℕ → Known → Joined
 settles c s known.Coming = (c, Waiting s, None)
 settles c s known.Open = (c, Session s, None)
 settles c s known.Over = refuses c stream.SessionGone
 settles c s known.Refused = refuses c stream.BufferedStreamRejected
+settles c s known.Other = refuses c (other_fault c.endpoint.side)
 settles c s known.Impossible = refuses c stream.Id
 
 abbrev pub waits : Connection → ℕ → Joined
@@ -366,6 +385,29 @@ resets c s =
     if is_critical s && not c.over
     then refuses c stream.ClosedCriticalStream
     else (without c s, Over, reset_answer c s)
+
+-- the peer asks to stop an own stream for this purpose: an error if it is a critical one and the
+-- connection goes on
+abbrev pub stops : Connection → Purpose → Connection × Option Fault
+stops c p =
+    if is_for_critical p && not c.over
+    then (
+      closed_by c (fault.Stream stream.ClosedCriticalStream),
+      Some (fault.Stream stream.ClosedCriticalStream),
+    )
+    else (c, None)
+
+-- more bytes of a stream are left over than the application holds: one that is to be joined with its
+-- session is rejected (WebTransport over HTTP/3, "Buffering Incoming Streams and Datagrams"); of any
+-- other one it is an excessive load (RFC 9114, section 10.5)
+abbrev pub overflows_open : Connection → Stream → Joined
+overflows_open c (Joining s) = refuses c stream.BufferedStreamRejected
+overflows_open c (Waiting s) = refuses (freed c) stream.BufferedStreamRejected
+overflows_open c Over = (c, Over, None)
+overflows_open c other = refuses c stream.ExcessiveLoad
+
+abbrev pub overflows : Connection → Stream → Joined
+overflows c s = if c.over then (c, s, None) else overflows_open c s
 
 -- the application reads a stream no further; a critical one is always read
 abbrev pub abandons : Connection → Stream → Connection × Stream

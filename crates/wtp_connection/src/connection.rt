@@ -3,6 +3,7 @@ ghost use Rattle.std.specs.Prelude.{◌≡◌, ◌≤◌, ◌||◌, length, drop
 ghost use Rattle.wtp_connection.specs.Streams.{connection_of, opens, opening_result, closed_by, accepts, no_number as no_number_is};
 ghost use Rattle.wtp_connection.specs.Receiving.{FoundIs, StepIsFound, IsFirst, IsInside, opening_of, has_frame, step_found, encoder_found, decoder_found, fails, more_in, finish_of};
 
+pub mod datagrams;
 mod sessions;
 
 use crate::fault::Fault;
@@ -47,8 +48,10 @@ pub enum Known {
     Open,
     /// It is over.
     Over,
-    /// Its request was refused, ended before its HEADERS, or asked for no session.
+    /// Its request was refused, or ended before its HEADERS.
     Refused,
+    /// Its request asked for no session.
+    Other,
     /// No session can have this ID.
     Impossible,
 }

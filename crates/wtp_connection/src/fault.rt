@@ -1,5 +1,5 @@
 //! Errors of a connection and of its streams, with their codes and their scope (RFC 9114, section
-//! 8; RFC 9204, section 6).
+//! 8; RFC 9204, section 6; RFC 9297, section 5.2).
 ghost use Rattle.std.specs.Prelude.{◌≡◌};
 ghost use Rattle.wtp_connection.specs.Fault.{code_of, scope_of};
 
@@ -19,6 +19,9 @@ pub enum Fault {
     /// The decoder stream of QPACK has an instruction about entries, of which none was inserted, or
     /// a number that is too large (RFC 9204, sections 4.1.1 and 4.4).
     DecoderStream,
+    /// A datagram does not begin with a complete number, or its number is 2^60 or more (RFC 9297,
+    /// section 2.1).
+    Datagram,
 }
 
 impl Fault {
@@ -31,6 +34,7 @@ impl Fault {
             Fault::Settings => Code::H3_SETTINGS_ERROR,
             Fault::EncoderStream => Code::QPACK_ENCODER_STREAM_ERROR,
             Fault::DecoderStream => Code::QPACK_DECODER_STREAM_ERROR,
+            Fault::Datagram => Code::H3_DATAGRAM_ERROR,
         }
     }
 

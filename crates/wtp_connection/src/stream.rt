@@ -2,9 +2,11 @@
 //! draft-ietf-webtrans-http3-02, sections 4.1 and 4.2).
 ghost use Rattle.std.specs.Prelude.{◌≡◌, ◌≤◌, false, length, drop, None, Some, MatchOption, IfSome};
 ghost use Rattle.wtp_core.specs.Varint.{number_at};
-ghost use Rattle.wtp_connection.specs.Opening.{with_session, type_purpose, frames_purpose, uni_at, bi_at, stream_of, waits_for, is_critical as is_critical_is, has_no_headers as has_no_headers_is, is_closed as is_closed_is};
+ghost use Rattle.wtp_connection.specs.Opening.{with_session, type_purpose, frames_purpose, uni_at, bi_at, stream_of, waits_for, is_critical as is_critical_is, is_for_critical, has_no_headers as has_no_headers_is, is_closed as is_closed_is};
+ghost use Rattle.wtp_connection.specs.Streams.{known_by_stream};
 ghost use Rattle.wtp_frames.specs.Start.{message_reader};
 
+use crate::connection::Known;
 use crate::instructions::DecoderPlace;
 use wtp_core::varint::first_varint;
 use wtp_frames::endpoint::{Endpoint, Side};
@@ -32,6 +34,15 @@ pub enum Purpose {
     Foreign,
     /// A stream of an unknown or a reserved type.
     Ignored,
+}
+
+impl Purpose {
+    // Returns whether a stream for this may not be closed.
+    pub(crate) fn is_critical(self) -> bool
+        ensures { result ≡ is_for_critical self }
+    {
+        matches!(self, Purpose::Control | Purpose::Encoder | Purpose::Decoder)
+    }
 }
 
 /// The state of one stream. It holds no bytes.
@@ -107,6 +118,24 @@ impl Stream {
             Stream::Encoder | Stream::Decoder(_) => true,
             Stream::Frames(reader, _) => is_closed(reader.finish(0)),
             _ => false,
+        }
+    }
+
+    // Returns what the stream says of the session with its ID.
+    pub(crate) fn known_session(&self) -> Known
+        ensures { result ≡ known_by_stream self.now }
+    {
+        match self {
+            Stream::Over => Known::Over,
+            Stream::Bi => Known::Coming,
+            Stream::Frames(_, _) => {
+                if self.is_critical() {
+                    Known::Impossible
+                } else {
+                    Known::Coming
+                }
+            }
+            _ => Known::Impossible,
         }
     }
 

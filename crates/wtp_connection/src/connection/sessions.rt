@@ -1,11 +1,11 @@
 //! Streams of sessions, and streams that end before their last byte.
-ghost use Rattle.std.specs.Prelude.{◌≡◌};
-ghost use Rattle.wtp_connection.specs.Streams.{joins, tells_interim, known_alone, waits, settles, refuses, freed, without, reset_answer, resets, abandons};
+ghost use Rattle.std.specs.Prelude.{◌≡◌, option_map};
+ghost use Rattle.wtp_connection.specs.Streams.{joins, tells_interim, known_alone, known_of, other_fault as other_fault_is, waits, settles, refuses, freed, without, reset_answer, resets, stops, overflows, abandons};
 
 use crate::connection::{Connection, Known};
 use crate::fault::Fault;
 use crate::requests::Beginning;
-use crate::stream::Stream;
+use crate::stream::{Purpose, Stream};
 use wtp_frames::endpoint::Side;
 use wtp_frames::fault::Fault as StreamFault;
 
@@ -76,6 +76,27 @@ impl Connection {
         }
     }
 
+    /// Returns what is known of a session, as far as streams say it: `its` is the stream with its ID,
+    /// if the caller has one. Such a stream is that of a request: the session is `Coming` until the
+    /// stream is over, and then `Over`. Whether the request asked for a session and how it was
+    /// answered is the caller's to say, as `Open`, `Refused` and `Other`. It is `Impossible` if the
+    /// stream belongs to a session itself. Without a stream see
+    /// [`known_without_stream`](Self::known_without_stream).
+    pub fn known(&self, session: u64, its: Option<&Stream>) -> Known
+        ensures { result ≡ known_of self.now session (option_map (λ s. s.now) its.entry) }
+    {
+        match its {
+            None => self.known_without_stream(session),
+            Some(stream) => {
+                if session % 4 == 0 {
+                    stream.known_session()
+                } else {
+                    Known::Impossible
+                }
+            }
+        }
+    }
+
     // Lets a stream wait for its session, if it has a place.
     fn wait(&mut self, stream: &mut Stream, session: u64) -> Option<Fault>
         ensures { (self.new, stream.new, result) ≡ waits self.old session }
@@ -104,6 +125,7 @@ impl Connection {
             }
             Known::Over => self.refuse(stream, StreamFault::SessionGone),
             Known::Refused => self.refuse(stream, StreamFault::BufferedStreamRejected),
+            Known::Other => self.refuse(stream, other_fault(self.endpoint.side)),
             Known::Impossible => self.refuse(stream, StreamFault::Id),
         }
     }
@@ -177,6 +199,50 @@ impl Connection {
         }
     }
 
+    /// Says that the peer asked to stop a stream that was opened here (STOP_SENDING). `own` is what
+    /// that stream is for. If there is no error, the own half is to be reset (RFC 9000, section 3.5);
+    /// the other half goes on, and what else to do is the application's.
+    ///
+    /// # Errors
+    ///
+    /// `ClosedCriticalStream`, which ends the connection, if it is the own control stream (RFC 9114,
+    /// section 6.2.1) or one of QPACK (RFC 9204, section 4.2). None after an error of the connection.
+    pub fn stopped(&mut self, own: Purpose) -> Option<Fault>
+        ensures { (self.new, result) ≡ stops self.old own }
+    {
+        if own.is_critical() && !self.over {
+            let fault = Fault::Stream(StreamFault::ClosedCriticalStream);
+            self.close(fault);
+            return Some(fault);
+        }
+        None
+    }
+
+    /// Says that more bytes of a stream are left over than the caller holds. The stream is over.
+    ///
+    /// # Errors
+    ///
+    /// `BufferedStreamRejected`, which ends that stream alone, if it is to be joined with its session;
+    /// it waits no longer (WebTransport over HTTP/3, "Buffering Incoming Streams and Datagrams").
+    /// `ExcessiveLoad`, which ends the connection, of every other stream (RFC 9114, section 10.5). None
+    /// if the stream is over, and after an error of the connection; nothing changes then.
+    pub fn overflow(&mut self, stream: &mut Stream) -> Option<Fault>
+        ensures { (self.new, stream.new, result) ≡ overflows self.old stream.old }
+    {
+        if self.over {
+            return None;
+        }
+        match stream {
+            Stream::Joining(_) => self.refuse(stream, StreamFault::BufferedStreamRejected),
+            Stream::Waiting(_) => {
+                self.free();
+                self.refuse(stream, StreamFault::BufferedStreamRejected)
+            }
+            Stream::Over => None,
+            _ => self.refuse(stream, StreamFault::ExcessiveLoad),
+        }
+    }
+
     /// Ends the reading of a stream, for a reason of the application. The stream is over: its bytes
     /// are discarded. A stream that waits for its session waits no longer.
     ///
@@ -208,5 +274,16 @@ impl Connection {
         ensures { self.new ≡ freed self.old }
     {
         self.waiting = self.waiting.saturating_sub(1);
+    }
+}
+
+// Returns the error of a stream whose session's request asked for none. A client made the request
+// itself, and so knows that this is no session's ID.
+fn other_fault(side: Side) -> StreamFault
+    ensures { result ≡ other_fault_is side }
+{
+    match side {
+        Side::Client => StreamFault::Id,
+        Side::Server => StreamFault::BufferedStreamRejected,
     }
 }

@@ -1,0 +1,276 @@
+-- What is found in bytes of which the first are held.
+use Rattle.std.proofs.Common.{◌≡◌, ℕ, zero, suc, ◌+◌, ◌-◌, ◌*◌, ◌<◌, ◌≤◌, ◌&&◌, ◌==◌, Bool, true, false, cond, List, [], ◌∷◌, ◌++◌, length, take, drop, Some, None, refl, sym, ap, subst, ◌∙◌, append_assoc, arith, length-append, length-drop}
+use Rattle.std.proofs.lemmas.Bool.{false≢true, eqb-true}
+use Rattle.std.proofs.lemmas.List.{append-nil, drop-drop, take-append-drop}
+use Rattle.std.proofs.Math.Seq.{drop-length}
+use Rattle.wtp_connection.specs.declared.connection.Connection.{Connection}
+use Rattle.wtp_connection.specs.declared.connection.Found.{Found}
+use Rattle.wtp_connection.specs.declared.connection.Found.TheVariants as found
+use Rattle.wtp_connection.specs.declared.stream.Stream.{Stream}
+use Rattle.wtp_connection.specs.Streams.{Seen, StreamRun, rests, followed, run_stream, ended}
+use Rattle.wtp_connection.specs.Receiving.{seen_of, rest_after, Idle, Fits, Finds, all_found, FoundIs, more_in}
+use Rattle.wtp_connection.proofs.FinishLemmas.{ended_followed}
+use Rattle.wtp_hold.specs.declared.hold.Hold.{Hold}
+use Rattle.wtp_hold.specs.declared.hold.Source.TheVariants.{Held, Chunk}
+use Rattle.wtp_hold.specs.declared.hold.Received.{Received}
+use Rattle.wtp_hold.specs.declared.hold.NotHeld.TheVariants.{Memory, Limit}
+use Rattle.wtp_hold.specs.Holding.{pending, joined, source_of, Reads, IsQuiet, IsHeld, AfterMore, ReceivedIs, IsPast, IsReason, NotHeldIs, consumed_by, IsStill, IsRead}
+
+-- ---- more bytes follow
+
+extended : (c : Connection) (s : Stream) (bytes : List ℕ) (seen : List Seen) (d : Connection) (t : Stream) (left rest : List ℕ) → Finds c s bytes seen d t left → Finds c s (bytes ++ rest) seen d t (left ++ rest)
+extended c s bytes seen d t left rest h = λ more.
+    ap (λ (l : List ℕ). run_stream c s l) (append_assoc bytes rest more)
+    ∙ h (rest ++ more)
+    ∙ ap (λ (l : List ℕ). followed seen (run_stream d t l)) (sym (append_assoc left rest more))
+
+reads_all : (fin : Bool) (c : Connection) (s : Stream) (bytes : List ℕ) (seen : List Seen) (d : Connection) (t : Stream) (left : List ℕ) → Finds c s bytes seen d t left → Reads fin c s bytes seen d t left
+reads_all false c s bytes seen d t left h = h
+reads_all true c s bytes seen d t left h = λ more.
+    ap (λ (y : StreamRun). ended y) (
+    ap (λ (l : List ℕ). run_stream c s l) (sym (append-nil bytes))
+    ∙ h []
+    ∙ ap (λ (l : List ℕ). followed seen (run_stream d t l)) (append-nil left))
+    ∙ ended_followed seen (run_stream d t left)
+
+no_more : (fin : Bool) (c : Connection) (s : Stream) (bytes : List ℕ) (seen : List Seen) (d : Connection) (t : Stream) (left rest : List ℕ) → rest ≡ [] → Reads fin c s bytes seen d t left → Reads fin c s (bytes ++ rest) seen d t (left ++ rest)
+no_more fin c s bytes seen d t left rest e h =
+    subst (λ (r : List ℕ). Reads fin c s (bytes ++ r) seen d t (left ++ r)) (sym e) (
+    subst (λ (l : List ℕ). Reads fin c s l seen d t (left ++ [])) (sym (append-nil bytes)) (
+    subst (λ (l : List ℕ). Reads fin c s bytes seen d t l) (sym (append-nil left)) h))
+
+-- the stream ends after the bytes if it does and no others follow them
+reads_on : (fin last : Bool) (c : Connection) (s : Stream) (bytes : List ℕ) (seen : List Seen) (d : Connection) (t : Stream) (left rest : List ℕ) → (last ≡ true → rest ≡ []) → Reads (fin && last) c s bytes seen d t left → Reads fin c s (bytes ++ rest) seen d t (left ++ rest)
+reads_on true true c s bytes seen d t left rest e h = no_more true c s bytes seen d t left rest (e refl) h
+reads_on true false c s bytes seen d t left rest e h = reads_all true c s (bytes ++ rest) seen d t (left ++ rest) (extended c s bytes seen d t left rest h)
+reads_on false last c s bytes seen d t left rest e h = extended c s bytes seen d t left rest h
+
+-- nothing is found, and then something
+pub reads_then : (fin : Bool) (b c : Connection) (r s : Stream) (all bytes : List ℕ) (seen : List Seen) (d : Connection) (t : Stream) (left : List ℕ) → Reads fin b r all [] c s bytes → Reads fin c s bytes seen d t left → Reads fin b r all seen d t left
+reads_then fin b c r s all bytes seen d t left g h = λ more. g more ∙ h more
+
+-- ---- how many bytes are consumed
+
+rest_is : (x : Found) (bytes : List ℕ) → rest_after x bytes ≡ drop (consumed_by x (length bytes)) bytes
+rest_is (found.Opened p n) bytes = refl
+rest_is (found.Settings v start end) bytes = refl
+rest_is (found.Frame kind start end) bytes = refl
+rest_is (found.Data start end) bytes = refl
+rest_is (found.TooLarge size n) bytes = refl
+rest_is (found.More n) bytes = refl
+rest_is (found.Fault f) bytes = sym (drop-length bytes)
+rest_is found.End bytes = sym (drop-length bytes)
+
+pub consumed_within : (x : Found) (bytes : List ℕ) (d : Connection) (t : Stream) → Fits x bytes d t → consumed_by x (length bytes) ≤ length bytes
+consumed_within (found.Opened p n) bytes d t h = h
+consumed_within (found.Settings v start end) bytes d t h = h.2
+consumed_within (found.Frame kind start end) bytes d t h = h.2
+consumed_within (found.Data start end) bytes d t h = h.1
+consumed_within (found.TooLarge size n) bytes d t h = h.1
+consumed_within (found.More n) bytes d t h = h.0
+consumed_within (found.Fault f) bytes d t h = omega arith
+consumed_within found.End bytes d t h = omega arith
+
+other_after : (x : Found) (taken limit : ℕ) (chunk : List ℕ) (k : Hold) (d : Connection) (t : Stream) → more_in x ≡ None → AfterMore x taken limit chunk k d t
+other_after (found.More n) taken limit chunk k d t e = absurd (cc)
+other_after (found.Opened p n) taken limit chunk k d t e = tt
+other_after (found.Settings v start end) taken limit chunk k d t e = tt
+other_after (found.Frame kind start end) taken limit chunk k d t e = tt
+other_after (found.Data start end) taken limit chunk k d t e = tt
+other_after (found.TooLarge size n) taken limit chunk k d t e = tt
+other_after (found.Fault f) taken limit chunk k d t e = tt
+other_after found.End taken limit chunk k d t e = tt
+
+fresh_pending : (k : Hold) → k.used ≡ 0 → pending k ≡ k.bytes.items
+fresh_pending k e = rw e refl
+
+-- ---- a call over the bytes held
+
+pub held_received : (x : Found) (fin last : Bool) (b c : Connection) (r s : Stream) (all : List ℕ) (h : Hold) (d : Connection) (t : Stream) (k : Hold) (taken limit : ℕ) (chunk : List ℕ) → IsRead x (fin && last) c s h d t k → k.fin ≡ fin → (last ≡ true → drop taken chunk ≡ []) → taken ≤ length chunk → Reads fin b r all [] c s (h.bytes.items ++ drop taken chunk) → ReceivedIs (record { found = x; source = Held; taken = taken }) b r all chunk limit k d t
+held_received x fin last b c r s all h d t k taken limit chunk is e none within before =
+    let left : pending k ≡ rest_after x h.bytes.items = ap (λ (n : ℕ). drop n k.bytes.items) is.used ∙ ap (λ (l : List ℕ). drop (consumed_by x (length h.bytes.items)) l) is.bytes ∙ sym (rest_is x h.bytes.items) in
+    record {
+      taken = within;
+      fits = subst (λ (l : List ℕ). Fits x l d t) (sym is.bytes) is.found.fits;
+      reads =
+          subst (λ (f : Bool). Reads f b r all (seen_of x k.bytes.items) d t (joined k (drop taken chunk))) (sym e) (
+          subst (λ (l : List ℕ). Reads fin b r all (seen_of x l) d t (joined k (drop taken chunk))) (sym is.bytes) (
+          subst (λ (l : List ℕ). Reads fin b r all (seen_of x h.bytes.items) d t (l ++ drop taken chunk)) (sym left) (
+          reads_then fin b c r s all (h.bytes.items ++ drop taken chunk) (seen_of x h.bytes.items) d t (rest_after x h.bytes.items ++ drop taken chunk) before (
+          reads_on fin last c s h.bytes.items (seen_of x h.bytes.items) d t (rest_after x h.bytes.items) (drop taken chunk) none is.found.finds))));
+      after = other_after x taken limit chunk k d t is.other;
+    }
+
+-- nothing is found so far
+pub still : (fin last : Bool) (b c : Connection) (r s : Stream) (all bytes : List ℕ) (d : Connection) (t : Stream) (k : Hold) (rest : List ℕ) → IsStill (fin && last) c s bytes d t k → k.fin ≡ fin → (last ≡ true → rest ≡ []) → Reads fin b r all [] c s (bytes ++ rest) → Reads k.fin b r all [] d t (k.bytes.items ++ rest)
+still fin last b c r s all bytes d t k rest is e none before = subst (λ (f : Bool). Reads f b r all [] d t (k.bytes.items ++ rest)) (sym e) (
+    reads_then fin b c r s all (bytes ++ rest) [] d t (k.bytes.items ++ rest) before (
+    reads_on fin last c s bytes [] d t k.bytes.items rest none is.reads))
+
+last_quiet : (fin last : Bool) (d : Connection) (t : Stream) (bytes : List ℕ) → last ≡ true → IsQuiet (fin && last) d t bytes → IsQuiet fin d t bytes
+last_quiet true true d t bytes e h = h
+last_quiet false true d t bytes e h = h
+last_quiet fin false d t bytes e h = absurd (cc)
+
+pub still_quiet : (fin last : Bool) (c : Connection) (s : Stream) (bytes : List ℕ) (d : Connection) (t : Stream) (k : Hold) → IsStill (fin && last) c s bytes d t k → k.fin ≡ fin → last ≡ true → IsQuiet k.fin d t k.bytes.items
+still_quiet fin last c s bytes d t k is e at = subst (λ (f : Bool). IsQuiet f d t k.bytes.items) (sym e) (last_quiet fin last d t k.bytes.items at is.quiet)
+
+-- no bytes of the chunk follow
+pub empty_rest : (rest back : List ℕ) (last : Bool) → rest ≡ back → last ≡ (length rest == 0) → last ≡ true → back ≡ []
+empty_rest rest back last is e at = sym is ∙ empty rest (sym e ∙ at)
+  where
+    empty : (l : List ℕ) → (length l == 0) ≡ true → l ≡ []
+    empty [] at = refl
+    empty (b ∷ l) at = let e : suc (length l) ≡ 0 = eqb-true _ _ at in absurd (omega arith)
+
+-- more than the limit
+pub past_more : (limit len : ℕ) (rest back : List ℕ) (last : Bool) → rest ≡ back → last ≡ (length rest == 0) → limit < len + cond last 0 1 → limit < len + length back
+past_more limit len rest back last is e h = subst (λ (l : List ℕ). limit < len + length l) is (more rest last e h)
+  where
+    more : (l : List ℕ) (last : Bool) → last ≡ (length l == 0) → limit < len + cond last 0 1 → limit < len + length l
+    more [] true e h = h
+    more [] false e h = absurd (false≢true e)
+    more (b ∷ l) true e h = let e : suc (length l) ≡ 0 = eqb-true _ _ (sym e) in absurd (omega arith)
+    more (b ∷ l) false e h = omega arith
+
+pub not_more : (x : Found) → ((m : ℕ) → x ≡ found.More m → ⊥) → more_in x ≡ None
+not_more (found.More n) h = absurd (h n refl)
+not_more (found.Opened p n) h = refl
+not_more (found.Settings v start end) h = refl
+not_more (found.Frame kind start end) h = refl
+not_more (found.Data start end) h = refl
+not_more (found.TooLarge size n) h = refl
+not_more (found.Fault f) h = refl
+not_more found.End h = refl
+
+-- as many bytes of the chunk are held
+pub moved : (fin : Bool) (b c : Connection) (r s : Stream) (all bytes chunk items : List ℕ) (taken n : ℕ) → items ≡ bytes ++ take n (drop taken chunk) → Reads fin b r all [] c s (bytes ++ drop taken chunk) → Reads fin b r all [] c s (items ++ drop (taken + n) chunk)
+moved fin b c r s all bytes chunk items taken n e before = subst (λ (l : List ℕ). Reads fin b r all [] c s l) (sym (
+    ap (λ (l : List ℕ). l ++ drop (taken + n) chunk) e
+    ∙ append_assoc bytes (take n (drop taken chunk)) (drop (taken + n) chunk)
+    ∙ ap (λ (l : List ℕ). bytes ++ (take n (drop taken chunk) ++ l)) (sym (drop-drop n taken chunk))
+    ∙ ap (λ (l : List ℕ). bytes ++ l) (take-append-drop n (drop taken chunk)))) before
+
+-- all of the chunk was taken, and nothing more is found
+pub nothing_more_held : (b : Connection) (r : Stream) (all : List ℕ) (d : Connection) (t : Stream) (k : Hold) (taken limit : ℕ) (chunk : List ℕ) → k.used ≡ 0 → drop taken chunk ≡ [] → taken ≤ length chunk → length k.bytes.items ≤ limit → IsQuiet k.fin d t k.bytes.items → Reads k.fin b r all [] d t (k.bytes.items ++ drop taken chunk) → ReceivedIs (record { found = found.More 0; source = Held; taken = taken }) b r all chunk limit k d t
+nothing_more_held b r all d t k taken limit chunk fresh none within few quiet reads =
+    let is : pending k ≡ k.bytes.items = fresh_pending k fresh in
+    let size : length chunk - taken ≡ 0 = sym (length-drop taken chunk) ∙ ap (λ (l : List ℕ). length l) none in
+    record {
+      taken = within;
+      fits = (omega arith, quiet.idle);
+      reads = subst (λ (l : List ℕ). Reads k.fin b r all [] d t (l ++ drop taken chunk)) (sym is) reads;
+      after = record {
+        all = omega arith;
+        held = is;
+        limited = subst (λ (l : List ℕ). length l ≤ limit) (sym is) few;
+        quiet = subst (λ (l : List ℕ). IsQuiet k.fin d t l) (sym is) quiet;
+      };
+    }
+
+-- the limit is reached
+pub limit_reached : (b : Connection) (r : Stream) (all : List ℕ) (d : Connection) (t : Stream) (k : Hold) (taken limit : ℕ) (chunk : List ℕ) → k.used ≡ 0 → taken ≤ length chunk → limit ≤ length k.bytes.items → limit < length k.bytes.items + length (drop taken chunk) → Idle d t k.bytes.items → Reads k.fin b r all [] d t (k.bytes.items ++ drop taken chunk) → NotHeldIs (Limit taken) b r all chunk limit k d t
+limit_reached b r all d t k taken limit chunk fresh within enough more idle reads =
+    let is : pending k ≡ k.bytes.items = fresh_pending k fresh in
+    record {
+      taken = within;
+      reads = subst (λ (l : List ℕ). Reads k.fin b r all [] d t (l ++ drop taken chunk)) (sym is) reads;
+      reason = (
+        k.bytes.items,
+        drop taken chunk,
+        record {
+          parts = ap (λ (l : List ℕ). l ++ drop taken chunk) is;
+          idle = idle;
+          enough = enough;
+          more = subst (λ (l : List ℕ). limit < length (l ++ drop taken chunk)) (sym is) (omega (arith, length-append k.bytes.items (drop taken chunk)));
+        },
+      );
+    }
+
+pub memory_refused : (b : Connection) (r : Stream) (all : List ℕ) (d : Connection) (t : Stream) (k : Hold) (taken limit : ℕ) (chunk : List ℕ) → k.used ≡ 0 → taken ≤ length chunk → Reads k.fin b r all [] d t (k.bytes.items ++ drop taken chunk) → NotHeldIs (Memory taken) b r all chunk limit k d t
+memory_refused b r all d t k taken limit chunk fresh within reads = record {
+  taken = within;
+  reads = subst (λ (l : List ℕ). Reads k.fin b r all [] d t (l ++ drop taken chunk)) (sym (fresh_pending k fresh)) reads;
+  reason = tt;
+}
+
+-- ---- a call over the chunk
+
+drop_nil : (n : ℕ) → drop {A = ℕ} n [] ≡ []
+drop_nil zero = refl
+drop_nil (suc n) = refl
+
+nothing_held : (k : Hold) (l : List ℕ) → k.bytes.items ≡ [] → joined k l ≡ l
+nothing_held k l none = ap (λ (i : List ℕ). drop k.used i ++ l) none ∙ ap (λ (i : List ℕ). i ++ l) (drop_nil k.used)
+
+chunk_reads : (x : Found) (n : ℕ) (fin : Bool) (c : Connection) (s : Stream) (rest chunk : List ℕ) (taken : ℕ) (d : Connection) (t : Stream) → rest ≡ drop taken chunk → FoundIs x c s rest fin d t → n ≡ consumed_by x (length rest) → Reads fin c s (drop taken chunk) (seen_of x (drop taken chunk)) d t (drop (taken + n) chunk)
+chunk_reads x n fin c s rest chunk taken d t at is e =
+    let left : rest_after x rest ≡ drop (taken + n) chunk = rest_is x rest ∙ ap (λ (m : ℕ). drop m rest) (sym e) ∙ ap (λ (l : List ℕ). drop n l) at ∙ drop-drop n taken chunk in
+    subst (λ (l : List ℕ). Reads fin c s l (seen_of x l) d t (drop (taken + n) chunk)) at (
+    subst (λ (l : List ℕ). Reads fin c s rest (seen_of x rest) d t l) left is.finds)
+
+-- something is found in the chunk
+pub chunk_found : (x : Found) (n : ℕ) (c : Connection) (s : Stream) (rest chunk : List ℕ) (taken limit : ℕ) (k : Hold) (d : Connection) (t : Stream) → rest ≡ drop taken chunk → taken ≤ length chunk → FoundIs x c s rest k.fin d t → more_in x ≡ None → n ≡ consumed_by x (length rest) → k.bytes.items ≡ [] → ReceivedIs (record { found = x; source = Chunk taken; taken = taken + n }) c s (drop taken chunk) chunk limit k d t
+chunk_found x n c s rest chunk taken limit k d t at before is other e none =
+    let within : n ≤ length rest = subst (λ (m : ℕ). m ≤ length rest) (sym e) (consumed_within x rest d t is.fits) in
+    let size : length rest ≡ length chunk - taken = ap (λ (l : List ℕ). length l) at ∙ length-drop taken chunk in
+    record {
+      taken = omega arith;
+      fits = subst (λ (l : List ℕ). Fits x l d t) at is.fits;
+      reads = subst (λ (l : List ℕ). Reads k.fin c s (drop taken chunk) (seen_of x (drop taken chunk)) d t l) (sym (nothing_held k (drop (taken + n) chunk) none)) (chunk_reads x n k.fin c s rest chunk taken d t at is e);
+      after = other_after x (taken + n) limit chunk k d t other;
+    }
+
+-- nothing is found in it
+pub chunk_quiet : (x : Found) (m n : ℕ) (fin : Bool) (c : Connection) (s : Stream) (rest chunk : List ℕ) (taken : ℕ) (d : Connection) (t : Stream) → rest ≡ drop taken chunk → FoundIs x c s rest fin d t → x ≡ found.More m → n ≡ consumed_by x (length rest) → IsQuiet fin d t (drop (taken + n) chunk)
+chunk_quiet x m n fin c s rest chunk taken d t at is more e =
+    let same : FoundIs (found.More m) c s rest fin d t = subst (λ (y : Found). FoundIs y c s rest fin d t) more is in
+    let size : n ≡ m = e ∙ ap (λ (y : Found). consumed_by y (length rest)) more in
+    let left : drop m rest ≡ drop (taken + n) chunk = ap (λ (i : ℕ). drop i rest) (sym size) ∙ ap (λ (l : List ℕ). drop n l) at ∙ drop-drop n taken chunk in
+    subst (λ (l : List ℕ). IsQuiet fin d t l) left (record { idle = same.fits.1; settled = same.settled })
+
+pub chunk_silent : (x : Found) (m n : ℕ) (fin : Bool) (c : Connection) (s : Stream) (rest chunk : List ℕ) (taken : ℕ) (d : Connection) (t : Stream) → rest ≡ drop taken chunk → FoundIs x c s rest fin d t → x ≡ found.More m → n ≡ consumed_by x (length rest) → Reads fin c s (drop taken chunk) [] d t (drop (taken + n) chunk)
+chunk_silent x m n fin c s rest chunk taken d t at is more e = subst (λ (l : List Seen). Reads fin c s (drop taken chunk) l d t (drop (taken + n) chunk)) (ap (λ (y : Found). seen_of y (drop taken chunk)) more) (chunk_reads x n fin c s rest chunk taken d t at is e)
+
+pub chunk_within : (x : Found) (n : ℕ) (fin : Bool) (c : Connection) (s : Stream) (rest chunk : List ℕ) (taken : ℕ) (d : Connection) (t : Stream) → rest ≡ drop taken chunk → taken ≤ length chunk → FoundIs x c s rest fin d t → n ≡ consumed_by x (length rest) → taken + n ≤ length chunk
+chunk_within x n fin c s rest chunk taken d t at before is e =
+    let within : n ≤ length rest = subst (λ (m : ℕ). m ≤ length rest) (sym e) (consumed_within x rest d t is.fits) in
+    let size : length rest ≡ length chunk - taken = ap (λ (l : List ℕ). length l) at ∙ length-drop taken chunk in
+    omega arith
+
+-- the chunk's rest is longer than the limit
+pub chunk_limit : (c : Connection) (s : Stream) (bytes chunk : List ℕ) (n limit : ℕ) (k : Hold) (d : Connection) (t : Stream) → k.bytes.items ≡ [] → n ≤ length chunk → limit < length (drop n chunk) → IsQuiet k.fin d t (drop n chunk) → Reads k.fin c s bytes [] d t (drop n chunk) → NotHeldIs (Limit n) c s bytes chunk limit k d t
+chunk_limit c s bytes chunk n limit k d t none within more quiet reads =
+    let is : joined k (drop n chunk) ≡ drop n chunk = nothing_held k (drop n chunk) none in
+    record {
+      taken = within;
+      reads = subst (λ (l : List ℕ). Reads k.fin c s bytes [] d t l) (sym is) reads;
+      reason = (
+        drop n chunk,
+        [],
+        record {
+          parts = is ∙ sym (append-nil (drop n chunk));
+          idle = quiet.idle;
+          enough = omega arith;
+          more = subst (λ (l : List ℕ). limit < length l) (sym is) more;
+        },
+      );
+    }
+
+-- the chunk's rest is held
+pub chunk_held : (c : Connection) (s : Stream) (bytes chunk : List ℕ) (n limit : ℕ) (k : Hold) (d : Connection) (t : Stream) → k.used ≡ 0 → k.bytes.items ≡ drop n chunk → length (drop n chunk) ≤ limit → IsQuiet k.fin d t (drop n chunk) → Reads k.fin c s bytes [] d t (drop n chunk) → ReceivedIs (record { found = found.More 0; source = Held; taken = length chunk }) c s bytes chunk limit k d t
+chunk_held c s bytes chunk n limit k d t fresh is few quiet reads =
+    let nothing : drop (length chunk) chunk ≡ [] = drop-length chunk in
+    nothing_more_held c s bytes d t k (length chunk) limit chunk fresh nothing (omega arith)
+    (subst (λ (l : List ℕ). length l ≤ limit) (sym is) few)
+    (subst (λ (l : List ℕ). IsQuiet k.fin d t l) (sym is) quiet)
+    (subst (λ (l : List ℕ). Reads k.fin c s bytes [] d t (k.bytes.items ++ l)) (sym nothing) (
+    subst (λ (l : List ℕ). Reads k.fin c s bytes [] d t l) (sym (append-nil k.bytes.items)) (
+    subst (λ (l : List ℕ). Reads k.fin c s bytes [] d t l) (sym is) reads)))
+
+pub chunk_refused : (c : Connection) (s : Stream) (bytes chunk : List ℕ) (n limit : ℕ) (k : Hold) (d : Connection) (t : Stream) → k.bytes.items ≡ [] → n ≤ length chunk → Reads k.fin c s bytes [] d t (drop n chunk) → NotHeldIs (Memory n) c s bytes chunk limit k d t
+chunk_refused c s bytes chunk n limit k d t none within reads = record {
+  taken = within;
+  reads = subst (λ (l : List ℕ). Reads k.fin c s bytes [] d t l) (sym (nothing_held k (drop n chunk) none)) reads;
+  reason = tt;
+}

@@ -1,0 +1,124 @@
+-- What is found on a stream whose bytes are held until what they begin is whole.
+use Rattle.std.specs.Prelude.{◌≡◌, ℕ, ◌<◌, ◌≤◌, Bool, true, false, List, [], ◌++◌, length, drop, None, Result, Ok, Err}
+use Rattle.wtp_connection.specs.declared.connection.Connection.{Connection}
+use Rattle.wtp_connection.specs.declared.connection.Found.{Found}
+use Rattle.wtp_connection.specs.declared.connection.Found.TheVariants as found
+use Rattle.wtp_connection.specs.declared.stream.Stream.{Stream}
+use Rattle.wtp_connection.specs.Streams.{Seen, rests, followed, run_stream, ended}
+use Rattle.wtp_connection.specs.Receiving.{seen_of, rest_after, Idle, Fits, all_found, FoundIs, more_in}
+use Rattle.wtp_hold.specs.declared.hold.Hold.{Hold}
+use Rattle.wtp_hold.specs.declared.hold.Source.{Source}
+use Rattle.wtp_hold.specs.declared.hold.Source.TheVariants.{Held, Chunk}
+use Rattle.wtp_hold.specs.declared.hold.Received.{Received}
+use Rattle.wtp_hold.specs.declared.hold.NotHeld.{NotHeld}
+use Rattle.wtp_hold.specs.declared.hold.NotHeld.TheVariants.{Memory, Limit}
+
+-- the bytes that are held and were not consumed
+abbrev pub pending : Hold → List ℕ
+pending h = drop h.used h.bytes.items
+
+-- all bytes of the stream that were not consumed
+abbrev pub joined : Hold → List ℕ → List ℕ
+joined h chunk = pending h ++ chunk
+
+-- no byte came
+pub record IsNew (h : Hold) : Type 0 where
+  pub bytes : h.bytes.items ≡ []
+  pub used : h.used ≡ 0
+  pub end : h.fin ≡ false
+
+-- the bytes that offsets count in
+abbrev pub source_of : Source → Hold → List ℕ → List ℕ
+source_of Held h chunk = h.bytes.items
+source_of (Chunk n) h chunk = drop n chunk
+
+-- ---- one call
+
+-- Whether the stream ends after these bytes, or whatever follows them: what is found in them is this,
+-- and then what is found in those that are left.
+abbrev pub Reads : Bool → Connection → Stream → List ℕ → List Seen → Connection → Stream → List ℕ → Type 0
+Reads fin c s bytes seen d t left =
+    (more : List ℕ) → all_found fin c s bytes more ≡ followed seen (all_found fin d t left more)
+
+-- nothing is found in these bytes, nor at the end of the stream if it comes after them
+pub record IsQuiet (fin : Bool) (d : Connection) (t : Stream) (bytes : List ℕ) : Type 0 where
+  pub idle : Idle d t bytes
+  pub settled : fin ≡ true → ended (run_stream d t bytes) ≡ rests d t bytes
+
+-- after More the whole chunk was taken, and what is left of it is held, within the limit
+pub record IsHeld (n limit : ℕ) (chunk : List ℕ) (k : Hold) (d : Connection) (t : Stream) : Type 0 where
+  pub all : n ≡ length chunk
+  pub held : pending k ≡ k.bytes.items
+  pub limited : length (pending k) ≤ limit
+  pub quiet : IsQuiet k.fin d t (pending k)
+
+abbrev pub AfterMore : Found → ℕ → ℕ → List ℕ → Hold → Connection → Stream → Type 0
+AfterMore (found.More n) taken limit chunk k d t = IsHeld taken limit chunk k d t
+AfterMore other taken limit chunk k d t = Unit {0}
+
+pub record ReceivedIs (x : Received) (c : Connection) (s : Stream) (bytes chunk : List ℕ) (limit : ℕ)
+    (k : Hold) (d : Connection) (t : Stream) : Type 0 where
+  pub taken : x.taken ≤ length chunk
+  pub fits : Fits x.found (source_of x.source k chunk) d t
+  pub reads : Reads k.fin c s bytes (seen_of x.found (source_of x.source k chunk)) d t
+      (joined k (drop x.taken chunk))
+  pub after : AfterMore x.found x.taken limit chunk k d t
+
+-- ---- bytes that cannot be held
+
+abbrev pub taken_before : NotHeld → ℕ
+taken_before (Memory n) = n
+taken_before (Limit n) = n
+
+-- in as many of the bytes as the limit allows nothing is found, and they are not all
+pub record IsPast (limit : ℕ) (d : Connection) (t : Stream) (left front back : List ℕ) : Type 0 where
+  pub parts : left ≡ front ++ back
+  pub idle : Idle d t front
+  pub enough : limit ≤ length front
+  pub more : limit < length left
+
+abbrev pub IsReason : NotHeld → ℕ → Connection → Stream → List ℕ → Type 0
+IsReason (Memory n) limit d t left = Unit {0}
+IsReason (Limit n) limit d t left =
+    (front back : List ℕ) × IsPast limit d t left front back
+
+pub record NotHeldIs (x : NotHeld) (c : Connection) (s : Stream) (bytes chunk : List ℕ) (limit : ℕ)
+    (k : Hold) (d : Connection) (t : Stream) : Type 0 where
+  pub taken : taken_before x ≤ length chunk
+  pub reads : Reads k.fin c s bytes [] d t (joined k (drop (taken_before x) chunk))
+  pub reason : IsReason x limit d t (joined k (drop (taken_before x) chunk))
+
+-- what a call returns where these bytes of the stream were not consumed, of which the chunk is the last
+-- part
+abbrev pub ReceptionIs : Result Received NotHeld → Connection → Stream → List ℕ → List ℕ → ℕ → Hold → Connection → Stream → Type 0
+ReceptionIs (Ok x) c s bytes chunk limit k d t = ReceivedIs x c s bytes chunk limit k d t
+ReceptionIs (Err x) c s bytes chunk limit k d t = NotHeldIs x c s bytes chunk limit k d t
+
+-- ---- its parts
+
+-- how many of so many bytes are consumed
+abbrev pub consumed_by : Found → ℕ → ℕ
+consumed_by (found.Opened p n) len = n
+consumed_by (found.Settings v start end) len = end
+consumed_by (found.Frame kind start end) len = end
+consumed_by (found.Data start end) len = end
+consumed_by (found.TooLarge size n) len = n
+consumed_by (found.More n) len = n
+consumed_by (found.Fault f) len = len
+consumed_by found.End len = len
+
+-- nothing was found in the bytes held, of which those are left
+pub record IsStill (fin : Bool) (c : Connection) (s : Stream) (bytes : List ℕ) (d : Connection)
+    (t : Stream) (k : Hold) : Type 0 where
+  pub reads : Reads fin c s bytes [] d t k.bytes.items
+  pub quiet : IsQuiet fin d t k.bytes.items
+  pub fewer : length k.bytes.items ≤ length bytes
+  pub fresh : k.used ≡ 0
+
+-- this was found in them
+pub record IsRead (x : Found) (fin : Bool) (c : Connection) (s : Stream) (h : Hold) (d : Connection)
+    (t : Stream) (k : Hold) : Type 0 where
+  pub found : FoundIs x c s h.bytes.items fin d t
+  pub bytes : k.bytes.items ≡ h.bytes.items
+  pub used : k.used ≡ consumed_by x (length h.bytes.items)
+  pub other : more_in x ≡ None

@@ -1,0 +1,4 @@
+//! Bytes of a stream that calls leave over, for QUIC stacks that give each byte once.
+#![tactic(auto)]
+
+pub mod hold;
