@@ -354,10 +354,11 @@ class Batch:
     def __init__(self, seed, first, count):
         self.scripts = [(f"{seed} {n}", Script(f"{seed} {n}")) for n in range(first, first + count)]
 
-    def fault(self, program):
-        """Returns what is wrong with the first script that does not give what it has to."""
+    def fault(self, program, first_line=""):
+        """Returns what is wrong with the first script that does not give what it has to, where all
+        scripts come after this line."""
         texts = [script.text() for _, script in self.scripts]
-        found = replayed(program, "".join(texts))
+        found = replayed(program, "".join([first_line, *texts]))
         if len(found) != 3 * len(texts):
             return f"{len(found)} connections, where {3 * len(texts)} were wanted"
         for index, (seed, script) in enumerate(self.scripts):

@@ -12,6 +12,8 @@ TOP = Path(__file__).resolve().parent.parent
 CRATE = TOP / "crates/wt_replay"
 # How long a run may take.
 SECONDS = 600
+# The first line of a script whose pieces are passed once each.
+PUSHED = "push\n"
 
 
 def built_program():

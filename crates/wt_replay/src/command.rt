@@ -28,6 +28,8 @@ pub enum Command {
     Forget(u64),
     /// The messages of streams are read from here on.
     Messages,
+    /// Each piece of a stream is passed once from here on, and what is left of it held.
+    Push,
 }
 
 impl Command {
@@ -60,6 +62,7 @@ impl Command {
             "abandon" => Ok(Command::Abandon(number(rest)?)),
             "forget" => Ok(Command::Forget(number(rest)?)),
             "messages" => Ok(Command::Messages),
+            "push" => Ok(Command::Push),
             _ => bail!("no command"),
         }
     }

@@ -14,6 +14,8 @@
 //!   `impossible`. At first each is `coming`.
 //! - `reset ID`, `abandon ID`: the peer reset a stream, or it is read no longer.
 //! - `messages`: from here on the messages of streams are read, and their interim responses found.
+//! - `push`: from here on, in every connection, each piece of a stream is passed once, and `Hold` holds
+//!   what is left of it.
 //! - `forget ID`: a stream that is over is forgotten. From here on its session is what the connection
 //!   knows without it.
 //!

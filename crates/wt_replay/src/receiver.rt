@@ -10,39 +10,52 @@ use wtp_connection::fields::Fields;
 use wtp_connection::stream::{Purpose, Stream};
 use wtp_frames::endpoint::{Endpoint, Side};
 use wtp_frames::frame_type::FrameType;
+use wtp_hold::hold::{Hold, Received, Source};
 use wtp_messages::message::{Message, Role};
 use wtp_messages::response::Asked;
 
-/// A stream.
+/// How far a stream was read.
 #[derive(Drop)]
-pub struct Entry {
-    /// Its state.
+pub struct Reading {
+    /// The state of the stream.
     stream: Stream,
-    /// How many bytes were consumed.
-    at: u64,
-    /// The bytes after these.
-    bytes: Vec<u8>,
-    /// Whether it ends after them.
-    fin: bool,
     /// How many of the next HEADERS are those of interim responses.
     interims: u64,
     /// Its message, if it has one and messages are read.
     message: Option<Message>,
 }
 
+/// A stream.
+#[derive(Drop)]
+pub struct Entry {
+    /// How far it was read.
+    reading: Reading,
+    /// How many bytes were consumed.
+    at: u64,
+    /// The bytes after these, unless each piece is passed once.
+    bytes: Vec<u8>,
+    /// The same if it is.
+    hold: Hold,
+    /// Whether it ends after them.
+    fin: bool,
+}
+
 impl Entry {
     /// Creates a stream without bytes.
     pub fn new(alloc: Global, stream: Stream) -> Self
-        ensures stream { result.stream ≡ stream }
+        ensures stream { result.reading.stream ≡ stream }
         ensures empty { (result.at ≡ 0) × (result.bytes.items ≡ []) × (result.fin ≡ false) }
     {
         Entry {
-            stream,
+            reading: Reading {
+                stream,
+                interims: 0,
+                message: None,
+            },
             at: 0,
             bytes: Vec::new(alloc),
+            hold: Hold::new(alloc),
             fin: false,
-            interims: 0,
-            message: None,
         }
     }
 
@@ -50,7 +63,7 @@ impl Entry {
     pub fn add(&mut self, bytes: &[u8], fin: bool) -> Result<(), AllocError>
         ensures bytes { IfOk result (λ _. self.new.bytes.items
             ≡ self.old.bytes.items ++ bytes.now) }
-        ensures kept { (self.new.stream ≡ self.old.stream) × (self.new.at ≡ self.old.at) }
+        ensures kept { (self.new.reading ≡ self.old.reading) × (self.new.at ≡ self.old.at) }
     {
         self.bytes.extend_from_slice(bytes)?;
         self.fin |= fin;
@@ -59,12 +72,12 @@ impl Entry {
 
     /// Sets how many of the next HEADERS are those of interim responses.
     pub fn expect_interims(&mut self, count: u64) {
-        self.interims = count;
+        self.reading.interims = count;
     }
 
     /// Returns whether it is a stream of this session.
     pub fn belongs_to(&self, session: u64) -> bool {
-        match self.stream {
+        match self.reading.stream {
             Stream::Session(its) | Stream::Joining(its) | Stream::Waiting(its) => its == session,
             _ => false,
         }
@@ -90,6 +103,8 @@ pub struct Receiver {
     side: Side,
     /// Whether messages are read.
     reads_messages: bool,
+    /// Whether each piece of a stream is passed once.
+    pushes: bool,
 }
 
 impl Receiver {
@@ -102,6 +117,7 @@ impl Receiver {
             text: String::new(alloc),
             side: endpoint.side,
             reads_messages: false,
+            pushes: false,
         }
     }
 
@@ -135,45 +151,115 @@ impl Receiver {
         Ok(())
     }
 
-    /// Reads a stream until more bytes are needed.
-    pub fn read(&mut self, alloc: Global, id: u64, entry: &mut Entry) -> Result<(), AllocError> {
+    /// Passes each piece of a stream once from here on.
+    pub fn push(&mut self) {
+        self.pushes = true;
+    }
+
+    /// Takes the next bytes of a stream, and reads it until more are needed.
+    pub fn receive(
+        &mut self,
+        alloc: Global,
+        id: u64,
+        entry: &mut Entry,
+        bytes: &[u8],
+        fin: bool,
+    ) -> Result<(), AllocError> {
+        if self.pushes {
+            return self.read_pushed(alloc, id, entry, bytes, fin);
+        }
+        entry.add(bytes, fin)?;
         let mut start: usize = 0;
         for _turn in 0..u64::MAX {
             let rest = entry.bytes.as_slice().get(start..).unwrap_or(&[]);
-            let len = rest.len();
+            let stream = &mut entry.reading.stream;
             let found = self
                 .connection
-                .receive(&mut entry.stream, rest, entry.fin, &mut self.fields);
+                .receive(stream, rest, entry.fin, &mut self.fields);
             let at = entry.at.saturating_add(start as u64);
-            add_found(&mut self.text, id, at, found)?;
-            start = start.saturating_add(consumed(found, len));
-            match found {
-                Found::Opened(Purpose::Session(session), _) => {
-                    let known = self.known(session);
-                    self.join(id, entry, known)?;
-                }
-                Found::Frame(FrameType::Headers, from, to) => {
-                    let section = rest.get(from..to).unwrap_or(&[]);
-                    if self.take_section(alloc, id, at, &mut entry.message, section)? {
-                        entry.interims = 1;
-                    }
-                    self.tell(id, entry)?;
-                }
-                Found::Data(from, to) => {
-                    if let Some(message) = entry.message.as_mut() {
-                        add_content(&mut self.text, id, at, message, to.saturating_sub(from))?;
-                    }
-                }
-                Found::End => {
-                    if let Some(message) = entry.message.as_ref() {
-                        add_end(&mut self.text, id, at, message)?;
-                    }
-                }
-                Found::More(_) => break,
-                _ => {}
+            start = start.saturating_add(consumed(found, rest.len()));
+            self.take(alloc, id, at, &mut entry.reading, found, rest)?;
+            if let Found::More(_) = found {
+                break;
             }
         }
         entry.consume(alloc, start)
+    }
+
+    /// The same of a piece that is passed once.
+    fn read_pushed(
+        &mut self,
+        alloc: Global,
+        id: u64,
+        entry: &mut Entry,
+        piece: &[u8],
+        fin: bool,
+    ) -> Result<(), AllocError> {
+        let mut rest = piece;
+        for _turn in 0..u64::MAX {
+            let came = entry.at.saturating_add(entry.hold.len() as u64);
+            let Ok(received) = entry.hold.receive(
+                &mut self.connection,
+                &mut entry.reading.stream,
+                rest,
+                fin,
+                usize::MAX,
+                &mut self.fields,
+            )
+            else {
+                return Err(AllocError);
+            };
+            let source = entry.hold.source(received.source, rest);
+            let at = start_of(came, received, source.len());
+            let found = received.found;
+            rest = rest.get(received.taken..).unwrap_or(&[]);
+            entry.at = came
+                .saturating_add(received.taken as u64)
+                .saturating_sub(entry.hold.len() as u64);
+            self.take(alloc, id, at, &mut entry.reading, found, source)?;
+            if let Found::More(_) = found {
+                break;
+            }
+        }
+        Ok(())
+    }
+
+    /// Takes what was found in these bytes.
+    fn take(
+        &mut self,
+        alloc: Global,
+        id: u64,
+        at: u64,
+        reading: &mut Reading,
+        found: Found,
+        bytes: &[u8],
+    ) -> Result<(), AllocError> {
+        add_found(&mut self.text, id, at, found)?;
+        match found {
+            Found::Opened(Purpose::Session(session), _) => {
+                let known = self.known(session);
+                self.join(id, at, reading, known)?;
+            }
+            Found::Frame(FrameType::Headers, from, to) => {
+                let section = bytes.get(from..to).unwrap_or(&[]);
+                if self.take_section(alloc, id, at, &mut reading.message, section)? {
+                    reading.interims = 1;
+                }
+                self.tell(id, at, reading)?;
+            }
+            Found::Data(from, to) => {
+                if let Some(message) = reading.message.as_mut() {
+                    add_content(&mut self.text, id, at, message, to.saturating_sub(from))?;
+                }
+            }
+            Found::End => {
+                if let Some(message) = reading.message.as_ref() {
+                    add_end(&mut self.text, id, at, message)?;
+                }
+            }
+            _ => {}
+        }
+        Ok(())
     }
 
     /// Takes the next field section of a stream's message, if messages are read. Returns whether it
@@ -205,13 +291,13 @@ impl Receiver {
     }
 
     /// Says that the HEADERS that came last are those of an interim response, if they are.
-    fn tell(&mut self, id: u64, entry: &mut Entry) -> Result<(), AllocError> {
-        if entry.interims == 0 {
+    fn tell(&mut self, id: u64, at: u64, reading: &mut Reading) -> Result<(), AllocError> {
+        if reading.interims == 0 {
             return Ok(());
         }
-        entry.interims -= 1;
-        match self.connection.interim(&mut entry.stream) {
-            Some(fault) => add_fault(&mut self.text, id, entry.at, fault),
+        reading.interims -= 1;
+        match self.connection.interim(&mut reading.stream) {
+            Some(fault) => add_fault(&mut self.text, id, at, fault),
             None => Ok(()),
         }
     }
@@ -235,34 +321,64 @@ impl Receiver {
             .unwrap_or(Known::Coming)
     }
 
+    /// Tells a stream what is known of its session, and reads it.
+    pub fn know_of(
+        &mut self,
+        alloc: Global,
+        id: u64,
+        entry: &mut Entry,
+        known: Known,
+    ) -> Result<(), AllocError> {
+        self.join(id, entry.at, &mut entry.reading, known)?;
+        self.receive(alloc, id, entry, &[], false)
+    }
+
     /// Tells a stream what is known of its session.
-    pub fn join(&mut self, id: u64, entry: &mut Entry, known: Known) -> Result<(), AllocError> {
-        match self.connection.join(&mut entry.stream, known) {
-            Some(fault) => add_fault(&mut self.text, id, entry.at, fault),
+    fn join(
+        &mut self,
+        id: u64,
+        at: u64,
+        reading: &mut Reading,
+        known: Known,
+    ) -> Result<(), AllocError> {
+        match self.connection.join(&mut reading.stream, known) {
+            Some(fault) => add_fault(&mut self.text, id, at, fault),
             None => Ok(()),
         }
     }
 
     /// Resets a stream. Its bytes that were not consumed are discarded.
     pub fn reset(&mut self, alloc: Global, id: u64, entry: &mut Entry) -> Result<(), AllocError> {
-        if let Some(fault) = self.connection.reset(&mut entry.stream) {
+        if let Some(fault) = self.connection.reset(&mut entry.reading.stream) {
             add_fault(&mut self.text, id, entry.at, fault)?;
         }
-        self.read(alloc, id, entry)
+        self.receive(alloc, id, entry, &[], false)
     }
 
     /// Ends the reading of a stream, if it may.
     pub fn abandon(&mut self, alloc: Global, id: u64, entry: &mut Entry) -> Result<(), AllocError> {
-        self.connection.abandon(&mut entry.stream);
-        self.read(alloc, id, entry)
+        self.connection.abandon(&mut entry.reading.stream);
+        self.receive(alloc, id, entry, &[], false)
     }
 
     /// Appends how many bytes of a stream are left over, if there are any.
     pub fn add_left(&mut self, id: u64, entry: &Entry) -> Result<(), AllocError> {
-        if entry.bytes.is_empty() {
+        let left = entry.bytes.len().saturating_add(entry.hold.len());
+        if left == 0 {
             return Ok(());
         }
-        add_left(&mut self.text, id, entry.at, entry.bytes.len())
+        add_left(&mut self.text, id, entry.at, left)
+    }
+}
+
+/// Returns the offset in a stream of the source of something that was found, which has `len` bytes,
+/// where so many bytes came before the chunk.
+fn start_of(came: u64, received: Received, len: usize) -> u64 {
+    match received.source {
+        Source::Held => came
+            .saturating_add(received.taken as u64)
+            .saturating_sub(len as u64),
+        Source::Chunk(start) => came.saturating_add(start as u64),
     }
 }
 

@@ -65,6 +65,7 @@ impl Replay {
             Command::Abandon(id) => self.abandon(alloc, id)?,
             Command::Forget(id) => self.forget(id)?,
             Command::Messages => self.receiver.read_messages(),
+            Command::Push => self.receiver.push(),
         }
         Ok(())
     }
@@ -98,8 +99,7 @@ impl Replay {
             self.streams.insert(id, Entry::new(alloc, stream))?;
         }
         if let Some(entry) = self.streams.get_mut(&id) {
-            entry.add(bytes, fin)?;
-            self.receiver.read(alloc, id, entry)?;
+            self.receiver.receive(alloc, id, entry, bytes, fin)?;
         }
         Ok(())
     }
@@ -115,8 +115,7 @@ impl Replay {
         self.receiver.know(session, known)?;
         for (id, entry) in self.streams.iter_mut() {
             if entry.belongs_to(session) {
-                self.receiver.join(*id, entry, known)?;
-                self.receiver.read(alloc, *id, entry)?;
+                self.receiver.know_of(alloc, *id, entry, known)?;
             }
         }
         Ok(())

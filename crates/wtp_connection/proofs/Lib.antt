@@ -9,3 +9,4 @@ pub mod StreamLemmas
 pub mod InterimLemmas
 pub mod RequestLemmas
 pub mod KnownLemmas
+pub mod ProgressLemmas

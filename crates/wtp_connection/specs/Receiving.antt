@@ -124,6 +124,44 @@ pub record FoundIs (x : Found) (c : Connection) (s : Stream) (bytes : List ℕ) 
       ≡ followed (seen_of x bytes) (all_found fin d t (rest_after x bytes) more)
   pub settled : fin ≡ true → Settled x bytes d t
 
+-- ---- how many calls a stream takes
+
+-- how many calls may return something without a byte of it: what the stream is for, and its end
+abbrev pub free_calls : Stream → ℕ
+free_calls Uni = 2
+free_calls Bi = 2
+free_calls Over = 0
+free_calls other = 1
+
+-- at most so many calls return something before More or an error
+abbrev pub calls_left : Stream → List ℕ → ℕ
+calls_left s bytes = free_calls s + length bytes
+
+-- each of them leaves fewer
+abbrev pub IsNearer : Found → Stream → List ℕ → Stream → Type 0
+IsNearer (found.More n) s bytes t = free_calls t ≤ free_calls s
+IsNearer (found.Fault f) s bytes t = Unit {0}
+IsNearer other s bytes t = calls_left t (rest_after other bytes) < calls_left s bytes
+
+-- it returns something, and no error
+abbrev pub IsGoing : Found → Type 0
+IsGoing (found.More n) = ⊥
+IsGoing (found.Fault f) = ⊥
+IsGoing other = Unit {0}
+
+-- Calls return these things one after the other, each with the bytes that the one before left, whatever
+-- the connection is then and whether the stream ends after them.
+abbrev pub AreReturned : List Found → Stream → List ℕ → Type 0
+AreReturned [] s bytes = Unit {0}
+AreReturned (x ∷ xs) s bytes =
+    (c d : Connection)
+    × (fin : Bool)
+    × (t : Stream)
+    × FoundIs x c s bytes fin d t
+    × IsNearer x s bytes t
+    × IsGoing x
+    × AreReturned xs t (rest_after x bytes)
+
 -- ---- what a step of a stream of frames is for the connection
 
 -- what is found, and the connection and the stream after it

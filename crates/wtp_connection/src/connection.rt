@@ -1,7 +1,7 @@
 //! What the streams of a connection have in common. It holds no bytes and no table of streams.
 ghost use Rattle.std.specs.Prelude.{◌≡◌, ◌≤◌, ◌||◌, length, drop, true, false, None, Some, MatchOption, IfSome, IfErr};
 ghost use Rattle.wtp_connection.specs.Streams.{connection_of, opens, opening_result, closed_by, accepts, no_number as no_number_is};
-ghost use Rattle.wtp_connection.specs.Receiving.{FoundIs, StepIsFound, IsFirst, IsInside, opening_of, has_frame, step_found, encoder_found, decoder_found, fails, more_in, finish_of};
+ghost use Rattle.wtp_connection.specs.Receiving.{FoundIs, StepIsFound, IsNearer, IsFirst, IsInside, opening_of, has_frame, step_found, encoder_found, decoder_found, fails, more_in, finish_of};
 
 pub mod datagrams;
 mod sessions;
@@ -129,6 +129,7 @@ impl Connection {
         _fields: &mut Fields,
     ) -> Found
         ensures found { FoundIs result self.old stream.old bytes.now fin self.new stream.new }
+        ensures progress { IsNearer result stream.old bytes.now stream.new }
         ensures fields { _fields.new ≡ _fields.old }
     {
         let found = self.step(stream, bytes);
@@ -145,7 +146,8 @@ impl Connection {
 impl Connection {
     // Returns what is next, where the stream goes on.
     fn step(&mut self, stream: &mut Stream, bytes: &[u8]) -> Found
-        ensures { StepIsFound result self.old stream.old bytes.now self.new stream.new }
+        ensures found { StepIsFound result self.old stream.old bytes.now self.new stream.new }
+        ensures progress { IsNearer result stream.old bytes.now stream.new }
     {
         if self.over {
             return Found::More(bytes.len());
@@ -262,7 +264,8 @@ impl Connection {
         requires opening { MatchOption opening (opening_of self.old.endpoint stream.old bytes.now ≡ None)
             (λ o. opening_of self.old.endpoint stream.old bytes.now ≡ Some (o.0, drop o.1 bytes.now)) }
         requires within { IfSome opening (λ o. o.1 ≤ length bytes.now) }
-        ensures { StepIsFound result self.old stream.old bytes.now self.new stream.new }
+        ensures found { StepIsFound result self.old stream.old bytes.now self.new stream.new }
+        ensures progress { IsNearer result stream.old bytes.now stream.new }
     {
         match opening {
             None => Found::More(0),

@@ -21,6 +21,9 @@ ghost use Rattle.wtp_connection.specs.declared.settings.PeerSettings.{PeerSettin
 ghost use Rattle.wtp_connection.specs.declared.stream.Purpose.TheVariants as «for»;
 ghost use Rattle.wtp_connection.specs.declared.stream.Stream.TheVariants.{Uni, Frames, Over};
 ghost use Rattle.wtp_connection.specs.Streams.{connection_of, with_control, with_settings, closed_by, Opened, Configured, Broke, followed, all_given, run_stream, FindsInterim, accepted_all, known_alone, over_if};
+ghost use Rattle.wtp_connection.specs.declared.connection.Found.{Found};
+ghost use Rattle.wtp_connection.specs.declared.stream.Stream.{Stream};
+ghost use Rattle.wtp_connection.specs.Receiving.{AreReturned};
 ghost use Rattle.wtp_connection.specs.declared.instructions.DecoderPlace.TheVariants.{Between};
 ghost use Rattle.wtp_connection.specs.Instructions.{AreCancellations, after_bytes};
 ghost use Rattle.wtp_connection.specs.Requests.{has_begun, IsNotFarBehind, beginning_of, beginning_at, begun_by};
@@ -97,6 +100,13 @@ pub fn sessions_without_a_stream_are_known()
     ensures known { (e : Endpoint) (ids : List ℕ) (s : ℕ) → e.side ≡ Server → s % 4 ≡ 0
         → ((id : ℕ) → has_begun ids id ≡ true → id < s + 2048)
         → known_alone (accepted_all e ids) s ≡ over_if (has_begun ids s) }
+{}
+
+/// A loop of calls ends: of `n` bytes at most `n + 2` calls return something before one returns `More`
+/// or an error.
+pub fn calls_end()
+    ensures { (xs : List Found) (s : Stream) (bytes : List ℕ) → AreReturned xs s bytes
+        → length xs ≤ length bytes + 2 }
 {}
 
 /// Cancellations of streams are read on a decoder stream of QPACK, whatever encodings the IDs have.

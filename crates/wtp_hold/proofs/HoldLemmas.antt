@@ -91,6 +91,7 @@ held_received x fin last b c r s all h d t k taken limit chunk is e none within 
     let left : pending k ≡ rest_after x h.bytes.items = ap (λ (n : ℕ). drop n k.bytes.items) is.used ∙ ap (λ (l : List ℕ). drop (consumed_by x (length h.bytes.items)) l) is.bytes ∙ sym (rest_is x h.bytes.items) in
     record {
       taken = within;
+      within = tt;
       fits = subst (λ (l : List ℕ). Fits x l d t) (sym is.bytes) is.found.fits;
       reads =
           subst (λ (f : Bool). Reads f b r all (seen_of x k.bytes.items) d t (joined k (drop taken chunk))) (sym e) (
@@ -158,6 +159,7 @@ nothing_more_held b r all d t k taken limit chunk fresh none within few quiet re
     let size : length chunk - taken ≡ 0 = sym (length-drop taken chunk) ∙ ap (λ (l : List ℕ). length l) none in
     record {
       taken = within;
+      within = tt;
       fits = (omega arith, quiet.idle);
       reads = subst (λ (l : List ℕ). Reads k.fin b r all [] d t (l ++ drop taken chunk)) (sym is) reads;
       after = record {
@@ -216,6 +218,7 @@ chunk_found x n c s rest chunk taken limit k d t at before is other e none =
     let size : length rest ≡ length chunk - taken = ap (λ (l : List ℕ). length l) at ∙ length-drop taken chunk in
     record {
       taken = omega arith;
+      within = before;
       fits = subst (λ (l : List ℕ). Fits x l d t) at is.fits;
       reads = subst (λ (l : List ℕ). Reads k.fin c s (drop taken chunk) (seen_of x (drop taken chunk)) d t l) (sym (nothing_held k (drop (taken + n) chunk) none)) (chunk_reads x n k.fin c s rest chunk taken d t at is e);
       after = other_after x (taken + n) limit chunk k d t other;

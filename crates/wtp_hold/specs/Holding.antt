@@ -32,6 +32,11 @@ abbrev pub source_of : Source → Hold → List ℕ → List ℕ
 source_of Held h chunk = h.bytes.items
 source_of (Chunk n) h chunk = drop n chunk
 
+-- it is within the chunk
+abbrev pub IsWithin : Source → List ℕ → Type 0
+IsWithin Held chunk = Unit {0}
+IsWithin (Chunk n) chunk = n ≤ length chunk
+
 -- ---- one call
 
 -- Whether the stream ends after these bytes, or whatever follows them: what is found in them is this,
@@ -59,6 +64,7 @@ AfterMore other taken limit chunk k d t = Unit {0}
 pub record ReceivedIs (x : Received) (c : Connection) (s : Stream) (bytes chunk : List ℕ) (limit : ℕ)
     (k : Hold) (d : Connection) (t : Stream) : Type 0 where
   pub taken : x.taken ≤ length chunk
+  pub within : IsWithin x.source chunk
   pub fits : Fits x.found (source_of x.source k chunk) d t
   pub reads : Reads k.fin c s bytes (seen_of x.found (source_of x.source k chunk)) d t
       (joined k (drop x.taken chunk))

@@ -1,6 +1,6 @@
 //! The bytes of one stream that wait for more.
 ghost use Rattle.std.specs.Prelude.{◌≡◌, ◌+◌, ◌<◌, ◌≤◌, ◌||◌, ◌&&◌, ◌++◌, ◌==◌, true, false, if◌then◌else◌, [], length, drop, take, MatchOption, IfSome};
-ghost use Rattle.wtp_hold.specs.Holding.{pending, joined, ReceptionIs, consumed_by, IsStill, IsRead, IsNew};
+ghost use Rattle.wtp_hold.specs.Holding.{pending, joined, ReceptionIs, consumed_by, IsStill, IsRead, IsNew, IsWithin, source_of};
 
 use std::alloc::Global;
 use wtp_connection::connection::{Connection, Found};
@@ -74,6 +74,18 @@ impl Hold {
         ensures { result.now ≡ self.now.bytes.items }
     {
         self.bytes.as_slice()
+    }
+
+    /// Returns the bytes that the offsets of the last finding count in, where `chunk` is the one that
+    /// was passed then.
+    pub fn source<'a>(&'a self, source: Source, chunk: &'a [u8]) -> &'a [u8]
+        requires { IsWithin source chunk.now }
+        ensures { result.now ≡ source_of source self.now chunk.now }
+    {
+        match source {
+            Source::Held => self.bytes.as_slice(),
+            Source::Chunk(start) => chunk.split_at(start).1,
+        }
     }
 
     /// Returns how many bytes are held and were not consumed.
