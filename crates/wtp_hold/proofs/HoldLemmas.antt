@@ -18,13 +18,13 @@ use Rattle.wtp_hold.specs.Holding.{pending, joined, source_of, Reads, IsQuiet, I
 
 -- ---- more bytes follow
 
-extended : (c : Connection) (s : Stream) (bytes : List ℕ) (seen : List Seen) (d : Connection) (t : Stream) (left rest : List ℕ) → Finds c s bytes seen d t left → Finds c s (bytes ++ rest) seen d t (left ++ rest)
+pub extended : (c : Connection) (s : Stream) (bytes : List ℕ) (seen : List Seen) (d : Connection) (t : Stream) (left rest : List ℕ) → Finds c s bytes seen d t left → Finds c s (bytes ++ rest) seen d t (left ++ rest)
 extended c s bytes seen d t left rest h = λ more.
     ap (λ (l : List ℕ). run_stream c s l) (append_assoc bytes rest more)
     ∙ h (rest ++ more)
     ∙ ap (λ (l : List ℕ). followed seen (run_stream d t l)) (sym (append_assoc left rest more))
 
-reads_all : (fin : Bool) (c : Connection) (s : Stream) (bytes : List ℕ) (seen : List Seen) (d : Connection) (t : Stream) (left : List ℕ) → Finds c s bytes seen d t left → Reads fin c s bytes seen d t left
+pub reads_all : (fin : Bool) (c : Connection) (s : Stream) (bytes : List ℕ) (seen : List Seen) (d : Connection) (t : Stream) (left : List ℕ) → Finds c s bytes seen d t left → Reads fin c s bytes seen d t left
 reads_all false c s bytes seen d t left h = h
 reads_all true c s bytes seen d t left h = λ more.
     ap (λ (y : StreamRun). ended y) (
@@ -33,7 +33,7 @@ reads_all true c s bytes seen d t left h = λ more.
     ∙ ap (λ (l : List ℕ). followed seen (run_stream d t l)) (append-nil left))
     ∙ ended_followed seen (run_stream d t left)
 
-no_more : (fin : Bool) (c : Connection) (s : Stream) (bytes : List ℕ) (seen : List Seen) (d : Connection) (t : Stream) (left rest : List ℕ) → rest ≡ [] → Reads fin c s bytes seen d t left → Reads fin c s (bytes ++ rest) seen d t (left ++ rest)
+pub no_more : (fin : Bool) (c : Connection) (s : Stream) (bytes : List ℕ) (seen : List Seen) (d : Connection) (t : Stream) (left rest : List ℕ) → rest ≡ [] → Reads fin c s bytes seen d t left → Reads fin c s (bytes ++ rest) seen d t (left ++ rest)
 no_more fin c s bytes seen d t left rest e h =
     subst (λ (r : List ℕ). Reads fin c s (bytes ++ r) seen d t (left ++ r)) (sym e) (
     subst (λ (l : List ℕ). Reads fin c s l seen d t (left ++ [])) (sym (append-nil bytes)) (

@@ -1,1 +1,2 @@
 pub mod HoldLemmas
+pub mod PieceLemmas
