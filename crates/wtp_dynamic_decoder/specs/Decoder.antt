@@ -1,6 +1,6 @@
 -- A decoder: its table, the streams that wait, and what it tells the encoder (RFC 9204, sections
 -- 2.2 and 4.4).
-use Rattle.std.specs.Prelude.{◌≡◌, ◌≢◌, ◌⊎◌, ℕ, ◌+◌, ◌-◌, ◌<◌, ◌≤◌, ◌==◌, nat_lt, not, filter, if◌then◌else◌, max, Bool, true, false, ◌&&◌, List, [], ◌∷◌, ◌++◌, length, Option, Some, None, Result, Ok, Err, MatchResult}
+use Rattle.std.specs.Prelude.{◌≡◌, ◌≢◌, ◌⊎◌, ℕ, ◌-◌, ◌<◌, ◌≤◌, ◌==◌, nat_lt, not, filter, if◌then◌else◌, max, Bool, true, false, ◌&&◌, List, [], ◌∷◌, ◌++◌, length, Option, Some, None, Result, Ok, Err, MatchResult}
 use Rattle.wtp_dynamic.specs.declared.error.EncoderStreamError.{EncoderStreamError}
 use Rattle.wtp_dynamic.specs.declared.error.EncoderStreamError.TheVariants as stream
 use Rattle.wtp_dynamic.specs.declared.error.SectionError.{SectionError}
@@ -23,6 +23,11 @@ pub data Progress : Type 0 where
 abbrev pub progress_of : Option EncoderStreamError → List ℕ → Progress
 progress_of None held = Runs held
 progress_of (Some e) held = Failed e
+
+-- how many bytes of a cut instruction are held: none once the stream has ended
+abbrev pub held_count : Progress → ℕ
+held_count (Runs held) = length held
+held_count (Failed e) = 0
 
 -- The table, the encoder stream, the Known Received Count, the streams that wait, and how many may.
 pub record Decoder : Type 0 where
@@ -94,11 +99,12 @@ pub record IsOneTooMany (stream : ℕ) (section : List ℕ) (old new : Decoder) 
   pub many : old.most ≤ length (others stream old)
   pub same : new ≡ with_waiting (others stream old) old
 
--- It needs more insertions, and allocation failed: nothing changed.
-pub record IsNotKept (section : List ℕ) (old new : Decoder) : Type 0 where
+-- It needs more insertions, the stream may wait, and allocation failed: nothing changed.
+pub record IsNotKept (stream : ℕ) (section : List ℕ) (old new : Decoder) : Type 0 where
   pub prefix : Prefix
   pub is : prefix_at old.table section ≡ Ok prefix
   pub blocked : is_blocked old.table prefix ≡ true
+  pub few : length (others stream old) < old.most
   pub same : new ≡ old
 
 -- why a section was not opened: its prefix has a fault, and nothing changed; too many streams wait;
@@ -107,7 +113,7 @@ abbrev pub Refuses : ℕ → List ℕ → Decoder → Decoder → SectionError �
 Refuses stream section old new e =
     ((new ≡ old) × (prefix_at old.table section ≡ Err e))
     ⊎ (((e ≡ TooManyBlocked) × IsOneTooMany stream section old new)
-    ⊎ ((e ≡ Memory) × IsNotKept section old new))
+    ⊎ ((e ≡ Memory) × IsNotKept stream section old new))
 
 -- ---- the decoder stream
 
@@ -144,10 +150,11 @@ abbrev pub told : List ℕ → Option Acknowledgment → List ℕ
 told bytes None = bytes
 told bytes (Some due) = bytes ++ acknowledgment_bytes due
 
--- the instruction that is due, if there is one, was appended to bytes; or allocation failed, and
--- nothing changed
+-- the instruction that is due, if there is one, was appended to bytes; or one is due and allocation
+-- failed, and nothing changed
 abbrev pub Tells : {E : Type 0} → Option Acknowledgment → (made old new : Decoder)
     → (before after : List ℕ) → Result (Unit {0}) E → Type 0
 Tells due made old new before after result =
     MatchResult result (λ _. (new ≡ made) × (after ≡ told before due))
-    (λ _. (new ≡ old) × (after ≡ before))
+    (λ _. (instruction : Acknowledgment) × (due ≡ Some instruction) × (new ≡ old)
+    × (after ≡ before))

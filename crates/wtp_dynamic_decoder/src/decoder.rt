@@ -4,7 +4,7 @@ ghost use Rattle.std.specs.Prelude.{◌≡◌, ℕ, ◌^◌, ◌<◌, ◌≤◌,
 ghost use Rattle.std.specs.Vec.{vec_len, vec_capacity};
 ghost use Rattle.wtp_dynamic.specs.Table.{empty_table, insert_count};
 ghost use Rattle.wtp_dynamic.specs.Front.{most_bytes};
-ghost use Rattle.wtp_dynamic_decoder.specs.Decoder.{Runs, PieceRead, waits, is_other, Refuses, due_section, due_increment, due_cancellation, acknowledged, incremented, cancelled, Tells};
+ghost use Rattle.wtp_dynamic_decoder.specs.Decoder.{Runs, held_count, PieceRead, waits, is_other, Refuses, due_section, due_increment, due_cancellation, acknowledged, incremented, cancelled, Tells};
 ghost use Rattle.wtp_dynamic_decoder.specs.Opening.{OpensAs};
 
 use crate::lines::SectionLines;
@@ -49,6 +49,19 @@ fn keep_others(waiting: &mut Vec<Waiting>, stream: u64)
     ensures bound { vec_len waiting.new ≤ vec_len waiting.old }
 {
     waiting.retain(|waiting| waiting.stream != stream);
+}
+
+/// Counts the streams other than this one that wait for more than so many insertions.
+fn count_waiting(waiting: &[Waiting], stream: u64, count: u64) -> usize
+    ensures { result ≡ length (filter (waits stream count) waiting.now) }
+{
+    let mut others = 0;
+    for one in waiting {
+        if one.required > count && one.stream != stream {
+            others += 1;
+        }
+    }
+    others
 }
 
 /// The decoder of a connection: the dynamic table, the streams with a section that waits for
@@ -125,11 +138,16 @@ impl QpackDecoder {
         self.encoder.table().insert_count()
     }
 
-    /// Returns how many bytes of a cut instruction are held: fewer than `4 * limit + 32`.
+    /// Returns how many bytes of a cut instruction are held: fewer than `4 * limit + 32`, and none
+    /// after an error of the stream.
     pub fn held(&self) -> usize
-        ensures { result < most_bytes self.now.table.limit }
+        ensures count { result ≡ held_count self.now.progress }
+        ensures few { result < most_bytes self.now.table.limit }
     {
-        self.encoder.held()
+        match self.fault {
+            None => self.encoder.held(),
+            Some(_) => 0,
+        }
     }
 
     /// Reads the next piece of the encoder stream: does the instructions that are now complete.
@@ -157,7 +175,7 @@ impl QpackDecoder {
     /// the insertions so far. Otherwise the stream waits.
     ///
     /// Returns the fault of the prefix, or [`SectionError::TooManyBlocked`] if as many other
-    /// streams wait as may. Returns [`SectionError::Memory`] if the stream has to wait and
+    /// streams wait as may. Returns [`SectionError::Memory`] if the stream has to wait, it may, and
     /// allocation failed; nothing has changed then.
     pub fn open<'a>(&mut self, stream: u64, section: &'a [u8]) -> Result<Opened<'a>, SectionError>
         ensures { MatchResult result (OpensAs stream section.now self.old self.new)
@@ -169,11 +187,12 @@ impl QpackDecoder {
             keep_waiting(&mut self.waiting, stream, count);
             return Ok(Opened::Lines(SectionLines::new(prefix)));
         }
-        self.waiting.reserve(1)?;
-        keep_waiting(&mut self.waiting, stream, count);
-        if self.waiting.len() as u64 >= self.most {
+        if count_waiting(self.waiting.as_slice(), stream, count) as u64 >= self.most {
+            keep_waiting(&mut self.waiting, stream, count);
             return Err(SectionError::TooManyBlocked);
         }
+        self.waiting.reserve(1)?;
+        keep_waiting(&mut self.waiting, stream, count);
         self.waiting.push_reserved(Waiting {
             stream,
             required: prefix.required,
@@ -184,7 +203,7 @@ impl QpackDecoder {
     /// A section of a stream was read to its end: appends its acknowledgment, if its Required
     /// Insert Count is not 0. To be called once for each such section, in the order of the stream.
     ///
-    /// Returns [`AllocError`] if allocation failed; nothing has changed then.
+    /// Returns [`AllocError`] if the count is not 0 and allocation failed; nothing has changed then.
     pub fn acknowledge(
         &mut self,
         stream: u64,
@@ -205,7 +224,7 @@ impl QpackDecoder {
 
     /// Appends how many insertions the encoder was not told of yet, if there are any.
     ///
-    /// Returns [`AllocError`] if allocation failed; nothing has changed then.
+    /// Returns [`AllocError`] if there are any and allocation failed; nothing has changed then.
     pub fn increment(&mut self, out: &mut Vec<u8>) -> Result<(), AllocError>
         ensures { Tells (due_increment self.old) (incremented self.old)
             self.old self.new out.old.items out.new.items result }
@@ -226,7 +245,8 @@ impl QpackDecoder {
     /// A stream was reset, or is no longer read: it no longer waits. Appends its cancellation,
     /// unless the table can have no entries.
     ///
-    /// Returns [`AllocError`] if allocation failed; nothing has changed then.
+    /// Returns [`AllocError`] if a cancellation is due and allocation failed; nothing has changed
+    /// then.
     pub fn cancel(&mut self, stream: u64, out: &mut Vec<u8>) -> Result<(), AllocError>
         ensures { Tells (due_cancellation stream self.old) (cancelled stream self.old)
             self.old self.new out.old.items out.new.items result }

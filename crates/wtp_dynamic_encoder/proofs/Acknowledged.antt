@@ -1,12 +1,12 @@
 -- Decoder streams that are cut, joined and compared.
-use Rattle.std.proofs.Common.{◌≡◌, ℕ, ◌+◌, ◌<◌, ◌≤◌, inl, inr, List, [], ◌∷◌, ◌++◌, length, refl, sym, ◌∙◌, ap, subst, arith, append-nil, eq-eqb, ne_eqb, Result, Ok, Err, MatchResult}
+use Rattle.std.proofs.Common.{◌≡◌, ℕ, ◌+◌, ◌<◌, ◌≤◌, inl, inr, List, [], ◌∷◌, ◌++◌, length, refl, sym, ◌∙◌, ap, subst, arith, eq-eqb, ne_eqb, Result, Ok, Err, MatchResult}
 use Rattle.std.proofs.lemmas.Bool.{lt-ltb, le-ltb}
 use Rattle.wtp_dynamic.specs.declared.acknowledgment.Acknowledgment.{Acknowledgment}
 use Rattle.wtp_dynamic.specs.declared.acknowledgment.Acknowledgment.TheVariants.{Increment}
 use Rattle.wtp_dynamic.specs.declared.error.DecoderStreamError.{DecoderStreamError}
 use Rattle.wtp_dynamic.specs.declared.error.DecoderStreamError.TheVariants as fault
 use Rattle.wtp_dynamic.specs.EncoderState.{increment_fault}
-use Rattle.wtp_dynamic_encoder.specs.Acknowledging.{First, Whole, Overflow, most_bytes, first_of, Ledger, step, Steps, Leads, IsCut, HasFault, Stands, Reaches, Breaks}
+use Rattle.wtp_dynamic_encoder.specs.Acknowledging.{Whole, most_bytes, first_of, Ledger, step, Steps, Leads, IsCut, HasFault, Stands, Breaks}
 use Rattle.wtp_dynamic_encoder.proofs.Fronts as fronts
 
 -- ---- more bytes

@@ -5,7 +5,6 @@ use Rattle.std.proofs.lemmas.List.{length-append, take_all, drop_all, take-appen
 use Rattle.std.proofs.Math.Seq.{drop-append-add}
 use Rattle.wtp_qpack.specs.declared.qpack.DecodingError.{DecodingError}
 use Rattle.wtp_qpack.specs.declared.qpack.DecodingError.TheVariants.{UnexpectedFin}
-use Rattle.wtp_qpack.specs.Qpack.{◌>>=◌}
 use Rattle.wtp_qpack.specs.Integer.{integer_at}
 use Rattle.wtp_qpack.specs.FieldLine.{bit}
 use Rattle.wtp_qpack.proofs.Chosen.{bind_ok, same_rest}

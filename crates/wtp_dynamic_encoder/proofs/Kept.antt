@@ -1,14 +1,13 @@
 -- What an encoder keeps: it owes nothing more, and few streams may be blocked.
-use Rattle.std.proofs.Common.{◌≡◌, ◌⊎◌, ℕ, ◌+◌, ◌<◌, ◌≤◌, ◌==◌, nat_lt, nat_le, max, not, inl, inr, Bool, true, false, cond, ◌&&◌, ◌||◌, List, [], ◌∷◌, ◌++◌, length, refl, sym, ◌∙◌, ap, subst, arith, eq-eqb, Option, Some, None, Result, Ok, Err}
-use Rattle.std.proofs.lemmas.Bool.{cases_lt, lt-ltb, le-ltb, ltb-true, eqb-true}
+use Rattle.std.proofs.Common.{◌≡◌, ◌⊎◌, ℕ, ◌+◌, ◌<◌, ◌≤◌, ◌==◌, nat_lt, max, not, inl, inr, Bool, true, false, cond, ◌&&◌, ◌||◌, List, [], ◌∷◌, ◌++◌, length, refl, sym, ◌∙◌, ap, subst, arith, eq-eqb, Option, Some, None, Ok, Err}
+use Rattle.std.proofs.lemmas.Bool.{cases_lt, lt-ltb, ltb-true, eqb-true}
 use Rattle.wtp_huffman.proofs.Chosen.{chosen}
 use Rattle.wtp_dynamic.specs.declared.acknowledgment.Acknowledgment.{Acknowledgment}
 use Rattle.wtp_dynamic.specs.declared.acknowledgment.Acknowledgment.TheVariants.{Section, Cancellation, Increment}
-use Rattle.wtp_dynamic.specs.declared.error.DecoderStreamError.{DecoderStreamError}
 use Rattle.wtp_dynamic.specs.declared.error.DecoderStreamError.TheVariants as fault
 use Rattle.wtp_dynamic.specs.declared.ledger.Sent.{Sent}
 use Rattle.wtp_dynamic.specs.Table.{Table, insert_count, empty_table}
-use Rattle.wtp_dynamic.specs.EncoderState.{Encoder, Owes, taken, with_first, without, may_wait, waiting_streams, may_block, IsAmong, FewWait}
+use Rattle.wtp_dynamic.specs.EncoderState.{Owes, taken, with_first, without, may_wait, waiting_streams, may_block, IsAmong, FewWait}
 use Rattle.wtp_dynamic.proofs.Owed.{owes_section, owes_acknowledged, owes_cancelled, owes_incremented}
 use Rattle.wtp_dynamic_encoder.specs.Acknowledging.{Ledger, without_section, step, Leads, Stands, Reaches}
 use Rattle.wtp_dynamic_encoder.specs.Encoding.{encoder_of, opened}

@@ -1,9 +1,9 @@
 -- The orders of an encoder, one after the other.
-use Rattle.std.proofs.Common.{◌≡◌, ℕ, ◌+◌, ◌-◌, ◌*◌, ◌^◌, ◌<◌, ◌≤◌, nat_lt, nat_le, inl, inr, Bool, true, false, ◌&&◌, List, [], ◌∷◌, ◌++◌, length, take, refl, sym, ◌∙◌, ap, subst, arith, append-nil, append_assoc, length-append, Option, Some, None, Result, Ok, Err, zero, suc, ◌/◌}
+use Rattle.std.proofs.Common.{◌≡◌, ℕ, ◌+◌, ◌-◌, ◌*◌, ◌^◌, ◌<◌, ◌≤◌, nat_lt, nat_le, inl, inr, Bool, true, false, ◌&&◌, List, [], ◌∷◌, ◌++◌, length, take, drop, refl, sym, ◌∙◌, ap, subst, arith, append-nil, append_assoc, length-append, Some, Result, Ok, Err, zero, suc, ◌/◌}
 use Rattle.std.specs.List.{flat_map}
 use Rattle.std.proofs.lemmas.Bool.{lt-leb, le-ltb, leb-true, ltb-true, cases_lt, lt-ltb}
 use Rattle.wtp_qpack.specs.Integer.{shortest_groups, shortest_int}
-use Rattle.std.proofs.lemmas.List.{flat_map_more, take_all}
+use Rattle.std.proofs.lemmas.List.{flat_map_more, take_all, drop_all}
 use Rattle.wtp_qpack.specs.Field.{Field, IsOctets}
 use Rattle.wtp_qpack.specs.StaticTable.{entry_at}
 use Rattle.wtp_qpack.specs.StringLiteral.{huffman_bytes, encoded_string}
@@ -15,13 +15,13 @@ use Rattle.wtp_dynamic.specs.Chain.{or_fault}
 use Rattle.wtp_dynamic.specs.Front.{most_bytes}
 use Rattle.wtp_dynamic.specs.Steps.{set_step, insert_step, referred}
 use Rattle.wtp_dynamic.specs.Writing.{Order, Sets, InsertsNamed, InsertsLiteral, Duplicates, order_step, written, CanBeWritten, Carries}
-use Rattle.wtp_dynamic.specs.EncoderState.{Encoder, Owes, all_above, may_insert, may_resize}
+use Rattle.wtp_dynamic.specs.EncoderState.{Owes, all_above, may_insert, may_resize}
 use Rattle.wtp_dynamic.proofs.Owed.{owes_entry, owes_capacity}
 use Rattle.wtp_dynamic_encoder.specs.Acknowledging.{Ledger}
 use Rattle.wtp_dynamic_encoder.specs.declared.proposal.Policy.{Policy}
 use Rattle.wtp_dynamic_encoder.specs.declared.proposal.Proposal.{Proposal}
 use Rattle.wtp_dynamic_encoder.specs.Choosing.{IsOrderFor}
-use Rattle.wtp_dynamic_encoder.specs.Encoding.{encoder_of, can_insert, InsertsIf, Offered, AreOffered, ResizesIf, Ordered}
+use Rattle.wtp_dynamic_encoder.specs.Encoding.{encoder_of, can_insert, InsertsIf, Offered, AreOffered, IsInserted, FirstIsInserted, StoppedAt, ResizesIf, Ordered}
 
 both : (a b : Bool) → (a && b) ≡ true → (a ≡ true) × (b ≡ true)
 both true b e = (refl, e)
@@ -182,12 +182,12 @@ owes_resized u v l capacity test is owes = subst (λ (x : Table). Owes (encoder_
 pub ordered_by : {E : Type 0} (entry : Field) (l : Ledger) (u v : Table) (before after : List ℕ) (r : Result Bool E) → IsOctets entry.0 → IsOctets entry.1 → u.capacity ≤ u.limit → InsertsIf entry l u v before after r → Ordered u v before after
 ordered_by entry l u v before after (Ok true) name value within (test, is, order, chosen, more) = ordered_entry u v l before after entry order test chosen name value within is more
 ordered_by entry l u v before after (Ok false) name value within (test, is, more) = ordered_none u v before after is more
-ordered_by entry l u v before after (Err e) name value within (is, more) = ordered_none u v before after is more
+ordered_by entry l u v before after (Err e) name value within (test, is, more) = ordered_none u v before after is more
 
 pub owes_by : {E : Type 0} (entry : Field) (l : Ledger) (u v : Table) (before after : List ℕ) (r : Result Bool E) → InsertsIf entry l u v before after r → Owes (encoder_of u l) → Owes (encoder_of v l)
 owes_by entry l u v before after (Ok true) (test, is, order, chosen, more) owes = owes_after u v l entry test is owes
 owes_by entry l u v before after (Ok false) (test, is, more) owes = owes_same u v l is owes
-owes_by entry l u v before after (Err e) (is, more) owes = owes_same u v l is owes
+owes_by entry l u v before after (Err e) (test, is, more) owes = owes_same u v l is owes
 
 -- ---- proposals
 
@@ -203,8 +203,22 @@ pub offered_same : (policy : Policy) (ps : List Proposal) (l : Ledger) (t u v : 
 offered_same policy ps l t u v a b c offered same none =
     subst (λ (z : List ℕ). AreOffered policy ps l t v a z) (sym none) (subst (λ (z : Table). AreOffered policy ps l t z a b) (sym same) offered)
 
-pub offered_all : (policy : Policy) (ps : List Proposal) (l : Ledger) (t u : Table) (a b : List ℕ) → AreOffered policy ps l t u a b → (count : ℕ) × AreOffered policy (take count ps) l t u a b
-offered_all policy ps l t u a b offered = (length ps, subst (λ (z : List Proposal). AreOffered policy z l t u a b) (sym (take_all (length ps) ps (omega arith))) offered)
+-- allocation failed after all of them
+pub offered_all : (policy : Policy) (ps : List Proposal) (l : Ledger) (t u : Table) (a b : List ℕ) → AreOffered policy ps l t u a b → StoppedAt policy ps l t u a b
+offered_all policy ps l t u a b offered = (
+  length ps,
+  subst (λ (z : List Proposal). AreOffered policy z l t u a b) (sym (take_all (length ps) ps (omega arith))) offered,
+  subst (λ (z : List Proposal). FirstIsInserted policy z l u) (sym (drop_all (length ps) ps (omega arith))) tt,
+)
+
+-- or for one that is inserted
+pub stopped_at : (policy : Policy) (ps others : List Proposal) (p : Proposal) (l : Ledger) (t u v : Table) (a b c : List ℕ) (count : ℕ)
+    → AreOffered policy (take count ps) l t u a b → drop count ps ≡ p ∷ others → IsInserted policy p l u → v ≡ u → c ≡ b → StoppedAt policy ps l t v a c
+stopped_at policy ps others p l t u v a b c count offered next inserts same none = (
+  count,
+  offered_same policy (take count ps) l t u v a b c offered same none,
+  subst (λ (z : List Proposal). FirstIsInserted policy z l v) (sym next) (subst (λ (z : Table). IsInserted policy p l z) (sym same) inserts),
+)
 
 -- ---- a capacity
 
@@ -219,7 +233,7 @@ resized_by capacity l u v before after (Ok true) small (test, is, more) =
     let short : length (shortest_int 5 1 capacity) ≤ most_bytes u.limit = omega (arith, int_few 5 1 capacity) in
     ordered_push u u v before before after (Sets capacity) (ordered_none u u before before refl refl) small short (sets capacity u (leb-true capacity u.limit b.0) ∙ ap done (sym is)) more
 resized_by capacity l u v before after (Ok false) small (test, is, more) = ordered_none u v before after is more
-resized_by capacity l u v before after (Err e) small (is, more) = ordered_none u v before after is more
+resized_by capacity l u v before after (Err e) small (test, is, more) = ordered_none u v before after is more
 
 pub ruleset one_step = (ordered_none, owes_same, owes_resized)
 

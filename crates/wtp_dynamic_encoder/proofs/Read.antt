@@ -1,5 +1,5 @@
 -- What an encoder sends is read.
-use Rattle.std.proofs.Common.{◌≡◌, ◌⊎◌, ℕ, zero, suc, ◌^◌, ◌<◌, ◌≤◌, inl, inr, max, map, List, [], ◌∷◌, ◌++◌, refl, sym, ◌∙◌, ap, subst, arith, ne_eqb}
+use Rattle.std.proofs.Common.{◌≡◌, ◌⊎◌, ℕ, zero, suc, ◌^◌, ◌<◌, ◌≤◌, inl, inr, map, List, [], ◌∷◌, ◌++◌, sym, ◌∙◌, ap, subst, arith, ne_eqb}
 use Rattle.std.specs.List.{flat_map}
 use Rattle.wtp_qpack.specs.Field.{Field}
 use Rattle.wtp_dynamic.specs.Table.{Table, Later, insert_count, table_size}

@@ -1,16 +1,15 @@
 -- The lines of a section, one after the other.
-use Rattle.std.proofs.Common.{◌≡◌, ◌⊎◌, ℕ, zero, suc, ◌+◌, ◌-◌, ◌/◌, ◌^◌, ◌<◌, ◌≤◌, nat_lt, inl, inr, Bool, true, false, cond, max, min, map, IfSome, List, [], ◌∷◌, ◌++◌, length, refl, sym, ◌∙◌, ap, subst, arith, Option, Some, None}
+use Rattle.std.proofs.Common.{◌≡◌, ◌⊎◌, ℕ, zero, suc, ◌+◌, ◌^◌, ◌<◌, ◌≤◌, inl, inr, Bool, true, false, cond, max, min, map, IfSome, List, [], ◌∷◌, ◌++◌, length, refl, sym, ◌∙◌, ap, subst, arith, Option, Some, None}
 use Rattle.std.specs.List.{flat_map}
 use Rattle.std.proofs.lemmas.Bool.{cases_lt, lt-ltb, le-ltb, ne_eqb}
 use Rattle.std.proofs.lemmas.List.{flat_map_more, map-append}
 use Rattle.wtp_qpack.specs.Field.{Field}
-use Rattle.wtp_qpack.specs.StaticTable.{entry_at}
 use Rattle.wtp_dynamic.specs.Table.{Table, insert_count, entry_of, table_size}
 use Rattle.wtp_dynamic.specs.InsertCount.{most_entries}
 use Rattle.wtp_dynamic.specs.Section.{reached}
 use Rattle.wtp_dynamic.specs.Plans.{Plan, StaticField, TableField, StaticName, TableName, NewName, with_value, planned_field, planned_line, CanPlan, ArePlans}
 use Rattle.wtp_dynamic.specs.EncoderState.{may_block, IsFrom, AreFrom}
-use Rattle.wtp_dynamic_encoder.specs.Encoding.{place_of, needs_by, needs, needed, base_for, prefix_for, sent_at, opened, raised, lowered, bound_for, AreLines, IsSent}
+use Rattle.wtp_dynamic_encoder.specs.Encoding.{place_of, needs_by, needs, needed, lowest_of, base_for, prefix_for, sent_at, opened, raised, lowered, bound_for, AreLines, IsSent}
 use Rattle.wtp_dynamic_encoder.specs.Choosing.{field_of, draining_index, Chooses, AreChosen}
 use Rattle.wtp_dynamic_encoder.specs.declared.proposal.Policy.{Policy}
 use Rattle.wtp_dynamic_encoder.specs.declared.proposal.Proposal.{Proposal}
@@ -78,6 +77,16 @@ needed_push : (plans : List Plan) (plan : Plan) → needed (plans ++ plan ∷ []
 needed_push [] plan = omega arith
 needed_push (p ∷ plans) plan = omega (arith, needed_push plans plan)
 
+lowered_swap : (a b : Option ℕ) (n : ℕ) → lowered a (lowered b n) ≡ lowered b (lowered a n)
+lowered_swap None b n = refl
+lowered_swap (Some x) None n = refl
+lowered_swap (Some x) (Some y) n = omega arith
+
+lowest_push : (count : ℕ) (plans : List Plan) (plan : Plan) → lowest_of count (plans ++ plan ∷ []) ≡ lowered (place_of plan) (lowest_of count plans)
+lowest_push count [] plan = refl
+lowest_push count (p ∷ plans) plan =
+    ap (lowered (place_of p)) (lowest_push count plans plan) ∙ lowered_swap (place_of p) (place_of plan) (lowest_of count plans)
+
 from_push : (lowest : ℕ) (plans : List Plan) (plan : Plan) → AreFrom lowest plans → IsFrom lowest plan → AreFrom lowest (plans ++ plan ∷ [])
 from_push lowest [] plan from one = (one, tt)
 from_push lowest (p ∷ plans) plan (first, from) one = (first, from_push lowest plans plan from one)
@@ -125,7 +134,7 @@ bound_allows stream most bound required l t is few = by_test (may_block most str
         inl (omega arith)
 
 pub lines_start : (t : Table) (low bound lowest : ℕ) → lowest ≡ insert_count t → AreLines t low bound [] [] 0 lowest
-lines_start t low bound lowest is = record { plans = []; chosen = refl; are = refl; bytes_are = refl; exact = refl; from = tt; live = omega arith; few = omega arith; some = inl refl }
+lines_start t low bound lowest is = record { plans = []; chosen = refl; are = refl; bytes_are = refl; exact = refl; least = is; from = tt; live = omega arith; few = omega arith; some = inl refl }
 
 chosen_push : (t : Table) (low bound : ℕ) (ps : List Proposal) (plans : List Plan) (p : Proposal) (plan : Plan) → AreChosen t low bound ps plans → Chooses t low bound p plan → AreChosen t low bound (ps ++ p ∷ []) (plans ++ plan ∷ [])
 chosen_push t low bound [] plans p plan none one = subst (λ (z : List Plan). AreChosen t low bound (p ∷ []) (z ++ plan ∷ [])) (sym none) (one, refl)
@@ -178,6 +187,7 @@ lines_push t low bound ps bytes required lowest plan p after more lower lines ca
       are = fields_push t bound ps lines.plans p plan lines.are can is;
       bytes_are = bytes_push (insert_count t) lines.plans plan bytes after lines.bytes_are written;
       exact = all.exact;
+      least = ap (lowered (place_of plan)) lines.least ∙ sym (lowest_push (insert_count t) lines.plans plan);
       from = all.from;
       live = all.live;
       few = all.few;
@@ -232,6 +242,7 @@ lines_sent stream most policy t bound ps bytes required lowest old new before af
   chosen = subst (λ (z : ℕ). AreChosen t (draining_index policy t) z ps lines.plans) is lines.chosen;
   are = plans_within t bound (needed lines.plans) lines.plans (map field_of ps) (omega arith) lines.are;
   few = omega (arith, lines.exact, lines.few);
+  least = lines.least;
   from = lines.from;
   bytes = more ∙ ap (λ (z : List ℕ). before ++ (prefix_for t required ++ z)) (lines.bytes_are ∙ lines_based (insert_count t) required lines.plans lines.exact)
       ∙ ap (λ (n : ℕ). before ++ (prefix_for t n ++ flat_map (planned_line (base_for n (insert_count t))) lines.plans)) lines.exact;

@@ -1,5 +1,5 @@
 -- What an encoder does to its table (RFC 9204, sections 2.1 and 4.3).
-use Rattle.std.specs.Prelude.{◌≡◌, ◌≢◌, ◌⊎◌, ℕ, ◌+◌, ◌<◌, ◌≤◌, ◌^◌, nat_lt, ◌==◌, if◌then◌else◌, max, min, Bool, true, false, ◌&&◌, List, [], ◌∷◌, ◌++◌, map, take, Option, Some, None, Result, Ok, Err, MatchResult}
+use Rattle.std.specs.Prelude.{◌≡◌, ◌≢◌, ◌⊎◌, ℕ, ◌+◌, ◌<◌, ◌≤◌, ◌^◌, nat_lt, ◌==◌, if◌then◌else◌, max, min, Bool, true, false, ◌&&◌, List, [], ◌∷◌, ◌++◌, length, map, take, drop, Option, Some, None, Result, Ok, Err, MatchResult}
 use Rattle.std.specs.List.{flat_map}
 use Rattle.wtp_qpack.specs.Field.{Field}
 use Rattle.wtp_dynamic.specs.declared.error.DecoderStreamError.{DecoderStreamError}
@@ -40,6 +40,11 @@ pub record State : Type 0 where
 abbrev pub encoder_of : Table → Ledger → Encoder
 encoder_of table ledger = record { table = table; known = ledger.0; sections = ledger.1 }
 
+-- how many bytes of a cut instruction are held: none once the stream has ended
+abbrev pub held_count : Progress → ℕ
+held_count (Runs held) = length held
+held_count (Failed e) = 0
+
 -- ---- the table
 
 -- an entry may be inserted, and there are not too many
@@ -47,15 +52,16 @@ abbrev pub can_insert : Field → Encoder → Bool
 can_insert entry encoder =
     may_insert entry encoder && nat_lt (insert_count encoder.table) (2 ^ 62)
 
--- A table was changed if a test holds, and the order that does so appended to bytes. Otherwise, and
--- if allocation failed, nothing changed.
+-- A table was changed if a test holds, and the order that does so appended to bytes. Otherwise
+-- nothing changed; nor if allocation failed, which it can only where the test holds.
 abbrev pub ChangesIf : {E : Type 0} → Bool → Order → (made old new : Table)
     → (before after : List ℕ) → Result Bool E → Type 0
 ChangesIf test order made old new before after (Ok true) =
     (test ≡ true) × (new ≡ made) × (after ≡ before ++ written order)
 ChangesIf test order made old new before after (Ok false) =
     (test ≡ false) × (new ≡ old) × (after ≡ before)
-ChangesIf test order made old new before after (Err e) = (new ≡ old) × (after ≡ before)
+ChangesIf test order made old new before after (Err e) =
+    (test ≡ true) × (new ≡ old) × (after ≡ before)
 
 -- an entry was inserted if it can be, and the order that does so appended to bytes
 abbrev pub Inserted : Field → Ledger → (old new : Table) → (before after : List ℕ) → Bool → Type 0
@@ -65,12 +71,12 @@ Inserted entry ledger old new before after true =
 Inserted entry ledger old new before after false =
     (can_insert entry (encoder_of old ledger) ≡ false) × (new ≡ old) × (after ≡ before)
 
--- the same, unless allocation failed
+-- the same; or allocation failed for an entry that can be inserted, and nothing changed
 abbrev pub InsertsIf : {E : Type 0} → Field → Ledger → (old new : Table) → (before after : List ℕ)
     → Result Bool E → Type 0
 InsertsIf entry ledger old new before after result =
     MatchResult result (λ did. Inserted entry ledger old new before after did)
-    (λ _. (new ≡ old) × (after ≡ before))
+    (λ _. (can_insert entry (encoder_of old ledger) ≡ true) × (new ≡ old) × (after ≡ before))
 
 -- a proposal was inserted if it is wanted and can be
 abbrev pub Offered : Policy → Proposal → Ledger → (old new : Table) → (before after : List ℕ)
@@ -87,6 +93,25 @@ AreOffered policy [] ledger old new before after = (new ≡ old) × (after ≡ b
 AreOffered policy (first ∷ others) ledger old new before after =
     (table : Table) × (bytes : List ℕ) × Offered policy first ledger old table before bytes
     × AreOffered policy others ledger table new bytes after
+
+-- a proposal is inserted
+abbrev pub IsInserted : Policy → Proposal → Ledger → Table → Type 0
+IsInserted policy proposal ledger table =
+    IsWanted policy proposal table
+    × (can_insert (field_of proposal) (encoder_of table ledger) ≡ true)
+
+-- the first of these is inserted, or there is none
+abbrev pub FirstIsInserted : Policy → List Proposal → Ledger → Table → Type 0
+FirstIsInserted policy [] ledger table = Unit {0}
+FirstIsInserted policy (first ∷ others) ledger table = IsInserted policy first ledger table
+
+-- Only the first so many were offered, since allocation failed: for the next one, which is inserted;
+-- or after all of them.
+abbrev pub StoppedAt : Policy → List Proposal → Ledger → (old new : Table) → (before after : List ℕ)
+    → Type 0
+StoppedAt policy proposals ledger old new before after =
+    (count : ℕ) × AreOffered policy (take count proposals) ledger old new before after
+    × FirstIsInserted policy (drop count proposals) ledger new
 
 -- the capacity was set if it may be
 abbrev pub ResizesIf : {E : Type 0} → ℕ → Ledger → (old new : Table) → (before after : List ℕ)
@@ -132,9 +157,14 @@ abbrev pub lowered : Option ℕ → ℕ → ℕ
 lowered None lowest = lowest
 lowered (Some place) lowest = min lowest place
 
+-- the smallest absolute index to which lines refer; a count that none reaches, if they refer to none
+abbrev pub lowest_of : (count : ℕ) → List Plan → ℕ
+lowest_of count [] = count
+lowest_of count (plan ∷ plans) = lowered (place_of plan) (lowest_of count plans)
+
 -- Lines of proposals were written, with the insertions so far as Base, by entries from an absolute
 -- index on and below a bound: they need so many insertions, and refer to live entries from a place
--- on.
+-- on, which is the lowest to which they refer.
 pub record AreLines (table : Table) (low bound : ℕ) (proposals : List Proposal) (bytes : List ℕ)
     (required lowest : ℕ) : Type 0 where
   pub plans : List Plan
@@ -142,6 +172,7 @@ pub record AreLines (table : Table) (low bound : ℕ) (proposals : List Proposal
   pub are : ArePlans table bound plans (map field_of proposals)
   pub bytes_are : bytes ≡ flat_map (planned_line (insert_count table)) plans
   pub exact : required ≡ needed plans
+  pub least : lowest ≡ lowest_of (insert_count table) plans
   pub from : AreFrom lowest plans
   pub live : table.dropped ≤ lowest
   pub few : required ≤ bound
@@ -181,8 +212,9 @@ bound_for stream most ledger table =
     if may_block most stream ledger then insert_count table else ledger.0
 
 -- A section of a stream was appended to bytes. Its lines are those that are chosen, and are the
--- fields, by entries that its Required Insert Count covers; and it needs more insertions than are
--- known to be received only if its stream may be blocked (section 2.1.2).
+-- fields, by entries that its Required Insert Count covers; it holds no entry below the lowest to
+-- which they refer; and it needs more insertions than are known to be received only if its stream may
+-- be blocked (section 2.1.2).
 pub record IsSent (stream most : ℕ) (policy : Policy) (proposals : List Proposal) (table : Table)
     (old new : Ledger) (before after : List ℕ) : Type 0 where
   pub plans : List Plan
@@ -191,14 +223,14 @@ pub record IsSent (stream most : ℕ) (policy : Policy) (proposals : List Propos
       proposals plans
   pub are : ArePlans table (needed plans) plans (map field_of proposals)
   pub few : needed plans ≤ insert_count table
+  pub least : lowest ≡ lowest_of (insert_count table) plans
   pub from : AreFrom lowest plans
   pub bytes : after ≡ before ++ section_with table plans
   pub ledger : new ≡ opened (sent_of stream plans lowest) old
   pub allowed : (needed plans ≤ old.0) ⊎ (may_block most stream old ≡ true)
 
 -- Proposals were encoded: those that are wanted were inserted, with orders on the encoder stream,
--- and then a section of a stream was appended to other bytes. If allocation failed, no section was,
--- and only the first so many were inserted.
+-- and then a section of a stream was appended to other bytes. If allocation failed, no section was.
 abbrev pub Encodes : {E : Type 0} → (stream : ℕ) → List Proposal → (old new : State)
     → (orders_before orders_after before after : List ℕ) → Result (Unit {0}) E → Type 0
 Encodes stream proposals old new orders_before orders_after before after result =
@@ -208,8 +240,7 @@ Encodes stream proposals old new orders_before orders_after before after result 
     (λ _. AreOffered old.policy proposals old.ledger old.table new.table orders_before orders_after
     × IsSent stream old.most old.policy proposals new.table old.ledger new.ledger before after)
     (λ _. (new.ledger ≡ old.ledger) × (after ≡ before)
-    × (count : ℕ) × AreOffered old.policy (take count proposals) old.ledger old.table new.table
-    orders_before orders_after)
+    × StoppedAt old.policy proposals old.ledger old.table new.table orders_before orders_after)
 
 -- ---- the decoder stream
 

@@ -6,7 +6,7 @@ ghost use Rattle.wtp_dynamic.specs.InsertCount.{most_entries};
 ghost use Rattle.wtp_dynamic.specs.EncoderState.{Owes, FewWait};
 ghost use Rattle.wtp_dynamic_encoder.specs.Acknowledging.{most_bytes};
 ghost use Rattle.wtp_dynamic_encoder.specs.Choosing.{default_policy};
-ghost use Rattle.wtp_dynamic_encoder.specs.Encoding.{Runs, State, encoder_of, InsertsIf, ResizesIf, Ordered, prefix_for, sent_at, opened, bound_for, Encodes, PieceRead};
+ghost use Rattle.wtp_dynamic_encoder.specs.Encoding.{Runs, State, held_count, encoder_of, InsertsIf, ResizesIf, Ordered, prefix_for, sent_at, opened, bound_for, Encodes, PieceRead};
 
 use crate::choice::draining_index;
 use crate::decoder_stream::DecoderStream;
@@ -165,18 +165,23 @@ impl QpackEncoder {
         self.ledger.known()
     }
 
-    /// Returns how many bytes of a cut instruction of the decoder stream are held: at most ten.
+    /// Returns how many bytes of a cut instruction of the decoder stream are held: at most ten, and
+    /// none after an error of the stream.
     pub fn held(&self) -> usize
-        ensures { result < most_bytes }
+        ensures count { result ≡ held_count self.now.progress }
+        ensures few { result < most_bytes }
     {
-        self.decoder.held()
+        match self.fault {
+            None => self.decoder.held(),
+            Some(_) => 0,
+        }
     }
 
     /// Sets the capacity of the table, and appends the instruction to the encoder stream (section
     /// 4.3.1). Returns whether it was set: it is at most the limit, and no entry has to go that may
     /// not.
     ///
-    /// Returns [`AllocError`] if allocation failed; nothing has changed then.
+    /// Returns [`AllocError`] if it may be set and allocation failed; nothing has changed then.
     #[tactic(auto, using(crate::proofs::Orders::one_step))]
     pub fn set_capacity(
         &mut self,
@@ -206,7 +211,7 @@ impl QpackEncoder {
     /// the name of an entry of the static table, or else of the dynamic table (4.3.2), or else its
     /// own (4.3.3).
     ///
-    /// Returns [`AllocError`] if allocation failed; nothing has changed then.
+    /// Returns [`AllocError`] if it may be inserted and allocation failed; nothing has changed then.
     #[tactic(auto, using(crate::proofs::Orders::one_step))]
     pub fn insert(
         &mut self,

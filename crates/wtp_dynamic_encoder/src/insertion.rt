@@ -1,9 +1,10 @@
 //! What an encoder does to its table, and the orders that do the same to the decoder's (RFC 9204,
 //! sections 2.1.1, 3.2 and 4.3).
 
-ghost use Rattle.std.specs.Prelude.{◌≡◌, ℕ, take, MatchResult};
+ghost use Rattle.std.specs.Prelude.{◌≡◌, ◌-◌, ◌<◌, ◌≤◌, MatchOption, MatchResult};
+ghost use Rattle.wtp_dynamic.specs.Table.{entry_size};
 ghost use Rattle.wtp_dynamic.specs.EncoderState.{Owes, may_resize};
-ghost use Rattle.wtp_dynamic_encoder.specs.Encoding.{encoder_of, can_insert, InsertsIf, ResizesIf, Offered, AreOffered, Ordered};
+ghost use Rattle.wtp_dynamic_encoder.specs.Encoding.{encoder_of, can_insert, InsertsIf, ResizesIf, Offered, AreOffered, IsInserted, StoppedAt, Ordered};
 
 use crate::choice::{are_octets, is_wanted, order_for};
 use crate::plan::{Order, write_order};
@@ -12,14 +13,28 @@ use std::alloc::{AllocError, Global};
 use wtp_dynamic::ledger::Ledger;
 use wtp_dynamic::table::{DynamicTable, Entry};
 
+/// Returns how many bytes of the capacity an entry leaves to others, or `None` if it is larger than
+/// the table.
+fn room_beside(table: &DynamicTable, name: &[u8], value: &[u8]) -> Option<u64>
+    ensures { let size = entry_size (name.now, value.now) in MatchOption result
+        (table.now.capacity < size)
+        (λ room. (size ≤ table.now.capacity) × (room ≡ table.now.capacity - size)) }
+{
+    let texts = name.len() as u64 + value.len() as u64;
+    table.capacity().checked_sub(32)?.checked_sub(texts)
+}
+
 /// Returns whether an entry may be inserted: it is not larger than the table, and only entries have
 /// to go that are known to be received, and to which no section refers that is not acknowledged.
-fn may_insert(table: &DynamicTable, ledger: &Ledger, entry: &Entry) -> bool
-    ensures { result ≡ can_insert entry.now (encoder_of table.now ledger.now) }
+fn may_insert(table: &DynamicTable, ledger: &Ledger, name: &[u8], value: &[u8]) -> bool
+    ensures { result ≡ can_insert (name.now, value.now) (encoder_of table.now ledger.now) }
 {
-    entry.size() <= table.capacity()
-        && ledger.may_evict(table.dropped_for(table.capacity() - entry.size()))
-        && table.insert_count() < 1 << 62
+    match room_beside(table, name, value) {
+        Some(room) => {
+            ledger.may_evict(table.dropped_for(room)) && table.insert_count() < 1 << 62
+        }
+        None => false,
+    }
 }
 
 /// Returns whether the capacity may be changed: it is within the limit, and only entries have to go
@@ -32,7 +47,7 @@ fn may_resize(table: &DynamicTable, ledger: &Ledger, capacity: u64) -> bool
 
 /// Inserts an entry if it may be, and appends the order. Returns whether it was inserted.
 ///
-/// Returns [`AllocError`] if allocation failed; nothing has changed then.
+/// Returns [`AllocError`] if it may be and allocation failed; nothing has changed then.
 fn insert_if_may(
     alloc: Global,
     table: &mut DynamicTable,
@@ -44,10 +59,10 @@ fn insert_if_may(
     ensures { InsertsIf (name.now, value.now) ledger.now table.old table.new out.old.items
         out.new.items result }
 {
-    let entry = Entry::new(alloc, name, value)?;
-    if !may_insert(table, ledger, &entry) {
+    if !may_insert(table, ledger, name, value) {
         return Ok(false);
     }
+    let entry = Entry::new(alloc, name, value)?;
     let mut bytes = Vec::new(alloc);
     write_order(&mut bytes, order_for(table, name, value))?;
     let len = out.len();
@@ -85,7 +100,7 @@ pub(crate) fn insert_entry(
 
 /// Sets the capacity if it may be, and appends the order. Returns whether it was set.
 ///
-/// Returns [`AllocError`] if allocation failed; nothing has changed then.
+/// Returns [`AllocError`] if it may be and allocation failed; nothing has changed then.
 pub(crate) fn set_capacity(
     alloc: Global,
     table: &mut DynamicTable,
@@ -114,7 +129,7 @@ pub(crate) fn set_capacity(
 
 /// Inserts the field of a proposal, if it is wanted and may be.
 ///
-/// Returns [`AllocError`] if allocation failed; nothing has changed then.
+/// Returns [`AllocError`] if it is inserted and allocation failed; nothing has changed then.
 #[tactic(auto, using(crate::proofs::Orders::one_step))]
 fn insert_proposed(
     alloc: Global,
@@ -127,7 +142,8 @@ fn insert_proposed(
     ensures offered { MatchResult result
         (λ _. Offered policy proposal.entry ledger.now table.old table.new out.old.items
         out.new.items)
-        (λ _. (table.new ≡ table.old) × (out.new.items ≡ out.old.items)) }
+        (λ _. IsInserted policy proposal.entry ledger.now table.old
+        × (table.new ≡ table.old) × (out.new.items ≡ out.old.items)) }
     ensures orders { Ordered table.old table.new out.old.items out.new.items }
     ensures owes { Owes (encoder_of table.old ledger.now) → Owes (encoder_of table.new ledger.now) }
 {
@@ -155,8 +171,8 @@ pub(crate) fn insert_all(
     ensures offered { MatchResult result
         (λ _. AreOffered policy proposals.now ledger.now table.old table.new out.old.items
         out.new.items)
-        (λ _. (count : ℕ) × AreOffered policy (take count proposals.now) ledger.now table.old
-        table.new out.old.items out.new.items) }
+        (λ _. StoppedAt policy proposals.now ledger.now table.old table.new out.old.items
+        out.new.items) }
     ensures orders { Ordered table.old table.new out.old.items out.new.items }
     ensures owes { Owes (encoder_of table.old ledger.now) → Owes (encoder_of table.new ledger.now) }
 {

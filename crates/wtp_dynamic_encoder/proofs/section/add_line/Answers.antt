@@ -1,5 +1,4 @@
-use Rattle.std.proofs.Common.{◌≡◌, sym, ◌∙◌, ap, Option}
-use Rattle.wtp_dynamic_encoder.specs.Encoding.{raised, lowered}
+use Rattle.std.proofs.Common.{◌∙◌}
 use Rattle.wtp_dynamic_encoder.specs.PlanView.{plan_of}
 use Rattle.wtp_dynamic_encoder.proofs.Sections.{lines_push}
 use Rattle.wtp_dynamic_encoder.proofs.section.add_line.Goals as goal

@@ -1,8 +1,5 @@
-use Rattle.std.proofs.Common.{rules, refl, ◌≡◌, ℕ, ◌<◌, ◌≤◌, [], ◌∷◌, ◌++◌, length, filter, true, Ok}
+use Rattle.std.proofs.Common.{rules, refl}
 use Rattle.wtp_dynamic.specs.SectionView.{prefix_of}
-use Rattle.wtp_dynamic.specs.Section.{prefix_at, is_blocked}
-use Rattle.wtp_dynamic.specs.Table.{insert_count}
-use Rattle.wtp_dynamic_decoder.specs.Decoder.{waits, others, with_waiting}
 use Rattle.wtp_dynamic_decoder.proofs.decoder.QpackDecoder.open.Goals as goal
 
 pub returns : goal.returns
