@@ -32,6 +32,13 @@ int64_t bench_qpack_decode(const uint8_t *section, size_t len);
 int64_t bench_qpack_lines(const uint8_t *section, size_t len);
 /* The bytes of a map's section that were put into out. */
 int64_t bench_qpack_encode(const bench_pair *pairs, size_t count, uint8_t *out, size_t room);
+/* The size of the field lists of sections with the dynamic table, which is made anew: what make_dynamic.c writes. */
+int64_t bench_dynamic_lines(const uint8_t *bytes, size_t len);
+/* The bytes that an encoder writes to its stream and in sections of so many fields each, with a table of 4096 bytes or of
+   64 KiB, which is made anew; each section is acknowledged. */
+int64_t bench_dynamic_encode_4k(const bench_pair *pairs, size_t count, uint8_t *out, size_t room);
+int64_t bench_dynamic_encode_64k(const bench_pair *pairs, size_t count, uint8_t *out, size_t room);
+enum { BENCH_FIELDS = 20 };
 /* 1 where the payload was taken. */
 int64_t bench_settings(const uint8_t *payload, size_t len);
 #endif

@@ -34,7 +34,7 @@ int main(int argc, char **argv) {
   call c = {.f = library ? dlsym(library, argv[2]) : NULL};
   if (!c.f) return 2; /* the library lacks the call */
   c.bytes = load(argv[3], &c.len);
-  if (!strcmp(argv[2], "bench_qpack_encode")) {
+  if (strstr(argv[2], "_encode")) {
     c.pairs = pairs;
     c.len = pairs_of(c.bytes, pairs);
   }

@@ -233,6 +233,26 @@ static void sections(const char *folder, void **libraries, int count) {
   }
 }
 
+/* The sections of a connection with the dynamic table, by two capacities. */
+static void dynamic(const char *folder, void **libraries, int count) {
+  static const char *const capacities[][3] = {{"4096", "4 KiB", "bench_dynamic_encode_4k"},
+                                              {"65536", "64 KiB", "bench_dynamic_encode_64k"}};
+  static bench_pair pairs[PAIRS];
+  size_t len, fields = pairs_of(load_input(folder, "pairs-connection.bin", &len), pairs);
+  for (int i = 0; i < 2; ++i) {
+    char name[64], label[64];
+    input all = {.len = fields, .wanted = -1}, sections = {.wanted = size_of_list(pairs, fields)};
+    snprintf(name, sizeof name, "dynamic-%s.bin", capacities[i][0]);
+    sections.bytes = load_input(folder, name, &sections.len);
+    snprintf(label, sizeof label, "dynamic lines, %s", capacities[i][1]);
+    task lines = {.label = label, .symbol = "bench_dynamic_lines", .inputs = &sections, .count = 1, .bytes = sections.len};
+    measure(&lines, libraries, count);
+    snprintf(label, sizeof label, "dynamic encode, %s", capacities[i][1]);
+    task encode = {.label = label, .symbol = capacities[i][2], .pairs = pairs, .inputs = &all, .count = 1, .bytes = sections.len};
+    measure(&encode, libraries, count);
+  }
+}
+
 /* What all processors did since the machine started, in ticks: all of it, and idle and stolen, of which the last is what
    the machine's other guests took. */
 typedef struct {
@@ -308,6 +328,7 @@ int main(int argc, char **argv) {
   requests(argv[1], libraries, count);
   huffman(argv[1], libraries, count);
   sections(argv[1], libraries, count);
+  dynamic(argv[1], libraries, count);
   settings(argv[1], libraries, count);
   tell_work(before, now());
   return 0;

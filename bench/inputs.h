@@ -22,7 +22,14 @@ static inline uint8_t *load(const char *path, size_t *len) {
   return bytes;
 }
 
-enum { PAIRS = 64 };
+enum { PAIRS = 1280 };
+
+/* A number of four bytes, lowest first. */
+static inline uint32_t number_at(const uint8_t *at) {
+  uint32_t number;
+  memcpy(&number, at, 4);
+  return number;
+}
 
 /* A file of pairs: how many, then for each two lengths and its name and value; numbers of four bytes, lowest first. */
 static inline size_t pairs_of(const uint8_t *at, bench_pair *pairs) {

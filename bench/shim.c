@@ -1,6 +1,6 @@
 /* abi.h over the crate wt_bench. A Global takes no bytes, a slice is its address and its length, and a pair of slices
    lies as bench_pair does. */
-#include "abi.h"
+#include "inputs.h"
 
 int64_t wt_bench_list(const uint8_t *bytes, size_t len, size_t *payloads);
 int64_t wt_bench_poll(const uint8_t *bytes, size_t len);
@@ -13,6 +13,22 @@ int64_t wt_bench_qpack_decode(const uint8_t *section, size_t len);
 int64_t wt_bench_qpack_lines(const uint8_t *section, size_t len);
 int64_t wt_bench_qpack_encode(const bench_pair *pairs, size_t count, uint8_t *out, size_t room);
 int64_t wt_bench_settings(const uint8_t *payload, size_t len);
+int64_t wt_bench_dynamic_lines(uint32_t limit, const uint8_t *parts, size_t len);
+int64_t wt_bench_dynamic_encode(const bench_pair *pairs, size_t count, size_t fields, uint32_t capacity);
+
+int64_t bench_dynamic_lines(const uint8_t *bytes, size_t len) {
+  return wt_bench_dynamic_lines(number_at(bytes), bytes + 4, len - 4);
+}
+
+int64_t bench_dynamic_encode_4k(const bench_pair *pairs, size_t count, uint8_t *out, size_t room) {
+  (void)out, (void)room;
+  return wt_bench_dynamic_encode(pairs, count, BENCH_FIELDS, 4096);
+}
+
+int64_t bench_dynamic_encode_64k(const bench_pair *pairs, size_t count, uint8_t *out, size_t room) {
+  (void)out, (void)room;
+  return wt_bench_dynamic_encode(pairs, count, BENCH_FIELDS, 65536);
+}
 
 int64_t bench_huffman_decode(const uint8_t *text, size_t len, uint8_t *out, size_t room) {
   return wt_bench_huffman_decode(text, len, out, room);

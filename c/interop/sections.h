@@ -1,4 +1,4 @@
-/* Field sections of nghttp3 with the static table only, for the tests here and for bench/. */
+/* Field sections of nghttp3, for the tests here and for bench/. */
 #ifndef SECTIONS_H
 #define SECTIONS_H
 #include <nghttp3/nghttp3.h>
@@ -8,25 +8,18 @@
 /* What is done with each line of a section. */
 typedef void (*line_user)(nghttp3_vec name, nghttp3_vec value, void *data);
 
-/* Reads a section line by line, and hands each to `use`, if it is given. Returns the number of lines,
-   or -1. */
-static inline int64_t read_section(const uint8_t *section, size_t size, line_user use, void *data) {
-  static nghttp3_qpack_decoder *decoder;
-  static nghttp3_qpack_stream_context *context;
+/* Reads a section line by line by a decoder, and hands each to `use`, if it is given. Returns the
+   number of lines, or -1. */
+static inline int64_t read_lines(nghttp3_qpack_decoder *decoder, nghttp3_qpack_stream_context *context,
+                                 const uint8_t *section, size_t size, line_user use, void *data) {
   const uint8_t *end = section + size;
   int64_t lines = 0;
-  if (!decoder) {
-    nghttp3_qpack_decoder_new(&decoder, 0, 0, nghttp3_mem_default());
-    nghttp3_qpack_stream_context_new(&context, 0, nghttp3_mem_default());
-  } else {
-    nghttp3_qpack_stream_context_reset(context);
-  }
   for (;;) {
     nghttp3_qpack_nv pair;
     uint8_t flags = 0;
     nghttp3_ssize taken = nghttp3_qpack_decoder_read_request(decoder, context, &pair, &flags, section,
                                                              (size_t)(end - section), 1);
-    if (taken < 0) return -1;
+    if (taken < 0 || flags & NGHTTP3_QPACK_DECODE_FLAG_BLOCKED) return -1;
     section += taken;
     if (flags & NGHTTP3_QPACK_DECODE_FLAG_EMIT) {
       lines++;
@@ -36,6 +29,29 @@ static inline int64_t read_section(const uint8_t *section, size_t size, line_use
     }
     if (flags & NGHTTP3_QPACK_DECODE_FLAG_FINAL) return lines;
   }
+}
+
+/* Reads a section of a stream with the dynamic table of a decoder. Returns the number of lines, or -1. */
+static inline int64_t read_by(nghttp3_qpack_decoder *decoder, int64_t stream, const uint8_t *section, size_t size,
+                              line_user use, void *data) {
+  nghttp3_qpack_stream_context *context;
+  if (nghttp3_qpack_stream_context_new(&context, stream, nghttp3_mem_default())) return -1;
+  int64_t lines = read_lines(decoder, context, section, size, use, data);
+  nghttp3_qpack_stream_context_del(context);
+  return lines;
+}
+
+/* Reads a section with no dynamic table. Returns the number of lines, or -1. */
+static inline int64_t read_section(const uint8_t *section, size_t size, line_user use, void *data) {
+  static nghttp3_qpack_decoder *decoder;
+  static nghttp3_qpack_stream_context *context;
+  if (!decoder) {
+    nghttp3_qpack_decoder_new(&decoder, 0, 0, nghttp3_mem_default());
+    nghttp3_qpack_stream_context_new(&context, 0, nghttp3_mem_default());
+  } else {
+    nghttp3_qpack_stream_context_reset(context);
+  }
+  return read_lines(decoder, context, section, size, use, data);
 }
 
 /* Writes the section of the pairs. Returns its size, or -1. */

@@ -56,7 +56,7 @@ pub extern "C" fn wt_bench_qpack_decode(alloc: Global, section: &[u8]) -> i64
 }
 
 /// Returns the size of a field list after one more field (RFC 9114, section 4.2.2).
-fn add_line(size: usize, line: FieldLine<'_>) -> Option<usize>
+pub(crate) fn add_line(size: usize, line: FieldLine<'_>) -> Option<usize>
     ensures { IfSome result (λ sum. sum ≡ size + field_size (seen_line line.entry)) }
 {
     let size = size.checked_add(32)?;

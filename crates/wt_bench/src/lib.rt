@@ -6,6 +6,7 @@ ghost use Rattle.std.specs.Prelude.{◌≡◌, ◌≢◌, ◌≤◌, ◌<◌, �
 ghost use Rattle.wtp_huffman.specs.Huffman.{IsHuffman};
 
 mod connection;
+mod dynamic;
 mod fields;
 mod frames;
 mod pair;
