@@ -1,0 +1,8 @@
+//! Messages and sessions of a connection: what each stream gives. Tests over the public crates; there
+//! is no product code here.
+#![tactic(auto)]
+
+#[cfg(test)]
+mod messages;
+#[cfg(test)]
+mod playing;

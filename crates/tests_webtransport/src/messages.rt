@@ -1,0 +1,240 @@
+//! Messages on their streams (RFC 9114, sections 4.1, 4.1.2, 4.2 and 4.4; RFC 9204, section 4.5 and
+//! Appendix A).
+use crate::playing::{Case, play};
+use std::alloc::Global;
+use std::process::Abort;
+use wtp_messages::response::Asked;
+
+/// A stream, and the text of its events.
+struct Row {
+    case: Case,
+    bytes: &'static [u8],
+    events: &'static str,
+}
+
+/// Requests.
+static REQUESTS: [Row; 11] = [
+    Row {
+        case: Case::Request,
+        bytes: &[0x01, 0x08, 0x00, 0x00, 0xd1, 0xd7, 0xc1, 0x50, 0x01, 0x61],
+        events: "request 4; end; ",
+    },
+    // POST with content-length 3 in two DATA frames, and trailers (x: y)
+    Row {
+        case: Case::Request,
+        bytes: &[
+            0x01, 0x0b, 0x00, 0x00, 0xd4, 0xd7, 0xc1, 0x50, 0x01, 0x61, 0x54, 0x01, 0x33, 0x00,
+            0x02, 0x61, 0x62, 0x00, 0x01, 0x63, 0x01, 0x06, 0x00, 0x00, 0x21, 0x78, 0x01, 0x79,
+        ],
+        events: "request 5; data 3; trailers; end; ",
+    },
+    // content-length 3, and 2 bytes
+    Row {
+        case: Case::Request,
+        bytes: &[
+            0x01, 0x0b, 0x00, 0x00, 0xd4, 0xd7, 0xc1, 0x50, 0x01, 0x61, 0x54, 0x01, 0x33, 0x00,
+            0x02, 0x61, 0x62,
+        ],
+        events: "request 5; data 2; malformed: the content is shorter than announced; ",
+    },
+    // content-length 3, and 4 bytes
+    Row {
+        case: Case::Request,
+        bytes: &[
+            0x01, 0x0b, 0x00, 0x00, 0xd4, 0xd7, 0xc1, 0x50, 0x01, 0x61, 0x54, 0x01, 0x33, 0x00,
+            0x04, 0x61, 0x62, 0x63, 0x64,
+        ],
+        events: "request 5; data 3; malformed: the content is longer than announced; ",
+    },
+    // content-length 0, and a byte
+    Row {
+        case: Case::Request,
+        bytes: &[
+            0x01, 0x09, 0x00, 0x00, 0xd4, 0xd7, 0xc1, 0x50, 0x01, 0x61, 0xc4, 0x00, 0x01, 0x61,
+        ],
+        events: "request 5; malformed: the content is longer than announced; ",
+    },
+    // no :path
+    Row {
+        case: Case::Request,
+        bytes: &[
+            0x01, 0x07, 0x00, 0x00, 0xd1, 0xd7, 0x50, 0x01, 0x61, 0x00, 0x00,
+        ],
+        events: "malformed: there is no :path; ",
+    },
+    // a dynamic line
+    Row {
+        case: Case::Request,
+        bytes: &[0x01, 0x03, 0x00, 0x00, 0x80],
+        events: "connection error 512; ",
+    },
+    // DATA before HEADERS
+    Row {
+        case: Case::Request,
+        bytes: &[0x00, 0x01, 0x61],
+        events: "connection error 261; ",
+    },
+    // no HEADERS
+    Row {
+        case: Case::Request,
+        bytes: &[],
+        events: "stream error 269; ",
+    },
+    // a second header section as trailers: a pseudo-header field
+    Row {
+        case: Case::Request,
+        bytes: &[
+            0x01, 0x08, 0x00, 0x00, 0xd1, 0xd7, 0xc1, 0x50, 0x01, 0x61, 0x01, 0x03, 0x00, 0x00,
+            0xd1,
+        ],
+        events: "request 4; malformed: a pseudo-header field is not defined here; ",
+    },
+    // nine lines of at least 34 bytes
+    Row {
+        case: Case::Request,
+        bytes: &[
+            0x01, 0x0b, 0x00, 0x00, 0xd1, 0xd1, 0xd1, 0xd1, 0xd1, 0xd1, 0xd1, 0xd1, 0xd1, 0x00,
+            0x01, 0x61,
+        ],
+        events: "too large; ",
+    },
+];
+
+/// CONNECT a:1 and its answers.
+static TUNNELS: [Row; 5] = [
+    Row {
+        case: Case::Request,
+        bytes: &[
+            0x01, 0x08, 0x00, 0x00, 0xcf, 0x50, 0x03, 0x61, 0x3a, 0x31, 0x00, 0x01, 0x61,
+        ],
+        events: "request 2; waits; ",
+    },
+    Row {
+        case: Case::Answered(200),
+        bytes: &[
+            0x01, 0x08, 0x00, 0x00, 0xcf, 0x50, 0x03, 0x61, 0x3a, 0x31, 0x00, 0x01, 0x61, 0x00,
+            0x01, 0x62,
+        ],
+        events: "request 2; data 2; end; ",
+    },
+    // trailers in a tunnel
+    Row {
+        case: Case::Answered(299),
+        bytes: &[
+            0x01, 0x08, 0x00, 0x00, 0xcf, 0x50, 0x03, 0x61, 0x3a, 0x31, 0x00, 0x01, 0x61, 0x01,
+            0x06, 0x00, 0x00, 0x21, 0x78, 0x01, 0x79,
+        ],
+        events: "request 2; data 1; connection error 261; ",
+    },
+    // trailers after a refusal
+    Row {
+        case: Case::Answered(405),
+        bytes: &[
+            0x01, 0x08, 0x00, 0x00, 0xcf, 0x50, 0x03, 0x61, 0x3a, 0x31, 0x00, 0x01, 0x61, 0x01,
+            0x06, 0x00, 0x00, 0x21, 0x78, 0x01, 0x79,
+        ],
+        events: "request 2; data 1; trailers; end; ",
+    },
+    // the response to CONNECT, with trailers
+    Row {
+        case: Case::Response(Asked::Connect),
+        bytes: &[
+            0x01, 0x03, 0x00, 0x00, 0xd9, 0x00, 0x01, 0x61, 0x01, 0x06, 0x00, 0x00, 0x21, 0x78,
+            0x01, 0x79,
+        ],
+        events: "response 200; data 1; connection error 261; ",
+    },
+];
+
+/// Responses.
+static RESPONSES: [Row; 8] = [
+    Row {
+        case: Case::Response(Asked::Other),
+        bytes: &[0x01, 0x03, 0x00, 0x00, 0xd9, 0x00, 0x02, 0x61, 0x62],
+        events: "response 200; data 2; end; ",
+    },
+    // after two interim ones
+    Row {
+        case: Case::Response(Asked::Other),
+        bytes: &[
+            0x01, 0x03, 0x00, 0x00, 0xd8, 0x01, 0x03, 0x00, 0x00, 0xd8, 0x01, 0x03, 0x00, 0x00,
+            0xd9, 0x00, 0x02, 0x61, 0x62,
+        ],
+        events: "interim 103; interim 103; response 200; data 2; end; ",
+    },
+    // DATA after an interim one
+    Row {
+        case: Case::Response(Asked::Other),
+        bytes: &[0x01, 0x03, 0x00, 0x00, 0xd8, 0x00, 0x01, 0x61],
+        events: "interim 103; connection error 261; ",
+    },
+    // an interim one only
+    Row {
+        case: Case::Response(Asked::Other),
+        bytes: &[0x01, 0x03, 0x00, 0x00, 0xd8],
+        events: "interim 103; stream error 270; ",
+    },
+    // content in the answer to HEAD
+    Row {
+        case: Case::Response(Asked::Head),
+        bytes: &[0x01, 0x03, 0x00, 0x00, 0xd9, 0x00, 0x01, 0x61],
+        events: "response 200; malformed: the content is longer than announced; ",
+    },
+    // 304 with content-length 3 and no content
+    Row {
+        case: Case::Response(Asked::Other),
+        bytes: &[0x01, 0x06, 0x00, 0x00, 0xda, 0x54, 0x01, 0x33],
+        events: "response 304; end; ",
+    },
+    // no :status
+    Row {
+        case: Case::Response(Asked::Other),
+        bytes: &[0x01, 0x02, 0x00, 0x00],
+        events: "malformed: there is no :status; ",
+    },
+    // HEADERS after trailers
+    Row {
+        case: Case::Response(Asked::Other),
+        bytes: &[
+            0x01, 0x03, 0x00, 0x00, 0xd9, 0x01, 0x06, 0x00, 0x00, 0x21, 0x78, 0x01, 0x79, 0x01,
+            0x06, 0x00, 0x00, 0x21, 0x78, 0x01, 0x79,
+        ],
+        events: "response 200; trailers; connection error 261; ",
+    },
+];
+
+/// Compares the events of a row with those wanted, however its bytes are cut.
+fn check<R: Abort>(rt: &R, alloc: Global, row: &Row) {
+    for size in 1..row.bytes.len().saturating_add(2) {
+        let Ok(events) = play(alloc, row.case, row.bytes, size) else {
+            continue;
+        };
+        let came = events.as_str();
+        let wanted = row.events;
+        assert!(rt;
+            came == wanted,
+            "at most {size} bytes: {came}, and not {wanted}"
+        );
+    }
+}
+
+#[test]
+fn requests_by_their_rules(rt: HostRuntime) {
+    for row in &REQUESTS {
+        check(&rt, rt.alloc(), row);
+    }
+}
+
+#[test]
+fn tunnels_by_their_rules(rt: HostRuntime) {
+    for row in &TUNNELS {
+        check(&rt, rt.alloc(), row);
+    }
+}
+
+#[test]
+fn responses_by_their_rules(rt: HostRuntime) {
+    for row in &RESPONSES {
+        check(&rt, rt.alloc(), row);
+    }
+}

@@ -1,0 +1,75 @@
+-- Streams of sessions, and streams that end before their last byte (RFC 9114, sections 4.1.1 and
+-- 6.2.1; draft-ietf-webtrans-http3-02, section 4).
+use Rattle.std.specs.Prelude.{◌≡◌, ℕ, if◌then◌else◌, Bool, true, false, Option, Some, None}
+use Rattle.wtp_core.specs.declared.error.scope.ErrorScope.{ErrorScope}
+use Rattle.wtp_core.specs.declared.error.scope.ErrorScope.TheVariants as scope
+use Rattle.wtp_connection.specs.declared.connection.Connection.{Connection as Streams}
+use Rattle.wtp_connection.specs.declared.connection.Known.{Known}
+use Rattle.wtp_connection.specs.declared.fault.Fault.{Fault as StreamsFault}
+use Rattle.wtp_connection.specs.declared.stream.Stream.{Stream as Frames}
+use Rattle.wtp_connection.specs.declared.stream.Stream.TheVariants as frames
+use Rattle.wtp_connection.specs.Fault.{scope_of as streams_scope}
+use Rattle.wtp_connection.specs.Streams.{Joined as After, joins as joins_streams, resets as resets_frames, abandons as abandons_frames}
+use Rattle.wtp_webtransport.specs.declared.fault.Fault.TheVariants as fault
+use Rattle.wtp_webtransport.specs.declared.event.Waits.TheVariants as wait
+use Rattle.wtp_webtransport.specs.declared.connection.Connection.{Connection}
+use Rattle.wtp_webtransport.specs.declared.stream.Stream.{Stream}
+use Rattle.wtp_webtransport.specs.Events.{Told, Joined, Reset, Waits, More}
+use Rattle.wtp_webtransport.specs.Receiving.{closed_by}
+use Rattle.wtp_webtransport.specs.Streams.{with_streams, with_frames, ended}
+
+abbrev pub Outcome : Type 0
+Outcome = Told × Connection × Stream
+
+-- an error that a stream has now
+abbrev pub with_error : Stream → Connection × Told → Outcome
+with_error s x = (x.1, x.0, s)
+
+-- ---- streams of sessions
+
+-- the session of a stream that is not joined with it yet
+abbrev pub joining_of : Frames → Option ℕ
+joining_of (frames.Joining id) = Some id
+joining_of (frames.Waiting id) = Some id
+joining_of other = None
+
+-- what became of a stream of this session
+abbrev pub joined_told : Option ℕ → Frames → Told
+joined_told (Some id) (frames.Session of) = Joined id
+joined_told (Some id) (frames.Waiting for) = Waits (wait.Session id)
+joined_told before other = More
+
+abbrev pub joined_by : Connection → Stream → Option ℕ → After → Outcome
+joined_by c s before (d, t, None) = (joined_told before t, with_streams c d, with_frames s t)
+joined_by c s before (d, t, Some f) =
+    with_error (with_frames s t) (closed_by (with_streams c d) (fault.Streams f))
+
+-- a stream is told what is known of its session
+abbrev pub joins : Connection → Stream → Known → Outcome
+joins c s k =
+    if c.over
+    then (More, c, s)
+    else joined_by c s (joining_of s.frames) (joins_streams c.streams s.frames k)
+
+-- ---- streams that the peer resets, and those that are not read to their end
+
+abbrev pub reset_in : ErrorScope → Connection → Stream → StreamsFault → Outcome
+reset_in scope.Stream c s f = (Reset (Some (fault.Streams f)), c, s)
+reset_in other c s f = with_error s (closed_by c (fault.Streams f))
+
+abbrev pub reset_by : Connection → Stream → After → Outcome
+reset_by c s (d, t, None) = (Reset None, with_streams c d, with_frames s t)
+reset_by c s (d, t, Some f) =
+    reset_in (streams_scope f) (with_streams c d) (with_frames s t) f
+
+abbrev pub resets : Connection → Stream → Outcome
+resets c s =
+    if c.over
+    then (More, c, s)
+    else reset_by c (ended s) (resets_frames c.streams s.frames)
+
+abbrev pub abandoned_by : Connection → Stream → Streams × Frames → Connection × Stream
+abandoned_by c s x = (with_streams c x.0, with_frames s x.1)
+
+abbrev pub abandons : Connection → Stream → Connection × Stream
+abandons c s = abandoned_by c (ended s) (abandons_frames c.streams s.frames)

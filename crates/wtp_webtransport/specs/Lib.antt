@@ -1,0 +1,5 @@
+pub mod Fault
+pub mod Events
+pub mod Streams
+pub mod Receiving
+pub mod Joining

@@ -1,0 +1,214 @@
+//! What the streams of a connection have in common, and what is next on each of them.
+ghost use Rattle.std.specs.Prelude.{◌≡◌, ◌≤◌, length};
+ghost use Rattle.wtp_connection.specs.Receiving.{Fits};
+ghost use Rattle.wtp_webtransport.specs.Events.{told_of};
+ghost use Rattle.wtp_webtransport.specs.Receiving.{Receives, FoundGives, closed_by, fails, found_opened, malformed as malformed_is};
+ghost use Rattle.wtp_webtransport.specs.Streams.{connection_of, accepted, request_stream};
+
+mod messages;
+mod streams;
+
+use crate::event::{Event, Received, Waits};
+use crate::fault::Fault;
+use crate::fields::Fields;
+use crate::stream::{Part, Stream};
+use wtp_connection::connection::{Connection as Streams, Found};
+use wtp_connection::settings::PeerSettings;
+use wtp_connection::stream::{Purpose, Stream as Frames};
+use wtp_core::error::ErrorScope;
+use wtp_frames::endpoint::Endpoint;
+use wtp_frames::frame_type::FrameType;
+use wtp_messages::malformed::Malformed;
+use wtp_messages::message::Role;
+use wtp_messages::response::Asked;
+
+/// What the streams of a connection have in common.
+#[derive(Drop)]
+pub struct Connection {
+    /// Their frames.
+    streams: Streams,
+    /// The receiving endpoint.
+    endpoint: Endpoint,
+    /// Whether this endpoint allows extended CONNECT (RFC 8441, section 3).
+    extended: bool,
+    /// Whether an error ended the connection.
+    over: bool,
+}
+
+impl Connection {
+    /// Creates a connection. `extended`: the own SETTINGS allow extended CONNECT, which sessions of
+    /// WebTransport need (RFC 9220, section 3).
+    pub fn new(endpoint: Endpoint, extended: bool) -> Self
+        ensures { result ≡ connection_of endpoint extended }
+    {
+        Connection {
+            streams: Streams::new(endpoint),
+            endpoint,
+            extended,
+            over: false,
+        }
+    }
+
+    /// Creates the state of a stream that the peer opened, by its ID (RFC 9000, section 2.1).
+    pub fn accept(&mut self, id: u64) -> Stream
+        ensures { (self.new, result) ≡ accepted self.old id }
+    {
+        Stream::new(self.streams.accept(id))
+    }
+
+    /// Creates the state of the peer's half of a request stream that was opened here, by what the
+    /// request asks for.
+    pub fn open(&self, asked: Asked) -> Stream
+        ensures { result ≡ request_stream self.now.endpoint asked }
+    {
+        Stream::of_message(Frames::of_request(self.endpoint), Role::Response(asked))
+    }
+
+    /// Returns the settings of the peer. Until its SETTINGS come each one has its default (RFC 9114,
+    /// section 7.2.4.2).
+    pub fn peer_settings(&self) -> PeerSettings
+        ensures { result ≡ self.now.streams.peer }
+    {
+        self.streams.peer_settings()
+    }
+
+    /// Returns what is next in the bytes of a stream that follow those consumed before. `fin`: the
+    /// stream ends right after `bytes`. Call it until [`Event::More`] or [`Event::Waits`].
+    ///
+    /// After `More` and `NoMemory` the bytes that were not consumed are to be passed again, after
+    /// `More` with more bytes after them. After `Waits` they are to be passed again when the wait is
+    /// over. With an error all bytes are consumed. After an error of the connection every call
+    /// consumes all bytes of every stream and returns `More`.
+    pub fn receive<'a>(
+        &mut self,
+        stream: &mut Stream,
+        bytes: &'a [u8],
+        fin: bool,
+        fields: &mut Fields,
+    ) -> Received<'a>
+        ensures received { Receives fields.old.limit self.old stream.old bytes.now fin
+            (result.consumed, told_of result.event, self.new, stream.new) }
+        ensures fields { fields.new ≡ fields.old }
+    {
+        if self.over {
+            return Received {
+                consumed: bytes.len(),
+                event: Event::More,
+            };
+        }
+        if let Some(size) = stream.unread {
+            return self.read_again(stream, size, bytes, fields);
+        }
+        match stream.part {
+            Part::Unanswered(_) => Received {
+                consumed: 0,
+                event: Event::Waits(Waits::Answer),
+            },
+            Part::Exceeded => self.malformed(stream, Malformed::ContentTooLong, bytes.len()),
+            _ => {
+                let found = self
+                    .streams
+                    .receive(&mut stream.frames, bytes, fin, &mut fields.entries);
+                self.give(stream, found, bytes, fields)
+            }
+        }
+    }
+
+    // Returns what was found on a stream.
+    fn give<'a>(
+        &mut self,
+        stream: &mut Stream,
+        found: Found,
+        bytes: &'a [u8],
+        fields: &Fields,
+    ) -> Received<'a>
+        requires { Fits found bytes.now self.old.streams stream.old.frames }
+        ensures { FoundGives fields.now.limit found self.old stream.old bytes.now
+            (result.consumed, told_of result.event, self.new, stream.new) }
+    {
+        match found {
+            Found::Opened(purpose, n) => return self.opened(stream, purpose, n),
+            Found::Settings(settings, start, end) => {
+                return Received {
+                    consumed: end,
+                    event: Event::Settings(settings, &bytes[start..end]),
+                };
+            }
+            Found::Frame(FrameType::Headers, start, end) => {
+                return self.section(stream, start, end, bytes, fields);
+            }
+            Found::Frame(kind, start, end) => {
+                return Received {
+                    consumed: end,
+                    event: Event::Frame(kind, &bytes[start..end]),
+                };
+            }
+            Found::Data(start, end) => return self.data(stream, start, end, bytes),
+            Found::TooLarge(size, n) => {
+                return self.too_large(stream, Some(size), n, bytes.len());
+            }
+            Found::More(n) => {
+                return Received {
+                    consumed: n,
+                    event: Event::More,
+                };
+            }
+            Found::Fault(fault) => return self.fail(stream, Fault::Streams(fault), bytes.len()),
+            Found::End => return self.finish(stream, bytes.len()),
+        }
+    }
+
+    // Returns what the stream is for. The role of a request is known with it.
+    fn opened<'a>(&mut self, stream: &mut Stream, purpose: Purpose, n: usize) -> Received<'a>
+        ensures { (result.consumed, told_of result.event, self.new, stream.new)
+            ≡ found_opened self.old stream.old purpose n }
+    {
+        let event = match purpose {
+            Purpose::Session(session) => Event::Joins(session),
+            Purpose::Message => {
+                stream.begin(Role::Request(self.extended));
+                Event::Opened(purpose)
+            }
+            _ => Event::Opened(purpose),
+        };
+        Received { consumed: n, event }
+    }
+
+    // Ends a stream by this error, with all `len` bytes.
+    fn fail<'a>(&mut self, stream: &mut Stream, fault: Fault, len: usize) -> Received<'a>
+        ensures { (result.consumed, told_of result.event, self.new, stream.new)
+            ≡ fails self.old stream.old fault len }
+    {
+        stream.part = Part::NoMessage;
+        Received {
+            consumed: len,
+            event: self.close(fault),
+        }
+    }
+
+    // Returns the event of an error, which ends the connection or a stream.
+    fn close(&mut self, fault: Fault) -> Event<'static>
+        ensures { (self.new, told_of result) ≡ closed_by self.old fault }
+    {
+        match fault.scope() {
+            ErrorScope::Stream => Event::StreamError(fault),
+            _ => {
+                self.over = true;
+                Event::ConnectionError(fault)
+            }
+        }
+    }
+
+    // Ends a stream whose message breaks this rule, with all `len` bytes.
+    fn malformed<'a>(&mut self, stream: &mut Stream, rule: Malformed, len: usize) -> Received<'a>
+        ensures { (result.consumed, told_of result.event, self.new, stream.new)
+            ≡ malformed_is self.old stream.old rule len }
+    {
+        self.streams.abandon(&mut stream.frames);
+        stream.part = Part::NoMessage;
+        Received {
+            consumed: len,
+            event: Event::Malformed(rule),
+        }
+    }
+}

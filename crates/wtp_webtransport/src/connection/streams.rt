@@ -1,0 +1,95 @@
+//! Streams of sessions, and streams that end before their last byte.
+ghost use Rattle.std.specs.Prelude.{◌≡◌};
+ghost use Rattle.wtp_webtransport.specs.Events.{told_of};
+ghost use Rattle.wtp_webtransport.specs.Joining.{joins, resets, abandons, joining_of, joined_told};
+ghost use Rattle.wtp_connection.specs.Streams.{known_alone};
+
+use crate::connection::Connection;
+use crate::event::{Event, Waits};
+use crate::fault::Fault;
+use crate::stream::Stream;
+use wtp_connection::connection::Known;
+use wtp_connection::stream::Stream as Frames;
+use wtp_core::error::ErrorScope;
+
+impl Connection {
+    /// Says what is known of the session of a stream: after [`Event::Joins`], and when that changes.
+    ///
+    /// Returns `Joined` once the session is open: the bytes of the stream follow. Returns `Waits` if
+    /// the session is to come: the bytes of the stream are to be passed again after the call that says
+    /// what became of it. Returns `StreamError` if the session is over or refused, and if 16 streams
+    /// wait already, and `ConnectionError` if no session can have the ID. Otherwise nothing changes,
+    /// and it returns `More`.
+    pub fn join(&mut self, stream: &mut Stream, known: Known) -> Event<'static>
+        ensures { (told_of result, self.new, stream.new) ≡ joins self.old stream.old known }
+    {
+        if self.over {
+            return Event::More;
+        }
+        let before = joining(&stream.frames);
+        match self.streams.join(&mut stream.frames, known) {
+            Some(fault) => self.close(Fault::Streams(fault)),
+            None => joined(before, &stream.frames),
+        }
+    }
+
+    /// Returns what is known of a session if the caller has no stream with its ID, as
+    /// `wtp_connection::connection::Connection::known_without_stream`.
+    pub fn known_without_stream(&self, session: u64) -> Known
+        ensures { result ≡ known_alone self.now.streams session }
+    {
+        self.streams.known_without_stream(session)
+    }
+
+    /// Says that the peer reset a stream. Its bytes that were not returned are lost, and the stream
+    /// is over.
+    ///
+    /// Returns `Reset`, or `ConnectionError` for the control stream (RFC 9114, section 6.2.1) and
+    /// those of QPACK (RFC 9204, section 4.2), and `More` after an error of the connection.
+    pub fn reset(&mut self, stream: &mut Stream) -> Event<'static>
+        ensures { (told_of result, self.new, stream.new) ≡ resets self.old stream.old }
+    {
+        if self.over {
+            return Event::More;
+        }
+        stream.end();
+        match self.streams.reset(&mut stream.frames) {
+            Some(fault) => match fault.scope() {
+                ErrorScope::Stream => Event::Reset(Some(Fault::Streams(fault))),
+                _ => self.close(Fault::Streams(fault)),
+            },
+            None => Event::Reset(None),
+        }
+    }
+
+    /// Ends the reading of a stream, for a reason of the application. The stream is over: its bytes
+    /// are discarded. The control stream and those of QPACK stay as they are: the peer must not be
+    /// asked to close them (RFC 9114, section 6.2.1; RFC 9204, section 4.2).
+    pub fn abandon(&mut self, stream: &mut Stream)
+        ensures { (self.new, stream.new) ≡ abandons self.old stream.old }
+    {
+        stream.end();
+        self.streams.abandon(&mut stream.frames);
+    }
+}
+
+// Returns the session of a stream that is not joined with it yet.
+fn joining(frames: &Frames) -> Option<u64>
+    ensures { result ≡ joining_of frames.now }
+{
+    match frames {
+        Frames::Joining(session) | Frames::Waiting(session) => Some(*session),
+        _ => None,
+    }
+}
+
+// Returns what became of a stream that belonged to this session.
+fn joined(before: Option<u64>, frames: &Frames) -> Event<'static>
+    ensures { told_of result ≡ joined_told before frames.now }
+{
+    match (before, frames) {
+        (Some(session), Frames::Session(_)) => Event::Joined(session),
+        (Some(session), Frames::Waiting(_)) => Event::Waits(Waits::Session(session)),
+        _ => Event::More,
+    }
+}

@@ -1,0 +1,85 @@
+//! What the streams of a connection give.
+ghost use Rattle.std.specs.Prelude.{◌≡◌};
+
+use crate::fault::Fault;
+use wtp_connection::settings::PeerSettings;
+use wtp_connection::stream::Purpose;
+use wtp_fields::fields::FieldList;
+use wtp_frames::frame_type::FrameType;
+use wtp_messages::malformed::Malformed;
+
+/// What a field section of a message is.
+#[derive(Clone, Copy, Debug, PartialEq, Eq)]
+pub enum HeadersKind {
+    /// The header section of a request. `wtp_messages::request::Request` reads it.
+    Request,
+    /// That of an interim response, with its status from 100 to 199. Another response follows.
+    Interim(u32),
+    /// That of the final response, with its status.
+    Response(u32),
+    /// The trailer section.
+    Trailers,
+}
+
+/// Why a stream waits.
+#[derive(Clone, Copy, Debug, PartialEq, Eq)]
+pub enum Waits {
+    /// For the session with this ID, until `Connection::join` says what became of it.
+    Session(u64),
+    /// For the answer to its CONNECT request, until `Stream::answer`.
+    Answer,
+}
+
+/// What is next on a stream.
+#[derive(Drop)]
+pub enum Event<'a> {
+    /// What the stream is for, other than a session.
+    Opened(Purpose),
+    /// The stream belongs to the session with this ID. `Connection::join` says what is known of it.
+    Joins(u64),
+    /// The stream belongs to the session with this ID, which is open: its bytes follow.
+    Joined(u64),
+    /// SETTINGS of the peer: what they define, and their payload.
+    Settings(PeerSettings, &'a [u8]),
+    /// Another frame of the control stream: its type and its payload.
+    Frame(FrameType, &'a [u8]),
+    /// A field section of the message: what it is, and its fields.
+    Headers(HeadersKind, FieldList),
+    /// A piece of the content of the message, of at least one byte.
+    Data(&'a [u8]),
+    /// A piece of a stream of a session, of at least one byte.
+    StreamData(&'a [u8]),
+    /// A field section that is larger than the limits: its encoded size, if that is too large. The
+    /// section is skipped. If it is not the trailer section nothing more of the message is given: a
+    /// server may respond with status 431 (RFC 9114, section 4.2.2), and a client cancels the
+    /// request.
+    TooLarge(Option<u64>),
+    /// The message is malformed, by this rule. It is an error of its stream, with the code
+    /// H3_MESSAGE_ERROR. A server may first respond with status 400 (RFC 9114, section 4.1.2).
+    Malformed(Malformed),
+    /// An error of the stream: its own half is to be reset with the code, and the peer is to be asked
+    /// to stop.
+    StreamError(Fault),
+    /// An error of the connection, which is to be closed with the code.
+    ConnectionError(Fault),
+    /// The peer reset the stream. The own half is to be reset with the code of the error, if there
+    /// is one.
+    Reset(Option<Fault>),
+    /// The stream ended, without an error.
+    End,
+    /// Allocation failed. The call can be repeated.
+    NoMemory,
+    /// The bytes that are left wait.
+    Waits(Waits),
+    /// More bytes are needed.
+    More,
+}
+
+/// The next event of a stream, and how many bytes are consumed with it.
+#[derive(Drop)]
+pub struct Received<'a> {
+    /// How many bytes are consumed.
+    pub consumed: usize,
+    /// The event.
+    pub event: Event<'a>,
+}

@@ -1,0 +1,43 @@
+//! Errors of a connection and of its streams, with their codes and their scope (RFC 9114, section
+//! 8).
+ghost use Rattle.std.specs.Prelude.{◌≡◌};
+ghost use Rattle.wtp_webtransport.specs.Fault.{code_of, scope_of};
+
+use wtp_connection::fault::Fault as StreamsFault;
+use wtp_core::error::{Code, ErrorScope};
+use wtp_qpack::qpack::DecodingError;
+
+/// An error of a connection or of one of its streams, by the rule that the peer violated.
+#[derive(Clone, Copy, Debug, PartialEq, Eq)]
+pub enum Fault {
+    /// An error of what a stream is for, of its frames, of its end or of the settings.
+    Streams(StreamsFault),
+    /// A field section cannot be decoded (RFC 9204, section 6).
+    Section(DecodingError),
+    /// A field section follows a CONNECT request that was answered with a 2xx status (RFC 9114,
+    /// section 4.4).
+    SectionInTunnel,
+}
+
+impl Fault {
+    /// Returns the error code.
+    pub fn code(self) -> Code
+        ensures { result ≡ code_of self }
+    {
+        match self {
+            Fault::Streams(fault) => fault.code(),
+            Fault::Section(_) => Code::QPACK_DECOMPRESSION_FAILED,
+            Fault::SectionInTunnel => Code::H3_FRAME_UNEXPECTED,
+        }
+    }
+
+    /// Returns what the error ends: the connection, or the stream alone.
+    pub fn scope(self) -> ErrorScope
+        ensures { result ≡ scope_of self }
+    {
+        match self {
+            Fault::Streams(fault) => fault.scope(),
+            _ => ErrorScope::Connection,
+        }
+    }
+}

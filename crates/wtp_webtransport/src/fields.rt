@@ -1,0 +1,36 @@
+//! The memory for the field sections of a connection, and their limit.
+ghost use Rattle.std.specs.Prelude.{◌≡◌};
+
+use std::alloc::Global;
+use wtp_connection::fields::Fields as Entries;
+
+/// The memory for the field sections of a connection, and their limit.
+#[derive(Drop)]
+pub struct Fields {
+    pub(crate) entries: Entries,
+    pub(crate) alloc: Global,
+    pub(crate) limit: u64,
+}
+
+impl Fields {
+    /// Creates the memory of a connection that allows no dynamic table (RFC 9204, section 3.2.3).
+    ///
+    /// `limit` bounds the size of a decoded field section: for each field the lengths of its name and
+    /// its value in bytes, plus 32 (RFC 9114, section 4.2.2).
+    pub fn new(alloc: Global, limit: u64) -> Self
+        ensures { result.limit ≡ limit }
+    {
+        Fields {
+            entries: Entries::new(),
+            alloc,
+            limit,
+        }
+    }
+
+    /// Returns the largest size of a decoded field section.
+    pub fn limit(&self) -> u64
+        ensures { result ≡ self.now.limit }
+    {
+        self.limit
+    }
+}
